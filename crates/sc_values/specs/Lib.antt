@@ -1,0 +1,10 @@
+pub mod Limits
+pub mod Name
+pub mod Operator
+pub mod Expr
+pub mod Code
+pub mod Access
+pub mod Checked
+pub mod Stack
+pub mod Streams
+pub mod Runs

@@ -1,0 +1,36 @@
+//! The values of charts: their kinds, expressions as trees and as postfix codes, and names.
+#![tactic(auto)]
+
+mod checked;
+mod code;
+mod code_fault;
+mod evaluation;
+mod expression;
+mod limits;
+mod memory;
+mod name;
+mod of_std;
+mod operands;
+mod operation;
+mod operator;
+mod stack;
+mod streams;
+mod value;
+
+pub use checked::CheckedCode;
+pub use code::Code;
+pub use code_fault::CodeFault;
+pub use evaluation::eval;
+pub use expression::Expr;
+pub use limits::{LOAD_LIMIT, NAME_LIMIT, OPERAND_LIMIT, OPERATION_LIMIT};
+pub use memory::{FromSlice, Plan, ToVec};
+pub use name::Name;
+pub use of_std::{Failures, OfRead, OfWrite};
+pub use operands::Operands;
+pub use operation::Operation;
+pub use operator::{BinaryOperator, Combination, UnaryOperator};
+pub use streams::{Failed, Sink, Source, write_all};
+pub use value::{Kind, Value};
+
+#[cfg(test)]
+mod tests;
