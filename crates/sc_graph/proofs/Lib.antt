@@ -1,0 +1,15 @@
+pub mod AtRest
+pub mod Each
+pub mod Links
+pub mod Climbs
+pub mod Distinct
+pub mod Loads
+pub mod Names
+pub mod Places
+pub mod Tree
+pub mod Formed
+pub mod Parting
+pub mod Told
+pub mod Loaded
+pub mod Clashing
+pub mod Preceding

@@ -1,0 +1,6 @@
+use Rattle.std.proofs.Common.{ℕ}
+use Rattle.sc_graph.proofs.Told.{ForksFirst}
+use Rattle.sc_graph.proofs.concurrent_threads.forks_of.Given as goal
+
+abbrev pub invariant-loop-thread : goal.invariant-loop-thread
+invariant-loop-thread l = ForksFirst l.program l.forks l.thread

@@ -1,0 +1,109 @@
+ghost use Rattle.std.specs.Prelude.{◌≡◌, ◌↔◌, IsTrue, Contains};
+ghost use Rattle.std.specs.List.{list_any};
+ghost use Rattle.sc_values.specs.declared.operator.Combination.{Combination as Operator};
+ghost use Rattle.sc_values.specs.Code.{loads};
+ghost use Rattle.sc_values.specs.Access.{Reads, Inits, Updates, Precedes, Clash, MayPrecede};
+ghost use Rattle.sc_graph.specs.Accesses.{access_of, is_load};
+
+use crate::program::{Step, VariableId};
+use sc_values::{Code, Operation};
+
+impl Step {
+    /// Whether it may come before another step that is concurrent with it.
+    pub fn may_precede(&self, other: &Step) -> bool
+        ensures { IsTrue result ↔ MayPrecede (access_of self.now) (access_of other.now) }
+    {
+        !other.precedes(self) && !self.clashes(other)
+    }
+
+    /// Whether it must come before another step that is concurrent with it.
+    pub fn precedes(&self, other: &Step) -> bool
+        ensures { IsTrue result ↔ Precedes (access_of self.now) (access_of other.now) }
+    {
+        match self {
+            Step::Assign { variable, .. } => other.updates(*variable) || other.reads(*variable),
+            Step::Update { variable, .. } => other.reads(*variable),
+            _ => false,
+        }
+    }
+
+    /// Whether it may not be taken beside another step that is concurrent with it.
+    pub fn clashes(&self, other: &Step) -> bool
+        ensures { IsTrue result ↔ Clash (access_of self.now) (access_of other.now) }
+    {
+        match (self, other) {
+            (Step::Assign { variable: x, .. }, Step::Assign { variable: y, .. }) => *x == *y,
+            (
+                Step::Update {
+                    variable: x,
+                    combine: f,
+                    ..
+                },
+                Step::Update {
+                    variable: y,
+                    combine: g,
+                    ..
+                },
+            ) => *x == *y && *f != *g,
+            _ => false,
+        }
+    }
+
+    /// Whether it initializes a variable.
+    pub fn initializes(&self, variable: VariableId) -> bool
+        ensures { IsTrue result ↔ Inits (access_of self.now) variable }
+    {
+        match self {
+            Step::Assign { variable: own, .. } => *own == variable,
+            _ => false,
+        }
+    }
+
+    /// Whether it updates a variable.
+    pub fn updates(&self, variable: VariableId) -> bool
+        ensures { IsTrue result ↔ ((f : Operator) × Updates (access_of self.now) variable f) }
+    {
+        match self {
+            Step::Update { variable: own, .. } => *own == variable,
+            _ => false,
+        }
+    }
+
+    /// Whether it reads a variable. An update isn't a read of its own variable.
+    pub fn reads(&self, variable: VariableId) -> bool
+        ensures { IsTrue result ↔ Reads (access_of self.now) variable }
+    {
+        match self {
+            Step::Assign { code, .. } | Step::Update { code, .. } | Step::Cond { code, .. } => {
+                is_loaded(code, variable)
+            }
+            _ => false,
+        }
+    }
+}
+
+/// Whether a code loads a variable.
+pub fn is_loaded(code: &Code, variable: VariableId) -> bool
+    ensures { IsTrue result ↔ Contains (loads code.now) variable }
+{
+    is_loaded_among(code.operations(), variable)
+}
+
+// Whether one of these operations loads a variable.
+fn is_loaded_among(operations: &[Operation], variable: VariableId) -> bool
+    ensures { result ≡ list_any (is_load variable) operations.now }
+{
+    operations
+        .iter()
+        .any(|operation| loads_variable(operation, variable))
+}
+
+// Whether an operation loads a variable.
+fn loads_variable(operation: &Operation, variable: VariableId) -> bool
+    ensures { result ≡ is_load variable operation.now }
+{
+    match operation {
+        Operation::Load(loaded) => *loaded == variable,
+        _ => false,
+    }
+}

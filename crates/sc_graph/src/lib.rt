@@ -1,0 +1,28 @@
+//! Programs of threads and nodes, and what they mean: steps, runs, and the rules of a valid image.
+#![tactic(auto)]
+
+mod accesses;
+mod concurrency;
+mod concurrent_threads;
+mod control;
+mod laws;
+mod lookups;
+mod place;
+mod program;
+mod resting;
+mod size;
+mod structure;
+mod tables;
+#[cfg(test)]
+mod tests;
+
+pub use accesses::is_loaded;
+pub use concurrency::{concurrent, lca};
+pub use concurrent_threads::ConcurrentThreads;
+pub use control::{Control, Status};
+pub use laws::laws_of_concurrency;
+pub use place::Place;
+pub use program::{
+    Node, NodeId, Program, ProgramFault, Role, Step, Thread, ThreadId, Variable, VariableId,
+};
+pub use tables::Tables;

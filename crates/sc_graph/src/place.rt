@@ -1,0 +1,13 @@
+use crate::program::{NodeId, ThreadId, VariableId};
+
+/// A place in an image, at which a rule is kept or broken.
+#[derive(Clone, Copy, Debug, PartialEq, Eq)]
+pub enum Place {
+    /// The image as a whole: its counts and its budget.
+    Image,
+    Variable(VariableId),
+    Thread(ThreadId),
+    Node(NodeId),
+    /// Two nodes. Where the rule is about an edge, from the first to the second.
+    Pair(NodeId, NodeId),
+}
