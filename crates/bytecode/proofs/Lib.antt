@@ -1,0 +1,10 @@
+pub mod Loop
+pub mod Operators
+pub mod Columns
+pub mod Readers
+pub mod FieldLaws
+pub mod CodeLaws
+pub mod NodeLaws
+pub mod ImageRows
+pub mod ImageLaws
+pub mod Decoding

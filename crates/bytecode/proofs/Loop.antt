@@ -1,0 +1,45 @@
+-- Reading one after the other, as a loop does.
+use Rattle.std.proofs.Common.{◌≡◌, ℕ, suc, ◌-◌, ◌+◌, ◌≤◌, ◌<◌, List, [], ◌∷◌, ◌++◌, Result, Ok, Err, refl, sym, ap, ◌∙◌, append_assoc, arith}
+use Rattle.std.proofs.lemmas.List.{append-nil}
+use Rattle.bytecode.specs.declared.fault.Fault.{Fault}
+use Rattle.bytecode.specs.declared.fault.Fault.TheVariants as fault
+use Rattle.bytecode.specs.Reading.{◌>>=◌, Fails, Reader, each_at}
+
+-- what was read before, and what is still read
+abbrev pub with_front : {A : Type 0} → List A → Result (List A × List ℕ) Fault → Result (List A × List ℕ) Fault
+with_front front read = read >>= λ x. Ok (front ++ x.0, x.1)
+
+regroup : {A : Type 0} (front : List A) (a : A) (read : Result (List A × List ℕ) Fault) → with_front front (read >>= λ x. Ok (a ∷ x.0, x.1)) ≡ with_front (front ++ a ∷ []) read
+regroup {A} front a (Ok x) = ap (λ (xs : List A). Ok (xs, x.1)) (simp append_assoc)
+regroup front a (Err f) = refl
+
+pub goes_on : {A : Type 0} (read : Reader A) (front : List A) (count i : ℕ) (bytes : List ℕ) (a : A) (after : List ℕ) (total : Result (List A × List ℕ) Fault) → i < count → read bytes ≡ Ok (a, after)
+    → with_front front (each_at read (count - i) bytes) ≡ total → with_front (front ++ a ∷ []) (each_at read (count - (i + 1)) after) ≡ total
+unfolding each_at
+goes_on read front count i bytes a after total lt h so_far =
+    let k : count - i ≡ suc (count - (i + 1)) = omega arith in
+    let one : with_front front (each_at read (count - i) bytes) ≡ with_front (front ++ a ∷ []) (each_at read (count - (i + 1)) after) = rw (k, h) (regroup front a (each_at read (count - (i + 1)) after)) in
+    sym one ∙ so_far
+
+fails_of : {X Y : Type 0} (e : Fault) (read : Result X Fault) (total : Result Y Fault) → ((f : Fault) → read ≡ Err f → total ≡ Err f) → Fails e read → Fails e total
+fails_of fault.Memory read total h fails = tt
+fails_of fault.Short read total h fails = h fault.Short fails
+fails_of fault.Magic read total h fails = h fault.Magic fails
+fails_of fault.Version read total h fails = h fault.Version fails
+fails_of fault.Trailing read total h fails = h fault.Trailing fails
+fails_of (fault.Field left) read total h fails = h (fault.Field left) fails
+
+pub ends : {A : Type 0} (read : Reader A) (e : Fault) (front : List A) (count i : ℕ) (bytes : List ℕ) (total : Result (List A × List ℕ) Fault) → i < count → Fails e (read bytes)
+    → with_front front (each_at read (count - i) bytes) ≡ total → Fails e total
+unfolding each_at
+ends {A} read e front count i bytes total lt h so_far =
+    let k : count - i ≡ suc (count - (i + 1)) = omega arith in
+    let fails : (f : Fault) → read bytes ≡ Err f → total ≡ Err f = λ f at. sym so_far ∙ rw (k, at) refl in
+    fails_of e (read bytes) total fails h
+
+pub is_done : {A : Type 0} (read : Reader A) (front : List A) (count i : ℕ) (bytes : List ℕ) (total : Result (List A × List ℕ) Fault) → count ≤ i → with_front front (each_at read (count - i) bytes) ≡ total → total ≡ Ok (front, bytes)
+unfolding each_at
+is_done {A} read front count i bytes total le so_far =
+    let k : count - i ≡ 0 = omega arith in
+    let one : with_front front (each_at read (count - i) bytes) ≡ Ok (front, bytes) = rw k (ap (λ (xs : List A). Ok (xs, bytes)) (append-nil front)) in
+    sym so_far ∙ one

@@ -1,0 +1,10 @@
+use Rattle.std.proofs.Common.{subst, arith}
+use Rattle.bytecode.specs.Reading.Image.{Answers}
+use Rattle.bytecode.proofs.Decoding.{is_found, reading_of_spelt}
+use Rattle.bytecode.proofs.reading.image.decode.Goals as goal
+
+pub returns-clause-found : goal.returns-clause-found
+returns-clause-found c = is_found 1 c.args.bytes.now c.read.result (λ i. omega (arith, c.type_inv.bytes i)) c.read.ensures
+
+pub returns-clause-only : goal.returns-clause-only
+returns-clause-only c = λ i spells. subst (Answers c.read.result) (reading_of_spelt 1 c.args.bytes.now i spells) c.read.ensures

@@ -1,0 +1,18 @@
+//! Images: a program with its certificate, and the bytes that spell one.
+#![tactic(auto)]
+
+mod fault;
+mod image;
+mod laws;
+mod reading;
+mod rows;
+mod writing;
+
+pub use fault::DecodeFault;
+pub use image::Image;
+pub use laws::{bytes_spell_one_image, image_has_one_spelling, reading_is_spelling};
+pub use reading::decode;
+pub use writing::encode;
+
+#[cfg(test)]
+mod tests;

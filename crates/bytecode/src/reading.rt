@@ -1,0 +1,8 @@
+//! Images from bytes.
+
+mod codes;
+mod fields;
+mod image;
+mod nodes;
+
+pub use image::decode;

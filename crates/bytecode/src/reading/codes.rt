@@ -1,0 +1,90 @@
+//! Operations and codes at the front of bytes.
+
+ghost use Rattle.std.specs.Prelude.{◌≤◌};
+ghost use Rattle.sc_values.specs.Limits.{operation_limit};
+ghost use Rattle.bytecode.specs.Reading.{Gives, each_at};
+ghost use Rattle.bytecode.specs.Reading.Codes.{operation_body, operation_at, code_at};
+
+use crate::fault::Fault;
+use crate::reading::fields::{FLAGS, byte, choice, length, number16, number32};
+use sc_values::{BinaryOperator, Code, Operation, UnaryOperator, Value};
+use sqlite_items::at;
+
+const OPERATORS: [Operation; 15] = [
+    Operation::Unary(UnaryOperator::Negate),
+    Operation::Unary(UnaryOperator::Not),
+    Operation::Binary(BinaryOperator::Add),
+    Operation::Binary(BinaryOperator::Subtract),
+    Operation::Binary(BinaryOperator::Multiply),
+    Operation::Binary(BinaryOperator::Min),
+    Operation::Binary(BinaryOperator::Max),
+    Operation::Binary(BinaryOperator::And),
+    Operation::Binary(BinaryOperator::Or),
+    Operation::Binary(BinaryOperator::Equal),
+    Operation::Binary(BinaryOperator::NotEqual),
+    Operation::Binary(BinaryOperator::Less),
+    Operation::Binary(BinaryOperator::LessOrEqual),
+    Operation::Binary(BinaryOperator::Greater),
+    Operation::Binary(BinaryOperator::GreaterOrEqual),
+];
+
+fn operator<'b>(bytes: &[u8], number: u8, rest: &'b [u8]) -> Result<(Operation, &'b [u8]), Fault>
+    requires { 3 ≤ number }
+    ensures { Gives (λ x. (x.0, x.1.now)) result (operation_body bytes.now number rest.now) }
+{
+    match at(&OPERATORS, number as usize - 3) {
+        Some(operator) => Ok((*operator, rest)),
+        None => Err(Fault::Field(bytes.len())),
+    }
+}
+
+#[tactic(auto, unfolding(crate::specs::Reading::Codes::operation_body))]
+fn body<'b>(bytes: &[u8], number: u8, rest: &'b [u8]) -> Result<(Operation, &'b [u8]), Fault>
+    ensures { Gives (λ x. (x.0, x.1.now)) result (operation_body bytes.now number rest.now) }
+{
+    match number {
+        0 => {
+            let (literal, rest) = choice(&FLAGS, rest)?;
+            Ok((Operation::Literal(Value::Bool(literal)), rest))
+        }
+        1 => {
+            let (literal, rest) = number32(rest)?;
+            Ok((Operation::Literal(Value::Int(literal.cast_signed())), rest))
+        }
+        2 => {
+            let (variable, rest) = number16(rest)?;
+            Ok((Operation::Load(variable), rest))
+        }
+        _ => operator(bytes, number, rest),
+    }
+}
+
+#[tactic(auto, unfolding(crate::specs::Reading::Codes::operation_at))]
+fn operation(bytes: &[u8]) -> Result<(Operation, &[u8]), Fault>
+    ensures { Gives (λ x. (x.0, x.1.now)) result (operation_at bytes.now) }
+{
+    let (number, rest) = byte(bytes)?;
+    body(bytes, number, rest)
+}
+
+fn operations(count: u8, bytes: &[u8]) -> Result<(Code, &[u8]), Fault>
+    requires { count ≤ operation_limit }
+    ensures { Gives (λ x. (x.0, x.1.now)) result (each_at operation_at count bytes.now) }
+{
+    let mut code = Code::new();
+    let mut rest = bytes;
+    for _ in 0..count {
+        let (operation, after) = operation(rest)?;
+        code.push(operation);
+        rest = after;
+    }
+    Ok((code, rest))
+}
+
+#[tactic(auto, unfolding(crate::specs::Reading::Codes::code_at))]
+pub fn code(bytes: &[u8]) -> Result<(Code, &[u8]), Fault>
+    ensures { Gives (λ x. (x.0, x.1.now)) result (code_at bytes.now) }
+{
+    let (count, rest) = length(0, 64, bytes)?;
+    operations(count, rest)
+}

@@ -1,0 +1,216 @@
+//! Whole images from bytes.
+
+ghost use Rattle.std.specs.Prelude.{◌≡◌, length, IfOk, Ok};
+ghost use Rattle.sc_graph.specs.Layout.{FitsLayout};
+ghost use Rattle.bytecode.specs.Layout.{thread_rows, node_rows, AreThreads, AreNodes};
+ghost use Rattle.bytecode.specs.Image.{Image};
+ghost use Rattle.bytecode.specs.Spells.{Spells};
+ghost use Rattle.bytecode.specs.Reading.{Gives, each_at};
+ghost use Rattle.bytecode.specs.Reading.Fields.{variable_at};
+ghost use Rattle.bytecode.specs.Reading.Nodes.{thread_at, node_at};
+ghost use Rattle.bytecode.specs.Reading.Image.{header_at, body_at, image_at, image_of, reading, Answers};
+
+use crate::fault::{DecodeFault, Fault};
+use crate::image::Image;
+use crate::reading::fields::{byte, front, number16, number32, variable};
+use crate::reading::nodes::{node, thread};
+use sc_graph::{Node, Program, Tables, Thread, Variable};
+use sqlite_items::Items;
+use std::alloc::Global;
+
+const MAGIC: [u8; 4] = [0x53, 0x43, 0x43, 0x42];
+
+// Threads, and a bound for each.
+#[derive(Drop)]
+struct Threads {
+    threads: Items<Thread>,
+    bounds: Items<u32>,
+}
+
+// Nodes, and a priority, a weight and an end bit for each.
+#[derive(Drop)]
+struct Nodes {
+    nodes: Items<Node>,
+    priorities: Items<u16>,
+    weights: Items<u16>,
+    end_bits: Items<bool>,
+}
+
+#[tactic(auto, unfolding(crate::specs::Reading::Image::header_at))]
+fn header(version: u8, bytes: &[u8]) -> Result<&[u8], Fault>
+    ensures { Gives (λ x. x.now) result (header_at version bytes.now) }
+{
+    let (start, rest) = front(bytes, 4)?;
+    if start != MAGIC.as_slice() {
+        return Err(Fault::Magic);
+    }
+    let (number, rest) = byte(rest)?;
+    if number != version {
+        return Err(Fault::Version);
+    }
+    Ok(rest)
+}
+
+fn variable_list(alloc: Global, count: u16, bytes: &[u8]) -> Result<(Items<Variable>, &[u8]), Fault>
+    ensures { Gives (λ x. (x.0, x.1.now)) result (each_at variable_at count bytes.now) }
+{
+    let mut variables = Items::new(alloc);
+    let mut rest = bytes;
+    for _ in 0..count {
+        match variable(rest) {
+            Ok((read, after)) => {
+                variables.push(read)?;
+                rest = after;
+            }
+            Err(fault) => return Err(fault),
+        }
+    }
+    Ok((variables, rest))
+}
+
+fn thread_columns(alloc: Global, count: u16, bytes: &[u8]) -> Result<(Threads, &[u8]), Fault>
+    ensures gives { Gives (λ x. (thread_rows x.0.threads x.0.bounds, x.1.now)) result (each_at thread_at count bytes.now) }
+    ensures lengths { IfOk result (λ x. AreThreads x.0.threads x.0.bounds count) }
+{
+    let mut threads = Items::new(alloc);
+    let mut bounds = Items::new(alloc);
+    let mut rest = bytes;
+    for _ in 0..count {
+        let (row, after) = thread(rest)?;
+        threads.push(row.thread)?;
+        bounds.push(row.bound)?;
+        rest = after;
+    }
+    Ok((Threads { threads, bounds }, rest))
+}
+
+fn node_columns(alloc: Global, count: u16, bytes: &[u8]) -> Result<(Nodes, &[u8]), Fault>
+    ensures gives { Gives (λ x. (node_rows x.0.nodes x.0.priorities x.0.weights x.0.end_bits, x.1.now)) result (each_at node_at count bytes.now) }
+    ensures lengths { IfOk result (λ x. AreNodes x.0.nodes x.0.priorities x.0.weights x.0.end_bits count) }
+{
+    let mut nodes = Items::new(alloc);
+    let mut priorities = Items::new(alloc);
+    let mut weights = Items::new(alloc);
+    let mut end_bits = Items::new(alloc);
+    let mut rest = bytes;
+    for _ in 0..count {
+        let (row, after) = node(alloc, rest)?;
+        nodes.push(row.node)?;
+        priorities.push(row.priority)?;
+        weights.push(row.weight)?;
+        end_bits.push(row.end_bit)?;
+        rest = after;
+    }
+    let columns = Nodes {
+        nodes,
+        priorities,
+        weights,
+        end_bits,
+    };
+    Ok((columns, rest))
+}
+
+// What stands behind the header.
+#[derive(Drop)]
+struct Parts {
+    variables: Items<Variable>,
+    threads: Threads,
+    nodes: Nodes,
+    budget: u32,
+}
+
+#[tactic(auto, unfolding(crate::specs::Reading::Image::body_at, crate::specs::Reading::Image::counted_at))]
+fn all_parts(alloc: Global, bytes: &[u8]) -> Result<Parts, Fault>
+    ensures gives { Gives (λ p. image_of p.variables (thread_rows p.threads.threads p.threads.bounds) (node_rows p.nodes.nodes p.nodes.priorities p.nodes.weights p.nodes.end_bits) p.budget) result (body_at bytes.now) }
+    ensures threads { IfOk result (λ p. AreThreads p.threads.threads p.threads.bounds (length p.threads.threads)) }
+    ensures nodes { IfOk result (λ p. AreNodes p.nodes.nodes p.nodes.priorities p.nodes.weights p.nodes.end_bits (length p.nodes.nodes)) }
+{
+    let (count, rest) = number16(bytes)?;
+    let (variables, rest) = variable_list(alloc, count, rest)?;
+    let (count, rest) = number16(rest)?;
+    let (threads, rest) = thread_columns(alloc, count, rest)?;
+    let (count, rest) = number16(rest)?;
+    let (nodes, rest) = node_columns(alloc, count, rest)?;
+    let (budget, rest) = number32(rest)?;
+    if !rest.is_empty() {
+        return Err(Fault::Trailing);
+    }
+    Ok(Parts {
+        variables,
+        threads,
+        nodes,
+        budget,
+    })
+}
+
+// The image of these parts.
+fn image_from(parts: Parts) -> Image
+    requires threads { AreThreads parts.threads.threads parts.threads.bounds (length parts.threads.threads) }
+    requires nodes { AreNodes parts.nodes.nodes parts.nodes.priorities parts.nodes.weights parts.nodes.end_bits (length parts.nodes.nodes) }
+    requires fits { FitsLayout parts.variables parts.threads.threads parts.nodes.nodes }
+    ensures { result ≡ record { program = record { variables = parts.variables; threads = parts.threads.threads; nodes = parts.nodes.nodes }; tables = record { priorities = parts.nodes.priorities; weights = parts.nodes.weights; end_bits = parts.nodes.end_bits; bounds = parts.threads.bounds; budget = parts.budget } } }
+{
+    let Parts {
+        variables,
+        threads: Threads { threads, bounds },
+        nodes: Nodes {
+            nodes,
+            priorities,
+            weights,
+            end_bits,
+        },
+        budget,
+    } = parts;
+    let tables = Tables {
+        priorities,
+        weights,
+        end_bits,
+        bounds,
+        budget,
+    };
+    match Program::of(variables, threads, nodes) {
+        Ok(program) => match Image::of(program, tables) {
+            Some(image) => image,
+            None => unreachable!(),
+        },
+        Err(_) => unreachable!(),
+    }
+}
+
+fn body(alloc: Global, bytes: &[u8]) -> Result<Image, Fault>
+    ensures { Gives (λ i. i) result (body_at bytes.now) }
+{
+    let parts = all_parts(alloc, bytes)?;
+    Ok(image_from(parts))
+}
+
+#[tactic(auto, unfolding(crate::specs::Reading::Image::image_at))]
+fn image(alloc: Global, version: u8, bytes: &[u8]) -> Result<Image, Fault>
+    ensures { Gives (λ i. i) result (image_at version bytes.now) }
+{
+    let rest = header(version, bytes)?;
+    body(alloc, rest)
+}
+
+fn read(alloc: Global, version: u8, bytes: &[u8]) -> Result<Image, DecodeFault>
+    ensures { Answers result (reading version bytes.now) }
+{
+    match image(alloc, version, bytes) {
+        Ok(image) => Ok(image),
+        Err(fault) => Err(fault.in_bytes(bytes)),
+    }
+}
+
+/// The image that all of the bytes are, in version 1 of the layout; else the first fault from the
+/// left: `Short` for a field with too few bytes left, `Magic`, `Version` or `Field` for a bad one,
+/// and `Trailing` for bytes behind the last. `Memory` claims nothing of the bytes.
+pub fn decode(alloc: Global, bytes: &[u8]) -> Result<Image, DecodeFault>
+    // What is read is spelled so.
+    ensures found { IfOk result (λ i. Spells 1 bytes.now i) }
+    // What spells an image is read as that image, unless memory runs out.
+    ensures only { (i : Image) → Spells 1 bytes.now i → Answers result (Ok i) }
+    // Which fault it is.
+    ensures exact { Answers result (reading 1 bytes.now) }
+{
+    read(alloc, 1, bytes)
+}
