@@ -1,0 +1,9 @@
+pub mod Answer
+pub mod Within
+pub mod Everywhere
+pub mod Covering
+pub mod Listing
+pub mod Lowest
+pub mod Ordering
+pub mod Rising
+pub mod Giving

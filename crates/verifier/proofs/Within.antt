@@ -1,0 +1,56 @@
+-- What stands at a number is within the program.
+use Rattle.std.proofs.Common.{ℕ, ◌≡◌, ◌<◌, ◌≤◌, Option, Some, None, List, length, slice_get, option_map, refl, sym, ◌∙◌, ap, subst, arith, ◌⊎◌, inl, inr}
+use Rattle.std.proofs.lemmas.Option.{slice_get_within}
+use Rattle.sc_graph.specs.declared.program.Node.{Node}
+use Rattle.sc_graph.specs.declared.program.Step.{Step}
+use Rattle.std.specs.Prelude.{unwrap_or, Contains}
+use Rattle.sc_values.specs.Access.{Access, Nothing, no_access}
+use Rattle.sc_graph.specs.Accesses.{accesses, access_of}
+use Rattle.verifier.specs.Pairs.{InitsAt, UpdatesAt, ReadsAt}
+use Rattle.sc_graph.specs.Program.{Program, step_at, owner_of}
+
+-- a node with its step
+pub record IsNode (p : Program) (n : ℕ) (s : Step) : Type 0 where
+  pub node : Node
+  pub stands : slice_get p.nodes n ≡ Some node
+  pub step : node.step ≡ s
+
+pub node_of_step : (p : Program) (n : ℕ) (s : Step) → step_at p n ≡ Some s → IsNode p n s
+node_of_step p n s e = found (slice_get p.nodes n) refl e
+  where
+    found : (o : Option Node) → slice_get p.nodes n ≡ o → option_map (λ (x : Node). x.step) o ≡ Some s → IsNode p n s
+    found None is h = absurd (cc)
+    found (Some x) is h = record { node = x; stands = is; step = cc }
+
+pub step_within : (p : Program) (n : ℕ) (s : Step) → step_at p n ≡ Some s → n < length p.nodes
+step_within p n s e = let at = node_of_step p n s e in slice_get_within p.nodes n at.node at.stands
+
+-- what a node accesses that isn't there
+pub node_or_none : (p : Program) (n : ℕ) → (n < length p.nodes) ⊎ (accesses p n ≡ no_access)
+node_or_none p n = found (slice_get p.nodes n) refl
+  where
+    found : (o : Option Node) → slice_get p.nodes n ≡ o → (n < length p.nodes) ⊎ (accesses p n ≡ no_access)
+    found None is = inr (ap (λ (o : Option Node). unwrap_or (option_map access_of (option_map (λ (x : Node). x.step) o)) no_access) is)
+    found (Some x) is = inl (slice_get_within p.nodes n x is)
+
+pub inits_within : (p : Program) (x n : ℕ) → InitsAt p x n → n < length p.nodes
+inits_within p x n h = elim (node_or_none p n) [
+  | inl lt ↦ lt
+  | inr e ↦ absurd (let w : (accesses p n).writes ≡ Nothing = ap (λ a. a.writes) e in let v = h.1 in cc)
+]
+
+pub updates_within : (p : Program) (x n : ℕ) → UpdatesAt p x n → n < length p.nodes
+updates_within p x n h = elim (node_or_none p n) [
+  | inl lt ↦ lt
+  | inr e ↦ absurd (let w : (accesses p n).writes ≡ Nothing = ap (λ a. a.writes) e in let v = h.1 in cc)
+]
+
+pub reads_within : (p : Program) (x n : ℕ) → ReadsAt p x n → n < length p.nodes
+reads_within p x n h = elim (node_or_none p n) [
+  | inl lt ↦ lt
+  | inr e ↦ absurd (let P : List ℕ → Type 0 = λ xs. Contains xs x in let c = subst P (ap (λ a. a.reads) e) h in let lt = c.1 in omega arith)
+]
+
+-- the access of a node with this step
+pub access_there : (p : Program) (n : ℕ) (s : Step) → Some s ≡ step_at p n → access_of s ≡ accesses p n
+access_there p n s e = ap (λ (o : Option Step). unwrap_or (option_map access_of o) no_access) e

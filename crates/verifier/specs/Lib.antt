@@ -1,0 +1,3 @@
+pub mod ByNode
+pub mod Pairs
+pub mod Verdict

@@ -1,0 +1,39 @@
+ghost use Rattle.std.specs.Prelude.{◌≡◌};
+ghost use Rattle.verifier.specs.Verdict.{fault_number};
+
+use crate::rule::{Broken, Rule};
+use sc_graph::Place;
+use std::fmt;
+
+impl Rule {
+    /// The number of its fault.
+    pub fn fault_number(self) -> u8
+        ensures { result ≡ fault_number self }
+    {
+        match self {
+            Rule::Size => 31,
+            Rule::Structure => 32,
+            Rule::Code => 33,
+            Rule::Assignment => 34,
+            Rule::EndBit => 35,
+            Rule::NoConflict => 36,
+            Rule::Flow => 37,
+            Rule::Protocol => 38,
+            Rule::Weight => 39,
+            Rule::Bound => 40,
+        }
+    }
+}
+
+impl fmt::Display for Broken {
+    fn fmt<W: fmt::Write>(&self, f: &mut fmt::Formatter<W>) -> fmt::Result {
+        write!(f, "E{} ", self.rule.fault_number())?;
+        match self.place {
+            Place::Image => write!(f, "image"),
+            Place::Variable(variable) => write!(f, "variable {variable}"),
+            Place::Thread(thread) => write!(f, "thread {thread}"),
+            Place::Node(node) => write!(f, "{node}"),
+            Place::Pair(first, second) => write!(f, "{first} {second}"),
+        }
+    }
+}

@@ -1,0 +1,153 @@
+//! The rule of priority along flow: it never rises along an instantaneous edge.
+
+ghost use Rattle.std.specs.Prelude.{◌≡◌, ◌↔◌, ◌<◌, ◌≤◌, IsTrue, MatchOption, ℕ, Some};
+ghost use Rattle.sc_graph.specs.Program.{step_at};
+ghost use Rattle.sc_graph.specs.Protocol.{FlowAt};
+ghost use Rattle.sc_graph.specs.Tables.{priority};
+ghost use Rattle.sc_graph.specs.declared.place.Place.TheVariants as place;
+ghost use Rattle.sc_graph.specs.declared.program.Step.TheVariants as step;
+ghost use Rattle.verifier.specs.ByNode.{ChildrenFlow, EntryFlows, ExitsFlow, ForksTo, IsExitOf, RisesFromExit, RisesToEntry, RisesToSuccessor, StepFlows, SuccessorsFlow};
+ghost use Rattle.verifier.specs.Verdict.{IsFault};
+
+use sc_graph::{NodeId, Place, Program, Step, Tables, ThreadId};
+
+/// A place where the rule is broken, where it is.
+pub(crate) fn flow_fault(program: &Program, tables: &Tables) -> Option<Place>
+    ensures { IsFault (FlowAt program.now tables.now) result }
+{
+    for n in 0..program.node_count() {
+        if let Some(rising) = rise_at_step(program, tables, n) {
+            return Some(rising);
+        }
+    }
+    None
+}
+
+// An edge that the step of a node makes and along which priority rises.
+fn rise_at_step(program: &Program, tables: &Tables, n: NodeId) -> Option<Place>
+    ensures { MatchOption result (StepFlows program.now tables.now n) (λ at. ¬ FlowAt program.now tables.now at) }
+{
+    match program.step(n) {
+        Some(step) => match rise_to_successor(tables, n, step) {
+            Some(rising) => Some(rising),
+            None => rise_at_fork(program, tables, n, step),
+        },
+        None => None,
+    }
+}
+
+// An edge from a node to what follows its step, along which priority rises.
+fn rise_to_successor(tables: &Tables, n: NodeId, step: &Step) -> Option<Place>
+    ensures { MatchOption result (SuccessorsFlow tables.now n step.now) (RisesToSuccessor tables.now n step.now) }
+{
+    match step {
+        Step::Assign { next, .. }
+        | Step::Update { next, .. }
+        | Step::Join { next }
+        | Step::Depth { next } => rise_along(tables, n, *next),
+        Step::Cond { then, other, .. } => match rise_along(tables, n, *then) {
+            Some(rising) => Some(rising),
+            None => rise_along(tables, n, *other),
+        },
+        Step::Fork { .. } | Step::Surf { .. } | Step::Exit => None,
+    }
+}
+
+// The two nodes, where priority rises from the first to the second.
+fn rise_along(tables: &Tables, from: NodeId, to: NodeId) -> Option<Place>
+    ensures { MatchOption result (priority tables.now to ≤ priority tables.now from) (λ at. (at ≡ place.Pair from to) × (priority tables.now from < priority tables.now to)) }
+{
+    if tables.priority(from) < tables.priority(to) {
+        Some(Place::Pair(from, to))
+    } else {
+        None
+    }
+}
+
+// An edge to a child of a fork, or from it to the join, along which priority rises.
+fn rise_at_fork(program: &Program, tables: &Tables, n: NodeId, step: &Step) -> Option<Place>
+    requires { step_at program.now n ≡ Some step.now }
+    ensures { MatchOption result (ChildrenFlow program.now tables.now n) (λ at. ¬ FlowAt program.now tables.now at) }
+{
+    match step {
+        Step::Fork { children, join } => {
+            rise_at_children(program, tables, n, children.as_slice(), *join)
+        }
+        Step::Assign { .. }
+        | Step::Update { .. }
+        | Step::Cond { .. }
+        | Step::Join { .. }
+        | Step::Surf { .. }
+        | Step::Depth { .. }
+        | Step::Exit => None,
+    }
+}
+
+fn rise_at_children(
+    program: &Program,
+    tables: &Tables,
+    n: NodeId,
+    children: &[ThreadId],
+    join: NodeId,
+) -> Option<Place>
+    requires { step_at program.now n ≡ Some (step.Fork children.now join) }
+    ensures { MatchOption result (ChildrenFlow program.now tables.now n) (λ at. ¬ FlowAt program.now tables.now at) }
+{
+    for child in children {
+        if let Some(rising) = rise_at_child(program, tables, n, *child, join) {
+            return Some(rising);
+        }
+    }
+    None
+}
+
+// An edge to one child of a fork, or from it to the join, along which priority rises.
+fn rise_at_child(
+    program: &Program,
+    tables: &Tables,
+    n: NodeId,
+    child: ThreadId,
+    join: NodeId,
+) -> Option<Place>
+    requires { ForksTo program.now n child join }
+    ensures { MatchOption result (EntryFlows program.now tables.now n child × ExitsFlow program.now tables.now child join) (λ at. ¬ FlowAt program.now tables.now at) }
+{
+    match rise_to_entry(program, tables, n, child) {
+        Some(rising) => Some(rising),
+        None => rise_from_exit(program, tables, child, join),
+    }
+}
+
+// The edge to the entry of a thread, where priority rises along it.
+fn rise_to_entry(program: &Program, tables: &Tables, n: NodeId, child: ThreadId) -> Option<Place>
+    ensures { MatchOption result (EntryFlows program.now tables.now n child) (RisesToEntry program.now tables.now n child) }
+{
+    match program.entry(child) {
+        Some(entry) => rise_along(tables, n, entry),
+        None => None,
+    }
+}
+
+// An edge from an exit of a thread to a join, along which priority rises.
+fn rise_from_exit(
+    program: &Program,
+    tables: &Tables,
+    child: ThreadId,
+    join: NodeId,
+) -> Option<Place>
+    ensures { MatchOption result (ExitsFlow program.now tables.now child join) (RisesFromExit program.now tables.now child join) }
+{
+    for n in 0..program.node_count() {
+        if is_exit_of(program, child, n) && tables.priority(n) < tables.priority(join) {
+            return Some(Place::Pair(n, join));
+        }
+    }
+    None
+}
+
+// Whether a node is an exit of a thread.
+fn is_exit_of(program: &Program, thread: ThreadId, n: NodeId) -> bool
+    ensures { IsTrue result ↔ IsExitOf program.now thread n }
+{
+    program.owns(thread, n) && matches!(program.step(n), Some(Step::Exit))
+}

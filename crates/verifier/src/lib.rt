@@ -1,0 +1,25 @@
+//! The verifier: it trusts no compiler, and accepts exactly the valid images.
+#![tactic(auto)]
+
+mod assignments;
+mod bounds;
+mod codes;
+mod concurrency;
+mod conflicts;
+mod end_bits;
+mod fault_line;
+mod flow;
+mod kinds;
+mod protocol;
+mod rule;
+mod size;
+#[cfg(test)]
+mod tests;
+mod users;
+mod verification;
+mod verified;
+mod weights;
+
+pub use rule::{Broken, Refusal, Rule};
+pub use verification::verify;
+pub use verified::Verified;
