@@ -1,0 +1,10 @@
+pub mod Accepted
+pub mod Taken
+pub mod Fresh
+pub mod Keeping
+pub mod Claiming
+pub mod SameClaim
+pub mod EveryOrder
+pub mod Replaying
+pub mod Forbidding
+pub mod JudgedBySteps

@@ -1,0 +1,26 @@
+use Rattle.std.proofs.Common.{◌≡◌, ℕ, take, subst, rules}
+use Rattle.sc_graph.specs.Tick.{start}
+use Rattle.tick_core.specs.State.{BeginsTick}
+use Rattle.tick_core.specs.Judging.{Replays, RunsBy}
+use Rattle.tick_core.proofs.Replaying.{reached_by}
+use Rattle.tick_core.proofs.JudgedBySteps.{judged_run}
+use Rattle.tick_core.proofs.judging.judge.Goals as goal
+
+pub judge_steps-requires : goal.judge_steps-requires
+judge_steps-requires c =
+    let p = c.args.verified.now.program in
+    let begins : BeginsTick p c.in_ok-reached.reached = search rules in
+    let by : RunsBy p c.in_ok-reached.reached c.args.run.now c.replay.new.control c.in-Whole.steps.items =
+    subst (Replays p c.in_ok-reached.reached c.args.run.now c.replay.new.control) c.in-Whole.is c.in_ok-at.ensures in
+    (reached_by p c.args.verified.now.tables c.in_ok-reached.reached c.image.ensures.valid begins c.args.run.now c.replay.new.control c.in-Whole.steps.items by).configuration
+
+pub returns-in-Whole-clause-judged : goal.returns-in-Whole-clause-judged
+returns-in-Whole-clause-judged c =
+    let p = c.args.verified.now.program in
+    let begun : c.in_ok-reached.reached ≡ start p c.args.inputs.now c.args.control.now = search rules in
+    let begins : BeginsTick p c.in_ok-reached.reached = search rules in
+    let by : RunsBy p c.in_ok-reached.reached c.args.run.now c.replay.new.control c.in-Whole.steps.items =
+    subst (Replays p c.in_ok-reached.reached c.args.run.now c.replay.new.control) c.in-Whole.is c.in_ok-at.ensures in
+    judged_run p c.args.verified.now.tables c.in_ok-reached.reached c.image.ensures.valid begins c.args.run.now c.replay.new.control
+    c.in-Whole.steps.items c.deref.result.now by c.deref.ensures.value c.judge_steps.result c.judge_steps.ensures
+    (start p c.args.inputs.now c.args.control.now) begun

@@ -1,0 +1,8 @@
+use Rattle.std.proofs.Common.{◌∙◌, ap, sym, ◌++◌, ◌∷◌, [], None}
+use Rattle.tick_core.proofs.Keeping.{none_more}
+use Rattle.tick_core.proofs.state.no_claims.Goals as goal
+
+pub loop-thread-preserved : goal.loop-thread-preserved
+loop-thread-preserved c =
+    c.in_ok-push.ensures.items ∙ ap (λ before. before ++ None ∷ []) c.loop-thread.invariant
+    ∙ sym (none_more _ _ c.loop-thread-test.true)

@@ -1,0 +1,54 @@
+-- The pure machine of events: workers claim, commit and give back, in any order.
+use Rattle.std.specs.Prelude.{ℕ, ◌≡◌, ◌≤◌, ◌⊎◌, Some, None, List, [], ◌∷◌, map}
+use Rattle.sc_graph.specs.declared.control.Control.{Control}
+use Rattle.sc_graph.specs.Control.{status_of}
+use Rattle.sc_graph.specs.Tick.{Inputs, AreAccepted, Rests, start}
+use Rattle.sc_graph.specs.Priority.{Leads, PriorityRun}
+use Rattle.sc_graph.specs.Valid.{IsValid}
+use Rattle.bytecode.specs.Image.{Image}
+use Rattle.tick_core.specs.declared.state.Turn.{Turn}
+use Rattle.tick_core.specs.Claims.{Claim, Done, present_operands}
+use Rattle.tick_core.specs.Stepping.{code_at}
+use Rattle.tick_core.specs.State.{InTick, threads_of}
+use Rattle.tick_core.specs.Turns.{claim_of, Answers, Commits, GivesBack, IsRefused}
+
+-- a worker asks for a claim, brings an evaluated one, or gives one back; what it brings need not be open
+pub data Event : Type 0 where
+  Claimed : (worker : ℕ) → Event
+  Committed : (done : Done) → Event
+  GivenBack : (claim : Claim) → Event
+
+-- what an event makes of a state: what the calls say that they do
+abbrev pub Happens : Event → InTick → InTick → Type 0
+Happens (Claimed worker) s s' = (worker ≤ 8) × ((answer : Turn) × Answers s s' worker answer)
+Happens (Committed done) s s' = ((at : ℕ) × Commits s s' done at) ⊎ IsRefused s s' done.claim
+Happens (GivenBack claim) s s' = GivesBack s s' claim ⊎ IsRefused s s' claim
+
+-- a whole list of events
+abbrev pub Happen : List Event → InTick → InTick → Type 0
+Happen [] s s' = s' ≡ s
+Happen (e ∷ events) s s' = (mid : InTick) × Happens e s mid × Happen events mid s'
+
+-- a tick just begun from c: nothing is committed and nothing is open
+abbrev pub begun : Image → Inputs → Control → InTick
+begun image inputs c =
+    record {
+      image = image;
+      begun = start image.program inputs c;
+      present = start image.program inputs c;
+      history = [];
+      claims = map (λ _. None) image.program.threads;
+    }
+
+-- the committed threads are a priority run from this start to the present configuration, and each open claim
+-- is of a thread that leads now and has the present values of what its code loads
+pub record Replays (image : Image) (c : Control) (s : InTick) : Type 0 where
+  pub run : PriorityRun image.program image.tables (threads_of s.history) c s.present
+  pub leads : (t : ℕ) (a : Claim) → claim_of s t ≡ Some (Some a) → Leads image.program image.tables s.present t
+  pub operands : (t : ℕ) (a : Claim) → claim_of s t ≡ Some (Some a) → a.operands ≡ present_operands s.present.variables (code_at image.program (status_of s.present t))
+
+-- whatever the workers do, in whatever order
+abbrev pub EveryOrderReplays : Type 0
+EveryOrderReplays =
+    (image : Image) (c : Control) (inputs : Inputs) → IsValid image.program image.tables → Rests image.program c → AreAccepted image.program inputs →
+    (events : List Event) (s : InTick) → Happen events (begun image inputs c) s → Replays image (start image.program inputs c) s

@@ -1,0 +1,47 @@
+ghost use Rattle.std.specs.Prelude.{◌≡◌, ◌<◌, ◌==◌, ◌^◌, ℕ, count_by, length, slice_index};
+
+use sc_graph::ThreadId;
+use sqlite_items::Items;
+
+/// One step of a tick: the thread that took it, and the worker on whose claim.
+#[derive(Clone, Copy, Debug, PartialEq, Eq)]
+pub struct Entry {
+    pub thread: ThreadId,
+    pub worker: u8,
+}
+
+/// The steps of a finished tick: its history, and for each worker from 0 how many of them bear it.
+#[derive(Debug, Drop)]
+pub struct Report {
+    pub history: Items<Entry>,
+    pub by: [u32; 9],
+}
+
+impl Report {
+    /// The report of a history.
+    pub(crate) fn of(history: Items<Entry>) -> Report
+        requires { length history < 2 ^ 32 }
+        ensures history { result.history ≡ history }
+        ensures by { (w : ℕ) → w < 9 → slice_index result.by w ≡ count_by (λ e. e.worker == w) history }
+    {
+        let mut by = [0; 9];
+        for (worker, count) in by.iter_mut().enumerate() {
+            *count = entries_by(history.as_slice(), worker);
+        }
+        Report { history, by }
+    }
+}
+
+// How many entries bear this worker.
+fn entries_by(history: &[Entry], worker: usize) -> u32
+    requires { length history.now < 2 ^ 32 }
+    ensures { result ≡ count_by (λ e. e.worker == worker) history.now }
+{
+    let mut count = 0;
+    for entry in history {
+        if entry.worker as usize == worker {
+            count += 1;
+        }
+    }
+    count
+}

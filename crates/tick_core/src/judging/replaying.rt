@@ -1,0 +1,81 @@
+ghost use Rattle.std.specs.Prelude.{◌≡◌, false, IfOk, IsSome, MatchOption};
+ghost use Rattle.sc_graph.specs.Program.{kinds as variable_kinds};
+ghost use Rattle.sc_graph.specs.Control.{is_enabled, IsEnabled};
+ghost use Rattle.sc_graph.specs.Steps.{step};
+ghost use Rattle.sc_graph.specs.Tick.{IsConfiguration};
+ghost use Rattle.tick_core.specs.State.{BeginsTick};
+ghost use Rattle.tick_core.specs.Judging.{Replays, StepsAt};
+
+use crate::enabled::is_enabled;
+use crate::state::{kinds_of, present_value};
+use crate::stepping::take_step;
+use sc_graph::{Control, NodeId, Status, ThreadId};
+use sc_values::Kind;
+use std::alloc::{AllocError, Global};
+use verifier::Verified;
+
+/// A step of a run: the thread that took it, and the node at which it stood or the join at which it
+/// waited.
+#[derive(Clone, Copy, Debug)]
+pub(crate) struct Taken {
+    pub thread: ThreadId,
+    pub node: NodeId,
+}
+
+/// How far a list of threads is a run.
+#[derive(Drop)]
+pub(crate) enum Replayed {
+    /// The thread at this place isn't enabled there.
+    Stopped(usize),
+    /// It is a run, of these steps.
+    Whole(Vec<Taken>),
+}
+
+/// Takes the steps of a run, from the start of a tick, until a thread isn't enabled.
+pub(crate) fn replay(
+    alloc: Global,
+    verified: &Verified,
+    control: &mut Control,
+    run: &[ThreadId],
+) -> Result<Replayed, AllocError>
+    requires { BeginsTick verified.now.program control.old }
+    ensures { IfOk result (Replays verified.now.program control.old run.now control.new) }
+{
+    let kinds = kinds_of(alloc, verified.image().program())?;
+    let mut steps = Vec::new(alloc);
+    for (at, thread) in run.iter().enumerate() {
+        match step_if_enabled(verified, &kinds, control, *thread) {
+            Some(node) => steps.push(Taken {
+                thread: *thread,
+                node,
+            })?,
+            None => return Ok(Replayed::Stopped(at)),
+        }
+    }
+    Ok(Replayed::Whole(steps))
+}
+
+// Takes the step of a thread and tells at which node. None: it isn't enabled.
+fn step_if_enabled(
+    verified: &Verified,
+    kinds: &[Kind],
+    control: &mut Control,
+    thread: ThreadId,
+) -> Option<NodeId>
+    requires kinds { kinds.now ≡ variable_kinds verified.now.program }
+    requires configuration { IsConfiguration verified.now.program control.old }
+    requires defined { IsEnabled verified.now.program control.old thread → IsSome (step verified.now.program thread control.old) }
+    ensures { MatchOption result (is_enabled verified.now.program control.old thread ≡ false) (λ n. StepsAt verified.now.program control.old thread n control.new) }
+{
+    let program = verified.image().program();
+    let node = match control.status(thread) {
+        Status::At(node) | Status::Waiting(node) => node,
+        Status::Absent | Status::Paused(_) | Status::Ended => return None,
+    };
+    if !is_enabled(program, control, thread) {
+        return None;
+    }
+    let value = present_value(verified, kinds, control, thread);
+    take_step(program, control, thread, value);
+    Some(node)
+}

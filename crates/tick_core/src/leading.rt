@@ -1,0 +1,55 @@
+ghost use Rattle.std.specs.Prelude.{◌≡◌, ◌+◌, MatchOption, Some, length};
+ghost use Rattle.sc_values.specs.Runs.{IsOver};
+ghost use Rattle.sc_graph.specs.Machine.{machine};
+ghost use Rattle.sc_graph.specs.Priority.{Leads};
+ghost use Rattle.sc_graph.specs.Control.{IsEnabled};
+ghost use Rattle.sc_graph.specs.Tables.{priority_of};
+ghost use Rattle.tick_core.specs.Leading.{LeadsBelow, BestBelow};
+
+use crate::enabled::is_enabled;
+use sc_graph::{Control, Program, Status, Tables, ThreadId};
+
+/// An enabled thread of the greatest priority; None where nobody is enabled.
+pub(crate) fn leader(program: &Program, tables: &Tables, control: &Control) -> Option<ThreadId>
+    requires { length control.now.statuses ≡ length program.now.threads }
+    ensures { MatchOption result (IsOver (machine program.now) control.now) (Leads program.now tables.now control.now) }
+{
+    let mut best = None;
+    for thread in 0..program.thread_count() {
+        if is_enabled(program, control, thread) {
+            best = Some(better(program, tables, control, best, thread));
+        }
+    }
+    best
+}
+
+// Of the best thread so far and the next one that is enabled, the one of greater priority.
+fn better(
+    program: &Program,
+    tables: &Tables,
+    control: &Control,
+    best: Option<ThreadId>,
+    thread: ThreadId,
+) -> ThreadId
+    requires best { BestBelow program.now tables.now control.now thread best }
+    requires enabled { IsEnabled program.now control.now thread }
+    ensures { LeadsBelow program.now tables.now control.now (thread + 1) result }
+{
+    let _program = program;
+    match best {
+        Some(best)
+            if priority(tables, control.status(best)) >= priority(tables, control.status(thread)) =>
+            { best }
+        _ => thread,
+    }
+}
+
+/// The priority of a thread that stands so: of its node, or of the join at which it waits.
+pub(crate) fn priority(tables: &Tables, status: Status) -> u16
+    ensures { result ≡ priority_of tables.now status }
+{
+    match status {
+        Status::At(node) | Status::Waiting(node) => tables.priority(node),
+        Status::Absent | Status::Paused(_) | Status::Ended => 0,
+    }
+}

@@ -1,0 +1,22 @@
+//! The tick machine: ticks of a verified image, step by step, in priority order and within its budget.
+#![tactic(auto)]
+
+mod claim;
+mod enabled;
+mod events;
+mod history;
+mod inputs;
+mod judging;
+mod leading;
+mod starting;
+mod state;
+mod stepping;
+mod unclaimed;
+
+pub use claim::{Claim, Done, evaluate};
+pub use events::every_order_replays;
+pub use history::{Entry, Report};
+pub use inputs::Inputs;
+pub use judging::{Judged, judge};
+pub use sc_graph::{Control, Status};
+pub use state::{BeginFault, Receipt, StaleClaim, TickState, Turn, begin};

@@ -1,0 +1,170 @@
+ghost use Rattle.std.specs.Prelude.{◌≡◌, ◌↔◌, ◌<◌, ◌≤◌, IsTrue, IsSome, IfOk, OnOk, OnErr, MatchOption, Some, None, length, slice_get, slice_set};
+ghost use Rattle.sc_graph.specs.Priority.{Leads};
+ghost use Rattle.sc_graph.specs.Program.{kinds as variable_kinds};
+ghost use Rattle.sc_graph.specs.Tick.{IsConfiguration};
+ghost use Rattle.tick_core.specs.Stepping.{node_of, code_at};
+ghost use Rattle.tick_core.specs.Claims.{HasFormedCode, IsWork};
+ghost use Rattle.tick_core.specs.State.{IsFresh};
+ghost use Rattle.tick_core.specs.Turns.{Answers, AllClaimed, IsUnclaimed, IsNew, MayCommit, Commits, GivesBack, IsRefused, IsOpen};
+
+use crate::claim::{Claim, Done};
+use crate::leading::priority;
+use crate::state::{Receipt, StaleClaim, TickState, Turn};
+use crate::stepping::code_at;
+use crate::unclaimed::unclaimed;
+use sc_graph::{Control, NodeId, Program, Status, ThreadId};
+use sc_values::{CheckedCode, Kind, Operands};
+
+impl<'a> TickState<'a> {
+    /// A step for a worker, numbered 0 to 8: of an enabled thread of the greatest priority that has no
+    /// open claim. `NoneNow` where each of them has one; `Over` where nobody is enabled.
+    pub fn claim(&mut self, worker: u8) -> Turn<'a>
+        requires { worker ≤ 8 }
+        ensures { Answers self.old self.new worker result }
+    {
+        let Some(leader) = self.leader() else {
+            return Turn::Over;
+        };
+        let Some(thread) = self.unclaimed(leader) else {
+            return Turn::NoneNow;
+        };
+        let claim = self.new_claim(worker, thread);
+        self.open(&claim);
+        Turn::Claim(claim)
+    }
+
+    /// Takes the step of an open claim that was evaluated, writes its thread and worker into the
+    /// history, and closes it. `StaleClaim` where no open claim equals it in every field.
+    pub fn commit(&mut self, done: &Done<'_>) -> Result<Receipt, StaleClaim>
+        ensures committed { IfOk result (λ receipt. Commits self.old self.new done.now receipt.at) }
+        ensures refused { OnErr result (IsRefused self.old self.new done.now.claim) }
+    {
+        self.check_open(done.claim())?;
+        let claim = done.claim();
+        let at = self.commits();
+        self.advance(claim.thread(), claim.worker(), done.value());
+        Ok(Receipt { at })
+    }
+
+    /// Closes an open claim. `StaleClaim` where no open claim equals it in every field.
+    pub fn give_back(&mut self, claim: &Claim<'_>) -> Result<(), StaleClaim>
+        ensures given_back { OnOk result (GivesBack self.old self.new claim.now) }
+        ensures refused { OnErr result (IsRefused self.old self.new claim.now) }
+    {
+        self.check_open(claim)?;
+        self.close(claim.thread());
+        Ok(())
+    }
+
+    // A thread of the priority of this one, which is the greatest, that has no open claim.
+    fn unclaimed(&self, leader: ThreadId) -> Option<ThreadId>
+        requires { Leads self.now.image.program self.now.image.tables self.now.present leader }
+        ensures { MatchOption result (AllClaimed self.now) (IsUnclaimed self.now) }
+    {
+        let image = self.verified.image();
+        let greatest = priority(image.tables(), self.present.status(leader));
+        unclaimed(
+            image.program(),
+            image.tables(),
+            &self.present,
+            &self.claims,
+            greatest,
+        )
+    }
+
+    // A claim of a leading thread, as things stand.
+    fn new_claim(&self, worker: u8, thread: ThreadId) -> Claim<'a>
+        requires leads { Leads self.now.image.program self.now.image.tables self.now.present thread }
+        requires worker { worker ≤ 8 }
+        ensures { IsNew self.now worker thread result }
+    {
+        let program = self.verified.image().program();
+        let status = self.present.status(thread);
+        let (code, operands) = work_at(program, &self.variable_kinds, &self.present, status);
+        Claim::of(
+            worker,
+            thread,
+            node_at(status),
+            code,
+            operands,
+            self.commits(),
+        )
+    }
+
+    // Puts a claim at its thread's place.
+    fn open(&mut self, claim: &Claim<'a>)
+        requires { IsFresh self.old.image.program self.old.image.tables self.old.present (length self.old.history) claim.now.thread claim.now }
+        ensures { self.new ≡ record self.old { claims = slice_set self.old.claims claim.now.thread (Some claim.now) } }
+    {
+        self.claims[claim.thread() as usize] = Some(claim.copied());
+    }
+
+    // Closes the claim of a thread.
+    fn close(&mut self, thread: ThreadId)
+        requires { thread < length self.old.claims }
+        ensures { self.new ≡ record self.old { claims = slice_set self.old.claims thread None } }
+    {
+        self.claims[thread as usize] = None;
+    }
+
+    // Whether this very claim is open. `StaleClaim`: it isn't.
+    fn check_open(&self, claim: &Claim<'_>) -> Result<(), StaleClaim>
+        ensures is_open { OnOk result (MayCommit self.now claim.now) }
+        ensures stale { OnErr result (¬ IsOpen self.now claim.now) }
+    {
+        if is_open(&self.claims, claim) {
+            Ok(())
+        } else {
+            Err(StaleClaim)
+        }
+    }
+
+    // How many steps were taken.
+    fn commits(&self) -> u32
+        ensures { result ≡ length self.now.history }
+    {
+        self.history.len() as u32
+    }
+}
+
+// Whether this very claim stands among the open ones.
+fn is_open(claims: &[Option<Claim<'_>>], claim: &Claim<'_>) -> bool
+    ensures { IsTrue result ↔ (slice_get claims.now claim.now.thread ≡ Some (Some claim.now)) }
+{
+    match claims.get(claim.thread() as usize) {
+        Some(Some(found)) => found.is_same(claim),
+        _ => false,
+    }
+}
+
+// The node at which an enabled thread that stands so takes its step.
+fn node_at(status: Status) -> NodeId
+    requires { IsSome (node_of status) }
+    ensures { node_of status ≡ Some result }
+{
+    match status {
+        Status::At(node) | Status::Waiting(node) => node,
+        Status::Absent | Status::Paused(_) | Status::Ended => unreachable!(),
+    }
+}
+
+// The code of the step from a status, where it has one, and the present values of what it loads.
+fn work_at<'a>(
+    program: &'a Program,
+    kinds: &[Kind],
+    control: &Control,
+    status: Status,
+) -> (Option<CheckedCode<'a>>, Operands)
+    requires kinds { kinds.now ≡ variable_kinds program.now }
+    requires configuration { IsConfiguration program.now control.now }
+    requires formed { HasFormedCode program.now (code_at program.now status) }
+    ensures { IsWork program.now control.now status result.0 result.1 }
+{
+    match code_at(program, status) {
+        Some(code) => (
+            Some(CheckedCode::known(code, kinds)),
+            Operands::present(code, control.variables.as_slice()),
+        ),
+        None => (None, Operands::new()),
+    }
+}

@@ -1,0 +1,133 @@
+ghost use Rattle.std.specs.Prelude.{◌≡◌, ◌↔◌, ◌<◌, ◌≤◌, ◌==◌, ◌≢◌, List, Some, ℕ, IsTrue, IsPermutation, MatchOption, count_by, length, slice_get, slice_index};
+ghost use Rattle.sc_values.specs.Runs.{IsOver, IsAdmissible, Completes, Ends};
+ghost use Rattle.sc_graph.specs.declared.control.Control.{Control as Configuration};
+ghost use Rattle.sc_graph.specs.Machine.{machine};
+ghost use Rattle.sc_graph.specs.Priority.{Leads, PriorityRun};
+ghost use Rattle.sc_graph.specs.Tick.{IsConfiguration, Rests};
+ghost use Rattle.sc_graph.specs.Program.{kinds as variable_kinds};
+ghost use Rattle.sc_graph.specs.Control.{status_of};
+ghost use Rattle.sc_graph.specs.Valid.{IsValid};
+ghost use Rattle.tick_core.specs.Claims.{Claim as OpenClaim};
+ghost use Rattle.tick_core.specs.Stepping.{value_at};
+ghost use Rattle.tick_core.specs.State.{Advances, DropsClaims, GoesAlone, threads_of};
+
+use crate::claim::Claim;
+use crate::history::{Entry, Report};
+use crate::leading::leader;
+use crate::state::TickState;
+use crate::stepping::{code_at, take_step};
+use sc_graph::{Control, ThreadId};
+use sc_values::{CheckedCode, Kind, Operands, Value, eval};
+use sqlite_items::Items;
+use verifier::Verified;
+
+impl<'a> TickState<'a> {
+    /// Whether nobody is enabled.
+    pub fn is_over(&self) -> bool
+        ensures { IsTrue result ↔ (IsOver (machine self.now.image.program) self.now.present) }
+    {
+        self.leader().is_none()
+    }
+
+    /// Drops all open claims, and then steps as worker 0 until nobody is enabled.
+    pub fn run_alone(&mut self)
+        ensures over { IsOver (machine self.new.image.program) self.new.present }
+        ensures alone { GoesAlone self.old self.new }
+    {
+        self.drop_claims();
+        while let Some(thread) = self.leader() {
+            self.step_alone(thread);
+        }
+    }
+
+    // Closes all claims.
+    fn drop_claims(&mut self)
+        ensures { DropsClaims self.old self.new }
+    {
+        close_all(&mut self.claims);
+    }
+
+    // An enabled thread of the greatest priority.
+    pub(super) fn leader(&self) -> Option<ThreadId>
+        ensures { MatchOption result (IsOver (machine self.now.image.program) self.now.present) (Leads self.now.image.program self.now.image.tables self.now.present) }
+    {
+        let image = self.verified.image();
+        leader(image.program(), image.tables(), &self.present)
+    }
+
+    // One step of worker 0.
+    fn step_alone(&mut self, thread: ThreadId)
+        requires { Leads self.old.image.program self.old.image.tables self.old.present thread }
+        ensures step { Advances self.old self.new thread 0 }
+        ensures within { length self.new.history ≤ self.new.image.tables.budget }
+    {
+        let value = present_value(self.verified, &self.variable_kinds, &self.present, thread);
+        self.advance(thread, 0, value);
+    }
+
+    // The step of a leading thread, whose code has this value: it is done, written into the history,
+    // and the thread's claim is closed.
+    pub(super) fn advance(&mut self, thread: ThreadId, worker: u8, value: Option<Value>)
+        requires leads { Leads self.old.image.program self.old.image.tables self.old.present thread }
+        requires value { value ≡ value_at self.old.image.program self.old.present (status_of self.old.present thread) }
+        ensures { Advances self.old self.new thread worker }
+    {
+        let program = self.verified.image().program();
+        take_step(program, &mut self.present, thread, value);
+        self.history.push_reserved(Entry { thread, worker });
+        self.claims[thread as usize] = None;
+    }
+
+    /// The configuration in which the tick ended, which rests, and the report of its steps.
+    pub fn finish(self) -> (Control, Report)
+        requires { IsOver (machine self.image.program) self.present }
+        ensures present { result.0 ≡ self.entry.present }
+        ensures rests { Rests self.entry.image.program result.0 }
+        ensures history { result.1.history ≡ self.entry.history }
+        ensures within { length result.1.history ≤ self.entry.image.tables.budget }
+        ensures by_priority { PriorityRun self.entry.image.program self.entry.image.tables (threads_of result.1.history) self.entry.begun result.0 }
+        ensures by { (w : ℕ) → w < 9 → slice_index result.1.by w ≡ count_by (λ e. e.worker == w) self.entry.history }
+        ensures complete { Completes (machine self.entry.image.program) (threads_of result.1.history) self.entry.begun result.0 }
+        ensures admissible { IsAdmissible (machine self.entry.image.program) (threads_of result.1.history) self.entry.begun }
+        ensures ends { Ends (machine self.entry.image.program) self.entry.begun result.0 }
+        ensures one_end { (other : Configuration) → Ends (machine self.entry.image.program) self.entry.begun other → other ≡ result.0 }
+        ensures reordered { (run : List ℕ) (end : Configuration) → Completes (machine self.entry.image.program) run self.entry.begun end → IsAdmissible (machine self.entry.image.program) run self.entry.begun → IsPermutation run (threads_of result.1.history) }
+    {
+        let TickState {
+            verified: _,
+            variable_kinds: _,
+            begun: _,
+            present,
+            history,
+            claims: _,
+        } = self;
+        let report = Report::of(Items::from_vec(history));
+        (present, report)
+    }
+}
+
+fn close_all(claims: &mut Vec<Option<Claim<'_>>>)
+    ensures length { length claims.new.items ≡ length claims.old.items }
+    ensures none { (t : ℕ) (a : OpenClaim) → slice_get claims.new.items t ≢ Some (Some a) }
+{
+    for claim in claims.iter_mut() {
+        *claim = None;
+    }
+}
+
+/// The value of the code at which a thread stands, over the present variables.
+pub(crate) fn present_value(
+    verified: &Verified,
+    kinds: &[Kind],
+    control: &Control,
+    thread: ThreadId,
+) -> Option<Value>
+    requires kinds { kinds.now ≡ variable_kinds verified.now.program }
+    requires configuration { IsConfiguration verified.now.program control.now }
+    requires valid { IsValid verified.now.program verified.now.tables }
+    ensures { result ≡ value_at verified.now.program control.now (status_of control.now thread) }
+{
+    let code = code_at(verified.image().program(), control.status(thread))?;
+    let operands = Operands::present(code, control.variables.as_slice());
+    Some(eval(&CheckedCode::known(code, kinds), &operands))
+}
