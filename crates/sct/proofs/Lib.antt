@@ -1,0 +1,5 @@
+pub mod Ahead
+pub mod Cut
+pub mod Feeds
+pub mod Given
+pub mod Shown

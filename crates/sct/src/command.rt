@@ -1,0 +1,98 @@
+ghost use Rattle.std.specs.Prelude.{◌≡◌, ◌≤◌};
+
+use crate::arguments::{Request, Unread, read_words};
+use crate::check::{load_verified, summary_of};
+use crate::fault::Fault;
+use crate::files::Files;
+use crate::play::play;
+use sc_values::{Sink, Source, write_all};
+use std::alloc::Global;
+
+/// The status of a command that was done.
+pub const DONE: u8 = 0;
+
+/// The status of a command that was refused.
+pub const REFUSED: u8 = 1;
+
+/// The status of words that ask for nothing.
+pub const MISUSED: u8 = 2;
+
+fn check<F: Files, W: Sink>(
+    alloc: Global,
+    name: &str,
+    files: &mut F,
+    output: &mut W,
+) -> Result<(), Fault> {
+    let image = load_verified(alloc, files, name)?;
+    let line = summary_of(alloc, image.image())?;
+    write_all(output, line.as_bytes()).map_err(|_| Fault::Write)
+}
+
+fn run<F: Files, R: Source, W: Sink>(
+    alloc: Global,
+    name: &str,
+    files: &mut F,
+    input: &mut R,
+    output: &mut W,
+) -> Result<(), Fault> {
+    let image = load_verified(alloc, files, name)?;
+    let _ticks = play(alloc, &image, input, output)?;
+    Ok(())
+}
+
+// Writes the line of a fault. Where it cannot be written, nothing else can be done.
+fn refuse<X: Sink>(alloc: Global, fault: &Fault, errors: &mut X) -> u8
+    ensures { result ≡ REFUSED }
+{
+    let _ = match format!(in alloc; "sct: {fault}\n") {
+        Ok(line) => write_all(errors, line.as_bytes()),
+        Err(_) => write_all(errors, b"sct: E52\n"),
+    };
+    REFUSED
+}
+
+// Shows the help that was asked for, or else what is wrong with the words.
+fn show<W: Sink, X: Sink>(
+    alloc: Global,
+    text: &str,
+    asked: bool,
+    output: &mut W,
+    errors: &mut X,
+) -> u8
+    ensures { result ≤ MISUSED }
+{
+    if !asked {
+        let _ = write_all(errors, text.as_bytes());
+        return MISUSED;
+    }
+    match write_all(output, text.as_bytes()) {
+        Ok(()) => DONE,
+        Err(_) => refuse(alloc, &Fault::Write, errors),
+    }
+}
+
+/// The whole program, over its words without its name, files, an input, an output and one for
+/// errors: does what the words ask for, and gives the status.
+pub fn command<F: Files, R: Source, W: Sink, X: Sink>(
+    alloc: Global,
+    words: &[String],
+    files: &mut F,
+    input: &mut R,
+    output: &mut W,
+    errors: &mut X,
+) -> u8
+    ensures { result ≤ MISUSED }
+{
+    let done = match read_words(alloc, words) {
+        Ok(Request::Check(name)) => check(alloc, name, files, output),
+        Ok(Request::Run(name)) => run(alloc, name, files, input, output),
+        Err(Unread::Shown { text, asked }) => {
+            return show(alloc, text.as_str(), asked, output, errors);
+        }
+        Err(Unread::Memory) => Err(Fault::Memory),
+    };
+    match done {
+        Ok(()) => DONE,
+        Err(fault) => refuse(alloc, &fault, errors),
+    }
+}

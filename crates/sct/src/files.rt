@@ -1,0 +1,51 @@
+use std::alloc::Global;
+use std::rt::Files as SystemFiles;
+use std::{fs, io};
+
+/// Why a file was not read or written.
+#[derive(Clone, Copy, Debug, PartialEq, Eq)]
+pub enum FileFault {
+    /// Want of memory.
+    Memory,
+    /// The file of this name cannot be read or written.
+    Named,
+}
+
+/// The files that the program reads and writes, by name.
+pub trait Files {
+    /// The bytes of the file of this name.
+    fn load(&mut self, alloc: Global, name: &str) -> Result<Vec<u8>, FileFault>;
+
+    /// Makes these the bytes of the file of this name.
+    fn store(&mut self, alloc: Global, name: &str, bytes: &[u8]) -> Result<(), FileFault>;
+}
+
+/// The files of the system.
+#[derive(Drop)]
+pub struct HostFiles<'a, R: SystemFiles + AllocGlobal> {
+    rt: &'a R,
+}
+
+impl<'a, R: SystemFiles + AllocGlobal> HostFiles<'a, R> {
+    /// The files that this runtime reaches.
+    pub fn new(rt: &'a R) -> HostFiles<'a, R> {
+        HostFiles { rt }
+    }
+}
+
+fn file_fault(error: io::Error) -> FileFault {
+    match error.kind() {
+        io::ErrorKind::OutOfMemory => FileFault::Memory,
+        _ => FileFault::Named,
+    }
+}
+
+impl<'a, R: SystemFiles + AllocGlobal> Files for HostFiles<'a, R> {
+    fn load(&mut self, _alloc: Global, name: &str) -> Result<Vec<u8>, FileFault> {
+        fs::read(self.rt, name).map_err(file_fault)
+    }
+
+    fn store(&mut self, _alloc: Global, name: &str, bytes: &[u8]) -> Result<(), FileFault> {
+        fs::write(self.rt, name, bytes).map_err(file_fault)
+    }
+}
