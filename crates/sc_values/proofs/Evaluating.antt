@@ -16,7 +16,7 @@ use Rattle.sc_values.specs.Checked.{loaded_from, numbered, value_over, code_kind
 use Rattle.sc_values.proofs.Spelling.{spells-tree_of}
 use Rattle.sc_values.proofs.Loaded.{drop_past, length-filter_map}
 use Rattle.sc_values.proofs.Running.{given, ran, ran-code_value, Fits, fits_here, well_formed_fits}
-use Rattle.sc_values.specs.Stack.{put_on, acted, height, taken, loads_after}
+use Rattle.sc_values.specs.Inside.Stack.{put_on, acted, height, taken, loads_after}
 use Rattle.sc_values.proofs.Numbering.{StandFor, Known, renumbered, spells_numbered, value_over_stands, kinded_known, known_at, loaded_stands}
 use Rattle.sc_values.proofs.WellKinded.{Gives, AreOf, value_gives, gives_at}
 

@@ -12,7 +12,7 @@ use Rattle.sc_values.specs.Limits.{operand_limit}
 use Rattle.sc_values.specs.Operator.{unary_value, binary_value}
 use Rattle.sc_values.specs.Expr.{value, postorder}
 use Rattle.sc_values.specs.Code.{grown, trees, only, tree_of, code_value, IsWellFormed}
-use Rattle.sc_values.specs.Stack.{put_on, acted, height}
+use Rattle.sc_values.specs.Inside.Stack.{put_on, acted, height}
 use Rattle.sc_values.proofs.Induction.{induct, postorder-literal, postorder-load, postorder-unary, postorder-binary, value-literal, value-load, value-unary, value-binary}
 use Rattle.sc_values.proofs.Loaded.{loaded_item}
 use Rattle.sc_values.proofs.Spelling.{spells-tree_of, tree_of-spells}

@@ -1,5 +1,5 @@
 -- A code is well formed exactly where the machine over a stack of kinds leaves one kind, within the limits.
-use Rattle.std.proofs.Common.{◌≡◌, ℕ, suc, ◌-◌, ◌≤◌, Bool, true, false, nat_le, cond, Option, Some, None, List, [], ◌∷◌, ◌++◌, option_and_then, slice_get, length, refl, sym, ap, ◌∙◌, append_assoc, subst, arith}
+use Rattle.std.proofs.Common.{◌≡◌, ℕ, suc, ◌-◌, ◌≤◌, Bool, true, false, nat_le, cond, Option, Some, None, IsSome, is_some, List, [], ◌∷◌, ◌++◌, option_and_then, slice_get, length, refl, sym, ap, ◌∙◌, append_assoc, subst, arith}
 use Rattle.std.proofs.lemmas.Bool.{le-leb, leb-true}
 use Rattle.std.proofs.lemmas.List.{append-nil}
 use Rattle.sc_values.specs.declared.value.Kind.{Kind}
@@ -12,7 +12,7 @@ use Rattle.sc_values.specs.Limits.{operation_limit, operand_limit, load_limit}
 use Rattle.sc_values.specs.Operator.{kind_of, unary_kind, binary_kind}
 use Rattle.sc_values.specs.Expr.{kind, postorder}
 use Rattle.sc_values.specs.Code.{grown, trees, only, loads, IsWellFormed}
-use Rattle.sc_values.specs.Stack.{put_on, kind_acted, within_limit, tested, alone}
+use Rattle.sc_values.specs.Inside.Stack.{put_on, kind_acted, within_limit, tested, alone}
 use Rattle.sc_values.proofs.Induction.{induct, postorder-literal, postorder-load, postorder-unary, postorder-binary, kind-literal, kind-load, kind-unary, kind-binary}
 use Rattle.sc_values.proofs.Spelling.{tree_of-spells}
 use Rattle.sc_values.proofs.Loaded.{loaded_item}
@@ -202,12 +202,15 @@ alone_is [] k is = absurd cc
 alone_is (j ∷ []) k is = let e : j ≡ k = cc in ap (λ (l : Kind). l ∷ []) e
 alone_is (j ∷ l ∷ stack) k is = absurd cc
 
-pub left_formed : (kinds : List Kind) (code : List Operation) (k : Kind) → option_and_then alone (tested kinds code []) ≡ Some k → length code ≤ operation_limit → length (loads code) ≤ load_limit → IsWellFormed kinds code
-left_formed kinds code k one short few =
-    let g = given alone (tested kinds code []) k one in
-    tested_formed kinds code k (g.is ∙ ap Some (alone_is g.operand k g.gives)) short few
+-- it leaves one kind, and has few operations and loads
+pub formed_where : (kinds : List Kind) (code : List Operation) → IsSome (option_and_then alone (tested kinds code [])) → length code ≤ operation_limit → length (loads code) ≤ load_limit → IsWellFormed kinds code
+formed_where kinds code some short few = go (option_and_then alone (tested kinds code [])) refl some
+  where
+    go : (o : Option Kind) → option_and_then alone (tested kinds code []) ≡ o → IsSome o → IsWellFormed kinds code
+    go None was is = absurd cc
+    go (Some k) was is =
+        let g = given alone (tested kinds code []) k was in
+        tested_formed kinds code k (g.is ∙ ap Some (alone_is g.operand k g.gives)) short few
 
-pub none_left : (kinds : List Kind) (code : List Operation) → option_and_then alone (tested kinds code []) ≡ None → ¬ (IsWellFormed kinds code)
-none_left kinds code none formed =
-    let one : None ≡ Some formed.gives = sym none ∙ ap (option_and_then alone) (formed_tested kinds code formed) in
-    cc
+pub formed_leaves : (kinds : List Kind) (code : List Operation) → IsWellFormed kinds code → IsSome (option_and_then alone (tested kinds code []))
+formed_leaves kinds code formed = ap (λ o. is_some (option_and_then alone o)) (formed_tested kinds code formed)

@@ -1,13 +1,11 @@
 -- Codes that were checked, and their value over the operands that their loads take.
-use Rattle.std.specs.Prelude.{ℕ, suc, ◌≡◌, ◌≤◌, Option, Some, List, [], ◌∷◌, length, take, filter_map, option_and_then, slice_get}
+use Rattle.std.specs.Prelude.{ℕ, suc, ◌≡◌, Option, List, [], ◌∷◌, filter_map, option_and_then, slice_get}
 use Rattle.sc_values.specs.declared.value.Value.{Value}
 use Rattle.sc_values.specs.declared.value.Kind.{Kind}
 use Rattle.sc_values.specs.declared.operation.Operation.{Operation}
 use Rattle.sc_values.specs.declared.operation.Operation.TheVariants as op
-use Rattle.sc_values.specs.declared.expression.Expr.{Expr}
-use Rattle.sc_values.specs.Limits.{operation_limit, operand_limit, load_limit}
 use Rattle.sc_values.specs.Expr.{kind}
-use Rattle.sc_values.specs.Code.{trees, tree_of, code_value, loads, IsWellFormed}
+use Rattle.sc_values.specs.Code.{tree_of, code_value, loads, IsWellFormed}
 
 -- what stands at the variables that a code loads, in the order of its loads
 abbrev pub loaded_from : {A : Type 0} → List A → List Operation → List A
@@ -42,9 +40,3 @@ pub record Checks (kinds : List Kind) (code : List Operation) (checked : Checked
 pub record IsChecked (checked : Checked) : Type 0 where
   pub kinds : List Kind
   pub checks : Checks kinds checked.operations checked
-
--- no limit of codes is passed
-pub record IsWithinLimits (code : List Operation) : Type 0 where
-  pub operations : length code ≤ operation_limit
-  pub operands : (n : ℕ) (stack : List Expr) → trees (take n code) [] ≡ Some stack → length stack ≤ operand_limit
-  pub loaded : length (loads code) ≤ load_limit

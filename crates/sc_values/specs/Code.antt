@@ -52,6 +52,12 @@ abbrev pub literal_of : List Operation → Option Value
 literal_of (op.Literal v ∷ []) = Some v
 literal_of code = None
 
+-- no limit of codes is passed
+pub record IsWithinLimits (code : List Operation) : Type 0 where
+  pub operations : length code ≤ operation_limit
+  pub operands : (n : ℕ) (stack : List Expr) → trees (take n code) [] ≡ Some stack → length stack ≤ operand_limit
+  pub loaded : length (loads code) ≤ load_limit
+
 -- a code that spells a well-kinded tree within the limits
 pub record IsWellFormed (kinds : List Kind) (code : List Operation) : Type 0 where
   pub spelt : Expr

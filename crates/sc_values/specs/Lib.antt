@@ -5,6 +5,6 @@ pub mod Expr
 pub mod Code
 pub mod Access
 pub mod Checked
-pub mod Stack
 pub mod Streams
 pub mod Runs
+pub mod Inside

@@ -1,9 +1,9 @@
-ghost use Rattle.std.specs.Prelude.{◌≡◌, ◌-◌, ◌≤◌, List, [], ◌∷◌, length, option_and_then, slice_get, MatchOption, Some, None};
+ghost use Rattle.std.specs.Prelude.{◌≡◌, ◌↔◌, ◌-◌, ◌≤◌, IsTrue, List, [], ◌∷◌, length, option_and_then, slice_get, MatchOption, Some, None};
 ghost use Rattle.sc_values.specs.declared.value.Kind.{Kind};
 ghost use Rattle.sc_values.specs.Limits.{load_limit, operation_limit};
 ghost use Rattle.sc_values.specs.Code.{IsWellFormed, loaded, loads};
 ghost use Rattle.sc_values.specs.Checked.{Checks, IsChecked, loaded_from};
-ghost use Rattle.sc_values.specs.Stack.{alone, kind_acted, last_kind, tested};
+ghost use Rattle.sc_values.specs.Inside.Stack.{alone, kind_acted, last_kind, tested};
 
 use crate::code::Code;
 use crate::expression::variable_kind;
@@ -15,8 +15,8 @@ use crate::value::{Kind, Value};
 use arrayvec::ArrayVec;
 use std::marker::Model;
 
-/// A code that is well formed under some kinds of the variables, with the kinds of its loads: what
-/// `eval` needs no test of. It borrows the code.
+/// A code that is well formed under some kinds of the variables, with the kinds of its loads. `eval`
+/// runs it without a test. It borrows the code.
 #[derive(Drop, Clone, Debug)]
 pub struct CheckedCode<'a> {
     code: &'a Code,
@@ -40,12 +40,10 @@ impl<'a> CheckedCode<'a> {
     pub fn test(code: &'a Code, kinds: &[Kind]) -> Option<CheckedCode<'a>>
         ensures { MatchOption result (¬ (IsWellFormed kinds.now code.now)) (Checks kinds.now code.now) }
     {
-        let operations = code.operations();
-        match kind_of_code(operations, kinds) {
-            Some(_) if load_count(operations) <= LOAD_LIMIT => {
-                Some(CheckedCode::known(code, kinds))
-            }
-            _ => None,
+        if is_well_formed(code, kinds) {
+            Some(CheckedCode::known(code, kinds))
+        } else {
+            None
         }
     }
 
@@ -124,6 +122,14 @@ impl<'a> PartialEq for CheckedCode<'a> {
     {
         self.code == other.code && self.loads() == other.loads()
     }
+}
+
+// Whether a code is well formed under these kinds of the variables.
+fn is_well_formed(code: &Code, kinds: &[Kind]) -> bool
+    ensures { IsTrue result ↔ IsWellFormed kinds.now code.now }
+{
+    let operations = code.operations();
+    kind_of_code(operations, kinds).is_some() && load_count(operations) <= LOAD_LIMIT
 }
 
 // The kinds of the variables that a code loads, in the order of its loads.

@@ -1,9 +1,9 @@
-ghost use Rattle.std.specs.Prelude.{◌≡◌, ◌<◌, ◌≤◌, [], ◌∷◌, ◌++◌, ◌↔◌, IfOk, MatchBool, SomeIff, None, length};
+ghost use Rattle.std.specs.Prelude.{◌≡◌, ◌<◌, ◌≤◌, [], ◌∷◌, ◌++◌, ◌↔◌, IfOk, IsSome, MatchBool, SomeIff, None, length};
+ghost use Rattle.std.specs.Result.{IsErrOf};
 ghost use Rattle.sc_values.specs.declared.expression.Expr.{Expr};
 ghost use Rattle.sc_values.specs.Limits.{operation_limit};
 ghost use Rattle.sc_values.specs.Expr.{kind, postorder};
-ghost use Rattle.sc_values.specs.Code.{Spells, IsWellFormed};
-ghost use Rattle.sc_values.specs.Checked.{IsWithinLimits};
+ghost use Rattle.sc_values.specs.Code.{Spells, IsWellFormed, IsWithinLimits};
 
 use crate::checked::CheckedCode;
 use crate::code_fault::CodeFault;
@@ -44,12 +44,13 @@ impl Code {
 
     /// The code of an expression over variables of these kinds: its operations, each behind its
     /// operands. Err: `Kind` where it isn't well kinded, else `Limit` where a limit of codes is passed.
+    #[tactic(auto, using(crate::proofs::Spelling::spelt_once))]
     pub fn of(expression: &Expr, kinds: &[Kind]) -> Result<Code, CodeFault>
         ensures spells { IfOk result (λ code. Spells code expression.now) }
         ensures one_tree { IfOk result (λ code. (other : Expr) → Spells code other → other ≡ expression.now) }
         ensures formed { IfOk result (IsWellFormed kinds.now) }
-        ensures kind { (result ≡ Err CodeFault.Kind) ↔ (kind expression.now kinds.now ≡ None) }
-        ensures limit { result ≡ Err CodeFault.Limit → ¬ (IsWithinLimits (postorder expression.now)) }
+        ensures kind { IsErrOf result CodeFault.Kind ↔ (kind expression.now kinds.now ≡ None) }
+        ensures limit { IsErrOf result CodeFault.Limit ↔ (IsSome (kind expression.now kinds.now) × ¬ (IsWithinLimits (postorder expression.now))) }
     {
         if expression.kind(kinds).is_none() {
             return Err(CodeFault::Kind);

@@ -7,7 +7,7 @@ ghost use Rattle.sc_values.specs.Limits.{operand_limit};
 ghost use Rattle.sc_values.specs.declared.expression.Expr.{Expr};
 ghost use Rattle.sc_values.specs.Expr.{value};
 ghost use Rattle.sc_values.specs.Checked.{Checks, loaded_from, value_over};
-ghost use Rattle.sc_values.specs.Stack.{acted, height, taken, loads_after};
+ghost use Rattle.sc_values.specs.Inside.Stack.{acted, height, taken, loads_after};
 
 use crate::checked::CheckedCode;
 use crate::operands::Operands;

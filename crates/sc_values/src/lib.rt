@@ -6,6 +6,7 @@ mod code;
 mod code_fault;
 mod evaluation;
 mod expression;
+mod laws;
 mod limits;
 mod memory;
 mod name;
@@ -22,6 +23,7 @@ pub use code::Code;
 pub use code_fault::CodeFault;
 pub use evaluation::eval;
 pub use expression::Expr;
+pub use laws::code_spells_one_tree;
 pub use limits::{LOAD_LIMIT, NAME_LIMIT, OPERAND_LIMIT, OPERATION_LIMIT};
 pub use memory::{FromSlice, Plan, ToVec};
 pub use name::Name;
@@ -32,5 +34,7 @@ pub use operator::{BinaryOperator, Combination, UnaryOperator};
 pub use streams::{Failed, Sink, Source, write_all};
 pub use value::{Kind, Value};
 
+#[cfg(test)]
+mod stream_tests;
 #[cfg(test)]
 mod tests;

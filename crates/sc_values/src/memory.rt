@@ -76,6 +76,8 @@ impl<L: Ledger> ToVec<L> {
     pub fn new(alloc: Global, each: usize, plan: Plan, failed: Failures<L>) -> ToVec<L>
         requires { 0 < each }
         ensures bytes { result.bytes.items ≡ [] }
+        ensures each { result.each ≡ each }
+        ensures plan { result.plan ≡ plan }
         ensures failed { result.failed ≡ failed }
     {
         ToVec {

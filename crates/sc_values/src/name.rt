@@ -91,7 +91,7 @@ impl Display for Name {
 
 impl Debug for Name {
     fn fmt<W: Write>(&self, f: &mut Formatter<W>) -> fmt::Result {
-        f.write_str(self.as_str())
+        Display::fmt(self, f)
     }
 }
 

@@ -52,6 +52,7 @@ pub struct OfRead<R: Read + Drop, L: Ledger> {
 }
 
 impl<R: Read + Drop, L: Ledger> OfRead<R, L> {
+    /// The source over this reader, with the count of its failures so far.
     pub fn new(reader: R, failed: Failures<L>) -> OfRead<R, L>
         ensures reader { result.reader ≡ reader }
         ensures failed { result.failed ≡ failed }
@@ -84,6 +85,7 @@ pub struct OfWrite<W: Write + Drop, L: Ledger> {
 }
 
 impl<W: Write + Drop, L: Ledger> OfWrite<W, L> {
+    /// The sink over this writer, with the count of its failures so far.
     pub fn new(writer: W, failed: Failures<L>) -> OfWrite<W, L>
         ensures writer { result.writer ≡ writer }
         ensures failed { result.failed ≡ failed }

@@ -4,11 +4,12 @@ ghost use Rattle.std.specs.Prelude.{◌≡◌, map};
 ghost use Rattle.sc_values.specs.Operator.{kind_of};
 
 use crate::{
-    BinaryOperator, CheckedCode, Code, CodeFault, Combination, Expr, FromSlice, Kind, Name,
-    Operands, Operation, Plan, Source, UnaryOperator, Value, eval,
+    BinaryOperator, CheckedCode, Code, CodeFault, Combination, Expr, Kind, Name, Operands,
+    Operation, UnaryOperator, Value, eval,
 };
 use sqlite_items::Boxed;
 use std::alloc::{AllocError, Global};
+use std::collections::HashSet;
 use std::test::Fail;
 
 fn binary(
@@ -56,6 +57,117 @@ fn kinds_come_before_limits(rt: HostRuntime) -> Result<(), Fail> {
 }
 
 #[test]
+fn operands_stand_before_their_operator(rt: HostRuntime) -> Result<(), Fail> {
+    let two = Expr::Literal(Value::Int(2));
+    let product = binary(rt.alloc(), BinaryOperator::Multiply, Expr::Load(1), two)?;
+    let difference = binary(rt.alloc(), BinaryOperator::Subtract, Expr::Load(0), product)?;
+    let copy = difference.copied(rt.alloc())?;
+    let kinds = [Kind::Int, Kind::Int];
+    assert_eq!(rt; copy.kind(&kinds), Some(Kind::Int));
+    let code = Code::of(&copy, &kinds)?;
+    let operations = [
+        Operation::Load(0),
+        Operation::Load(1),
+        Operation::Literal(Value::Int(2)),
+        Operation::Binary(BinaryOperator::Multiply),
+        Operation::Binary(BinaryOperator::Subtract),
+    ];
+    assert_eq!(rt; code.operations(), operations.as_slice());
+    assert!(rt; Code::from_operations(&operations) == Some(code));
+    let value = value_of(&difference, &kinds, &[Value::Int(7), Value::Int(5)])?;
+    assert_eq!(rt; value, Value::Int(-3));
+    Ok(())
+}
+
+#[test]
+fn a_checked_code_keeps_the_kinds_of_its_loads(rt: HostRuntime) -> Result<(), Fail> {
+    let operations = [
+        Operation::Load(2),
+        Operation::Load(0),
+        Operation::Binary(BinaryOperator::Less),
+    ];
+    let code = Code::from_operations(&operations).ok_or("3 operations")?;
+    let kinds = [Kind::Int, Kind::Bool, Kind::Int];
+    let checked = CheckedCode::test(&code, &kinds).ok_or("well formed")?;
+    assert_eq!(rt; checked.loads(), [Kind::Int, Kind::Int].as_slice());
+    assert_eq!(rt; checked.kind(), Kind::Bool);
+    assert!(rt; checked.copied() == checked);
+    assert_eq!(rt; checked.code().operations(), operations.as_slice());
+    let operands = checked.operands(&[Value::Int(4), Value::Bool(true), Value::Int(6)]);
+    assert_eq!(rt;
+        operands.values(),
+        [Value::Int(6), Value::Int(4)].as_slice()
+    );
+    assert!(rt; operands.copied() == operands);
+    Ok(())
+}
+
+#[test]
+fn sixteen_operands_are_given(rt: HostRuntime) {
+    let values = [Value::Int(9); 17];
+    assert!(rt; Operands::from_values(&values[..16]).is_some());
+    assert!(rt; Operands::from_values(&values).is_none());
+}
+
+#[test]
+fn faults_print_their_code(rt: HostRuntime) -> Result<(), Fail> {
+    assert_eq!(rt;
+        format!(in rt.alloc(); "{}", CodeFault::Kind)?.as_str(),
+        "E05"
+    );
+    assert_eq!(rt;
+        format!(in rt.alloc(); "{}", CodeFault::Limit)?.as_str(),
+        "E07"
+    );
+    Ok(())
+}
+
+// The sum of so many ones, of which all stand before the first addition.
+fn sum_of_ones(alloc: Global, ones: u8) -> Result<Expr, AllocError> {
+    let mut sum = Expr::Literal(Value::Int(1));
+    for _ in 1..ones {
+        sum = binary(
+            alloc,
+            BinaryOperator::Add,
+            Expr::Literal(Value::Int(1)),
+            sum,
+        )?;
+    }
+    Ok(sum)
+}
+
+// The sum of so many loads of the first variable, of which two stand at a time.
+fn sum_of_loads(alloc: Global, loads: u8) -> Result<Expr, AllocError> {
+    let mut sum = Expr::Load(0);
+    for _ in 1..loads {
+        sum = binary(alloc, BinaryOperator::Add, sum, Expr::Load(0))?;
+    }
+    Ok(sum)
+}
+
+// So many negations of `true`.
+fn negations(alloc: Global, count: u8) -> Result<Expr, AllocError> {
+    let mut truth = Expr::Literal(Value::Bool(true));
+    for _ in 0..count {
+        truth = Expr::Unary(UnaryOperator::Not, Boxed::new(alloc, truth)?);
+    }
+    Ok(truth)
+}
+
+#[test]
+fn codes_of_trees_at_the_limits(rt: HostRuntime) -> Result<(), Fail> {
+    let limit = Err(CodeFault::Limit);
+    assert!(rt; Code::of(&sum_of_ones(rt.alloc(), 16)?, &[]).is_ok());
+    assert!(rt; Code::of(&sum_of_ones(rt.alloc(), 17)?, &[]) == limit);
+    let kinds = [Kind::Int];
+    assert!(rt; Code::of(&sum_of_loads(rt.alloc(), 16)?, &kinds).is_ok());
+    assert!(rt; Code::of(&sum_of_loads(rt.alloc(), 17)?, &kinds) == limit);
+    assert!(rt; Code::of(&negations(rt.alloc(), 63)?, &[]).is_ok());
+    assert!(rt; Code::of(&negations(rt.alloc(), 64)?, &[]) == limit);
+    Ok(())
+}
+
+#[test]
 fn products_and_negation_wrap(rt: HostRuntime) {
     let least = Value::Int(-2147483648);
     assert_eq!(rt; UnaryOperator::Negate.apply(least), Some(least));
@@ -73,46 +185,70 @@ fn products_and_negation_wrap(rt: HostRuntime) {
 }
 
 #[test]
+fn integers_compare(rt: HostRuntime) {
+    let three = Value::Int(3);
+    for (comparison, less, equal, greater) in [
+        (BinaryOperator::Equal, false, true, false),
+        (BinaryOperator::NotEqual, true, false, true),
+        (BinaryOperator::Less, true, false, false),
+        (BinaryOperator::LessOrEqual, true, true, false),
+        (BinaryOperator::Greater, false, false, true),
+        (BinaryOperator::GreaterOrEqual, false, true, true),
+    ] {
+        for (left, holds) in [(-5, less), (3, equal), (5, greater)] {
+            let answer = comparison.apply(Value::Int(left), three);
+            assert_eq!(rt; answer, Some(Value::Bool(holds)));
+        }
+        assert_eq!(rt; comparison.kind(Kind::Int, Kind::Int), Some(Kind::Bool));
+        assert_eq!(rt; comparison.kind(Kind::Int, Kind::Bool), None);
+    }
+}
+
+#[test]
+fn truth_values_compare(rt: HostRuntime) {
+    for (left, right, same) in [
+        (false, false, true),
+        (false, true, false),
+        (true, false, false),
+        (true, true, true),
+    ] {
+        let a = Value::Bool(left);
+        let b = Value::Bool(right);
+        assert_eq!(rt; BinaryOperator::Equal.apply(a, b), Some(Value::Bool(same)));
+        assert_eq!(rt;
+            BinaryOperator::NotEqual.apply(a, b),
+            Some(Value::Bool(!same))
+        );
+    }
+    for comparison in [
+        BinaryOperator::Less,
+        BinaryOperator::LessOrEqual,
+        BinaryOperator::Greater,
+        BinaryOperator::GreaterOrEqual,
+    ] {
+        let answer = comparison.apply(Value::Bool(false), Value::Bool(true));
+        assert_eq!(rt; answer, None);
+        assert_eq!(rt; comparison.kind(Kind::Bool, Kind::Bool), None);
+    }
+}
+
+#[test]
 fn operators_by_kind(rt: HostRuntime) {
     let three = Value::Int(3);
     let five = Value::Int(5);
-    assert_eq!(rt; BinaryOperator::Min.apply(three, five), Some(three));
-    assert_eq!(rt; BinaryOperator::Max.apply(three, five), Some(five));
-    assert_eq!(rt;
-        BinaryOperator::Less.apply(three, five),
-        Some(Value::Bool(true))
-    );
-    assert_eq!(rt;
-        BinaryOperator::LessOrEqual.apply(five, five),
-        Some(Value::Bool(true))
-    );
-    assert_eq!(rt;
-        BinaryOperator::Greater.apply(three, five),
-        Some(Value::Bool(false))
-    );
-    assert_eq!(rt;
-        BinaryOperator::GreaterOrEqual.apply(five, three),
-        Some(Value::Bool(true))
-    );
-    assert_eq!(rt;
-        BinaryOperator::Equal.apply(three, five),
-        Some(Value::Bool(false))
-    );
-    assert_eq!(rt;
-        BinaryOperator::NotEqual.apply(three, five),
-        Some(Value::Bool(true))
-    );
     let yes = Value::Bool(true);
     let no = Value::Bool(false);
-    assert_eq!(rt; BinaryOperator::Equal.apply(no, no), Some(yes));
-    assert_eq!(rt; BinaryOperator::NotEqual.apply(no, yes), Some(yes));
+    assert_eq!(rt; BinaryOperator::Min.apply(three, five), Some(three));
+    assert_eq!(rt; BinaryOperator::Max.apply(three, five), Some(five));
     assert_eq!(rt; BinaryOperator::And.apply(yes, no), Some(no));
     assert_eq!(rt; BinaryOperator::Or.apply(yes, no), Some(yes));
-    assert_eq!(rt; BinaryOperator::Less.apply(no, yes), None);
-    assert_eq!(rt; BinaryOperator::And.apply(yes, three), None);
+    assert_eq!(rt; BinaryOperator::And.apply(no, three), None);
+    assert_eq!(rt; BinaryOperator::Or.apply(yes, three), None);
     assert_eq!(rt; Combination::Add.combine(three, five), Value::Int(8));
     assert_eq!(rt; Combination::Add.combine(three, yes), three);
+    assert_eq!(rt; Combination::Or.kind(), Kind::Bool);
     assert_eq!(rt; Kind::Int.initial(), Value::Int(0));
+    assert_eq!(rt; Kind::Bool.initial(), no);
 }
 
 // A code of this many literals or loads, and then one addition less.
@@ -180,6 +316,7 @@ fn names(rt: HostRuntime) -> Result<(), Fail> {
     let name = Name::of("_r1S").ok_or("`_` first")?;
     assert_eq!(rt; name.as_str(), "_r1S");
     assert_eq!(rt; format!(in rt.alloc(); "{name}")?.as_str(), "_r1S");
+    assert_eq!(rt; format!(in rt.alloc(); "{name:?}")?.as_str(), "_r1S");
     let word = Name::of("region").ok_or("a reserved word")?;
     assert!(rt; name < word);
     assert!(rt; Name::of("a").ok_or("one byte")? < Name::of("ab").ok_or("two bytes")?);
@@ -187,16 +324,11 @@ fn names(rt: HostRuntime) -> Result<(), Fail> {
 }
 
 #[test]
-fn a_source_fails_once(rt: HostRuntime) {
-    let mut source = FromSlice {
-        rest: b"abc",
-        each: 2,
-        plan: Plan::After(1),
-    };
-    let mut buf = [0; 8];
-    assert_eq!(rt; source.read(&mut buf), Ok(2));
-    assert_eq!(rt; source.read(&mut buf), Err(crate::Failed));
-    assert_eq!(rt; source.read(&mut buf), Ok(1));
-    assert_eq!(rt; buf[0], b'c');
-    assert_eq!(rt; source.read(&mut buf), Ok(0));
+fn equal_names_hash_alike(rt: HostRuntime) -> Result<(), Fail> {
+    let mut seen = HashSet::new(rt.alloc());
+    assert!(rt; seen.insert(Name::of("ab").ok_or("`ab`")?)?);
+    assert!(rt; seen.insert(Name::of("b").ok_or("`b`")?)?);
+    assert!(rt; !seen.insert(Name::from_bytes(b"ab").ok_or("`ab`")?)?);
+    assert_eq!(rt; seen.len(), 2);
+    Ok(())
 }

@@ -1,5 +1,5 @@
 use Rattle.std.proofs.Common.{◌≡◌, [], drop}
-use Rattle.sc_values.specs.Stack.{tested}
+use Rattle.sc_values.specs.Inside.Stack.{tested}
 use Rattle.sc_values.proofs.checked.kind_of_code.Given as goal
 
 abbrev pub invariant-loop-operation : goal.invariant-loop-operation
