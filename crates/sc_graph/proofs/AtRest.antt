@@ -12,11 +12,11 @@ use Rattle.sc_graph.specs.declared.program.Thread.{Thread}
 use Rattle.sc_graph.specs.declared.control.Control.{Control}
 use Rattle.sc_graph.specs.declared.control.Status.{Status}
 use Rattle.sc_graph.specs.declared.control.Status.TheVariants as status
-use Rattle.sc_graph.specs.Program.{Program, kind_at}
+use Rattle.sc_graph.specs.Program.{Program}
 use Rattle.sc_graph.specs.Threads.{IsFork}
 use Rattle.sc_graph.specs.Control.{status_of}
-use Rattle.sc_graph.specs.Tick.{initial, Rests, IsConfiguration, IsPlace, IsPresent}
-use Rattle.sc_graph.specs.Fits.{HaveKinds, RestsAt, RestInPlace, ChildrenStand, AllChildrenStand}
+use Rattle.sc_graph.specs.Tick.{initial, Rests, IsPlace, IsPresent}
+use Rattle.sc_graph.specs.Inside.Fits.{HaveKinds, RestsAt, RestInPlace, ChildrenStand, AllChildrenStand}
 use Rattle.sc_graph.specs.declared.program.Node.{Node}
 use Rattle.sc_graph.specs.declared.program.Step.TheVariants as step
 

@@ -1,10 +1,9 @@
 -- When two writes clash.
-use Rattle.std.proofs.Common.{ℕ, ◌≡◌, ◌≢◌, Bool, true, false, List, nat_eq, refl, sym, ◌∙◌, ap, eqb-true, eq-eqb}
+use Rattle.std.proofs.Common.{ℕ, ◌≡◌, ◌≢◌, Bool, true, List, nat_eq, refl, sym, ◌∙◌, ap, eqb-true, eq-eqb}
 use Rattle.std.specs.Bool.{IsTrue}
-use Rattle.std.specs.Prelude.{◌↔◌, Option}
-use Rattle.sc_values.specs.Access.{Access, Clash, two_inits, two_updates, Init, Update, Inits, Updates}
+use Rattle.std.specs.Prelude.{◌↔◌}
+use Rattle.sc_values.specs.Access.{Clash, two_inits, two_updates, Init, Update, Inits, Updates}
 use Rattle.sc_values.specs.Code.{literal_of}
-use Rattle.sc_values.specs.declared.value.Value.{Value}
 use Rattle.sc_values.specs.declared.operator.Combination.{Combination}
 use Rattle.sc_values.specs.declared.operation.Operation.{Operation}
 use Rattle.sc_graph.specs.declared.program.Step.{Step}

@@ -3,7 +3,7 @@ use Rattle.std.proofs.Common.{ℕ, suc, ◌≡◌, ◌-◌, ◌+◌, ◌<◌, Op
 use Rattle.std.specs.Bool.{Decides}
 use Rattle.sc_graph.specs.Program.{Program, parent_of}
 use Rattle.sc_graph.specs.Threads.{Descends}
-use Rattle.sc_graph.specs.Lookups.{HasNoAncestor}
+use Rattle.sc_graph.specs.Inside.Lookups.{HasNoAncestor}
 
 pub climbs : (p : Program) (n t q u : ℕ) → parent_of p t ≡ Some q → Descends p (suc n) t u → Descends p n q u
 climbs p n t q u up d =

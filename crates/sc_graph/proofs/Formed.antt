@@ -1,5 +1,5 @@
 -- What formed programs have: a tree of threads, each forked by one fork of its parent.
-use Rattle.std.proofs.Common.{ℕ, zero, suc, ◌≡◌, ◌≢◌, ◌<◌, ◌≤◌, Option, Some, None, option_map, option_and_then, List, All, Contains, length, slice_get, inl, inr, refl, sym, subst, ap, arith, nat_eq, eqb-true, eq-eqb}
+use Rattle.std.proofs.Common.{ℕ, zero, suc, ◌≡◌, ◌≢◌, ◌<◌, Option, Some, None, option_map, option_and_then, List, Contains, length, slice_get, inl, inr, refl, sym, subst, ap, arith, nat_eq, eqb-true, eq-eqb}
 use Rattle.std.specs.Bool.{Decides}
 use Rattle.std.proofs.lemmas.List.Elements.{All-contains}
 use Rattle.std.proofs.lemmas.Option.{slice_get_within}
@@ -13,7 +13,7 @@ use Rattle.sc_graph.specs.Threads.{Below, IsFork, ForkedApart, AreConcurrent}
 use Rattle.sc_graph.specs.Size.{ParentFits}
 use Rattle.sc_graph.specs.Structure.{StepStays, ForksChild, ExactlyOne, IsForkedOnce}
 use Rattle.sc_graph.specs.Valid.{IsFormed}
-use Rattle.sc_graph.specs.Parting.{PartAt, OneFork}
+use Rattle.sc_graph.specs.Inside.Parting.{PartAt, OneFork}
 use Rattle.sc_graph.proofs.Tree.{FallsUpwards, part_once, never_from_itself, below_through, below_cases}
 
 -- who stands in a list

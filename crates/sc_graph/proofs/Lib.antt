@@ -2,6 +2,7 @@ pub mod AtRest
 pub mod Each
 pub mod Links
 pub mod Climbs
+pub mod Choosing
 pub mod Distinct
 pub mod Loads
 pub mod Names

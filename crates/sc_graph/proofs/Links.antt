@@ -1,5 +1,5 @@
 -- The one number below a bound of which a fact holds, as a search finds it.
-use Rattle.std.proofs.Common.{ℕ, ◌≡◌, ◌<◌, ◌+◌, Option, Some, None, MatchOption}
+use Rattle.std.proofs.Common.{ℕ, ◌≡◌, ◌<◌, Option, MatchOption}
 
 -- the only number below n of which P holds is what was found, or there is none
 pub record IsOnlyBelow (P : ℕ → Type 0) (one n : ℕ) : Type 0 where

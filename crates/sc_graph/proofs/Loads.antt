@@ -1,5 +1,5 @@
 -- The loads of a code, operation by operation.
-use Rattle.std.proofs.Common.{ℕ, suc, add-one, ◌+◌, ◌<◌, length, drop, get_or, subst, sym, drop-cons, ◌≡◌, ◌↔◌, List, [], ◌∷◌, MatchOption, All}
+use Rattle.std.proofs.Common.{ℕ, suc, add-one, ◌+◌, ◌<◌, length, drop, get_or, subst, sym, drop-cons, ◌≡◌, ◌↔◌, List, ◌∷◌, MatchOption}
 use Rattle.std.proofs.lemmas.List.Elements.{All-cons, All-head, All-tail}
 use Rattle.std.specs.Prelude.{⊤}
 use Rattle.sc_values.specs.declared.operation.Operation.{Operation}

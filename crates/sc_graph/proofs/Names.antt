@@ -1,12 +1,12 @@
 -- Names that are asked for by a variable's number.
-use Rattle.std.proofs.Common.{ℕ, ◌≡◌, Bool, Some, None, List, slice_get, nat_eq, sym, ap, ◌∙◌, option_map, refl}
+use Rattle.std.proofs.Common.{ℕ, ◌≡◌, Bool, Some, None, List, slice_get, nat_eq, ap, option_map}
 use Rattle.std.specs.Cmp.Lexicographic.{pointwise}
 use Rattle.std.specs.Bool.{Decides}
 use Rattle.std.proofs.lemmas.Bool.Decides.{Decides-eqb}
 use Rattle.std.proofs.lemmas.Slice.Eq.{slice_eq-Decides}
 use Rattle.sc_graph.specs.declared.program.Variable.{Variable}
 use Rattle.sc_graph.specs.Program.{Program}
-use Rattle.sc_graph.specs.Lookups.{name_at}
+use Rattle.sc_graph.specs.Inside.Lookups.{name_at}
 
 named : (p : Program) (x : ℕ) (v : Variable) → slice_get p.variables x ≡ Some v → name_at p x ≡ Some v.name
 named p x v at = ap (λ o. option_map (λ w. w.name) o) at

@@ -1,7 +1,7 @@
 -- Climbing to the place where two threads part.
-use Rattle.std.proofs.Common.{ℕ, ◌≡◌, ◌≢◌, ◌<◌, Some, None}
+use Rattle.std.proofs.Common.{ℕ, ◌≡◌, ◌<◌, Some}
 use Rattle.sc_graph.specs.Program.{Program, parent_of}
-use Rattle.sc_graph.specs.Parting.{PartAt}
+use Rattle.sc_graph.specs.Inside.Parting.{PartAt}
 use Rattle.sc_graph.proofs.Tree.{FallsUpwards, part_up, part_down, part_swapped}
 
 -- v and w part just where t and u do

@@ -2,7 +2,7 @@
 use Rattle.std.proofs.Common.{ℕ, ◌≡◌, ◌⊎◌, inl, inr, Bool, true, false, List, refl, sym, ◌∙◌, ap, subst}
 use Rattle.std.specs.Bool.{IsTrue}
 use Rattle.std.specs.Prelude.{◌↔◌, not}
-use Rattle.sc_values.specs.Access.{Access, Precedes, init_update, init_read, update_read, Clash, MayPrecede, Init, Update, Inits, Updates, Reads}
+use Rattle.sc_values.specs.Access.{Access, Precedes, init_update, init_read, update_read, Clash, MayPrecede, Init, Update, Updates, Reads}
 use Rattle.sc_values.specs.Code.{literal_of}
 use Rattle.sc_values.specs.declared.operator.Combination.{Combination}
 use Rattle.sc_values.specs.declared.operation.Operation.{Operation}

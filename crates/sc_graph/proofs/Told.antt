@@ -1,18 +1,19 @@
 -- The table of concurrent threads, cell by cell.
-use Rattle.std.proofs.Common.{ℕ, ◌≡◌, ◌≢◌, ◌<◌, ◌≤◌, ◌+◌, Bool, true, false, Option, Some, None, IsTrue, List, [], ◌∷◌, ◌++◌, length, slice_get, get_or, unwrap_or, ◌⊎◌, inl, inr, nat_eq, refl, sym, ap, subst, ◌∙◌, arith, below_more, length-append, eqb-true}
+use Rattle.std.proofs.Common.{ℕ, ◌≡◌, ◌≢◌, ◌<◌, ◌≤◌, ◌+◌, Bool, false, Option, Some, None, List, [], ◌∷◌, ◌++◌, length, slice_get, get_or, unwrap_or, inl, inr, sym, ap, subst, arith, below_more, length-append, eqb-true}
 use Rattle.std.specs.Bool.{Decides}
 use Rattle.std.proofs.lemmas.Bool.{cases_lt}
 use Rattle.std.proofs.lemmas.Grind.{common_steps}
-use Rattle.std.proofs.lemmas.Option.{slice_get_within, slice_get_past, slice_get-get_or, gets}
+use Rattle.std.proofs.lemmas.Option.{slice_get_past, slice_get-get_or, gets}
 use Rattle.sc_graph.specs.Program.{Program, parent_of}
 use Rattle.sc_graph.specs.Threads.{AreConcurrent}
 use Rattle.sc_graph.specs.Structure.{ForksChild, ExactlyOne}
 use Rattle.sc_graph.specs.Valid.{IsFormed}
-use Rattle.sc_graph.specs.Parting.{PartAt, OneFork}
-use Rattle.sc_graph.specs.Told.{told, told_in, RowTells, RowsTell, ForksAre, TableTells, SameFork}
+use Rattle.sc_graph.specs.Inside.Parting.{PartAt, OneFork}
+use Rattle.sc_graph.specs.Told.{told, told_in, TableTells}
+use Rattle.sc_graph.specs.Inside.Rows.{RowTells, RowsTell, ForksAre, SameFork}
 use Rattle.sc_graph.proofs.Tree.{part_here, never_root}
 use Rattle.sc_graph.proofs.Parting.{PartAlike, alike_at_first, alike_left, alike_right}
-use Rattle.sc_graph.proofs.Formed.{falls_upwards, within_threads, concurrent_within, concurrent_swapped, alike_concurrent, forks_apart, one_fork_apart, one_fork_known, one_fork_left, one_fork_right, never_own, parts}
+use Rattle.sc_graph.proofs.Formed.{falls_upwards, within_threads, concurrent_within, concurrent_swapped, alike_concurrent, forks_apart, one_fork_apart, one_fork_known, one_fork_left, one_fork_right, parts}
 
 -- the forks of the first n threads
 pub record ForksFirst (p : Program) (forks : List (Option ℕ)) (n : ℕ) : Type 0 where

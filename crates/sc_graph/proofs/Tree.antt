@@ -2,7 +2,7 @@
 use Rattle.std.proofs.Common.{ℕ, zero, suc, ◌≡◌, ◌≢◌, ◌<◌, ◌≤◌, ◌⊎◌, inl, inr, Some, None, refl, sym, subst, arith}
 use Rattle.sc_graph.specs.Program.{Program, parent_of}
 use Rattle.sc_graph.specs.Threads.{Descends, Below}
-use Rattle.sc_graph.specs.Parting.{PartAt}
+use Rattle.sc_graph.specs.Inside.Parting.{PartAt}
 
 -- the number of a parent is less than that of its child
 pub record FallsUpwards (p : Program) : Type 0 where

@@ -1,5 +1,5 @@
 -- What the nodes of a program do to its variables.
-use Rattle.std.specs.Prelude.{ℕ, Bool, false, nat_eq, List, [], unwrap_or, option_map}
+use Rattle.std.specs.Prelude.{ℕ, Bool, false, nat_eq, unwrap_or, option_map}
 use Rattle.sc_values.specs.Access.{Access, Nothing, Init, Update, no_access}
 use Rattle.sc_values.specs.declared.operation.Operation.{Operation}
 use Rattle.sc_values.specs.declared.operation.Operation.TheVariants as op

@@ -1,5 +1,5 @@
 -- The rules of codes: each is well formed, and what it gives fits where it goes.
-use Rattle.std.specs.Prelude.{ℕ, ◌≡◌, ◌≢◌, Option, Some, List, slice_get, option_and_then, Contains}
+use Rattle.std.specs.Prelude.{ℕ, ◌≡◌, ◌≢◌, Option, Some, List, option_and_then, Contains}
 use Rattle.sc_values.specs.declared.value.Kind.{Kind}
 use Rattle.sc_values.specs.declared.value.Kind.TheVariants as kind_is
 use Rattle.sc_values.specs.declared.operation.Operation.{Operation}
@@ -28,9 +28,11 @@ abbrev pub CodeAt : Program → Place → Type 0
 CodeAt p (place.Node n) = (s : Step) → step_at p n ≡ Some s → StepIsWellFormed p s
 CodeAt p other = Unit {0}
 
--- a variable takes the kind of what is written to it, and is no input
+-- what a code gives is of the kind of the variable that it is written to, which is no input
 pub record IsWritten (p : Program) (x : ℕ) (code : List Operation) : Type 0 where
-  pub kind : code_kind p code ≡ kind_at p x
+  pub gives : Kind
+  pub code_gives : code_kind p code ≡ Some gives
+  pub variable_takes : kind_at p x ≡ Some gives
   pub no_input : role_at p x ≢ Some role.Input
 
 abbrev pub StepIsAssigned : Program → Step → Type 0

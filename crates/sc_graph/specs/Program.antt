@@ -1,5 +1,5 @@
 -- Programs, and what stands at a number in one.
-use Rattle.std.specs.Prelude.{ℕ, ◌≡◌, Bool, true, false, ◌&&◌, nat_eq, Option, Some, None, List, map, slice_get, option_map, option_and_then}
+use Rattle.std.specs.Prelude.{ℕ, Bool, true, false, ◌&&◌, nat_eq, Option, Some, None, List, map, slice_get, option_map, option_and_then}
 use Rattle.sc_values.specs.declared.value.Kind.{Kind}
 use Rattle.sc_graph.specs.declared.program.Variable.{Variable}
 use Rattle.sc_graph.specs.declared.program.Thread.{Thread}
@@ -59,12 +59,14 @@ is_ordinary_step (Some (step.Join next)) = false
 is_ordinary_step (Some (step.Depth next)) = false
 is_ordinary_step (Some other) = true
 
--- whether node n is a join, a depth, or a node of thread t to which a step may go: no join or depth
+-- whether node n is a join of thread t
 abbrev pub is_join : Program → ℕ → ℕ → Bool
 is_join p t n = owns p t n && is_join_step (step_at p n)
 
+-- whether node n is a depth of thread t
 abbrev pub is_depth : Program → ℕ → ℕ → Bool
 is_depth p t n = owns p t n && is_depth_step (step_at p n)
 
+-- whether node n is one of thread t to which a step may go: no join and no depth
 abbrev pub is_target : Program → ℕ → ℕ → Bool
 is_target p t n = owns p t n && is_ordinary_step (step_at p n)

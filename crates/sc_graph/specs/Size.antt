@@ -1,5 +1,5 @@
 -- The size and range rule: counts within their limits, and each number names something.
-use Rattle.std.specs.Prelude.{ℕ, zero, suc, ◌≡◌, ◌≢◌, ◌+◌, ◌<◌, ◌≤◌, Bool, true, false, Option, Some, None, List, [], ◌∷◌, length, slice_get, take, count_by, All}
+use Rattle.std.specs.Prelude.{ℕ, zero, suc, ◌≡◌, ◌≢◌, ◌+◌, ◌<◌, ◌≤◌, Bool, true, false, Option, Some, None, List, length, slice_get, take, count_by, All}
 use Rattle.sc_values.specs.declared.operation.Operation.{Operation}
 use Rattle.sc_values.specs.Code.{loads}
 use Rattle.sc_graph.specs.declared.program.Variable.{Variable}

@@ -5,11 +5,9 @@ use Rattle.sc_graph.specs.declared.program.Thread.{Thread}
 use Rattle.sc_graph.specs.declared.program.Node.{Node}
 use Rattle.sc_graph.specs.declared.program.Step.{Step}
 use Rattle.sc_graph.specs.declared.program.Step.TheVariants as step
-use Rattle.sc_graph.specs.declared.tables.Tables.{Tables}
 use Rattle.sc_graph.specs.declared.place.Place.{Place}
 use Rattle.sc_graph.specs.declared.place.Place.TheVariants as place
 use Rattle.sc_graph.specs.Program.{Program, step_at, parent_of, is_target, is_join, is_depth}
-use Rattle.sc_graph.specs.Threads.{IsFork}
 
 -- where a step of thread t goes on: nodes of its own, of the right sort
 abbrev pub StepStays : Program → ℕ → Step → Type 0
@@ -22,7 +20,7 @@ StepStays p t (step.Surf depth) = is_depth p t depth ≡ true
 StepStays p t (step.Depth next) = is_target p t next ≡ true
 StepStays p t step.Exit = Unit {0}
 
--- node n is a fork to whose join j threads come back
+-- node n is a fork whose join is j
 pub record JoinsAt (p : Program) (j n : ℕ) : Type 0 where
   pub children : List ℕ
   pub forks : step_at p n ≡ Some (step.Fork children j)

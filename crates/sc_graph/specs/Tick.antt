@@ -1,5 +1,5 @@
 -- Resting configurations, and the start of a tick.
-use Rattle.std.specs.Prelude.{ℕ, zero, suc, ◌≡◌, ◌≢◌, ◌↔◌, ◌<◌, Bool, true, false, Option, Some, None, List, [], ◌∷◌, map, length, slice_get, unwrap_or, Contains, if◌then◌else◌}
+use Rattle.std.specs.Prelude.{ℕ, zero, ◌≡◌, ◌≢◌, ◌↔◌, ◌<◌, true, false, Option, Some, None, List, [], ◌∷◌, map, length, slice_get, unwrap_or, Contains, if◌then◌else◌}
 use Rattle.std.specs.Str.{bytes_eq}
 use Rattle.sc_values.specs.declared.value.Value.{Value}
 use Rattle.sc_values.specs.Operator.{kind_of, initial_value}
@@ -9,7 +9,7 @@ use Rattle.sc_graph.specs.declared.program.Role.TheVariants as role
 use Rattle.sc_graph.specs.declared.control.Control.{Control}
 use Rattle.sc_graph.specs.declared.control.Status.{Status}
 use Rattle.sc_graph.specs.declared.control.Status.TheVariants as status
-use Rattle.sc_graph.specs.Program.{Program, kind_at, entry_of, owns, is_join, is_depth, is_join_step, step_at, owner_of}
+use Rattle.sc_graph.specs.Program.{Program, kind_at, entry_of, is_join, is_depth, is_join_step, step_at, owner_of}
 use Rattle.sc_graph.specs.Threads.{IsFork}
 use Rattle.sc_graph.specs.Control.{status_of}
 

@@ -1,5 +1,4 @@
 -- The ten rules together.
-use Rattle.std.specs.Prelude.{ℕ}
 use Rattle.sc_graph.specs.declared.place.Place.{Place}
 use Rattle.sc_graph.specs.declared.tables.Tables.{Tables}
 use Rattle.sc_graph.specs.Program.{Program}

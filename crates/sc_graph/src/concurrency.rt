@@ -1,6 +1,6 @@
 ghost use Rattle.std.specs.Prelude.{◌≡◌, ◌↔◌, ℕ, IsTrue, IsSome, IfSome, MatchOption};
 ghost use Rattle.sc_graph.specs.Threads.{ForkedApart, AreConcurrent};
-ghost use Rattle.sc_graph.specs.Parting.{PartAt, OneFork};
+ghost use Rattle.sc_graph.specs.Inside.Parting.{PartAt, OneFork};
 ghost use Rattle.sc_graph.specs.Valid.{IsFormed};
 
 use crate::program::{Program, ThreadId};

@@ -1,6 +1,7 @@
 ghost use Rattle.std.specs.Prelude.{◌≡◌, ◌<◌, ◌↔◌, ℕ, IsTrue, IfOk, length, Some, None, Option};
 ghost use Rattle.sc_graph.specs.Threads.{AreConcurrent};
-ghost use Rattle.sc_graph.specs.Told.{told, told_in, RowTells, RowsTell, ForksAre, TableTells, SameFork};
+ghost use Rattle.sc_graph.specs.Told.{told, told_in, TableTells};
+ghost use Rattle.sc_graph.specs.Inside.Rows.{RowTells, RowsTell, ForksAre, SameFork};
 ghost use Rattle.sc_graph.specs.Valid.{IsFormed};
 
 use crate::program::{NodeId, Program, ThreadId};
@@ -18,7 +19,8 @@ pub struct ConcurrentThreads<'a> {
 
 impl<'a> Model for ConcurrentThreads<'a> {
     ghost use Rattle.sc_graph.specs.Program.{Program};
-    ghost use Rattle.sc_graph.specs.Told.{TableTells, SameFork};
+    ghost use Rattle.sc_graph.specs.Told.{TableTells};
+    ghost use Rattle.sc_graph.specs.Inside.Rows.{SameFork};
 
     ghost Value = { Program };
 

@@ -1,6 +1,14 @@
-ghost use Rattle.std.specs.Prelude.{◌≡◌, ℕ};
+ghost use Rattle.std.specs.Prelude.{◌≡◌, ℕ, List, Some};
+ghost use Rattle.sc_values.specs.Runs.{replay};
+ghost use Rattle.sc_graph.specs.declared.control.Control.{Control};
+ghost use Rattle.sc_graph.specs.declared.tables.Tables.{Tables};
 ghost use Rattle.sc_graph.specs.Program.{Program};
 ghost use Rattle.sc_graph.specs.Threads.{Below, ForkedApart, AreConcurrent};
+ghost use Rattle.sc_graph.specs.Control.{IsEnabled};
+ghost use Rattle.sc_graph.specs.Steps.{step};
+ghost use Rattle.sc_graph.specs.Machine.{machine};
+ghost use Rattle.sc_graph.specs.Priority.{PriorityRun};
+ghost use Rattle.sc_graph.specs.Certified.{Certified, RunAlike, HaveOnePriority};
 ghost use Rattle.sc_graph.specs.Valid.{IsFormed};
 
 /// What holds of concurrency in each formed program: it is symmetric, no thread is concurrent with
@@ -10,4 +18,15 @@ pub fn laws_of_concurrency()
     ensures irreflexive { (p : Program) → IsFormed p → (t : ℕ) → ¬ AreConcurrent p t t }
     ensures not_above { (p : Program) → IsFormed p → (t u : ℕ) → Below p t u → ¬ AreConcurrent p t u }
     ensures one_forking_thread { (p : Program) → IsFormed p → (t u a b : ℕ) → ForkedApart p t u a → ForkedApart p t u b → a ≡ b }
+{}
+
+/// What tables are to a program: they choose among its runs, and nothing else depends on them.
+/// Programs that differ in their tables alone run alike. A priority run, by whatever tables, is a
+/// run of the program, each step by an enabled thread; where no node has a greater priority than
+/// another, each run is a priority run.
+pub fn laws_of_tables()
+    ensures alike { (a b : Certified) → a.program ≡ b.program → RunAlike a b }
+    ensures enabled { (p : Program) (t : ℕ) (c d : Control) → step p t c ≡ Some d → IsEnabled p c t }
+    ensures chosen { (p : Program) (q : Tables) (run : List ℕ) (c d : Control) → PriorityRun p q run c d → replay (machine p) run c ≡ Some d }
+    ensures all_chosen { (p : Program) (q : Tables) → HaveOnePriority q → (run : List ℕ) (c d : Control) → replay (machine p) run c ≡ Some d → PriorityRun p q run c d }
 {}

@@ -6,6 +6,7 @@ mod concurrency;
 mod concurrent_threads;
 mod control;
 mod laws;
+mod limits;
 mod lookups;
 mod place;
 mod program;
@@ -20,7 +21,11 @@ pub use accesses::is_loaded;
 pub use concurrency::{concurrent, lca};
 pub use concurrent_threads::ConcurrentThreads;
 pub use control::{Control, Status};
-pub use laws::laws_of_concurrency;
+pub use laws::{laws_of_concurrency, laws_of_tables};
+pub use limits::{
+    ANCESTOR_LIMIT, BUDGET_LIMIT, CHILD_COUNT_LIMIT, CHILD_LIMIT, COUNT_LIMIT, NO_PARENT,
+    NODE_LIMIT, OUTPUT_LIMIT, THREAD_LIMIT, VARIABLE_LIMIT,
+};
 pub use place::Place;
 pub use program::{
     Node, NodeId, Program, ProgramFault, Role, Step, Thread, ThreadId, Variable, VariableId,

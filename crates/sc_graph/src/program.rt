@@ -5,6 +5,7 @@ ghost use Rattle.sc_graph.specs.Limits.{count_limit, child_count_limit, no_paren
 ghost use Rattle.sc_graph.specs.declared.program.Node.{Node};
 ghost use Rattle.sc_graph.specs.declared.program.Thread.{Thread};
 
+use crate::limits::{CHILD_COUNT_LIMIT, COUNT_LIMIT, NO_PARENT};
 use sc_values::{Code, Combination, Kind, Name};
 use sqlite_items::Items;
 use std::marker::Model;
@@ -192,15 +193,6 @@ impl Program {
         self.nodes.as_slice()
     }
 }
-
-// How many variables, threads and nodes an image can count.
-const COUNT_LIMIT: usize = 65535;
-
-// How many children of one fork an image can count.
-const CHILD_COUNT_LIMIT: usize = 255;
-
-// What stands in an image for the parent of a thread that has none.
-const NO_PARENT: ThreadId = 65535;
 
 fn are_parents_sayable(threads: &[Thread]) -> bool
     ensures { IsTrue result ↔ ((t : ℕ) (x : Thread) → slice_get threads.now t ≡ Some x → x.parent ≢ Some no_parent) }

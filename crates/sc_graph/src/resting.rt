@@ -1,7 +1,7 @@
 ghost use Rattle.std.specs.Prelude.{◌≡◌, ◌↔◌, ℕ, map, length, IsTrue, IfOk, Contains};
 ghost use Rattle.sc_values.specs.Operator.{initial_value};
 ghost use Rattle.sc_graph.specs.Tick.{initial, Rests, IsPresent};
-ghost use Rattle.sc_graph.specs.Fits.{HaveKinds, RestsAt, RestInPlace, ChildrenStand, AllChildrenStand};
+ghost use Rattle.sc_graph.specs.Inside.Fits.{HaveKinds, RestsAt, RestInPlace, ChildrenStand, AllChildrenStand};
 ghost use Rattle.sc_graph.specs.Control.{status_of};
 
 use crate::control::{Control, Status};

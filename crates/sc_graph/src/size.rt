@@ -5,23 +5,14 @@ ghost use Rattle.sc_graph.specs.Limits.{output_limit, ancestor_limit};
 ghost use Rattle.sc_graph.specs.Size.{is_output, CountsFit, VariableFits, ParentFits, ThreadFits, InNodes, InVariables, LoadsFit, AreDistinct, ChildrenFit, StepFits, NodeFits, ProgramFitsAt};
 ghost use Rattle.sc_graph.specs.Threads.{Descends};
 ghost use Rattle.sc_graph.specs.Program.{owner_of};
-ghost use Rattle.sc_graph.specs.Lookups.{name_at, HasNoAncestor};
+ghost use Rattle.sc_graph.specs.Inside.Lookups.{name_at, HasNoAncestor};
 
+use crate::limits::{
+    ANCESTOR_LIMIT, CHILD_LIMIT, NODE_LIMIT, OUTPUT_LIMIT, THREAD_LIMIT, VARIABLE_LIMIT,
+};
 use crate::place::Place;
 use crate::program::{NodeId, Program, Role, Step, Thread, ThreadId, Variable, VariableId};
 use sc_values::{Code, Name, Operation};
-
-const VARIABLE_LIMIT: usize = 256;
-
-const OUTPUT_LIMIT: usize = 64;
-
-const THREAD_LIMIT: usize = 256;
-
-const NODE_LIMIT: usize = 4096;
-
-const CHILD_LIMIT: usize = 64;
-
-const ANCESTOR_LIMIT: u16 = 32;
 
 impl Program {
     /// A place where the program breaks the size and range rule, the budget aside. None: it keeps

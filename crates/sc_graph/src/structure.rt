@@ -1,7 +1,7 @@
 ghost use Rattle.std.specs.Prelude.{◌≡◌, ◌↔◌, ℕ, IsTrue, IsSome, IfSome, MatchOption, Some, All};
 ghost use Rattle.sc_graph.specs.Program.{parent_of};
 ghost use Rattle.sc_graph.specs.Structure.{StepStays, ForksChild, ExactlyOne, BelongsToOne, IsForkedOnce, StructureAt};
-ghost use Rattle.sc_graph.specs.Links.{Links};
+ghost use Rattle.sc_graph.specs.Inside.Links.{Links};
 ghost use Rattle.sc_graph.specs.Valid.{IsFormed};
 
 use crate::place::Place;

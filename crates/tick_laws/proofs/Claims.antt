@@ -11,11 +11,12 @@ use Rattle.sc_graph.specs.Priority.{Leads, PriorityRun}
 use Rattle.sc_graph.specs.Steps.{Effect, after, effect, step}
 use Rattle.sc_graph.specs.Tick.{IsConfiguration}
 use Rattle.sc_graph.specs.Valid.{IsFormed, IsValid}
+use Rattle.tick_laws.specs.WithinTick.{Tops}
 use Rattle.tick_laws.proofs.Formed.{valid_formed}
 use Rattle.tick_laws.proofs.Views.{Ready, Does, ready, enabled_from, ready_from_effect, does}
 use Rattle.tick_laws.proofs.Sound.{keeps_self, stays_ready}
 use Rattle.tick_laws.proofs.Diamond.{Free, reads_kept, writes, effect_kept}
-use Rattle.tick_laws.proofs.Falling.{Low, low_kept}
+use Rattle.tick_laws.proofs.Falling.{low_kept}
 use Rattle.tick_laws.proofs.RunsOn.{replay_push}
 use Rattle.tick_laws.specs.OneEnd.{OneEnd}
 use Rattle.tick_laws.proofs.ReadyPairs.{ready_no_clash, ready_edge_falls}
@@ -53,7 +54,7 @@ module _ (p : Program) (q : Tables) (valid : IsValid p q) (c : Control) (ok : Is
   leads_kept t u ne leads f by_u =
       record {
         enabled = enabled_from p (after f c) t (stays_ready p formed c ok t u ne t_ready u_ready f does_u);
-        greatest = λ v v_enabled. subst (λ s. priority_of q (status_of (after f c) v) ≤ priority_of q s) (sym stands) (low v (ready p (after f c) v v_enabled));
+        greatest = λ v v_enabled. subst (λ s. priority_of q (status_of (after f c) v) ≤ priority_of q s) (sym stands) (low v v_enabled);
       }
     where
       formed : IsFormed p
@@ -71,8 +72,8 @@ module _ (p : Program) (q : Tables) (valid : IsValid p q) (c : Control) (ok : Is
       stands : status_of (after f c) t ≡ status_of c t
       stands = keeps_self p formed c ok t u ne t_ready f does_u
 
-      low : Low p q (priority_of q (status_of c t)) (after f c)
-      low = low_kept p q valid (priority_of q (status_of c t)) c ok u f by_u (λ v r. leads.greatest v (enabled_from p c v r))
+      low : Tops p q (priority_of q (status_of c t)) (after f c)
+      low = low_kept p q valid (priority_of q (status_of c t)) c ok u f by_u leads.greatest
 
 -- while somebody leads, a priority run is below the budget
 pub room : (p : Program) (q : Tables) (c : Control) → OneEnd p q c → (run : List ℕ) (d : Control) → PriorityRun p q run c d → (t : ℕ) → Leads p q d t → length run < q.budget

@@ -18,6 +18,7 @@ use Rattle.sc_graph.specs.Tables.{priority, priority_of}
 use Rattle.sc_graph.specs.Priority.{Leads, PriorityRun}
 use Rattle.sc_graph.specs.Tick.{IsConfiguration}
 use Rattle.sc_graph.specs.Valid.{IsValid, IsFormed}
+use Rattle.tick_laws.specs.WithinTick.{Tops}
 use Rattle.tick_laws.proofs.Lists.{same_or_not, map_some}
 use Rattle.tick_laws.proofs.Formed.{valid_formed}
 use Rattle.tick_laws.proofs.Views.{Ready, does, enabled_from, ready_from_effect}
@@ -26,7 +27,7 @@ use Rattle.tick_laws.proofs.Kin.{not_above, ready_meet}
 use Rattle.tick_laws.proofs.Tree.{left_under, right_under}
 use Rattle.tick_laws.proofs.ReadyPairs.{edge_falls, StepsFrom, steps_from}
 use Rattle.tick_laws.proofs.ConfigurationKept.{configuration_kept}
-use Rattle.tick_laws.proofs.Falling.{Low, low_kept}
+use Rattle.tick_laws.proofs.Falling.{low_kept}
 use Rattle.tick_laws.proofs.Diamond.{Free, free_turned, effect_kept, commute}
 
 -- step m of a run is taken at configuration c, with effect e
@@ -80,7 +81,7 @@ module _ (p : Program) (q : Tables) (valid : IsValid p q) where
   formed : IsFormed p
   formed = valid_formed p q valid
 
-  around_at : (c : Control) → IsConfiguration p c → (top t : ℕ) → Ready p c t → Low p q top c → (x : Act) → x.thread ≢ t → Ready p c x.thread →
+  around_at : (c : Control) → IsConfiguration p c → (top t : ℕ) → Ready p c t → Tops p q top c → (x : Act) → x.thread ≢ t → Ready p c x.thread →
       x.access ≡ access_at p (status_of c x.thread) → Around p q top t x
   around_at c ok top t ready_t low x other ready_x access =
       let meet = ready_meet p formed c ok x.thread t ready_x ready_t other in
@@ -94,7 +95,7 @@ module _ (p : Program) (q : Tables) (valid : IsValid p q) where
         node = at.node;
         owned = at.owned;
         access = access ∙ at.access;
-        low = subst (λ n. n ≤ top) at.priority (low x.thread ready_x);
+        low = subst (λ n. n ≤ top) at.priority (low x.thread (enabled_from p c x.thread ready_x));
       }
 
   -- the steps of a run before which a ready thread stays where it is
@@ -116,7 +117,7 @@ module _ (p : Program) (q : Tables) (valid : IsValid p q) where
   first_here m log c top t e takes same =
       record { front = []; found = m; back = log; split = refl; thread = same; access = takes.access ∙ ap (λ u. access_at p (status_of c u)) same; around = tt }
 
-  first_later : (m : Act) (log : List Act) (c : Control) → IsConfiguration p c → (top t : ℕ) (e : Effect) → Takes p m c e → Ready p c t → Low p q top c → m.thread ≢ t →
+  first_later : (m : Act) (log : List Act) (c : Control) → IsConfiguration p c → (top t : ℕ) (e : Effect) → Takes p m c e → Ready p c t → Tops p q top c → m.thread ≢ t →
       First p q top t (after e c) log → First p q top t c (m ∷ log)
   first_later m log c ok top t e takes ready_t low other rest =
       record {
@@ -130,7 +131,7 @@ module _ (p : Program) (q : Tables) (valid : IsValid p q) where
       }
 
   -- a ready thread steps in each complete run
-  find : (log : List Act) (c d : Control) (top t : ℕ) → IsConfiguration p c → Follows p log c d → IsDone p d → Ready p c t → Low p q top c → First p q top t c log
+  find : (log : List Act) (c d : Control) (top t : ℕ) → IsConfiguration p c → Follows p log c d → IsDone p d → Ready p c t → Tops p q top c → First p q top t c log
   find [] c d top t ok follows done ready_t low =
       absurd (done_not_ready p d t done (subst (λ b. Ready p b t) follows ready_t))
   find (m ∷ log) c d top t ok follows done ready_t low =
@@ -261,7 +262,7 @@ module _ (p : Program) (q : Tables) (valid : IsValid p q) where
       let here : Ready p c t = ready_from_effect p c t e by in
       let from = steps_from p q valid c ok t here in
       pulled_first t e log c d ok by from follows orderly
-      (find log c d (priority_of q (status_of c t)) t ok follows done here (λ u ready_u. leads.greatest u (enabled_from p c u ready_u)))
+      (find log c d (priority_of q (status_of c t)) t ok follows done here leads.greatest)
 
   -- each complete run in order is a reordering of a priority run, and ends where it ends
   pub same_end : (run : List ℕ) (log : List Act) (c end d : Control) → IsConfiguration p c → PriorityRun p q run c end → IsDone p end → Follows p log c d → IsDone p d → Orderly (ForkedApart p) log →

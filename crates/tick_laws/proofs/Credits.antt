@@ -14,6 +14,7 @@ use Rattle.sc_graph.specs.Tick.{IsConfiguration}
 use Rattle.sc_graph.specs.Tables.{weight}
 use Rattle.sc_graph.specs.Costs.{entry_weight, entry_end_bit, entries_end}
 use Rattle.sc_graph.specs.Valid.{IsFormed, IsValid}
+use Rattle.tick_laws.specs.WithinTick.{AllEnd, Affords, Covers, Paid}
 use Rattle.tick_laws.proofs.Lists.{same_or_not, contained, contains_none, contains_head, list_all_from}
 use Rattle.tick_laws.proofs.Formed.{JoinOf, join_of, valid_formed, child_parent, parent_below, one_fork_joins, fork_children}
 use Rattle.tick_laws.proofs.RulesGive.{weights, end_bits}
@@ -22,7 +23,7 @@ use Rattle.tick_laws.proofs.Moves.{known}
 use Rattle.tick_laws.proofs.Sound.{forks_is, fork_of_join}
 use Rattle.tick_laws.proofs.StepMoves.{StepMoves, simple_moves, forks_moves, joins_moves}
 use Rattle.tick_laws.proofs.ConfigurationKept.{after_self, after_child, after_other}
-use Rattle.tick_laws.proofs.Ledger.{replaced, handed, replaced_same, replaced_other, handed_among, handed_apart, total-replaced, total-handed_le, entry_weights_total, AllEnd, Affords, Covers, Paid}
+use Rattle.tick_laws.proofs.Ledger.{replaced, handed, replaced_same, replaced_other, handed_among, handed_apart, total-replaced, total-handed_le, entry_weights_total}
 
 -- what a thread keeps where its step alone leads
 abbrev left : Tables → Status → ℕ
@@ -37,7 +38,7 @@ same_cover p q before now t credit (status.Waiting j) same children h = λ n ks 
 same_cover p q before now t credit (status.Paused d) same children h = tt
 same_cover p q before now t credit status.Ended same children h = same ∙ h
 
-module _ (p : Program) (q : Tables) (valid : IsValid p q) (c : Control) (ok : IsConfiguration p c) (t : ℕ) (e : Effect) (spent : ℕ) (paid : Paid p q c spent) where
+module _ (p : Program) (q : Tables) (valid : IsValid p q) (c : Control) (ok : IsConfiguration p c) (t : ℕ) (e : Effect) (bound spent : ℕ) (paid : Paid p q bound c spent) where
   formed : IsFormed p
   formed = valid_formed p q valid
 
@@ -63,7 +64,7 @@ module _ (p : Program) (q : Tables) (valid : IsValid p q) (c : Control) (ok : Is
   goes_less n s (status.Paused m) found goes = (weights p q valid).some n s found
   goes_less n s status.Ended found goes = (weights p q valid).some n s found
 
-  pay_simple : Simple p c t e → Paid p q (after e c) (suc spent)
+  pay_simple : Simple p c t e → Paid p q bound (after e c) (suc spent)
   pay_simple d =
       record {
         credit = credit;
@@ -92,7 +93,7 @@ module _ (p : Program) (q : Tables) (valid : IsValid p q) (c : Control) (ok : Is
       other : (k : ℕ) → k ≢ t → Covers p q paid.may k (credit k) (status_of (after e c) k)
       other k ne = covers_at paid.may k credit (paid.credit k) (status_of c k) (replaced_other paid.credit t k (left q d.to) ne) (after_other p formed c t e m k ne (contains_none k)) (paid.each k)
 
-  pay_forks : Forks p c t e → Paid p q (after e c) (suc spent)
+  pay_forks : Forks p c t e → Paid p q bound (after e c) (suc spent)
   pay_forks d =
       record {
         credit = credit;
@@ -171,7 +172,7 @@ module _ (p : Program) (q : Tables) (valid : IsValid p q) (c : Control) (ok : Is
               let parent : parent_of p l ≡ Some k = child_parent p formed n k ks j l f in_ks in
               sym (handed_apart ending d.children paid.may l (λ h. ne (same_parent l parent (child_parent p formed d.node t d.children d.join l fork h)))) ∙ ends l in_ks
 
-  pay_joins : Joins p c t e → Paid p q (after e c) (suc spent)
+  pay_joins : Joins p c t e → Paid p q bound (after e c) (suc spent)
   pay_joins d =
       record {
         credit = credit;
@@ -215,11 +216,11 @@ module _ (p : Program) (q : Tables) (valid : IsValid p q) (c : Control) (ok : Is
       other : (k : ℕ) → k ≢ t → ¬ Contains d.children k → Covers p q paid.may k (credit k) (status_of (after e c) k)
       other k ne none = covers_at paid.may k credit (paid.credit k) (status_of c k) (replaced_other paid.credit t k (weight q d.onward) ne) (after_other p formed c t e m k ne none) (paid.each k)
 
-  pay_does : Does p c t e → Paid p q (after e c) (suc spent)
+  pay_does : Does p c t e → Paid p q bound (after e c) (suc spent)
   pay_does (simple d) = pay_simple d
   pay_does (forks d) = pay_forks d
   pay_does (joins d) = pay_joins d
 
 -- a step is paid for
-pub pay : (p : Program) (q : Tables) → IsValid p q → (c : Control) → IsConfiguration p c → (t : ℕ) (e : Effect) (spent : ℕ) → effect p c t ≡ Some e → Paid p q c spent → Paid p q (after e c) (suc spent)
-pay p q valid c ok t e spent h paid = pay_does p q valid c ok t e spent paid (does p c t e h)
+pub pay : (p : Program) (q : Tables) → IsValid p q → (c : Control) → IsConfiguration p c → (t : ℕ) (e : Effect) (bound spent : ℕ) → effect p c t ≡ Some e → Paid p q bound c spent → Paid p q bound (after e c) (suc spent)
+pay p q valid c ok t e bound spent h paid = pay_does p q valid c ok t e bound spent paid (does p c t e h)

@@ -282,8 +282,8 @@ example_writes =
         (
           tt,
           (
-            (record { kind = kind-literal (value_is.Int (pos 1)) (kinds example); no_input = λ e. cc }, refl, λ h. contains_none 0 h),
-            (tt, (record { kind = kind-load 0 (kinds example); no_input = λ e. cc }, (tt, tt))),
+            (record { gives = kind_is.Int; code_gives = kind-literal (value_is.Int (pos 1)) (kinds example); variable_takes = refl; no_input = λ e. cc }, refl, λ h. contains_none 0 h),
+            (tt, (record { gives = kind_is.Int; code_gives = kind-load 0 (kinds example); variable_takes = refl; no_input = λ e. cc }, (tt, tt))),
           ),
         ),
       ),

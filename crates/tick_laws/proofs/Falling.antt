@@ -15,17 +15,14 @@ use Rattle.sc_graph.specs.Tick.{IsConfiguration}
 use Rattle.sc_graph.specs.Protocol.{successors, Instant, by_successor, by_entry, by_exit}
 use Rattle.sc_graph.specs.Tables.{priority, priority_of}
 use Rattle.sc_graph.specs.Valid.{IsFormed, IsValid}
+use Rattle.tick_laws.specs.WithinTick.{Tops, NoHigher, as_before, no_higher}
 use Rattle.tick_laws.proofs.Lists.{same_or_not, contained, contains_none, contains_head}
 use Rattle.tick_laws.proofs.Formed.{JoinOf, join_of, joined_is, some_child, valid_formed}
 use Rattle.tick_laws.proofs.RulesGive.{flow}
-use Rattle.tick_laws.proofs.Views.{Completes, Ready, stands, completes, Does, simple, forks, joins, Simple, Forks, Joins, Enters, GoesTo, does}
+use Rattle.tick_laws.proofs.Views.{Completes, Ready, stands, completes, Does, simple, forks, joins, Simple, Forks, Joins, Enters, GoesTo, does, ready, enabled_from, ready_from_effect}
 use Rattle.tick_laws.proofs.Sound.{node_owned, waits_owned, forks_is, fork_of_join}
 use Rattle.tick_laws.proofs.StepMoves.{StepMoves, simple_moves, forks_moves, joins_moves}
 use Rattle.tick_laws.proofs.ConfigurationKept.{after_self, after_child, after_other}
-
--- each ready thread stands at this priority or below it
-abbrev pub Low : Program → Tables → ℕ → Control → Type 0
-Low p q top c = (u : ℕ) → Ready p c u → priority_of q (status_of c u) ≤ top
 
 -- a thread with this status stands at a node, or waits at a join, of this number
 abbrev pub StandsAt : Status → ℕ → Type 0
@@ -192,15 +189,18 @@ module _ (p : Program) (formed : IsFormed p) (c : Control) (ok : IsConfiguration
       of (forks d) = by (forks_moves p formed c ok t e d) (onward_forks d) r
       of (joins d) = by (joins_moves p formed c ok t e d) (onward_joins d) r
 
-stepper_ready : (p : Program) (c : Control) (t : ℕ) (e : Effect) → Does p c t e → Ready p c t
-stepper_ready p c t e (simple d) = stands d.node d.at
-stepper_ready p c t e (forks d) = stands d.node d.at
-stepper_ready p c t e (joins d) = completes (record { join = d.join; children = d.children; at = d.at; joined = d.joined; ended = d.ended })
-
-pub low_kept : (p : Program) (q : Tables) (valid : IsValid p q) (top : ℕ) (c : Control) → IsConfiguration p c → (t : ℕ) (e : Effect) → effect p c t ≡ Some e → Low p q top c → Low p q top (after e c)
-low_kept p q valid top c ok t e h low u ready = by (came p (valid_formed p q valid) c ok t e h u ready)
+-- an enabled thread is where it was before, or came to a place no higher than the one that the step left
+pub never_higher : (p : Program) (q : Tables) → IsValid p q → (c : Control) → IsConfiguration p c → (t : ℕ) (e : Effect) → effect p c t ≡ Some e → (u : ℕ) → Ready p (after e c) u → NoHigher p q c (after e c) t u
+never_higher p q valid c ok t e h u ready = by (came p (valid_formed p q valid) c ok t e h u ready)
   where
-    by : Came p c (after e c) t u → priority_of q (status_of (after e c) u) ≤ top
-    by (stayed before same) = subst (λ s. priority_of q s ≤ top) (sym same) (low u before)
+    by : Came p c (after e c) t u → NoHigher p q c (after e c) t u
+    by (stayed before same) = as_before (enabled_from p c u before) same
     by (arrived m n at there edge) =
-        omega (arith, (flow p q valid).falls m n edge, stands_priority q (status_of c t) m at, stands_priority q (status_of (after e c) u) n there, low t (stepper_ready p c t e (does p c t e h)))
+        no_higher (omega (arith, (flow p q valid).falls m n edge, stands_priority q (status_of c t) m at, stands_priority q (status_of (after e c) u) n there))
+
+pub low_kept : (p : Program) (q : Tables) → IsValid p q → (top : ℕ) (c : Control) → IsConfiguration p c → (t : ℕ) (e : Effect) → effect p c t ≡ Some e → Tops p q top c → Tops p q top (after e c)
+low_kept p q valid top c ok t e h low u on = by (never_higher p q valid c ok t e h u (ready p (after e c) u on))
+  where
+    by : NoHigher p q c (after e c) t u → priority_of q (status_of (after e c) u) ≤ top
+    by (as_before before same) = subst (λ s. priority_of q s ≤ top) (sym same) (low u before)
+    by (no_higher le) = omega (arith, le, low t (enabled_from p c t (ready_from_effect p c t e h)))

@@ -11,8 +11,8 @@ use Rattle.sc_graph.specs.Priority.{PriorityRun}
 use Rattle.sc_graph.specs.Tick.{IsConfiguration, start}
 use Rattle.sc_graph.specs.Valid.{IsValid}
 use Rattle.tick_laws.specs.OneEnd.{OfPriority, OneEndOfTick}
+use Rattle.tick_laws.specs.WithinTick.{Paid}
 use Rattle.tick_laws.proofs.Formed.{valid_formed}
-use Rattle.tick_laws.proofs.Ledger.{Paid}
 use Rattle.tick_laws.proofs.Starting.{start_config}
 use Rattle.tick_laws.proofs.Serving.{start_paid}
 use Rattle.tick_laws.proofs.Finishing.{has_end, of_each}
@@ -45,7 +45,7 @@ pub one_end_of_tick : OneEndOfTick
 one_end_of_tick p q c inputs valid rests accepted =
     let begun = start p inputs c in
     let ok : IsConfiguration p begun = start_config p (valid_formed p q valid) inputs accepted c rests in
-    let paid : Paid p q begun 0 = start_paid p q valid inputs c rests accepted in
+    let paid : Paid p q q.budget begun 0 = start_paid p q valid inputs c rests accepted in
     record {
       exists = has_end p q valid begun ok paid;
       of_priority = λ run d by_priority. of_priority p q valid begun ok run d by_priority;

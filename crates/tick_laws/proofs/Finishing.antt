@@ -1,5 +1,5 @@
 -- From each configuration of a tick a complete priority run exists, and each run is within the budget.
-use Rattle.std.proofs.Common.{◌≡◌, ℕ, zero, suc, ◌+◌, ◌≤◌, ◌<◌, ◌⊎◌, Bool, true, false, Some, option_and_then, option_map, List, [], ◌∷◌, length, refl, ap, subst, ◌∙◌, inl, inr, ⊎_elim, arith}
+use Rattle.std.proofs.Common.{◌≡◌, ℕ, zero, suc, ◌+◌, ◌≤◌, ◌<◌, ◌⊎◌, Bool, true, false, Some, option_and_then, List, [], ◌∷◌, length, refl, ap, subst, ◌∙◌, inl, inr, ⊎_elim, arith}
 use Rattle.std.proofs.lemmas.Option.{same_Some}
 use Rattle.std.proofs.lemmas.Bool.{cases_lt, cases_Bool}
 use Rattle.sc_values.specs.Runs.{replay, IsOver}
@@ -14,13 +14,14 @@ use Rattle.sc_graph.specs.Priority.{Leads}
 use Rattle.sc_graph.specs.Tick.{IsConfiguration, Rests}
 use Rattle.sc_graph.specs.Valid.{IsFormed, IsValid}
 use Rattle.tick_laws.specs.OneEnd.{HasEnd, OfEach}
+use Rattle.tick_laws.specs.WithinTick.{Paid}
 use Rattle.tick_laws.proofs.Lists.{map_some, and_then_some}
 use Rattle.tick_laws.proofs.Formed.{valid_formed}
 use Rattle.tick_laws.proofs.Views.{ready}
 use Rattle.tick_laws.proofs.Kin.{ready_present, present_in_range}
 use Rattle.tick_laws.proofs.ConfigurationKept.{configuration_kept}
-use Rattle.tick_laws.proofs.Ledger.{Paid}
 use Rattle.tick_laws.proofs.Credits.{pay}
+use Rattle.tick_laws.proofs.RunsOn.{effect_steps}
 use Rattle.tick_laws.proofs.Progress.{defined, step_defined}
 
 -- nobody is enabled, so nobody is at a node
@@ -100,58 +101,55 @@ module _ (p : Program) (q : Tables) (valid : IsValid p q) where
   finished c ok done =
       record { run = []; end = c; by_priority = refl; complete = record { runs = refl; over = done }; rests = rests_when_over p c ok done }
 
-  step_is : (c : Control) (t : ℕ) (e : Effect) → effect p c t ≡ Some e → step p t c ≡ Some (after e c)
-  step_is c t e h = ap (option_map (λ e. after e c)) h
-
   goes_first : (c : Control) (t : ℕ) (e : Effect) → effect p c t ≡ Some e → Leads p q c t → HasEnd p q (after e c) → HasEnd p q c
   goes_first c t e h first rest =
       record {
         run = t ∷ rest.run;
         end = rest.end;
-        by_priority = (first, (after e c, step_is c t e h, rest.by_priority));
-        complete = record { runs = ap (option_and_then (replay (machine p) rest.run)) (step_is c t e h) ∙ rest.complete.runs; over = rest.complete.over };
+        by_priority = (first, (after e c, effect_steps p t c e h, rest.by_priority));
+        complete = record { runs = ap (option_and_then (replay (machine p) rest.run)) (effect_steps p t c e h) ∙ rest.complete.runs; over = rest.complete.over };
         rests = rest.rests;
       }
 
   -- the leaders' steps come to an end within the budget
-  finish : (fuel spent : ℕ) → q.budget ≤ spent + fuel → (c : Control) → IsConfiguration p c → Paid p q c spent → HasEnd p q c
+  finish : (fuel spent : ℕ) → q.budget ≤ spent + fuel → (c : Control) → IsConfiguration p c → Paid p q q.budget c spent → HasEnd p q c
   finish zero spent enough c ok paid = at (leader c ok)
     where
       at : Leader p q c → HasEnd p q c
       at (over done) = finished c ok done
       at (leads t first) =
           let e : (e : Effect) × (effect p c t ≡ Some e) = defined p q valid c ok t (ready p c t first.enabled) in
-          absurd (omega (arith, (pay p q valid c ok t e.0 spent e.1 paid).within, enough))
+          absurd (omega (arith, (pay p q valid c ok t e.0 q.budget spent e.1 paid).within, enough))
   finish (suc fuel) spent enough c ok paid = at (leader c ok) (finish fuel)
     where
-      at : Leader p q c → ((spent : ℕ) → q.budget ≤ spent + fuel → (c : Control) → IsConfiguration p c → Paid p q c spent → HasEnd p q c) → HasEnd p q c
+      at : Leader p q c → ((spent : ℕ) → q.budget ≤ spent + fuel → (c : Control) → IsConfiguration p c → Paid p q q.budget c spent → HasEnd p q c) → HasEnd p q c
       at (over done) rest = finished c ok done
       at (leads t first) rest =
           let e : (e : Effect) × (effect p c t ≡ Some e) = defined p q valid c ok t (ready p c t first.enabled) in
-          goes_first c t e.0 e.1 first (rest (suc spent) (omega (arith, enough)) (after e.0 c) (configuration_kept p formed c t e.0 ok e.1) (pay p q valid c ok t e.0 spent e.1 paid))
+          goes_first c t e.0 e.1 first (rest (suc spent) (omega (arith, enough)) (after e.0 c) (configuration_kept p formed c t e.0 ok e.1) (pay p q valid c ok t e.0 q.budget spent e.1 paid))
 
   -- where a run leads that has been paid for
-  record Reached (spent : ℕ) (d : Control) : Type 0 where
-    ok : IsConfiguration p d
-    paid : Paid p q d spent
+  pub record Reached (bound spent : ℕ) (d : Control) : Type 0 where
+    pub ok : IsConfiguration p d
+    pub paid : Paid p q bound d spent
 
-  reached : (run : List ℕ) (c d : Control) (spent : ℕ) → IsConfiguration p c → Paid p q c spent → replay (machine p) run c ≡ Some d → Reached (spent + length run) d
-  reached [] c d spent ok paid h =
+  pub reached : (run : List ℕ) (c d : Control) (bound spent : ℕ) → IsConfiguration p c → Paid p q bound c spent → replay (machine p) run c ≡ Some d → Reached bound (spent + length run) d
+  reached [] c d bound spent ok paid h =
       let same : c ≡ d = same_Some c d h in
-      subst (λ n. Reached n d) (omega arith) (record { ok = subst (IsConfiguration p) same ok; paid = subst (λ d. Paid p q d spent) same paid })
-  reached (t ∷ run) c d spent ok paid h =
+      subst (λ n. Reached bound n d) (omega arith) (record { ok = subst (IsConfiguration p) same ok; paid = subst (λ d. Paid p q bound d spent) same paid })
+  reached (t ∷ run) c d bound spent ok paid h =
       let mid = and_then_some (replay (machine p) run) (step p t c) d h in
       let e = map_some (λ e. after e c) (effect p c t) mid.0 mid.1 in
-      subst (λ n. Reached n d) (more spent (length run))
-      (reached run (after e.0 c) d (suc spent) (configuration_kept p formed c t e.0 ok e.1) (pay p q valid c ok t e.0 spent e.1 paid) (ap (replay (machine p) run) e.2 ∙ mid.2))
+      subst (λ n. Reached bound n d) (more spent (length run))
+      (reached run (after e.0 c) d bound (suc spent) (configuration_kept p formed c t e.0 ok e.1) (pay p q valid c ok t e.0 bound spent e.1 paid) (ap (replay (machine p) run) e.2 ∙ mid.2))
     where
       more : (m n : ℕ) → suc m + n ≡ m + suc n
       more m n = omega arith
 
   -- what holds of each run
-  pub of_each : (c : Control) → IsConfiguration p c → Paid p q c 0 → (run : List ℕ) (d : Control) → replay (machine p) run c ≡ Some d → OfEach p q run d
+  pub of_each : (c : Control) → IsConfiguration p c → Paid p q q.budget c 0 → (run : List ℕ) (d : Control) → replay (machine p) run c ≡ Some d → OfEach p q run d
   of_each c ok paid run d h =
-      let at : Reached (0 + length run) d = reached run c d 0 ok paid h in
+      let at : Reached q.budget (0 + length run) d = reached run c d q.budget 0 ok paid h in
       record {
         configuration = at.ok;
         bounded = omega (arith, at.paid.within);
@@ -159,5 +157,5 @@ module _ (p : Program) (q : Tables) (valid : IsValid p q) where
         goes_on = finish q.budget (0 + length run) (omega arith) d at.ok at.paid;
       }
 
-  pub has_end : (c : Control) → IsConfiguration p c → Paid p q c 0 → HasEnd p q c
+  pub has_end : (c : Control) → IsConfiguration p c → Paid p q q.budget c 0 → HasEnd p q c
   has_end c ok paid = finish q.budget 0 (omega arith) c ok paid

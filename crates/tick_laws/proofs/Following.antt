@@ -16,13 +16,14 @@ use Rattle.sc_graph.specs.Tables.{priority, priority_of}
 use Rattle.sc_graph.specs.Priority.{PriorityRun}
 use Rattle.sc_graph.specs.Tick.{IsConfiguration}
 use Rattle.sc_graph.specs.Valid.{IsValid}
+use Rattle.tick_laws.specs.WithinTick.{Tops}
 use Rattle.tick_laws.proofs.Lists.{map_some, and_then_some}
 use Rattle.tick_laws.proofs.Formed.{valid_formed}
 use Rattle.tick_laws.proofs.Views.{Ready, enabled_from, ready_from_effect}
 use Rattle.tick_laws.proofs.ReadyPairs.{no_clash, edge_falls, StepsFrom, steps_from}
 use Rattle.tick_laws.proofs.Kin.{apart_turned}
 use Rattle.tick_laws.proofs.ConfigurationKept.{configuration_kept}
-use Rattle.tick_laws.proofs.Falling.{Low, low_kept}
+use Rattle.tick_laws.proofs.Falling.{low_kept}
 use Rattle.tick_laws.proofs.RunsOn.{SteppedBy, stepped_by, effect_steps, priority_replay}
 use Rattle.tick_laws.proofs.Confluent.{Follows, threads_of}
 
@@ -78,12 +79,12 @@ module _ (p : Program) (q : Tables) (valid : IsValid p q) where
 
   -- a step of the greatest priority may precede all that follow
   clear_leader : (t n : ℕ) (m : Act) → m.thread ≡ t → owner_of p n ≡ Some t → m.access ≡ accesses p n → (IsOpen : ℕ → Type 0) →
-      (run : List ℕ) (c d : Control) → IsConfiguration p c → Low p q (priority q n) c → replay (machine p) run c ≡ Some d → Clear (ForkedApart p) m IsOpen (acts (machine p) run c)
+      (run : List ℕ) (c d : Control) → IsConfiguration p c → Tops p q (priority q n) c → replay (machine p) run c ≡ Some d → Clear (ForkedApart p) m IsOpen (acts (machine p) run c)
   clear_leader t n m thread owned access IsOpen [] c d ok low h = tt
   clear_leader t n m thread owned access IsOpen (u ∷ run) c d ok low h =
       let b : Begins p u run c d = begins p u run c d h in
       let here : Ready p c u = ready_from_effect p c u b.first b.is in (
-        λ a apart is_open. clear_here t n m thread owned access u c (steps_from p q valid c ok u here) (low u here) a apart,
+        λ a apart is_open. clear_here t n m thread owned access u c (steps_from p q valid c ok u here) (low u (enabled_from p c u here)) a apart,
         subst (Clear (ForkedApart p) m (λ a. IsOpen a × (u ≢ a))) (sym (later_acts p run c u b.first b.is))
             (clear_leader t n m thread owned access (λ a. IsOpen a × (u ≢ a)) run (after b.first c) d
             (configuration_kept p (valid_formed p q valid) c u b.first ok b.is) (low_kept p q valid (priority q n) c ok u b.first b.is low) b.rest),
@@ -98,7 +99,7 @@ module _ (p : Program) (q : Tables) (valid : IsValid p q) where
       let from : StepsFrom p q c t = steps_from p q valid c ok t here in
       let rest : PriorityRun p q run (after by.e c) d = subst (λ b. PriorityRun p q run b d) (sym by.leads) h.1.2 in
       let ok_after : IsConfiguration p (after by.e c) = configuration_kept p (valid_formed p q valid) c t by.e ok by.is in
-      let low : Low p q (priority q from.node) c = λ u ready_u. subst (λ k. priority_of q (status_of c u) ≤ k) from.priority (h.0.greatest u (enabled_from p c u ready_u)) in (
+      let low : Tops p q (priority q from.node) c = λ u on. subst (λ k. priority_of q (status_of c u) ≤ k) from.priority (h.0.greatest u on) in (
         subst (Clear (ForkedApart p) (act_of (machine p) c t) EachIsOpen) (sym (later_acts p run c t by.e by.is))
             (clear_leader t from.node (act_of (machine p) c t) refl from.owned from.access EachIsOpen run (after by.e c) d ok_after
             (low_kept p q valid (priority q from.node) c ok t by.e by.is low) (priority_replay p q run (after by.e c) d rest)),

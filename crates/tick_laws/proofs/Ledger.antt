@@ -1,15 +1,11 @@
--- A ledger of a tick, for proofs alone: for each thread a credit of steps, and whether it may end.
-use Rattle.std.proofs.Common.{◌≡◌, ◌≢◌, ℕ, zero, suc, ◌+◌, ◌≤◌, ◌<◌, ◌⊎◌, Bool, true, cond, nat_eq, List, [], ◌∷◌, length, Contains, refl, ap, subst, sym, ◌∙◌, inl, inr, ⊎_elim, arith}
+-- Sums of the credits of threads: one replaced by another, and those handed to a list of threads.
+use Rattle.std.proofs.Common.{◌≡◌, ◌≢◌, ℕ, zero, suc, ◌+◌, ◌≤◌, ◌<◌, ◌⊎◌, cond, nat_eq, List, [], ◌∷◌, Contains, refl, ap, subst, sym, ◌∙◌, inl, inr, ⊎_elim, arith}
 use Rattle.std.proofs.lemmas.Bool.{cases_eq, eq-eqb, ne_eqb}
 use Rattle.sc_graph.specs.declared.tables.Tables.{Tables}
-use Rattle.sc_graph.specs.declared.control.Control.{Control}
-use Rattle.sc_graph.specs.declared.control.Status.{Status}
-use Rattle.sc_graph.specs.declared.control.Status.TheVariants as status
 use Rattle.sc_graph.specs.Program.{Program, entry_of}
-use Rattle.sc_graph.specs.Threads.{IsFork}
-use Rattle.sc_graph.specs.Control.{status_of}
-use Rattle.sc_graph.specs.Tables.{weight, end_bit, bound}
+use Rattle.sc_graph.specs.Tables.{bound}
 use Rattle.sc_graph.specs.Costs.{entry_weight, entry_weights, child_bounds}
+use Rattle.tick_laws.specs.WithinTick.{total}
 use Rattle.tick_laws.proofs.Lists.{contains_none, contains_head, contains_tail, contains_cons}
 
 -- f, but y at k
@@ -20,11 +16,6 @@ replaced f k y t = cond (nat_eq t k) y (f t)
 abbrev pub handed : {A : Type 0} → (ℕ → A) → List ℕ → (ℕ → A) → ℕ → A
 handed g [] f = f
 handed g (k ∷ ks) f = replaced (handed g ks f) k (g k)
-
--- the sum of what the first n threads have
-abbrev pub total : (ℕ → ℕ) → ℕ → ℕ
-total f zero = 0
-total f (suc n) = f n + total f n
 
 abbrev pub total_of : (ℕ → ℕ) → List ℕ → ℕ
 total_of g [] = 0
@@ -104,27 +95,3 @@ entry_weights_total p q (k ∷ ks) = ap (λ n. entry_weight q (entry_of p k) + n
 pub child_bounds_total : (q : Tables) (ks : List ℕ) → child_bounds q ks ≡ total_of (bound q) ks
 child_bounds_total q [] = refl
 child_bounds_total q (k ∷ ks) = ap (λ n. bound q k + n) (child_bounds_total q ks)
-
--- each of these threads may end in this tick
-abbrev pub AllEnd : (ℕ → Bool) → List ℕ → Type 0
-AllEnd may ks = (k : ℕ) → Contains ks k → may k ≡ true
-
--- a thread with this credit may go on from node n to the end of its tick
-pub record Affords (q : Tables) (may : Bool) (credit n : ℕ) : Type 0 where
-  pub steps : weight q n ≤ credit
-  pub ends : end_bit q n ≡ true → may ≡ true
-
--- what a thread's credit must cover where it stands. A waiting thread pays its join's weight only
--- where all children may end in this tick
-abbrev pub Covers : Program → Tables → (ℕ → Bool) → ℕ → ℕ → Status → Type 0
-Covers p q may t credit (status.At n) = Affords q (may t) credit n
-Covers p q may t credit (status.Waiting j) = (n : ℕ) (ks : List ℕ) → IsFork p n t ks j → AllEnd may ks → Affords q (may t) credit j
-Covers p q may t credit status.Ended = may t ≡ true
-Covers p q may t credit other = Unit {0}
-
--- the credits of all threads, with the steps already spent, are within the budget
-pub record Paid (p : Program) (q : Tables) (c : Control) (spent : ℕ) : Type 0 where
-  pub credit : ℕ → ℕ
-  pub may : ℕ → Bool
-  pub each : (t : ℕ) → Covers p q may t (credit t) (status_of c t)
-  pub within : total credit (length p.threads) + spent ≤ q.budget

@@ -20,6 +20,7 @@ pub mod Confluent
 pub mod Falling
 pub mod Finishing
 pub mod RunsOn
+pub mod WithinTick
 pub mod Claims
 pub mod Following
 pub mod Final

@@ -1,14 +1,11 @@
 -- Membership in lists by head and tail, and what stands at a place after a write.
 use Rattle.std.proofs.Common.{◌≡◌, ◌≢◌, ℕ, zero, suc, ◌<◌, ◌⊎◌, ◌&&◌, Bool, true, List, [], ◌∷◌, map, length, get_or, set, Option, Some, None, slice_get, option_map, option_and_then, Contains, All, refl, ap, subst, ◌∙◌, inl, inr, ⊎_elim, arith}
-use Rattle.std.proofs.lemmas.Bool.{and_parts}
+use Rattle.std.proofs.lemmas.Bool.{and_parts, cases_eq}
 use Rattle.std.specs.List.{list_all}
 use Rattle.std.proofs.lemmas.Option.{none-some, same_Some, slice_get-get_or, slice_get_within, get_or_from_slice_get}
 
 pub same_or_not : (m n : ℕ) → (m ≡ n) ⊎ (m ≢ n)
-same_or_not zero zero = inl refl
-same_or_not zero (suc n) = inr (λ h. absurd (omega arith))
-same_or_not (suc m) zero = inr (λ h. absurd (omega arith))
-same_or_not (suc m) (suc n) = ⊎_elim (λ e. inl (ap suc e)) (λ ne. inr (λ h. ne (omega arith))) (same_or_not m n)
+same_or_not m n = cases_eq m n
 
 pub true_both : (a b : Bool) → a ≡ true → b ≡ true → (a && b) ≡ true
 true_both a b h i = cc

@@ -85,10 +85,10 @@ module _ (p : Program) (c : Control) (t : ℕ) where
   node_defined formed ok n (steps.Assign x code m) owned at no_join stays well written =
       let v = evaluates ok code well in
       from_value (assigned p t x m) (code_value code c.variables) v.v v.is
-      (only_when (takes_kind (kind_at p x) (kind_of v.v)) (goes p t (Put x v.v) m) (takes_own (kind_at p x) (kind_of v.v) (sym written.kind ∙ v.kind)) (goes_on p t (Put x v.v) m stays))
+      (only_when (takes_kind (kind_at p x) (kind_of v.v)) (goes p t (Put x v.v) m) (takes_own (kind_at p x) (kind_of v.v) (written.variable_takes ∙ sym written.code_gives ∙ v.kind)) (goes_on p t (Put x v.v) m stays))
   node_defined formed ok n (steps.Update x f code m) owned at no_join stays well written =
       let v = evaluates ok code well in
-      let here : kind_at p x ≡ Some (kind_of v.v) = sym written.0.kind ∙ v.kind in
+      let here : kind_at p x ≡ Some (kind_of v.v) = written.0.variable_takes ∙ sym written.0.code_gives ∙ v.kind in
       let fits : is_kind (kind_combined f) (kind_of v.v) ≡ true = takes_own (Some (kind_combined f)) (kind_of v.v) (sym written.1 ∙ here) in
       from_value (updated p t x f m) (code_value code c.variables) v.v v.is
       (only_when (takes_kind (kind_at p x) (kind_of v.v) && is_kind (kind_combined f) (kind_of v.v)) (goes p t (Combine x f v.v) m)

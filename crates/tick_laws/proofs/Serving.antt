@@ -18,11 +18,12 @@ use Rattle.sc_graph.specs.Tables.{weight, bound}
 use Rattle.sc_graph.specs.Structure.{JoinsAt, ExactlyOne, BelongsToOne}
 use Rattle.sc_graph.specs.Costs.{child_bounds, entry_weight, BoundHolds}
 use Rattle.sc_graph.specs.Valid.{IsFormed, IsValid}
+use Rattle.tick_laws.specs.WithinTick.{total, Covers, Paid}
 use Rattle.tick_laws.proofs.Lists.{map_some, slice_get_there}
 use Rattle.tick_laws.proofs.Formed.{ChildOf, valid_formed, has_owner, join_step, depth_step, join_owned, depth_owned, fork_join_owned, child_parent, parent_below, fork_of, one_fork_joins, fork_children, owner_in_range}
 use Rattle.tick_laws.proofs.Kin.{present_in_range, has_parent}
 use Rattle.tick_laws.proofs.RulesGive.{bounds}
-use Rattle.tick_laws.proofs.Ledger.{among, apart, replaced, handed, total, total_zero, replaced_same, replaced_other, handed_apart, Handed, handed_cases, total-replaced_le, total-replaced, total-handed_le, child_bounds_total, Covers, Paid}
+use Rattle.tick_laws.proofs.Ledger.{among, apart, replaced, handed, total_zero, replaced_same, replaced_other, handed_apart, Handed, handed_cases, total-replaced_le, total-replaced, total-handed_le, child_bounds_total}
 use Rattle.tick_laws.proofs.Starting.{wakes, enters, Starts, starts, start_config}
 
 -- what a thread has when its turn to be served comes: the root the budget, another one its bound
@@ -203,7 +204,7 @@ module _ (p : Program) (q : Tables) (valid : IsValid p q) where
     covered t credit (status.Paused m) h = tt
     covered t credit status.Ended h = refl
 
-    paid : Paid p q d 0
+    paid : Paid p q q.budget d 0
     paid =
         let s : Served p q d (length p.threads) = served (length p.threads) (omega arith) in
         record {
@@ -243,5 +244,5 @@ module _ (p : Program) (q : Tables) (valid : IsValid p q) where
               omega (arith, ap (due q) root, ap (weight q) here, w, (bounds p q valid).budget.entry)
 
   -- a tick starts within its budget
-  pub start_paid : (inputs : Inputs) (c : Control) → Rests p c → AreAccepted p inputs → Paid p q (start p inputs c) 0
+  pub start_paid : (inputs : Inputs) (c : Control) → Rests p c → AreAccepted p inputs → Paid p q q.budget (start p inputs c) 0
   start_paid inputs c rests accepted = paid (start p inputs c) (start_config p formed inputs accepted c rests) (fresh_start inputs c rests)

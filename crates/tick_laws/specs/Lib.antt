@@ -1,1 +1,2 @@
 pub mod OneEnd
+pub mod WithinTick

@@ -1,7 +1,6 @@
 -- Bounds cover each node exactly where the tick-bound rule is kept.
-use Rattle.std.proofs.Common.{ℕ, ◌≡◌, ◌<◌, ◌≤◌, ◌+◌, ◌⊎◌, inl, inr, Option, Some, None, List, length, slice_get, option_map, refl, sym, ◌∙◌, ap, subst, get_or, arith}
-use Rattle.std.specs.Prelude.{MatchOption}
-use Rattle.std.proofs.lemmas.Option.{slice_get_within, slice_get_cases}
+use Rattle.std.proofs.Common.{ℕ, ◌≡◌, ◌<◌, ◌≤◌, ◌+◌, ◌⊎◌, inl, inr, Option, Some, None, List, length, slice_get, option_map, refl, ◌∙◌, ap, subst, get_or, arith}
+use Rattle.std.proofs.lemmas.Option.{slice_get_cases}
 use Rattle.sc_graph.specs.declared.place.Place.{Place}
 use Rattle.sc_graph.specs.declared.place.Place.TheVariants as place
 use Rattle.sc_graph.specs.declared.tables.Tables.{Tables}
@@ -10,13 +9,12 @@ use Rattle.sc_graph.specs.declared.program.Node.{Node}
 use Rattle.sc_graph.specs.declared.program.Step.{Step}
 use Rattle.sc_graph.specs.declared.program.Step.TheVariants as step
 use Rattle.sc_graph.specs.Program.{Program, step_at, owner_of}
-use Rattle.sc_graph.specs.Size.{SizeAt, NodeFits, ChildrenFit, StepFits}
+use Rattle.sc_graph.specs.Size.{SizeAt, StepFits}
 use Rattle.sc_graph.specs.Limits.{child_limit}
 use Rattle.sc_graph.specs.Tables.{weight, bound}
-use Rattle.sc_graph.specs.Costs.{child_bounds, BoundAt, BoundHolds, BudgetHolds}
-use Rattle.verifier.specs.ByNode.{IsCovered}
-use Rattle.verifier.proofs.Answer.{answer_turned}
-use Rattle.verifier.proofs.Within.{IsNode, node_of_step, step_within}
+use Rattle.sc_graph.specs.Costs.{child_bounds, BoundAt, BudgetHolds}
+use Rattle.verifier.specs.Inside.ByNode.{IsCovered}
+use Rattle.verifier.proofs.Within.{node_of_step, step_within}
 
 pub bounds_kept : (p : Program) (q : Tables) → BudgetHolds p q → ((n : ℕ) → n < length p.nodes → IsCovered p q n) → (at : Place) → BoundAt p q at
 bounds_kept p q b h place.Image = b

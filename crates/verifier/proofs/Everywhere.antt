@@ -4,7 +4,7 @@ use Rattle.sc_graph.specs.declared.place.Place.{Place}
 use Rattle.sc_graph.specs.declared.place.Place.TheVariants as place
 use Rattle.sc_graph.specs.declared.tables.Tables.{Tables}
 use Rattle.sc_graph.specs.Program.{Program}
-use Rattle.sc_graph.specs.Costs.{EndBitAt, WeightAt}
+use Rattle.sc_graph.specs.Costs.{WeightAt}
 use Rattle.sc_graph.specs.Size.{SizeAt, ProgramFitsAt}
 use Rattle.sc_graph.specs.Limits.{budget_limit}
 use Rattle.sc_graph.specs.Codes.{CodeAt, AssignmentAt}

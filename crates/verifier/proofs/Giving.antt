@@ -1,5 +1,5 @@
 -- The kind of what a code gives is that of the tree that it spells.
-use Rattle.std.proofs.Common.{◌≡◌, Option, Some, List, option_and_then, sym, ◌∙◌, ap, subst}
+use Rattle.std.proofs.Common.{◌≡◌, Some, List, option_and_then, sym, ◌∙◌, ap, subst}
 use Rattle.sc_values.specs.declared.value.Kind.{Kind}
 use Rattle.sc_values.specs.declared.operation.Operation.{Operation}
 use Rattle.sc_values.specs.Expr.{kind}

@@ -7,3 +7,4 @@ pub mod Lowest
 pub mod Ordering
 pub mod Rising
 pub mod Giving
+pub mod Gaining

@@ -1,8 +1,8 @@
 -- The rules of pairs, variable by variable, are the rules at every pair.
-use Rattle.std.proofs.Common.{ℕ, ◌≡◌, ◌<◌, ◌≤◌, ◌⊎◌, inl, inr, Option, Some, None, List, length, slice_get, option_map, refl, sym, ◌∙◌, ap, subst, arith}
-use Rattle.std.specs.Prelude.{Contains, unwrap_or}
+use Rattle.std.proofs.Common.{ℕ, ◌≡◌, ◌<◌, ◌≤◌, ◌⊎◌, inl, inr, Option, Some, None, List, length, slice_get, option_map, refl, ap, subst, arith}
+use Rattle.std.specs.Prelude.{unwrap_or}
 use Rattle.sc_values.specs.declared.operator.Combination.{Combination}
-use Rattle.sc_values.specs.Access.{Access, Nothing, Init, Update, no_access, Inits, Updates, Reads, Clash, two_inits, two_updates, Precedes, init_update, init_read, update_read}
+use Rattle.sc_values.specs.Access.{Access, Nothing, no_access, Inits, Updates, Clash, two_inits, two_updates, Precedes, init_update, init_read, update_read}
 use Rattle.sc_graph.specs.declared.place.Place.{Place}
 use Rattle.sc_graph.specs.declared.place.Place.TheVariants as place
 use Rattle.sc_graph.specs.declared.tables.Tables.{Tables}
@@ -10,14 +10,14 @@ use Rattle.sc_graph.specs.declared.program.Node.{Node}
 use Rattle.sc_graph.specs.declared.program.Step.{Step}
 use Rattle.sc_graph.specs.declared.program.Step.TheVariants as step
 use Rattle.sc_graph.specs.Program.{Program, step_at}
-use Rattle.sc_graph.specs.Size.{StepFits, InVariables, NodeFits}
+use Rattle.sc_graph.specs.Size.{StepFits, InVariables}
 use Rattle.sc_graph.specs.Valid.{IsFormed}
 use Rattle.sc_graph.specs.Tables.{priority}
 use Rattle.sc_graph.specs.Threads.{ConcurrentNodes}
 use Rattle.sc_graph.specs.Accesses.{accesses, access_of}
-use Rattle.sc_graph.specs.Protocol.{NoConflictAt, WriteConflict, ProtocolAt, ProtocolEdge}
-use Rattle.verifier.specs.Pairs.{InitsAt, UpdatesAt, ReadsAt, Lists, NoneConflict, NoConflictOn, IsRise, AllFall, RisesBetween, FallsOn}
-use Rattle.verifier.proofs.Within.{IsNode, node_of_step}
+use Rattle.sc_graph.specs.Protocol.{NoConflictAt, WriteConflict, ProtocolAt}
+use Rattle.verifier.specs.Inside.Pairs.{InitsAt, UpdatesAt, ReadsAt, Lists, NoneConflict, NoConflictOn, IsRise, AllFall, RisesBetween, FallsOn}
+use Rattle.verifier.proofs.Within.{node_of_step}
 
 step_or_none : (p : Program) (n : ℕ) → ((s : Step) × (step_at p n ≡ Some s)) ⊎ (accesses p n ≡ no_access)
 step_or_none p n = found (slice_get p.nodes n) refl

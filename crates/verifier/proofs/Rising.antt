@@ -1,5 +1,5 @@
 -- Priority rises along no edge that a step makes exactly where it rises along no edge.
-use Rattle.std.proofs.Common.{ℕ, ◌≡◌, ◌<◌, ◌≤◌, Option, Some, None, List, length, slice_get, refl, sym, ◌∙◌, ap, subst, get_or, arith}
+use Rattle.std.proofs.Common.{ℕ, ◌≡◌, ◌<◌, ◌≤◌, Option, Some, List, length, ◌∙◌, subst, get_or, arith}
 use Rattle.std.specs.Prelude.{Contains}
 use Rattle.std.proofs.lemmas.List.{get_or_default}
 use Rattle.sc_graph.specs.declared.place.Place.{Place}
@@ -8,12 +8,12 @@ use Rattle.sc_graph.specs.declared.tables.Tables.{Tables}
 use Rattle.sc_graph.specs.declared.program.Step.{Step}
 use Rattle.sc_graph.specs.declared.program.Step.TheVariants as step
 use Rattle.sc_graph.specs.declared.program.Node.{Node}
-use Rattle.sc_graph.specs.Program.{Program, step_at, owner_of, entry_of}
+use Rattle.sc_graph.specs.Program.{Program, step_at, owner_of}
 use Rattle.sc_graph.specs.Threads.{IsFork}
 use Rattle.sc_graph.specs.Tables.{priority}
-use Rattle.sc_graph.specs.Protocol.{FlowAt, Instant, by_successor, by_entry, by_exit, successors}
-use Rattle.verifier.specs.ByNode.{StepFlows, ForksTo, IsExitOf, RisesToSuccessor, RisesToEntry, RisesFromExit, EntryFlows, ExitsFlow, ChildrenFlow}
-use Rattle.verifier.proofs.Within.{IsNode, node_of_step, step_within}
+use Rattle.sc_graph.specs.Protocol.{FlowAt, Instant, by_successor, by_entry, by_exit}
+use Rattle.verifier.specs.Inside.ByNode.{StepFlows, ForksTo, RisesToSuccessor, RisesToEntry, RisesFromExit, EntryFlows, ExitsFlow, ChildrenFlow}
+use Rattle.verifier.proofs.Within.{node_of_step, step_within}
 
 pub flows_kept : (p : Program) (q : Tables) → ((n : ℕ) → n < length p.nodes → StepFlows p q n) → (at : Place) → FlowAt p q at
 flows_kept p q h place.Image = tt

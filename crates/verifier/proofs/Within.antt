@@ -1,13 +1,13 @@
 -- What stands at a number is within the program.
-use Rattle.std.proofs.Common.{ℕ, ◌≡◌, ◌<◌, ◌≤◌, Option, Some, None, List, length, slice_get, option_map, refl, sym, ◌∙◌, ap, subst, arith, ◌⊎◌, inl, inr}
+use Rattle.std.proofs.Common.{ℕ, ◌≡◌, ◌<◌, Option, Some, None, List, length, slice_get, option_map, refl, ap, subst, arith, ◌⊎◌, inl, inr}
 use Rattle.std.proofs.lemmas.Option.{slice_get_within}
 use Rattle.sc_graph.specs.declared.program.Node.{Node}
 use Rattle.sc_graph.specs.declared.program.Step.{Step}
 use Rattle.std.specs.Prelude.{unwrap_or, Contains}
-use Rattle.sc_values.specs.Access.{Access, Nothing, no_access}
+use Rattle.sc_values.specs.Access.{Nothing, no_access}
 use Rattle.sc_graph.specs.Accesses.{accesses, access_of}
-use Rattle.verifier.specs.Pairs.{InitsAt, UpdatesAt, ReadsAt}
-use Rattle.sc_graph.specs.Program.{Program, step_at, owner_of}
+use Rattle.verifier.specs.Inside.Pairs.{InitsAt, UpdatesAt, ReadsAt}
+use Rattle.sc_graph.specs.Program.{Program, step_at}
 
 -- a node with its step
 pub record IsNode (p : Program) (n : ℕ) (s : Step) : Type 0 where

@@ -1,3 +1,2 @@
-pub mod ByNode
-pub mod Pairs
 pub mod Verdict
+pub mod Inside

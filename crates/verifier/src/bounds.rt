@@ -8,7 +8,7 @@ ghost use Rattle.sc_graph.specs.Size.{SizeAt};
 ghost use Rattle.sc_graph.specs.Tables.{bound, weight};
 ghost use Rattle.sc_graph.specs.declared.place.Place.{Place};
 ghost use Rattle.sc_graph.specs.declared.place.Place.TheVariants as place;
-ghost use Rattle.verifier.specs.ByNode.{IsCovered};
+ghost use Rattle.verifier.specs.Inside.ByNode.{IsCovered};
 ghost use Rattle.verifier.specs.Verdict.{IsFault};
 
 use crate::weights::entry_weight;

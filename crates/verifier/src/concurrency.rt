@@ -1,3 +1,5 @@
+//! Which nodes are concurrent.
+
 ghost use Rattle.std.specs.Prelude.{◌≡◌, ◌↔◌, IsTrue};
 ghost use Rattle.sc_graph.specs.Threads.{ConcurrentNodes};
 

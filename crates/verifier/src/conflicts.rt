@@ -6,11 +6,11 @@ ghost use Rattle.sc_values.specs.Access.{Clash};
 ghost use Rattle.sc_graph.specs.Accesses.{accesses};
 ghost use Rattle.sc_graph.specs.Protocol.{NoConflictAt, WriteConflict};
 ghost use Rattle.sc_graph.specs.Valid.{IsFormed};
-ghost use Rattle.verifier.specs.Pairs.{InitsAt, Lists, NoConflictOn, NoneConflict, UpdatesAt};
+ghost use Rattle.verifier.specs.Inside.Pairs.{InitsAt, Lists, NoConflictOn, NoneConflict, UpdatesAt};
 ghost use Rattle.verifier.specs.Verdict.{IsFault};
 
 use crate::concurrency::are_concurrent;
-use crate::users::{inits_of, updates_of};
+use crate::users::Users;
 use sc_graph::{ConcurrentThreads, NodeId, Place, Program, VariableId};
 use std::alloc::{AllocError, Global};
 
@@ -23,27 +23,14 @@ pub(crate) fn no_conflict_fault(
     ensures { IfOk result (IsFault (NoConflictAt program.now)) }
 {
     let threads = ConcurrentThreads::of(alloc, program)?;
+    let inits = Users::initializing(alloc, program)?;
+    let updates = Users::updating(alloc, program)?;
     for x in 0..program.variable_count() {
-        if let Some(place) = conflict_on(alloc, program, &threads, x)? {
+        if let Some(place) = conflict_over(program, &threads, x, inits.of(x), updates.of(x)) {
             return Ok(Some(place));
         }
     }
     Ok(None)
-}
-
-// Two nodes that conflict over a variable.
-fn conflict_on(
-    alloc: Global,
-    program: &Program,
-    threads: &ConcurrentThreads,
-    x: VariableId,
-) -> Result<Option<Place>, AllocError>
-    requires { threads.now ≡ program.now }
-    ensures { IfOk result (λ answer. MatchOption answer (NoConflictOn program.now x) (λ at. ¬ NoConflictAt program.now at)) }
-{
-    let inits = inits_of(alloc, program, x)?;
-    let updates = updates_of(alloc, program, x)?;
-    Ok(conflict_over(program, threads, x, inits.as_slice(), updates.as_slice()))
 }
 
 // Two of the inits of a variable, or two of its updates, that conflict.

@@ -1,3 +1,5 @@
+//! The line of a fault: the number of its rule, and the place.
+
 ghost use Rattle.std.specs.Prelude.{◌≡◌};
 ghost use Rattle.verifier.specs.Verdict.{fault_number};
 

@@ -5,11 +5,11 @@ ghost use Rattle.std.specs.Prelude.{◌≡◌, ◌↔◌, IfOk, IsTrue, MatchOpt
 ghost use Rattle.sc_graph.specs.Protocol.{ProtocolAt};
 ghost use Rattle.sc_graph.specs.Valid.{IsFormed};
 ghost use Rattle.sc_graph.specs.declared.place.Place.TheVariants as place;
-ghost use Rattle.verifier.specs.Pairs.{AllFall, FallsOn, InitsAt, IsRise, Lists, ReadsAt, RisesBetween, UpdatesAt};
+ghost use Rattle.verifier.specs.Inside.Pairs.{AllFall, FallsOn, InitsAt, IsRise, Lists, ReadsAt, RisesBetween, UpdatesAt};
 ghost use Rattle.verifier.specs.Verdict.{IsFault};
 
 use crate::concurrency::are_concurrent;
-use crate::users::{inits_of, reads_of, updates_of};
+use crate::users::Users;
 use sc_graph::{ConcurrentThreads, NodeId, Place, Program, Tables, VariableId};
 use std::alloc::{AllocError, Global};
 
@@ -23,41 +23,27 @@ pub(crate) fn protocol_fault(
     ensures { IfOk result (IsFault (ProtocolAt program.now tables.now)) }
 {
     let threads = ConcurrentThreads::of(alloc, program)?;
+    let inits = Users::initializing(alloc, program)?;
+    let updates = Users::updating(alloc, program)?;
+    let reads = Users::reading(alloc, program)?;
     for x in 0..program.variable_count() {
-        if let Some(place) = rise_on(alloc, program, tables, &threads, x)? {
+        if let Some(place) = rise_over(
+            program,
+            tables,
+            &threads,
+            x,
+            inits.of(x),
+            updates.of(x),
+            reads.of(x),
+        ) {
             return Ok(Some(place));
         }
     }
     Ok(None)
 }
 
-// A protocol edge about a variable along which priority does not fall.
-fn rise_on(
-    alloc: Global,
-    program: &Program,
-    tables: &Tables,
-    threads: &ConcurrentThreads,
-    x: VariableId,
-) -> Result<Option<Place>, AllocError>
-    requires { threads.now ≡ program.now }
-    ensures { IfOk result (λ answer. MatchOption answer (FallsOn program.now tables.now x) (λ at. ¬ ProtocolAt program.now tables.now at)) }
-{
-    let inits = inits_of(alloc, program, x)?;
-    let updates = updates_of(alloc, program, x)?;
-    let reads = reads_of(alloc, program, x)?;
-    let rising = rise_over(
-        program,
-        tables,
-        threads,
-        x,
-        inits.as_slice(),
-        updates.as_slice(),
-        reads.as_slice(),
-    );
-    Ok(rising)
-}
-
-// The same, over the lists of the variable's inits, updates and reads.
+// A protocol edge about a variable along which priority does not fall, over the lists of the
+// variable's inits, updates and reads.
 fn rise_over(
     program: &Program,
     tables: &Tables,

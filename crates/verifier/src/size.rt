@@ -1,10 +1,9 @@
+//! The size and range rule: what it asks of the program, and the greatest budget.
+
 ghost use Rattle.sc_graph.specs.Size.{SizeAt};
 ghost use Rattle.verifier.specs.Verdict.{IsFault};
 
-use sc_graph::{Place, Program, Tables};
-
-// The greatest budget.
-const BUDGET_LIMIT: u32 = 1_048_576;
+use sc_graph::{BUDGET_LIMIT, Place, Program, Tables};
 
 /// A place where the size and range rule is broken, where it is.
 pub(crate) fn size_fault(program: &Program, tables: &Tables) -> Option<Place>

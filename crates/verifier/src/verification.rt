@@ -1,3 +1,5 @@
+//! All rules in order, and the lowest that an image breaks.
+
 ghost use Rattle.std.specs.Prelude.{◌≡◌, IfOk, MatchOption, ◌≢◌, Err};
 ghost use Rattle.sc_graph.specs.Valid.{IsValid};
 ghost use Rattle.verifier.specs.Verdict.{IsFault, IsLowestBroken, KeepsBelow, KeptAt, fault_number};

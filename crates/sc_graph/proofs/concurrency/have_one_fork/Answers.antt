@@ -1,4 +1,3 @@
-use Rattle.std.proofs.Common.{◌≡◌, true}
 use Rattle.sc_graph.proofs.Formed.{one_fork_known, one_fork_left, one_fork_right}
 use Rattle.sc_graph.proofs.concurrency.have_one_fork.Goals as goal
 

@@ -1,6 +1,5 @@
-use Rattle.std.proofs.Common.{ℕ, ◌≡◌, true, Option, Some, IsSome, IfSome, is_some, sym, subst, ap, refl}
-use Rattle.sc_graph.specs.Threads.{ForkedApart, AreConcurrent}
-use Rattle.sc_graph.specs.Parting.{PartAt}
+use Rattle.std.proofs.Common.{ℕ, ◌≡◌, true, Option, Some, IfSome, is_some, sym, subst, ap}
+use Rattle.sc_graph.specs.Threads.{ForkedApart}
 use Rattle.sc_graph.proofs.Formed.{forks_apart, one_fork_apart, parts}
 use Rattle.sc_graph.proofs.concurrency.lca.Goals as goal
 

@@ -1,6 +1,6 @@
-use Rattle.std.proofs.Common.{ℕ, ◌≡◌, ◌<◌, Some, None, subst, sym, arith}
+use Rattle.std.proofs.Common.{ℕ, ◌≡◌, ◌<◌, Some, None, subst, arith}
 use Rattle.sc_graph.specs.Program.{parent_of}
-use Rattle.sc_graph.specs.Parting.{PartAt}
+use Rattle.sc_graph.specs.Inside.Parting.{PartAt}
 use Rattle.sc_graph.proofs.Tree.{part_here, part_swapped, never_root, never_from_itself}
 use Rattle.sc_graph.proofs.Formed.{falls_upwards}
 use Rattle.sc_graph.proofs.Parting.{alike_left, alike_right}

@@ -1,4 +1,4 @@
-use Rattle.std.proofs.Common.{ℕ, ◌+◌}
+use Rattle.std.proofs.Common.{◌+◌}
 use Rattle.sc_graph.proofs.Parting.{PartAlike}
 use Rattle.sc_graph.proofs.concurrency.parting.Given as goal
 

@@ -1,4 +1,3 @@
-use Rattle.std.proofs.Common.{ℕ}
 use Rattle.sc_graph.proofs.Told.{ForksFirst}
 use Rattle.sc_graph.proofs.concurrent_threads.forks_of.Given as goal
 

@@ -1,5 +1,5 @@
-use Rattle.std.proofs.Common.{◌∷◌, [], ◌++◌, ◌+◌, List, Bool, subst, sym}
-use Rattle.sc_graph.specs.Told.{RowTells}
+use Rattle.std.proofs.Common.{◌+◌, List, Bool, subst, sym}
+use Rattle.sc_graph.specs.Inside.Rows.{RowTells}
 use Rattle.sc_graph.proofs.Told.{row_more}
 use Rattle.sc_graph.proofs.concurrent_threads.row_of.Goals as goal
 

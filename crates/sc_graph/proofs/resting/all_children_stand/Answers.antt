@@ -1,5 +1,5 @@
 use Rattle.std.proofs.Common.{ap, ◌∙◌, refl, slice_get}
-use Rattle.sc_graph.specs.Fits.{ChildrenStand}
+use Rattle.sc_graph.specs.Inside.Fits.{ChildrenStand}
 use Rattle.sc_graph.proofs.Each.{each_more, each_of_all}
 use Rattle.sc_graph.proofs.resting.all_children_stand.Goals as goal
 

@@ -1,4 +1,4 @@
-use Rattle.std.proofs.Common.{ℕ, arith}
+use Rattle.std.proofs.Common.{arith}
 use Rattle.sc_graph.specs.declared.place.Place.TheVariants as place
 use Rattle.verifier.proofs.Everywhere.{assignments_kept}
 use Rattle.verifier.proofs.assignments.assignment_fault_by.Goals as goal

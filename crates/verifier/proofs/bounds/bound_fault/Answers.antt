@@ -1,5 +1,4 @@
-use Rattle.std.proofs.Common.{ℕ, arith, rules}
-use Rattle.sc_graph.specs.declared.place.Place.TheVariants as place
+use Rattle.std.proofs.Common.{arith, rules}
 use Rattle.sc_graph.specs.Costs.{BudgetHolds}
 use Rattle.verifier.proofs.Covering.{bounds_kept}
 use Rattle.verifier.proofs.bounds.bound_fault.Goals as goal

@@ -1,5 +1,5 @@
 use Rattle.std.proofs.Common.{ℕ, ◌<◌}
-use Rattle.verifier.specs.ByNode.{IsCovered}
+use Rattle.verifier.specs.Inside.ByNode.{IsCovered}
 use Rattle.verifier.proofs.bounds.bound_fault.Given as goal
 
 abbrev pub invariant-loop-n : goal.invariant-loop-n

@@ -1,11 +1,11 @@
-use Rattle.std.proofs.Common.{◌≡◌, ◌<◌, ◌≤◌, ◌+◌, ℕ, List, length, Option, Some, sym, ap, ◌∙◌, subst}
+use Rattle.std.proofs.Common.{◌≡◌, ◌<◌, ◌≤◌, ◌+◌, ℕ, List, length, Some, sym, ◌∙◌, subst}
 use Rattle.sc_graph.specs.Program.{step_at, owner_of}
 use Rattle.sc_graph.specs.Limits.{child_limit}
 use Rattle.sc_graph.specs.Tables.{weight, bound}
 use Rattle.sc_graph.specs.Costs.{child_bounds, BoundAt}
 use Rattle.sc_graph.specs.declared.program.Step.TheVariants as step
 use Rattle.sc_graph.specs.declared.place.Place.TheVariants as place
-use Rattle.verifier.specs.ByNode.{IsCovered}
+use Rattle.verifier.specs.Inside.ByNode.{IsCovered}
 use Rattle.verifier.proofs.Covering.{few_children, covered_depth, covered_fork, over_depth, over_fork}
 use Rattle.verifier.proofs.Answer.{answer_turned}
 use Rattle.verifier.proofs.bounds.uncovered.Goals as goal

@@ -1,4 +1,4 @@
-use Rattle.std.proofs.Common.{ℕ, arith}
+use Rattle.std.proofs.Common.{arith}
 use Rattle.verifier.proofs.Everywhere.{codes_kept}
 use Rattle.verifier.proofs.codes.code_fault_by.Goals as goal
 

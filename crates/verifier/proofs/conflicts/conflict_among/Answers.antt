@@ -1,4 +1,4 @@
-use Rattle.std.proofs.Common.{ℕ, ◌<◌, get_or, arith, below_more}
+use Rattle.std.proofs.Common.{ℕ, get_or, arith, below_more}
 use Rattle.std.specs.Prelude.{Contains}
 use Rattle.sc_graph.specs.Protocol.{WriteConflict}
 use Rattle.verifier.proofs.Rising.{of_each}

@@ -1,5 +1,5 @@
 use Rattle.sc_graph.specs.Protocol.{NoConflictAt}
-use Rattle.verifier.specs.Pairs.{NoneConflict, NoConflictOn}
+use Rattle.verifier.specs.Inside.Pairs.{NoneConflict, NoConflictOn}
 use Rattle.verifier.proofs.Answer.{answer_turned}
 use Rattle.verifier.proofs.Ordering.{no_conflict_on}
 use Rattle.verifier.proofs.conflicts.conflict_over.Goals as goal

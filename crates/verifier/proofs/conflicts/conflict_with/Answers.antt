@@ -1,4 +1,4 @@
-use Rattle.std.proofs.Common.{ℕ, ◌≡◌, ◌<◌, get_or, arith, below_more, true}
+use Rattle.std.proofs.Common.{ℕ, ◌≡◌, get_or, arith, below_more, true}
 use Rattle.sc_graph.specs.Protocol.{WriteConflict}
 use Rattle.verifier.proofs.Rising.{of_each}
 use Rattle.verifier.proofs.conflicts.conflict_with.Goals as goal

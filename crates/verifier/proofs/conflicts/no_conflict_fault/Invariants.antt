@@ -1,5 +1,5 @@
 use Rattle.std.proofs.Common.{ℕ, ◌<◌}
-use Rattle.verifier.specs.Pairs.{NoConflictOn}
+use Rattle.verifier.specs.Inside.Pairs.{NoConflictOn}
 use Rattle.verifier.proofs.conflicts.no_conflict_fault.Given as goal
 
 abbrev pub invariant-loop-x : goal.invariant-loop-x

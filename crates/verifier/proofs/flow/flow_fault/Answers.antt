@@ -1,5 +1,5 @@
-use Rattle.std.proofs.Common.{ℕ, arith, below_more}
-use Rattle.verifier.specs.ByNode.{StepFlows}
+use Rattle.std.proofs.Common.{arith, below_more}
+use Rattle.verifier.specs.Inside.ByNode.{StepFlows}
 use Rattle.verifier.proofs.Rising.{flows_kept}
 use Rattle.verifier.proofs.flow.flow_fault.Goals as goal
 

@@ -1,5 +1,5 @@
 use Rattle.std.proofs.Common.{ℕ, ◌<◌}
-use Rattle.verifier.specs.ByNode.{StepFlows}
+use Rattle.verifier.specs.Inside.ByNode.{StepFlows}
 use Rattle.verifier.proofs.flow.flow_fault.Given as goal
 
 abbrev pub invariant-loop-n : goal.invariant-loop-n

@@ -1,5 +1,5 @@
 use Rattle.sc_graph.specs.Protocol.{FlowAt}
-use Rattle.verifier.specs.ByNode.{EntryFlows, ExitsFlow, RisesFromExit}
+use Rattle.verifier.specs.Inside.ByNode.{EntryFlows, ExitsFlow, RisesFromExit}
 use Rattle.verifier.proofs.Answer.{answer_turned}
 use Rattle.verifier.proofs.Rising.{rises_to_entry, rises_from_exit}
 use Rattle.verifier.proofs.flow.rise_at_child.Goals as goal

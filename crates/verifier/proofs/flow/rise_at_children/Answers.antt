@@ -1,5 +1,5 @@
 use Rattle.std.proofs.Common.{ℕ, get_or, arith, below_more}
-use Rattle.verifier.specs.ByNode.{EntryFlows, ExitsFlow}
+use Rattle.verifier.specs.Inside.ByNode.{EntryFlows, ExitsFlow}
 use Rattle.verifier.proofs.Rising.{children_flow}
 use Rattle.verifier.proofs.flow.rise_at_children.Goals as goal
 

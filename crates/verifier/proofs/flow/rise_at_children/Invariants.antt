@@ -1,5 +1,5 @@
 use Rattle.std.proofs.Common.{ℕ, ◌<◌, get_or}
-use Rattle.verifier.specs.ByNode.{EntryFlows, ExitsFlow}
+use Rattle.verifier.specs.Inside.ByNode.{EntryFlows, ExitsFlow}
 use Rattle.verifier.proofs.flow.rise_at_children.Given as goal
 
 abbrev pub invariant-loop-child : goal.invariant-loop-child

@@ -1,6 +1,6 @@
 use Rattle.std.proofs.Common.{ℕ, ◌<◌, ◌≤◌}
 use Rattle.sc_graph.specs.Tables.{priority}
-use Rattle.verifier.specs.ByNode.{IsExitOf}
+use Rattle.verifier.specs.Inside.ByNode.{IsExitOf}
 use Rattle.verifier.proofs.flow.rise_from_exit.Given as goal
 
 abbrev pub invariant-loop-n : goal.invariant-loop-n

@@ -1,5 +1,5 @@
 use Rattle.std.proofs.Common.{ℕ, ◌<◌}
-use Rattle.verifier.specs.Pairs.{FallsOn}
+use Rattle.verifier.specs.Inside.Pairs.{FallsOn}
 use Rattle.verifier.proofs.protocol.protocol_fault.Given as goal
 
 abbrev pub invariant-loop-x : goal.invariant-loop-x

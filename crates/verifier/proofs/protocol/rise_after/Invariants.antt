@@ -1,5 +1,5 @@
 use Rattle.std.proofs.Common.{ℕ, ◌<◌, get_or}
-use Rattle.verifier.specs.Pairs.{IsRise}
+use Rattle.verifier.specs.Inside.Pairs.{IsRise}
 use Rattle.verifier.proofs.protocol.rise_after.Given as goal
 
 abbrev pub invariant-loop-n : goal.invariant-loop-n

@@ -1,6 +1,6 @@
-use Rattle.std.proofs.Common.{ℕ, ◌<◌, get_or, arith, below_more}
+use Rattle.std.proofs.Common.{ℕ, get_or, arith, below_more}
 use Rattle.std.specs.Prelude.{Contains}
-use Rattle.verifier.specs.Pairs.{IsRise}
+use Rattle.verifier.specs.Inside.Pairs.{IsRise}
 use Rattle.verifier.proofs.Rising.{of_each}
 use Rattle.verifier.proofs.protocol.rise_between.Goals as goal
 

@@ -1,6 +1,6 @@
 use Rattle.std.proofs.Common.{ℕ, ◌<◌, get_or}
 use Rattle.std.specs.Prelude.{Contains}
-use Rattle.verifier.specs.Pairs.{IsRise}
+use Rattle.verifier.specs.Inside.Pairs.{IsRise}
 use Rattle.verifier.proofs.protocol.rise_between.Given as goal
 
 abbrev pub invariant-loop-m : goal.invariant-loop-m

@@ -1,5 +1,5 @@
 use Rattle.sc_graph.specs.Protocol.{ProtocolAt}
-use Rattle.verifier.specs.Pairs.{AllFall, FallsOn, RisesBetween}
+use Rattle.verifier.specs.Inside.Pairs.{AllFall, FallsOn, RisesBetween}
 use Rattle.verifier.proofs.Answer.{answer_turned}
 use Rattle.verifier.proofs.Ordering.{falls_on, init_update_breaks, init_read_breaks, update_read_breaks}
 use Rattle.verifier.proofs.protocol.rise_over.Goals as goal

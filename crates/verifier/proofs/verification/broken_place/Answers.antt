@@ -1,4 +1,4 @@
-use Rattle.std.proofs.Common.{◌<◌, ap, arith}
+use Rattle.std.proofs.Common.{ap, arith}
 use Rattle.verifier.specs.Verdict.{fault_number}
 use Rattle.verifier.proofs.Lowest.{formed_from, sizes_from, codes_from}
 use Rattle.verifier.proofs.verification.broken_place.Goals as goal

@@ -1,8 +1,8 @@
-use Rattle.std.proofs.Common.{ℕ, ◌≡◌, ◌<◌, ◌≤◌, ◌+◌, arith, sym, subst, get_or, Option}
+use Rattle.std.proofs.Common.{◌≡◌, ◌<◌, ◌≤◌, ◌+◌, arith, sym, subst, get_or, Option}
 use Rattle.sc_graph.specs.declared.place.Place.{Place}
 use Rattle.verifier.specs.declared.rule.Rule.{Rule}
 use Rattle.verifier.specs.declared.rule.Rule.TheVariants as rule
-use Rattle.verifier.specs.Verdict.{IsFault, KeptAt, KeepsBelow, fault_number}
+use Rattle.verifier.specs.Verdict.{IsFault, KeptAt, KeepsBelow}
 use Rattle.verifier.proofs.Lowest.{rules_in_order, keeps_next, keeps_none, valid_from, number_of}
 use Rattle.verifier.proofs.verification.lowest_broken.Goals as goal
 

@@ -1,4 +1,4 @@
-use Rattle.std.proofs.Common.{ℕ, ◌+◌}
+use Rattle.std.proofs.Common.{◌+◌}
 use Rattle.verifier.specs.Verdict.{KeepsBelow}
 use Rattle.verifier.proofs.verification.lowest_broken.Given as goal
 

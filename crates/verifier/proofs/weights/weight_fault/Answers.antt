@@ -1,5 +1,4 @@
-use Rattle.std.proofs.Common.{ℕ, arith}
-use Rattle.sc_graph.specs.declared.place.Place.TheVariants as place
+use Rattle.std.proofs.Common.{arith}
 use Rattle.verifier.proofs.Everywhere.{weights_kept}
 use Rattle.verifier.proofs.weights.weight_fault.Goals as goal
 

@@ -1,5 +1,5 @@
 use Rattle.std.proofs.Common.{subst}
-use Rattle.sc_graph.specs.Fits.{HaveKinds}
+use Rattle.sc_graph.specs.Inside.Fits.{HaveKinds}
 use Rattle.sc_graph.proofs.AtRest.{rests_by_parts, children_at_rest}
 use Rattle.sc_graph.proofs.control.Control.fits.Goals as goal
 

@@ -1,4 +1,4 @@
-use Rattle.std.proofs.Common.{◌≡◌, ◌<◌, ◌≤◌, Some, None, slice_get, length, arith}
+use Rattle.std.proofs.Common.{◌≡◌, Some, None, slice_get, arith}
 use Rattle.std.proofs.lemmas.Grind.{common_steps}
 use Rattle.std.proofs.lemmas.Option.{gets}
 use Rattle.sc_graph.proofs.Names.{name_decides, no_name}

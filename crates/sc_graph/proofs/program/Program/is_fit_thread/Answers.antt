@@ -1,4 +1,4 @@
-use Rattle.std.proofs.Common.{◌≡◌, true, sym, ◌∙◌}
+use Rattle.std.proofs.Common.{◌≡◌, true}
 use Rattle.sc_graph.proofs.program.Program.is_fit_thread.Goals as goal
 use Rattle.sc_graph.proofs.program.Program.is_fit_thread.Goals.{then-parent_fits, else-parent_fits}
 

@@ -1,5 +1,4 @@
-use Rattle.std.proofs.Common.{ℕ, ◌<◌}
-use Rattle.sc_graph.specs.Links.{Links}
+use Rattle.sc_graph.specs.Inside.Links.{Links}
 use Rattle.sc_graph.proofs.Links.{FoundBelow}
 use Rattle.sc_graph.proofs.program.Program.only_node.Given as goal
 

@@ -1,7 +1,0 @@
-use Rattle.std.proofs.Common.{ℕ}
-use Rattle.verifier.specs.Pairs.{UpdatesAt}
-use Rattle.verifier.proofs.Listing.{ListsBelow}
-use Rattle.verifier.proofs.users.updates_of.Given as goal
-
-abbrev pub invariant-loop-n : goal.invariant-loop-n
-invariant-loop-n l = ListsBelow l.found.items (UpdatesAt l.program l.x) l.n
