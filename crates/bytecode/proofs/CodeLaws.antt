@@ -5,6 +5,7 @@ use Rattle.std.specs.List.{flat_map}
 use Rattle.std.specs.Int.{w32, cast_signed, cast_unsigned}
 use Rattle.std.proofs.Math.Facts.{sfits_to_z, Fits-of_z}
 use Rattle.std.proofs.lemmas.Int.{to_z-of_z, of_z-to_z}
+use Rattle.std.proofs.lemmas.Option.{same_Some}
 use Rattle.sc_values.specs.declared.value.Value.TheVariants as value
 use Rattle.sc_values.specs.declared.operation.Operation.{Operation}
 use Rattle.sc_values.specs.declared.operation.Operation.TheVariants as op
@@ -18,14 +19,14 @@ use Rattle.bytecode.specs.Reading.{◌>>=◌, or_field, each_at}
 use Rattle.bytecode.specs.Reading.Fields.{byte_at}
 use Rattle.bytecode.specs.Reading.Codes.{operators, operation_body, operation_at, code_at}
 use Rattle.bytecode.proofs.Readers.{IsBytes, bind_ok, chosen, ok_is, Takes, then_takes, IsRead, first, each_takes, each_again}
-use Rattle.bytecode.proofs.FieldLaws.{byte_law, number16_law, number32_law, flag_law, length_law, given, given_is}
+use Rattle.bytecode.proofs.FieldLaws.{byte_law, number16_law, number32_law, flag_law, length_law, given}
 
 -- what an operator from number 3 on is written as
 abbrev IsNumbered : ℕ → Operation → Type 0
 IsNumbered n o = (operation_bytes o ≡ suc (suc (suc n)) ∷ []) × OperationFits o
 
 numbered : (n : ℕ) (o a : Operation) → given a ≡ given o → IsNumbered n a → IsNumbered n o
-numbered n o a e is = subst (IsNumbered n) (given_is a o e) is
+numbered n o a e is = subst (IsNumbered n) (same_Some a o e) is
 
 operator_place : (n : ℕ) (o : Operation) → slice_get operators n ≡ Some o → IsNumbered n o
 unfolding operation_bytes

@@ -2,7 +2,8 @@
 use Rattle.std.proofs.Common.{◌≡◌, ℕ, zero, suc, ◌^◌, ◌<◌, ◌≤◌, Bool, true, false, cond, ltb, leb, List, [], ◌∷◌, ◌++◌, length, take, drop, Option, Some, None, IsTrue, Ok, Err, refl, sym, ap, subst, arith}
 use Rattle.std.specs.Prelude.{slice_get, ◌&&◌}
 use Rattle.std.specs.Int.{Width, w16, w32, byte_len, to_le_bytes, from_le_bytes}
-use Rattle.std.proofs.lemmas.Bool.{ltb-false, le-ltb, leb-true, le-leb}
+use Rattle.std.proofs.lemmas.Bool.{ltb-false, le-ltb, leb-true, le-leb, and_parts}
+use Rattle.std.proofs.lemmas.Option.{same_Some}
 use Rattle.std.proofs.lemmas.List.{take_at, drop_at, take-append-drop, length-append, length-take}
 use Rattle.std.proofs.lemmas.Nat.{le_bytes_2, le_bytes_4, from_le_bytes-to_le_bytes_2, from_le_bytes-to_le_bytes_4}
 use Rattle.sc_values.specs.declared.value.Kind.{Kind}
@@ -128,16 +129,13 @@ choice_law numbered = record { takes = choice_takes numbered; again = choice_aga
 abbrev pub given : {A : Type 0} → A → Option A
 given x = Some x
 
-pub given_is : {A : Type 0} (x y : A) → given x ≡ given y → x ≡ y
-given_is x y e = cc
-
 flag_at : (a : Bool) → slice_get flags (flag_number a) ≡ Some a
 flag_at false = refl
 flag_at true = refl
 
 flag_place : (n : ℕ) (a : Bool) → slice_get flags n ≡ Some a → flag_number a ≡ n
-flag_place zero a e = ap flag_number (sym (given_is false a e))
-flag_place (suc zero) a e = ap flag_number (sym (given_is true a e))
+flag_place zero a e = ap flag_number (sym (same_Some false a e))
+flag_place (suc zero) a e = ap flag_number (sym (same_Some true a e))
 flag_place (suc (suc n)) a e = absurd cc
 
 role_at : (a : Role) → slice_get roles (role_number a) ≡ Some a
@@ -146,9 +144,9 @@ role_at role.Output = refl
 role_at role.Local = refl
 
 role_place : (n : ℕ) (a : Role) → slice_get roles n ≡ Some a → role_number a ≡ n
-role_place zero a e = ap role_number (sym (given_is role.Input a e))
-role_place (suc zero) a e = ap role_number (sym (given_is role.Output a e))
-role_place (suc (suc zero)) a e = ap role_number (sym (given_is role.Local a e))
+role_place zero a e = ap role_number (sym (same_Some role.Input a e))
+role_place (suc zero) a e = ap role_number (sym (same_Some role.Output a e))
+role_place (suc (suc zero)) a e = ap role_number (sym (same_Some role.Local a e))
 role_place (suc (suc (suc n))) a e = absurd cc
 
 kind_at : (a : Kind) → slice_get kinds (kind_number a) ≡ Some a
@@ -156,8 +154,8 @@ kind_at kind.Bool = refl
 kind_at kind.Int = refl
 
 kind_place : (n : ℕ) (a : Kind) → slice_get kinds n ≡ Some a → kind_number a ≡ n
-kind_place zero a e = ap kind_number (sym (given_is kind.Bool a e))
-kind_place (suc zero) a e = ap kind_number (sym (given_is kind.Int a e))
+kind_place zero a e = ap kind_number (sym (same_Some kind.Bool a e))
+kind_place (suc zero) a e = ap kind_number (sym (same_Some kind.Int a e))
 kind_place (suc (suc n)) a e = absurd cc
 
 combination_at : (a : Combination) → slice_get combinations (combination_number a) ≡ Some a
@@ -169,12 +167,12 @@ combination_at combine.And = refl
 combination_at combine.Or = refl
 
 combination_place : (n : ℕ) (a : Combination) → slice_get combinations n ≡ Some a → combination_number a ≡ n
-combination_place zero a e = ap combination_number (sym (given_is combine.Add a e))
-combination_place (suc zero) a e = ap combination_number (sym (given_is combine.Multiply a e))
-combination_place (suc (suc zero)) a e = ap combination_number (sym (given_is combine.Min a e))
-combination_place (suc (suc (suc zero))) a e = ap combination_number (sym (given_is combine.Max a e))
-combination_place (suc (suc (suc (suc zero)))) a e = ap combination_number (sym (given_is combine.And a e))
-combination_place (suc (suc (suc (suc (suc zero))))) a e = ap combination_number (sym (given_is combine.Or a e))
+combination_place zero a e = ap combination_number (sym (same_Some combine.Add a e))
+combination_place (suc zero) a e = ap combination_number (sym (same_Some combine.Multiply a e))
+combination_place (suc (suc zero)) a e = ap combination_number (sym (same_Some combine.Min a e))
+combination_place (suc (suc (suc zero))) a e = ap combination_number (sym (same_Some combine.Max a e))
+combination_place (suc (suc (suc (suc zero)))) a e = ap combination_number (sym (same_Some combine.And a e))
+combination_place (suc (suc (suc (suc (suc zero))))) a e = ap combination_number (sym (same_Some combine.Or a e))
 combination_place (suc (suc (suc (suc (suc (suc n)))))) a e = absurd cc
 
 flags_numbered : AreNumbered flags flag_number
@@ -203,18 +201,13 @@ combination_law = choice_law combinations_numbered
 
 -- ---- lengths
 
-both_true : (a b : Bool) → (a && b) ≡ true → (a ≡ true) × (b ≡ true)
-both_true true true e = (refl, refl)
-both_true true false e = absurd cc
-both_true false b e = absurd cc
-
 length_takes : (least most : ℕ) (bytes : List ℕ) (x : ℕ × List ℕ) → IsBytes bytes → length_at least most bytes ≡ Ok x
     → Takes bytes (x.0 ∷ []) x.1 × ((least ≤ x.0) × (x.0 ≤ most))
 unfolding length_at
 length_takes least most bytes x fits e =
     let a = first byte_law bytes (λ len. cond (leb least len.0 && leb len.0 most) (Ok len) (Err (fault.Field (length bytes)))) x fits e in
     let g = passed (leb least a.got.0 && leb a.got.0 most) (fault.Field (length bytes)) a.got x a.next in
-    let within = both_true _ _ g.0 in
+    let within = and_parts _ _ g.0 in
     subst (λ (p : ℕ × List ℕ). Takes bytes (p.0 ∷ []) p.1 × ((least ≤ p.0) × (p.0 ≤ most))) g.1
     (a.took, (leb-true _ _ within.0, leb-true _ _ within.1))
 
@@ -234,7 +227,7 @@ name_when false text name e = absurd cc
 -- a name has one to 64 bytes
 name_length : (name : List ℕ) → IsTrue (is_name name) → (1 ≤ length name) × (length name ≤ name_limit)
 name_length [] is = absurd cc
-name_length (b ∷ rest) is = (omega arith, leb-true _ _ (both_true _ _ is).1)
+name_length (b ∷ rest) is = (omega arith, leb-true _ _ (and_parts _ _ is).1)
 
 named : (bytes text name : List ℕ) → or_field bytes (name_of text) ≡ Ok name → IsTrue (is_name text) × (text ≡ name)
 unfolding name_of

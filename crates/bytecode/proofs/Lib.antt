@@ -8,3 +8,4 @@ pub mod NodeLaws
 pub mod ImageRows
 pub mod ImageLaws
 pub mod Decoding
+pub mod Offsets

@@ -29,13 +29,29 @@ fails_of fault.Version read total h fails = h fault.Version fails
 fails_of fault.Trailing read total h fails = h fault.Trailing fails
 fails_of (fault.Field left) read total h fails = h (fault.Field left) fails
 
+pub stops : {A : Type 0} (read : Reader A) (e : Fault) (front : List A) (count i : ℕ) (bytes : List ℕ) (total : Result (List A × List ℕ) Fault) → i < count → read bytes ≡ Err e
+    → with_front front (each_at read (count - i) bytes) ≡ total → total ≡ Err e
+unfolding each_at
+stops {A} read e front count i bytes total lt h so_far =
+    let k : count - i ≡ suc (count - (i + 1)) = omega arith in
+    sym so_far ∙ rw (k, h) refl
+
 pub ends : {A : Type 0} (read : Reader A) (e : Fault) (front : List A) (count i : ℕ) (bytes : List ℕ) (total : Result (List A × List ℕ) Fault) → i < count → Fails e (read bytes)
     → with_front front (each_at read (count - i) bytes) ≡ total → Fails e total
-unfolding each_at
-ends {A} read e front count i bytes total lt h so_far =
-    let k : count - i ≡ suc (count - (i + 1)) = omega arith in
-    let fails : (f : Fault) → read bytes ≡ Err f → total ≡ Err f = λ f at. sym so_far ∙ rw (k, at) refl in
-    fails_of e (read bytes) total fails h
+ends read e front count i bytes total lt h so_far = fails_of e (read bytes) total (λ f at. stops read f front count i bytes total lt at so_far) h
+
+-- where what reads takes no memory
+pub fails_itself : {Y : Type 0} (e : Fault) (total : Result Y Fault) → total ≡ Err e → Fails e total
+fails_itself fault.Memory total h = tt
+fails_itself fault.Short total h = h
+fails_itself fault.Magic total h = h
+fails_itself fault.Version total h = h
+fails_itself fault.Trailing total h = h
+fails_itself (fault.Field left) total h = h
+
+pub ends_at : {A : Type 0} (read : Reader A) (e : Fault) (front : List A) (count i : ℕ) (bytes : List ℕ) (total : Result (List A × List ℕ) Fault) → i < count → read bytes ≡ Err e
+    → with_front front (each_at read (count - i) bytes) ≡ total → Fails e total
+ends_at read e front count i bytes total lt h so_far = fails_itself e total (stops read e front count i bytes total lt h so_far)
 
 pub is_done : {A : Type 0} (read : Reader A) (front : List A) (count i : ℕ) (bytes : List ℕ) (total : Result (List A × List ℕ) Fault) → count ≤ i → with_front front (each_at read (count - i) bytes) ≡ total → total ≡ Ok (front, bytes)
 unfolding each_at

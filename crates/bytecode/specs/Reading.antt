@@ -22,6 +22,11 @@ abbrev pub Gives : {X Y : Type 0} → (X → Y) → Result X Fault → Result Y 
 Gives view (Ok x) read = read ≡ Ok (view x)
 Gives view (Err e) read = Fails e read
 
+-- What a function that takes no memory returned, seen by view, is what reading gives.
+abbrev pub Reads : {X Y : Type 0} → (X → Y) → Result X Fault → Result Y Fault → Type 0
+Reads view (Ok x) read = read ≡ Ok (view x)
+Reads view (Err e) read = read ≡ Err e
+
 -- a choice, or the fault of the field that begins these bytes
 abbrev pub or_field : {A : Type 0} → List ℕ → Option A → Result A Fault
 or_field bytes None = Err (fault.Field (length bytes))

@@ -4,6 +4,7 @@
 mod fault;
 mod image;
 mod laws;
+mod layout;
 mod reading;
 mod rows;
 mod writing;

@@ -2,7 +2,7 @@
 
 ghost use Rattle.std.specs.Prelude.{◌≤◌};
 ghost use Rattle.sc_values.specs.Limits.{operation_limit};
-ghost use Rattle.bytecode.specs.Reading.{Gives, each_at};
+ghost use Rattle.bytecode.specs.Reading.{Reads, each_at};
 ghost use Rattle.bytecode.specs.Reading.Codes.{operation_body, operation_at, code_at};
 
 use crate::fault::Fault;
@@ -30,7 +30,7 @@ const OPERATORS: [Operation; 15] = [
 
 fn operator<'b>(bytes: &[u8], number: u8, rest: &'b [u8]) -> Result<(Operation, &'b [u8]), Fault>
     requires { 3 ≤ number }
-    ensures { Gives (λ x. (x.0, x.1.now)) result (operation_body bytes.now number rest.now) }
+    ensures { Reads (λ x. (x.0, x.1.now)) result (operation_body bytes.now number rest.now) }
 {
     match at(&OPERATORS, number as usize - 3) {
         Some(operator) => Ok((*operator, rest)),
@@ -40,7 +40,7 @@ fn operator<'b>(bytes: &[u8], number: u8, rest: &'b [u8]) -> Result<(Operation, 
 
 #[tactic(auto, unfolding(crate::specs::Reading::Codes::operation_body))]
 fn body<'b>(bytes: &[u8], number: u8, rest: &'b [u8]) -> Result<(Operation, &'b [u8]), Fault>
-    ensures { Gives (λ x. (x.0, x.1.now)) result (operation_body bytes.now number rest.now) }
+    ensures { Reads (λ x. (x.0, x.1.now)) result (operation_body bytes.now number rest.now) }
 {
     match number {
         0 => {
@@ -61,7 +61,7 @@ fn body<'b>(bytes: &[u8], number: u8, rest: &'b [u8]) -> Result<(Operation, &'b 
 
 #[tactic(auto, unfolding(crate::specs::Reading::Codes::operation_at))]
 fn operation(bytes: &[u8]) -> Result<(Operation, &[u8]), Fault>
-    ensures { Gives (λ x. (x.0, x.1.now)) result (operation_at bytes.now) }
+    ensures { Reads (λ x. (x.0, x.1.now)) result (operation_at bytes.now) }
 {
     let (number, rest) = byte(bytes)?;
     body(bytes, number, rest)
@@ -69,7 +69,7 @@ fn operation(bytes: &[u8]) -> Result<(Operation, &[u8]), Fault>
 
 fn operations(count: u8, bytes: &[u8]) -> Result<(Code, &[u8]), Fault>
     requires { count ≤ operation_limit }
-    ensures { Gives (λ x. (x.0, x.1.now)) result (each_at operation_at count bytes.now) }
+    ensures { Reads (λ x. (x.0, x.1.now)) result (each_at operation_at count bytes.now) }
 {
     let mut code = Code::new();
     let mut rest = bytes;
@@ -81,9 +81,10 @@ fn operations(count: u8, bytes: &[u8]) -> Result<(Code, &[u8]), Fault>
     Ok((code, rest))
 }
 
+/// A code: its number of operations, and these.
 #[tactic(auto, unfolding(crate::specs::Reading::Codes::code_at))]
 pub fn code(bytes: &[u8]) -> Result<(Code, &[u8]), Fault>
-    ensures { Gives (λ x. (x.0, x.1.now)) result (code_at bytes.now) }
+    ensures { Reads (λ x. (x.0, x.1.now)) result (code_at bytes.now) }
 {
     let (count, rest) = length(0, 64, bytes)?;
     operations(count, rest)

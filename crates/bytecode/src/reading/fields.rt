@@ -2,7 +2,7 @@
 
 ghost use Rattle.std.specs.Prelude.{◌≤◌, IfOk};
 ghost use Rattle.std.specs.Int.{w16, w32};
-ghost use Rattle.bytecode.specs.Reading.{Gives};
+ghost use Rattle.bytecode.specs.Reading.{Reads};
 ghost use Rattle.bytecode.specs.Reading.Fields.{bytes_at, byte_at, number_at, choice_at, length_at, name_at, variable_at};
 
 use crate::fault::Fault;
@@ -24,9 +24,10 @@ pub const COMBINATIONS: [Combination; 6] = [
     Combination::Or,
 ];
 
+/// So many bytes, and those after them.
 #[tactic(auto, unfolding(crate::specs::Reading::Fields::bytes_at))]
 pub fn front(bytes: &[u8], count: usize) -> Result<(&[u8], &[u8]), Fault>
-    ensures { Gives (λ x. (x.0.now, x.1.now)) result (bytes_at count bytes.now) }
+    ensures { Reads (λ x. (x.0.now, x.1.now)) result (bytes_at count bytes.now) }
 {
     if bytes.len() < count {
         return Err(Fault::Short);
@@ -34,9 +35,10 @@ pub fn front(bytes: &[u8], count: usize) -> Result<(&[u8], &[u8]), Fault>
     Ok(bytes.split_at(count))
 }
 
+/// One byte, and those after it.
 #[tactic(auto, unfolding(crate::specs::Reading::Fields::byte_at))]
 pub fn byte(bytes: &[u8]) -> Result<(u8, &[u8]), Fault>
-    ensures { Gives (λ x. (x.0, x.1.now)) result (byte_at bytes.now) }
+    ensures { Reads (λ x. (x.0, x.1.now)) result (byte_at bytes.now) }
 {
     match bytes {
         [] => Err(Fault::Short),
@@ -44,9 +46,10 @@ pub fn byte(bytes: &[u8]) -> Result<(u8, &[u8]), Fault>
     }
 }
 
+/// A number of two bytes, the lower one first.
 #[tactic(auto, unfolding(crate::specs::Reading::Fields::number_at, crate::specs::Reading::Fields::bytes_at))]
 pub fn number16(bytes: &[u8]) -> Result<(u16, &[u8]), Fault>
-    ensures { Gives (λ x. (x.0, x.1.now)) result (number_at w16 bytes.now) }
+    ensures { Reads (λ x. (x.0, x.1.now)) result (number_at w16 bytes.now) }
 {
     if bytes.len() < 2 {
         return Err(Fault::Short);
@@ -56,9 +59,10 @@ pub fn number16(bytes: &[u8]) -> Result<(u16, &[u8]), Fault>
     Ok((number, rest))
 }
 
+/// A number of four bytes, the lowest one first.
 #[tactic(auto, unfolding(crate::specs::Reading::Fields::number_at, crate::specs::Reading::Fields::bytes_at))]
 pub fn number32(bytes: &[u8]) -> Result<(u32, &[u8]), Fault>
-    ensures { Gives (λ x. (x.0, x.1.now)) result (number_at w32 bytes.now) }
+    ensures { Reads (λ x. (x.0, x.1.now)) result (number_at w32 bytes.now) }
 {
     if bytes.len() < 4 {
         return Err(Fault::Short);
@@ -71,7 +75,7 @@ pub fn number32(bytes: &[u8]) -> Result<(u32, &[u8]), Fault>
 /// The choice whose place among the choices is the first byte.
 #[tactic(auto, unfolding(crate::specs::Reading::Fields::choice_at))]
 pub fn choice<'b, T: Copy>(choices: &[T], bytes: &'b [u8]) -> Result<(T, &'b [u8]), Fault>
-    ensures { Gives (λ x. (x.0, x.1.now)) result (choice_at choices.now bytes.now) }
+    ensures { Reads (λ x. (x.0, x.1.now)) result (choice_at choices.now bytes.now) }
 {
     let (number, rest) = byte(bytes)?;
     match choices.get(number as usize) {
@@ -83,7 +87,7 @@ pub fn choice<'b, T: Copy>(choices: &[T], bytes: &'b [u8]) -> Result<(T, &'b [u8
 /// A length between two bounds.
 #[tactic(auto, unfolding(crate::specs::Reading::Fields::length_at))]
 pub fn length(least: u8, most: u8, bytes: &[u8]) -> Result<(u8, &[u8]), Fault>
-    ensures gives { Gives (λ x. (x.0, x.1.now)) result (length_at least most bytes.now) }
+    ensures gives { Reads (λ x. (x.0, x.1.now)) result (length_at least most bytes.now) }
     ensures bounds { IfOk result (λ x. (least ≤ x.0) × (x.0 ≤ most)) }
 {
     let (length, rest) = byte(bytes)?;
@@ -96,7 +100,7 @@ pub fn length(least: u8, most: u8, bytes: &[u8]) -> Result<(u8, &[u8]), Fault>
 
 #[tactic(auto, unfolding(crate::specs::Reading::Fields::name_at, crate::specs::Reading::Fields::name_of))]
 fn name(bytes: &[u8]) -> Result<(Name, &[u8]), Fault>
-    ensures { Gives (λ x. (x.0, x.1.now)) result (name_at bytes.now) }
+    ensures { Reads (λ x. (x.0, x.1.now)) result (name_at bytes.now) }
 {
     let (length, rest) = length(1, 64, bytes)?;
     let (text, after) = front(rest, length as usize)?;
@@ -106,9 +110,10 @@ fn name(bytes: &[u8]) -> Result<(Name, &[u8]), Fault>
     }
 }
 
+/// A variable: role, kind and name.
 #[tactic(auto, unfolding(crate::specs::Reading::Fields::variable_at))]
 pub fn variable(bytes: &[u8]) -> Result<(Variable, &[u8]), Fault>
-    ensures { Gives (λ x. (x.0, x.1.now)) result (variable_at bytes.now) }
+    ensures { Reads (λ x. (x.0, x.1.now)) result (variable_at bytes.now) }
 {
     let (role, rest) = choice(&ROLES, bytes)?;
     let (kind, rest) = choice(&KINDS, rest)?;

@@ -1,24 +1,25 @@
 //! Whole images from bytes.
 
-ghost use Rattle.std.specs.Prelude.{◌≡◌, length, IfOk, Ok};
+ghost use Rattle.std.specs.Prelude.{◌≡◌, ◌<◌, ℕ, length, IfOk, Ok};
+ghost use Rattle.std.specs.Result.{IsErrOf};
 ghost use Rattle.sc_graph.specs.Layout.{FitsLayout};
 ghost use Rattle.bytecode.specs.Layout.{thread_rows, node_rows, AreThreads, AreNodes};
+ghost use Rattle.bytecode.specs.declared.fault.DecodeFault.TheVariants.{Field};
 ghost use Rattle.bytecode.specs.Image.{Image};
 ghost use Rattle.bytecode.specs.Spells.{Spells};
-ghost use Rattle.bytecode.specs.Reading.{Gives, each_at};
+ghost use Rattle.bytecode.specs.Reading.{Gives, Reads, each_at};
 ghost use Rattle.bytecode.specs.Reading.Fields.{variable_at};
 ghost use Rattle.bytecode.specs.Reading.Nodes.{thread_at, node_at};
 ghost use Rattle.bytecode.specs.Reading.Image.{header_at, body_at, image_at, image_of, reading, Answers};
 
 use crate::fault::{DecodeFault, Fault};
 use crate::image::Image;
+use crate::layout::MAGIC;
 use crate::reading::fields::{byte, front, number16, number32, variable};
 use crate::reading::nodes::{node, thread};
 use sc_graph::{Node, Program, Tables, Thread, Variable};
 use sqlite_items::Items;
 use std::alloc::Global;
-
-const MAGIC: [u8; 4] = [0x53, 0x43, 0x43, 0x42];
 
 // Threads, and a bound for each.
 #[derive(Drop)]
@@ -38,7 +39,7 @@ struct Nodes {
 
 #[tactic(auto, unfolding(crate::specs::Reading::Image::header_at))]
 fn header(version: u8, bytes: &[u8]) -> Result<&[u8], Fault>
-    ensures { Gives (λ x. x.now) result (header_at version bytes.now) }
+    ensures { Reads (λ x. x.now) result (header_at version bytes.now) }
 {
     let (start, rest) = front(bytes, 4)?;
     if start != MAGIC.as_slice() {
@@ -211,6 +212,8 @@ pub fn decode(alloc: Global, bytes: &[u8]) -> Result<Image, DecodeFault>
     ensures only { (i : Image) → Spells 1 bytes.now i → Answers result (Ok i) }
     // Which fault it is.
     ensures exact { Answers result (reading 1 bytes.now) }
+    // A bad field begins at one of the bytes.
+    ensures within { (offset : ℕ) → IsErrOf result (Field offset) → offset < length bytes.now }
 {
     read(alloc, 1, bytes)
 }

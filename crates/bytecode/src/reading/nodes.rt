@@ -2,7 +2,7 @@
 
 ghost use Rattle.std.specs.Prelude.{◌≡◌};
 ghost use Rattle.std.specs.Int.{w16};
-ghost use Rattle.bytecode.specs.Reading.{Gives, each_at};
+ghost use Rattle.bytecode.specs.Reading.{Gives, Reads, each_at};
 ghost use Rattle.bytecode.specs.Reading.Fields.{number_at};
 ghost use Rattle.bytecode.specs.Reading.Nodes.{parent_of, thread_at, assign_at, update_at, cond_at, fork_at, step_body, step_at, node_at};
 
@@ -10,12 +10,9 @@ use crate::fault::Fault;
 use crate::reading::codes::code;
 use crate::reading::fields::{COMBINATIONS, FLAGS, byte, choice, number16, number32};
 use crate::rows::{NodeRow, ThreadRow};
-use sc_graph::{Node, Step, Thread, ThreadId};
+use sc_graph::{NO_PARENT, Node, Step, Thread, ThreadId};
 use sqlite_items::Items;
 use std::alloc::Global;
-
-// What stands for the parent of a thread that has none.
-const NO_PARENT: u16 = 65535;
 
 fn parent(number: u16) -> Option<ThreadId>
     ensures { result ≡ parent_of number }
@@ -27,9 +24,10 @@ fn parent(number: u16) -> Option<ThreadId>
     }
 }
 
+/// A thread and its bound.
 #[tactic(auto, unfolding(crate::specs::Reading::Nodes::thread_at))]
 pub fn thread(bytes: &[u8]) -> Result<(ThreadRow, &[u8]), Fault>
-    ensures { Gives (λ x. (x.0, x.1.now)) result (thread_at bytes.now) }
+    ensures { Reads (λ x. (x.0, x.1.now)) result (thread_at bytes.now) }
 {
     let (number, rest) = number16(bytes)?;
     let (entry, rest) = number16(rest)?;
@@ -41,7 +39,7 @@ pub fn thread(bytes: &[u8]) -> Result<(ThreadRow, &[u8]), Fault>
 
 #[tactic(auto, unfolding(crate::specs::Reading::Nodes::assign_at))]
 fn assign(bytes: &[u8]) -> Result<(Step, &[u8]), Fault>
-    ensures { Gives (λ x. (x.0, x.1.now)) result (assign_at bytes.now) }
+    ensures { Reads (λ x. (x.0, x.1.now)) result (assign_at bytes.now) }
 {
     let (variable, rest) = number16(bytes)?;
     let (next, rest) = number16(rest)?;
@@ -56,7 +54,7 @@ fn assign(bytes: &[u8]) -> Result<(Step, &[u8]), Fault>
 
 #[tactic(auto, unfolding(crate::specs::Reading::Nodes::update_at))]
 fn update(bytes: &[u8]) -> Result<(Step, &[u8]), Fault>
-    ensures { Gives (λ x. (x.0, x.1.now)) result (update_at bytes.now) }
+    ensures { Reads (λ x. (x.0, x.1.now)) result (update_at bytes.now) }
 {
     let (variable, rest) = number16(bytes)?;
     let (combine, rest) = choice(&COMBINATIONS, rest)?;
@@ -73,7 +71,7 @@ fn update(bytes: &[u8]) -> Result<(Step, &[u8]), Fault>
 
 #[tactic(auto, unfolding(crate::specs::Reading::Nodes::cond_at))]
 fn cond(bytes: &[u8]) -> Result<(Step, &[u8]), Fault>
-    ensures { Gives (λ x. (x.0, x.1.now)) result (cond_at bytes.now) }
+    ensures { Reads (λ x. (x.0, x.1.now)) result (cond_at bytes.now) }
 {
     let (then, rest) = number16(bytes)?;
     let (other, rest) = number16(rest)?;
@@ -138,6 +136,7 @@ fn step(alloc: Global, bytes: &[u8]) -> Result<(Step, &[u8]), Fault>
     body(alloc, bytes, tag, rest)
 }
 
+/// A node and its entries in the tables.
 #[tactic(auto, unfolding(crate::specs::Reading::Nodes::node_at))]
 pub fn node(alloc: Global, bytes: &[u8]) -> Result<(NodeRow, &[u8]), Fault>
     ensures { Gives (λ x. (x.0, x.1.now)) result (node_at bytes.now) }

@@ -78,6 +78,7 @@ fn put_operations(out: &mut Vec<u8>, operations: &[Operation]) -> Result<(), All
     Ok(())
 }
 
+/// A code: its number of operations, and these.
 #[tactic(auto, unfolding(crate::specs::Codes::code_bytes))]
 pub fn put_code(out: &mut Vec<u8>, code: &Code) -> Result<(), AllocError>
     ensures written { OnOk result (out.new.items ≡ out.old.items ++ code_bytes code.now) }

@@ -29,6 +29,7 @@ fn kind_byte(kind: Kind) -> u8
     }
 }
 
+/// The number of a combination.
 pub fn combination_byte(combine: Combination) -> u8
     ensures { result ≡ combination_number combine }
 {
@@ -42,18 +43,22 @@ pub fn combination_byte(combine: Combination) -> u8
     }
 }
 
+/// A number of two bytes, the lower one first.
 #[tactic(auto, unfolding(crate::specs::Fields::u16_bytes))]
 pub fn put16(out: &mut Vec<u8>, number: u16) -> Result<(), AllocError>
     ensures { OnOk result (out.new.items ≡ out.old.items ++ u16_bytes number) }
 {
-    out.extend_from_slice(&number.to_le_bytes())
+    let bytes: [u8; 2] = number.to_le_bytes();
+    out.extend_from_slice(&bytes)
 }
 
+/// A number of four bytes, the lowest one first.
 #[tactic(auto, unfolding(crate::specs::Fields::u32_bytes))]
 pub fn put32(out: &mut Vec<u8>, number: u32) -> Result<(), AllocError>
     ensures { OnOk result (out.new.items ≡ out.old.items ++ u32_bytes number) }
 {
-    out.extend_from_slice(&number.to_le_bytes())
+    let bytes: [u8; 4] = number.to_le_bytes();
+    out.extend_from_slice(&bytes)
 }
 
 #[tactic(auto, unfolding(crate::specs::Fields::name_bytes))]
@@ -66,6 +71,7 @@ fn put_name(out: &mut Vec<u8>, name: &Name) -> Result<(), AllocError>
     out.extend_from_slice(text)
 }
 
+/// A variable: role, kind and name.
 #[tactic(auto, unfolding(crate::specs::Fields::variable_bytes))]
 pub fn put_variable(out: &mut Vec<u8>, variable: &Variable) -> Result<(), AllocError>
     ensures written { OnOk result (out.new.items ≡ out.old.items ++ variable_bytes variable.now) }

@@ -10,12 +10,11 @@ ghost use Rattle.bytecode.specs.Spells.{Spells};
 ghost use Rattle.bytecode.specs.Fits.{VariableFits, ThreadFits, NodeFits};
 
 use crate::image::Image;
+use crate::layout::MAGIC;
 use crate::writing::fields::{put_variable, put16, put32};
 use crate::writing::nodes::{put_node, put_thread};
 use sc_graph::{Program, Tables, Variable};
 use std::alloc::{AllocError, Global};
-
-const MAGIC: [u8; 4] = [0x53, 0x43, 0x43, 0x42];
 
 fn put_variables(out: &mut Vec<u8>, variables: &[Variable]) -> Result<(), AllocError>
     ensures written { OnOk result (out.new.items ≡ out.old.items ++ flat_map variable_bytes variables.now) }

@@ -10,12 +10,10 @@ ghost use Rattle.bytecode.specs.Fits.{ThreadFits, StepFits, NodeFits};
 
 use crate::writing::codes::put_code;
 use crate::writing::fields::{combination_byte, put16, put32};
-use sc_graph::{Node, NodeId, Step, Thread, ThreadId};
+use sc_graph::{NO_PARENT, Node, NodeId, Step, Thread, ThreadId};
 use std::alloc::AllocError;
 
-// What stands for the parent of a thread that has none.
-const NO_PARENT: ThreadId = 65535;
-
+/// A thread and its bound.
 #[tactic(auto, unfolding(crate::specs::Nodes::thread_bytes))]
 pub fn put_thread(out: &mut Vec<u8>, thread: &Thread, bound: u32) -> Result<(), AllocError>
     requires { thread.now.parent ≢ Some no_parent }
@@ -97,6 +95,7 @@ fn put_step(out: &mut Vec<u8>, step: &Step) -> Result<(), AllocError>
     }
 }
 
+/// A node and its entries in the tables.
 #[tactic(auto, unfolding(crate::specs::Nodes::node_bytes))]
 pub fn put_node(
     out: &mut Vec<u8>,

@@ -3,13 +3,13 @@ use Rattle.std.proofs.lemmas.Result.{err_from_is_err_and}
 use Rattle.std.proofs.lemmas.List.{length-append}
 use Rattle.bytecode.specs.Reading.{each_at}
 use Rattle.bytecode.specs.Reading.Codes.{operation_at}
-use Rattle.bytecode.proofs.Loop.{goes_on, ends, is_done}
+use Rattle.bytecode.proofs.Loop.{goes_on, stops, is_done}
 use Rattle.bytecode.proofs.reading.codes.operations.Goals as goal
 
 pub returns-in_err-operation : goal.returns-in_err-operation
 returns-in_err-operation c =
     let p = err_from_is_err_and c.from_residual.result c.from_residual.ensures.1 in
-    rw (p.1, p.2) (ends operation_at c.in_err-operation.field-0.0 c.loop.code c.args.count c.loop.counter c.loop.rest.now (each_at operation_at c.args.count c.args.bytes.now) c.loop-test.true c.in_err-operation.ensures c.loop.invariant.read)
+    rw (p.1, p.2) (stops operation_at c.in_err-operation.field-0.0 c.loop.code c.args.count c.loop.counter c.loop.rest.now (each_at operation_at c.args.count c.args.bytes.now) c.loop-test.true c.in_err-operation.ensures c.loop.invariant.read)
 
 pub loop-preserved : goal.loop-preserved
 loop-preserved c =

@@ -3,13 +3,13 @@ use Rattle.bytecode.specs.Layout.{thread_rows}
 use Rattle.bytecode.specs.Reading.{each_at}
 use Rattle.bytecode.specs.Reading.Nodes.{thread_at}
 use Rattle.bytecode.proofs.Columns.{thread_rows_push, are_threads_push}
-use Rattle.bytecode.proofs.Loop.{goes_on, ends, is_done}
+use Rattle.bytecode.proofs.Loop.{goes_on, ends_at, is_done}
 use Rattle.bytecode.proofs.reading.image.thread_columns.Goals as goal
 
 pub returns-in_err-row-clause-gives : goal.returns-in_err-row-clause-gives
 returns-in_err-row-clause-gives c =
     let p = err_from_is_err_and c.from_residual.result c.from_residual.ensures.1 in
-    rw (p.1, p.2) (ends thread_at c.in_err-row.field-0.0 (thread_rows c.loop.threads c.loop.bounds) c.args.count c.loop.counter c.loop.rest.now (each_at thread_at c.args.count c.args.bytes.now) c.loop-test.true c.in_err-row.ensures c.loop.invariant.read)
+    rw (p.1, p.2) (ends_at thread_at c.in_err-row.field-0.0 (thread_rows c.loop.threads c.loop.bounds) c.args.count c.loop.counter c.loop.rest.now (each_at thread_at c.args.count c.args.bytes.now) c.loop-test.true c.in_err-row.ensures c.loop.invariant.read)
 
 pub loop-preserved : goal.loop-preserved
 loop-preserved c =
