@@ -18,10 +18,12 @@ use Rattle.sc_graph.specs.Tick.{IsConfiguration}
 use Rattle.sc_graph.specs.Valid.{IsValid}
 use Rattle.sc_graph.specs.Limits.{budget_limit}
 use Rattle.tick_laws.proofs.Lists.{slice_get_there}
-use Rattle.tick_core.specs.Claims.{Claim, HasFormedCode, HasOperands, IsWork, operations_of, present_operands}
+use Rattle.tick_core.specs.Claims.{Claim, HasOperands, operations_of, present_operands}
+use Rattle.tick_core.specs.Inside.Work.{HasFormedCode, IsWork}
 use Rattle.tick_core.specs.Stepping.{node_of, code_of, code_at}
 use Rattle.tick_core.specs.State.{InTick, Holds, IsFresh}
-use Rattle.tick_core.specs.Turns.{claim_of, is_none, is_unclaimed, NoneUnclaimed, AllClaimed, IsUnclaimed, IsNew, IsOpen, MayCommit, GivesClaim}
+use Rattle.tick_core.specs.Turns.{claim_of, AllClaimed, IsOpen, GivesClaim}
+use Rattle.tick_core.specs.Inside.Turns.{is_none, is_unclaimed, NoneUnclaimed, IsUnclaimed, IsNew, MayCommit}
 use Rattle.tick_core.proofs.Fresh.{values_are, code_formed}
 use Rattle.tick_core.proofs.Keeping.{leads_at, within_budget, budget_fits, has_place, open_value}
 

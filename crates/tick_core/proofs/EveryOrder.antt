@@ -12,7 +12,7 @@ use Rattle.tick_core.specs.Claims.{Claim, Done, present_operands}
 use Rattle.tick_core.specs.Stepping.{code_at}
 use Rattle.tick_core.specs.State.{InTick, Holds, IsFresh, threads_of}
 use Rattle.tick_core.specs.Turns.{Answers, GivesClaim, Commits, GivesBack, IsRefused}
-use Rattle.tick_core.specs.Events.{Event, Claimed, Committed, GivenBack, Happens, Happen, begun, Replays, EveryOrderReplays}
+use Rattle.tick_core.specs.Events.{Event, Asks, Brings, Returns, Happens, Happen, begun, Replays, EveryOrderReplays}
 use Rattle.tick_core.proofs.Keeping.{holds_begun, kept_claimed, kept_closed, kept_advanced}
 
 -- what no event changes
@@ -66,11 +66,11 @@ given_back s s' a h gives =
     }
 
 keeps : (e : Event) (s s' : InTick) → Holds s → Happens e s s' → Keeps s s'
-keeps (Claimed worker) s s' h happens = answered s s' worker h happens.0 happens.1.0 happens.1.1
-keeps (Committed d) s s' h (inl commits) = committed s s' d commits.0 h commits.1
-keeps (Committed d) s s' h (inr refused) = unchanged s s' h refused.same
-keeps (GivenBack a) s s' h (inl gives) = given_back s s' a h gives
-keeps (GivenBack a) s s' h (inr refused) = unchanged s s' h refused.same
+keeps (Asks worker) s s' h happens = answered s s' worker h happens.0 happens.1.0 happens.1.1
+keeps (Brings d) s s' h (inl commits) = committed s s' d commits.0 h commits.1
+keeps (Brings d) s s' h (inr refused) = unchanged s s' h refused.same
+keeps (Returns a) s s' h (inl gives) = given_back s s' a h gives
+keeps (Returns a) s s' h (inr refused) = unchanged s s' h refused.same
 
 all_keep : (events : List Event) (s s' : InTick) → Holds s → Happen events s s' → Keeps s s'
 all_keep [] s s' h happen = unchanged s s' h happen

@@ -12,9 +12,10 @@ use Rattle.sc_graph.specs.Valid.{IsFormed}
 use Rattle.tick_laws.proofs.Lists.{map_some}
 use Rattle.tick_laws.proofs.Tree.{apart_once}
 use Rattle.tick_core.specs.declared.judging.replaying.Taken.{Taken}
-use Rattle.tick_core.specs.Judging.{act_at, acts_at, IsForbidden, IsFirstForbidden, IsFirstBefore, TakesBetween}
+use Rattle.tick_core.specs.Judging.{IsForbidden, IsFirstForbidden}
+use Rattle.tick_core.specs.Inside.Judging.{act_at, acts_at, IsFirstBefore, TakesBetween}
 
-lt_or_le : (h n : ℕ) → (h < n) ⊎ (n ≤ h)
+pub lt_or_le : (h n : ℕ) → (h < n) ⊎ (n ≤ h)
 lt_or_le h n = grind arith
 
 pub below_or_at : (n i : ℕ) → n < i + 1 → (n < i) ⊎ (n ≡ i)

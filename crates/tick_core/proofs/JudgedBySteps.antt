@@ -11,8 +11,10 @@ use Rattle.tick_core.specs.declared.judging.Judged.{Judged}
 use Rattle.tick_core.specs.declared.judging.Judged.TheVariants as judged
 use Rattle.tick_core.specs.declared.judging.replaying.Taken.{Taken}
 use Rattle.tick_core.specs.State.{BeginsTick}
-use Rattle.tick_core.specs.Judging.{IsFirstForbidden, Judges, JudgesSteps, RunsBy, LeadsToEnd}
+use Rattle.tick_core.specs.Judging.{IsFirstForbidden, Judges, IsJudgement, LeadsToEnd}
+use Rattle.tick_core.specs.Inside.Judging.{JudgesSteps, RunsBy}
 use Rattle.tick_core.proofs.Replaying.{law_of_tick}
+use Rattle.tick_core.proofs.OneJudgement.{one_judgement}
 
 module _ (p : Program) (q : Tables) (begun : Control) (valid : IsValid p q) (begins : BeginsTick p begun) where
   -- all ends of a tick are one
@@ -52,7 +54,7 @@ module _ (p : Program) (q : Tables) (begun : Control) (valid : IsValid p q) (beg
       (subst (IsOrdered (ForkedApart p)) by.steps_are h.admissible)
 
   pub judged_run : (run : List ℕ) (reached : Control) (kept steps : List Taken) → RunsBy p begun run reached kept → steps ≡ kept →
-      (j : Judged) → JudgesSteps p steps reached j → (c : Control) → begun ≡ c → Judges p c run j
+      (j : Judged) → JudgesSteps p steps reached j → (c : Control) → begun ≡ c → IsJudgement p c run j
   judged_run run reached kept steps by same j h c is =
-      subst (λ (b : Control). Judges p b run j) is
-      (judged_by_steps run reached kept by j (subst (λ (s : List Taken). JudgesSteps p s reached j) same h))
+      subst (λ (b : Control). IsJudgement p b run j) is
+      (one_judgement p begun run j (judged_by_steps run reached kept by j (subst (λ (s : List Taken). JudgesSteps p s reached j) same h)))

@@ -321,3 +321,10 @@ shown_at s h = record { by_priority = h.run; admissible = (so_far s h).admissibl
 
 pub shown : (was s : InTick) (history : List Entry) → was ≡ s → Holds was → history ≡ s.history → SoFar s history
 shown was s history same h is = subst (SoFar s) (sym is) (shown_at s (subst Holds same h))
+
+pub places_shown : (was s : InTick) (claims : List (Option Claim)) → was ≡ s → Holds was → claims ≡ s.claims → length claims ≡ length s.image.program.threads
+places_shown was s claims same h is = ap length is ∙ (subst Holds same h).places
+
+pub fresh_shown : (was s : InTick) (claims : List (Option Claim)) → was ≡ s → Holds was → claims ≡ s.claims →
+    (t : ℕ) (a : Claim) → slice_get claims t ≡ Some (Some a) → IsFresh s.image.program s.image.tables s.present (length s.history) t a
+fresh_shown was s claims same h is t a at = (subst Holds same h).fresh t a (sym (ap (λ xs. slice_get xs t) is) ∙ at)

@@ -7,4 +7,5 @@ pub mod SameClaim
 pub mod EveryOrder
 pub mod Replaying
 pub mod Forbidding
+pub mod OneJudgement
 pub mod JudgedBySteps

@@ -8,7 +8,8 @@ use Rattle.sc_values.specs.contracts.operation.OperationPartialEq.TheImpl as ope
 use Rattle.sc_values.specs.contracts.value.KindPartialEq.TheImpl as kind
 use Rattle.sc_values.specs.contracts.checked.CheckedCodePartialEq.TheImpl as checked
 use Rattle.sc_values.proofs.Equality.{kind_decides, operation_decides}
-use Rattle.tick_core.specs.Claims.{Claim, IsAlike, DoesSame}
+use Rattle.tick_core.specs.Claims.{Claim}
+use Rattle.tick_core.specs.Inside.Work.{IsAlike, DoesSame}
 
 both_decide : (P Q R : Type 0) (x y : Bool) → Decides x P → Decides y Q → (P → Q → R) → (R → P) → (R → Q) → Decides (x && y) R
 both_decide P Q R true true p q make left right = (λ h. make (p.0 refl) (q.0 refl), λ r. refl)

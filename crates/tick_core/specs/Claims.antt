@@ -25,18 +25,6 @@ pub record Done : Type 0 where
   pub claim : Claim
   pub value : Option Value
 
--- claims of the same worker, thread, node and moment
-pub record IsAlike (a b : Claim) : Type 0 where
-  pub worker : a.worker ≡ b.worker
-  pub thread : a.thread ≡ b.thread
-  pub node : a.node ≡ b.node
-  pub commits : a.commits ≡ b.commits
-
--- claims of the same work
-pub record DoesSame (a b : Claim) : Type 0 where
-  pub code : a.code ≡ b.code
-  pub operands : a.operands ≡ b.operands
-
 -- the value of a code over operands; none without a code
 abbrev pub value_by : Option Checked → List Value → Option Value
 value_by None operands = None
@@ -54,15 +42,3 @@ operations_of code = option_map (λ k. k.operations) code
 abbrev pub present_operands : List Value → Option (List Operation) → List Value
 present_operands variables None = []
 present_operands variables (Some code) = loaded_from variables code
-
--- where there is a code, it is well formed
-abbrev pub HasFormedCode : Program → Option (List Operation) → Type 0
-HasFormedCode p None = Unit {0}
-HasFormedCode p (Some code) = IsWellFormed (kinds p) code
-
--- the checked code of the step from a status, where it has one, and the present values of what it loads
-pub record IsWork (p : Program) (c : Control) (s : Status) (code : Option Checked) (operands : List Value) : Type 0 where
-  pub code_is : operations_of code ≡ code_at p s
-  pub checked : (k : Checked) → code ≡ Some k → Checks (kinds p) k.operations k
-  pub operands_are : operands ≡ present_operands c.variables (code_at p s)
-  pub fit : HasOperands code operands

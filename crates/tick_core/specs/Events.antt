@@ -14,15 +14,15 @@ use Rattle.tick_core.specs.Turns.{claim_of, Answers, Commits, GivesBack, IsRefus
 
 -- a worker asks for a claim, brings an evaluated one, or gives one back; what it brings need not be open
 pub data Event : Type 0 where
-  Claimed : (worker : ℕ) → Event
-  Committed : (done : Done) → Event
-  GivenBack : (claim : Claim) → Event
+  Asks : (worker : ℕ) → Event
+  Brings : (done : Done) → Event
+  Returns : (claim : Claim) → Event
 
 -- what an event makes of a state: what the calls say that they do
 abbrev pub Happens : Event → InTick → InTick → Type 0
-Happens (Claimed worker) s s' = (worker ≤ 8) × ((answer : Turn) × Answers s s' worker answer)
-Happens (Committed done) s s' = ((at : ℕ) × Commits s s' done at) ⊎ IsRefused s s' done.claim
-Happens (GivenBack claim) s s' = GivesBack s s' claim ⊎ IsRefused s s' claim
+Happens (Asks worker) s s' = (worker ≤ 8) × ((answer : Turn) × Answers s s' worker answer)
+Happens (Brings done) s s' = ((at : ℕ) × Commits s s' done at) ⊎ IsRefused s s' done.claim
+Happens (Returns claim) s s' = GivesBack s s' claim ⊎ IsRefused s s' claim
 
 -- a whole list of events
 abbrev pub Happen : List Event → InTick → InTick → Type 0

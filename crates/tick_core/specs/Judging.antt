@@ -62,54 +62,7 @@ Judges p begun run (judged.NotAdmissible i j) = IsNotAdmissible p begun run i j
 Judges p begun run judged.Incomplete = IsIncomplete p begun run
 Judges p begun run (judged.Ends end) = LeadsToEnd p begun run end
 
--- what a step that was written down does
-abbrev pub act_at : Program → Taken → Act
-act_at p s = record { thread = s.thread; access = accesses p s.node }
-
-abbrev pub acts_at : Program → List Taken → List Act
-acts_at p steps = map (act_at p) steps
-
--- thread t steps from c to d, at node n
-pub record StepsAt (p : Program) (c : Control) (t n : ℕ) (d : Control) : Type 0 where
-  pub stepped : step p t c ≡ Some d
-  pub access : access_at p (status_of c t) ≡ accesses p n
-
--- a run leads from begun to reached by these steps
-pub record RunsBy (p : Program) (begun : Control) (run : List ℕ) (reached : Control) (steps : List Taken) : Type 0 where
-  pub runs : replay (machine p) run begun ≡ Some reached
-  pub steps_are : acts_at p steps ≡ acts (machine p) run begun
-
-abbrev pub Replays : Program → Control → List ℕ → Control → Replayed → Type 0
-Replays p begun run reached (replayed.Stopped i) = IsNotRun p begun run i
-Replays p begun run reached (replayed.Whole steps) = RunsBy p begun run reached steps.items
-
--- of the steps strictly between two places one is of thread t
-pub record TakesBetween (steps : List Taken) (i j t : ℕ) : Type 0 where
-  pub at : ℕ
-  pub taken : Taken
-  pub after : i < at
-  pub before : at < j
-  pub is : slice_get steps at ≡ Some taken
-  pub thread : taken.thread ≡ t
-
--- step i is the first of those that may not stand before step j
-pub record IsFirstBefore (p : Program) (steps : List Taken) (i j : ℕ) : Type 0 where
-  pub is : IsForbidden (ForkedApart p) (acts_at p steps) i j
-  pub least : (h : ℕ) → IsForbidden (ForkedApart p) (acts_at p steps) h j → i ≤ h
-
-pub record IsFinished (p : Program) (steps : List Taken) (reached end : Control) : Type 0 where
-  pub admissible : IsOrdered (ForkedApart p) (acts_at p steps)
-  pub over : IsOver (machine p) reached
-  pub same : end ≡ reached
-
-pub record IsUnfinished (p : Program) (steps : List Taken) (reached : Control) : Type 0 where
-  pub admissible : IsOrdered (ForkedApart p) (acts_at p steps)
-  pub someone : ℕ
-  pub enabled : IsEnabled p reached someone
-
--- what each judgement says of a run with these steps, which leads to reached
-abbrev pub JudgesSteps : Program → List Taken → Control → Judged → Type 0
-JudgesSteps p steps reached (judged.NotRun i) = ⊥
-JudgesSteps p steps reached (judged.NotAdmissible i j) = IsFirstForbidden (ForkedApart p) (acts_at p steps) i j
-JudgesSteps p steps reached judged.Incomplete = IsUnfinished p steps reached
-JudgesSteps p steps reached (judged.Ends end) = IsFinished p steps reached end
+-- the only judgement of the run that holds
+pub record IsJudgement (p : Program) (begun : Control) (run : List ℕ) (answer : Judged) : Type 0 where
+  pub holds : Judges p begun run answer
+  pub alone : (other : Judged) → Judges p begun run other → other ≡ answer

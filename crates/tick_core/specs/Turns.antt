@@ -46,36 +46,6 @@ Answers s s' worker turn.Over = IsOver (machine s.image.program) s.present × (s
 Answers s s' worker turn.NoneNow = AllClaimed s × (s' ≡ s)
 Answers s s' worker (turn.Claim a) = GivesClaim s s' worker a
 
-abbrev pub is_none : Option (Option Claim) → Bool
-is_none (Some None) = true
-is_none other = false
-
--- whether thread t is enabled, has this priority and has no open claim
-abbrev pub is_unclaimed : Program → Tables → Control → List (Option Claim) → ℕ → ℕ → Bool
-is_unclaimed p q c claims priority t = is_enabled p c t && nat_eq (priority_of q (status_of c t)) priority && is_none (slice_get claims t)
-
--- no such thread is below n
-pub record NoneUnclaimed (p : Program) (q : Tables) (c : Control) (claims : List (Option Claim)) (priority n : ℕ) : Type 0 where
-  pub each : (t : ℕ) → t < n → is_unclaimed p q c claims priority t ≡ false
-
--- thread t leads and has no open claim
-pub record IsUnclaimed (s : InTick) (t : ℕ) : Type 0 where
-  pub leads : Leads s.image.program s.image.tables s.present t
-  pub unclaimed : claim_of s t ≡ Some None
-
--- this claim of a leading thread is as things stand, by this worker
-pub record IsNew (s : InTick) (worker t : ℕ) (a : Claim) : Type 0 where
-  pub thread : a.thread ≡ t
-  pub fresh : IsFresh s.image.program s.image.tables s.present (length s.history) a.thread a
-  pub by : a.worker ≡ worker
-  pub commits : a.commits ≡ length s.history
-
--- this claim is open, and its step may be taken with the value of its code over its operands
-pub record MayCommit (s : InTick) (a : Claim) : Type 0 where
-  pub is_open : IsOpen s a
-  pub leads : Leads s.image.program s.image.tables s.present a.thread
-  pub value : value_by a.code a.operands ≡ value_at s.image.program s.present (status_of s.present a.thread)
-
 -- an open claim was committed: its thread took its step, and it alone was closed
 pub record Commits (s s' : InTick) (d : Done) (at : ℕ) : Type 0 where
   pub was_open : IsOpen s d.claim

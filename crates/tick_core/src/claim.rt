@@ -1,6 +1,7 @@
 ghost use Rattle.std.specs.Prelude.{◌≡◌, ◌↔◌, IsTrue};
 ghost use Rattle.std.specs.Option.{option_copied};
-ghost use Rattle.tick_core.specs.Claims.{value_by, HasOperands, IsAlike, DoesSame};
+ghost use Rattle.tick_core.specs.Claims.{value_by, HasOperands};
+ghost use Rattle.tick_core.specs.Inside.Work.{IsAlike, DoesSame};
 
 use sc_graph::{NodeId, ThreadId};
 use sc_values::{CheckedCode, Operands, Value, eval};
@@ -76,7 +77,7 @@ impl<'a> Claim<'a> {
     fn is_alike(&self, other: &Claim<'_>) -> bool
         ensures { IsTrue result ↔ IsAlike self.now other.now }
     {
-        self.worker() == other.worker()
+        other.worker() == self.worker()
             && self.thread() == other.thread()
             && self.node() == other.node()
             && self.commits() == other.commits()

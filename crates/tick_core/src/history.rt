@@ -37,11 +37,8 @@ fn entries_by(history: &[Entry], worker: usize) -> u32
     requires { length history.now < 2 ^ 32 }
     ensures { result ≡ count_by (λ e. e.worker == worker) history.now }
 {
-    let mut count = 0;
-    for entry in history {
-        if entry.worker as usize == worker {
-            count += 1;
-        }
-    }
-    count
+    history
+        .iter()
+        .filter(|entry| entry.worker as usize == worker)
+        .count() as u32
 }

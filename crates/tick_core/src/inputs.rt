@@ -1,7 +1,7 @@
 ghost use Rattle.std.specs.Prelude.{◌≡◌, ◌≢◌, ◌↔◌, ◌<◌, ℕ, List, IsTrue, Some, length, slice_get};
 ghost use Rattle.sc_values.specs.declared.value.Value.{Value};
 ghost use Rattle.sc_graph.specs.Tick.{AreAccepted};
-ghost use Rattle.tick_core.specs.Inputs.{IsFor, NamesInput, IsAcceptedAt};
+ghost use Rattle.tick_core.specs.Inside.Inputs.{IsFor, NamesInput, IsAcceptedAt};
 
 use sc_graph::{Program, Role, Variable};
 use sc_values::{Name, Value};

@@ -1,10 +1,17 @@
 ghost use Rattle.std.specs.Prelude.{IfOk, OnOk};
 ghost use Rattle.std.specs.Result.{IsErrOf};
 ghost use Rattle.sc_graph.specs.Tick.{Rests, AreAccepted, IsConfiguration, start};
-ghost use Rattle.tick_core.specs.Judging.{Judges, JudgesSteps};
+ghost use Rattle.tick_core.specs.Judging.{IsJudgement};
+ghost use Rattle.tick_core.specs.Inside.Judging.{JudgesSteps};
 
+#[cfg(test)]
+mod every_run_tests;
 mod forbidden;
 mod replaying;
+#[cfg(test)]
+mod sample_images;
+#[cfg(test)]
+mod tests;
 
 use crate::inputs::{Inputs, are_accepted};
 use crate::judging::forbidden::first_forbidden;
@@ -40,7 +47,7 @@ pub fn judge(
     run: &[ThreadId],
 ) -> Result<Judged, BeginFault>
     requires { Rests verified.now.program control.now }
-    ensures judged { IfOk result (Judges verified.now.program (start verified.now.program inputs.now control.now) run.now) }
+    ensures judged { IfOk result (IsJudgement verified.now.program (start verified.now.program inputs.now control.now) run.now) }
     ensures accepted { OnOk result (AreAccepted verified.now.program inputs.now) }
     ensures refused { IsErrOf result BeginFault.Input → ¬ (AreAccepted verified.now.program inputs.now) }
 {

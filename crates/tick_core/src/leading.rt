@@ -4,7 +4,7 @@ ghost use Rattle.sc_graph.specs.Machine.{machine};
 ghost use Rattle.sc_graph.specs.Priority.{Leads};
 ghost use Rattle.sc_graph.specs.Control.{IsEnabled};
 ghost use Rattle.sc_graph.specs.Tables.{priority_of};
-ghost use Rattle.tick_core.specs.Leading.{LeadsBelow, BestBelow};
+ghost use Rattle.tick_core.specs.Inside.Leading.{LeadsBelow, BestBelow};
 
 use crate::enabled::is_enabled;
 use sc_graph::{Control, Program, Status, Tables, ThreadId};

@@ -11,6 +11,8 @@ mod leading;
 mod starting;
 mod state;
 mod stepping;
+#[cfg(test)]
+mod tests;
 mod unclaimed;
 
 pub use claim::{Claim, Done, evaluate};

@@ -1,4 +1,4 @@
-ghost use Rattle.std.specs.Prelude.{◌≡◌, ◌≤◌, ℕ, IfOk, IsSome, length, map, None};
+ghost use Rattle.std.specs.Prelude.{◌≡◌, ◌≤◌, ◌↔◌, ℕ, IfOk, IsSome, length, map, slice_get, Some, None};
 ghost use Rattle.std.specs.Result.{IsErrOf};
 ghost use Rattle.sc_values.specs.Runs.{IsAdmissible};
 ghost use Rattle.sc_graph.specs.Machine.{machine};
@@ -7,7 +7,8 @@ ghost use Rattle.sc_graph.specs.Priority.{PriorityRun};
 ghost use Rattle.sc_graph.specs.Control.{IsEnabled};
 ghost use Rattle.sc_graph.specs.Steps.{step};
 ghost use Rattle.sc_graph.specs.Tick.{IsConfiguration, Rests, AreAccepted};
-ghost use Rattle.tick_core.specs.State.{IsBegun, threads_of};
+ghost use Rattle.tick_core.specs.Claims.{Claim as OpenClaim};
+ghost use Rattle.tick_core.specs.State.{IsBegun, IsFresh, threads_of};
 
 mod claiming;
 mod ending;
@@ -114,7 +115,7 @@ pub fn begin<'a>(
 ) -> Result<TickState<'a>, BeginFault>
     requires { Rests verified.now.program control.now }
     ensures begun { IfOk result (IsBegun verified.now control.now inputs.now) }
-    ensures refused { IsErrOf result BeginFault.Input → ¬ (AreAccepted verified.now.program inputs.now) }
+    ensures refused { IsErrOf result BeginFault.Input ↔ ¬ (AreAccepted verified.now.program inputs.now) }
 {
     let image = verified.image();
     let program = image.program();
@@ -168,6 +169,16 @@ impl<'a> TickState<'a> {
         ensures within { length result.now ≤ self.now.image.tables.budget }
     {
         self.history.as_slice()
+    }
+
+    /// The open claims, by thread. Each could be committed now: its thread is enabled and of the greatest
+    /// priority, and its node, code and operands are the present ones.
+    pub fn open_claims(&self) -> &[Option<Claim<'a>>]
+        ensures value { result.now ≡ self.now.claims }
+        ensures places { length result.now ≡ length self.now.image.program.threads }
+        ensures fresh { (t : ℕ) (a : OpenClaim) → slice_get result.now t ≡ Some (Some a) → IsFresh self.now.image.program self.now.image.tables self.now.present (length self.now.history) t a }
+    {
+        self.claims.as_slice()
     }
 }
 

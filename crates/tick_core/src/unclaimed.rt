@@ -1,5 +1,5 @@
 ghost use Rattle.std.specs.Prelude.{◌≡◌, MatchOption, length, slice_get, true};
-ghost use Rattle.tick_core.specs.Turns.{is_unclaimed, is_none, NoneUnclaimed};
+ghost use Rattle.tick_core.specs.Inside.Turns.{is_unclaimed, is_none, NoneUnclaimed};
 
 use crate::claim::Claim;
 use crate::enabled::is_enabled;

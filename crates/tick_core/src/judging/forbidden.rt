@@ -4,7 +4,8 @@ ghost use Rattle.sc_values.specs.Runs.{ConcurrentSteps, IsOrdered};
 ghost use Rattle.sc_graph.specs.Accesses.{accesses};
 ghost use Rattle.sc_graph.specs.Threads.{ForkedApart};
 ghost use Rattle.sc_graph.specs.Valid.{IsFormed};
-ghost use Rattle.tick_core.specs.Judging.{IsForbidden, IsFirstForbidden, IsFirstBefore, TakesBetween, acts_at};
+ghost use Rattle.tick_core.specs.Judging.{IsForbidden, IsFirstForbidden};
+ghost use Rattle.tick_core.specs.Inside.Judging.{IsFirstBefore, TakesBetween, acts_at};
 
 use crate::judging::replaying::Taken;
 use sc_graph::{NodeId, Program, ThreadId, lca};

@@ -4,7 +4,7 @@ ghost use Rattle.sc_graph.specs.Control.{is_enabled, IsEnabled};
 ghost use Rattle.sc_graph.specs.Steps.{step};
 ghost use Rattle.sc_graph.specs.Tick.{IsConfiguration};
 ghost use Rattle.tick_core.specs.State.{BeginsTick};
-ghost use Rattle.tick_core.specs.Judging.{Replays, StepsAt};
+ghost use Rattle.tick_core.specs.Inside.Judging.{ReplaysTo, StepsAt};
 
 use crate::enabled::is_enabled;
 use crate::state::{kinds_of, present_value};
@@ -39,7 +39,7 @@ pub(crate) fn replay(
     run: &[ThreadId],
 ) -> Result<Replayed, AllocError>
     requires { BeginsTick verified.now.program control.old }
-    ensures { IfOk result (Replays verified.now.program control.old run.now control.new) }
+    ensures { IfOk result (ReplaysTo verified.now.program control.old run.now control.new) }
 {
     let kinds = kinds_of(alloc, verified.image().program())?;
     let mut steps = Vec::new(alloc);

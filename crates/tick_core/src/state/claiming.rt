@@ -3,9 +3,10 @@ ghost use Rattle.sc_graph.specs.Priority.{Leads};
 ghost use Rattle.sc_graph.specs.Program.{kinds as variable_kinds};
 ghost use Rattle.sc_graph.specs.Tick.{IsConfiguration};
 ghost use Rattle.tick_core.specs.Stepping.{node_of, code_at};
-ghost use Rattle.tick_core.specs.Claims.{HasFormedCode, IsWork};
+ghost use Rattle.tick_core.specs.Inside.Work.{HasFormedCode, IsWork};
 ghost use Rattle.tick_core.specs.State.{IsFresh};
-ghost use Rattle.tick_core.specs.Turns.{Answers, AllClaimed, IsUnclaimed, IsNew, MayCommit, Commits, GivesBack, IsRefused, IsOpen};
+ghost use Rattle.tick_core.specs.Turns.{Answers, AllClaimed, Commits, GivesBack, IsRefused, IsOpen};
+ghost use Rattle.tick_core.specs.Inside.Turns.{IsUnclaimed, IsNew, MayCommit};
 
 use crate::claim::{Claim, Done};
 use crate::leading::priority;

@@ -1,6 +1,6 @@
 use Rattle.std.proofs.Common.{◌≡◌, ℕ, ◌<◌, List, Some, slice_get}
 use Rattle.sc_values.specs.declared.value.Value.{Value}
-use Rattle.tick_core.specs.Inputs.{IsAcceptedAt}
+use Rattle.tick_core.specs.Inside.Inputs.{IsAcceptedAt}
 use Rattle.tick_core.proofs.inputs.are_accepted.Given as goal
 
 abbrev pub invariant-loop-at : goal.invariant-loop-at

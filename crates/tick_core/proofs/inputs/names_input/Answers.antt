@@ -1,7 +1,7 @@
 use Rattle.std.proofs.Common.{◌≡◌, ◌<◌, length, Bool, true, refl, sym, ◌∙◌, arith}
 use Rattle.std.proofs.lemmas.Option.{slice_get_read, slice_get_within}
 use Rattle.sc_graph.proofs.Each.{each_more}
-use Rattle.tick_core.specs.Inputs.{IsFor}
+use Rattle.tick_core.specs.Inside.Inputs.{IsFor}
 use Rattle.tick_core.proofs.inputs.names_input.Goals as goal
 
 pub returns-then-is_for : goal.returns-then-is_for

@@ -1,7 +1,11 @@
 use Rattle.std.proofs.Common.{◌≡◌, ℕ, take, subst, rules}
 use Rattle.sc_graph.specs.Tick.{start}
 use Rattle.tick_core.specs.State.{BeginsTick}
-use Rattle.tick_core.specs.Judging.{Replays, RunsBy}
+use Rattle.sc_graph.specs.declared.control.Control.{Control}
+use Rattle.tick_core.specs.declared.judging.Judged.TheVariants as judged
+use Rattle.tick_core.specs.Judging.{IsNotRun}
+use Rattle.tick_core.specs.Inside.Judging.{ReplaysTo, RunsBy}
+use Rattle.tick_core.proofs.OneJudgement.{one_judgement}
 use Rattle.tick_core.proofs.Replaying.{reached_by}
 use Rattle.tick_core.proofs.JudgedBySteps.{judged_run}
 use Rattle.tick_core.proofs.judging.judge.Goals as goal
@@ -11,8 +15,17 @@ judge_steps-requires c =
     let p = c.args.verified.now.program in
     let begins : BeginsTick p c.in_ok-reached.reached = search rules in
     let by : RunsBy p c.in_ok-reached.reached c.args.run.now c.replay.new.control c.in-Whole.steps.items =
-    subst (Replays p c.in_ok-reached.reached c.args.run.now c.replay.new.control) c.in-Whole.is c.in_ok-at.ensures in
+    subst (ReplaysTo p c.in_ok-reached.reached c.args.run.now c.replay.new.control) c.in-Whole.is c.in_ok-at.ensures in
     (reached_by p c.args.verified.now.tables c.in_ok-reached.reached c.image.ensures.valid begins c.args.run.now c.replay.new.control c.in-Whole.steps.items by).configuration
+
+pub returns-in-Stopped-clause-judged : goal.returns-in-Stopped-clause-judged
+returns-in-Stopped-clause-judged c =
+    let p = c.args.verified.now.program in
+    let begun : c.in_ok-reached.reached ≡ start p c.args.inputs.now c.args.control.now = search rules in
+    let stopped : IsNotRun p c.in_ok-reached.reached c.args.run.now c.in-Stopped.at =
+    subst (ReplaysTo p c.in_ok-reached.reached c.args.run.now c.replay.new.control) c.in-Stopped.is c.in_ok-at.ensures in
+    one_judgement p (start p c.args.inputs.now c.args.control.now) c.args.run.now (judged.NotRun c.in-Stopped.at)
+    (subst (λ (b : Control). IsNotRun p b c.args.run.now c.in-Stopped.at) begun stopped)
 
 pub returns-in-Whole-clause-judged : goal.returns-in-Whole-clause-judged
 returns-in-Whole-clause-judged c =
@@ -20,7 +33,7 @@ returns-in-Whole-clause-judged c =
     let begun : c.in_ok-reached.reached ≡ start p c.args.inputs.now c.args.control.now = search rules in
     let begins : BeginsTick p c.in_ok-reached.reached = search rules in
     let by : RunsBy p c.in_ok-reached.reached c.args.run.now c.replay.new.control c.in-Whole.steps.items =
-    subst (Replays p c.in_ok-reached.reached c.args.run.now c.replay.new.control) c.in-Whole.is c.in_ok-at.ensures in
+    subst (ReplaysTo p c.in_ok-reached.reached c.args.run.now c.replay.new.control) c.in-Whole.is c.in_ok-at.ensures in
     judged_run p c.args.verified.now.tables c.in_ok-reached.reached c.image.ensures.valid begins c.args.run.now c.replay.new.control
     c.in-Whole.steps.items c.deref.result.now by c.deref.ensures.value c.judge_steps.result c.judge_steps.ensures
     (start p c.args.inputs.now c.args.control.now) begun

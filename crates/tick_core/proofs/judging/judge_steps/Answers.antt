@@ -5,7 +5,7 @@ use Rattle.sc_graph.specs.Machine.{machine}
 use Rattle.sc_graph.specs.Threads.{ForkedApart}
 use Rattle.sc_graph.specs.Control.{IsEnabled}
 use Rattle.bytecode.specs.Image.{Image}
-use Rattle.tick_core.specs.Judging.{acts_at}
+use Rattle.tick_core.specs.Inside.Judging.{acts_at}
 use Rattle.tick_core.proofs.judging.judge_steps.Goals as goal
 
 pub returns-in-Some-leader : goal.returns-in-Some-leader

@@ -1,4 +1,4 @@
-use Rattle.tick_core.specs.Leading.{BestBelow}
+use Rattle.tick_core.specs.Inside.Leading.{BestBelow}
 use Rattle.tick_core.proofs.leading.leader.Given as goal
 
 abbrev pub invariant-loop-thread : goal.invariant-loop-thread

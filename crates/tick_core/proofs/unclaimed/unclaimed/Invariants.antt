@@ -1,4 +1,4 @@
-use Rattle.tick_core.specs.Turns.{NoneUnclaimed}
+use Rattle.tick_core.specs.Inside.Turns.{NoneUnclaimed}
 use Rattle.tick_core.proofs.unclaimed.unclaimed.Given as goal
 
 abbrev pub invariant-loop-thread : goal.invariant-loop-thread

@@ -1,6 +1,7 @@
 use Rattle.std.proofs.Common.{◌≡◌, ℕ, ◌<◌, true, arith}
 use Rattle.sc_graph.specs.Threads.{ForkedApart}
-use Rattle.tick_core.specs.Judging.{IsForbidden, acts_at}
+use Rattle.tick_core.specs.Judging.{IsForbidden}
+use Rattle.tick_core.specs.Inside.Judging.{acts_at}
 use Rattle.tick_core.proofs.Forbidding.{least_from, none_more}
 use Rattle.tick_core.proofs.judging.forbidden.first_before.Goals as goal
 

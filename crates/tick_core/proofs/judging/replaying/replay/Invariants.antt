@@ -1,5 +1,5 @@
 use Rattle.std.proofs.Common.{take}
-use Rattle.tick_core.specs.Judging.{RunsBy}
+use Rattle.tick_core.specs.Inside.Judging.{RunsBy}
 use Rattle.tick_core.proofs.judging.replaying.replay.Given as goal
 
 abbrev pub invariant-loop-at : goal.invariant-loop-at

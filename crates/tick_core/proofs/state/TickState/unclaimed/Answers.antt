@@ -1,6 +1,7 @@
 use Rattle.std.proofs.Common.{subst}
 use Rattle.std.specs.Prelude.{MatchOption}
-use Rattle.tick_core.specs.Turns.{AllClaimed, IsUnclaimed}
+use Rattle.tick_core.specs.Turns.{AllClaimed}
+use Rattle.tick_core.specs.Inside.Turns.{IsUnclaimed}
 use Rattle.tick_core.proofs.Keeping.{leads_at}
 use Rattle.tick_core.proofs.Claiming.{searched}
 use Rattle.tick_core.proofs.state.TickState.unclaimed.Goals as goal

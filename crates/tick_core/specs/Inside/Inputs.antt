@@ -19,10 +19,10 @@ pub record NamesInput (variables : List Variable) (input : List ℕ × Value) : 
   pub fits : IsFor variable input
 
 -- no input before the one at this place has its name
-pub record IsNew (inputs : List (List ℕ × Value)) (at : ℕ) (input : List ℕ × Value) : Type 0 where
+pub record IsFirstOfItsName (inputs : List (List ℕ × Value)) (at : ℕ) (input : List ℕ × Value) : Type 0 where
   pub each : (i : ℕ) (a : List ℕ × Value) → slice_get (take at inputs) i ≡ Some a → a.0 ≢ input.0
 
 -- what each input at its place needs
 pub record IsAcceptedAt (variables : List Variable) (inputs : List (List ℕ × Value)) (at : ℕ) (input : List ℕ × Value) : Type 0 where
   pub named : NamesInput variables input
-  pub new : IsNew inputs at input
+  pub new : IsFirstOfItsName inputs at input

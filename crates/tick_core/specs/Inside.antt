@@ -1,0 +1,6 @@
+-- What private functions alone say of themselves. It is proved, and no public contract rests on what it means.
+pub mod Inputs
+pub mod Leading
+pub mod Judging
+pub mod Turns
+pub mod Work

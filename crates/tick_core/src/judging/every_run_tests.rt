@@ -1,0 +1,302 @@
+// All runs of a tick of small images: which are admissible, and where each ends.
+ghost use Rattle.sc_graph.specs.Tick.{Rests};
+
+use crate::inputs::{Inputs, are_accepted};
+use crate::judging::Judged;
+use crate::judging::replaying::{Replayed, replay};
+use crate::judging::sample_images::{
+    init_and_update, init_update_read, nested_forks, two_pauses, updates_and_read, write_and_read,
+    write_and_read_later,
+};
+use crate::judging::tests::{end_of_tick, judgement};
+use crate::starting::started;
+use sc_graph::{Control, ThreadId};
+use sqlite_items::Items;
+use std::alloc::{AllocError, Global};
+use std::process::Abort;
+use std::test::Fail;
+use verifier::Verified;
+
+// A list of threads.
+type Run = Vec<ThreadId>;
+
+// What is counted of the runs of a tick.
+#[derive(Clone, Copy, Debug, PartialEq, Eq)]
+struct Counts {
+    // all complete runs
+    complete: usize,
+    // those of them that are admissible
+    admissible: usize,
+    // those that are not, and end otherwise than the tick run alone
+    astray: usize,
+}
+
+fn is_same(one: &Control, other: &Control) -> bool {
+    one.variables.as_slice() == other.variables.as_slice()
+        && one.statuses.as_slice() == other.statuses.as_slice()
+}
+
+fn longer(alloc: Global, run: &[ThreadId], thread: ThreadId) -> Result<Run, AllocError> {
+    let mut longer = Vec::from_slice(alloc, run)?;
+    longer.push(thread)?;
+    Ok(longer)
+}
+
+// Where a free run leads; None where it is none.
+fn leads_to(
+    alloc: Global,
+    image: &Verified,
+    resting: &Control,
+    run: &[ThreadId],
+) -> Result<Option<Control>, Fail>
+    requires { Rests image.now.program resting.now }
+{
+    let program = image.image().program();
+    let inputs: Inputs = Items::new(alloc);
+    if !are_accepted(program, inputs.as_slice()) {
+        return Ok(None);
+    }
+    let mut reached = started(alloc, program, inputs.as_slice(), resting)?;
+    match replay(alloc, image, &mut reached, run)? {
+        Replayed::Stopped(_) => Ok(None),
+        Replayed::Whole(_steps) => Ok(Some(reached)),
+    }
+}
+
+// The runs that are one step longer.
+fn longer_runs(
+    alloc: Global,
+    image: &Verified,
+    resting: &Control,
+    run: &[ThreadId],
+) -> Result<Vec<Run>, Fail>
+    requires { Rests image.now.program resting.now }
+{
+    let mut runs = Vec::new(alloc);
+    for thread in 0..image.image().program().thread_count() {
+        let run = longer(alloc, run, thread)?;
+        if leads_to(alloc, image, resting, &run)?.is_some() {
+            runs.push(run)?;
+        }
+    }
+    Ok(runs)
+}
+
+// Makes each run longer by each step that can be taken; where none can it is complete.
+fn grown(
+    alloc: Global,
+    image: &Verified,
+    resting: &Control,
+    growing: Vec<Run>,
+    complete: &mut Vec<Run>,
+) -> Result<Vec<Run>, Fail>
+    requires { Rests image.now.program resting.now }
+{
+    let mut grown = Vec::new(alloc);
+    for run in growing {
+        let mut longer = longer_runs(alloc, image, resting, &run)?;
+        if longer.is_empty() {
+            complete.push(run)?;
+        } else {
+            grown.append(&mut longer)?;
+        }
+    }
+    Ok(grown)
+}
+
+// All complete runs of a tick, admissible or not, found by taking steps. None is longer than the
+// budget.
+fn complete_runs(alloc: Global, image: &Verified, resting: &Control) -> Result<Vec<Run>, Fail>
+    requires { Rests image.now.program resting.now }
+{
+    let mut growing = Vec::new(alloc);
+    growing.push(Vec::new(alloc))?;
+    let mut complete = Vec::new(alloc);
+    for _ in 0..=image.image().tables().budget {
+        growing = grown(alloc, image, resting, growing, &mut complete)?;
+    }
+    if growing.is_empty() {
+        Ok(complete)
+    } else {
+        Err(Fail::new("a run is longer than the budget"))
+    }
+}
+
+// The admissible runs that are one step longer than an admissible one, by what is judged of them.
+fn longer_admissible(
+    alloc: Global,
+    image: &Verified,
+    resting: &Control,
+    run: &[ThreadId],
+) -> Result<Vec<Run>, Fail>
+    requires { Rests image.now.program resting.now }
+{
+    let mut runs = Vec::new(alloc);
+    for thread in 0..image.image().program().thread_count() {
+        let longer = longer(alloc, run, thread)?;
+        let judged = judgement(alloc, image, resting, &longer)?;
+        match &judged {
+            Judged::Incomplete | Judged::Ends(_) => runs.push(longer)?,
+            Judged::NotRun(at) if *at == run.len() => {}
+            Judged::NotAdmissible(_, second) if *second == run.len() => {}
+            _ => return Err(Fail::new("a judgement that does not fit")),
+        }
+    }
+    Ok(runs)
+}
+
+// Counts those of these admissible runs that are complete, and makes the others longer.
+fn grown_admissible(
+    alloc: Global,
+    image: &Verified,
+    resting: &Control,
+    end: &Control,
+    growing: &[Run],
+    count: &mut usize,
+) -> Result<Vec<Run>, Fail>
+    requires { Rests image.now.program resting.now }
+{
+    let mut grown = Vec::new(alloc);
+    for run in growing {
+        let judged = judgement(alloc, image, resting, run)?;
+        match &judged {
+            Judged::Incomplete => {
+                let mut longer = longer_admissible(alloc, image, resting, run)?;
+                grown.append(&mut longer)?;
+            }
+            Judged::Ends(reached) if is_same(reached, end) => *count = count.saturating_add(1),
+            _ => return Err(Fail::new("a judgement that does not fit")),
+        }
+    }
+    Ok(grown)
+}
+
+// How many admissible complete runs a tick has, found by what is judged of growing lists.
+fn admissible_count(
+    alloc: Global,
+    image: &Verified,
+    resting: &Control,
+    end: &Control,
+) -> Result<usize, Fail>
+    requires { Rests image.now.program resting.now }
+{
+    let mut count = 0;
+    let mut growing = Vec::new(alloc);
+    growing.push(Vec::new(alloc))?;
+    for _ in 0..=image.image().tables().budget {
+        growing = grown_admissible(alloc, image, resting, end, &growing, &mut count)?;
+    }
+    Ok(count)
+}
+
+// What is counted of these complete runs, of which the admissible ones end in this configuration.
+fn counts_of(
+    alloc: Global,
+    image: &Verified,
+    resting: &Control,
+    end: &Control,
+    runs: &[Run],
+) -> Result<Counts, Fail>
+    requires { Rests image.now.program resting.now }
+{
+    let mut counts = Counts {
+        complete: runs.len(),
+        admissible: 0,
+        astray: 0,
+    };
+    for run in runs {
+        let reached = leads_to(alloc, image, resting, run)?.ok_or("a run")?;
+        let is_same = is_same(&reached, end);
+        match judgement(alloc, image, resting, run)? {
+            Judged::Ends(_) if is_same => counts.admissible = counts.admissible.saturating_add(1),
+            Judged::NotAdmissible(_, _) if is_same => {}
+            Judged::NotAdmissible(_, _) => counts.astray = counts.astray.saturating_add(1),
+            _ => return Err(Fail::new("a judgement that does not fit")),
+        }
+    }
+    Ok(counts)
+}
+
+// What is counted of all runs of the tick from this configuration. The same admissible ones are found
+// both ways.
+fn all_counted(alloc: Global, image: &Verified, resting: &Control) -> Result<Counts, Fail>
+    requires { Rests image.now.program resting.now }
+{
+    let end = end_of_tick(alloc, image, resting)?;
+    let runs = complete_runs(alloc, image, resting)?;
+    let counts = counts_of(alloc, image, resting, &end, &runs)?;
+    if counts.admissible == admissible_count(alloc, image, resting, &end)? {
+        Ok(counts)
+    } else {
+        Err(Fail::new("the two ways find different runs"))
+    }
+}
+
+// The same in the first tick, and in the second.
+fn first_and_second(alloc: Global, image: &Verified) -> Result<(Counts, Counts), Fail> {
+    let opening = Control::initial(alloc, image.image().program())?;
+    let resting = end_of_tick(alloc, image, &opening)?;
+    Ok((
+        all_counted(alloc, image, &opening)?,
+        all_counted(alloc, image, &resting)?,
+    ))
+}
+
+fn expected(complete: usize, admissible: usize, astray: usize) -> Counts {
+    Counts {
+        complete,
+        admissible,
+        astray,
+    }
+}
+
+// Two threads of two steps each stand in 6 orders, and in half of them the first writes first. Each
+// other order reads too early, or updates what is initialized then.
+#[test]
+fn two_threads_end_once(rt: HostRuntime) -> Result<(), Fail> {
+    let alloc = rt.alloc();
+    for image in [write_and_read(alloc)?, init_and_update(alloc)?] {
+        let (first, second) = first_and_second(alloc, &image)?;
+        assert_eq!(rt; first, expected(6, 3, 3));
+        // the root has ended
+        assert_eq!(rt; second, expected(1, 1, 0));
+    }
+    Ok(())
+}
+
+// Three threads of two steps each stand in 90 orders: a third of them has the read behind both
+// updates, a sixth the init, the update and the read in this order.
+#[test]
+fn three_threads_end_once(rt: HostRuntime) -> Result<(), Fail> {
+    let alloc = rt.alloc();
+    let (first, _second) = first_and_second(alloc, &updates_and_read(alloc)?)?;
+    assert_eq!(rt; first, expected(90, 30, 60));
+    let (first, _second) = first_and_second(alloc, &init_update_read(alloc)?)?;
+    assert_eq!(rt; first, expected(90, 15, 75));
+    Ok(())
+}
+
+// The inner threads stand in 6 orders, each between the fork and the two steps at and behind the
+// join; the two steps of the reader stand among these seven in 36 ways. The read stands behind both
+// updates in 15 of them where the updates are neighbours, in 10 where they are not: 4 · 15 + 2 · 10.
+#[test]
+fn nested_threads_end_once(rt: HostRuntime) -> Result<(), Fail> {
+    let alloc = rt.alloc();
+    let (first, _second) = first_and_second(alloc, &nested_forks(alloc)?)?;
+    assert_eq!(rt; first, expected(216, 80, 136));
+    Ok(())
+}
+
+// In the first tick two pauses stand in two orders. In the second the threads wake, end and pause
+// again: 6 · 2 orders, and 20 · 2 where each takes one step more.
+#[test]
+fn later_ticks_end_once(rt: HostRuntime) -> Result<(), Fail> {
+    let alloc = rt.alloc();
+    let (first, second) = first_and_second(alloc, &two_pauses(alloc)?)?;
+    assert_eq!(rt; first, expected(2, 2, 0));
+    assert_eq!(rt; second, expected(12, 12, 0));
+    let (first, second) = first_and_second(alloc, &write_and_read_later(alloc)?)?;
+    assert_eq!(rt; first, expected(2, 2, 0));
+    assert_eq!(rt; second, expected(40, 20, 20));
+    Ok(())
+}

@@ -1,0 +1,7 @@
+mod acts;
+mod claims;
+mod event_lists;
+mod images;
+mod inputs;
+mod plain;
+mod ticks;
