@@ -1,9 +1,9 @@
 -- Line feeds in lists that are joined and cut.
-use Rattle.std.proofs.Common.{◌≡◌, ℕ, ◌+◌, ◌<◌, ◌≤◌, Bool, true, false, not, cond, List, [], ◌∷◌, ◌++◌, length, take, drop, get_or, refl, ap, sym, ◌∙◌, arith, Option, Some, None, is_some, length-append, append_assoc}
+use Rattle.std.proofs.Common.{◌≡◌, ℕ, ◌+◌, ◌<◌, ◌≤◌, Bool, true, false, not, cond, List, [], ◌∷◌, ◌++◌, length, take, drop, get_or, replicate, refl, ap, sym, ◌∙◌, arith, Option, Some, None, is_some, length-append, append_assoc}
 use Rattle.std.specs.List.{position_or_len, prefix_len}
 use Rattle.std.proofs.lemmas.Bool.{ltb-true, ltb-false, le-ltb}
 use Rattle.std.proofs.lemmas.Bool.Decides.{nat_tests}
-use Rattle.std.proofs.lemmas.List.{get_or-take, length-take-le, take-append-le, drop-append-le}
+use Rattle.std.proofs.lemmas.List.{get_or-take, length-replicate, length-take-le, take-append-le, drop-append-le}
 use Rattle.std.proofs.lemmas.List.Sums.{prefix_len-le-length, prefix_len_passes, position_or_len_is}
 use Rattle.std.proofs.lemmas.List.Folds.{prefix_len-append, length-prefix_len}
 use Rattle.std.proofs.Math.ListN.{drop_of_length-le}
@@ -110,3 +110,10 @@ length-first_line line rest none =
     let long : length (first_line all) ≡ place all = length-take-le (place all) all (place_within all) in
     let at = place-append_none line rest none in
     omega arith
+
+-- lists are as long as one likes
+pub long_line : (n : ℕ) → (line : List ℕ) × (n < length line)
+long_line n =
+    let line : List ℕ = replicate (n + 1) 0 in
+    let long : length line ≡ n + 1 = length-replicate {A = ℕ} (n + 1) 0 in
+    (line, omega arith)

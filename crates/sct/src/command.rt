@@ -36,8 +36,10 @@ fn run<F: Files, R: Source, W: Sink>(
     output: &mut W,
 ) -> Result<(), Fault> {
     let image = load_verified(alloc, files, name)?;
-    let _ticks = play(alloc, &image, input, output)?;
-    Ok(())
+    match play(alloc, &image, input, output) {
+        Ok(_) => Ok(()),
+        Err(fault) => Err(Fault::Play(fault)),
+    }
 }
 
 // Writes the line of a fault. Where it cannot be written, nothing else can be done.

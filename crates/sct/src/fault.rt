@@ -1,6 +1,7 @@
 ghost use Rattle.std.specs.Prelude.{◌≡◌};
 ghost use Rattle.sct.specs.declared.fault.Fault.TheVariants.{Memory};
 
+use crate::play::PlayFault;
 use bytecode::DecodeFault;
 use std::alloc::{AllocError, AllocFailed};
 use thiserror::Error;
@@ -18,15 +19,9 @@ pub enum Fault {
     /// The image breaks a rule.
     #[error("{0}")]
     Rule(Refusal),
-    /// On this line a member names no input, or has a value that its kind does not take.
-    #[error("E51 line {0}")]
-    Input(u64),
-    /// Standard input failed.
-    #[error("E61")]
-    Read,
-    /// This line is no JSON object, or is too long.
-    #[error("E62 line {0}")]
-    NotJson(u64),
+    /// Standard input was not played to its end.
+    #[error("{0}")]
+    Play(PlayFault),
     /// Standard output failed, or took no byte.
     #[error("E63")]
     Write,

@@ -10,12 +10,12 @@ mod fault;
 mod files;
 mod line;
 mod lines;
-#[cfg(test)]
-mod machine_tests;
 mod output;
 mod play;
 #[cfg(test)]
 mod play_tests;
+#[cfg(test)]
+mod stream_tests;
 #[cfg(test)]
 mod tests;
 

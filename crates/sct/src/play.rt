@@ -1,70 +1,103 @@
-ghost use Rattle.std.specs.Prelude.{IfOk};
-ghost use Rattle.sc_graph.specs.Tick.{Rests};
+ghost use Rattle.std.specs.Prelude.{◌≡◌, ◌≢◌, ◌+◌, ◌≤◌, ℕ, List, IfOk, IfErr, IsErrOf, length, string_bytes};
+ghost use Rattle.sc_graph.specs.Tick.{Rests, AreAccepted};
+ghost use Rattle.sct.specs.declared.play.PlayFault.TheVariants.{Memory};
+ghost use Rattle.sct.specs.Lines.{line_limit};
+ghost use Rattle.sct.specs.Trace.{Reacts, Shows, Tells, Plays, Leaves, Good, unread};
 
-use crate::fault::Fault;
 use crate::line::{LineFault, read_line};
 use crate::lines::{Lines, LinesFault};
 use crate::output::line_of;
 use sc_values::{Sink, Source, write_all};
-use std::alloc::Global;
+use std::alloc::{AllocError, Global};
+use thiserror::Error;
 use tick_core::{BeginFault, Control, Inputs, begin};
 use verifier::Verified;
 
-// The fault at the line of this number, which could not be read.
-fn unread_line(fault: LinesFault, line: u64) -> Fault {
-    match fault {
-        LinesFault::Memory => Fault::Memory,
-        LinesFault::Read => Fault::Read,
-        LinesFault::TooLong => Fault::NotJson(line),
+/// Why an input was not played to its end.
+#[derive(Clone, Copy, Debug, PartialEq, Eq, Error)]
+pub enum PlayFault {
+    /// On this line a member names no input, or has a value that its kind does not take.
+    #[error("E51 line {0}")]
+    Input(u64),
+    /// Want of memory.
+    #[error("E52")]
+    Memory,
+    /// The source failed.
+    #[error("E61")]
+    Read,
+    /// This line is no JSON object, or is too long.
+    #[error("E62 line {0}")]
+    NotJson(u64),
+    /// The sink failed, or took no byte.
+    #[error("E63")]
+    Write,
+}
+
+impl From<AllocError> for PlayFault {
+    ghost from_gives = { λ _ e. e ≡ Memory };
+
+    fn from(_error: AllocError) -> PlayFault {
+        PlayFault::Memory
     }
 }
 
-// The fault at the line of this number, which gives no inputs.
-fn refused_line(fault: LineFault, line: u64) -> Fault {
+// The fault where the line of this number could not be had.
+fn unread_line(fault: LinesFault, line: u64) -> PlayFault
+    ensures { result ≡ unread fault line }
+{
     match fault {
-        LineFault::Memory => Fault::Memory,
-        LineFault::NotJson => Fault::NotJson(line),
-        LineFault::Input => Fault::Input(line),
+        LinesFault::Memory => PlayFault::Memory,
+        LinesFault::Read => PlayFault::Read,
+        LinesFault::TooLong => PlayFault::NotJson(line),
     }
 }
 
-// One tick from a configuration: the one after it, and the number of steps. The inputs came from
-// the line of this number.
+// One tick from a configuration: the one after it, and the number of steps.
 fn tick(
     alloc: Global,
     image: &Verified,
     control: &Control,
     inputs: &Inputs,
-    line: u64,
-) -> Result<(Control, u64), Fault>
+) -> Result<(Control, u64), BeginFault>
     requires { Rests image.now.program control.now }
-    ensures { IfOk result (λ r. Rests image.now.program r.0) }
+    ensures rests { IfOk result (λ r. Rests image.now.program r.0) }
+    ensures reacts { IfOk result (λ r. Reacts image.now.program inputs.now control.now r.0 r.1) }
+    ensures refused { IsErrOf result BeginFault.Input
+        → ¬ AreAccepted image.now.program inputs.now }
 {
-    let mut state = match begin(alloc, image, control, inputs) {
-        Ok(state) => state,
-        Err(BeginFault::Memory) => return Err(Fault::Memory),
-        Err(BeginFault::Input) => return Err(Fault::Input(line)),
-    };
+    let mut state = begin(alloc, image, control, inputs)?;
     state.run_alone();
     let (control, report) = state.finish();
     Ok((control, report.history.len() as u64))
 }
 
-// Plays the line of this number, and so the tick of this number, and writes its output line.
-fn play_line<W: Sink>(
+// What the line of this number makes: the configuration after its tick, and the line of output.
+fn react(
     alloc: Global,
     image: &Verified,
     control: &Control,
     number: u64,
     line: &[u8],
-    sink: &mut W,
-) -> Result<Control, Fault>
-    requires { Rests image.now.program control.now }
-    ensures { IfOk result (Rests image.now.program) }
+) -> Result<(Control, String), PlayFault>
+    requires rests { Rests image.now.program control.now }
+    requires short { length line.now ≤ line_limit }
+    ensures rests { IfOk result (λ r. Rests image.now.program r.0) }
+    ensures shows { IfOk result (λ r. Shows image.now.program number control.now line.now r.0
+        (string_bytes r.1)) }
+    ensures fault { IfErr result (Tells image.now.program number line.now) }
 {
     let variables = image.image().program().variables();
-    let inputs = read_line(alloc, variables, line).map_err(|fault| refused_line(fault, number))?;
-    let (control, steps) = tick(alloc, image, control, &inputs, number)?;
+    let inputs = match read_line(alloc, variables, line) {
+        Ok(inputs) => inputs,
+        Err(LineFault::Memory) => return Err(PlayFault::Memory),
+        Err(LineFault::NotJson) => return Err(PlayFault::NotJson(number)),
+        Err(LineFault::Input) => return Err(PlayFault::Input(number)),
+    };
+    let (control, steps) = match tick(alloc, image, control, &inputs) {
+        Ok(done) => done,
+        Err(BeginFault::Memory) => return Err(PlayFault::Memory),
+        Err(BeginFault::Input) => return Err(PlayFault::Input(number)),
+    };
     let shown = line_of(
         alloc,
         number,
@@ -72,8 +105,7 @@ fn play_line<W: Sink>(
         variables,
         control.variables.as_slice(),
     )?;
-    write_all(sink, shown.as_bytes()).map_err(|_| Fault::Write)?;
-    Ok(control)
+    Ok((control, shown))
 }
 
 /// Plays an input to an output: for each line one tick and one output line, which is written before
@@ -83,20 +115,34 @@ pub fn play<R: Source, W: Sink>(
     image: &Verified,
     source: &mut R,
     sink: &mut W,
-) -> Result<u64, Fault> {
+) -> Result<u64, PlayFault>
+    ensures whole { IfOk result (λ ticks. (out : List (List ℕ)) × (ticks ≡ length out)
+        × Plays image.now.program (R.to_come source.old) (W.taken sink.old) (W.taken sink.new) out Good) }
+    ensures fault { IfErr result (Leaves image.now.program
+        (R.to_come source.old) (W.taken sink.old) (W.taken sink.new)) }
+    ensures read { IsErrOf result PlayFault.Read
+        → R.failures source.new ≡ R.failures source.old + 1 }
+    ensures not_read { result ≢ Err PlayFault.Read
+        → R.failures source.new ≡ R.failures source.old }
+    ensures write { IsErrOf result PlayFault.Write
+        → W.failures sink.new ≡ W.failures sink.old + 1 }
+    ensures not_write { result ≢ Err PlayFault.Write
+        → W.failures sink.new ≡ W.failures sink.old }
+{
     let mut control = Control::initial(alloc, image.image().program())?;
     let mut lines = Lines::new(alloc)?;
-    let mut ticks: u64 = 0;
-    'ticks: for _ in 0..u64::MAX {
-        let number = ticks.saturating_add(1);
-        match lines
-            .next(alloc, source)
-            .map_err(|fault| unread_line(fault, number))?
-        {
-            Some(line) => control = play_line(alloc, image, &control, number, &line, sink)?,
-            None => break 'ticks,
+    for ticks in 0..u64::MAX {
+        let number = ticks + 1;
+        let line = match lines.next(alloc, source) {
+            Ok(Some(line)) => line,
+            Ok(None) => return Ok(ticks),
+            Err(fault) => return Err(unread_line(fault, number)),
+        };
+        let (after, shown) = react(alloc, image, &control, number, &line)?;
+        if write_all(sink, shown.as_bytes()).is_err() {
+            return Err(PlayFault::Write);
         }
-        ticks = number;
+        control = after;
     }
-    Ok(ticks)
+    Ok(u64::MAX)
 }

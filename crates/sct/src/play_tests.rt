@@ -5,7 +5,7 @@ use std::process::Abort;
 use std::test::Fail;
 
 // `fork { x = x + 2147483647; } par { x = x + 1; } join;`
-pub(crate) const WRAPPING_SUM: [u8; 134] = [
+const WRAPPING_SUM: [u8; 134] = [
     0x53, 0x43, 0x43, 0x42, 0x01, 0x02, 0x00, 0x01, 0x01, 0x01, 0x78, 0x01, 0x01, 0x01, 0x79, 0x03,
     0x00, 0xff, 0xff, 0x00, 0x00, 0x02, 0x00, 0x00, 0x00, 0x00, 0x00, 0x03, 0x00, 0x00, 0x00, 0x00,
     0x00, 0x00, 0x00, 0x05, 0x00, 0x00, 0x00, 0x00, 0x00, 0x07, 0x00, 0x00, 0x00, 0x00, 0x00, 0x07,
@@ -18,7 +18,7 @@ pub(crate) const WRAPPING_SUM: [u8; 134] = [
 ];
 
 // `L: fork { pause; } par { pause; } join; goto L;`
-pub(crate) const TWO_PAUSES: [u8; 136] = [
+const TWO_PAUSES: [u8; 136] = [
     0x53, 0x43, 0x43, 0x42, 0x01, 0x02, 0x00, 0x01, 0x01, 0x01, 0x78, 0x01, 0x01, 0x01, 0x79, 0x03,
     0x00, 0xff, 0xff, 0x00, 0x00, 0x08, 0x00, 0x00, 0x00, 0x00, 0x00, 0x03, 0x00, 0x02, 0x00, 0x00,
     0x00, 0x00, 0x00, 0x06, 0x00, 0x02, 0x00, 0x00, 0x00, 0x09, 0x00, 0x00, 0x00, 0x00, 0x00, 0x03,
@@ -48,13 +48,21 @@ const THREE_LEVELS: [u8; 207] = [
 ];
 
 // `L: pause; if (A) { n = n + 1; } goto L;` with the Bool input `A` and the Int output `n`
-const COUNTER: [u8; 86] = [
+pub(crate) const COUNTER: [u8; 86] = [
     0x53, 0x43, 0x43, 0x42, 0x01, 0x02, 0x00, 0x00, 0x00, 0x01, 0x41, 0x01, 0x01, 0x01, 0x6e, 0x01,
     0x00, 0xff, 0xff, 0x00, 0x00, 0x04, 0x00, 0x00, 0x00, 0x04, 0x00, 0x00, 0x00, 0x00, 0x00, 0x01,
     0x00, 0x00, 0x06, 0x01, 0x00, 0x00, 0x00, 0x00, 0x00, 0x04, 0x00, 0x00, 0x07, 0x02, 0x00, 0x00,
     0x00, 0x00, 0x00, 0x03, 0x00, 0x00, 0x03, 0x03, 0x00, 0x00, 0x00, 0x01, 0x02, 0x00, 0x00, 0x00,
     0x00, 0x00, 0x00, 0x02, 0x00, 0x00, 0x02, 0x01, 0x00, 0x00, 0x00, 0x00, 0x01, 0x01, 0x01, 0x00,
     0x00, 0x00, 0x04, 0x00, 0x00, 0x00,
+];
+
+// `y = n;` with the Int input `n` and the Int output `y`
+const COPY: [u8; 55] = [
+    0x53, 0x43, 0x43, 0x42, 0x01, 0x02, 0x00, 0x00, 0x01, 0x01, 0x6e, 0x01, 0x01, 0x01, 0x79, 0x01,
+    0x00, 0xff, 0xff, 0x00, 0x00, 0x00, 0x00, 0x00, 0x00, 0x02, 0x00, 0x00, 0x00, 0x00, 0x00, 0x02,
+    0x00, 0x01, 0x01, 0x01, 0x00, 0x01, 0x00, 0x01, 0x02, 0x00, 0x00, 0x00, 0x00, 0x00, 0x00, 0x01,
+    0x00, 0x01, 0x00, 0x02, 0x00, 0x00, 0x00,
 ];
 
 const RUN: [&str; 2] = ["run", "image"];
@@ -122,6 +130,34 @@ fn plays_inputs(rt: HostRuntime) -> Result<(), Fail> {
 }
 
 #[test]
+fn plays_integers(rt: HostRuntime) -> Result<(), Fail> {
+    for (input, trace) in [
+        (
+            b"{\"n\":2147483647}".as_slice(),
+            "{\"out\":{\"y\":2147483647},\"steps\":2,\"tick\":1}\n",
+        ),
+        (
+            b"{\"n\":-2147483648}".as_slice(),
+            "{\"out\":{\"y\":-2147483648},\"steps\":2,\"tick\":1}\n",
+        ),
+    ] {
+        expect_played(&rt, &COPY, input, trace)?;
+    }
+    for input in [
+        b"{\"n\":2147483648}".as_slice(),
+        b"{\"n\":-2147483649}".as_slice(),
+        b"{\"n\":1.0}".as_slice(),
+        b"{\"n\":1e0}".as_slice(),
+        b"{\"n\":-0}".as_slice(),
+        b"{\"n\":true}".as_slice(),
+        b"{\"y\":1}".as_slice(),
+    ] {
+        expect_left(&rt, &RUN, &COPY, input, 1, "", "sct: E51 line 1\n")?;
+    }
+    Ok(())
+}
+
+#[test]
 fn refuses_lines(rt: HostRuntime) -> Result<(), Fail> {
     let first = "{\"out\":{\"n\":0},\"steps\":1,\"tick\":1}\n";
     for (input, errors) in [
@@ -129,34 +165,24 @@ fn refuses_lines(rt: HostRuntime) -> Result<(), Fail> {
         (b"{}\n{\"A\":1}\n".as_slice(), "sct: E51 line 2\n"),
         (b"{}\n{\"A\":[]}\n".as_slice(), "sct: E51 line 2\n"),
         (b"{}\n\n{}\n".as_slice(), "sct: E62 line 2\n"),
+        (b"{}\n \n{}\n".as_slice(), "sct: E62 line 2\n"),
         (b"{}\n[]\n".as_slice(), "sct: E62 line 2\n"),
+        (b"{}\ntrue\n".as_slice(), "sct: E62 line 2\n"),
+        (b"{}\n{} {}\n".as_slice(), "sct: E62 line 2\n"),
+        (b"{}\n{\"B\":1\n".as_slice(), "sct: E62 line 2\n"),
+        (b"{}\n{\"A\":1e999}\n".as_slice(), "sct: E62 line 2\n"),
+        (b"{}\n{\"a\":true}\n".as_slice(), "sct: E51 line 2\n"),
+        (b"{}\n{\"A\":null}\n".as_slice(), "sct: E51 line 2\n"),
+        (b"{}\n{\"A\":\"true\"}\n".as_slice(), "sct: E51 line 2\n"),
+        (
+            b"{}\n{\"A\":true,\"B\":true}\n".as_slice(),
+            "sct: E51 line 2\n",
+        ),
         (b"{}\n\xff".as_slice(), "sct: E62 line 2\n"),
         (b"{}\n{\"A\":true\n".as_slice(), "sct: E62 line 2\n"),
     ] {
         expect_left(&rt, &RUN, &COUNTER, input, 1, first, errors)?;
     }
-    Ok(())
-}
-
-#[test]
-fn tells_failing_streams(rt: HostRuntime) -> Result<(), Fail> {
-    let broken = FromSlice {
-        rest: b"{}\n{}\n",
-        each: 3,
-        plan: Plan::After(1),
-    };
-    let left = outcome(&rt, &RUN, &TWO_THREADS, broken, Plan::Never)?;
-    assert_eq!(rt; left.errors.as_slice(), b"sct: E61\n".as_slice());
-    assert_eq!(rt; left.status, 1);
-    let whole = FromSlice {
-        rest: b"{}\n",
-        each: 3,
-        plan: Plan::Never,
-    };
-    let left = outcome(&rt, &RUN, &TWO_THREADS, whole, Plan::After(1))?;
-    assert_eq!(rt; left.output.as_slice(), b"{\"out\":{\"x".as_slice());
-    assert_eq!(rt; left.errors.as_slice(), b"sct: E63\n".as_slice());
-    assert_eq!(rt; left.status, 1);
     Ok(())
 }
 
@@ -167,7 +193,7 @@ fn expect_misuse<R: Abort + AllocGlobal>(rt: &R, words: &[&str]) -> Result<(), F
         each: 3,
         plan: Plan::Never,
     };
-    let left = outcome(rt, words, &TWO_THREADS, nothing, Plan::Never)?;
+    let left = outcome(rt, words, &TWO_THREADS, nothing, 10, Plan::Never)?;
     assert_eq!(rt; left.status, 2);
     assert!(rt; left.output.is_empty());
     assert!(rt; !left.errors.is_empty());
@@ -179,5 +205,27 @@ fn tells_misuse(rt: HostRuntime) -> Result<(), Fail> {
     expect_misuse(&rt, &[])?;
     expect_misuse(&rt, &["compile", "a", "b"])?;
     expect_misuse(&rt, &["run"])?;
-    expect_misuse(&rt, &["check", "a", "b"])
+    expect_misuse(&rt, &["check", "a", "b"])?;
+    expect_misuse(&rt, &["scl", "a"])?;
+    expect_misuse(&rt, &["run", "a", "--workers", "2"])
+}
+
+const HELP: &str = "Checks and runs images of SCCharts
+
+Usage: sct <COMMAND>
+
+Commands:
+  check  Decodes and verifies an image
+  run    Plays standard input to standard output, a tick for each line
+
+Options:
+  -h, --help  Print help
+
+Example:
+  sct run examples/two_threads.image < examples/two_threads.ticks
+";
+
+#[test]
+fn shows_help(rt: HostRuntime) -> Result<(), Fail> {
+    expect_left(&rt, &["--help"], b"", b"", 0, HELP, "")
 }

@@ -3,7 +3,7 @@ ghost use Rattle.std.specs.Prelude.{◌≡◌, ◌<◌};
 
 use crate::command::command;
 use crate::files::{FileFault, Files};
-use sc_values::{Failures, FromSlice, Plan, ToVec};
+use sc_values::{Failures, FromSlice, Plan, Sink, ToVec};
 use std::alloc::{AllocError, Global};
 use std::marker::Brand;
 use std::process::Abort;
@@ -58,19 +58,16 @@ pub(crate) struct Left {
     pub(crate) errors: Vec<u8>,
 }
 
-// What a command leaves whose file of the name `image` has these bytes. Its output takes at most
-// `each` bytes at a write, and fails as planned.
-fn left_of<L: Ledger, M: Ledger>(
+// The status of a command over one file of the name `image`, and what it writes as errors.
+pub(crate) fn done_over<W: Sink, M: Ledger>(
     alloc: Global,
     words: &[&str],
     image: &[u8],
     input: FromSlice<'_>,
-    plan: Plan,
-    written: Blank,
+    output: &mut W,
     reported: Blank,
-) -> Result<Left, AllocError>
-    requires written { (written.name ≡ L.name) × (written.parts ≡ L.parts) × (0 < L.parts) }
-    requires reported { (reported.name ≡ M.name) × (reported.parts ≡ M.parts) × (0 < M.parts) }
+) -> Result<(u8, Vec<u8>), AllocError>
+    requires { (reported.name ≡ M.name) × (reported.parts ≡ M.parts) × (0 < M.parts) }
 {
     let mut owned = Vec::new(alloc);
     for word in words {
@@ -81,20 +78,39 @@ fn left_of<L: Ledger, M: Ledger>(
         bytes: image,
     };
     let mut input = input;
-    let mut output: ToVec<L> = ToVec::new(alloc, 10, plan, Failures::none(written));
     let mut errors: ToVec<M> = ToVec::new(alloc, 10, Plan::Never, Failures::none(reported));
-    let status = command(
+    let status = command(alloc, &owned, &mut files, &mut input, output, &mut errors);
+    Ok((status, errors.bytes))
+}
+
+// What a command leaves whose output takes at most `each` bytes at a write, and fails as planned.
+fn left_of<L: Ledger, M: Ledger>(
+    alloc: Global,
+    words: &[&str],
+    image: &[u8],
+    input: FromSlice<'_>,
+    each: usize,
+    plan: Plan,
+    written: Blank,
+    reported: Blank,
+) -> Result<Left, AllocError>
+    requires each { 0 < each }
+    requires written { (written.name ≡ L.name) × (written.parts ≡ L.parts) × (0 < L.parts) }
+    requires reported { (reported.name ≡ M.name) × (reported.parts ≡ M.parts) × (0 < M.parts) }
+{
+    let mut output: ToVec<L> = ToVec::new(alloc, each, plan, Failures::none(written));
+    let (status, errors) = done_over::<ToVec<L>, M>(
         alloc,
-        &owned,
-        &mut files,
-        &mut input,
+        words,
+        image,
+        input,
         &mut output,
-        &mut errors,
-    );
+        reported,
+    )?;
     Ok(Left {
         status,
         output: output.bytes,
-        errors: errors.bytes,
+        errors,
     })
 }
 
@@ -104,17 +120,34 @@ pub(crate) fn outcome<R: AllocGlobal>(
     words: &[&str],
     image: &[u8],
     source: FromSlice<'_>,
+    each: usize,
     plan: Plan,
-) -> Result<Left, AllocError> {
+) -> Result<Left, AllocError>
+    requires { 0 < each }
+{
     left_of::<Brand, Brand>(
         rt.alloc(),
         words,
         image,
         source,
+        each,
         plan,
         Blank::new(1),
         Blank::new(1),
     )
+}
+
+// Checks what a command left.
+pub(crate) fn expect_same<R: Abort + AllocGlobal>(
+    rt: &R,
+    left: &Left,
+    status: u8,
+    output: &str,
+    errors: &str,
+) {
+    assert_eq!(rt; left.output.as_slice(), output.as_bytes());
+    assert_eq!(rt; left.errors.as_slice(), errors.as_bytes());
+    assert_eq!(rt; left.status, status);
 }
 
 // The status, the output and the errors that a command is to leave.
@@ -132,10 +165,8 @@ pub(crate) fn expect_left<R: Abort + AllocGlobal>(
         each: 3,
         plan: Plan::Never,
     };
-    let left = outcome(rt, words, image, source, Plan::Never)?;
-    assert_eq!(rt; left.output.as_slice(), output.as_bytes());
-    assert_eq!(rt; left.errors.as_slice(), errors.as_bytes());
-    assert_eq!(rt; left.status, status);
+    let left = outcome(rt, words, image, source, 10, Plan::Never)?;
+    expect_same(rt, &left, status, output, errors);
     Ok(())
 }
 
@@ -177,14 +208,14 @@ fn checks_good_images(rt: HostRuntime) -> Result<(), Fail> {
 
 #[test]
 fn refuses_each_cut(rt: HostRuntime) -> Result<(), Fail> {
-    for length in 0..31 {
-        if let Some(cut) = ONE_EXIT.get(..length) {
-            expect_checked(&rt, cut, "sct: E21\n")?;
+    for image in [ONE_EXIT.as_slice(), TWO_THREADS.as_slice()] {
+        for length in 0..image.len() {
+            if let Some(cut) = image.get(..length) {
+                expect_checked(&rt, cut, "sct: E21\n")?;
+            }
         }
     }
-    let mut longer = Vec::from_slice(rt.alloc(), &ONE_EXIT)?;
-    longer.push(0)?;
-    expect_checked(&rt, &longer, "sct: E24\n")
+    Ok(())
 }
 
 #[test]
@@ -204,6 +235,141 @@ fn refuses_damaged_bytes(rt: HostRuntime) -> Result<(), Fail> {
     for (at, errors) in [(104, "sct: E38 3 5\n"), (120, "sct: E37 5 6\n")] {
         let damaged = with_byte(rt.alloc(), &TWO_THREADS, at, 1)?;
         expect_checked(&rt, &damaged, errors)?;
+    }
+    Ok(())
+}
+
+// These bytes without the one at a place.
+fn without_byte(alloc: Global, bytes: &[u8], at: usize) -> Result<Vec<u8>, AllocError> {
+    let mut left = Vec::new(alloc);
+    for (place, byte) in bytes.iter().enumerate() {
+        if place != at {
+            left.push(*byte)?;
+        }
+    }
+    Ok(left)
+}
+
+// These bytes with a zero more, before the one at a place.
+fn with_zero(alloc: Global, bytes: &[u8], at: usize) -> Result<Vec<u8>, AllocError> {
+    let mut longer = Vec::new(alloc);
+    for (place, byte) in bytes.iter().enumerate() {
+        if place == at {
+            longer.push(0)?;
+        }
+        longer.push(*byte)?;
+    }
+    Ok(longer)
+}
+
+#[test]
+fn refuses_a_lost_byte(rt: HostRuntime) -> Result<(), Fail> {
+    for (from, to, errors) in [
+        (0, 4, "sct: E22\n"),
+        (4, 5, "sct: E23\n"),
+        // 256 variables, of which the first has the kind 255
+        (5, 7, "sct: E25 at 8\n"),
+        // 65,280 threads
+        (7, 9, "sct: E21\n"),
+        // one thread and no node
+        (9, 18, "sct: E24\n"),
+        (18, 31, "sct: E21\n"),
+    ] {
+        for at in from..to {
+            expect_checked(&rt, &without_byte(rt.alloc(), &ONE_EXIT, at)?, errors)?;
+        }
+    }
+    Ok(())
+}
+
+#[test]
+fn refuses_a_byte_too_many(rt: HostRuntime) -> Result<(), Fail> {
+    for (from, to, errors) in [
+        (0, 4, "sct: E22\n"),
+        (4, 5, "sct: E23\n"),
+        // too many threads or nodes
+        (5, 26, "sct: E21\n"),
+        (26, 31, "sct: E24\n"),
+    ] {
+        for at in from..to {
+            expect_checked(&rt, &with_zero(rt.alloc(), &ONE_EXIT, at)?, errors)?;
+        }
+    }
+    let mut longer = Vec::from_slice(rt.alloc(), &ONE_EXIT)?;
+    longer.push(0)?;
+    expect_checked(&rt, &longer, "sct: E24\n")
+}
+
+// The entries of the certificate, one lower: the place of the byte, and the fault.
+const LOWERED: [(usize, u8, &str); 18] = [
+    (45, 0, "sct: E37 0 3\n"),
+    (78, 0, "sct: E38 3 5\n"),
+    (47, 6, "sct: E39 0\n"),
+    (62, 1, "sct: E39 1\n"),
+    (72, 0, "sct: E39 2\n"),
+    (80, 1, "sct: E39 3\n"),
+    (98, 0, "sct: E39 4\n"),
+    (106, 1, "sct: E39 5\n"),
+    (122, 0, "sct: E39 6\n"),
+    (49, 0, "sct: E35 0\n"),
+    (64, 0, "sct: E35 1\n"),
+    (74, 0, "sct: E35 2\n"),
+    (82, 0, "sct: E35 3\n"),
+    (100, 0, "sct: E35 4\n"),
+    (108, 0, "sct: E35 5\n"),
+    (124, 0, "sct: E35 6\n"),
+    (21, 1, "sct: E40 thread 0\n"),
+    (126, 6, "sct: E40 image\n"),
+];
+
+// The entries of the certificate, one higher, where that is refused.
+const RAISED: [(usize, u8, &str); 20] = [
+    (70, 1, "sct: E37 1 2\n"),
+    (78, 2, "sct: E37 0 3\n"),
+    (104, 1, "sct: E38 3 5\n"),
+    (120, 1, "sct: E37 5 6\n"),
+    (47, 8, "sct: E40 image\n"),
+    (62, 3, "sct: E39 0\n"),
+    (80, 3, "sct: E39 0\n"),
+    (106, 3, "sct: E39 0\n"),
+    (72, 2, "sct: E39 1\n"),
+    (98, 2, "sct: E39 3\n"),
+    (122, 2, "sct: E39 5\n"),
+    (49, 2, "sct: E25 at 49\n"),
+    (64, 2, "sct: E25 at 64\n"),
+    (74, 2, "sct: E25 at 74\n"),
+    (82, 2, "sct: E25 at 82\n"),
+    (100, 2, "sct: E25 at 100\n"),
+    (108, 2, "sct: E25 at 108\n"),
+    (124, 2, "sct: E25 at 124\n"),
+    (29, 1, "sct: E40 thread 0\n"),
+    (37, 1, "sct: E40 thread 0\n"),
+];
+
+#[test]
+fn refuses_each_table_by_one(rt: HostRuntime) -> Result<(), Fail> {
+    for (at, byte, errors) in LOWERED.iter().chain(&RAISED) {
+        let damaged = with_byte(rt.alloc(), &TWO_THREADS, *at, *byte)?;
+        expect_checked(&rt, &damaged, *errors)?;
+    }
+    // the join with the greater priority has two exits before it
+    let damaged = with_byte(rt.alloc(), &TWO_THREADS, 60, 1)?;
+    expect_checked(&rt, &damaged, "sct: E37 4 1\n")
+}
+
+#[test]
+fn accepts_greater_tables(rt: HostRuntime) -> Result<(), Fail> {
+    for (at, byte, line) in [
+        (45, 2, "ok nodes=7 threads=3 budget=7\n"),
+        (96, 1, "ok nodes=7 threads=3 budget=7\n"),
+        (21, 3, "ok nodes=7 threads=3 budget=7\n"),
+        (126, 8, "ok nodes=7 threads=3 budget=8\n"),
+    ] {
+        let raised = with_byte(rt.alloc(), &TWO_THREADS, at, byte)?;
+        expect_left(&rt, &["check", "image"], &raised, b"", 0, line, "")?;
+        let trace =
+            "{\"out\":{\"x\":1,\"y\":1},\"steps\":7,\"tick\":1}\n{\"out\":{\"x\":1,\"y\":1},\"steps\":0,\"tick\":2}\n";
+        expect_left(&rt, &["run", "image"], &raised, b"{}\n{}\n", 0, trace, "")?;
     }
     Ok(())
 }

@@ -1,0 +1,205 @@
+-- How a trace grows, line by line.
+use Rattle.std.proofs.Common.{◌≡◌, ℕ, ◌+◌, ◌-◌, ◌^◌, ◌<◌, Option, Some, None, option_map, List, [], ◌∷◌, ◌++◌, length, take, refl, ap, sym, ◌∙◌, subst, arith, append_assoc, append-nil, length-append, inl}
+use Rattle.std.specs.List.{concat}
+use Rattle.std.specs.Io.KnownBytes.{Appends, IsAtEnd}
+use Rattle.std.proofs.lemmas.List.Folds.{concat-append}
+use Rattle.std.proofs.lemmas.List.{nil_from_length}
+use Rattle.std.proofs.Math.Seq.{take-length, take-append-add}
+use Rattle.std.proofs.KnownBytes.{Appends-nil, Appends-trans, prepend_known-nil}
+use Rattle.sc_values.specs.Streams.{GrowsInto}
+use Rattle.sc_graph.specs.declared.control.Control.{Control}
+use Rattle.sc_graph.specs.Program.{Program}
+use Rattle.sc_graph.specs.Tick.{initial}
+use Rattle.sct.specs.declared.lines.LinesFault.{LinesFault}
+use Rattle.sct.specs.declared.lines.LinesFault.TheVariants as lines_fault
+use Rattle.sct.specs.declared.play.PlayFault.{PlayFault}
+use Rattle.sct.specs.declared.play.PlayFault.TheVariants as play_fault
+use Rattle.sct.specs.Lines.{line_limit, ahead, TakesLine, IsTooLong}
+use Rattle.sct.specs.Trace.{lines_of, AreLinesOf, End, Good, NoInputs, NoObject, EndsAt, Shows, Tells, unread, Goes, Trace, Plays, PlaysPart, Leaves}
+use Rattle.sct.proofs.Splits.{Cut, known_lines, cut_known, are_lines, cut_at_end, length-lines_of, cut_taken, cut_too_long}
+
+-- after k lines the configuration is c, and these lines of output were written
+pub record Played (p : Program) (start now : Option (List ℕ)) (k : ℕ) (c : Control) (old new : Option (List ℕ)) : Type 0 where
+  pub done : List (List ℕ)
+  pub out : List (List ℕ)
+  pub leads : (rest : List (List ℕ)) → Cut now rest → Cut start (done ++ rest)
+  pub goes : (lines rest : List (List ℕ)) (end : End) → Goes p (k + 1) c lines rest end → Trace p (done ++ lines) (out ++ rest) end
+  pub shown : k ≡ length out
+  pub taken : k ≡ length done
+  pub written : Appends old new (concat out)
+
+at_start : (p : Program) (start old : Option (List ℕ)) → Played p start (ahead [] start) 0 (initial p) old old
+at_start p start old =
+    record {
+      done = [];
+      out = [];
+      leads = λ rest cut. subst (λ bytes. Cut bytes rest) (prepend_known-nil start) cut;
+      goes = λ lines rest end trace. trace;
+      shown = refl;
+      taken = refl;
+      written = Appends-nil old;
+    }
+
+-- nothing was taken
+pub none_played : (p : Program) (start old : Option (List ℕ)) (held : List ℕ) (c : Control) → held ≡ [] → c ≡ initial p → Played p start (ahead held start) 0 c old old
+none_played p start old held c none first =
+    subst (λ d. Played p start (ahead held start) 0 d old old) (sym first)
+    (subst (λ bytes. Played p start (ahead bytes start) 0 (initial p) old old) (sym none) (at_start p start old))
+
+-- one line more was taken, and its line of output written
+pub one_played : (p : Program) (start now now' : Option (List ℕ)) (k : ℕ) (c d : Control) (old new new' : Option (List ℕ)) (line shown : List ℕ)
+    → Played p start now k c old new → TakesLine now now' line → Shows p (k + 1) c line d shown → Appends new new' shown
+    → Played p start now' (k + 1) d old new'
+one_played p start now now' k c d old new new' line shown a takes shows writes =
+    record {
+      done = a.done ++ line ∷ [];
+      out = a.out ++ shown ∷ [];
+      leads = λ rest cut. subst (Cut start) (sym (append_assoc a.done (line ∷ []) rest)) (a.leads (line ∷ rest) (cut_taken now now' line rest takes cut));
+      goes = λ lines rest end trace.
+          subst (λ xs. Trace p xs ((a.out ++ shown ∷ []) ++ rest) end) (sym (append_assoc a.done (line ∷ []) lines))
+          (subst (λ ys. Trace p (a.done ++ line ∷ lines) ys end) (sym (append_assoc a.out (shown ∷ []) rest)) (a.goes (line ∷ lines) (shown ∷ rest) end (d, shows, trace)));
+      shown = omega (arith, a.shown, length-append a.out (shown ∷ []));
+      taken = omega (arith, a.taken, length-append a.done (line ∷ []));
+      written =
+          subst (Appends old new') (sym (concat-append a.out (shown ∷ []) ∙ ap (λ last. concat a.out ++ last) (append-nil shown)))
+          (Appends-trans old new new' (concat a.out) shown a.written writes);
+    }
+
+-- the trace of the lines so far
+so_far : (p : Program) (start now : Option (List ℕ)) (k : ℕ) (c : Control) (old new : Option (List ℕ)) (a : Played p start now k c old new) → Trace p a.done a.out Good
+so_far p start now k c old new a =
+    subst (λ xs. Trace p xs a.out Good) (append-nil a.done)
+    (subst (λ ys. Trace p (a.done ++ []) ys Good) (append-nil a.out) (a.goes [] [] Good refl))
+
+-- all lines were played
+pub all_played : (p : Program) (start now : Option (List ℕ)) (k : ℕ) (c : Control) (old new : Option (List ℕ)) → Played p start now k c old new → IsAtEnd now
+    → (out : List (List ℕ)) × (k ≡ length out) × Plays p start old new out Good
+all_played p start now k c old new a ended = (
+  a.out,
+  a.shown,
+  record {
+    lines = a.done;
+    cut = are_lines start a.done (subst (Cut start) (append-nil a.done) (a.leads [] (cut_at_end now ended)));
+    trace = so_far p start now k c old new a;
+    written = a.written;
+  },
+)
+
+-- as many lines were played as there can be
+most_lines : (start now : Option (List ℕ)) (done : List (List ℕ)) → 2 ^ 64 - 1 ≡ length done → ((rest : List (List ℕ)) → Cut now rest → Cut start (done ++ rest)) → AreLinesOf start done
+most_lines None now done most leads = tt
+most_lines (Some bytes) None done most leads = λ _. sym (append-nil done) ∙ leads [] tt
+most_lines (Some bytes) (Some ys) done most leads = λ few.
+    let all : done ++ lines_of ys ≡ lines_of bytes = leads (lines_of ys) refl in
+    let long : length (done ++ lines_of ys) ≡ length (lines_of bytes) = ap length all in
+    let none : length (lines_of ys) ≡ 0 = omega (arith, few, most, long, length-append done (lines_of ys), length-lines_of bytes) in
+    sym (append-nil done) ∙ ap (λ rest. done ++ rest) (sym (nil_from_length (lines_of ys) none)) ∙ all
+
+pub most_played : (p : Program) (start now : Option (List ℕ)) (k : ℕ) (c : Control) (old new : Option (List ℕ)) → Played p start now k c old new → k ≡ 2 ^ 64 - 1
+    → (out : List (List ℕ)) × (k ≡ length out) × Plays p start old new out Good
+most_played p start now k c old new a most = (
+  a.out,
+  a.shown,
+  record {
+    lines = a.done;
+    cut = most_lines start now a.done (sym most ∙ a.taken) a.leads;
+    trace = so_far p start now k c old new a;
+    written = a.written;
+  },
+)
+
+-- a line ends the trace
+ends_at : (p : Program) (start now : Option (List ℕ)) (k : ℕ) (c : Control) (old new : Option (List ℕ)) (line : List ℕ) (rest : List (List ℕ)) (end : End)
+    → Played p start now k c old new → Cut now (line ∷ rest) → EndsAt p (k + 1) line end → (out : List (List ℕ)) × Plays p start old new out end
+ends_at p start now k c old new line rest end a cut ends = (
+  a.out,
+  record {
+    lines = a.done ++ line ∷ rest;
+    cut = are_lines start (a.done ++ line ∷ rest) (a.leads (line ∷ rest) cut);
+    trace = subst (λ ys. Trace p (a.done ++ line ∷ rest) ys end) (append-nil a.out) (a.goes (line ∷ rest) [] end ends);
+    written = a.written;
+  },
+)
+
+-- the line that was taken is refused
+pub refused : (p : Program) (start now now' : Option (List ℕ)) (k : ℕ) (c : Control) (old new : Option (List ℕ)) (line : List ℕ) (end : End)
+    → Played p start now k c old new → TakesLine now now' line → EndsAt p (k + 1) line end → (out : List (List ℕ)) × Plays p start old new out end
+refused p start now now' k c old new line end a takes ends =
+    ends_at p start now k c old new line (known_lines now') end a (cut_taken now now' line (known_lines now') takes (cut_known now')) ends
+
+-- the next line is too long
+pub refused_long : (p : Program) (start now : Option (List ℕ)) (k : ℕ) (c : Control) (old new : Option (List ℕ))
+    → Played p start now k c old new → IsTooLong now → (out : List (List ℕ)) × Plays p start old new out (NoObject (k + 1))
+refused_long p start now k c old new a long =
+    let cut = cut_too_long now long in
+    ends_at p start now k c old new cut.0 cut.1 (NoObject (k + 1)) a cut.3 (refl, inl cut.2)
+
+grows_by_all : (old new : Option (List ℕ)) (bytes : List ℕ) → Appends old new bytes → GrowsInto old new bytes
+grows_by_all None new bytes p = tt
+grows_by_all (Some x) None bytes p = absurd p
+grows_by_all (Some x) (Some y) bytes p = (length bytes, p ∙ ap (λ ys. x ++ ys) (sym (take-length bytes)))
+
+grows_more : (old new new' : Option (List ℕ)) (bytes more : List ℕ) → Appends old new bytes → GrowsInto new new' more → GrowsInto old new' (bytes ++ more)
+grows_more None new new' bytes more p q = tt
+grows_more (Some x) None new' bytes more p q = absurd p
+grows_more (Some x) (Some y) None bytes more p q = absurd q
+grows_more (Some x) (Some y) (Some z) bytes more p q = (
+  length bytes + q.0,
+  q.1 ∙ ap (λ ys. ys ++ take q.0 more) p ∙ append_assoc x bytes (take q.0 more) ∙ ap (λ ys. x ++ ys) (sym (take-append-add bytes more q.0)),
+)
+
+-- nothing more can be done
+pub stopped : (p : Program) (start now : Option (List ℕ)) (k : ℕ) (c : Control) (old new : Option (List ℕ)) → Played p start now k c old new → PlaysPart p start old new
+stopped p start now k c old new a =
+    record {
+      first = a.done;
+      rest = known_lines now;
+      cut = are_lines start (a.done ++ known_lines now) (a.leads (known_lines now) (cut_known now));
+      out = a.out;
+      trace = so_far p start now k c old new a;
+      written = grows_by_all old new (concat a.out) a.written;
+    }
+
+pub not_begun : (p : Program) (start old : Option (List ℕ)) → PlaysPart p start old old
+not_begun p start old = stopped p start (ahead [] start) 0 (initial p) old old (at_start p start old)
+
+-- what would be written had the sink taken these bytes
+abbrev wanted : Option (List ℕ) → List ℕ → Option (List ℕ)
+wanted new bytes = option_map (λ xs. xs ++ bytes) new
+
+wanted_appends : (new : Option (List ℕ)) (bytes : List ℕ) → Appends new (wanted new bytes) bytes
+wanted_appends None bytes = tt
+wanted_appends (Some xs) bytes = refl
+
+-- the line of output could not be written, or not to its end
+pub stopped_writing : (p : Program) (start now now' : Option (List ℕ)) (k : ℕ) (c d : Control) (old new new' : Option (List ℕ)) (line shown : List ℕ)
+    → Played p start now k c old new → TakesLine now now' line → Shows p (k + 1) c line d shown → GrowsInto new new' shown → PlaysPart p start old new'
+unfolding one_played
+stopped_writing p start now now' k c d old new new' line shown a takes shows writes =
+    let b = one_played p start now now' k c d old new (wanted new shown) line shown a takes shows (wanted_appends new shown) in
+    record {
+      first = b.done;
+      rest = known_lines now';
+      cut = are_lines start (b.done ++ known_lines now') (b.leads (known_lines now') (cut_known now'));
+      out = b.out;
+      trace = so_far p start now' (k + 1) d old (wanted new shown) b;
+      written =
+          subst (GrowsInto old new') (sym (concat-append a.out (shown ∷ []) ∙ ap (λ last. concat a.out ++ last) (append-nil shown)))
+          (grows_more old new new' (concat a.out) shown a.written writes);
+    }
+
+-- line k + 1 could not be had
+pub stopped_reading : (p : Program) (start now : Option (List ℕ)) (k : ℕ) (c : Control) (old new : Option (List ℕ)) (f : LinesFault)
+    → Played p start now k c old new → (f ≡ lines_fault.TooLong → IsTooLong now) → Leaves p start old new (unread f (k + 1))
+stopped_reading p start now k c old new lines_fault.Memory a long = stopped p start now k c old new a
+stopped_reading p start now k c old new lines_fault.Read a long = stopped p start now k c old new a
+stopped_reading p start now k c old new lines_fault.TooLong a long = refused_long p start now k c old new a (long refl)
+
+-- line k + 1 makes no tick
+pub stopped_reacting : (p : Program) (start now now' : Option (List ℕ)) (k : ℕ) (c : Control) (old new : Option (List ℕ)) (line : List ℕ) (f : PlayFault)
+    → Played p start now k c old new → TakesLine now now' line → Tells p (k + 1) line f → Leaves p start old new f
+stopped_reacting p start now now' k c old new line (play_fault.Input n) a takes tells = refused p start now now' k c old new line (NoInputs n) a takes tells
+stopped_reacting p start now now' k c old new line (play_fault.NotJson n) a takes tells = refused p start now now' k c old new line (NoObject n) a takes tells
+stopped_reacting p start now now' k c old new line play_fault.Memory a takes tells = stopped p start now k c old new a
+stopped_reacting p start now now' k c old new line play_fault.Read a takes tells = absurd tells
+stopped_reacting p start now now' k c old new line play_fault.Write a takes tells = absurd tells

@@ -1,0 +1,126 @@
+-- The trace of an input: for each line a tick and a line of output, until a line gives no inputs.
+use Rattle.std.specs.Prelude.{ℕ, ◌≡◌, ◌+◌, ◌<◌, ◌≤◌, ◌^◌, ◌⊎◌, ⊤, Option, Some, None, List, [], ◌∷◌, ◌++◌, length, if◌then◌else◌}
+use Rattle.std.specs.List.{concat}
+use Rattle.std.specs.Io.KnownBytes.{Appends}
+use Rattle.serde_json.specs.Data.{Members}
+use Rattle.sc_values.specs.Runs.{IsAdmissible, Completes}
+use Rattle.sc_values.specs.Streams.{GrowsInto}
+use Rattle.sc_graph.specs.declared.control.Control.{Control}
+use Rattle.sc_graph.specs.Machine.{machine}
+use Rattle.sc_graph.specs.Program.{Program}
+use Rattle.sc_graph.specs.Tick.{Inputs, AreAccepted, start, initial}
+use Rattle.sct.specs.declared.play.PlayFault.{PlayFault}
+use Rattle.sct.specs.declared.play.PlayFault.TheVariants as play_fault
+use Rattle.sct.specs.declared.lines.LinesFault.{LinesFault}
+use Rattle.sct.specs.declared.lines.LinesFault.TheVariants as lines_fault
+use Rattle.sct.specs.Line.{IsObjectOf, inputs_of}
+use Rattle.sct.specs.Lines.{line_limit, is_feed}
+use Rattle.sct.specs.Output.{outputs_of, tick_line}
+
+-- a byte before the first line
+abbrev pub onto_first : ℕ → List (List ℕ) → List (List ℕ)
+onto_first byte [] = (byte ∷ []) ∷ []
+onto_first byte (line ∷ lines) = (byte ∷ line) ∷ lines
+
+-- the lines of an input, which is cut at each line feed. A last piece that is empty is no line
+abbrev pub lines_of : List ℕ → List (List ℕ)
+lines_of [] = []
+lines_of (byte ∷ bytes) = if is_feed byte then [] ∷ lines_of bytes else onto_first byte (lines_of bytes)
+
+-- the lines of an input whose bytes are known. Inputs of 2^64 bytes and more are not spoken of
+abbrev pub AreLinesOf : Option (List ℕ) → List (List ℕ) → Type 0
+AreLinesOf None lines = ⊤
+AreLinesOf (Some bytes) lines = length bytes < 2 ^ 64 → lines ≡ lines_of bytes
+
+-- the line is a JSON object of these inputs, which the program accepts
+pub record GivesInputs (p : Program) (line : List ℕ) (inputs : Inputs) : Type 0 where
+  pub members : Members
+  pub short : length line ≤ line_limit
+  pub object : IsObjectOf line members
+  pub given : inputs_of p.variables members ≡ Some inputs
+  pub accepted : AreAccepted p inputs
+
+-- the line is a JSON object, and its members are no inputs of the program
+pub record GivesNoInputs (p : Program) (line : List ℕ) : Type 0 where
+  pub members : Members
+  pub short : length line ≤ line_limit
+  pub object : IsObjectOf line members
+  pub none : (inputs : Inputs) → inputs_of p.variables members ≡ Some inputs → ¬ AreAccepted p inputs
+
+-- the line is too long, or is no JSON object
+abbrev pub IsNoObject : List ℕ → Type 0
+IsNoObject line = (line_limit < length line) ⊎ ((members : Members) → ¬ IsObjectOf line members)
+
+-- under these inputs a tick from c ends in d, by an admissible run of so many steps
+pub record Reacts (p : Program) (inputs : Inputs) (c d : Control) (steps : ℕ) : Type 0 where
+  pub accepted : AreAccepted p inputs
+  pub run : List ℕ
+  pub complete : Completes (machine p) run (start p inputs c) d
+  pub admissible : IsAdmissible (machine p) run (start p inputs c)
+  pub count : steps ≡ length run
+
+-- line number k makes a tick from c to d, of which this is shown
+pub record Shows (p : Program) (k : ℕ) (c : Control) (line : List ℕ) (d : Control) (shown : List ℕ) : Type 0 where
+  pub inputs : Inputs
+  pub steps : ℕ
+  pub gives : GivesInputs p line inputs
+  pub reacts : Reacts p inputs c d steps
+  pub is : shown ≡ tick_line k steps (outputs_of p.variables d.variables)
+
+-- how a trace ends: after the last line, or at the line of a number, which gives no inputs or is no object
+pub data End : Type 0 where
+  Good : End
+  NoInputs : (line : ℕ) → End
+  NoObject : (line : ℕ) → End
+
+-- line number k ends a trace
+abbrev pub EndsAt : Program → ℕ → List ℕ → End → Type 0
+EndsAt p k line Good = ⊥
+EndsAt p k line (NoInputs n) = (n ≡ k) × GivesNoInputs p line
+EndsAt p k line (NoObject n) = (n ≡ k) × IsNoObject line
+
+-- from c on the lines from number k on make these lines of output, and this end
+abbrev pub Goes : Program → ℕ → Control → List (List ℕ) → List (List ℕ) → End → Type 0
+Goes p k c [] [] end = end ≡ Good
+Goes p k c [] (shown ∷ out) end = ⊥
+Goes p k c (line ∷ lines) [] end = EndsAt p k line end
+Goes p k c (line ∷ lines) (shown ∷ out) end = (d : Control) × Shows p k c line d shown × Goes p (k + 1) d lines out end
+
+-- what a fault at line number k tells of it
+abbrev pub Tells : Program → ℕ → List ℕ → PlayFault → Type 0
+Tells p k line (play_fault.Input n) = EndsAt p k line (NoInputs n)
+Tells p k line (play_fault.NotJson n) = EndsAt p k line (NoObject n)
+Tells p k line play_fault.Memory = ⊤
+Tells p k line other = ⊥
+
+-- the fault where line number k could not be had
+abbrev pub unread : LinesFault → ℕ → PlayFault
+unread lines_fault.Memory k = play_fault.Memory
+unread lines_fault.Read k = play_fault.Read
+unread lines_fault.TooLong k = play_fault.NotJson k
+
+-- the trace of lines: their lines of output, and its end
+abbrev pub Trace : Program → List (List ℕ) → List (List ℕ) → End → Type 0
+Trace p lines out end = Goes p 1 (initial p) lines out end
+
+-- the whole trace of an input was written
+pub record Plays (p : Program) (input old new : Option (List ℕ)) (out : List (List ℕ)) (end : End) : Type 0 where
+  pub lines : List (List ℕ)
+  pub cut : AreLinesOf input lines
+  pub trace : Trace p lines out end
+  pub written : Appends old new (concat out)
+
+-- the trace of the first lines of an input was written; the last line of it perhaps in part
+pub record PlaysPart (p : Program) (input old new : Option (List ℕ)) : Type 0 where
+  pub first : List (List ℕ)
+  pub rest : List (List ℕ)
+  pub cut : AreLinesOf input (first ++ rest)
+  pub out : List (List ℕ)
+  pub trace : Trace p first out Good
+  pub written : GrowsInto old new (concat out)
+
+-- what was written before a fault
+abbrev pub Leaves : Program → Option (List ℕ) → Option (List ℕ) → Option (List ℕ) → PlayFault → Type 0
+Leaves p input old new (play_fault.Input line) = (out : List (List ℕ)) × Plays p input old new out (NoInputs line)
+Leaves p input old new (play_fault.NotJson line) = (out : List (List ℕ)) × Plays p input old new out (NoObject line)
+Leaves p input old new other = PlaysPart p input old new
