@@ -1,5 +1,5 @@
 -- Operations and codes: what is read is what is written, and what is written is read again.
-use Rattle.std.proofs.Common.{◌≡◌, ℕ, zero, suc, ◌+◌, ◌-◌, Bool, List, [], ◌∷◌, ◌++◌, length, Some, Ok, Fits, refl, sym, ap, subst, arith}
+use Rattle.std.proofs.Common.{◌≡◌, ℕ, zero, suc, List, [], ◌∷◌, ◌++◌, length, Some, Ok, Fits, refl, sym, ap, subst, arith}
 use Rattle.std.specs.Prelude.{slice_get}
 use Rattle.std.specs.List.{flat_map}
 use Rattle.std.specs.Int.{w32, cast_signed, cast_unsigned}
@@ -15,7 +15,7 @@ use Rattle.sc_values.specs.Limits.{operation_limit}
 use Rattle.bytecode.specs.Fields.{u32_bytes}
 use Rattle.bytecode.specs.Codes.{operation_bytes, code_bytes}
 use Rattle.bytecode.specs.Fits.{OperationFits, CodeFits}
-use Rattle.bytecode.specs.Reading.{◌>>=◌, or_field, each_at}
+use Rattle.bytecode.specs.Reading.{or_field, each_at}
 use Rattle.bytecode.specs.Reading.Fields.{byte_at}
 use Rattle.bytecode.specs.Reading.Codes.{operators, operation_body, operation_at, code_at}
 use Rattle.bytecode.proofs.Readers.{IsBytes, bind_ok, chosen, ok_is, Takes, then_takes, IsRead, first, each_takes, each_again}

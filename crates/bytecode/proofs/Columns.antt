@@ -7,7 +7,8 @@ use Rattle.sc_graph.specs.declared.program.Thread.{Thread}
 use Rattle.sc_graph.specs.declared.program.Node.{Node}
 use Rattle.bytecode.specs.declared.rows.ThreadRow.{ThreadRow}
 use Rattle.bytecode.specs.declared.rows.NodeRow.{NodeRow}
-use Rattle.bytecode.specs.Layout.{thread_rows, node_rows, AreThreads, AreNodes}
+use Rattle.bytecode.specs.Layout.{thread_rows, node_rows}
+use Rattle.bytecode.specs.Inside.Columns.{AreThreads, AreNodes}
 
 -- the length of a list that grew by one
 abbrev pub grown : {A : Type 0} (xs : List A) (x : A) (count : ℕ) → length xs ≡ count → length (xs ++ x ∷ []) ≡ count + 1

@@ -1,5 +1,5 @@
 -- What a reading of the bytes says of what they spell.
-use Rattle.std.proofs.Common.{◌≡◌, ℕ, ◌<◌, Bool, List, length, All, Result, Ok, Err, sym, ap, subst, ◌∙◌, arith, inl, inr}
+use Rattle.std.proofs.Common.{◌≡◌, ℕ, ◌<◌, Bool, List, length, All, Result, Ok, Err, refl, sym, ap, subst, ◌∙◌, arith, inl, inr}
 use Rattle.std.proofs.lemmas.Bool.{cases_lt}
 use Rattle.std.proofs.lemmas.List.{get_or_past}
 use Rattle.std.specs.Prelude.{IfOk}
@@ -8,16 +8,18 @@ use Rattle.sc_graph.specs.declared.program.Variable.{Variable}
 use Rattle.sc_graph.specs.declared.program.Thread.{Thread}
 use Rattle.sc_graph.specs.declared.program.Node.{Node}
 use Rattle.bytecode.specs.declared.fault.DecodeFault.{DecodeFault}
+use Rattle.bytecode.specs.declared.fault.DecodeFault.TheVariants as decode
 use Rattle.bytecode.specs.declared.fault.Fault.{Fault}
 use Rattle.bytecode.specs.declared.fault.Fault.TheVariants as fault
 use Rattle.bytecode.specs.Image.{Image}
 use Rattle.bytecode.specs.Spells.{Spells}
-use Rattle.bytecode.specs.Reading.{Fails}
-use Rattle.bytecode.specs.Reading.Image.{image_of, body_at, image_at, told, answer, reading, Answers}
-use Rattle.bytecode.specs.Layout.{thread_rows, node_rows, AreThreads, AreNodes}
+use Rattle.bytecode.specs.Inside.Readers.{Fails}
+use Rattle.bytecode.specs.Reading.Image.{image_of, header_at, body_at, image_at, told, answer, reading, Answers}
+use Rattle.bytecode.specs.Layout.{thread_rows, node_rows, HasHeader}
+use Rattle.bytecode.specs.Inside.Columns.{AreThreads, AreNodes}
 use Rattle.bytecode.proofs.Readers.{IsBytes}
 use Rattle.bytecode.proofs.ImageRows.{image_is, rows_fit}
-use Rattle.bytecode.proofs.ImageLaws.{body_takes, image_takes, image_again}
+use Rattle.bytecode.proofs.ImageLaws.{header_takes, body_takes, image_takes, image_again}
 
 answered : (bytes : List ℕ) (r : Result Image Fault) (i : Image) → answer bytes r ≡ Ok i → r ≡ Ok i
 answered bytes (Ok j) i e = let same : j ≡ i = cc in ap (λ (x : Image). Ok x) same
@@ -39,6 +41,19 @@ told_fails bytes (fault.Field left) read fails = ap (answer bytes) fails
 pub reads_fault : (version : ℕ) (bytes : List ℕ) (f : Fault) → Fails f (image_at version bytes) → Answers (Err (told bytes f)) (reading version bytes)
 unfolding reading
 reads_fault version bytes f fails = told_fails bytes f (image_at version bytes) fails
+
+-- where memory ran out, a reader of these bytes said so
+pub told_memory : (bytes : List ℕ) (f : Fault) → told bytes f ≡ decode.Memory → f ≡ fault.Memory
+told_memory bytes fault.Memory e = refl
+told_memory bytes fault.Short e = absurd cc
+told_memory bytes fault.Magic e = absurd cc
+told_memory bytes fault.Version e = absurd cc
+told_memory bytes fault.Trailing e = absurd cc
+told_memory bytes (fault.Field left) e = absurd cc
+
+-- what is read behind a header has one
+pub headed : (version : ℕ) (bytes rest : List ℕ) → IsBytes bytes → header_at version bytes ≡ Ok rest → HasHeader version bytes
+headed version bytes rest fits e = (rest, (header_takes version bytes rest fits e).parts)
 
 -- the columns of what was read fit the layout
 pub columns_fit : (bytes : List ℕ) (variables : List Variable) (threads : List Thread) (bounds : List ℕ) (nodes : List Node) (priorities weights : List ℕ) (end_bits : List Bool) (budget : ℕ)

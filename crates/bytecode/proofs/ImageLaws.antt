@@ -55,7 +55,7 @@ counted_law law = record { takes = counted_takes law; again = counted_again law 
 
 -- ---- the header
 
-header_takes : (version : ℕ) (bytes rest : List ℕ) → IsBytes bytes → header_at version bytes ≡ Ok rest → Takes bytes (magic ++ version ∷ []) rest
+pub header_takes : (version : ℕ) (bytes rest : List ℕ) → IsBytes bytes → header_at version bytes ≡ Ok rest → Takes bytes (magic ++ version ∷ []) rest
 unfolding header_at
 header_takes version bytes rest fits e =
     let a = bind_ok (bytes_at 4 bytes) (λ start. cond (pointwise nat_eq start.0 magic) (Ok start.1) (Err fault.Magic) >>= λ marked. byte_at marked >>= λ number. cond (eqb number.0 version) (Ok number.1) (Err fault.Version)) rest e in

@@ -11,7 +11,8 @@ use Rattle.sc_graph.specs.declared.program.Step.{Step}
 use Rattle.sc_graph.specs.declared.program.Step.TheVariants as step
 use Rattle.bytecode.specs.declared.rows.ThreadRow.{ThreadRow}
 use Rattle.bytecode.specs.declared.rows.NodeRow.{NodeRow}
-use Rattle.bytecode.specs.Layout.{thread_rows, node_rows, AreThreads, AreNodes}
+use Rattle.bytecode.specs.Layout.{thread_rows, node_rows}
+use Rattle.bytecode.specs.Inside.Columns.{AreThreads, AreNodes}
 use Rattle.bytecode.specs.Fits.{ThreadFits, StepFits, NodeFits, ImageFits}
 use Rattle.bytecode.specs.Reading.Image.{image_of}
 

@@ -3,7 +3,8 @@ use Rattle.std.proofs.Common.{◌≡◌, ℕ, suc, ◌-◌, ◌+◌, ◌≤◌, 
 use Rattle.std.proofs.lemmas.List.{append-nil}
 use Rattle.bytecode.specs.declared.fault.Fault.{Fault}
 use Rattle.bytecode.specs.declared.fault.Fault.TheVariants as fault
-use Rattle.bytecode.specs.Reading.{◌>>=◌, Fails, Reader, each_at}
+use Rattle.bytecode.specs.Reading.{◌>>=◌, Reader, each_at}
+use Rattle.bytecode.specs.Inside.Readers.{Fails}
 
 -- what was read before, and what is still read
 abbrev pub with_front : {A : Type 0} → List A → Result (List A × List ℕ) Fault → Result (List A × List ℕ) Fault

@@ -1,5 +1,6 @@
--- Where a bad field begins: at one of the bytes that were read. A reader leaves no more bytes than it was given.
-use Rattle.std.proofs.Common.{◌≡◌, ℕ, zero, suc, ◌-◌, ◌<◌, ◌≤◌, Bool, true, false, cond, ltb, leb, eqb, List, [], ◌∷◌, length, take, drop, Option, Some, None, Result, Ok, Err, refl, subst, arith}
+-- Where a bad field begins: at one of the bytes that were read. A reader leaves no more bytes than it was given,
+-- and takes no memory.
+use Rattle.std.proofs.Common.{◌≡◌, ◌≢◌, ℕ, zero, suc, ◌-◌, ◌<◌, ◌≤◌, Bool, true, false, cond, ltb, leb, eqb, List, [], ◌∷◌, length, take, drop, Option, Some, None, Result, Ok, Err, refl, subst, arith}
 use Rattle.std.specs.Prelude.{nat_eq, slice_get, ◌&&◌}
 use Rattle.std.specs.Int.{Width, w16, w32, byte_len, from_le_bytes}
 use Rattle.std.specs.Cmp.Lexicographic.{pointwise}
@@ -8,7 +9,6 @@ use Rattle.std.proofs.lemmas.Bool.{ltb-false, leb-true, and_parts}
 use Rattle.std.proofs.lemmas.List.{length-drop}
 use Rattle.sc_values.specs.declared.operation.Operation.{Operation}
 use Rattle.sc_values.specs.Limits.{name_limit, operation_limit}
-use Rattle.sc_values.specs.Name.{is_name}
 use Rattle.sc_graph.specs.declared.program.Step.{Step}
 use Rattle.sc_graph.specs.declared.program.Step.TheVariants as step
 use Rattle.bytecode.specs.declared.fault.Fault.{Fault}
@@ -21,12 +21,13 @@ use Rattle.bytecode.specs.Reading.{◌>>=◌, Reader, or_field, each_at}
 use Rattle.bytecode.specs.Reading.Fields.{bytes_at, byte_at, number_at, choice_at, flags, roles, kinds, combinations, length_at, name_of, name_at, variable_at}
 use Rattle.bytecode.specs.Reading.Codes.{operators, operation_body, operation_at, code_at}
 use Rattle.bytecode.specs.Reading.Nodes.{thread_at, assign_at, update_at, cond_at, fork_at, target_at, step_body, step_at, node_at}
-use Rattle.bytecode.specs.Reading.Image.{counted_at, header_at, image_of, body_at, image_at, told, answer, reading, Answers}
+use Rattle.bytecode.specs.Reading.Image.{counted_at, header_at, image_of, body_at, image_at, answer, reading, Answers}
 use Rattle.bytecode.proofs.Readers.{bind_ok, passed, not_short}
 
 -- of n bytes: a bad field begins at one of them
 abbrev IsWithin : ℕ → Fault → Type 0
 IsWithin n (fault.Field left) = (0 < left) × (left ≤ n)
+IsWithin n fault.Memory = ⊥
 IsWithin n other = Unit {0}
 
 -- of n bytes: no more are left, and a bad field begins at one of them
@@ -46,7 +47,7 @@ within_more m n fault.Short le is = tt
 within_more m n fault.Magic le is = tt
 within_more m n fault.Version le is = tt
 within_more m n fault.Trailing le is = tt
-within_more m n fault.Memory le is = tt
+within_more m n fault.Memory le is = is
 within_more m n (fault.Field left) le is = (is.0, omega (arith, is.1, le))
 
 stays_in_more : {A : Type 0} (left : A → ℕ) (m n : ℕ) (r : Result A Fault) → m ≤ n → Stays left m r → Stays left n r
@@ -248,6 +249,10 @@ header_stays version bytes =
     (λ start e. then_stays length length _ (cond (pointwise nat_eq start.0 magic) (Ok start.1) (Err fault.Magic)) _ (tested_stays length _ (pointwise nat_eq start.0 magic) start.1 fault.Magic (omega arith) tt)
     (λ marked f. then_stays unread length _ (byte_at marked) _ (byte_stays marked)
     (λ number g. tested_stays length _ (eqb number.0 version) number.1 fault.Version (omega arith) tt)))
+
+-- a header takes no memory
+pub header_remembers : (version : ℕ) (bytes : List ℕ) → header_at version bytes ≢ Err fault.Memory
+header_remembers version bytes e = subst (Stays length (length bytes)) e (header_stays version bytes)
 
 body_stays : (bytes : List ℕ) → Stays all_read (length bytes) (body_at bytes)
 unfolding body_at

@@ -20,18 +20,6 @@ node_rows (n ∷ nodes) (p ∷ priorities) (w ∷ weights) (e ∷ end_bits) =
     record { node = n; priority = p; weight = w; end_bit = e } ∷ node_rows nodes priorities weights end_bits
 node_rows nodes priorities weights end_bits = []
 
--- so many threads, and a bound for each
-pub record AreThreads (threads : List Thread) (bounds : List ℕ) (count : ℕ) : Type 0 where
-  pub threads_counted : length threads ≡ count
-  pub bounds_counted : length bounds ≡ count
-
--- so many nodes, and an entry for each in the tables
-pub record AreNodes (nodes : List Node) (priorities weights : List ℕ) (end_bits : List Bool) (count : ℕ) : Type 0 where
-  pub nodes_counted : length nodes ≡ count
-  pub priorities_counted : length priorities ≡ count
-  pub weights_counted : length weights ≡ count
-  pub end_bits_counted : length end_bits ≡ count
-
 abbrev pub rows_of_threads : Image → List ThreadRow
 rows_of_threads i = thread_rows i.program.threads i.tables.bounds
 
@@ -41,6 +29,10 @@ rows_of_nodes i = node_rows i.program.nodes i.tables.priorities i.tables.weights
 -- `SCCB`
 abbrev pub magic : List ℕ
 magic = 83 ∷ 67 ∷ 67 ∷ 66 ∷ []
+
+-- the bytes begin with the magic and this version
+abbrev pub HasHeader : ℕ → List ℕ → Type 0
+HasHeader version bytes = (rest : List ℕ) × (bytes ≡ magic ++ version ∷ rest)
 
 -- what stands behind the version
 unfoldable pub body_bytes : Image → List ℕ

@@ -6,3 +6,4 @@ pub mod Layout
 pub mod Fits
 pub mod Spells
 pub mod Reading
+pub mod Inside

@@ -1,5 +1,5 @@
 -- Reading from left to right, up to the first fault.
-use Rattle.std.specs.Prelude.{◌≡◌, ℕ, List, length, zero, suc, [], ◌∷◌, Option, Some, None, Result, Ok, Err}
+use Rattle.std.specs.Prelude.{ℕ, List, length, zero, suc, [], ◌∷◌, Option, Some, None, Result, Ok, Err}
 use Rattle.bytecode.specs.declared.fault.Fault.{Fault}
 use Rattle.bytecode.specs.declared.fault.Fault.TheVariants as fault
 pub mod Fields
@@ -11,21 +11,6 @@ infixl 10 ◌>>=◌
 abbrev pub ◌>>=◌ : {A B : Type 0} → Result A Fault → (A → Result B Fault) → Result B Fault
 (Ok x) >>= f = f x
 (Err e) >>= f = Err e
-
--- A fault that a function returned is the fault of reading. Want of memory claims nothing.
-abbrev pub Fails : {Y : Type 0} → Fault → Result Y Fault → Type 0
-Fails fault.Memory read = Unit {0}
-Fails f read = read ≡ Err f
-
--- What a function returned, seen by view, is what reading gives, unless memory ran out.
-abbrev pub Gives : {X Y : Type 0} → (X → Y) → Result X Fault → Result Y Fault → Type 0
-Gives view (Ok x) read = read ≡ Ok (view x)
-Gives view (Err e) read = Fails e read
-
--- What a function that takes no memory returned, seen by view, is what reading gives.
-abbrev pub Reads : {X Y : Type 0} → (X → Y) → Result X Fault → Result Y Fault → Type 0
-Reads view (Ok x) read = read ≡ Ok (view x)
-Reads view (Err e) read = read ≡ Err e
 
 -- a choice, or the fault of the field that begins these bytes
 abbrev pub or_field : {A : Type 0} → List ℕ → Option A → Result A Fault

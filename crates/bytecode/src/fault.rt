@@ -24,12 +24,12 @@ pub enum DecodeFault {
     /// The field whose first byte has this offset holds what it never holds.
     #[error("E25 at {0}")]
     Field(usize),
-    /// Memory ran out.
+    /// Memory was refused.
     #[error("E52")]
     Memory,
 }
 
-// A fault as it is met: a bad field is told by how many bytes there are from its first one on.
+/// A fault as it is met: a bad field is named by how many bytes there are from its first one on.
 #[derive(Clone, Copy, Debug, PartialEq, Eq)]
 pub enum Fault {
     Short,

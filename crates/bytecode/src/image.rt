@@ -22,7 +22,8 @@ impl Model for Image {
 }
 
 impl Image {
-    /// The image of a program and its tables; None where they differ in length.
+    /// The image of a program and its tables. None: they haven't an entry for each node and each
+    /// thread.
     pub fn of(program: Program, tables: Tables) -> Option<Image>
         ensures fits { IsSome result ↔ (HasLengths program tables) }
         ensures parts { IfSome result (λ i. (i.program ≡ program) × (i.tables ≡ tables)) }

@@ -2,6 +2,7 @@ pub mod AtRest
 pub mod Each
 pub mod Links
 pub mod Climbs
+pub mod Nodes
 pub mod Choosing
 pub mod Distinct
 pub mod Loads
@@ -10,7 +11,7 @@ pub mod Places
 pub mod Tree
 pub mod Formed
 pub mod Parting
-pub mod Told
+pub mod Rows
 pub mod Loaded
 pub mod Clashing
 pub mod Preceding

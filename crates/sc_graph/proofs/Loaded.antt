@@ -6,7 +6,7 @@ use Rattle.std.proofs.lemmas.List.Elements.{Contains-append_right, Contains-appe
 use Rattle.sc_values.specs.declared.operation.Operation.{Operation}
 use Rattle.sc_values.specs.declared.operation.Operation.TheVariants as op
 use Rattle.sc_values.specs.Code.{loads}
-use Rattle.sc_graph.specs.Accesses.{is_load}
+use Rattle.sc_graph.specs.Inside.Lookups.{is_load}
 
 here : (y x : ℕ) (ys : List ℕ) → y ≡ x → Contains (y ∷ ys) x
 here y x ys e = (0, omega arith, e)

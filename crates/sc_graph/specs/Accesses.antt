@@ -1,8 +1,6 @@
 -- What the nodes of a program do to its variables.
-use Rattle.std.specs.Prelude.{ℕ, Bool, false, nat_eq, unwrap_or, option_map}
+use Rattle.std.specs.Prelude.{ℕ, unwrap_or, option_map}
 use Rattle.sc_values.specs.Access.{Access, Nothing, Init, Update, no_access}
-use Rattle.sc_values.specs.declared.operation.Operation.{Operation}
-use Rattle.sc_values.specs.declared.operation.Operation.TheVariants as op
 use Rattle.sc_values.specs.Code.{loads, literal_of}
 use Rattle.sc_graph.specs.declared.program.Step.{Step}
 use Rattle.sc_graph.specs.declared.program.Step.TheVariants as step
@@ -17,8 +15,3 @@ access_of other = no_access
 -- of node n; no access where there is none
 abbrev pub accesses : Program → ℕ → Access
 accesses p n = unwrap_or (option_map access_of (step_at p n)) no_access
-
--- whether an operation loads variable x
-abbrev pub is_load : ℕ → Operation → Bool
-is_load x (op.Load y) = nat_eq y x
-is_load x other = false

@@ -1,5 +1,5 @@
 -- Programs with tables, and what does not depend on the tables.
-use Rattle.std.specs.Prelude.{ℕ, ◌≡◌, ◌↔◌, List}
+use Rattle.std.specs.Prelude.{ℕ, ◌≡◌, ◌<◌, ◌↔◌, List, length}
 use Rattle.sc_values.specs.Runs.{replay, IsAdmissible, Completes, Ends}
 use Rattle.sc_graph.specs.declared.control.Control.{Control}
 use Rattle.sc_graph.specs.declared.control.Status.{Status}
@@ -17,9 +17,9 @@ pub record Certified : Type 0 where
   pub program : Program
   pub tables : Tables
 
--- all that the words of runs say is the same of both: where ticks start, who is enabled, what a step does
--- and which variables it reads and writes, who is concurrent, and so each run, whether it is complete and
--- admissible, and the ends
+-- all that the words of runs say is the same of both: what rests, where ticks start, who is enabled, what a
+-- step does and which variables it reads and writes, who is concurrent, and so each run, whether it is complete
+-- and admissible, and the ends
 pub record RunAlike (a b : Certified) : Type 0 where
   pub rests : (c : Control) → Rests a.program c ↔ Rests b.program c
   pub starts : (inputs : Inputs) (c : Control) → start a.program inputs c ≡ start b.program inputs c
@@ -32,6 +32,7 @@ pub record RunAlike (a b : Certified) : Type 0 where
   pub admissible : (run : List ℕ) (c : Control) → IsAdmissible (machine a.program) run c ↔ IsAdmissible (machine b.program) run c
   pub ends : (c d : Control) → Ends (machine a.program) c d ↔ Ends (machine b.program) c d
 
--- no node has a greater priority than another
-abbrev pub HaveOnePriority : Tables → Type 0
-HaveOnePriority q = (m n : ℕ) → priority q m ≡ priority q n
+-- the tables have a priority for each node of the program, and all of them are the same
+pub record HaveOnePriority (p : Program) (q : Tables) : Type 0 where
+  pub places : length q.priorities ≡ length p.nodes
+  pub same : (m n : ℕ) → m < length p.nodes → n < length p.nodes → priority q m ≡ priority q n

@@ -12,7 +12,6 @@ pub mod Priority
 pub mod Certified
 pub mod Size
 pub mod Structure
-pub mod Told
 pub mod Codes
 pub mod Protocol
 pub mod Costs

@@ -1,4 +1,4 @@
--- One step of a thread: what it changes and whom it moves, by the kinds of nodes.
+-- One step of a thread: what it changes and whom it moves, for each of the eight nodes.
 use Rattle.std.specs.Prelude.{ℕ, Bool, true, false, ◌&&◌, Option, Some, None, List, [], ◌∷◌, map, slice_get, slice_set, option_map, option_and_then}
 use Rattle.std.specs.List.{list_all}
 use Rattle.sc_values.specs.declared.value.Value.{Value}

@@ -1,5 +1,5 @@
--- The structure rule: who owns what a step names, and one fork for each join and each thread, one
--- pause for each depth.
+-- The structure rule: who owns what a step names, and one fork for each join and for each thread but the
+-- root, one pause for each depth.
 use Rattle.std.specs.Prelude.{ℕ, zero, suc, ◌≡◌, true, Some, List, All, Contains, slice_get}
 use Rattle.sc_graph.specs.declared.program.Thread.{Thread}
 use Rattle.sc_graph.specs.declared.program.Node.{Node}

@@ -13,7 +13,8 @@ use Rattle.sc_graph.specs.Program.{Program, kind_at, entry_of, is_join, is_depth
 use Rattle.sc_graph.specs.Threads.{IsFork}
 use Rattle.sc_graph.specs.Control.{status_of}
 
--- where thread t may stand: at a node of its own that is no join, at a join or a depth of its own
+-- where thread t may stand: at a node of its own that is no join, waiting at a join or paused at a depth of
+-- its own, absent or ended
 abbrev pub IsPlace : Program → ℕ → Status → Type 0
 IsPlace p t (status.At n) = (owner_of p n ≡ Some t) × (is_join_step (step_at p n) ≡ false)
 IsPlace p t (status.Waiting j) = is_join p t j ≡ true

@@ -3,20 +3,21 @@ ghost use Rattle.std.specs.List.{list_any};
 ghost use Rattle.sc_values.specs.declared.operator.Combination.{Combination as Operator};
 ghost use Rattle.sc_values.specs.Code.{loads};
 ghost use Rattle.sc_values.specs.Access.{Reads, Inits, Updates, Precedes, Clash, MayPrecede};
-ghost use Rattle.sc_graph.specs.Accesses.{access_of, is_load};
+ghost use Rattle.sc_graph.specs.Accesses.{access_of};
+ghost use Rattle.sc_graph.specs.Inside.Lookups.{is_load};
 
 use crate::program::{Step, VariableId};
 use sc_values::{Code, Operation};
 
 impl Step {
-    /// Whether it may come before another step that is concurrent with it.
+    /// Whether it may come before another step, where the two are concurrent.
     pub fn may_precede(&self, other: &Step) -> bool
         ensures { IsTrue result ↔ MayPrecede (access_of self.now) (access_of other.now) }
     {
         !other.precedes(self) && !self.clashes(other)
     }
 
-    /// Whether it must come before another step that is concurrent with it.
+    /// Whether it must come before another step, where the two are concurrent.
     pub fn precedes(&self, other: &Step) -> bool
         ensures { IsTrue result ↔ Precedes (access_of self.now) (access_of other.now) }
     {
@@ -27,7 +28,7 @@ impl Step {
         }
     }
 
-    /// Whether it may not be taken beside another step that is concurrent with it.
+    /// Whether it may not be taken beside another step, where the two are concurrent.
     pub fn clashes(&self, other: &Step) -> bool
         ensures { IsTrue result ↔ Clash (access_of self.now) (access_of other.now) }
     {
@@ -69,7 +70,8 @@ impl Step {
         }
     }
 
-    /// Whether it reads a variable. An update isn't a read of its own variable.
+    /// Whether it reads a variable: its code loads it. An update as such isn't a read of its own
+    /// variable.
     pub fn reads(&self, variable: VariableId) -> bool
         ensures { IsTrue result ↔ Reads (access_of self.now) variable }
     {

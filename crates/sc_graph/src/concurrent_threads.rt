@@ -1,7 +1,6 @@
 ghost use Rattle.std.specs.Prelude.{◌≡◌, ◌<◌, ◌↔◌, ℕ, IsTrue, IfOk, length, Some, None, Option};
 ghost use Rattle.sc_graph.specs.Threads.{AreConcurrent};
-ghost use Rattle.sc_graph.specs.Told.{told, told_in, TableTells};
-ghost use Rattle.sc_graph.specs.Inside.Rows.{RowTells, RowsTell, ForksAre, SameFork};
+ghost use Rattle.sc_graph.specs.Inside.Rows.{rows_say, row_says, TableSays, RowSays, RowsSay, ForksAre, SameFork};
 ghost use Rattle.sc_graph.specs.Valid.{IsFormed};
 
 use crate::program::{NodeId, Program, ThreadId};
@@ -19,19 +18,18 @@ pub struct ConcurrentThreads<'a> {
 
 impl<'a> Model for ConcurrentThreads<'a> {
     ghost use Rattle.sc_graph.specs.Program.{Program};
-    ghost use Rattle.sc_graph.specs.Told.{TableTells};
+    ghost use Rattle.sc_graph.specs.Inside.Rows.{TableSays};
     ghost use Rattle.sc_graph.specs.Inside.Rows.{SameFork};
 
     ghost Value = { Program };
 
     ghost view = { λ c. c.program.now };
 
-    ghost invariant = { λ c. TableTells c.program.now c.rows };
+    ghost invariant = { λ c. TableSays c.program.now c.rows };
 }
 
 impl<'a> ConcurrentThreads<'a> {
-    /// The table of a formed program. It takes time in the square of the number of threads, and in
-    /// the number of threads times that of nodes.
+    /// The table of a formed program. Err: memory was refused.
     pub fn of(alloc: Global, program: &'a Program) -> Result<ConcurrentThreads<'a>, AllocError>
         requires { IsFormed program.now }
         ensures { IfOk result (λ c. c ≡ program.now) }
@@ -45,21 +43,21 @@ impl<'a> ConcurrentThreads<'a> {
     pub fn are(&self, first: ThreadId, second: ThreadId) -> bool
         ensures { IsTrue result ↔ AreConcurrent self.now first second }
     {
-        is_told(self.rows.as_slice(), first, second)
+        rows_say(self.rows.as_slice(), first, second)
     }
 }
 
-fn is_told(rows: &[Items<bool>], first: ThreadId, second: ThreadId) -> bool
-    ensures { result ≡ told rows.now first second }
+fn rows_say(rows: &[Items<bool>], first: ThreadId, second: ThreadId) -> bool
+    ensures { result ≡ rows_say rows.now first second }
 {
     match rows.get(first as usize) {
-        Some(row) => is_told_in(row.as_slice(), second),
+        Some(row) => row_says(row.as_slice(), second),
         None => false,
     }
 }
 
-fn is_told_in(row: &[bool], second: ThreadId) -> bool
-    ensures { result ≡ told_in row.now second }
+fn row_says(row: &[bool], second: ThreadId) -> bool
+    ensures { result ≡ row_says row.now second }
 {
     match row.get(second as usize) {
         Some(answer) => *answer,
@@ -85,7 +83,7 @@ fn rows_of(
 ) -> Result<Items<Items<bool>>, AllocError>
     requires formed { IsFormed program.now }
     requires forks { ForksAre program.now forks.now }
-    ensures { IfOk result (TableTells program.now) }
+    ensures { IfOk result (TableSays program.now) }
 {
     let mut rows = Items::new(alloc);
     for thread in 0..program.thread_count() {
@@ -105,9 +103,9 @@ fn row_of(
 ) -> Result<Items<bool>, AllocError>
     requires formed { IsFormed program.now }
     requires forks { ForksAre program.now forks.now }
-    requires rows { RowsTell program.now rows.now thread }
+    requires rows { RowsSay program.now rows.now thread }
     requires within { thread < length program.now.threads }
-    ensures { IfOk result (λ row. RowTells program.now row thread (length program.now.threads)) }
+    ensures { IfOk result (λ row. RowSays program.now row thread (length program.now.threads)) }
 {
     let mut row = Items::new(alloc);
     for other in 0..program.thread_count() {
@@ -129,8 +127,8 @@ fn answer_of(
 ) -> bool
     requires formed { IsFormed program.now }
     requires forks { ForksAre program.now forks.now }
-    requires rows { RowsTell program.now rows.now thread }
-    requires row { RowTells program.now row.now thread other }
+    requires rows { RowsSay program.now rows.now thread }
+    requires row { RowSays program.now row.now thread other }
     requires within { other < length program.now.threads }
     ensures { IsTrue result ↔ AreConcurrent program.now thread other }
 {
@@ -142,9 +140,9 @@ fn answer_of(
             if over == over_other {
                 have_same_fork(forks, thread, other)
             } else if over > over_other {
-                is_told(rows, over, other)
+                rows_say(rows, over, other)
             } else {
-                is_told_in(row, over_other)
+                row_says(row, over_other)
             }
         }
         _ => false,

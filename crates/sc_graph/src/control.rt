@@ -9,7 +9,7 @@ use sqlite_items::Items;
 /// Where a thread stands: its control point.
 #[derive(Clone, Copy, Debug, PartialEq, Eq)]
 pub enum Status {
-    /// Not forked.
+    /// Not there: not forked, or its fork was left.
     Absent,
     /// At this node.
     At(NodeId),

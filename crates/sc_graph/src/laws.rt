@@ -11,8 +11,9 @@ ghost use Rattle.sc_graph.specs.Priority.{PriorityRun};
 ghost use Rattle.sc_graph.specs.Certified.{Certified, RunAlike, HaveOnePriority};
 ghost use Rattle.sc_graph.specs.Valid.{IsFormed};
 
-/// What holds of concurrency in each formed program: it is symmetric, no thread is concurrent with
-/// itself or with one above it, and two threads have one common forking thread or none.
+/// What holds of concurrency: it is symmetric; in each formed program no thread is concurrent with
+/// itself or with one above it, and two threads have one common forking thread or none. The
+/// function does nothing: its contract is the law.
 pub fn laws_of_concurrency()
     ensures symmetric { (p : Program) (t u : ℕ) → AreConcurrent p t u → AreConcurrent p u t }
     ensures irreflexive { (p : Program) → IsFormed p → (t : ℕ) → ¬ AreConcurrent p t t }
@@ -22,11 +23,11 @@ pub fn laws_of_concurrency()
 
 /// What tables are to a program: they choose among its runs, and nothing else depends on them.
 /// Programs that differ in their tables alone run alike. A priority run, by whatever tables, is a
-/// run of the program, each step by an enabled thread; where no node has a greater priority than
-/// another, each run is a priority run.
+/// run of the program, each step by an enabled thread; where all nodes have one
+/// priority, each run is a priority run. The function does nothing: its contract is the law.
 pub fn laws_of_tables()
     ensures alike { (a b : Certified) → a.program ≡ b.program → RunAlike a b }
     ensures enabled { (p : Program) (t : ℕ) (c d : Control) → step p t c ≡ Some d → IsEnabled p c t }
     ensures chosen { (p : Program) (q : Tables) (run : List ℕ) (c d : Control) → PriorityRun p q run c d → replay (machine p) run c ≡ Some d }
-    ensures all_chosen { (p : Program) (q : Tables) → HaveOnePriority q → (run : List ℕ) (c d : Control) → replay (machine p) run c ≡ Some d → PriorityRun p q run c d }
+    ensures all_chosen { (p : Program) (q : Tables) → HaveOnePriority p q → (run : List ℕ) (c d : Control) → replay (machine p) run c ≡ Some d → PriorityRun p q run c d }
 {}

@@ -6,7 +6,7 @@ use crate::program::{NodeId, Program, Role, Step, ThreadId, VariableId};
 use sc_values::Kind;
 
 impl Program {
-    /// The step at a node.
+    /// The step at a node. None: there is no such node.
     pub fn step(&self, node: NodeId) -> Option<&Step>
         ensures { option_copied result ≡ step_at self.now node }
     {
@@ -16,7 +16,7 @@ impl Program {
         }
     }
 
-    /// The thread that owns a node.
+    /// The thread that owns a node. None: there is no such node.
     pub fn owner(&self, node: NodeId) -> Option<ThreadId>
         ensures { result ≡ owner_of self.now node }
     {
@@ -26,7 +26,7 @@ impl Program {
         }
     }
 
-    /// The thread that forks a thread.
+    /// The parent of a thread. None: it has none, or there is no such thread.
     pub fn parent(&self, thread: ThreadId) -> Option<ThreadId>
         ensures { result ≡ parent_of self.now thread }
     {
@@ -36,7 +36,7 @@ impl Program {
         }
     }
 
-    /// The node where a thread begins.
+    /// The node where a thread begins. None: there is no such thread.
     pub fn entry(&self, thread: ThreadId) -> Option<NodeId>
         ensures { result ≡ entry_of self.now thread }
     {
@@ -46,7 +46,7 @@ impl Program {
         }
     }
 
-    /// The kind of a variable.
+    /// The kind of a variable. None: there is no such variable.
     pub fn kind(&self, variable: VariableId) -> Option<Kind>
         ensures { result ≡ kind_at self.now variable }
     {
@@ -56,7 +56,7 @@ impl Program {
         }
     }
 
-    /// The role of a variable.
+    /// The role of a variable. None: there is no such variable.
     pub fn role(&self, variable: VariableId) -> Option<Role>
         ensures { result ≡ role_at self.now variable }
     {

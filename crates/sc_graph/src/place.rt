@@ -8,6 +8,7 @@ pub enum Place {
     Variable(VariableId),
     Thread(ThreadId),
     Node(NodeId),
-    /// Two nodes. Where the rule is about an edge, from the first to the second.
+    /// Two nodes. Where the rule is about an edge, from the first to the second; of a write
+    /// conflict, the smaller first.
     Pair(NodeId, NodeId),
 }

@@ -124,7 +124,8 @@ impl Model for Program {
 
 impl Program {
     /// The program of these lists. `Limit` where they do not fit the layout of an image: more than
-    /// 65535 of a kind, more than 255 children of a fork, or a parent of number 65535.
+    /// 65535 variables, threads or nodes, more than 255 children of a fork, or a parent of number
+    /// 65535.
     pub fn of(
         variables: Items<Variable>,
         threads: Items<Thread>,

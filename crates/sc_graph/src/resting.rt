@@ -12,6 +12,7 @@ use std::alloc::{AllocError, Global};
 
 impl Control {
     /// The configuration before the first tick: every variable `false` or 0, every thread absent.
+    /// Err: memory was refused.
     pub fn initial(alloc: Global, program: &Program) -> Result<Control, AllocError>
         ensures value { IfOk result (λ c. c ≡ initial program.now) }
         ensures rests { IfOk result (Rests program.now) }
@@ -24,8 +25,10 @@ impl Control {
         })
     }
 
-    /// Whether this is a configuration of the program between two ticks: a value of its kind for each
-    /// variable, nobody at a node, and each child present exactly where its parent waits for it.
+    /// Whether this is a configuration of the program between two ticks: one value a variable, of
+    /// its kind, and one status a thread; nobody at a node, who waits at a join of its own, who is
+    /// paused at a depth of its own; and each child present exactly where its parent waits at the
+    /// join of its fork.
     pub fn fits(&self, program: &Program) -> bool
         ensures { IsTrue result ↔ (Rests program.now self.now) }
     {

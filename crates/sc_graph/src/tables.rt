@@ -36,7 +36,8 @@ impl Tables {
         }
     }
 
-    /// Whether a thread at a node may end in this tick; false where the tables have no such node.
+    /// The end bit of a node, for whether a thread there may end in this tick; false where the
+    /// tables have none.
     pub fn end_bit(&self, node: NodeId) -> bool
         ensures { result ≡ end_bit self.now node }
     {

@@ -10,10 +10,10 @@ use Rattle.sc_values.specs.declared.operator.BinaryOperator.TheVariants as binar
 use Rattle.sc_values.specs.declared.operation.Operation.{Operation}
 use Rattle.sc_values.specs.declared.operation.Operation.TheVariants as op
 use Rattle.sc_values.specs.declared.expression.Expr.{Expr}
-use Rattle.sc_values.specs.Operator.{unary_kind, binary_kind, given_by_unary, given_by_binary}
+use Rattle.sc_values.specs.Operator.{unary_kind, binary_kind}
+use Rattle.sc_values.specs.Inside.Stack.{given_by_unary, given_by_binary, last_kind}
 use Rattle.sc_values.specs.Expr.{kind, postorder}
 use Rattle.sc_values.specs.Checked.{Checked, Checks, loaded_from}
-use Rattle.sc_values.specs.Inside.Stack.{last_kind}
 use Rattle.sc_values.proofs.Induction.{induct, postorder-literal, postorder-load, postorder-unary, postorder-binary, kind-literal, kind-load, kind-unary, kind-binary}
 use Rattle.sc_values.proofs.Running.{given}
 

@@ -11,8 +11,8 @@ use Rattle.sc_values.specs.declared.expression.Expr.{Expr}
 use Rattle.sc_values.specs.Limits.{operand_limit}
 use Rattle.sc_values.specs.Operator.{kind_of}
 use Rattle.sc_values.specs.Expr.{value, kind, postorder}
-use Rattle.sc_values.specs.Code.{Spells, code_value, loads, IsWellFormed}
-use Rattle.sc_values.specs.Checked.{loaded_from, numbered, value_over, code_kind, Checked, Checks, IsChecked}
+use Rattle.sc_values.specs.Code.{Spells, code_value, loads, IsWellFormed, code_kind}
+use Rattle.sc_values.specs.Checked.{loaded_from, numbered, value_over, Checked, Checks, IsChecked}
 use Rattle.sc_values.proofs.Spelling.{spells-tree_of}
 use Rattle.sc_values.proofs.Loaded.{drop_past, length-filter_map}
 use Rattle.sc_values.proofs.Running.{given, ran, ran-code_value, Fits, fits_here, well_formed_fits}

@@ -102,7 +102,7 @@ fits_limit (o ∷ code) stack fits (suc n) s is =
 pub well_formed_fits : (kinds : List Kind) (code : List Operation) → IsWellFormed kinds code → Fits code 0
 well_formed_fits kinds code formed =
     let g = given only (trees code []) formed.spelt (spells-tree_of code formed.spelt formed.spells) in
-    fits_from code [] g.operand g.is formed.operands
+    fits_from code [] g.operand g.is formed.within.operands
 
 pub fits_here : (code : List Operation) (n : ℕ) → Fits code n → n ≤ operand_limit
 fits_here [] n fits = fits

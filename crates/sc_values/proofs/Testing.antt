@@ -192,9 +192,7 @@ tested_formed kinds code k is short few = go t.trees_are t.leaves_them t.kinds_o
       spells = tree_of-spells code e (ap (option_and_then only) was);
       gives = k;
       kinded = h.0;
-      operations = short;
-      operands = fits_limit code [] t.fits;
-      loaded = few;
+      within = record { operations = short; operands = fits_limit code [] t.fits; loaded = few };
     }
 
 alone_is : (stack : List Kind) (k : Kind) → alone stack ≡ Some k → stack ≡ k ∷ []

@@ -10,7 +10,7 @@ pub data Writing : Type 0 where
   Init : (x : ℕ) (literal : Option Value) → Writing
   Update : (x : ℕ) (f : Combination) → Writing
 
--- the variables that a step reads, and what it writes. An update isn't a read of its own variable
+-- the variables that a step reads, and what it writes. An update as such isn't a read of its own variable
 pub record Access : Type 0 where
   pub reads : List ℕ
   pub writes : Writing

@@ -1,11 +1,10 @@
 -- Codes that were checked, and their value over the operands that their loads take.
-use Rattle.std.specs.Prelude.{ℕ, suc, ◌≡◌, Option, List, [], ◌∷◌, filter_map, option_and_then, slice_get}
+use Rattle.std.specs.Prelude.{ℕ, suc, ◌≡◌, Option, List, [], ◌∷◌, filter_map, slice_get}
 use Rattle.sc_values.specs.declared.value.Value.{Value}
 use Rattle.sc_values.specs.declared.value.Kind.{Kind}
 use Rattle.sc_values.specs.declared.operation.Operation.{Operation}
 use Rattle.sc_values.specs.declared.operation.Operation.TheVariants as op
-use Rattle.sc_values.specs.Expr.{kind}
-use Rattle.sc_values.specs.Code.{tree_of, code_value, loads, IsWellFormed}
+use Rattle.sc_values.specs.Code.{code_value, loads, IsWellFormed}
 
 -- what stands at the variables that a code loads, in the order of its loads
 abbrev pub loaded_from : {A : Type 0} → List A → List Operation → List A
@@ -20,10 +19,6 @@ numbered n (o ∷ code) = o ∷ numbered n code
 -- the value of the tree that a code spells, where each load takes its operand, in the order of the loads
 abbrev pub value_over : List Value → List Operation → Option Value
 value_over operands code = code_value (numbered 0 code) operands
-
--- the kind, over the variables' kinds, of the tree that a code spells
-abbrev pub code_kind : List Operation → List Kind → Option Kind
-code_kind code kinds = option_and_then (λ e. kind e kinds) (tree_of code)
 
 -- a checked code: its operations, and the kinds of its loads in their order
 pub record Checked : Type 0 where

@@ -39,6 +39,10 @@ tree_of code = option_and_then only (trees code [])
 abbrev pub code_value : List Operation → List Value → Option Value
 code_value code variables = option_and_then (λ e. value e variables) (tree_of code)
 
+-- the kind, over the variables' kinds, of the tree that a code spells
+abbrev pub code_kind : List Operation → List Kind → Option Kind
+code_kind code kinds = option_and_then (λ e. kind e kinds) (tree_of code)
+
 -- the variables that a code loads, in the order of its loads
 abbrev pub loaded : Operation → Option ℕ
 loaded (op.Load x) = Some x
@@ -64,6 +68,4 @@ pub record IsWellFormed (kinds : List Kind) (code : List Operation) : Type 0 whe
   pub spells : Spells code spelt
   pub gives : Kind
   pub kinded : kind spelt kinds ≡ Some gives
-  pub operations : length code ≤ operation_limit
-  pub operands : (n : ℕ) (stack : List Expr) → trees (take n code) [] ≡ Some stack → length stack ≤ operand_limit
-  pub loaded : length (loads code) ≤ load_limit
+  pub within : IsWithinLimits code

@@ -111,16 +111,3 @@ abbrev pub binary_kind : BinaryOperator → Kind → Kind → Option Kind
 binary_kind f kind.Int kind.Int = int_kind f
 binary_kind f kind.Bool kind.Bool = truth_kind f
 binary_kind f a b = None
-
--- the kind of what an operator gives, where its operands fit
-abbrev pub given_by_unary : UnaryOperator → Kind
-given_by_unary unary.Negate = kind.Int
-given_by_unary unary.Not = kind.Bool
-
-abbrev pub given_by_binary : BinaryOperator → Kind
-given_by_binary binary.Add = kind.Int
-given_by_binary binary.Subtract = kind.Int
-given_by_binary binary.Multiply = kind.Int
-given_by_binary binary.Min = kind.Int
-given_by_binary binary.Max = kind.Int
-given_by_binary f = kind.Bool

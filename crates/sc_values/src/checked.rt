@@ -47,7 +47,7 @@ impl<'a> CheckedCode<'a> {
         }
     }
 
-    /// The code, checked without a test.
+    /// The code, which is known to be well formed under these kinds, checked without a test.
     pub fn known(code: &'a Code, kinds: &[Kind]) -> CheckedCode<'a>
         requires { IsWellFormed kinds.now code.now }
         ensures { Checks kinds.now code.now result }
@@ -68,7 +68,7 @@ impl<'a> CheckedCode<'a> {
         }
     }
 
-    /// Its operations, in order.
+    /// The code.
     pub fn code(&self) -> &'a Code
         ensures value { result.now ≡ self.now.operations }
         ensures checked { IsChecked self.now }
@@ -76,7 +76,7 @@ impl<'a> CheckedCode<'a> {
         self.code
     }
 
-    /// The kind of its value.
+    /// The kind of its value, under the kinds of the variables by which it was checked.
     pub fn kind(&self) -> Kind
         ensures { (kinds : List Kind) (checks : Checks kinds self.now.operations self.now) → result ≡ checks.formed.gives }
     {

@@ -77,7 +77,7 @@ impl Code {
         Some(code)
     }
 
-    /// Puts an operation behind the others.
+    /// Puts an operation behind the others, which are fewer than 64.
     pub fn push(&mut self, operation: Operation)
         requires { length self.old < operation_limit }
         ensures { self.new ≡ self.old ++ operation ∷ [] }

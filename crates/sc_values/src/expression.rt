@@ -39,7 +39,7 @@ impl Expr {
         }
     }
 
-    /// A copy of it.
+    /// A copy of it. Err: memory was refused.
     pub fn copied(&self, alloc: Global) -> Result<Expr, AllocError>
         ensures { IfOk result (λ copy. copy ≡ self.now) }
     {

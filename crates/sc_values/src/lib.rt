@@ -1,4 +1,5 @@
-//! The values of charts: their kinds, expressions as trees and as postfix codes, and names.
+//! Kinds and values, operators, expressions as trees and as postfix codes, names, and sources and
+//! sinks of bytes.
 #![tactic(auto)]
 
 mod checked;

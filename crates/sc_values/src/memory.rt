@@ -9,7 +9,7 @@ use crate::streams::{Failed, Sink, Source};
 use std::alloc::Global;
 use std::sync::ledger::Ledger;
 
-/// When a source or a sink over memory fails.
+/// When a source or a sink over memory fails: once at most.
 #[derive(Clone, Copy, Debug, PartialEq, Eq)]
 pub enum Plan {
     Never,
@@ -32,7 +32,8 @@ impl Plan {
     }
 }
 
-/// A source over a slice: at most `each` bytes a call.
+/// A source over a slice, `rest`: at most `each` bytes a call, which is more than 0. It fails by
+/// plan.
 #[derive(Drop)]
 pub struct FromSlice<'a> {
     pub rest: &'a [u8],
@@ -60,8 +61,8 @@ impl Source for FromSlice<'_> {
     }
 }
 
-/// A sink that keeps what it takes in memory: at most `each` bytes a call. Want of memory is a failure
-/// too.
+/// A sink that keeps what it takes in memory: at most `each` bytes a call, which is more than 0. It
+/// fails by plan, and where memory is refused.
 #[derive(Drop)]
 pub struct ToVec<L: Ledger> {
     pub bytes: Vec<u8>,
@@ -72,7 +73,7 @@ pub struct ToVec<L: Ledger> {
 }
 
 impl<L: Ledger> ToVec<L> {
-    /// It has taken nothing yet.
+    /// It has taken nothing yet. `failed` counts its failures.
     pub fn new(alloc: Global, each: usize, plan: Plan, failed: Failures<L>) -> ToVec<L>
         requires { 0 < each }
         ensures bytes { result.bytes.items ≡ [] }

@@ -25,7 +25,7 @@ impl<L: Ledger> Model for Failures<L> {
 }
 
 impl<L: Ledger> Failures<L> {
-    /// None so far.
+    /// None so far. The blank is that of this ledger.
     pub fn none(blank: Blank) -> Failures<L>
         requires name { blank.name ≡ L.name }
         requires parts { blank.parts ≡ L.parts }

@@ -52,7 +52,8 @@ impl Operands {
         Some(operands)
     }
 
-    /// The values of the variables that a code loads, in the order of its loads.
+    /// The values of the variables that a code loads, in the order of its loads, which are at most
+    /// 16. A load of a variable that isn't there takes nothing.
     pub fn present(code: &Code, variables: &[Value]) -> Operands
         requires { length (loads code.now) ≤ load_limit }
         ensures { result ≡ loaded_from variables.now code.now }
@@ -75,7 +76,7 @@ impl Operands {
         }
     }
 
-    /// Puts a value behind the others.
+    /// Puts a value behind the others, which are fewer than 16.
     pub fn push(&mut self, value: Value)
         requires { length self.old < load_limit }
         ensures { self.new ≡ self.old ++ value ∷ [] }

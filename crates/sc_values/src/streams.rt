@@ -35,7 +35,8 @@ pub trait Sink {
         ensures count { failures self.new ≡ failures self.old + failed_writes result buf.now };
 }
 
-/// Writes all bytes. Err: the sink failed, once; it took a beginning of them.
+/// Writes all bytes. Err: the sink failed, once, by an `Err` or by taking none; it took a beginning
+/// of them.
 pub fn write_all<S: Sink>(sink: &mut S, bytes: &[u8]) -> Result<(), Failed>
     ensures ok { OnOk result (Appends (S.taken sink.old) (S.taken sink.new) bytes.now) }
     ensures none_failed { OnOk result (S.failures sink.new ≡ S.failures sink.old) }

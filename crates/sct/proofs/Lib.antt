@@ -5,3 +5,4 @@ pub mod Given
 pub mod Playing
 pub mod Shown
 pub mod Splits
+pub mod Taken

@@ -1,10 +1,9 @@
 -- How a trace grows, line by line.
-use Rattle.std.proofs.Common.{◌≡◌, ℕ, ◌+◌, ◌-◌, ◌^◌, ◌<◌, Option, Some, None, option_map, List, [], ◌∷◌, ◌++◌, length, take, refl, ap, sym, ◌∙◌, subst, arith, append_assoc, append-nil, length-append, inl}
+use Rattle.std.proofs.Common.{◌≡◌, ℕ, ◌+◌, ◌-◌, ◌^◌, Option, Some, None, option_map, List, [], ◌∷◌, ◌++◌, length, refl, ap, sym, ◌∙◌, subst, arith, append_assoc, append-nil, length-append, inl}
 use Rattle.std.specs.List.{concat}
 use Rattle.std.specs.Io.KnownBytes.{Appends, IsAtEnd}
 use Rattle.std.proofs.lemmas.List.Folds.{concat-append}
 use Rattle.std.proofs.lemmas.List.{nil_from_length}
-use Rattle.std.proofs.Math.Seq.{take-length, take-append-add}
 use Rattle.std.proofs.KnownBytes.{Appends-nil, Appends-trans, prepend_known-nil}
 use Rattle.sc_values.specs.Streams.{GrowsInto}
 use Rattle.sc_graph.specs.declared.control.Control.{Control}
@@ -14,8 +13,9 @@ use Rattle.sct.specs.declared.lines.LinesFault.{LinesFault}
 use Rattle.sct.specs.declared.lines.LinesFault.TheVariants as lines_fault
 use Rattle.sct.specs.declared.play.PlayFault.{PlayFault}
 use Rattle.sct.specs.declared.play.PlayFault.TheVariants as play_fault
-use Rattle.sct.specs.Lines.{line_limit, ahead, TakesLine, IsTooLong}
-use Rattle.sct.specs.Trace.{lines_of, AreLinesOf, End, Good, NoInputs, NoObject, EndsAt, Shows, Tells, unread, Goes, Trace, Plays, PlaysPart, Leaves}
+use Rattle.sct.specs.Lines.{ahead, TakesLine, IsTooLong}
+use Rattle.sct.specs.Trace.{lines_of, AreLinesOf, End, Good, NoInputs, NoObject, EndsAt, Shows, Goes, Trace, Plays, PlaysFirst, PlaysPart, Leaves}
+use Rattle.sct.specs.Inside.Faults.{Tells, unread}
 use Rattle.sct.proofs.Splits.{Cut, known_lines, cut_known, are_lines, cut_at_end, length-lines_of, cut_taken, cut_too_long}
 
 -- after k lines the configuration is c, and these lines of output were written
@@ -134,22 +134,8 @@ refused_long p start now k c old new a long =
     let cut = cut_too_long now long in
     ends_at p start now k c old new cut.0 cut.1 (NoObject (k + 1)) a cut.3 (refl, inl cut.2)
 
-grows_by_all : (old new : Option (List ℕ)) (bytes : List ℕ) → Appends old new bytes → GrowsInto old new bytes
-grows_by_all None new bytes p = tt
-grows_by_all (Some x) None bytes p = absurd p
-grows_by_all (Some x) (Some y) bytes p = (length bytes, p ∙ ap (λ ys. x ++ ys) (sym (take-length bytes)))
-
-grows_more : (old new new' : Option (List ℕ)) (bytes more : List ℕ) → Appends old new bytes → GrowsInto new new' more → GrowsInto old new' (bytes ++ more)
-grows_more None new new' bytes more p q = tt
-grows_more (Some x) None new' bytes more p q = absurd p
-grows_more (Some x) (Some y) None bytes more p q = absurd q
-grows_more (Some x) (Some y) (Some z) bytes more p q = (
-  length bytes + q.0,
-  q.1 ∙ ap (λ ys. ys ++ take q.0 more) p ∙ append_assoc x bytes (take q.0 more) ∙ ap (λ ys. x ++ ys) (sym (take-append-add bytes more q.0)),
-)
-
 -- nothing more can be done
-pub stopped : (p : Program) (start now : Option (List ℕ)) (k : ℕ) (c : Control) (old new : Option (List ℕ)) → Played p start now k c old new → PlaysPart p start old new
+pub stopped : (p : Program) (start now : Option (List ℕ)) (k : ℕ) (c : Control) (old new : Option (List ℕ)) → Played p start now k c old new → PlaysFirst p start old new
 stopped p start now k c old new a =
     record {
       first = a.done;
@@ -157,10 +143,10 @@ stopped p start now k c old new a =
       cut = are_lines start (a.done ++ known_lines now) (a.leads (known_lines now) (cut_known now));
       out = a.out;
       trace = so_far p start now k c old new a;
-      written = grows_by_all old new (concat a.out) a.written;
+      written = a.written;
     }
 
-pub not_begun : (p : Program) (start old : Option (List ℕ)) → PlaysPart p start old old
+pub not_begun : (p : Program) (start old : Option (List ℕ)) → PlaysFirst p start old old
 not_begun p start old = stopped p start (ahead [] start) 0 (initial p) old old (at_start p start old)
 
 -- what would be written had the sink taken these bytes
@@ -181,11 +167,12 @@ stopped_writing p start now now' k c d old new new' line shown a takes shows wri
       first = b.done;
       rest = known_lines now';
       cut = are_lines start (b.done ++ known_lines now') (b.leads (known_lines now') (cut_known now'));
-      out = b.out;
+      out = a.out;
+      last = shown;
       trace = so_far p start now' (k + 1) d old (wanted new shown) b;
-      written =
-          subst (GrowsInto old new') (sym (concat-append a.out (shown ∷ []) ∙ ap (λ last. concat a.out ++ last) (append-nil shown)))
-          (grows_more old new new' (concat a.out) shown a.written writes);
+      before = new;
+      written = a.written;
+      in_part = writes;
     }
 
 -- line k + 1 could not be had

@@ -1,5 +1,5 @@
 -- What a line of output shows has no float.
-use Rattle.std.proofs.Common.{◌≡◌, ℕ, pos, negsuc, Bool, true, false, ◌||◌, List, [], ◌∷◌, refl, ap, sym, ◌∙◌, cond, length, ◌⊎◌, inl, inr, arith}
+use Rattle.std.proofs.Common.{◌≡◌, ℕ, pos, negsuc, Bool, true, false, ◌||◌, List, [], ◌∷◌, refl, cond, length, ◌⊎◌, inl, inr, arith}
 use Rattle.std.specs.Ordering.{nat_cmp, match_ordering}
 use Rattle.std.specs.Cmp.Lexicographic.{slice_cmp}
 use Rattle.std.specs.declared.cmp.Ordering.{Ordering}
@@ -9,7 +9,6 @@ use Rattle.serde_json.specs.Written.{has_float, members_have_float}
 use Rattle.sc_values.specs.declared.value.Value.{Value}
 use Rattle.sc_values.specs.declared.value.Value.TheVariants as value
 use Rattle.sc_graph.specs.declared.program.Variable.{Variable}
-use Rattle.sc_graph.specs.declared.program.Role.{Role}
 use Rattle.sc_graph.specs.declared.program.Role.TheVariants as role
 use Rattle.sct.specs.Output.{data_of, is_output, with_output, with_outputs, tick_data}
 

@@ -1,5 +1,5 @@
 -- An input as its first line and the lines behind it.
-use Rattle.std.proofs.Common.{◌≡◌, ◌≢◌, ℕ, ◌+◌, ◌<◌, ◌≤◌, Bool, true, false, not, cond, Option, Some, None, List, [], ◌∷◌, ◌++◌, length, take, drop, refl, ap, sym, ◌∙◌, arith, suc}
+use Rattle.std.proofs.Common.{◌≡◌, ◌≢◌, ℕ, ◌+◌, ◌<◌, ◌≤◌, Bool, true, false, not, cond, Option, Some, None, List, [], ◌∷◌, length, take, drop, refl, ap, sym, ◌∙◌, arith, suc}
 use Rattle.std.specs.Bool.{⊤}
 use Rattle.std.specs.List.{position_or_len}
 use Rattle.std.specs.Io.KnownBytes.{IsAtEnd}

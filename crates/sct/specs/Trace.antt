@@ -11,7 +11,6 @@ use Rattle.sc_graph.specs.Program.{Program}
 use Rattle.sc_graph.specs.Tick.{Inputs, AreAccepted, start, initial}
 use Rattle.sct.specs.declared.play.PlayFault.{PlayFault}
 use Rattle.sct.specs.declared.play.PlayFault.TheVariants as play_fault
-use Rattle.sct.specs.declared.lines.LinesFault.{LinesFault}
 use Rattle.sct.specs.declared.lines.LinesFault.TheVariants as lines_fault
 use Rattle.sct.specs.Line.{IsObjectOf, inputs_of}
 use Rattle.sct.specs.Lines.{line_limit, is_feed}
@@ -86,19 +85,6 @@ Goes p k c [] (shown ∷ out) end = ⊥
 Goes p k c (line ∷ lines) [] end = EndsAt p k line end
 Goes p k c (line ∷ lines) (shown ∷ out) end = (d : Control) × Shows p k c line d shown × Goes p (k + 1) d lines out end
 
--- what a fault at line number k tells of it
-abbrev pub Tells : Program → ℕ → List ℕ → PlayFault → Type 0
-Tells p k line (play_fault.Input n) = EndsAt p k line (NoInputs n)
-Tells p k line (play_fault.NotJson n) = EndsAt p k line (NoObject n)
-Tells p k line play_fault.Memory = ⊤
-Tells p k line other = ⊥
-
--- the fault where line number k could not be had
-abbrev pub unread : LinesFault → ℕ → PlayFault
-unread lines_fault.Memory k = play_fault.Memory
-unread lines_fault.Read k = play_fault.Read
-unread lines_fault.TooLong k = play_fault.NotJson k
-
 -- the trace of lines: their lines of output, and its end
 abbrev pub Trace : Program → List (List ℕ) → List (List ℕ) → End → Type 0
 Trace p lines out end = Goes p 1 (initial p) lines out end
@@ -110,17 +96,30 @@ pub record Plays (p : Program) (input old new : Option (List ℕ)) (out : List (
   pub trace : Trace p lines out end
   pub written : Appends old new (concat out)
 
--- the trace of the first lines of an input was written; the last line of it perhaps in part
-pub record PlaysPart (p : Program) (input old new : Option (List ℕ)) : Type 0 where
+-- the trace of the first lines of an input was written
+pub record PlaysFirst (p : Program) (input old new : Option (List ℕ)) : Type 0 where
   pub first : List (List ℕ)
   pub rest : List (List ℕ)
   pub cut : AreLinesOf input (first ++ rest)
   pub out : List (List ℕ)
   pub trace : Trace p first out Good
-  pub written : GrowsInto old new (concat out)
+  pub written : Appends old new (concat out)
+
+-- the trace of the first lines of an input was written, of its last line of output perhaps a part
+pub record PlaysPart (p : Program) (input old new : Option (List ℕ)) : Type 0 where
+  pub first : List (List ℕ)
+  pub rest : List (List ℕ)
+  pub cut : AreLinesOf input (first ++ rest)
+  pub out : List (List ℕ)
+  pub last : List ℕ
+  pub trace : Trace p first (out ++ last ∷ []) Good
+  pub before : Option (List ℕ)
+  pub written : Appends old before (concat out)
+  pub in_part : GrowsInto before new last
 
 -- what was written before a fault
 abbrev pub Leaves : Program → Option (List ℕ) → Option (List ℕ) → Option (List ℕ) → PlayFault → Type 0
 Leaves p input old new (play_fault.Input line) = (out : List (List ℕ)) × Plays p input old new out (NoInputs line)
 Leaves p input old new (play_fault.NotJson line) = (out : List (List ℕ)) × Plays p input old new out (NoObject line)
-Leaves p input old new other = PlaysPart p input old new
+Leaves p input old new play_fault.Write = PlaysPart p input old new
+Leaves p input old new other = PlaysFirst p input old new

@@ -1,3 +1,6 @@
+ghost use Rattle.std.specs.Prelude.{◌≡◌};
+ghost use Rattle.sct.specs.declared.arguments.Unread.TheVariants.{Memory};
+
 use clap::error::ErrorKind;
 use clap::{Arg, ArgAction, ArgMatches, Command, Error};
 use std::alloc::{AllocError, Global};
@@ -14,10 +17,18 @@ pub enum Request<'a> {
 /// Why the words ask for nothing that can be done.
 #[derive(Debug, Drop)]
 pub enum Unread {
-    /// Want of memory.
+    /// Memory was refused.
     Memory,
     /// A text to show: the help that was asked for, or what is wrong with the words.
     Shown { text: String, asked: bool },
+}
+
+impl From<AllocError> for Unread {
+    ghost from_gives = { λ _ e. e ≡ Memory };
+
+    fn from(_error: AllocError) -> Unread {
+        Unread::Memory
+    }
 }
 
 const EXAMPLE: &str = "Example:\n  sct run examples/two_threads.image < examples/two_threads.ticks";
@@ -51,6 +62,7 @@ fn sct_command<'a>(alloc: Global) -> Result<Command<'a>, AllocError> {
         .subcommand(run)
 }
 
+// What is asked for by words that were taken apart; None where that is no command of ours.
 fn request_of<'a>(matches: &ArgMatches<'a>) -> Option<Request<'a>> {
     let (name, matches) = matches.subcommand()?;
     let image = matches.get_str("image")?;
@@ -76,12 +88,15 @@ fn shown(alloc: Global, error: &Error) -> Unread {
 
 /// What these words, without the program's name, ask for.
 pub fn read_words<'a>(alloc: Global, words: &'a [String]) -> Result<Request<'a>, Unread> {
-    let command = match sct_command(alloc) {
-        Ok(command) => command,
-        Err(_) => return Err(Unread::Memory),
+    let matches = match sct_command(alloc)?.try_get_matches_from(words) {
+        Ok(matches) => matches,
+        Err(error) => return Err(shown(alloc, &error)),
     };
-    match command.try_get_matches_from(words) {
-        Ok(matches) => request_of(&matches).ok_or(Unread::Memory),
-        Err(error) => Err(shown(alloc, &error)),
+    match request_of(&matches) {
+        Some(request) => Ok(request),
+        None => Err(Unread::Shown {
+            text: String::from_str(alloc, "error: no such command\n")?,
+            asked: false,
+        }),
     }
 }

@@ -7,7 +7,8 @@ use bytecode::{Image, decode};
 use std::alloc::{AllocError, Global};
 use verifier::{Verified, verify};
 
-/// The image in the file of this name, once it is verified.
+/// The image in the file of this name, once it is verified. Err: the file could not be read, or why
+/// it has no valid image.
 pub fn load_verified<F: Files>(
     alloc: Global,
     files: &mut F,
@@ -34,7 +35,8 @@ fn summary_line(
     format!(in alloc; "ok nodes={nodes} threads={threads} budget={budget}\n")
 }
 
-/// The line that says of an image that it is good, with its counts and its budget.
+/// The line that says of an image that it is good, with its numbers of nodes and threads and its
+/// budget. Err: memory was refused.
 pub fn summary_of(alloc: Global, image: &Image) -> Result<String, AllocError>
     ensures { IfOk result (λ line. string_bytes line ≡ summary_of image.now) }
 {

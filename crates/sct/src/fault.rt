@@ -10,13 +10,13 @@ use verifier::Refusal;
 /// Why the program refuses. It prints as the fault line says it, after the program's name.
 #[derive(Debug, Drop, Error)]
 pub enum Fault {
-    /// Want of memory.
+    /// Memory was refused.
     #[error("E52")]
     Memory,
-    /// The bytes spell no image.
+    /// The bytes spell no image, or memory was refused.
     #[error("{0}")]
     Image(DecodeFault),
-    /// The image breaks a rule.
+    /// The image breaks a rule, or memory was refused.
     #[error("{0}")]
     Rule(Refusal),
     /// Standard input was not played to its end.
@@ -25,7 +25,7 @@ pub enum Fault {
     /// Standard output failed, or took no byte.
     #[error("E63")]
     Write,
-    /// The file of this name cannot be read or written.
+    /// The file of this name cannot be read.
     #[error("E64 {0}")]
     File(String),
 }

@@ -2,22 +2,19 @@ use std::alloc::Global;
 use std::rt::Files as SystemFiles;
 use std::{fs, io};
 
-/// Why a file was not read or written.
+/// Why a file was not read.
 #[derive(Clone, Copy, Debug, PartialEq, Eq)]
 pub enum FileFault {
-    /// Want of memory.
+    /// Memory was refused.
     Memory,
-    /// The file of this name cannot be read or written.
+    /// The file of this name cannot be read.
     Named,
 }
 
-/// The files that the program reads and writes, by name.
+/// The files that the program reads, by name.
 pub trait Files {
     /// The bytes of the file of this name.
     fn load(&mut self, alloc: Global, name: &str) -> Result<Vec<u8>, FileFault>;
-
-    /// Makes these the bytes of the file of this name.
-    fn store(&mut self, alloc: Global, name: &str, bytes: &[u8]) -> Result<(), FileFault>;
 }
 
 /// The files of the system.
@@ -43,9 +40,5 @@ fn file_fault(error: io::Error) -> FileFault {
 impl<'a, R: SystemFiles + AllocGlobal> Files for HostFiles<'a, R> {
     fn load(&mut self, _alloc: Global, name: &str) -> Result<Vec<u8>, FileFault> {
         fs::read(self.rt, name).map_err(file_fault)
-    }
-
-    fn store(&mut self, _alloc: Global, name: &str, bytes: &[u8]) -> Result<(), FileFault> {
-        fs::write(self.rt, name, bytes).map_err(file_fault)
     }
 }

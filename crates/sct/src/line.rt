@@ -16,11 +16,11 @@ use tick_core::Inputs;
 /// Why a line gives no inputs.
 #[derive(Clone, Copy, Debug, PartialEq, Eq)]
 pub enum LineFault {
-    /// Want of memory.
+    /// Memory was refused.
     Memory,
     /// The line is no JSON object.
     NotJson,
-    /// A member names no input, or has a value that its kind does not take.
+    /// A member names no input, or has a value that the input's kind does not take.
     Input,
 }
 
@@ -102,8 +102,9 @@ fn object_of(alloc: Global, line: &[u8]) -> Result<Map<String, Json>, LineFault>
     }
 }
 
-/// The inputs that a line of a trace gives to the inputs among these variables. A repeated member
-/// counts with its last value.
+/// What a line of input gives to the inputs among these variables. A repeated member counts with
+/// its last value. `NotJson` where the line is no JSON object, `Input` where it is one and a member
+/// gives nothing.
 pub fn read_line(alloc: Global, variables: &[Variable], line: &[u8]) -> Result<Inputs, LineFault>
     ensures ok { IfOk result (λ inputs. (members : Members)
         × IsObjectOf line.now members × (inputs_of variables.now members ≡ Some inputs)) }

@@ -16,7 +16,7 @@ const PIECE: usize = 4_096;
 /// Why there is no next line.
 #[derive(Clone, Copy, Debug, PartialEq, Eq)]
 pub enum LinesFault {
-    /// Want of memory.
+    /// Memory was refused.
     Memory,
     /// The source failed.
     Read,
@@ -108,7 +108,8 @@ impl Lines {
     }
 
     /// The next line, without its line feed; None at the end of the input. A last line may lack its
-    /// line feed. After an error the rest of the input is not to be read.
+    /// line feed. `TooLong` where the line has more than 65,536 bytes, `Read` where the source
+    /// failed. After an error the rest of the input is not to be read.
     pub fn next<R: Source>(
         &mut self,
         alloc: Global,

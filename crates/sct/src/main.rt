@@ -36,7 +36,7 @@ fn words_of(rt: &HostRuntime) -> io::Result<Vec<String>> {
     Ok(words)
 }
 
-// The status where the words cannot be had: for want of memory, or because one is no text.
+// The status where the words cannot be had: memory was refused, or one is no text.
 fn without_words(rt: &HostRuntime, error: &io::Error) -> u8
     ensures { result ≤ MISUSED }
 {

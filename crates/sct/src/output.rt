@@ -63,8 +63,8 @@ fn tick_of(
     json!(in alloc; {"out": Json::Object(shown), "steps": steps, "tick": tick})
 }
 
-/// The output line of a tick: its number, from 1, its steps, and the values of the outputs after
-/// it, in the order of their names.
+/// The output line of a tick of this number: its steps, and the values of the outputs after it, in
+/// the order of their names. Err: memory was refused.
 pub fn line_of(
     alloc: Global,
     tick: u64,

@@ -2,7 +2,8 @@ ghost use Rattle.std.specs.Prelude.{◌≡◌, ◌≢◌, ◌+◌, ◌≤◌, �
 ghost use Rattle.sc_graph.specs.Tick.{Rests, AreAccepted};
 ghost use Rattle.sct.specs.declared.play.PlayFault.TheVariants.{Memory};
 ghost use Rattle.sct.specs.Lines.{line_limit};
-ghost use Rattle.sct.specs.Trace.{Reacts, Shows, Tells, Plays, Leaves, Good, unread};
+ghost use Rattle.sct.specs.Trace.{Reacts, Shows, Plays, Leaves, Good};
+ghost use Rattle.sct.specs.Inside.Faults.{Tells, unread};
 
 use crate::line::{LineFault, read_line};
 use crate::lines::{Lines, LinesFault};
@@ -16,10 +17,10 @@ use verifier::Verified;
 /// Why an input was not played to its end.
 #[derive(Clone, Copy, Debug, PartialEq, Eq, Error)]
 pub enum PlayFault {
-    /// On this line a member names no input, or has a value that its kind does not take.
+    /// On this line a member names no input, or has a value that the input's kind does not take.
     #[error("E51 line {0}")]
     Input(u64),
-    /// Want of memory.
+    /// Memory was refused.
     #[error("E52")]
     Memory,
     /// The source failed.
@@ -109,7 +110,9 @@ fn react(
 }
 
 /// Plays an input to an output: for each line one tick and one output line, which is written before
-/// the next line is read. Gives the number of ticks.
+/// the next line is read. Gives the number of ticks. `Input` and `NotJson` name the line at which
+/// the trace ends, and all before it was written; else the lines of output of some first lines were,
+/// each whole, or at `Write` the last one perhaps in part.
 pub fn play<R: Source, W: Sink>(
     alloc: Global,
     image: &Verified,

@@ -210,6 +210,21 @@ fn tells_misuse(rt: HostRuntime) -> Result<(), Fail> {
     expect_misuse(&rt, &["run", "a", "--workers", "2"])
 }
 
+const NO_IMAGE: &str = "error: the following required arguments were not provided:
+  <IMAGE>
+
+Usage: sct run <IMAGE>
+
+For more information, try '--help'.
+";
+
+#[test]
+fn tells_what_is_missing(rt: HostRuntime) -> Result<(), Fail> {
+    expect_left(&rt, &[], b"", b"", 2, "", HELP)?;
+    expect_left(&rt, &["run"], b"", b"", 2, "", NO_IMAGE)?;
+    expect_left(&rt, &["--"], b"", b"", 2, "", HELP)
+}
+
 const HELP: &str = "Checks and runs images of SCCharts
 
 Usage: sct <COMMAND>
@@ -225,7 +240,19 @@ Example:
   sct run examples/two_threads.image < examples/two_threads.ticks
 ";
 
+const HELP_OF_RUN: &str = "Plays standard input to standard output, a tick for each line
+
+Usage: sct run <IMAGE>
+
+Arguments:
+  <IMAGE>  The file of the image
+
+Options:
+  -h, --help  Print help
+";
+
 #[test]
 fn shows_help(rt: HostRuntime) -> Result<(), Fail> {
-    expect_left(&rt, &["--help"], b"", b"", 0, HELP, "")
+    expect_left(&rt, &["--help"], b"", b"", 0, HELP, "")?;
+    expect_left(&rt, &["run", "--help"], b"", b"", 0, HELP_OF_RUN, "")
 }

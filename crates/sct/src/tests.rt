@@ -1,8 +1,11 @@
 // The program over files, an input, an output and one for errors in memory.
 ghost use Rattle.std.specs.Prelude.{◌≡◌, ◌<◌};
 
+use crate::check::load_verified;
 use crate::command::command;
-use crate::files::{FileFault, Files};
+use crate::fault::Fault;
+use crate::files::{FileFault, Files, HostFiles};
+use crate::play::PlayFault;
 use sc_values::{Failures, FromSlice, Plan, Sink, ToVec};
 use std::alloc::{AllocError, Global};
 use std::marker::Brand;
@@ -43,10 +46,6 @@ impl Files for OneFile<'_> {
         } else {
             Err(FileFault::Named)
         }
-    }
-
-    fn store(&mut self, _alloc: Global, _name: &str, _bytes: &[u8]) -> Result<(), FileFault> {
-        Err(FileFault::Named)
     }
 }
 
@@ -378,6 +377,37 @@ fn accepts_greater_tables(rt: HostRuntime) -> Result<(), Fail> {
 fn names_a_missing_file(rt: HostRuntime) -> Result<(), Fail> {
     for verb in ["check", "run"] {
         expect_left(&rt, &[verb, "none"], b"", b"", 1, "", "sct: E64 none\n")?;
+    }
+    Ok(())
+}
+
+// Files that no memory is found for.
+#[derive(Drop)]
+struct NoMemory {}
+
+impl Files for NoMemory {
+    fn load(&mut self, _alloc: Global, _name: &str) -> Result<Vec<u8>, FileFault> {
+        Err(FileFault::Memory)
+    }
+}
+
+#[test]
+fn tells_want_of_memory(rt: HostRuntime) -> Result<(), Fail> {
+    match load_verified(rt.alloc(), &mut NoMemory {}, "image") {
+        Ok(_image) => panic!(rt; "an image without memory"),
+        Err(fault) => assert_eq!(rt; format!(in rt.alloc(); "{fault}")?.as_str(), "E52"),
+    }
+    let fault = Fault::Play(PlayFault::Memory);
+    assert_eq!(rt; format!(in rt.alloc(); "{fault}")?.as_str(), "E52");
+    Ok(())
+}
+
+#[test]
+fn a_missing_file_of_the_system_is_named(rt: HostRuntime) -> Result<(), Fail> {
+    let mut files = HostFiles::new(&rt);
+    match files.load(rt.alloc(), "no_such_folder/image") {
+        Ok(_bytes) => panic!(rt; "a file that is not there"),
+        Err(fault) => assert_eq!(rt; fault, FileFault::Named),
     }
     Ok(())
 }

@@ -6,7 +6,7 @@ use Rattle.std.proofs.lemmas.Option.{slice_get_within}
 use Rattle.sc_values.specs.declared.value.Value.{Value}
 use Rattle.sc_graph.specs.Program.{Program}
 use Rattle.sc_graph.specs.Tick.{AreAccepted}
-use Rattle.tick_core.specs.Inside.Inputs.{IsFor, NamesInput, IsFirstOfItsName, IsAcceptedAt}
+use Rattle.tick_core.specs.Inside.Inputs.{IsAcceptedAt}
 
 pub slice_get_take : {X : Type 0} (xs : List X) (i j : ℕ) → i < j → slice_get (take j xs) i ≡ slice_get xs i
 slice_get_take [] i zero below = absurd (omega arith)

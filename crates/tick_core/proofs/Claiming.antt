@@ -1,5 +1,5 @@
 -- What a search for a thread to claim finds, and that a new claim is as things stand.
-use Rattle.std.proofs.Common.{◌≡◌, ℕ, ◌<◌, ◌≤◌, ◌^◌, ◌&&◌, Bool, true, false, nat_eq, List, [], Option, Some, None, map, length, slice_get, slice_set, unwrap_or, option_and_then, refl, sym, ap, subst, ◌∙◌, arith, eq-eqb, eqb-true}
+use Rattle.std.proofs.Common.{◌≡◌, ℕ, ◌<◌, ◌≤◌, ◌^◌, ◌&&◌, Bool, true, false, nat_eq, List, [], Option, Some, None, map, length, slice_get, slice_set, refl, sym, ap, subst, ◌∙◌, arith, eq-eqb, eqb-true}
 use Rattle.std.specs.Prelude.{IsSome, MatchOption}
 use Rattle.sc_values.specs.declared.value.Value.{Value}
 use Rattle.sc_values.specs.declared.operation.Operation.{Operation}
@@ -10,17 +10,16 @@ use Rattle.sc_graph.specs.declared.control.Control.{Control}
 use Rattle.sc_graph.specs.declared.control.Status.{Status}
 use Rattle.sc_graph.specs.declared.control.Status.TheVariants as status
 use Rattle.sc_graph.specs.declared.tables.Tables.{Tables}
-use Rattle.sc_graph.specs.Program.{Program, step_at, kinds}
+use Rattle.sc_graph.specs.Program.{Program, kinds}
 use Rattle.sc_graph.specs.Control.{status_of, status_enabled, is_enabled, IsEnabled}
 use Rattle.sc_graph.specs.Tables.{priority_of}
 use Rattle.sc_graph.specs.Priority.{Leads}
 use Rattle.sc_graph.specs.Tick.{IsConfiguration}
 use Rattle.sc_graph.specs.Valid.{IsValid}
-use Rattle.sc_graph.specs.Limits.{budget_limit}
 use Rattle.tick_laws.proofs.Lists.{slice_get_there}
-use Rattle.tick_core.specs.Claims.{Claim, HasOperands, operations_of, present_operands}
+use Rattle.tick_core.specs.Claims.{Claim, present_operands}
 use Rattle.tick_core.specs.Inside.Work.{HasFormedCode, IsWork}
-use Rattle.tick_core.specs.Stepping.{node_of, code_of, code_at}
+use Rattle.tick_core.specs.Stepping.{node_of, code_at}
 use Rattle.tick_core.specs.State.{InTick, Holds, IsFresh}
 use Rattle.tick_core.specs.Turns.{claim_of, AllClaimed, IsOpen, GivesClaim}
 use Rattle.tick_core.specs.Inside.Turns.{is_none, is_unclaimed, NoneUnclaimed, IsUnclaimed, IsNew, MayCommit}

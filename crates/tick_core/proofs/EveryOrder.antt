@@ -1,17 +1,16 @@
 -- Whatever the order of events, a tick keeps what it holds, its image and its start.
-use Rattle.std.proofs.Common.{◌≡◌, ℕ, ◌≤◌, ◌⊎◌, inl, inr, Some, List, [], ◌∷◌, length, refl, sym, ap, subst, ◌∙◌, arith}
+use Rattle.std.proofs.Common.{◌≡◌, ℕ, ◌≤◌, inl, inr, List, [], ◌∷◌, length, refl, sym, ap, subst, ◌∙◌, arith}
 use Rattle.sc_graph.specs.declared.control.Control.{Control}
 use Rattle.sc_graph.specs.Control.{status_of}
-use Rattle.sc_graph.specs.Tick.{Inputs, AreAccepted, Rests, start}
+use Rattle.sc_graph.specs.Tick.{start}
 use Rattle.sc_graph.specs.Priority.{Leads, PriorityRun}
-use Rattle.sc_graph.specs.Valid.{IsValid}
 use Rattle.bytecode.specs.Image.{Image}
 use Rattle.tick_core.specs.declared.state.Turn.{Turn}
 use Rattle.tick_core.specs.declared.state.Turn.TheVariants as turn
 use Rattle.tick_core.specs.Claims.{Claim, Done, present_operands}
 use Rattle.tick_core.specs.Stepping.{code_at}
 use Rattle.tick_core.specs.State.{InTick, Holds, IsFresh, threads_of}
-use Rattle.tick_core.specs.Turns.{Answers, GivesClaim, Commits, GivesBack, IsRefused}
+use Rattle.tick_core.specs.Turns.{Answers, GivesClaim, Commits, GivesBack}
 use Rattle.tick_core.specs.Events.{Event, Asks, Brings, Returns, Happens, Happen, begun, Replays, EveryOrderReplays}
 use Rattle.tick_core.proofs.Keeping.{holds_begun, kept_claimed, kept_closed, kept_advanced}
 

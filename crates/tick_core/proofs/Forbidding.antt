@@ -1,9 +1,9 @@
 -- Pairs of steps that stand in a forbidden order.
-use Rattle.std.proofs.Common.{◌≡◌, ◌≢◌, ℕ, ◌+◌, ◌<◌, ◌≤◌, ◌⊎◌, inl, inr, Bool, true, false, List, Option, Some, None, option_map, unwrap_or, slice_get, get_or, length, refl, sym, ap, subst, subst₂, ◌∙◌, arith}
+use Rattle.std.proofs.Common.{◌≡◌, ℕ, ◌+◌, ◌<◌, ◌≤◌, ◌⊎◌, inl, inr, Bool, true, false, List, Some, option_map, slice_get, get_or, length, refl, sym, ap, subst, subst₂, ◌∙◌, arith}
 use Rattle.std.specs.Prelude.{◌↔◌, IsTrue, not}
 use Rattle.std.proofs.lemmas.List.{length-map}
 use Rattle.std.proofs.lemmas.Option.{same_Some, slice_get-get_or, slice_get-map, slice_get_within}
-use Rattle.sc_values.specs.Access.{Access, MayPrecede}
+use Rattle.sc_values.specs.Access.{MayPrecede}
 use Rattle.sc_values.specs.Runs.{Act, ConcurrentSteps, IsOrdered}
 use Rattle.sc_graph.specs.Program.{Program}
 use Rattle.sc_graph.specs.Threads.{ForkedApart, AreConcurrent}

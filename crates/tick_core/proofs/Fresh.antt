@@ -30,12 +30,13 @@ use Rattle.sc_graph.specs.Tick.{IsConfiguration}
 use Rattle.sc_graph.specs.Valid.{IsValid}
 use Rattle.tick_laws.proofs.Formed.{valid_formed}
 use Rattle.tick_laws.proofs.Lists.{contains_head, contains_tail, slice_get_there, and_then_some}
-use Rattle.tick_laws.proofs.Views.{ready, does}
+use Rattle.tick_laws.proofs.Views.{enabled_view, does}
 use Rattle.tick_laws.proofs.Sound.{keeps_self}
 use Rattle.tick_laws.proofs.Claims.{leads_kept, operands_kept}
 use Rattle.tick_laws.proofs.RunsOn.{stepped_by}
 use Rattle.tick_core.specs.Claims.{Claim, value_by, operations_of, present_operands}
-use Rattle.tick_core.specs.Stepping.{code_of, node_of, code_at, value_at}
+use Rattle.tick_core.specs.Stepping.{code_of, node_of, code_at}
+use Rattle.tick_core.specs.Inside.Work.{value_at}
 use Rattle.tick_core.specs.State.{IsFresh}
 
 loads_same : (code : List Operation) (v w : List Value) → ((x : ℕ) → Contains (loads code) x → slice_get v x ≡ slice_get w x) → loaded_from v code ≡ loaded_from w code
@@ -80,7 +81,7 @@ operands_same p st v w same = go (code_at p st) refl
 module _ (p : Program) (q : Tables) (valid : IsValid p q) (c : Control) (ok : IsConfiguration p c) where
   fresh_after : (t u n : ℕ) (a : Claim) (e : Effect) → u ≢ t → Leads p q c t → effect p c t ≡ Some e → IsFresh p q c n u a → IsFresh p q (after e c) (n + 1) u a
   fresh_after t u n a e other leads is fresh =
-      let stands : status_of (after e c) u ≡ status_of c u = keeps_self p (valid_formed p q valid) c ok u t other (ready p c u fresh.leads.enabled) e (does p c t e is) in
+      let stands : status_of (after e c) u ≡ status_of c u = keeps_self p (valid_formed p q valid) c ok u t other (enabled_view p c u fresh.leads.enabled) e (does p c t e is) in
       let same : present_operands (after e c).variables (code_at p (status_of c u)) ≡ present_operands c.variables (code_at p (status_of c u)) =
       operands_same p (status_of c u) (after e c).variables c.variables (λ x reads. operands_kept p q valid c ok u t other fresh.leads leads e is x reads) in
       record {

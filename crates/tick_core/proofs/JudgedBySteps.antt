@@ -1,6 +1,6 @@
 -- What is judged of the steps of a run is a judgement of the run.
-use Rattle.std.proofs.Common.{◌≡◌, ℕ, List, Some, refl, sym, subst, ◌∙◌}
-use Rattle.sc_values.specs.Runs.{replay, acts, IsOrdered, IsAdmissible, IsOver, Completes, Ends}
+use Rattle.std.proofs.Common.{◌≡◌, ℕ, List, Some, sym, subst, ◌∙◌}
+use Rattle.sc_values.specs.Runs.{replay, IsOrdered, IsAdmissible, IsOver, Completes, Ends}
 use Rattle.sc_graph.specs.declared.control.Control.{Control}
 use Rattle.sc_graph.specs.declared.tables.Tables.{Tables}
 use Rattle.sc_graph.specs.Program.{Program}

@@ -1,6 +1,6 @@
 -- What the state of a tick keeps, from its beginning through every event.
 use Rattle.std.proofs.Common.{◌≡◌, ◌≢◌, ℕ, ◌+◌, ◌<◌, ◌≤◌, List, [], ◌∷◌, ◌++◌, map, length, length-append, length-set, take, get_or, Option, Some, None, option_map, slice_get, slice_set, refl, sym, ap, subst, ◌∙◌, ◌⊎◌, inl, inr, arith}
-use Rattle.std.specs.Prelude.{IsSome, is_some, is_none, IsTrue, ◌↔◌, MatchOption, IsPermutation, unwrap_or, zero, suc, Bool, true, false}
+use Rattle.std.specs.Prelude.{IsSome, is_some, is_none, IsTrue, ◌↔◌, MatchOption, IsPermutation, unwrap_or, zero, suc, false}
 use Rattle.std.proofs.lemmas.List.{length-map, map-append, append-nil, append_assoc, take_more}
 use Rattle.std.proofs.lemmas.Option.{slice_get-map, slice_get_within}
 use Rattle.sc_graph.specs.declared.program.Thread.{Thread}
@@ -30,8 +30,9 @@ use Rattle.tick_laws.proofs.RunsOn.{priority_push}
 use Rattle.tick_laws.proofs.Finishing.{rests_when_over}
 use Rattle.tick_laws.proofs.Final.{one_end_of_tick}
 use Rattle.tick_core.specs.Claims.{value_by}
-use Rattle.tick_core.specs.Stepping.{value_at}
-use Rattle.tick_core.specs.State.{IsFresh, Advances, DropsClaims, GoesAlone}
+use Rattle.tick_core.specs.Inside.Work.{value_at}
+use Rattle.tick_core.specs.State.{IsFresh, Advances, GoesAlone}
+use Rattle.tick_core.specs.Inside.Turns.{DropsClaims}
 use Rattle.tick_core.proofs.Fresh.{fresh_kept, fresh_value}
 
 none_of : (o : Option Thread) (a : Claim) → option_map (λ _. None) o ≢ Some (Some a)

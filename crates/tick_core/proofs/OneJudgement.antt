@@ -1,17 +1,17 @@
 -- No two judgements hold of one run.
-use Rattle.std.proofs.Common.{◌≡◌, ℕ, zero, suc, ◌<◌, ◌≤◌, ◌⊎◌, inl, inr, true, false, List, [], ◌∷◌, Some, slice_get, take, length, refl, sym, ap, subst, ◌∙◌, arith}
+use Rattle.std.proofs.Common.{◌≡◌, ℕ, zero, suc, ◌<◌, inl, inr, true, false, List, [], ◌∷◌, Some, slice_get, take, length, refl, sym, ap, subst, ◌∙◌, arith}
 use Rattle.std.proofs.Math.Nat.{le_antisymm}
 use Rattle.std.proofs.Math.Seq.{take-length}
 use Rattle.std.proofs.lemmas.Option.{none-some, same_Some, slice_get_within}
-use Rattle.sc_values.specs.Runs.{replay, acts, IsAdmissible, IsOver}
+use Rattle.sc_values.specs.Runs.{replay, acts, IsAdmissible}
 use Rattle.sc_graph.specs.declared.control.Control.{Control}
 use Rattle.sc_graph.specs.Program.{Program}
 use Rattle.sc_graph.specs.Threads.{ForkedApart}
 use Rattle.sc_graph.specs.Machine.{machine}
-use Rattle.sc_graph.specs.Control.{is_enabled, IsEnabled}
+use Rattle.sc_graph.specs.Control.{is_enabled}
 use Rattle.sc_graph.specs.Steps.{step}
 use Rattle.tick_laws.proofs.Lists.{and_then_some}
-use Rattle.tick_laws.proofs.Views.{enabled_from, ready_from_effect}
+use Rattle.tick_laws.proofs.Views.{enabled_from, enabled_from_effect}
 use Rattle.tick_laws.proofs.RunsOn.{stepped_by}
 use Rattle.tick_core.specs.declared.judging.Judged.{Judged}
 use Rattle.tick_core.specs.declared.judging.Judged.TheVariants as judged
@@ -22,7 +22,7 @@ use Rattle.tick_core.proofs.Forbidding.{lt_or_le}
 idle_stands : (p : Program) (t : ℕ) (c d : Control) → is_enabled p c t ≡ false → step p t c ≡ Some d → ⊥
 idle_stands p t c d idle stepped =
     let by = stepped_by p t c d stepped in
-    let able : is_enabled p c t ≡ true = enabled_from p c t (ready_from_effect p c t by.e by.is) in
+    let able : is_enabled p c t ≡ true = enabled_from p c t (enabled_from_effect p c t by.e by.is) in
     absurd (cc)
 
 -- no run goes past a thread that isn't enabled at its turn

@@ -17,7 +17,7 @@ use Rattle.tick_laws.proofs.RunsOn.{replay_push}
 use Rattle.tick_laws.proofs.Final.{one_end_of_tick}
 use Rattle.tick_core.specs.declared.judging.replaying.Taken.{Taken}
 use Rattle.tick_core.specs.State.{BeginsTick}
-use Rattle.tick_core.specs.Inside.Judging.{act_at, acts_at, StepsAt, RunsBy}
+use Rattle.tick_core.specs.Inside.Judging.{act_at, StepsAt, RunsBy}
 
 nothing_after : (p : Program) (o : Option Control) → acts_after (machine p) (acts (machine p) []) o ≡ []
 nothing_after p None = refl

@@ -1,14 +1,9 @@
 -- Claims: a step that a worker is to evaluate, and what it carries.
-use Rattle.std.specs.Prelude.{ℕ, ◌≡◌, ◌≤◌, Option, Some, None, List, [], map, option_map, option_and_then}
+use Rattle.std.specs.Prelude.{ℕ, ◌≡◌, Option, Some, None, List, [], map, option_map}
 use Rattle.sc_values.specs.declared.value.Value.{Value}
 use Rattle.sc_values.specs.declared.operation.Operation.{Operation}
 use Rattle.sc_values.specs.Operator.{kind_of}
-use Rattle.sc_values.specs.Code.{IsWellFormed}
-use Rattle.sc_values.specs.Checked.{Checked, Checks, loaded_from, value_over}
-use Rattle.sc_graph.specs.declared.control.Control.{Control}
-use Rattle.sc_graph.specs.declared.control.Status.{Status}
-use Rattle.sc_graph.specs.Program.{Program, kinds}
-use Rattle.tick_core.specs.Stepping.{code_at}
+use Rattle.sc_values.specs.Checked.{Checked, loaded_from, value_over}
 
 -- who is to step, on whose account, at which node, by which code over which operands, and how many
 -- commits came before

@@ -1,18 +1,14 @@
 -- Judgements of a given run of a tick, and what they rest on.
-use Rattle.std.specs.Prelude.{ℕ, ◌≡◌, ◌<◌, ◌≤◌, false, Some, List, map, slice_get, take}
-use Rattle.sc_values.specs.Runs.{Act, replay, acts, ConcurrentSteps, IsOrdered, IsAdmissible, IsOver, Completes, Ends}
+use Rattle.std.specs.Prelude.{ℕ, ◌≡◌, ◌<◌, ◌≤◌, false, Some, List, slice_get, take}
+use Rattle.sc_values.specs.Runs.{Act, replay, acts, ConcurrentSteps, IsAdmissible, Completes, Ends}
 use Rattle.sc_values.specs.Access.{MayPrecede}
 use Rattle.sc_graph.specs.declared.control.Control.{Control}
 use Rattle.sc_graph.specs.Program.{Program}
 use Rattle.sc_graph.specs.Threads.{ForkedApart}
-use Rattle.sc_graph.specs.Accesses.{accesses}
-use Rattle.sc_graph.specs.Control.{status_of, is_enabled, IsEnabled, access_at}
-use Rattle.sc_graph.specs.Steps.{step}
+use Rattle.sc_graph.specs.Control.{is_enabled, IsEnabled}
 use Rattle.sc_graph.specs.Machine.{machine}
 use Rattle.tick_core.specs.declared.judging.Judged.{Judged}
 use Rattle.tick_core.specs.declared.judging.Judged.TheVariants as judged
-use Rattle.tick_core.specs.declared.judging.replaying.Taken.{Taken}
-use Rattle.tick_core.specs.declared.judging.replaying.Replayed.{Replayed}
 use Rattle.tick_core.specs.declared.judging.replaying.Replayed.TheVariants as replayed
 
 -- the steps before place i can be taken, and the thread at place i isn't enabled then

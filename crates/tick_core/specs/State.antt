@@ -1,7 +1,6 @@
 -- A tick under way: what its state keeps.
 use Rattle.std.specs.Prelude.{ℕ, ◌≡◌, ◌≢◌, ◌≤◌, Option, Some, None, List, [], ◌∷◌, ◌++◌, map, length, slice_get, slice_set}
 use Rattle.sc_graph.specs.Steps.{step}
-use Rattle.sc_values.specs.declared.value.Kind.{Kind}
 use Rattle.sc_values.specs.Checked.{Checked, Checks}
 use Rattle.sc_graph.specs.declared.control.Control.{Control}
 use Rattle.sc_graph.specs.declared.tables.Tables.{Tables}
@@ -73,14 +72,6 @@ pub record Advances (s s' : InTick) (t worker : ℕ) : Type 0 where
   pub stepped : step s.image.program t s.present ≡ Some s'.present
   pub history_is : s'.history ≡ s.history ++ record { thread = t; worker = worker } ∷ []
   pub claims_are : s'.claims ≡ slice_set s.claims t None
-
--- the same state without open claims
-pub record DropsClaims (s s' : InTick) : Type 0 where
-  pub image_is : s'.image ≡ s.image
-  pub begun_is : s'.begun ≡ s.begun
-  pub present_is : s'.present ≡ s.present
-  pub history_is : s'.history ≡ s.history
-  pub no_claim : (t : ℕ) (a : Claim) → slice_get s'.claims t ≢ Some (Some a)
 
 -- from one state to a later one by steps of worker 0 alone, after all claims were dropped
 pub record GoesAlone (s s' : InTick) : Type 0 where

@@ -1,19 +1,16 @@
 -- What a claim answers, in three cases, and what a commit and a giving back do.
-use Rattle.std.specs.Prelude.{ℕ, ◌≡◌, ◌<◌, ◌&&◌, Bool, true, false, nat_eq, Option, Some, None, List, length, slice_get, slice_set}
+use Rattle.std.specs.Prelude.{ℕ, ◌≡◌, Option, Some, None, length, slice_get, slice_set}
 use Rattle.sc_values.specs.Runs.{IsOver}
-use Rattle.sc_graph.specs.declared.control.Control.{Control}
-use Rattle.sc_graph.specs.declared.tables.Tables.{Tables}
 use Rattle.sc_values.specs.Checked.{Checked, Checks}
-use Rattle.sc_graph.specs.Program.{Program, kinds}
-use Rattle.sc_graph.specs.Control.{status_of, is_enabled}
-use Rattle.sc_graph.specs.Tables.{priority_of}
+use Rattle.sc_graph.specs.Program.{kinds}
+use Rattle.sc_graph.specs.Control.{status_of}
 use Rattle.sc_graph.specs.Machine.{machine}
 use Rattle.sc_graph.specs.Priority.{Leads}
 use Rattle.tick_core.specs.declared.state.Turn.{Turn}
 use Rattle.tick_core.specs.declared.state.Turn.TheVariants as turn
-use Rattle.tick_core.specs.Claims.{Claim, Done, value_by, operations_of, present_operands}
-use Rattle.tick_core.specs.Stepping.{node_of, code_at, value_at}
-use Rattle.tick_core.specs.State.{InTick, IsFresh, Advances}
+use Rattle.tick_core.specs.Claims.{Claim, Done, operations_of, present_operands}
+use Rattle.tick_core.specs.Stepping.{node_of, code_at}
+use Rattle.tick_core.specs.State.{InTick, Advances}
 
 -- the open claim of a thread
 abbrev pub claim_of : InTick → ℕ → Option (Option Claim)

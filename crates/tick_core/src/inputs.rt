@@ -7,7 +7,8 @@ use sc_graph::{Program, Role, Variable};
 use sc_values::{Name, Value};
 use sqlite_items::Items;
 
-/// The inputs of a tick: names of input variables, each with a value of its kind.
+/// The inputs of a tick: names, each with a value. Accepted are those that name input variables,
+/// each with a value of its kind, and no name twice.
 pub type Inputs = Items<(Name, Value)>;
 
 /// Whether each input names an input variable and has its kind, and no name comes twice.

@@ -1,4 +1,4 @@
-ghost use Rattle.std.specs.Prelude.{IfOk, OnOk};
+ghost use Rattle.std.specs.Prelude.{◌↔◌, IfOk, OnOk};
 ghost use Rattle.std.specs.Result.{IsErrOf};
 ghost use Rattle.sc_graph.specs.Tick.{Rests, AreAccepted, IsConfiguration, start};
 ghost use Rattle.tick_core.specs.Judging.{IsJudgement};
@@ -37,8 +37,9 @@ pub enum Judged {
     Ends(Control),
 }
 
-/// Judges a list of threads as a run of a tick of a verified image, from a configuration that fits
-/// it. `Input` where the inputs are not accepted; the configuration is untouched.
+/// Judges a list of threads as a run of a tick of a verified image, from a configuration that
+/// rests. `Input` where the inputs are not accepted; `Memory` where memory was refused. The
+/// configuration is untouched.
 pub fn judge(
     alloc: Global,
     verified: &Verified,
@@ -49,7 +50,7 @@ pub fn judge(
     requires { Rests verified.now.program control.now }
     ensures judged { IfOk result (IsJudgement verified.now.program (start verified.now.program inputs.now control.now) run.now) }
     ensures accepted { OnOk result (AreAccepted verified.now.program inputs.now) }
-    ensures refused { IsErrOf result BeginFault.Input → ¬ (AreAccepted verified.now.program inputs.now) }
+    ensures refused { IsErrOf result BeginFault.Input ↔ ¬ (AreAccepted verified.now.program inputs.now) }
 {
     let program = verified.image().program();
     if !are_accepted(program, inputs.as_slice()) {

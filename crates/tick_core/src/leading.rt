@@ -2,9 +2,8 @@ ghost use Rattle.std.specs.Prelude.{◌≡◌, ◌+◌, MatchOption, Some, lengt
 ghost use Rattle.sc_values.specs.Runs.{IsOver};
 ghost use Rattle.sc_graph.specs.Machine.{machine};
 ghost use Rattle.sc_graph.specs.Priority.{Leads};
-ghost use Rattle.sc_graph.specs.Control.{IsEnabled};
 ghost use Rattle.sc_graph.specs.Tables.{priority_of};
-ghost use Rattle.tick_core.specs.Inside.Leading.{LeadsBelow, BestBelow};
+ghost use Rattle.tick_core.specs.Inside.Leading.{BestBelow};
 
 use crate::enabled::is_enabled;
 use sc_graph::{Control, Program, Status, Tables, ThreadId};
@@ -16,31 +15,30 @@ pub(crate) fn leader(program: &Program, tables: &Tables, control: &Control) -> O
 {
     let mut best = None;
     for thread in 0..program.thread_count() {
-        if is_enabled(program, control, thread) {
-            best = Some(better(program, tables, control, best, thread));
-        }
+        best = best_with(program, tables, control, best, thread);
     }
     best
 }
 
-// Of the best thread so far and the next one that is enabled, the one of greater priority.
-fn better(
+// The best of the threads before this one, and of this one where it is enabled.
+fn best_with(
     program: &Program,
     tables: &Tables,
     control: &Control,
     best: Option<ThreadId>,
     thread: ThreadId,
-) -> ThreadId
-    requires best { BestBelow program.now tables.now control.now thread best }
-    requires enabled { IsEnabled program.now control.now thread }
-    ensures { LeadsBelow program.now tables.now control.now (thread + 1) result }
+) -> Option<ThreadId>
+    requires { BestBelow program.now tables.now control.now thread best }
+    ensures { BestBelow program.now tables.now control.now (thread + 1) result }
 {
-    let _program = program;
+    if !is_enabled(program, control, thread) {
+        return best;
+    }
     match best {
         Some(best)
             if priority(tables, control.status(best)) >= priority(tables, control.status(thread)) =>
-            { best }
-        _ => thread,
+            { Some(best) }
+        _ => Some(thread),
     }
 }
 

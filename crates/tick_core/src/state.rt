@@ -8,6 +8,7 @@ ghost use Rattle.sc_graph.specs.Control.{IsEnabled};
 ghost use Rattle.sc_graph.specs.Steps.{step};
 ghost use Rattle.sc_graph.specs.Tick.{IsConfiguration, Rests, AreAccepted};
 ghost use Rattle.tick_core.specs.Claims.{Claim as OpenClaim};
+ghost use Rattle.tick_core.specs.Events.{begun};
 ghost use Rattle.tick_core.specs.State.{IsBegun, IsFresh, threads_of};
 
 mod claiming;
@@ -88,13 +89,13 @@ impl<'a> Model for TickState<'a> {
 pub enum Turn<'a> {
     /// A step to evaluate.
     Claim(Claim<'a>),
-    /// Every enabled thread of the greatest priority is claimed.
+    /// Somebody is enabled, and every enabled thread of the greatest priority has an open claim.
     NoneNow,
-    /// The tick is over.
+    /// The tick is over: nobody is enabled.
     Over,
 }
 
-/// The claim isn't open: it was committed or given back, or is none of this tick.
+/// No open claim equals it: it was committed, given back or dropped, or is none of this tick.
 #[derive(Clone, Copy, Debug, PartialEq, Eq, Error)]
 #[error("E53")]
 pub struct StaleClaim;
@@ -105,8 +106,9 @@ pub struct Receipt {
     pub at: u32,
 }
 
-/// Begins a tick of a verified image from a configuration that fits it. Room for all that later
-/// calls fill is made here. `Input` where the inputs are not accepted; the configuration is untouched.
+/// Begins a tick of a verified image from a configuration that rests. Room for all that later calls
+/// fill is made here. `Input` where the inputs are not accepted, else `Memory` where memory was
+/// refused. The configuration is untouched.
 pub fn begin<'a>(
     alloc: Global,
     verified: &'a Verified,
@@ -115,6 +117,7 @@ pub fn begin<'a>(
 ) -> Result<TickState<'a>, BeginFault>
     requires { Rests verified.now.program control.now }
     ensures begun { IfOk result (IsBegun verified.now control.now inputs.now) }
+    ensures start { IfOk result (λ s. s ≡ begun verified.now inputs.now control.now) }
     ensures refused { IsErrOf result BeginFault.Input ↔ ¬ (AreAccepted verified.now.program inputs.now) }
 {
     let image = verified.image();
@@ -152,7 +155,8 @@ impl<'a> TickState<'a> {
         &self.begun
     }
 
-    /// The present configuration. Each enabled thread has a step there.
+    /// The present configuration, which is one of the program. Each enabled thread has a step
+    /// there.
     pub fn present(&self) -> &Control
         ensures value { result.now ≡ self.now.present }
         ensures configuration { IsConfiguration self.now.image.program result.now }

@@ -3,7 +3,8 @@ ghost use Rattle.std.specs.Option.{option_copied};
 ghost use Rattle.sc_graph.specs.Program.{entry_of};
 ghost use Rattle.sc_graph.specs.Control.{status_of};
 ghost use Rattle.sc_graph.specs.Steps.{Keep, Put, Combine, enters, moved, after, node_effect, step};
-ghost use Rattle.tick_core.specs.Stepping.{code_at, value_of, value_at};
+ghost use Rattle.tick_core.specs.Stepping.{code_at};
+ghost use Rattle.tick_core.specs.Inside.Work.{value_of, value_at};
 
 use crate::enabled::joined;
 use sc_graph::{Control, NodeId, Program, Status, Step, ThreadId, VariableId};

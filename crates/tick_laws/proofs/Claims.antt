@@ -13,19 +13,19 @@ use Rattle.sc_graph.specs.Tick.{IsConfiguration}
 use Rattle.sc_graph.specs.Valid.{IsFormed, IsValid}
 use Rattle.tick_laws.specs.WithinTick.{Tops}
 use Rattle.tick_laws.proofs.Formed.{valid_formed}
-use Rattle.tick_laws.proofs.Views.{Ready, Does, ready, enabled_from, ready_from_effect, does}
-use Rattle.tick_laws.proofs.Sound.{keeps_self, stays_ready}
+use Rattle.tick_laws.proofs.Views.{Enabled, Does, enabled_view, enabled_from, enabled_from_effect, does}
+use Rattle.tick_laws.proofs.Sound.{keeps_self, stays_enabled}
 use Rattle.tick_laws.proofs.Diamond.{Free, reads_kept, writes, effect_kept}
 use Rattle.tick_laws.proofs.Falling.{low_kept}
 use Rattle.tick_laws.proofs.RunsOn.{replay_push}
 use Rattle.tick_laws.specs.OneEnd.{OneEnd}
-use Rattle.tick_laws.proofs.ReadyPairs.{ready_no_clash, ready_edge_falls}
+use Rattle.tick_laws.proofs.EnabledPairs.{enabled_no_clash, enabled_edge_falls}
 
 module _ (p : Program) (q : Tables) (valid : IsValid p q) (c : Control) (ok : IsConfiguration p c) where
   -- no leader must come before another
   pub no_edge : (t u : ℕ) → t ≢ u → Leads p q c t → Leads p q c u → ¬ Precedes (access_at p (status_of c t)) (access_at p (status_of c u))
   no_edge t u ne t_leads u_leads precedes =
-      let falls : priority_of q (status_of c u) < priority_of q (status_of c t) = ready_edge_falls p q valid c ok t u ne (ready p c t t_leads.enabled) (ready p c u u_leads.enabled) precedes in
+      let falls : priority_of q (status_of c u) < priority_of q (status_of c t) = enabled_edge_falls p q valid c ok t u ne (enabled_view p c t t_leads.enabled) (enabled_view p c u u_leads.enabled) precedes in
       let least : priority_of q (status_of c t) ≤ priority_of q (status_of c u) = u_leads.greatest t t_leads.enabled in
       absurd (omega arith)
 
@@ -35,7 +35,7 @@ module _ (p : Program) (q : Tables) (valid : IsValid p q) (c : Control) (ok : Is
       record {
         not_before = no_edge t u ne t_leads u_leads;
         not_after = no_edge u t (λ e. ne (sym e)) u_leads t_leads;
-        no_clash = ready_no_clash p q valid c ok t u ne (ready p c t t_leads.enabled) (ready p c u u_leads.enabled);
+        no_clash = enabled_no_clash p q valid c ok t u ne (enabled_view p c t t_leads.enabled) (enabled_view p c u u_leads.enabled);
       }
 
   -- a leader's step stays what it was after another leader's
@@ -53,24 +53,24 @@ module _ (p : Program) (q : Tables) (valid : IsValid p q) (c : Control) (ok : Is
   pub leads_kept : (t u : ℕ) → t ≢ u → Leads p q c t → (f : Effect) → effect p c u ≡ Some f → Leads p q (after f c) t
   leads_kept t u ne leads f by_u =
       record {
-        enabled = enabled_from p (after f c) t (stays_ready p formed c ok t u ne t_ready u_ready f does_u);
+        enabled = enabled_from p (after f c) t (stays_enabled p formed c ok t u ne t_enabled u_enabled f does_u);
         greatest = λ v v_enabled. subst (λ s. priority_of q (status_of (after f c) v) ≤ priority_of q s) (sym stands) (low v v_enabled);
       }
     where
       formed : IsFormed p
       formed = valid_formed p q valid
 
-      t_ready : Ready p c t
-      t_ready = ready p c t leads.enabled
+      t_enabled : Enabled p c t
+      t_enabled = enabled_view p c t leads.enabled
 
-      u_ready : Ready p c u
-      u_ready = ready_from_effect p c u f by_u
+      u_enabled : Enabled p c u
+      u_enabled = enabled_from_effect p c u f by_u
 
       does_u : Does p c u f
       does_u = does p c u f by_u
 
       stands : status_of (after f c) t ≡ status_of c t
-      stands = keeps_self p formed c ok t u ne t_ready f does_u
+      stands = keeps_self p formed c ok t u ne t_enabled f does_u
 
       low : Tops p q (priority_of q (status_of c t)) (after f c)
       low = low_kept p q valid (priority_of q (status_of c t)) c ok u f by_u leads.greatest

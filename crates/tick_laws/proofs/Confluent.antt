@@ -21,11 +21,11 @@ use Rattle.sc_graph.specs.Valid.{IsValid, IsFormed}
 use Rattle.tick_laws.specs.WithinTick.{Tops}
 use Rattle.tick_laws.proofs.Lists.{same_or_not, map_some}
 use Rattle.tick_laws.proofs.Formed.{valid_formed}
-use Rattle.tick_laws.proofs.Views.{Ready, does, enabled_from, ready_from_effect}
-use Rattle.tick_laws.proofs.Sound.{keeps_self, stays_ready}
-use Rattle.tick_laws.proofs.Kin.{not_above, ready_meet}
+use Rattle.tick_laws.proofs.Views.{Enabled, does, enabled_from, enabled_from_effect}
+use Rattle.tick_laws.proofs.Sound.{keeps_self, stays_enabled}
+use Rattle.tick_laws.proofs.Kin.{not_above, enabled_meet}
 use Rattle.tick_laws.proofs.Tree.{left_under, right_under}
-use Rattle.tick_laws.proofs.ReadyPairs.{edge_falls, StepsFrom, steps_from}
+use Rattle.tick_laws.proofs.EnabledPairs.{edge_falls, StepsFrom, steps_from}
 use Rattle.tick_laws.proofs.ConfigurationKept.{configuration_kept}
 use Rattle.tick_laws.proofs.Falling.{low_kept}
 use Rattle.tick_laws.proofs.Diamond.{Free, free_turned, effect_kept, commute}
@@ -48,8 +48,8 @@ IsDone p c = (t : ℕ) → is_enabled p c t ≡ false
 abbrev pub threads_of : List Act → List ℕ
 threads_of log = map (λ m. m.thread) log
 
-done_not_ready : (p : Program) (c : Control) (t : ℕ) → IsDone p c → ¬ Ready p c t
-done_not_ready p c t done r = let on = enabled_from p c t r in let off = done t in absurd (cc)
+done_not_enabled : (p : Program) (c : Control) (t : ℕ) → IsDone p c → ¬ Enabled p c t
+done_not_enabled p c t done r = let on = enabled_from p c t r in let off = done t in absurd (cc)
 
 -- a step x before the first one of thread t: of another thread, concurrent and not t's kin, of a priority that is no higher
 pub record Around (p : Program) (q : Tables) (top t : ℕ) (x : Act) : Type 0 where
@@ -81,65 +81,65 @@ module _ (p : Program) (q : Tables) (valid : IsValid p q) where
   formed : IsFormed p
   formed = valid_formed p q valid
 
-  around_at : (c : Control) → IsConfiguration p c → (top t : ℕ) → Ready p c t → Tops p q top c → (x : Act) → x.thread ≢ t → Ready p c x.thread →
+  around_at : (c : Control) → IsConfiguration p c → (top t : ℕ) → Enabled p c t → Tops p q top c → (x : Act) → x.thread ≢ t → Enabled p c x.thread →
       x.access ≡ access_at p (status_of c x.thread) → Around p q top t x
-  around_at c ok top t ready_t low x other ready_x access =
-      let meet = ready_meet p formed c ok x.thread t ready_x ready_t other in
-      let at = steps_from p q valid c ok x.thread ready_x in
+  around_at c ok top t enabled_t low x other enabled_x access =
+      let meet = enabled_meet p formed c ok x.thread t enabled_x enabled_t other in
+      let at = steps_from p q valid c ok x.thread enabled_x in
       record {
         other = other;
         forking = meet.0;
         apart = meet.1;
-        not_over = not_above p formed c ok t x.thread ready_t ready_x (λ same. other (sym same));
-        not_under = not_above p formed c ok x.thread t ready_x ready_t other;
+        not_over = not_above p formed c ok t x.thread enabled_t enabled_x (λ same. other (sym same));
+        not_under = not_above p formed c ok x.thread t enabled_x enabled_t other;
         node = at.node;
         owned = at.owned;
         access = access ∙ at.access;
-        low = subst (λ n. n ≤ top) at.priority (low x.thread (enabled_from p c x.thread ready_x));
+        low = subst (λ n. n ≤ top) at.priority (low x.thread (enabled_from p c x.thread enabled_x));
       }
 
-  -- the steps of a run before which a ready thread stays where it is
+  -- the steps of a run before which a enabled thread stays where it is
   pub after_ok : (c : Control) → IsConfiguration p c → (m : Act) (e : Effect) → Takes p m c e → IsConfiguration p (after e c)
   after_ok c ok m e takes = configuration_kept p formed c m.thread e ok takes.effect
 
-  taker_ready : (c : Control) (m : Act) (e : Effect) → Takes p m c e → Ready p c m.thread
-  taker_ready c m e takes = ready_from_effect p c m.thread e takes.effect
+  taker_enabled : (c : Control) (m : Act) (e : Effect) → Takes p m c e → Enabled p c m.thread
+  taker_enabled c m e takes = enabled_from_effect p c m.thread e takes.effect
 
-  still_there : (c : Control) → IsConfiguration p c → (m : Act) (e : Effect) → Takes p m c e → (t : ℕ) → m.thread ≢ t → Ready p c t → status_of (after e c) t ≡ status_of c t
-  still_there c ok m e takes t other ready_t =
-      keeps_self p formed c ok t m.thread (λ same. other (sym same)) ready_t e (does p c m.thread e takes.effect)
+  still_there : (c : Control) → IsConfiguration p c → (m : Act) (e : Effect) → Takes p m c e → (t : ℕ) → m.thread ≢ t → Enabled p c t → status_of (after e c) t ≡ status_of c t
+  still_there c ok m e takes t other enabled_t =
+      keeps_self p formed c ok t m.thread (λ same. other (sym same)) enabled_t e (does p c m.thread e takes.effect)
 
-  still_ready : (c : Control) → IsConfiguration p c → (m : Act) (e : Effect) → Takes p m c e → (t : ℕ) → m.thread ≢ t → Ready p c t → Ready p (after e c) t
-  still_ready c ok m e takes t other ready_t =
-      stays_ready p formed c ok t m.thread (λ same. other (sym same)) ready_t (taker_ready c m e takes) e (does p c m.thread e takes.effect)
+  still_enabled : (c : Control) → IsConfiguration p c → (m : Act) (e : Effect) → Takes p m c e → (t : ℕ) → m.thread ≢ t → Enabled p c t → Enabled p (after e c) t
+  still_enabled c ok m e takes t other enabled_t =
+      stays_enabled p formed c ok t m.thread (λ same. other (sym same)) enabled_t (taker_enabled c m e takes) e (does p c m.thread e takes.effect)
 
   first_here : (m : Act) (log : List Act) (c : Control) (top t : ℕ) (e : Effect) → Takes p m c e → m.thread ≡ t → First p q top t c (m ∷ log)
   first_here m log c top t e takes same =
       record { front = []; found = m; back = log; split = refl; thread = same; access = takes.access ∙ ap (λ u. access_at p (status_of c u)) same; around = tt }
 
-  first_later : (m : Act) (log : List Act) (c : Control) → IsConfiguration p c → (top t : ℕ) (e : Effect) → Takes p m c e → Ready p c t → Tops p q top c → m.thread ≢ t →
+  first_later : (m : Act) (log : List Act) (c : Control) → IsConfiguration p c → (top t : ℕ) (e : Effect) → Takes p m c e → Enabled p c t → Tops p q top c → m.thread ≢ t →
       First p q top t (after e c) log → First p q top t c (m ∷ log)
-  first_later m log c ok top t e takes ready_t low other rest =
+  first_later m log c ok top t e takes enabled_t low other rest =
       record {
         front = m ∷ rest.front;
         found = rest.found;
         back = rest.back;
         split = ap (λ l. m ∷ l) rest.split;
         thread = rest.thread;
-        access = rest.access ∙ ap (access_at p) (still_there c ok m e takes t other ready_t);
-        around = (around_at c ok top t ready_t low m other (taker_ready c m e takes) takes.access, rest.around);
+        access = rest.access ∙ ap (access_at p) (still_there c ok m e takes t other enabled_t);
+        around = (around_at c ok top t enabled_t low m other (taker_enabled c m e takes) takes.access, rest.around);
       }
 
-  -- a ready thread steps in each complete run
-  find : (log : List Act) (c d : Control) (top t : ℕ) → IsConfiguration p c → Follows p log c d → IsDone p d → Ready p c t → Tops p q top c → First p q top t c log
-  find [] c d top t ok follows done ready_t low =
-      absurd (done_not_ready p d t done (subst (λ b. Ready p b t) follows ready_t))
-  find (m ∷ log) c d top t ok follows done ready_t low =
+  -- a enabled thread steps in each complete run
+  find : (log : List Act) (c d : Control) (top t : ℕ) → IsConfiguration p c → Follows p log c d → IsDone p d → Enabled p c t → Tops p q top c → First p q top t c log
+  find [] c d top t ok follows done enabled_t low =
+      absurd (done_not_enabled p d t done (subst (λ b. Enabled p b t) follows enabled_t))
+  find (m ∷ log) c d top t ok follows done enabled_t low =
       let e = follows.0 in
       let takes = follows.1 in
       ⊎_elim (first_here m log c top t e takes)
-      (λ other. first_later m log c ok top t e takes ready_t low other
-      (find log (after e c) d top t (after_ok c ok m e takes) follows.2 done (still_ready c ok m e takes t other ready_t) (low_kept p q valid top c ok m.thread e takes.effect low)))
+      (λ other. first_later m log c ok top t e takes enabled_t low other
+      (find log (after e c) d top t (after_ok c ok m e takes) follows.2 done (still_enabled c ok m e takes t other enabled_t) (low_kept p q valid top c ok m.thread e takes.effect low)))
       (same_or_not m.thread t)
 
   -- a thread forked apart from t by another forks none of the steps around t
@@ -193,20 +193,20 @@ module _ (p : Program) (q : Tables) (valid : IsValid p q) where
     free_here : Free (access_at p (status_of c x.thread)) (access_at p (status_of c t))
     free_here = subst₂ Free takes.access access free
 
-    t_ready : Ready p c t
-    t_ready = ready_from_effect p c t e by
+    t_enabled : Enabled p c t
+    t_enabled = enabled_from_effect p c t e by
 
     t_later : effect p (after f c) t ≡ Some e
     t_later = effect_kept p formed c ok t x.thread (λ same. other (sym same)) e f by takes.effect (free_turned (access_at p (status_of c x.thread)) (access_at p (status_of c t)) free_here)
 
     access_later : m.access ≡ access_at p (status_of (after f c) t)
-    access_later = access ∙ ap (access_at p) (sym (still_there c ok x f takes t other t_ready))
+    access_later = access ∙ ap (access_at p) (sym (still_there c ok x f takes t other t_enabled))
 
     x_later : Takes p x (after e c) f
     x_later =
         record {
           effect = effect_kept p formed c ok x.thread t other f e takes.effect by free_here;
-          access = takes.access ∙ ap (access_at p) (sym (keeps_self p formed c ok x.thread t other (taker_ready c x f takes) e (does p c t e by)));
+          access = takes.access ∙ ap (access_at p) (sym (keeps_self p formed c ok x.thread t other (taker_enabled c x f takes) e (does p c t e by)));
         }
 
     both_ways : after e (after f c) ≡ after f (after e c)
@@ -259,7 +259,7 @@ module _ (p : Program) (q : Tables) (valid : IsValid p q) where
   pulled : (t : ℕ) (e : Effect) (log : List Act) (c d : Control) → IsConfiguration p c → Leads p q c t → effect p c t ≡ Some e → Follows p log c d → IsDone p d → Orderly (ForkedApart p) log →
       Pulled t e c d log
   pulled t e log c d ok leads by follows done orderly =
-      let here : Ready p c t = ready_from_effect p c t e by in
+      let here : Enabled p c t = enabled_from_effect p c t e by in
       let from = steps_from p q valid c ok t here in
       pulled_first t e log c d ok by from follows orderly
       (find log c d (priority_of q (status_of c t)) t ok follows done here leads.greatest)
@@ -269,7 +269,7 @@ module _ (p : Program) (q : Tables) (valid : IsValid p q) where
       (d ≡ end) × IsPermutation (threads_of log) run
   same_end [] [] c end d ok by_priority over follows done orderly = (sym follows ∙ by_priority, IsPermutation-refl [])
   same_end [] (m ∷ log) c end d ok by_priority over follows done orderly =
-      absurd (done_not_ready p c m.thread (subst (IsDone p) (sym by_priority) over) (taker_ready c m follows.0 follows.1))
+      absurd (done_not_enabled p c m.thread (subst (IsDone p) (sym by_priority) over) (taker_enabled c m follows.0 follows.1))
   same_end (t ∷ run) log c end d ok by_priority over follows done orderly =
       let stepped = map_some (λ e. after e c) (effect p c t) by_priority.1.0 by_priority.1.1 in
       let e = stepped.0 in

@@ -1,4 +1,4 @@
--- Two ready threads whose steps stand in no order and in no conflict: each step keeps the other's effect,
+-- Two enabled threads whose steps stand in no order and in no conflict: each step keeps the other's effect,
 -- and both orders lead to the same configuration.
 use Rattle.std.proofs.Common.{◌≡◌, ◌≢◌, ℕ, zero, suc, ◌⊎◌, true, List, set, Option, Some, None, slice_get, unwrap_or, option_map, option_and_then, Contains, refl, sym, ap, ap₂, subst, subst₂, ◌∙◌, inl, inr, ⊎_elim, set-set}
 use Rattle.std.proofs.lemmas.List.{set_comm}
@@ -22,7 +22,7 @@ use Rattle.sc_graph.specs.Tick.{IsConfiguration}
 use Rattle.sc_graph.specs.Valid.{IsFormed}
 use Rattle.tick_laws.proofs.Lists.{same_or_not, get_set_other, get_set_same}
 use Rattle.tick_laws.proofs.Moves.{moved_turned}
-use Rattle.tick_laws.proofs.Views.{Completes, Ready, stands, completes, Does, simple, forks, joins, Changes, does, all_ended_from, ready_from_effect}
+use Rattle.tick_laws.proofs.Views.{Completes, Enabled, stands, completes, Does, simple, forks, joins, Changes, does, all_ended_from, enabled_from_effect}
 use Rattle.tick_laws.proofs.Sound.{apart, keeps_self, stay_ended}
 
 -- two steps that stand in no order and in no conflict
@@ -228,22 +228,22 @@ join_same p c d t w same ended =
     all_true b each = ap (all_ended b) w.joined ∙ all_ended_from b w.children each
 
 module _ (p : Program) (formed : IsFormed p) (c : Control) (ok : IsConfiguration p c) where
-  kept : (t u : ℕ) → t ≢ u → Ready p c t → Ready p c u → (f : Effect) → Does p c u f → Free (access_at p (status_of c t)) (access_at p (status_of c u)) →
+  kept : (t u : ℕ) → t ≢ u → Enabled p c t → Enabled p c u → (f : Effect) → Does p c u f → Free (access_at p (status_of c t)) (access_at p (status_of c u)) →
       effect p (after f c) t ≡ effect p c t
-  kept t u differ (stands n at) ready_u f does_u free =
+  kept t u differ (stands n at) enabled_u f does_u free =
       ap (status_effect p (after f c) t) (keeps_self p formed c ok t u differ (stands n at) f does_u ∙ at)
       ∙ (at_same p c (after f c) t n (step_at p n) refl
       (λ x h. reads_kept (access_at p (status_of c t)) (access_at p (status_of c u)) free c.variables f.change (writes p c u f does_u) x
       (subst (λ (a : Access). Contains a.reads x) (sym (ap (access_at p) at)) h))
       ∙ sym (ap (status_effect p c t) at))
-  kept t u differ (completes w) ready_u f does_u free =
-      join_same p c (after f c) t w (keeps_self p formed c ok t u differ (completes w) f does_u) (stay_ended p formed c ok t u differ w ready_u f does_u)
+  kept t u differ (completes w) enabled_u f does_u free =
+      join_same p c (after f c) t w (keeps_self p formed c ok t u differ (completes w) f does_u) (stay_ended p formed c ok t u differ w enabled_u f does_u)
 
   -- a free step doesn't change what another does
   pub effect_kept : (t u : ℕ) → t ≢ u → (e f : Effect) → effect p c t ≡ Some e → effect p c u ≡ Some f →
       Free (access_at p (status_of c t)) (access_at p (status_of c u)) → effect p (after f c) t ≡ Some e
   effect_kept t u differ e f by_t by_u free =
-      kept t u differ (ready_from_effect p c t e by_t) (ready_from_effect p c u f by_u) f (does p c u f by_u) free ∙ by_t
+      kept t u differ (enabled_from_effect p c t e by_t) (enabled_from_effect p c u f by_u) f (does p c u f by_u) free ∙ by_t
 
   -- both orders lead to the same configuration
   pub commute : (t u : ℕ) → t ≢ u → (e f : Effect) → effect p c t ≡ Some e → effect p c u ≡ Some f →
@@ -252,4 +252,4 @@ module _ (p : Program) (formed : IsFormed p) (c : Control) (ok : IsConfiguration
       ap₂ (λ values statuses. record { variables = values; statuses = statuses })
       (changes_commute (access_at p (status_of c t)) (access_at p (status_of c u)) free c.variables e.change f.change (writes p c t e (does p c t e by_t)) (writes p c u f (does p c u f by_u)))
       (moved_turned e.moves f.moves c.statuses
-      (apart p formed c ok t u differ (ready_from_effect p c t e by_t) (ready_from_effect p c u f by_u) e f (does p c t e by_t) (does p c u f by_u)))
+      (apart p formed c ok t u differ (enabled_from_effect p c t e by_t) (enabled_from_effect p c u f by_u) e f (does p c t e by_t) (does p c u f by_u)))

@@ -253,9 +253,7 @@ literal_formed =
       spells = postorder-literal (value_is.Int (pos 1));
       gives = kind_is.Int;
       kinded = kind-literal (value_is.Int (pos 1)) (kinds example);
-      operations = omega arith;
-      operands = one_operation (op.Literal (value_is.Int (pos 1))) (roll-Expr (tree.Literal (value_is.Int (pos 1)))) refl;
-      loaded = omega arith;
+      within = record { operations = omega arith; operands = one_operation (op.Literal (value_is.Int (pos 1))) (roll-Expr (tree.Literal (value_is.Int (pos 1)))) refl; loaded = omega arith };
     }
 
 load_formed : IsWellFormed (kinds example) (op.Load 0 ∷ [])
@@ -265,9 +263,7 @@ load_formed =
       spells = postorder-load 0;
       gives = kind_is.Int;
       kinded = kind-load 0 (kinds example);
-      operations = omega arith;
-      operands = one_operation (op.Load 0) (roll-Expr (tree.Load 0)) refl;
-      loaded = omega arith;
+      within = record { operations = omega arith; operands = one_operation (op.Load 0) (roll-Expr (tree.Load 0)) refl; loaded = omega arith };
     }
 
 example_codes : (n : ℕ) (s : Step) → step_at example n ≡ Some s → StepIsWellFormed example s

@@ -1,4 +1,4 @@
--- The greatest priority of a ready thread never rises: who is ready after a step was ready before it, or
+-- The greatest priority of a enabled thread never rises: who is enabled after a step was enabled before it, or
 -- came there along an instantaneous edge from the step's node.
 use Rattle.std.proofs.Common.{◌≡◌, ◌≢◌, ℕ, ◌≤◌, Some, [], ◌∷◌, Contains, refl, ap, subst, sym, ◌∙◌, ⊎_elim, arith}
 use Rattle.std.proofs.lemmas.Option.{same_Some}
@@ -19,7 +19,7 @@ use Rattle.tick_laws.specs.WithinTick.{Tops, NoHigher, as_before, no_higher}
 use Rattle.tick_laws.proofs.Lists.{same_or_not, contained, contains_none, contains_head}
 use Rattle.tick_laws.proofs.Formed.{JoinOf, join_of, joined_is, some_child, valid_formed}
 use Rattle.tick_laws.proofs.RulesGive.{flow}
-use Rattle.tick_laws.proofs.Views.{Completes, Ready, stands, completes, Does, simple, forks, joins, Simple, Forks, Joins, Enters, GoesTo, does, ready, enabled_from, ready_from_effect}
+use Rattle.tick_laws.proofs.Views.{Completes, Enabled, stands, completes, Does, simple, forks, joins, Simple, Forks, Joins, Enters, GoesTo, does, enabled_view, enabled_from, enabled_from_effect}
 use Rattle.tick_laws.proofs.Sound.{node_owned, waits_owned, forks_is, fork_of_join}
 use Rattle.tick_laws.proofs.StepMoves.{StepMoves, simple_moves, forks_moves, joins_moves}
 use Rattle.tick_laws.proofs.ConfigurationKept.{after_self, after_child, after_other}
@@ -43,9 +43,9 @@ stands_by s n h = subst (λ s. StandsAt s n) (sym h) refl
 waits_by : (s : Status) (j : ℕ) → s ≡ status.Waiting j → StandsAt s j
 waits_by s j h = subst (λ s. StandsAt s j) (sym h) refl
 
--- how thread u came to be ready after a step of thread t
+-- how thread u came to be enabled after a step of thread t
 pub data Came (p : Program) (c d : Control) (t u : ℕ) : Type 0 where
-  stayed : Ready p c u → status_of d u ≡ status_of c u → Came p c d t u
+  stayed : Enabled p c u → status_of d u ≡ status_of c u → Came p c d t u
   arrived : (m n : ℕ) → StandsAt (status_of c t) m → StandsAt (status_of d u) n → Instant p m n → Came p c d t u
 
 -- where the step of thread t leads, in one form for all steps
@@ -177,10 +177,10 @@ module _ (p : Program) (formed : IsFormed p) (c : Control) (ok : IsConfiguration
             before : ¬ Contains w.children t → Came p c (after e c) t u
             before out = stayed (completes (record { join = w.join; children = w.children; at = sym same ∙ w.at; joined = w.joined; ended = λ k h. sym (unmoved out k h) ∙ w.ended k h })) same
 
-  pub came : effect p c t ≡ Some e → (u : ℕ) → Ready p (after e c) u → Came p c (after e c) t u
+  pub came : effect p c t ≡ Some e → (u : ℕ) → Enabled p (after e c) u → Came p c (after e c) t u
   came h u r = of (does p c t e h)
     where
-      by : (m : StepMoves p c t e) → Onward p c t e m → Ready p (after e c) u → Came p c (after e c) t u
+      by : (m : StepMoves p c t e) → Onward p c t e m → Enabled p (after e c) u → Came p c (after e c) t u
       by m o (stands n at) = came_standing m o u n at
       by m o (completes w) = came_completing m o u w
 
@@ -190,8 +190,8 @@ module _ (p : Program) (formed : IsFormed p) (c : Control) (ok : IsConfiguration
       of (joins d) = by (joins_moves p formed c ok t e d) (onward_joins d) r
 
 -- an enabled thread is where it was before, or came to a place no higher than the one that the step left
-pub never_higher : (p : Program) (q : Tables) → IsValid p q → (c : Control) → IsConfiguration p c → (t : ℕ) (e : Effect) → effect p c t ≡ Some e → (u : ℕ) → Ready p (after e c) u → NoHigher p q c (after e c) t u
-never_higher p q valid c ok t e h u ready = by (came p (valid_formed p q valid) c ok t e h u ready)
+pub never_higher : (p : Program) (q : Tables) → IsValid p q → (c : Control) → IsConfiguration p c → (t : ℕ) (e : Effect) → effect p c t ≡ Some e → (u : ℕ) → Enabled p (after e c) u → NoHigher p q c (after e c) t u
+never_higher p q valid c ok t e h u on = by (came p (valid_formed p q valid) c ok t e h u on)
   where
     by : Came p c (after e c) t u → NoHigher p q c (after e c) t u
     by (stayed before same) = as_before (enabled_from p c u before) same
@@ -199,8 +199,8 @@ never_higher p q valid c ok t e h u ready = by (came p (valid_formed p q valid) 
         no_higher (omega (arith, (flow p q valid).falls m n edge, stands_priority q (status_of c t) m at, stands_priority q (status_of (after e c) u) n there))
 
 pub low_kept : (p : Program) (q : Tables) → IsValid p q → (top : ℕ) (c : Control) → IsConfiguration p c → (t : ℕ) (e : Effect) → effect p c t ≡ Some e → Tops p q top c → Tops p q top (after e c)
-low_kept p q valid top c ok t e h low u on = by (never_higher p q valid c ok t e h u (ready p (after e c) u on))
+low_kept p q valid top c ok t e h low u on = by (never_higher p q valid c ok t e h u (enabled_view p (after e c) u on))
   where
     by : NoHigher p q c (after e c) t u → priority_of q (status_of (after e c) u) ≤ top
     by (as_before before same) = subst (λ s. priority_of q s ≤ top) (sym same) (low u before)
-    by (no_higher le) = omega (arith, le, low t (enabled_from p c t (ready_from_effect p c t e h)))
+    by (no_higher le) = omega (arith, le, low t (enabled_from p c t (enabled_from_effect p c t e h)))

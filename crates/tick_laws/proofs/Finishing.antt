@@ -17,8 +17,8 @@ use Rattle.tick_laws.specs.OneEnd.{HasEnd, OfEach}
 use Rattle.tick_laws.specs.WithinTick.{Paid}
 use Rattle.tick_laws.proofs.Lists.{map_some, and_then_some}
 use Rattle.tick_laws.proofs.Formed.{valid_formed}
-use Rattle.tick_laws.proofs.Views.{ready}
-use Rattle.tick_laws.proofs.Kin.{ready_present, present_in_range}
+use Rattle.tick_laws.proofs.Views.{enabled_view}
+use Rattle.tick_laws.proofs.Kin.{enabled_present, present_in_range}
 use Rattle.tick_laws.proofs.ConfigurationKept.{configuration_kept}
 use Rattle.tick_laws.proofs.Credits.{pay}
 use Rattle.tick_laws.proofs.RunsOn.{effect_steps}
@@ -85,7 +85,7 @@ module _ (p : Program) (q : Tables) (valid : IsValid p q) where
   formed = valid_formed p q valid
 
   enabled_in_range : (c : Control) → IsConfiguration p c → (u : ℕ) → IsEnabled p c u → u < length p.threads
-  enabled_in_range c ok u on = present_in_range p formed c ok u (ready_present p c u (ready p c u on))
+  enabled_in_range c ok u on = present_in_range p formed c ok u (enabled_present p c u (enabled_view p c u on))
 
   pub leader : (c : Control) → IsConfiguration p c → Leader p q c
   leader c ok = of (leader_below p q c (length p.threads))
@@ -118,14 +118,14 @@ module _ (p : Program) (q : Tables) (valid : IsValid p q) where
       at : Leader p q c → HasEnd p q c
       at (over done) = finished c ok done
       at (leads t first) =
-          let e : (e : Effect) × (effect p c t ≡ Some e) = defined p q valid c ok t (ready p c t first.enabled) in
+          let e : (e : Effect) × (effect p c t ≡ Some e) = defined p q valid c ok t (enabled_view p c t first.enabled) in
           absurd (omega (arith, (pay p q valid c ok t e.0 q.budget spent e.1 paid).within, enough))
   finish (suc fuel) spent enough c ok paid = at (leader c ok) (finish fuel)
     where
       at : Leader p q c → ((spent : ℕ) → q.budget ≤ spent + fuel → (c : Control) → IsConfiguration p c → Paid p q q.budget c spent → HasEnd p q c) → HasEnd p q c
       at (over done) rest = finished c ok done
       at (leads t first) rest =
-          let e : (e : Effect) × (effect p c t ≡ Some e) = defined p q valid c ok t (ready p c t first.enabled) in
+          let e : (e : Effect) × (effect p c t ≡ Some e) = defined p q valid c ok t (enabled_view p c t first.enabled) in
           goes_first c t e.0 e.1 first (rest (suc spent) (omega (arith, enough)) (after e.0 c) (configuration_kept p formed c t e.0 ok e.1) (pay p q valid c ok t e.0 q.budget spent e.1 paid))
 
   -- where a run leads that has been paid for
@@ -153,7 +153,7 @@ module _ (p : Program) (q : Tables) (valid : IsValid p q) where
       record {
         configuration = at.ok;
         bounded = omega (arith, at.paid.within);
-        defined = λ t on. step_defined p q valid d at.ok t (ready p d t on);
+        defined = λ t on. step_defined p q valid d at.ok t (enabled_view p d t on);
         goes_on = finish q.budget (0 + length run) (omega arith) d at.ok at.paid;
       }
 

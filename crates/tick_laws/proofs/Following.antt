@@ -19,8 +19,8 @@ use Rattle.sc_graph.specs.Valid.{IsValid}
 use Rattle.tick_laws.specs.WithinTick.{Tops}
 use Rattle.tick_laws.proofs.Lists.{map_some, and_then_some}
 use Rattle.tick_laws.proofs.Formed.{valid_formed}
-use Rattle.tick_laws.proofs.Views.{Ready, enabled_from, ready_from_effect}
-use Rattle.tick_laws.proofs.ReadyPairs.{no_clash, edge_falls, StepsFrom, steps_from}
+use Rattle.tick_laws.proofs.Views.{Enabled, enabled_from, enabled_from_effect}
+use Rattle.tick_laws.proofs.EnabledPairs.{no_clash, edge_falls, StepsFrom, steps_from}
 use Rattle.tick_laws.proofs.Kin.{apart_turned}
 use Rattle.tick_laws.proofs.ConfigurationKept.{configuration_kept}
 use Rattle.tick_laws.proofs.Falling.{low_kept}
@@ -83,7 +83,7 @@ module _ (p : Program) (q : Tables) (valid : IsValid p q) where
   clear_leader t n m thread owned access IsOpen [] c d ok low h = tt
   clear_leader t n m thread owned access IsOpen (u ∷ run) c d ok low h =
       let b : Begins p u run c d = begins p u run c d h in
-      let here : Ready p c u = ready_from_effect p c u b.first b.is in (
+      let here : Enabled p c u = enabled_from_effect p c u b.first b.is in (
         λ a apart is_open. clear_here t n m thread owned access u c (steps_from p q valid c ok u here) (low u (enabled_from p c u here)) a apart,
         subst (Clear (ForkedApart p) m (λ a. IsOpen a × (u ≢ a))) (sym (later_acts p run c u b.first b.is))
             (clear_leader t n m thread owned access (λ a. IsOpen a × (u ≢ a)) run (after b.first c) d
@@ -95,7 +95,7 @@ module _ (p : Program) (q : Tables) (valid : IsValid p q) where
   orderly_priority [] c d ok h = tt
   orderly_priority (t ∷ run) c d ok h =
       let by : SteppedBy p t c h.1.0 = stepped_by p t c h.1.0 h.1.1 in
-      let here : Ready p c t = ready_from_effect p c t by.e by.is in
+      let here : Enabled p c t = enabled_from_effect p c t by.e by.is in
       let from : StepsFrom p q c t = steps_from p q valid c ok t here in
       let rest : PriorityRun p q run (after by.e c) d = subst (λ b. PriorityRun p q run b d) (sym by.leads) h.1.2 in
       let ok_after : IsConfiguration p (after by.e c) = configuration_kept p (valid_formed p q valid) c t by.e ok by.is in

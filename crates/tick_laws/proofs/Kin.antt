@@ -1,4 +1,4 @@
--- Threads that can step are concurrent: the ancestors of a present thread wait, so none of them is ready.
+-- Threads that can step are concurrent: the ancestors of a present thread wait, so none of them is enabled.
 use Rattle.std.proofs.Common.{◌≡◌, ◌≢◌, ℕ, zero, suc, ◌<◌, ◌≤◌, ◌+◌, ◌⊎◌, List, Option, Some, None, length, slice_get, unwrap_or, option_and_then, Contains, refl, sym, ap, subst, ◌∙◌, inl, inr, ⊎_elim, arith}
 use Rattle.std.proofs.lemmas.Bool.{cases_lt, cases_order}
 use Rattle.std.proofs.lemmas.Option.{slice_get_past}
@@ -15,7 +15,7 @@ use Rattle.sc_graph.specs.Tick.{IsConfiguration, IsPresent}
 use Rattle.sc_graph.specs.Valid.{IsFormed}
 use Rattle.tick_laws.proofs.Lists.{slice_get_there, same_or_not}
 use Rattle.tick_laws.proofs.Formed.{ChildOf, fork_of, joined_is, parent_below, one_fork_joins, fork_children}
-use Rattle.tick_laws.proofs.Views.{Ready, stands, completes}
+use Rattle.tick_laws.proofs.Views.{Enabled, stands, completes}
 
 pub below_parent : (p : Program) (t w a : ℕ) → parent_of p t ≡ Some w → Below p w a → Below p t a
 below_parent p t w a h b = record { generations = suc b.generations; descends = (w, h, b.descends) }
@@ -38,9 +38,9 @@ pub record Over (p : Program) (c : Control) (t a : ℕ) : Type 0 where
 present_waiting : (s : Status) (j : ℕ) → s ≡ status.Waiting j → IsPresent s
 present_waiting s j h = subst IsPresent (sym h) tt
 
-pub ready_present : (p : Program) (c : Control) (t : ℕ) → Ready p c t → IsPresent (status_of c t)
-ready_present p c t (stands n h) = subst IsPresent (sym h) tt
-ready_present p c t (completes h) = subst IsPresent (sym h.at) tt
+pub enabled_present : (p : Program) (c : Control) (t : ℕ) → Enabled p c t → IsPresent (status_of c t)
+enabled_present p c t (stands n h) = subst IsPresent (sym h) tt
+enabled_present p c t (completes h) = subst IsPresent (sym h.at) tt
 
 -- how two threads are related
 pub data Kin (p : Program) (t u : ℕ) : Type 0 where
@@ -138,16 +138,16 @@ module _ (p : Program) (formed : IsFormed p) (c : Control) (ok : IsConfiguration
       by_generations zero d = absurd (ne d)
       by_generations (suc n) d = ancestors_wait n t u d here
 
-  -- no ready thread is below another one
-  pub not_above : (t u : ℕ) → Ready p c t → Ready p c u → t ≢ u → Below p t u → ⊥
-  not_above t u r (stands n h) ne b = let o : Over p c t u = over_from t u ne b (ready_present p c t r) in let w = o.waits in absurd (cc)
+  -- no enabled thread is below another one
+  pub not_above : (t u : ℕ) → Enabled p c t → Enabled p c u → t ≢ u → Below p t u → ⊥
+  not_above t u r (stands n h) ne b = let o : Over p c t u = over_from t u ne b (enabled_present p c t r) in let w = o.waits in absurd (cc)
   not_above t u r (completes h) ne b =
-      let o : Over p c t u = over_from t u ne b (ready_present p c t r) in
+      let o : Over p c t u = over_from t u ne b (enabled_present p c t r) in
       let same_join : o.join ≡ h.join = of_waiting o.join h.join o.waits h.at in
       let joined : joined_at p h.join ≡ Some o.children = subst (λ j. joined_at p j ≡ Some o.children) same_join (joined_is p formed o.fork u o.children o.join o.is_fork) in
       let children : o.children ≡ h.children = of_joined o.children h.children h.join joined h.joined in
       let ended : status_of c o.child ≡ status.Ended = h.ended o.child (subst (λ ks. Contains ks o.child) children o.is_child) in
-      ⊎_elim (λ e. ready_not_ended r (ap (status_of c) e ∙ ended)) (λ w. waiting_not_ended o.child w.0 w.1 ended) o.between
+      ⊎_elim (λ e. enabled_not_ended r (ap (status_of c) e ∙ ended)) (λ w. waiting_not_ended o.child w.0 w.1 ended) o.between
     where
       of_waiting : (i j : ℕ) → status_of c u ≡ status.Waiting i → status_of c u ≡ status.Waiting j → i ≡ j
       of_waiting i j a b = cc
@@ -158,9 +158,9 @@ module _ (p : Program) (formed : IsFormed p) (c : Control) (ok : IsConfiguration
       waiting_not_ended : (k j : ℕ) → status_of c k ≡ status.Waiting j → status_of c k ≡ status.Ended → ⊥
       waiting_not_ended k j a b = absurd (cc)
 
-      ready_not_ended : Ready p c t → status_of c t ≡ status.Ended → ⊥
-      ready_not_ended (stands n a) b = absurd (cc)
-      ready_not_ended (completes a) b = let at = a.at in absurd (cc)
+      enabled_not_ended : Enabled p c t → status_of c t ≡ status.Ended → ⊥
+      enabled_not_ended (stands n a) b = absurd (cc)
+      enabled_not_ended (completes a) b = let at = a.at in absurd (cc)
 
   -- a present thread is in range
   pub present_in_range : (t : ℕ) → IsPresent (status_of c t) → t < length p.threads
@@ -232,9 +232,9 @@ module _ (p : Program) (formed : IsFormed p) (c : Control) (ok : IsConfiguration
       differ)
       (cases_order t u)
 
-  -- two ready threads are concurrent
-  pub ready_meet : (t u : ℕ) → Ready p c t → Ready p c u → t ≢ u → (a : ℕ) × ForkedApart p t u a
-  ready_meet t u r s ne = of_kin (kin (suc (t + u)) t u (omega arith) (ready_present p c t r) (ready_present p c u s))
+  -- two enabled threads are concurrent
+  pub enabled_meet : (t u : ℕ) → Enabled p c t → Enabled p c u → t ≢ u → (a : ℕ) × ForkedApart p t u a
+  enabled_meet t u r s ne = of_kin (kin (suc (t + u)) t u (omega arith) (enabled_present p c t r) (enabled_present p c u s))
     where
       of_kin : Kin p t u → (a : ℕ) × ForkedApart p t u a
       of_kin (below b) = absurd (not_above t u r s ne b)

@@ -15,7 +15,7 @@ pub mod ConfigurationKept
 pub mod Credits
 pub mod Diamond
 pub mod Progress
-pub mod ReadyPairs
+pub mod EnabledPairs
 pub mod Confluent
 pub mod Falling
 pub mod Finishing

@@ -1,4 +1,4 @@
--- The step of each thread that is ready is defined.
+-- The step of each thread that is enabled is defined.
 use Rattle.std.proofs.Common.{◌≡◌, ℕ, ◌&&◌, Bool, true, false, List, [], ◌∷◌, map, length, Option, Some, slice_get, option_map, option_and_then, Contains, refl, sym, ap, subst, ◌∙◌}
 use Rattle.std.specs.List.{list_all}
 use Rattle.std.proofs.lemmas.Option.{slice_get-map}
@@ -10,7 +10,7 @@ use Rattle.sc_values.specs.declared.value.Kind.TheVariants as kind_is
 use Rattle.sc_values.specs.declared.operation.Operation.{Operation}
 use Rattle.sc_values.specs.Operator.{kind_of, kind_combined}
 use Rattle.sc_values.specs.Expr.{kind}
-use Rattle.sc_values.specs.Code.{IsWellFormed, code_value, tree_of}
+use Rattle.sc_values.specs.Code.{IsWellFormed, code_kind, code_value, tree_of}
 use Rattle.sc_values.proofs.Spelling.{spells-tree_of}
 use Rattle.sc_values.proofs.WellKinded.{Gives, well_formed_value}
 use Rattle.sc_graph.specs.declared.program.Step.{Step}
@@ -20,7 +20,7 @@ use Rattle.sc_graph.specs.declared.tables.Tables.{Tables}
 use Rattle.sc_graph.specs.declared.control.Control.{Control}
 use Rattle.sc_graph.specs.declared.control.Status.TheVariants as status
 use Rattle.sc_graph.specs.Program.{Program, kinds, kind_at, step_at, owner_of, entry_of, is_join_step, is_join, is_depth, is_target}
-use Rattle.sc_graph.specs.Codes.{code_kind, StepIsWellFormed, StepIsAssigned}
+use Rattle.sc_graph.specs.Codes.{StepIsWellFormed, StepIsAssigned}
 use Rattle.sc_graph.specs.Structure.{StepStays}
 use Rattle.sc_graph.specs.Control.{joined_at, all_ended}
 use Rattle.sc_graph.specs.Steps.{Change, Keep, Put, Combine, Effect, only_if, is_kind, takes_kind, goes, assigned, updated, branched, enters, is_entered, node_effect, leaves, join_effect, status_effect, effect, step, after}
@@ -29,7 +29,7 @@ use Rattle.sc_graph.specs.Tick.{IsConfiguration, IsPlace}
 use Rattle.sc_graph.specs.Valid.{IsFormed, IsValid}
 use Rattle.tick_laws.proofs.Lists.{true_both, list_all_from}
 use Rattle.tick_laws.proofs.Formed.{valid_formed, has_step, join_owned, join_step, step_stays, child_entry, entry_target}
-use Rattle.tick_laws.proofs.Views.{Ready, stands, completes, all_ended_from}
+use Rattle.tick_laws.proofs.Views.{Enabled, stands, completes, all_ended_from}
 
 kind_is_itself : (k : Kind) → is_kind k k ≡ true
 kind_is_itself kind_is.Bool = refl
@@ -67,7 +67,7 @@ module _ (p : Program) (c : Control) (t : ℕ) where
   record Evaluates (code : List Operation) : Type 0 where
     pub v : Value
     pub is : code_value code c.variables ≡ Some v
-    pub kind : code_kind p code ≡ Some (kind_of v)
+    pub kind : code_kind code (kinds p) ≡ Some (kind_of v)
 
   evaluates : IsConfiguration p c → (code : List Operation) → IsWellFormed (kinds p) code → Evaluates code
   evaluates ok code w =
@@ -99,7 +99,7 @@ module _ (p : Program) (c : Control) (t : ℕ) where
       let b : (b : Bool) × (v.v ≡ value.Bool b) = of_bool v.v (of_kind (kind_of v.v) v.kind) in
       from_value (branched p t on_true on_false) (code_value code c.variables) (value.Bool b.0) (v.is ∙ ap Some b.1) (branches on_true on_false b.0 stays.0 stays.1)
     where
-      of_kind : (k : Kind) → code_kind p code ≡ Some k → k ≡ kind_is.Bool
+      of_kind : (k : Kind) → code_kind code (kinds p) ≡ Some k → k ≡ kind_is.Bool
       of_kind k h = let e = well.1 in cc
   node_defined formed ok n (steps.Fork children j) owned at no_join stays well written =
       let fork : IsFork p n t children j = record { owned = owned; forks = at } in
@@ -124,8 +124,8 @@ module _ (p : Program) (c : Control) (t : ℕ) where
       let left : HasEffect (leaves p t s.0 children) = only_when (is_target p t s.0) (Some (record { change = Keep; moves = (t, status.At s.0) ∷ map (λ k. (k, status.Absent)) children })) target (_, refl) in
       (left.0, ap (λ o. join_effect p t o (step_at p j)) joined ∙ (ap (join_effect p t (Some children)) s.1 ∙ left.1))
 
--- a ready thread's step is defined
-pub defined : (p : Program) (q : Tables) → IsValid p q → (c : Control) → IsConfiguration p c → (t : ℕ) → Ready p c t → (e : Effect) × (effect p c t ≡ Some e)
+-- a enabled thread's step is defined
+pub defined : (p : Program) (q : Tables) → IsValid p q → (c : Control) → IsConfiguration p c → (t : ℕ) → Enabled p c t → (e : Effect) × (effect p c t ≡ Some e)
 defined p q valid c ok t (stands n at) =
     let here : IsPlace p t (status.At n) = subst (IsPlace p t) at (ok.places t) in
     let s : (s : Step) × (step_at p n ≡ Some s) = has_step p n t here.0 in
@@ -140,5 +140,5 @@ defined p q valid c ok t (completes h) =
     (e.0, ap (status_effect p c t) h.at ∙ (allowed_back (all_ended c (joined_at p h.join)) (join_effect p t (joined_at p h.join) (step_at p h.join)) ended ∙ e.1))
 
 -- so does a machine's step
-pub step_defined : (p : Program) (q : Tables) → IsValid p q → (c : Control) → IsConfiguration p c → (t : ℕ) → Ready p c t → (d : Control) × (step p t c ≡ Some d)
+pub step_defined : (p : Program) (q : Tables) → IsValid p q → (c : Control) → IsConfiguration p c → (t : ℕ) → Enabled p c t → (d : Control) × (step p t c ≡ Some d)
 step_defined p q valid c ok t r = let e = defined p q valid c ok t r in (after e.0 c, ap (option_map (λ e. after e c)) e.1)

@@ -1,4 +1,4 @@
--- Whom a step moves: its own thread, and children that are absent or ended. So ready threads don't
+-- Whom a step moves: its own thread, and children that are absent or ended. So enabled threads don't
 -- disturb one another.
 use Rattle.std.proofs.Common.{◌≡◌, ◌≢◌, ℕ, ◌⊎◌, List, [], ◌∷◌, Some, Contains, refl, sym, ap, subst, ◌∙◌, inl, inr, ⊎_elim}
 use Rattle.std.proofs.lemmas.Option.{same_Some}
@@ -13,7 +13,7 @@ use Rattle.sc_graph.specs.Tick.{IsConfiguration, IsPlace, IsPresent}
 use Rattle.sc_graph.specs.Valid.{IsFormed}
 use Rattle.tick_laws.proofs.Lists.{contains_none, contains_cons}
 use Rattle.tick_laws.proofs.Formed.{join_owned, JoinOf, join_of, fork_join_owned, child_parent}
-use Rattle.tick_laws.proofs.Views.{Completes, Ready, stands, completes, Simple, Forks, Joins, Does, simple, forks, joins}
+use Rattle.tick_laws.proofs.Views.{Completes, Enabled, stands, completes, Simple, Forks, Joins, Does, simple, forks, joins}
 use Rattle.tick_laws.proofs.Moves.{IsMoved, moved_other, entering_movers, leaving_movers}
 
 -- absent or ended
@@ -27,7 +27,7 @@ pub record IsIdleChild (p : Program) (c : Control) (t k : ℕ) : Type 0 where
   pub parent : parent_of p k ≡ Some t
   pub idle : IsIdle (status_of c k)
 
-pub not_idle : (p : Program) (c : Control) (t : ℕ) → Ready p c t → ¬ IsIdle (status_of c t)
+pub not_idle : (p : Program) (c : Control) (t : ℕ) → Enabled p c t → ¬ IsIdle (status_of c t)
 not_idle p c t (stands n at) h = subst IsIdle at h
 not_idle p c t (completes w) h = subst IsIdle w.at h
 
@@ -92,46 +92,46 @@ module _ (p : Program) (formed : IsFormed p) where
         (contains_cons t k _ (subst (λ (x : Effect). IsMoved x.moves k) d.is h))
 
     -- no thread is moved by the steps of two
-    pub apart : (t u : ℕ) → t ≢ u → Ready p c t → Ready p c u → (e f : Effect) → Does p c t e → Does p c u f → (k : ℕ) → IsMoved e.moves k → IsMoved f.moves k → ⊥
-    apart t u differ ready_t ready_u e f does_t does_u k by_t by_u =
+    pub apart : (t u : ℕ) → t ≢ u → Enabled p c t → Enabled p c u → (e f : Effect) → Does p c t e → Does p c u f → (k : ℕ) → IsMoved e.moves k → IsMoved f.moves k → ⊥
+    apart t u differ enabled_t enabled_u e f does_t does_u k by_t by_u =
         ⊎_elim
-        (λ is_t. ⊎_elim (λ is_u. differ (sym is_t ∙ is_u)) (λ child. not_idle p c t ready_t (subst (λ i. IsIdle (status_of c i)) is_t child.idle)) (whom u f does_u k by_u))
+        (λ is_t. ⊎_elim (λ is_u. differ (sym is_t ∙ is_u)) (λ child. not_idle p c t enabled_t (subst (λ i. IsIdle (status_of c i)) is_t child.idle)) (whom u f does_u k by_u))
         (λ child. ⊎_elim
-        (λ is_u. not_idle p c u ready_u (subst (λ i. IsIdle (status_of c i)) is_u child.idle))
+        (λ is_u. not_idle p c u enabled_u (subst (λ i. IsIdle (status_of c i)) is_u child.idle))
         (λ other. differ (same_Some t u (sym child.parent ∙ other.parent)))
         (whom u f does_u k by_u))
         (whom t e does_t k by_t)
 
-    -- another's step leaves a ready thread where it is
-    pub keeps_self : (t u : ℕ) → t ≢ u → Ready p c t → (f : Effect) → Does p c u f → status_of (after f c) t ≡ status_of c t
-    keeps_self t u differ ready_t f does_u =
+    -- another's step leaves a enabled thread where it is
+    pub keeps_self : (t u : ℕ) → t ≢ u → Enabled p c t → (f : Effect) → Does p c u f → status_of (after f c) t ≡ status_of c t
+    keeps_self t u differ enabled_t f does_u =
         moved_other f.moves c.statuses t (λ moved.
-        ⊎_elim differ (λ child. not_idle p c t ready_t child.idle) (whom u f does_u t moved))
+        ⊎_elim differ (λ child. not_idle p c t enabled_t child.idle) (whom u f does_u t moved))
 
     -- and its absent or ended children
-    pub keeps_child : (t u : ℕ) → t ≢ u → Ready p c u → (k : ℕ) → IsIdleChild p c t k → (f : Effect) → Does p c u f → status_of (after f c) k ≡ status_of c k
-    keeps_child t u differ ready_u k child f does_u =
+    pub keeps_child : (t u : ℕ) → t ≢ u → Enabled p c u → (k : ℕ) → IsIdleChild p c t k → (f : Effect) → Does p c u f → status_of (after f c) k ≡ status_of c k
+    keeps_child t u differ enabled_u k child f does_u =
         moved_other f.moves c.statuses k (λ moved.
         ⊎_elim
-        (λ is_u. not_idle p c u ready_u (subst (λ i. IsIdle (status_of c i)) is_u child.idle))
+        (λ is_u. not_idle p c u enabled_u (subst (λ i. IsIdle (status_of c i)) is_u child.idle))
         (λ other. differ (same_Some t u (sym child.parent ∙ other.parent)))
         (whom u f does_u k moved))
 
     -- ended children of a finished fork stay so
-    pub stay_ended : (t u : ℕ) → t ≢ u → (w : Completes p c t) → Ready p c u → (f : Effect) → Does p c u f → (k : ℕ) → Contains w.children k → status_of (after f c) k ≡ status.Ended
-    stay_ended t u differ w ready_u f does_u k h =
-        keeps_child t u differ ready_u k (record { parent = completes_child t w k h; idle = subst IsIdle (sym (w.ended k h)) tt }) f does_u ∙ w.ended k h
+    pub stay_ended : (t u : ℕ) → t ≢ u → (w : Completes p c t) → Enabled p c u → (f : Effect) → Does p c u f → (k : ℕ) → Contains w.children k → status_of (after f c) k ≡ status.Ended
+    stay_ended t u differ w enabled_u f does_u k h =
+        keeps_child t u differ enabled_u k (record { parent = completes_child t w k h; idle = subst IsIdle (sym (w.ended k h)) tt }) f does_u ∙ w.ended k h
 
-    completes_kept : (t u : ℕ) → t ≢ u → (w : Completes p c t) → Ready p c u → (f : Effect) → Does p c u f → Completes p (after f c) t
-    completes_kept t u differ w ready_u f does_u =
+    completes_kept : (t u : ℕ) → t ≢ u → (w : Completes p c t) → Enabled p c u → (f : Effect) → Does p c u f → Completes p (after f c) t
+    completes_kept t u differ w enabled_u f does_u =
         record {
           join = w.join;
           children = w.children;
           at = keeps_self t u differ (completes w) f does_u ∙ w.at;
           joined = w.joined;
-          ended = stay_ended t u differ w ready_u f does_u;
+          ended = stay_ended t u differ w enabled_u f does_u;
         }
 
-    pub stays_ready : (t u : ℕ) → t ≢ u → Ready p c t → Ready p c u → (f : Effect) → Does p c u f → Ready p (after f c) t
-    stays_ready t u differ (stands n at) ready_u f does_u = stands n (keeps_self t u differ (stands n at) f does_u ∙ at)
-    stays_ready t u differ (completes w) ready_u f does_u = completes (completes_kept t u differ w ready_u f does_u)
+    pub stays_enabled : (t u : ℕ) → t ≢ u → Enabled p c t → Enabled p c u → (f : Effect) → Does p c u f → Enabled p (after f c) t
+    stays_enabled t u differ (stands n at) enabled_u f does_u = stands n (keeps_self t u differ (stands n at) f does_u ∙ at)
+    stays_enabled t u differ (completes w) enabled_u f does_u = completes (completes_kept t u differ w enabled_u f does_u)

@@ -31,9 +31,9 @@ pub record Completes (p : Program) (c : Control) (t : ℕ) : Type 0 where
   pub ended : (k : ℕ) → Contains children k → status_of c k ≡ status.Ended
 
 -- an enabled thread stands at a node, or completes a join
-pub data Ready (p : Program) (c : Control) (t : ℕ) : Type 0 where
-  stands : (n : ℕ) → status_of c t ≡ status.At n → Ready p c t
-  completes : Completes p c t → Ready p c t
+pub data Enabled (p : Program) (c : Control) (t : ℕ) : Type 0 where
+  stands : (n : ℕ) → status_of c t ≡ status.At n → Enabled p c t
+  completes : Completes p c t → Enabled p c t
 
 -- where a step that moves its own thread alone leads
 abbrev pub GoesTo : Program → ℕ → Step → Status → Type 0
@@ -109,22 +109,22 @@ ended_in c children h k in_children = ended_from (status_of c k) (list_all_at (�
 pub all_ended_from : (c : Control) (children : List ℕ) → ((k : ℕ) → Contains children k → status_of c k ≡ status.Ended) → all_ended c (Some children) ≡ true
 all_ended_from c children ended = list_all_from (λ u. has_ended (status_of c u)) children (λ k h. ap has_ended (ended k h))
 
-ready_at_join : (p : Program) (c : Control) (t j : ℕ) (o : Option (List ℕ)) → joined_at p j ≡ o → status_of c t ≡ status.Waiting j → all_ended c o ≡ true → Ready p c t
-ready_at_join p c t j None joined at h = absurd (cc)
-ready_at_join p c t j (Some children) joined at h =
+enabled_at_join : (p : Program) (c : Control) (t j : ℕ) (o : Option (List ℕ)) → joined_at p j ≡ o → status_of c t ≡ status.Waiting j → all_ended c o ≡ true → Enabled p c t
+enabled_at_join p c t j None joined at h = absurd (cc)
+enabled_at_join p c t j (Some children) joined at h =
     completes (record { join = j; children = children; at = at; joined = joined; ended = ended_in c children h })
 
-ready_from : (p : Program) (c : Control) (t : ℕ) (s : Status) → status_of c t ≡ s → status_enabled p c s ≡ true → Ready p c t
-ready_from p c t (status.At n) at h = stands n at
-ready_from p c t (status.Waiting j) at h = ready_at_join p c t j (joined_at p j) refl at h
-ready_from p c t status.Absent at h = absurd (cc)
-ready_from p c t (status.Paused d) at h = absurd (cc)
-ready_from p c t status.Ended at h = absurd (cc)
+view_from_status : (p : Program) (c : Control) (t : ℕ) (s : Status) → status_of c t ≡ s → status_enabled p c s ≡ true → Enabled p c t
+view_from_status p c t (status.At n) at h = stands n at
+view_from_status p c t (status.Waiting j) at h = enabled_at_join p c t j (joined_at p j) refl at h
+view_from_status p c t status.Absent at h = absurd (cc)
+view_from_status p c t (status.Paused d) at h = absurd (cc)
+view_from_status p c t status.Ended at h = absurd (cc)
 
-pub ready : (p : Program) (c : Control) (t : ℕ) → IsEnabled p c t → Ready p c t
-ready p c t h = ready_from p c t (status_of c t) refl h
+pub enabled_view : (p : Program) (c : Control) (t : ℕ) → IsEnabled p c t → Enabled p c t
+enabled_view p c t h = view_from_status p c t (status_of c t) refl h
 
-pub enabled_from : (p : Program) (c : Control) (t : ℕ) → Ready p c t → IsEnabled p c t
+pub enabled_from : (p : Program) (c : Control) (t : ℕ) → Enabled p c t → IsEnabled p c t
 enabled_from p c t (stands n at) = ap (status_enabled p c) at
 enabled_from p c t (completes h) =
     ap (status_enabled p c) h.at ∙ (ap (all_ended c) h.joined ∙ all_ended_from c h.children h.ended)
@@ -248,11 +248,11 @@ module _ (p : Program) (c : Control) (t : ℕ) (e : Effect) where
   pub does : effect p c t ≡ Some e → Does p c t e
   does h = does_status (status_of c t) refl h
 
-ready_of : (p : Program) (c : Control) (t : ℕ) (e : Effect) → Does p c t e → Ready p c t
-ready_of p c t e (simple d) = stands d.node d.at
-ready_of p c t e (forks d) = stands d.node d.at
-ready_of p c t e (joins d) = completes (record { join = d.join; children = d.children; at = d.at; joined = d.joined; ended = d.ended })
+enabled_of : (p : Program) (c : Control) (t : ℕ) (e : Effect) → Does p c t e → Enabled p c t
+enabled_of p c t e (simple d) = stands d.node d.at
+enabled_of p c t e (forks d) = stands d.node d.at
+enabled_of p c t e (joins d) = completes (record { join = d.join; children = d.children; at = d.at; joined = d.joined; ended = d.ended })
 
--- who steps is ready
-pub ready_from_effect : (p : Program) (c : Control) (t : ℕ) (e : Effect) → effect p c t ≡ Some e → Ready p c t
-ready_from_effect p c t e h = ready_of p c t e (does p c t e h)
+-- who steps is enabled
+pub enabled_from_effect : (p : Program) (c : Control) (t : ℕ) (e : Effect) → effect p c t ≡ Some e → Enabled p c t
+enabled_from_effect p c t e h = enabled_of p c t e (does p c t e h)

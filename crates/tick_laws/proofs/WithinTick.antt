@@ -13,7 +13,7 @@ use Rattle.sc_graph.specs.Valid.{IsValid}
 use Rattle.tick_laws.specs.WithinTick.{Tops, NoHigher, LawsWithinTick}
 use Rattle.tick_laws.proofs.Lists.{and_then_some}
 use Rattle.tick_laws.proofs.Formed.{valid_formed}
-use Rattle.tick_laws.proofs.Views.{ready}
+use Rattle.tick_laws.proofs.Views.{enabled_view}
 use Rattle.tick_laws.proofs.RunsOn.{SteppedBy, stepped_by}
 use Rattle.tick_laws.proofs.ConfigurationKept.{configuration_kept}
 use Rattle.tick_laws.proofs.Progress.{step_defined}
@@ -31,7 +31,7 @@ module _ (p : Program) (q : Tables) (valid : IsValid p q) where
   step_falls c d t u ok h on =
       let s : SteppedBy p t c d = stepped_by p t c d h in
       subst (λ d. NoHigher p q c d t u) s.leads
-      (never_higher p q valid c ok t s.e s.is u (ready p (after s.e c) u (subst (λ d. IsEnabled p d u) (sym s.leads) on)))
+      (never_higher p q valid c ok t s.e s.is u (enabled_view p (after s.e c) u (subst (λ d. IsEnabled p d u) (sym s.leads) on)))
 
   step_tops : (c d : Control) (t top : ℕ) → IsConfiguration p c → step p t c ≡ Some d → Tops p q top c → Tops p q top d
   step_tops c d t top ok h low =
@@ -53,7 +53,7 @@ module _ (p : Program) (q : Tables) (valid : IsValid p q) where
 pub laws_within_tick : LawsWithinTick
 laws_within_tick p q valid =
     record {
-      defined = λ c t ok on. step_defined p q valid c ok t (ready p c t on);
+      defined = λ c t ok on. step_defined p q valid c ok t (enabled_view p c t on);
       kept = run_kept p q valid;
       falls = step_falls p q valid;
       tops = run_tops p q valid;

@@ -1,4 +1,4 @@
--- The law of one end: from the start of a tick of a valid program all admissible complete runs are
+-- The law of one end: from the start of a tick of a valid image all admissible complete runs are
 -- reorderings of one another and lead to one configuration, and priority finds one of them.
 use Rattle.std.specs.Prelude.{ℕ, ◌≡◌, ◌≤◌, Some, List, length, IsPermutation}
 use Rattle.sc_values.specs.Runs.{replay, IsOver, IsAdmissible, Completes, Ends}

@@ -14,7 +14,7 @@ use Rattle.sc_graph.specs.Limits.{child_limit}
 use Rattle.sc_graph.specs.Tables.{weight, bound}
 use Rattle.sc_graph.specs.Costs.{child_bounds, BoundAt, BudgetHolds}
 use Rattle.verifier.specs.Inside.ByNode.{IsCovered}
-use Rattle.verifier.proofs.Within.{node_of_step, step_within}
+use Rattle.sc_graph.proofs.Nodes.{node_of_step, step_within}
 
 pub bounds_kept : (p : Program) (q : Tables) → BudgetHolds p q → ((n : ℕ) → n < length p.nodes → IsCovered p q n) → (at : Place) → BoundAt p q at
 bounds_kept p q b h place.Image = b

@@ -8,7 +8,7 @@ use Rattle.sc_graph.specs.Costs.{WeightAt}
 use Rattle.sc_graph.specs.Size.{SizeAt, ProgramFitsAt}
 use Rattle.sc_graph.specs.Limits.{budget_limit}
 use Rattle.sc_graph.specs.Codes.{CodeAt, AssignmentAt}
-use Rattle.verifier.proofs.Within.{step_within}
+use Rattle.sc_graph.proofs.Nodes.{step_within}
 
 pub weights_kept : (p : Program) (q : Tables) → ((n : ℕ) → n < length p.nodes → WeightAt p q (place.Node n)) → (at : Place) → WeightAt p q at
 weights_kept p q h place.Image = tt

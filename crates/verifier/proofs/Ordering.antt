@@ -16,8 +16,8 @@ use Rattle.sc_graph.specs.Tables.{priority}
 use Rattle.sc_graph.specs.Threads.{ConcurrentNodes}
 use Rattle.sc_graph.specs.Accesses.{accesses, access_of}
 use Rattle.sc_graph.specs.Protocol.{NoConflictAt, WriteConflict, ProtocolAt}
-use Rattle.verifier.specs.Inside.Pairs.{InitsAt, UpdatesAt, ReadsAt, Lists, NoneConflict, NoConflictOn, IsRise, AllFall, RisesBetween, FallsOn}
-use Rattle.verifier.proofs.Within.{node_of_step}
+use Rattle.verifier.specs.Inside.Pairs.{InitsAt, UpdatesAt, ReadsAt, Lists, NoneConflict, NoConflictOn, DoesNotFall, AllFall, NoFallBetween, FallsOn}
+use Rattle.sc_graph.proofs.Nodes.{node_of_step}
 
 step_or_none : (p : Program) (n : ℕ) → ((s : Step) × (step_at p n ≡ Some s)) ⊎ (accesses p n ≡ no_access)
 step_or_none p n = found (slice_get p.nodes n) refl
@@ -84,23 +84,23 @@ no_conflicts_kept p formed h (place.Pair m n) = λ w. over w w.clash
     over w (two_inits x i j) = (h x (init_variable p formed m x i)).inits m n i j w
     over w (two_updates x f g u v ne) = (h x (update_variable p formed m x f u)).updates m n (f, u) (g, v) w
 
-rise_breaks : (p : Program) (q : Tables) (m n : ℕ) (at : Place) → at ≡ place.Pair m n → IsRise p q m n → Precedes (accesses p m) (accesses p n) → ¬ ProtocolAt p q at
+rise_breaks : (p : Program) (q : Tables) (m n : ℕ) (at : Place) → at ≡ place.Pair m n → DoesNotFall p q m n → Precedes (accesses p m) (accesses p n) → ¬ ProtocolAt p q at
 rise_breaks p q m n at is r before kept =
     let P : Place → Type 0 = λ a. ProtocolAt p q a in
     let falls : priority q n < priority q m = (subst P is kept) (record { concurrent = r.concurrent; precedes = before }) in
     let rises = r.rises in
     omega (arith, rises)
 
-pub init_update_breaks : (p : Program) (q : Tables) (x : ℕ) (inits updates : List ℕ) → Lists inits (InitsAt p x) → Lists updates (UpdatesAt p x) → (at : Place) → RisesBetween p q inits updates at → ¬ ProtocolAt p q at
+pub init_update_breaks : (p : Program) (q : Tables) (x : ℕ) (inits updates : List ℕ) → Lists inits (InitsAt p x) → Lists updates (UpdatesAt p x) → (at : Place) → NoFallBetween p q inits updates at → ¬ ProtocolAt p q at
 init_update_breaks p q x inits updates i u at r =
     let w = u.only r.second r.in_seconds in
     rise_breaks p q r.first r.second at r.is r.rises (init_update x w.0 (i.only r.first r.in_firsts) w.1)
 
-pub init_read_breaks : (p : Program) (q : Tables) (x : ℕ) (inits reads : List ℕ) → Lists inits (InitsAt p x) → Lists reads (ReadsAt p x) → (at : Place) → RisesBetween p q inits reads at → ¬ ProtocolAt p q at
+pub init_read_breaks : (p : Program) (q : Tables) (x : ℕ) (inits reads : List ℕ) → Lists inits (InitsAt p x) → Lists reads (ReadsAt p x) → (at : Place) → NoFallBetween p q inits reads at → ¬ ProtocolAt p q at
 init_read_breaks p q x inits reads i l at r =
     rise_breaks p q r.first r.second at r.is r.rises (init_read x (i.only r.first r.in_firsts) (l.only r.second r.in_seconds))
 
-pub update_read_breaks : (p : Program) (q : Tables) (x : ℕ) (updates reads : List ℕ) → Lists updates (UpdatesAt p x) → Lists reads (ReadsAt p x) → (at : Place) → RisesBetween p q updates reads at → ¬ ProtocolAt p q at
+pub update_read_breaks : (p : Program) (q : Tables) (x : ℕ) (updates reads : List ℕ) → Lists updates (UpdatesAt p x) → Lists reads (ReadsAt p x) → (at : Place) → NoFallBetween p q updates reads at → ¬ ProtocolAt p q at
 update_read_breaks p q x updates reads u l at r =
     let w = u.only r.first r.in_firsts in
     rise_breaks p q r.first r.second at r.is r.rises (update_read x w.0 w.1 (l.only r.second r.in_seconds))
@@ -116,7 +116,7 @@ falls_on p q x inits updates reads i u l iu il ul = record {
 less_or_not : (a b : ℕ) → (a < b) ⊎ (b ≤ a)
 less_or_not a b = grind arith
 
-falls : (p : Program) (q : Tables) (m n : ℕ) → ConcurrentNodes p m n → ¬ IsRise p q m n → priority q n < priority q m
+falls : (p : Program) (q : Tables) (m n : ℕ) → ConcurrentNodes p m n → ¬ DoesNotFall p q m n → priority q n < priority q m
 falls p q m n concurrent no_rise = elim (less_or_not (priority q n) (priority q m)) [
   | inl lt ↦ lt
   | inr le ↦ absurd (no_rise (record { concurrent = concurrent; rises = le }))
@@ -129,7 +129,7 @@ falls_kept p q formed h (place.Thread t) = tt
 falls_kept p q formed h (place.Node n) = tt
 falls_kept p q formed h (place.Pair m n) = λ edge. falls p q m n edge.concurrent (over edge.precedes)
   where
-    over : Precedes (accesses p m) (accesses p n) → ¬ IsRise p q m n
+    over : Precedes (accesses p m) (accesses p n) → ¬ DoesNotFall p q m n
     over (init_update x f i u) = (h x (init_variable p formed m x i)).init_update m n i (f, u)
     over (init_read x i l) = (h x (init_variable p formed m x i)).init_read m n i l
     over (update_read x f u l) = (h x (update_variable p formed m x f u)).update_read m n (f, u) l

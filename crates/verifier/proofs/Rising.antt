@@ -13,7 +13,7 @@ use Rattle.sc_graph.specs.Threads.{IsFork}
 use Rattle.sc_graph.specs.Tables.{priority}
 use Rattle.sc_graph.specs.Protocol.{FlowAt, Instant, by_successor, by_entry, by_exit}
 use Rattle.verifier.specs.Inside.ByNode.{StepFlows, ForksTo, RisesToSuccessor, RisesToEntry, RisesFromExit, EntryFlows, ExitsFlow, ChildrenFlow}
-use Rattle.verifier.proofs.Within.{node_of_step, step_within}
+use Rattle.sc_graph.proofs.Nodes.{node_of_step, step_within}
 
 pub flows_kept : (p : Program) (q : Tables) → ((n : ℕ) → n < length p.nodes → StepFlows p q n) → (at : Place) → FlowAt p q at
 flows_kept p q h place.Image = tt

@@ -9,22 +9,6 @@ use Rattle.sc_graph.specs.Accesses.{accesses, access_of}
 use Rattle.verifier.specs.Inside.Pairs.{InitsAt, UpdatesAt, ReadsAt}
 use Rattle.sc_graph.specs.Program.{Program, step_at}
 
--- a node with its step
-pub record IsNode (p : Program) (n : ℕ) (s : Step) : Type 0 where
-  pub node : Node
-  pub stands : slice_get p.nodes n ≡ Some node
-  pub step : node.step ≡ s
-
-pub node_of_step : (p : Program) (n : ℕ) (s : Step) → step_at p n ≡ Some s → IsNode p n s
-node_of_step p n s e = found (slice_get p.nodes n) refl e
-  where
-    found : (o : Option Node) → slice_get p.nodes n ≡ o → option_map (λ (x : Node). x.step) o ≡ Some s → IsNode p n s
-    found None is h = absurd (cc)
-    found (Some x) is h = record { node = x; stands = is; step = cc }
-
-pub step_within : (p : Program) (n : ℕ) (s : Step) → step_at p n ≡ Some s → n < length p.nodes
-step_within p n s e = let at = node_of_step p n s e in slice_get_within p.nodes n at.node at.stands
-
 -- what a node accesses that isn't there
 pub node_or_none : (p : Program) (n : ℕ) → (n < length p.nodes) ⊎ (accesses p n ≡ no_access)
 node_or_none p n = found (slice_get p.nodes n) refl

@@ -1,5 +1,5 @@
 -- What the answer of a check says of the rules.
-use Rattle.std.specs.Prelude.{ℕ, ◌<◌, Option, Some, None}
+use Rattle.std.specs.Prelude.{ℕ, ◌<◌}
 use Rattle.sc_graph.specs.declared.place.Place.{Place}
 use Rattle.sc_graph.specs.declared.tables.Tables.{Tables}
 use Rattle.sc_graph.specs.Program.{Program}
@@ -11,11 +11,6 @@ use Rattle.sc_graph.specs.Costs.{EndBitAt, WeightAt, BoundAt}
 use Rattle.verifier.specs.declared.rule.Rule.{Rule}
 use Rattle.verifier.specs.declared.rule.Rule.TheVariants as rule
 use Rattle.verifier.specs.declared.rule.Broken.{Broken}
-
--- none: the rule is kept at every place; else it is broken at the place that is named
-abbrev pub IsFault : (Place → Type 0) → Option Place → Type 0
-IsFault Kept None = (at : Place) → Kept at
-IsFault Kept (Some at) = ¬ Kept at
 
 -- a rule is kept at a place
 abbrev pub KeptAt : Rule → Program → Tables → Place → Type 0

@@ -7,7 +7,7 @@ ghost use Rattle.sc_graph.specs.Codes.{AssignmentAt, CodeAt, IsWritten, StepIsAs
 ghost use Rattle.sc_graph.specs.Program.{kind_at, kinds};
 ghost use Rattle.sc_graph.specs.declared.place.Place.{Place};
 ghost use Rattle.sc_graph.specs.declared.place.Place.TheVariants as place;
-ghost use Rattle.verifier.specs.Verdict.{IsFault};
+ghost use Rattle.verifier.specs.Inside.Faults.{IsFault};
 
 use crate::kinds::{kind_given, kinds_of};
 use sc_graph::{NodeId, Place, Program, Role, Step, VariableId, is_loaded};

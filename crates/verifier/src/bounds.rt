@@ -9,7 +9,7 @@ ghost use Rattle.sc_graph.specs.Tables.{bound, weight};
 ghost use Rattle.sc_graph.specs.declared.place.Place.{Place};
 ghost use Rattle.sc_graph.specs.declared.place.Place.TheVariants as place;
 ghost use Rattle.verifier.specs.Inside.ByNode.{IsCovered};
-ghost use Rattle.verifier.specs.Verdict.{IsFault};
+ghost use Rattle.verifier.specs.Inside.Faults.{IsFault};
 
 use crate::weights::entry_weight;
 use sc_graph::{NodeId, Place, Program, Step, Tables, ThreadId};

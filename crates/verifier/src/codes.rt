@@ -3,11 +3,11 @@
 
 ghost use Rattle.std.specs.Prelude.{◌≡◌, ◌↔◌, ◌<◌, IsTrue, IfOk, Some};
 ghost use Rattle.sc_values.specs.declared.value.Kind.TheVariants.{Bool};
-ghost use Rattle.sc_values.specs.Code.{IsWellFormed};
-ghost use Rattle.sc_graph.specs.Codes.{CodeAt, code_kind, StepIsWellFormed};
+ghost use Rattle.sc_values.specs.Code.{code_kind, IsWellFormed};
+ghost use Rattle.sc_graph.specs.Codes.{CodeAt, StepIsWellFormed};
 ghost use Rattle.sc_graph.specs.Program.{kinds};
 ghost use Rattle.sc_graph.specs.declared.place.Place.TheVariants as place;
-ghost use Rattle.verifier.specs.Verdict.{IsFault};
+ghost use Rattle.verifier.specs.Inside.Faults.{IsFault};
 
 use crate::kinds::{kind_given, kinds_of};
 use sc_graph::{NodeId, Place, Program, Step};
@@ -62,7 +62,7 @@ fn step_is_well_formed(program: &Program, known: &[Kind], step: &Step) -> bool
 // Whether a code is well formed and gives a truth value.
 fn is_condition(program: &Program, known: &[Kind], code: &Code) -> bool
     requires { known.now ≡ kinds program.now }
-    ensures { IsTrue result ↔ (IsWellFormed (kinds program.now) code.now × (code_kind program.now code.now ≡ Some Bool)) }
+    ensures { IsTrue result ↔ (IsWellFormed (kinds program.now) code.now × (code_kind code.now (kinds program.now) ≡ Some Bool)) }
 {
     match kind_given(program, known, code) {
         Some(Kind::Bool) => true,

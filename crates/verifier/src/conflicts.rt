@@ -1,5 +1,5 @@
-//! The write-conflict rule: no two concurrent inits of a variable, and no two concurrent updates by
-//! different functions.
+//! The write-conflict rule: no two concurrent inits of a variable, and no two concurrent updates of
+//! it by different combinations.
 
 ghost use Rattle.std.specs.Prelude.{◌≡◌, ◌↔◌, IfOk, IsTrue, MatchOption, ℕ, Contains};
 ghost use Rattle.sc_values.specs.Access.{Clash};
@@ -7,7 +7,7 @@ ghost use Rattle.sc_graph.specs.Accesses.{accesses};
 ghost use Rattle.sc_graph.specs.Protocol.{NoConflictAt, WriteConflict};
 ghost use Rattle.sc_graph.specs.Valid.{IsFormed};
 ghost use Rattle.verifier.specs.Inside.Pairs.{InitsAt, Lists, NoConflictOn, NoneConflict, UpdatesAt};
-ghost use Rattle.verifier.specs.Verdict.{IsFault};
+ghost use Rattle.verifier.specs.Inside.Faults.{IsFault};
 
 use crate::concurrency::are_concurrent;
 use crate::users::Users;

@@ -28,6 +28,11 @@ impl Rule {
 }
 
 impl fmt::Display for Broken {
+    ghost use Rattle.std.specs.Prelude.{Some};
+    ghost use Rattle.verifier.specs.FaultLine.{fault_line};
+
+    ghost output = { λ broken. Some (fault_line broken) };
+
     fn fmt<W: fmt::Write>(&self, f: &mut fmt::Formatter<W>) -> fmt::Result {
         write!(f, "E{} ", self.rule.fault_number())?;
         match self.place {

@@ -7,7 +7,7 @@ ghost use Rattle.sc_graph.specs.Tables.{priority};
 ghost use Rattle.sc_graph.specs.declared.place.Place.TheVariants as place;
 ghost use Rattle.sc_graph.specs.declared.program.Step.TheVariants as step;
 ghost use Rattle.verifier.specs.Inside.ByNode.{ChildrenFlow, EntryFlows, ExitsFlow, ForksTo, IsExitOf, RisesFromExit, RisesToEntry, RisesToSuccessor, StepFlows, SuccessorsFlow};
-ghost use Rattle.verifier.specs.Verdict.{IsFault};
+ghost use Rattle.verifier.specs.Inside.Faults.{IsFault};
 
 use sc_graph::{NodeId, Place, Program, Step, Tables, ThreadId};
 

@@ -1,8 +1,7 @@
 //! The kinds of the variables, and of what a code gives.
 
 ghost use Rattle.std.specs.Prelude.{◌≡◌, IfOk, MatchOption, Some};
-ghost use Rattle.sc_values.specs.Code.{IsWellFormed};
-ghost use Rattle.sc_graph.specs.Codes.{code_kind};
+ghost use Rattle.sc_values.specs.Code.{code_kind, IsWellFormed};
 ghost use Rattle.sc_graph.specs.Program.{kinds};
 
 use sc_graph::Program;
@@ -23,7 +22,7 @@ pub(crate) fn kinds_of(alloc: Global, program: &Program) -> Result<Vec<Kind>, Al
 /// The kind of what a code gives, over the kinds of the variables. None: it is not well formed.
 pub(crate) fn kind_given(program: &Program, known: &[Kind], code: &Code) -> Option<Kind>
     requires { known.now ≡ kinds program.now }
-    ensures { MatchOption result (¬ IsWellFormed (kinds program.now) code.now) (λ k. IsWellFormed (kinds program.now) code.now × (code_kind program.now code.now ≡ Some k)) }
+    ensures { MatchOption result (¬ IsWellFormed (kinds program.now) code.now) (λ k. IsWellFormed (kinds program.now) code.now × (code_kind code.now (kinds program.now) ≡ Some k)) }
 {
     match CheckedCode::test(code, known) {
         Some(checked) => Some(checked.kind()),

@@ -5,8 +5,8 @@ ghost use Rattle.std.specs.Prelude.{◌≡◌, ◌↔◌, IfOk, IsTrue, MatchOpt
 ghost use Rattle.sc_graph.specs.Protocol.{ProtocolAt};
 ghost use Rattle.sc_graph.specs.Valid.{IsFormed};
 ghost use Rattle.sc_graph.specs.declared.place.Place.TheVariants as place;
-ghost use Rattle.verifier.specs.Inside.Pairs.{AllFall, FallsOn, InitsAt, IsRise, Lists, ReadsAt, RisesBetween, UpdatesAt};
-ghost use Rattle.verifier.specs.Verdict.{IsFault};
+ghost use Rattle.verifier.specs.Inside.Pairs.{AllFall, FallsOn, InitsAt, DoesNotFall, Lists, ReadsAt, NoFallBetween, UpdatesAt};
+ghost use Rattle.verifier.specs.Inside.Faults.{IsFault};
 
 use crate::concurrency::are_concurrent;
 use crate::users::Users;
@@ -27,7 +27,7 @@ pub(crate) fn protocol_fault(
     let updates = Users::updating(alloc, program)?;
     let reads = Users::reading(alloc, program)?;
     for x in 0..program.variable_count() {
-        if let Some(place) = rise_over(
+        if let Some(place) = no_fall_over(
             program,
             tables,
             &threads,
@@ -44,7 +44,7 @@ pub(crate) fn protocol_fault(
 
 // A protocol edge about a variable along which priority does not fall, over the lists of the
 // variable's inits, updates and reads.
-fn rise_over(
+fn no_fall_over(
     program: &Program,
     tables: &Tables,
     threads: &ConcurrentThreads,
@@ -59,17 +59,17 @@ fn rise_over(
     requires reads { Lists reads.now (ReadsAt program.now x) }
     ensures { MatchOption result (FallsOn program.now tables.now x) (λ at. ¬ ProtocolAt program.now tables.now at) }
 {
-    if let Some(place) = rise_between(program, tables, threads, inits, updates) {
+    if let Some(place) = no_fall_between(program, tables, threads, inits, updates) {
         return Some(place);
     }
-    if let Some(place) = rise_between(program, tables, threads, inits, reads) {
+    if let Some(place) = no_fall_between(program, tables, threads, inits, reads) {
         return Some(place);
     }
-    rise_between(program, tables, threads, updates, reads)
+    no_fall_between(program, tables, threads, updates, reads)
 }
 
 // A first and a concurrent second node between which priority does not fall.
-fn rise_between(
+fn no_fall_between(
     program: &Program,
     tables: &Tables,
     threads: &ConcurrentThreads,
@@ -77,10 +77,10 @@ fn rise_between(
     seconds: &[NodeId],
 ) -> Option<Place>
     requires { threads.now ≡ program.now }
-    ensures { MatchOption result (AllFall program.now tables.now firsts.now seconds.now) (RisesBetween program.now tables.now firsts.now seconds.now) }
+    ensures { MatchOption result (AllFall program.now tables.now firsts.now seconds.now) (NoFallBetween program.now tables.now firsts.now seconds.now) }
 {
     for m in firsts {
-        if let Some(n) = rise_after(program, tables, threads, *m, seconds) {
+        if let Some(n) = no_fall_after(program, tables, threads, *m, seconds) {
             return Some(Place::Pair(*m, n));
         }
     }
@@ -88,7 +88,7 @@ fn rise_between(
 }
 
 // One of these nodes that is concurrent to the first and has no smaller priority.
-fn rise_after(
+fn no_fall_after(
     program: &Program,
     tables: &Tables,
     threads: &ConcurrentThreads,
@@ -96,10 +96,10 @@ fn rise_after(
     seconds: &[NodeId],
 ) -> Option<NodeId>
     requires { threads.now ≡ program.now }
-    ensures { MatchOption result ((n : ℕ) → Contains seconds.now n → ¬ IsRise program.now tables.now m n) (λ n. Contains seconds.now n × IsRise program.now tables.now m n) }
+    ensures { MatchOption result ((n : ℕ) → Contains seconds.now n → ¬ DoesNotFall program.now tables.now m n) (λ n. Contains seconds.now n × DoesNotFall program.now tables.now m n) }
 {
     for n in seconds {
-        if is_rise(program, tables, threads, m, *n) {
+        if does_not_fall(program, tables, threads, m, *n) {
             return Some(*n);
         }
     }
@@ -107,7 +107,7 @@ fn rise_after(
 }
 
 // Whether two nodes are concurrent and priority does not fall from the first to the second.
-fn is_rise(
+fn does_not_fall(
     program: &Program,
     tables: &Tables,
     threads: &ConcurrentThreads,
@@ -115,7 +115,7 @@ fn is_rise(
     n: NodeId,
 ) -> bool
     requires { threads.now ≡ program.now }
-    ensures { IsTrue result ↔ IsRise program.now tables.now m n }
+    ensures { IsTrue result ↔ DoesNotFall program.now tables.now m n }
 {
     tables.priority(m) <= tables.priority(n) && are_concurrent(program, threads, m, n)
 }

@@ -7,13 +7,15 @@ use thiserror::Error;
 /// A rule of a valid image, in order.
 #[derive(Clone, Copy, Debug, PartialEq, Eq)]
 pub enum Rule {
-    /// Counts are within their limits, and each number names something.
+    /// Counts and the budget are within their limits, names are distinct, and each number names
+    /// something.
     Size,
-    /// Who owns what a step names; one fork for each join and each thread, one pause for each depth.
+    /// Who owns what a step names; one fork for each join and for each thread but the root, one
+    /// pause for each depth.
     Structure,
-    /// Each code spells a well-kinded expression within the limits.
+    /// Each code spells a well-kinded expression within the limits, and that of a Cond is Bool.
     Code,
-    /// What is written fits the variable.
+    /// What is written fits the variable, which is no input, and no update loads its own variable.
     Assignment,
     /// A node from which a thread may end in this tick has its end bit.
     EndBit,
@@ -42,7 +44,7 @@ pub enum Refusal {
     /// The lowest rule that is broken.
     #[error("{0}")]
     Broken(Broken),
-    /// There is not enough memory.
+    /// Memory was refused.
     #[error("E52")]
     Memory,
 }

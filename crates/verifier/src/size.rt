@@ -1,7 +1,7 @@
 //! The size and range rule: what it asks of the program, and the greatest budget.
 
 ghost use Rattle.sc_graph.specs.Size.{SizeAt};
-ghost use Rattle.verifier.specs.Verdict.{IsFault};
+ghost use Rattle.verifier.specs.Inside.Faults.{IsFault};
 
 use sc_graph::{BUDGET_LIMIT, Place, Program, Tables};
 

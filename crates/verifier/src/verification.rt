@@ -1,10 +1,12 @@
 //! All rules in order, and the lowest that an image breaks.
 
-ghost use Rattle.std.specs.Prelude.{◌≡◌, IfOk, MatchOption, ◌≢◌, Err};
+ghost use Rattle.std.specs.Prelude.{◌≡◌, ◌≤◌, IfOk, OnErr, MatchOption, ◌≢◌, Err};
 ghost use Rattle.sc_graph.specs.Valid.{IsValid};
-ghost use Rattle.verifier.specs.Verdict.{IsFault, IsLowestBroken, KeepsBelow, KeptAt, fault_number};
+ghost use Rattle.verifier.specs.Verdict.{IsLowestBroken, KeepsBelow, KeptAt, fault_number};
+ghost use Rattle.verifier.specs.Inside.Faults.{IsFault};
 ghost use Rattle.verifier.specs.declared.rule.Broken.{Broken};
 ghost use Rattle.verifier.specs.declared.rule.Refusal.TheVariants as refusal;
+ghost use Rattle.verifier.specs.declared.rule.Rule.TheVariants as named;
 
 use crate::assignments::assignment_fault;
 use crate::bounds::bound_fault;
@@ -21,12 +23,15 @@ use bytecode::Image;
 use sc_graph::{Place, Program, Tables};
 use std::alloc::{AllocError, Global};
 
-/// Verifies an image. `Broken`: the lowest rule that it breaks, and a place where it does.
-/// `Memory`: there was not enough, and nothing is said of the image.
+/// Verifies an image, and gives it where it is valid. `Broken`: the lowest rule that it breaks, and
+/// a place where it does. `Memory`: memory was refused; then the image keeps the first two rules,
+/// and of the others nothing is said.
 pub fn verify(alloc: Global, image: Image) -> Result<Verified, Refusal>
     ensures verified { IfOk result (λ v. v ≡ image) }
     ensures valid { IfOk result (λ v. IsValid v.program v.tables) }
     ensures broken { (broken : Broken) → result ≡ Err (refusal.Broken broken) → IsLowestBroken image.program image.tables broken }
+    // The first two rules are decided without memory.
+    ensures memory { result ≡ Err refusal.Memory → KeepsBelow image.program image.tables (fault_number named.Code) }
     ensures accepted { IsValid image.program image.tables → (broken : Broken) → result ≢ Err (refusal.Broken broken) }
 {
     match lowest_broken(alloc, image.program(), image.tables())? {
@@ -41,7 +46,8 @@ fn lowest_broken(
     program: &Program,
     tables: &Tables,
 ) -> Result<Option<Broken>, AllocError>
-    ensures { IfOk result (λ answer. MatchOption answer (IsValid program.now tables.now) (IsLowestBroken program.now tables.now)) }
+    ensures lowest { IfOk result (λ answer. MatchOption answer (IsValid program.now tables.now) (IsLowestBroken program.now tables.now)) }
+    ensures memory { OnErr result (KeepsBelow program.now tables.now (fault_number named.Code)) }
 {
     for rule in RULES {
         if let Some(place) = broken_place(alloc, rule, program, tables)? {
@@ -72,7 +78,8 @@ fn broken_place(
     tables: &Tables,
 ) -> Result<Option<Place>, AllocError>
     requires { KeepsBelow program.now tables.now (fault_number rule) }
-    ensures { IfOk result (IsFault (KeptAt rule program.now tables.now)) }
+    ensures fault { IfOk result (IsFault (KeptAt rule program.now tables.now)) }
+    ensures memory { OnErr result (fault_number named.Code ≤ fault_number rule) }
 {
     match rule {
         Rule::Size => Ok(size_fault(program, tables)),

@@ -8,7 +8,7 @@ ghost use Rattle.sc_graph.specs.Program.{entry_of};
 ghost use Rattle.sc_graph.specs.Size.{StepFits, SizeAt};
 ghost use Rattle.sc_graph.specs.declared.place.Place.{Place};
 ghost use Rattle.sc_graph.specs.declared.place.Place.TheVariants as place;
-ghost use Rattle.verifier.specs.Verdict.{IsFault};
+ghost use Rattle.verifier.specs.Inside.Faults.{IsFault};
 
 use crate::end_bits::entries_end;
 use sc_graph::{NodeId, Place, Program, Step, Tables, ThreadId};

@@ -56,7 +56,7 @@ image_at version bytes = do
   start ← header_at version bytes
   body_at start
 
--- a fault in these bytes: a bad field is told by its offset
+-- a fault in these bytes: a bad field is named by its offset
 abbrev pub told : List ℕ → Fault → DecodeFault
 told bytes fault.Short = decode.Short
 told bytes fault.Magic = decode.Magic
@@ -73,7 +73,7 @@ answer bytes (Err f) = Err (told bytes f)
 unfoldable pub reading : ℕ → List ℕ → Result Image DecodeFault
 reading version bytes = answer bytes (image_at version bytes)
 
--- what a function returned is this, unless memory ran out
+-- what a function returned is this, unless memory was refused
 abbrev pub Answers : Result Image DecodeFault → Result Image DecodeFault → Type 0
 Answers (Ok i) read = read ≡ Ok i
 Answers (Err decode.Memory) read = Unit {0}

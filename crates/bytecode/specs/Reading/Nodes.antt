@@ -50,7 +50,7 @@ fork_at bytes = do
   children ← each_at (number_at w16) count.0 count.1
   Ok (step.Fork children.0 join.0, children.1)
 
--- a step that is told by one node
+-- a step that names one node and nothing else
 unfoldable pub target_at : (ℕ → Step) → Reader Step
 target_at step bytes = do
   target ← number_at w16 bytes

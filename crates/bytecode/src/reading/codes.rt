@@ -2,7 +2,8 @@
 
 ghost use Rattle.std.specs.Prelude.{◌≤◌};
 ghost use Rattle.sc_values.specs.Limits.{operation_limit};
-ghost use Rattle.bytecode.specs.Reading.{Reads, each_at};
+ghost use Rattle.bytecode.specs.Reading.{each_at};
+ghost use Rattle.bytecode.specs.Inside.Readers.{Reads};
 ghost use Rattle.bytecode.specs.Reading.Codes.{operation_body, operation_at, code_at};
 
 use crate::fault::Fault;

@@ -2,19 +2,21 @@
 
 ghost use Rattle.std.specs.Prelude.{◌≤◌, IfOk};
 ghost use Rattle.std.specs.Int.{w16, w32};
-ghost use Rattle.bytecode.specs.Reading.{Reads};
+ghost use Rattle.bytecode.specs.Inside.Readers.{Reads};
 ghost use Rattle.bytecode.specs.Reading.Fields.{bytes_at, byte_at, number_at, choice_at, length_at, name_at, variable_at};
 
 use crate::fault::Fault;
 use sc_graph::{Role, Variable};
 use sc_values::{Combination, Kind, Name};
 
+/// What an end bit or a Bool literal can be, by its number.
 pub const FLAGS: [bool; 2] = [false, true];
 
 const ROLES: [Role; 3] = [Role::Input, Role::Output, Role::Local];
 
 const KINDS: [Kind; 2] = [Kind::Bool, Kind::Int];
 
+/// The combinations, by their numbers.
 pub const COMBINATIONS: [Combination; 6] = [
     Combination::Add,
     Combination::Multiply,

@@ -1,13 +1,16 @@
 //! Whole images from bytes.
 
-ghost use Rattle.std.specs.Prelude.{◌≡◌, ◌<◌, ℕ, length, IfOk, Ok};
+ghost use Rattle.std.specs.Prelude.{◌≡◌, ◌<◌, ℕ, length, IfOk, Ok, Err};
 ghost use Rattle.std.specs.Result.{IsErrOf};
 ghost use Rattle.sc_graph.specs.Layout.{FitsLayout};
-ghost use Rattle.bytecode.specs.Layout.{thread_rows, node_rows, AreThreads, AreNodes};
-ghost use Rattle.bytecode.specs.declared.fault.DecodeFault.TheVariants.{Field};
+ghost use Rattle.bytecode.specs.Layout.{thread_rows, node_rows, HasHeader};
+ghost use Rattle.bytecode.specs.Inside.Columns.{AreThreads, AreNodes};
+ghost use Rattle.bytecode.specs.declared.fault.DecodeFault.TheVariants.{Field, Memory};
+ghost use Rattle.bytecode.specs.declared.fault.Fault.TheVariants as fault;
 ghost use Rattle.bytecode.specs.Image.{Image};
 ghost use Rattle.bytecode.specs.Spells.{Spells};
-ghost use Rattle.bytecode.specs.Reading.{Gives, Reads, each_at};
+ghost use Rattle.bytecode.specs.Reading.{each_at};
+ghost use Rattle.bytecode.specs.Inside.Readers.{Gives, Reads};
 ghost use Rattle.bytecode.specs.Reading.Fields.{variable_at};
 ghost use Rattle.bytecode.specs.Reading.Nodes.{thread_at, node_at};
 ghost use Rattle.bytecode.specs.Reading.Image.{header_at, body_at, image_at, image_of, reading, Answers};
@@ -187,14 +190,16 @@ fn body(alloc: Global, bytes: &[u8]) -> Result<Image, Fault>
 
 #[tactic(auto, unfolding(crate::specs::Reading::Image::image_at))]
 fn image(alloc: Global, version: u8, bytes: &[u8]) -> Result<Image, Fault>
-    ensures { Gives (λ i. i) result (image_at version bytes.now) }
+    ensures gives { Gives (λ i. i) result (image_at version bytes.now) }
+    ensures memory { result ≡ Err fault.Memory → HasHeader version bytes.now }
 {
     let rest = header(version, bytes)?;
     body(alloc, rest)
 }
 
 fn read(alloc: Global, version: u8, bytes: &[u8]) -> Result<Image, DecodeFault>
-    ensures { Answers result (reading version bytes.now) }
+    ensures answers { Answers result (reading version bytes.now) }
+    ensures memory { result ≡ Err Memory → HasHeader version bytes.now }
 {
     match image(alloc, version, bytes) {
         Ok(image) => Ok(image),
@@ -204,14 +209,17 @@ fn read(alloc: Global, version: u8, bytes: &[u8]) -> Result<Image, DecodeFault>
 
 /// The image that all of the bytes are, in version 1 of the layout; else the first fault from the
 /// left: `Short` for a field with too few bytes left, `Magic`, `Version` or `Field` for a bad one,
-/// and `Trailing` for bytes behind the last. `Memory` claims nothing of the bytes.
+/// and `Trailing` for bytes behind the last. `Memory` claims nothing of the bytes but that they begin
+/// with `SCCB` and the version.
 pub fn decode(alloc: Global, bytes: &[u8]) -> Result<Image, DecodeFault>
     // What is read is spelled so.
     ensures found { IfOk result (λ i. Spells 1 bytes.now i) }
-    // What spells an image is read as that image, unless memory runs out.
+    // What spells an image is read as that image, unless memory was refused.
     ensures only { (i : Image) → Spells 1 bytes.now i → Answers result (Ok i) }
     // Which fault it is.
     ensures exact { Answers result (reading 1 bytes.now) }
+    // Memory is taken for what stands behind a good header alone.
+    ensures memory { result ≡ Err Memory → HasHeader 1 bytes.now }
     // A bad field begins at one of the bytes.
     ensures within { (offset : ℕ) → IsErrOf result (Field offset) → offset < length bytes.now }
 {

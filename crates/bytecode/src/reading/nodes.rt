@@ -2,7 +2,8 @@
 
 ghost use Rattle.std.specs.Prelude.{◌≡◌};
 ghost use Rattle.std.specs.Int.{w16};
-ghost use Rattle.bytecode.specs.Reading.{Gives, Reads, each_at};
+ghost use Rattle.bytecode.specs.Reading.{each_at};
+ghost use Rattle.bytecode.specs.Inside.Readers.{Gives, Reads};
 ghost use Rattle.bytecode.specs.Reading.Fields.{number_at};
 ghost use Rattle.bytecode.specs.Reading.Nodes.{parent_of, thread_at, assign_at, update_at, cond_at, fork_at, step_body, step_at, node_at};
 

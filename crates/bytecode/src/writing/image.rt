@@ -60,7 +60,7 @@ fn put_nodes(out: &mut Vec<u8>, program: &Program, tables: &Tables) -> Result<()
     Ok(())
 }
 
-/// The bytes that spell an image, in version 1 of the layout.
+/// The bytes that spell an image, in version 1 of the layout. Err: memory was refused.
 #[tactic(auto, unfolding(crate::specs::Layout::spelling, crate::specs::Layout::body_bytes))]
 pub fn encode(alloc: Global, image: &Image) -> Result<Vec<u8>, AllocError>
     ensures { IfOk result (λ bytes. Spells 1 bytes.items image.now) }

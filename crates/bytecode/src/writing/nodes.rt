@@ -1,16 +1,18 @@
 //! Threads, steps and nodes at the end of bytes.
 
-ghost use Rattle.std.specs.Prelude.{◌≡◌, ◌≢◌, ◌<◌, ◌^◌, ◌++◌, Some, OnOk};
+ghost use Rattle.std.specs.Prelude.{◌≡◌, ◌≢◌, ◌<◌, ◌^◌, ◌++◌, ◌∷◌, Some, OnOk};
 ghost use Rattle.std.specs.List.{flat_map, AllByRecursion};
 ghost use Rattle.sc_graph.specs.Layout.{CountsChildren};
 ghost use Rattle.sc_graph.specs.Limits.{no_parent};
+ghost use Rattle.sc_graph.specs.declared.program.Step.TheVariants as step;
 ghost use Rattle.bytecode.specs.Fields.{u16_bytes};
 ghost use Rattle.bytecode.specs.Nodes.{thread_bytes, step_bytes, node_bytes};
 ghost use Rattle.bytecode.specs.Fits.{ThreadFits, StepFits, NodeFits};
 
 use crate::writing::codes::put_code;
 use crate::writing::fields::{combination_byte, put16, put32};
-use sc_graph::{NO_PARENT, Node, NodeId, Step, Thread, ThreadId};
+use sc_graph::{NO_PARENT, Node, NodeId, Step, Thread, ThreadId, VariableId};
+use sc_values::{Code, Combination};
 use std::alloc::AllocError;
 
 /// A thread and its bound.
@@ -36,6 +38,71 @@ fn put_children(out: &mut Vec<u8>, children: &[ThreadId]) -> Result<(), AllocErr
 }
 
 #[tactic(auto, unfolding(crate::specs::Nodes::step_bytes))]
+fn put_assign(
+    out: &mut Vec<u8>,
+    variable: VariableId,
+    code: &Code,
+    next: NodeId,
+) -> Result<(), AllocError>
+    ensures written { OnOk result (out.new.items ≡ out.old.items ++ step_bytes (step.Assign variable code.now next)) }
+    ensures fits { OnOk result (StepFits (step.Assign variable code.now next)) }
+{
+    out.push(1)?;
+    put16(out, variable)?;
+    put16(out, next)?;
+    put_code(out, code)
+}
+
+#[tactic(auto, unfolding(crate::specs::Nodes::step_bytes))]
+fn put_update(
+    out: &mut Vec<u8>,
+    variable: VariableId,
+    combine: Combination,
+    code: &Code,
+    next: NodeId,
+) -> Result<(), AllocError>
+    ensures written { OnOk result (out.new.items ≡ out.old.items ++ step_bytes (step.Update variable combine code.now next)) }
+    ensures fits { OnOk result (StepFits (step.Update variable combine code.now next)) }
+{
+    out.push(2)?;
+    put16(out, variable)?;
+    out.push(combination_byte(combine))?;
+    put16(out, next)?;
+    put_code(out, code)
+}
+
+#[tactic(auto, unfolding(crate::specs::Nodes::step_bytes))]
+fn put_cond(out: &mut Vec<u8>, code: &Code, then: NodeId, other: NodeId) -> Result<(), AllocError>
+    ensures written { OnOk result (out.new.items ≡ out.old.items ++ step_bytes (step.Cond code.now then other)) }
+    ensures fits { OnOk result (StepFits (step.Cond code.now then other)) }
+{
+    out.push(3)?;
+    put16(out, then)?;
+    put16(out, other)?;
+    put_code(out, code)
+}
+
+#[tactic(auto, unfolding(crate::specs::Nodes::step_bytes))]
+fn put_fork(out: &mut Vec<u8>, children: &[ThreadId], join: NodeId) -> Result<(), AllocError>
+    requires { CountsChildren (step.Fork children.now join) }
+    ensures written { OnOk result (out.new.items ≡ out.old.items ++ step_bytes (step.Fork children.now join)) }
+    ensures fits { OnOk result (StepFits (step.Fork children.now join)) }
+{
+    out.push(4)?;
+    put16(out, join)?;
+    out.push(children.len() as u8)?;
+    put_children(out, children)
+}
+
+// The tag of a step, and the one node that tells it.
+fn put_target(out: &mut Vec<u8>, tag: u8, target: NodeId) -> Result<(), AllocError>
+    ensures { OnOk result (out.new.items ≡ out.old.items ++ tag ∷ u16_bytes target) }
+{
+    out.push(tag)?;
+    put16(out, target)
+}
+
+#[tactic(auto, unfolding(crate::specs::Nodes::step_bytes))]
 fn put_step(out: &mut Vec<u8>, step: &Step) -> Result<(), AllocError>
     requires { CountsChildren step.now }
     ensures written { OnOk result (out.new.items ≡ out.old.items ++ step_bytes step.now) }
@@ -50,48 +117,18 @@ fn put_step(out: &mut Vec<u8>, step: &Step) -> Result<(), AllocError>
             variable,
             code,
             next,
-        } => {
-            out.push(1)?;
-            put16(out, *variable)?;
-            put16(out, *next)?;
-            put_code(out, code)
-        }
+        } => put_assign(out, *variable, code, *next),
         Step::Update {
             variable,
             combine,
             code,
             next,
-        } => {
-            out.push(2)?;
-            put16(out, *variable)?;
-            out.push(combination_byte(*combine))?;
-            put16(out, *next)?;
-            put_code(out, code)
-        }
-        Step::Cond { code, then, other } => {
-            out.push(3)?;
-            put16(out, *then)?;
-            put16(out, *other)?;
-            put_code(out, code)
-        }
-        Step::Fork { children, join } => {
-            out.push(4)?;
-            put16(out, *join)?;
-            out.push(children.len() as u8)?;
-            put_children(out, children.as_slice())
-        }
-        Step::Join { next } => {
-            out.push(5)?;
-            put16(out, *next)
-        }
-        Step::Surf { depth } => {
-            out.push(6)?;
-            put16(out, *depth)
-        }
-        Step::Depth { next } => {
-            out.push(7)?;
-            put16(out, *next)
-        }
+        } => put_update(out, *variable, *combine, code, *next),
+        Step::Cond { code, then, other } => put_cond(out, code, *then, *other),
+        Step::Fork { children, join } => put_fork(out, children.as_slice(), *join),
+        Step::Join { next } => put_target(out, 5, *next),
+        Step::Surf { depth } => put_target(out, 6, *depth),
+        Step::Depth { next } => put_target(out, 7, *next),
     }
 }
 

@@ -2,11 +2,29 @@
 use Rattle.std.specs.Prelude.{ℕ, suc, ◌-◌, Option, Some, None, List, [], ◌∷◌, slice_get, length, nat_le, if◌then◌else◌, option_and_then}
 use Rattle.sc_values.specs.declared.value.Value.{Value}
 use Rattle.sc_values.specs.declared.value.Kind.{Kind}
+use Rattle.sc_values.specs.declared.value.Kind.TheVariants as kind
+use Rattle.sc_values.specs.declared.operator.UnaryOperator.{UnaryOperator}
+use Rattle.sc_values.specs.declared.operator.UnaryOperator.TheVariants as unary
+use Rattle.sc_values.specs.declared.operator.BinaryOperator.{BinaryOperator}
+use Rattle.sc_values.specs.declared.operator.BinaryOperator.TheVariants as binary
 use Rattle.sc_values.specs.declared.operation.Operation.{Operation}
 use Rattle.sc_values.specs.declared.operation.Operation.TheVariants as op
 use Rattle.sc_values.specs.Limits.{operand_limit}
 use Rattle.sc_values.specs.Code.{loaded}
-use Rattle.sc_values.specs.Operator.{kind_of, unary_value, binary_value, unary_kind, binary_kind, given_by_unary, given_by_binary}
+use Rattle.sc_values.specs.Operator.{kind_of, unary_value, binary_value, unary_kind, binary_kind}
+
+-- the kind of what an operator gives, where its operands fit
+abbrev pub given_by_unary : UnaryOperator → Kind
+given_by_unary unary.Negate = kind.Int
+given_by_unary unary.Not = kind.Bool
+
+abbrev pub given_by_binary : BinaryOperator → Kind
+given_by_binary binary.Add = kind.Int
+given_by_binary binary.Subtract = kind.Int
+given_by_binary binary.Multiply = kind.Int
+given_by_binary binary.Min = kind.Int
+given_by_binary binary.Max = kind.Int
+given_by_binary f = kind.Bool
 
 -- on top of the stack, where there is one
 abbrev pub put_on : {A : Type 0} → List A → Option A → Option (List A)

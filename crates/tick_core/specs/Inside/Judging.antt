@@ -1,12 +1,11 @@
 -- How a run is judged by the steps that it takes.
-use Rattle.std.specs.Prelude.{ℕ, ◌≡◌, ◌<◌, ◌≤◌, false, Some, List, map, slice_get, take}
-use Rattle.sc_values.specs.Runs.{Act, replay, acts, ConcurrentSteps, IsOrdered, IsAdmissible, IsOver, Completes, Ends}
-use Rattle.sc_values.specs.Access.{MayPrecede}
+use Rattle.std.specs.Prelude.{ℕ, ◌≡◌, ◌<◌, ◌≤◌, Some, List, map, slice_get}
+use Rattle.sc_values.specs.Runs.{Act, replay, acts, IsOrdered, IsOver, Ends}
 use Rattle.sc_graph.specs.declared.control.Control.{Control}
 use Rattle.sc_graph.specs.Program.{Program}
 use Rattle.sc_graph.specs.Threads.{ForkedApart}
 use Rattle.sc_graph.specs.Accesses.{accesses}
-use Rattle.sc_graph.specs.Control.{status_of, is_enabled, IsEnabled, access_at}
+use Rattle.sc_graph.specs.Control.{status_of, IsEnabled, access_at}
 use Rattle.sc_graph.specs.Steps.{step}
 use Rattle.sc_graph.specs.Machine.{machine}
 use Rattle.tick_core.specs.declared.judging.Judged.{Judged}

@@ -1,5 +1,5 @@
 -- Which threads lead, as far as a search has come.
-use Rattle.std.specs.Prelude.{ℕ, ◌≡◌, ◌<◌, ◌≤◌, Bool, false, Option, Some, None}
+use Rattle.std.specs.Prelude.{ℕ, ◌≡◌, ◌<◌, ◌≤◌, false, Option, Some, None}
 use Rattle.sc_graph.specs.declared.control.Control.{Control}
 use Rattle.sc_graph.specs.declared.tables.Tables.{Tables}
 use Rattle.sc_graph.specs.Program.{Program}

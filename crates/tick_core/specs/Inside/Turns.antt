@@ -1,19 +1,15 @@
 -- Who may be claimed next, and which claim may be committed.
-use Rattle.std.specs.Prelude.{ℕ, ◌≡◌, ◌<◌, ◌&&◌, Bool, true, false, nat_eq, Option, Some, None, List, length, slice_get, slice_set}
-use Rattle.sc_values.specs.Runs.{IsOver}
+use Rattle.std.specs.Prelude.{ℕ, ◌≡◌, ◌≢◌, ◌<◌, ◌&&◌, Bool, true, false, nat_eq, Option, Some, None, List, length, slice_get}
 use Rattle.sc_graph.specs.declared.control.Control.{Control}
 use Rattle.sc_graph.specs.declared.tables.Tables.{Tables}
-use Rattle.sc_values.specs.Checked.{Checked, Checks}
-use Rattle.sc_graph.specs.Program.{Program, kinds}
+use Rattle.sc_graph.specs.Program.{Program}
 use Rattle.sc_graph.specs.Control.{status_of, is_enabled}
 use Rattle.sc_graph.specs.Tables.{priority_of}
-use Rattle.sc_graph.specs.Machine.{machine}
 use Rattle.sc_graph.specs.Priority.{Leads}
-use Rattle.tick_core.specs.declared.state.Turn.{Turn}
 use Rattle.tick_core.specs.declared.state.Turn.TheVariants as turn
-use Rattle.tick_core.specs.Claims.{Claim, Done, value_by, operations_of, present_operands}
-use Rattle.tick_core.specs.Stepping.{node_of, code_at, value_at}
-use Rattle.tick_core.specs.State.{InTick, IsFresh, Advances}
+use Rattle.tick_core.specs.Claims.{Claim, value_by}
+use Rattle.tick_core.specs.Inside.Work.{value_at}
+use Rattle.tick_core.specs.State.{InTick, IsFresh}
 use Rattle.tick_core.specs.Turns.{claim_of, IsOpen}
 
 abbrev pub is_none : Option (Option Claim) → Bool
@@ -45,3 +41,11 @@ pub record MayCommit (s : InTick) (a : Claim) : Type 0 where
   pub is_open : IsOpen s a
   pub leads : Leads s.image.program s.image.tables s.present a.thread
   pub value : value_by a.code a.operands ≡ value_at s.image.program s.present (status_of s.present a.thread)
+
+-- the same state without open claims
+pub record DropsClaims (s s' : InTick) : Type 0 where
+  pub image_is : s'.image ≡ s.image
+  pub begun_is : s'.begun ≡ s.begun
+  pub present_is : s'.present ≡ s.present
+  pub history_is : s'.history ≡ s.history
+  pub no_claim : (t : ℕ) (a : Claim) → slice_get s'.claims t ≢ Some (Some a)

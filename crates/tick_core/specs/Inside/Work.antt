@@ -1,15 +1,23 @@
--- The parts of a claim, compared and made.
-use Rattle.std.specs.Prelude.{ℕ, ◌≡◌, ◌≤◌, Option, Some, None, List, [], map, option_map, option_and_then}
+-- The value that a step takes, and the parts of a claim, compared and made.
+use Rattle.std.specs.Prelude.{◌≡◌, Option, Some, None, List, option_and_then}
 use Rattle.sc_values.specs.declared.value.Value.{Value}
 use Rattle.sc_values.specs.declared.operation.Operation.{Operation}
-use Rattle.sc_values.specs.Operator.{kind_of}
-use Rattle.sc_values.specs.Code.{IsWellFormed}
-use Rattle.sc_values.specs.Checked.{Checked, Checks, loaded_from, value_over}
+use Rattle.sc_values.specs.Code.{code_value, IsWellFormed}
+use Rattle.sc_values.specs.Checked.{Checked, Checks}
+use Rattle.sc_graph.specs.declared.program.Step.{Step}
 use Rattle.sc_graph.specs.declared.control.Control.{Control}
 use Rattle.sc_graph.specs.declared.control.Status.{Status}
 use Rattle.sc_graph.specs.Program.{Program, kinds}
-use Rattle.tick_core.specs.Stepping.{code_at}
+use Rattle.tick_core.specs.Stepping.{code_of, code_at}
 use Rattle.tick_core.specs.Claims.{Claim, HasOperands, operations_of, present_operands}
+
+-- the value of a node's code over the present variables
+abbrev pub value_of : Control → Step → Option Value
+value_of c s = option_and_then (λ code. code_value code c.variables) (code_of s)
+
+-- the value that the step from this status takes
+abbrev pub value_at : Program → Control → Status → Option Value
+value_at p c s = option_and_then (λ code. code_value code c.variables) (code_at p s)
 
 -- claims of the same worker, thread, node and moment
 pub record IsAlike (a b : Claim) : Type 0 where

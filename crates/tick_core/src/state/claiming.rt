@@ -6,6 +6,7 @@ ghost use Rattle.tick_core.specs.Stepping.{node_of, code_at};
 ghost use Rattle.tick_core.specs.Inside.Work.{HasFormedCode, IsWork};
 ghost use Rattle.tick_core.specs.State.{IsFresh};
 ghost use Rattle.tick_core.specs.Turns.{Answers, AllClaimed, Commits, GivesBack, IsRefused, IsOpen};
+ghost use Rattle.tick_core.specs.Events.{Happens, Asks, Brings, Returns};
 ghost use Rattle.tick_core.specs.Inside.Turns.{IsUnclaimed, IsNew, MayCommit};
 
 use crate::claim::{Claim, Done};
@@ -17,11 +18,13 @@ use sc_graph::{Control, NodeId, Program, Status, ThreadId};
 use sc_values::{CheckedCode, Kind, Operands};
 
 impl<'a> TickState<'a> {
-    /// A step for a worker, numbered 0 to 8: of an enabled thread of the greatest priority that has no
-    /// open claim. `NoneNow` where each of them has one; `Over` where nobody is enabled.
+    /// A step for a worker, numbered 0 to 8: of an enabled thread of the greatest priority that has
+    /// no open claim. `NoneNow` where each of them has one; `Over` where nobody is enabled. The
+    /// claim is open from then on.
     pub fn claim(&mut self, worker: u8) -> Turn<'a>
         requires { worker ≤ 8 }
-        ensures { Answers self.old self.new worker result }
+        ensures answers { Answers self.old self.new worker result }
+        ensures happens { Happens (Asks worker) self.old self.new }
     {
         let Some(leader) = self.leader() else {
             return Turn::Over;
@@ -35,10 +38,12 @@ impl<'a> TickState<'a> {
     }
 
     /// Takes the step of an open claim that was evaluated, writes its thread and worker into the
-    /// history, and closes it. `StaleClaim` where no open claim equals it in every field.
+    /// history, and closes it. `StaleClaim` where no open claim equals it in every field: nothing
+    /// changes.
     pub fn commit(&mut self, done: &Done<'_>) -> Result<Receipt, StaleClaim>
         ensures committed { IfOk result (λ receipt. Commits self.old self.new done.now receipt.at) }
         ensures refused { OnErr result (IsRefused self.old self.new done.now.claim) }
+        ensures happens { Happens (Brings done.now) self.old self.new }
     {
         self.check_open(done.claim())?;
         let claim = done.claim();
@@ -47,10 +52,12 @@ impl<'a> TickState<'a> {
         Ok(Receipt { at })
     }
 
-    /// Closes an open claim. `StaleClaim` where no open claim equals it in every field.
+    /// Closes an open claim. `StaleClaim` where no open claim equals it in every field: nothing
+    /// changes.
     pub fn give_back(&mut self, claim: &Claim<'_>) -> Result<(), StaleClaim>
         ensures given_back { OnOk result (GivesBack self.old self.new claim.now) }
         ensures refused { OnErr result (IsRefused self.old self.new claim.now) }
+        ensures happens { Happens (Returns claim.now) self.old self.new }
     {
         self.check_open(claim)?;
         self.close(claim.thread());

@@ -8,8 +8,9 @@ ghost use Rattle.sc_graph.specs.Program.{kinds as variable_kinds};
 ghost use Rattle.sc_graph.specs.Control.{status_of};
 ghost use Rattle.sc_graph.specs.Valid.{IsValid};
 ghost use Rattle.tick_core.specs.Claims.{Claim as OpenClaim};
-ghost use Rattle.tick_core.specs.Stepping.{value_at};
-ghost use Rattle.tick_core.specs.State.{Advances, DropsClaims, GoesAlone, threads_of};
+ghost use Rattle.tick_core.specs.Inside.Work.{value_at};
+ghost use Rattle.tick_core.specs.State.{Advances, GoesAlone, threads_of};
+ghost use Rattle.tick_core.specs.Inside.Turns.{DropsClaims};
 
 use crate::claim::Claim;
 use crate::history::{Entry, Report};
@@ -78,7 +79,8 @@ impl<'a> TickState<'a> {
         self.claims[thread as usize] = None;
     }
 
-    /// The configuration in which the tick ended, which rests, and the report of its steps.
+    /// Of a tick that is over: the configuration in which it ended, which rests and is its only
+    /// end, and the report of its steps.
     pub fn finish(self) -> (Control, Report)
         requires { IsOver (machine self.image.program) self.present }
         ensures present { result.0 ≡ self.entry.present }

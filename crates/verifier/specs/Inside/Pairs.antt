@@ -36,25 +36,25 @@ pub record NoConflictOn (p : Program) (x : ℕ) : Type 0 where
   pub updates : (m n : ℕ) → UpdatesAt p x m → UpdatesAt p x n → ¬ WriteConflict p m n
 
 -- of two concurrent nodes the first does not have the greater priority
-pub record IsRise (p : Program) (q : Tables) (m n : ℕ) : Type 0 where
+pub record DoesNotFall (p : Program) (q : Tables) (m n : ℕ) : Type 0 where
   pub concurrent : ConcurrentNodes p m n
   pub rises : priority q m ≤ priority q n
 
 -- priority falls from each of the first nodes to each concurrent one of the second
 abbrev pub AllFall : Program → Tables → List ℕ → List ℕ → Type 0
-AllFall p q firsts seconds = (m n : ℕ) → Contains firsts m → Contains seconds n → ¬ IsRise p q m n
+AllFall p q firsts seconds = (m n : ℕ) → Contains firsts m → Contains seconds n → ¬ DoesNotFall p q m n
 
 -- the place is a pair of a first and a second node where it does not
-pub record RisesBetween (p : Program) (q : Tables) (firsts seconds : List ℕ) (at : Place) : Type 0 where
+pub record NoFallBetween (p : Program) (q : Tables) (firsts seconds : List ℕ) (at : Place) : Type 0 where
   pub first : ℕ
   pub second : ℕ
   pub is : at ≡ place.Pair first second
   pub in_firsts : Contains firsts first
   pub in_seconds : Contains seconds second
-  pub rises : IsRise p q first second
+  pub rises : DoesNotFall p q first second
 
 -- priority falls along the protocol edges that are about variable x
 pub record FallsOn (p : Program) (q : Tables) (x : ℕ) : Type 0 where
-  pub init_update : (m n : ℕ) → InitsAt p x m → UpdatesAt p x n → ¬ IsRise p q m n
-  pub init_read : (m n : ℕ) → InitsAt p x m → ReadsAt p x n → ¬ IsRise p q m n
-  pub update_read : (m n : ℕ) → UpdatesAt p x m → ReadsAt p x n → ¬ IsRise p q m n
+  pub init_update : (m n : ℕ) → InitsAt p x m → UpdatesAt p x n → ¬ DoesNotFall p q m n
+  pub init_read : (m n : ℕ) → InitsAt p x m → ReadsAt p x n → ¬ DoesNotFall p q m n
+  pub update_read : (m n : ℕ) → UpdatesAt p x m → ReadsAt p x n → ¬ DoesNotFall p q m n

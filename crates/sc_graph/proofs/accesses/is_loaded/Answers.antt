@@ -1,7 +1,7 @@
 use Rattle.std.proofs.Common.{◌≡◌, sym, ◌∙◌, List, subst}
 use Rattle.sc_values.specs.declared.operation.Operation.{Operation}
 use Rattle.std.specs.List.{list_any}
-use Rattle.sc_graph.specs.Accesses.{is_load}
+use Rattle.sc_graph.specs.Inside.Lookups.{is_load}
 use Rattle.sc_graph.proofs.Loaded.{loaded_from_any, any_from_loaded}
 use Rattle.sc_graph.proofs.accesses.is_loaded.Goals as goal
 

@@ -2,7 +2,7 @@ use Rattle.std.proofs.Common.{ℕ, ◌≡◌, ◌<◌, Some, None, subst, sym, a
 use Rattle.sc_graph.specs.Program.{parent_of}
 use Rattle.sc_graph.specs.Threads.{AreConcurrent}
 use Rattle.sc_graph.proofs.Formed.{never_own}
-use Rattle.sc_graph.proofs.Told.{siblings_decide, parent_decides, other_parent_decides, never_without_parent, never_without_other}
+use Rattle.sc_graph.proofs.Rows.{siblings_decide, parent_decides, other_parent_decides, never_without_parent, never_without_other}
 use Rattle.sc_graph.proofs.concurrent_threads.answer_of.Goals as goal
 
 pub returns-then-thread-other : goal.returns-then-thread-other
@@ -20,13 +20,13 @@ returns-then-over-over_other c =
 pub returns-then-over-over_other-2 : goal.returns-then-over-over_other-2
 returns-then-over-over_other-2 c =
     parent_decides c.args.program.now c.requires.formed c.args.rows.now c.args.thread c.args.other c.in-Some-Some.over c.in-Some-Some.over_other c.requires.rows c.requires.within
-    (sym c.in-Some-Some.ensures) (sym c.in-Some-Some.ensures') c.if-over-over_other-2.true c.is_told.result c.is_told.ensures
+    (sym c.in-Some-Some.ensures) (sym c.in-Some-Some.ensures') c.if-over-over_other-2.true c.rows_say.result c.rows_say.ensures
 
 pub returns-else-over-over_other-2 : goal.returns-else-over-over_other-2
 returns-else-over-over_other-2 c =
     let less : c.in-Some-Some.over < c.in-Some-Some.over_other = omega arith in
     other_parent_decides c.args.program.now c.requires.formed c.args.row.now c.args.thread c.args.other c.in-Some-Some.over c.in-Some-Some.over_other c.requires.row
-    (sym c.in-Some-Some.ensures) (sym c.in-Some-Some.ensures') less c.is_told_in.result c.is_told_in.ensures
+    (sym c.in-Some-Some.ensures) (sym c.in-Some-Some.ensures') less c.row_says.result c.row_says.ensures
 
 pub returns-in_default : goal.returns-in_default
 returns-in_default c = (

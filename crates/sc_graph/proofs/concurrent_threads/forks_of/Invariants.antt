@@ -1,4 +1,4 @@
-use Rattle.sc_graph.proofs.Told.{ForksFirst}
+use Rattle.sc_graph.proofs.Rows.{ForksFirst}
 use Rattle.sc_graph.proofs.concurrent_threads.forks_of.Given as goal
 
 abbrev pub invariant-loop-thread : goal.invariant-loop-thread

@@ -17,7 +17,7 @@ returns-then-is_some c =
     sym (c.is_some.ensures ∙ ap is_some c.kind_of_code.ensures ∙ ap (λ (o : List Operation). is_some (option_and_then alone (tested kinds o []))) same) ∙ c.if-is_some.true in (
       λ few. (let low = leb-true _ load_limit few in
           formed_where kinds code leaves c.operations-operations.ensures.long (omega (arith, count, low))),
-      λ (formed : IsWellFormed kinds code). (let low = formed.loaded in le-leb c.load_count.result load_limit (omega (arith, count, low))),
+      λ (formed : IsWellFormed kinds code). (let low = formed.within.loaded in le-leb c.load_count.result load_limit (omega (arith, count, low))),
     )
 
 pub returns-else-is_some : goal.returns-else-is_some

@@ -1,4 +1,4 @@
-use Rattle.std.proofs.Common.{◌≡◌, map}
+use Rattle.std.proofs.Common.{◌≡◌}
 use Rattle.serde_json.specs.View.{members_view}
 use Rattle.sct.specs.Output.{outputs_of, with_outputs}
 use Rattle.sct.proofs.output.outputs_of.Given as goal

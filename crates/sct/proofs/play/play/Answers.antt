@@ -1,10 +1,11 @@
-use Rattle.std.proofs.Common.{◌≡◌, ◌∙◌, ◌+◌, Err, ap, sym, subst, refl, rules, arith, string_bytes}
+use Rattle.std.proofs.Common.{◌≡◌, ◌∙◌, ◌+◌, Err, ap, sym, subst, refl, rules, string_bytes}
 use Rattle.std.specs.Io.KnownBytes.{Appends, IsAtEnd}
 use Rattle.std.proofs.lemmas.Result.{err_from_is_err_and}
 use Rattle.sc_graph.specs.Tick.{Rests, initial}
 use Rattle.sct.specs.Lines.{ahead, TakesLine, IsTooLong}
 use Rattle.sct.specs.declared.lines.LinesFault.TheVariants as lines_fault
-use Rattle.sct.specs.Trace.{Shows, Tells}
+use Rattle.sct.specs.Trace.{Shows}
+use Rattle.sct.specs.Inside.Faults.{Tells}
 use Rattle.sct.proofs.Playing.{not_begun, none_played, one_played, all_played, most_played, stopped_reading, stopped_reacting, stopped_writing}
 use Rattle.sct.proofs.play.play.Goals as goal
 

@@ -1,5 +1,5 @@
-use Rattle.std.proofs.Common.{◌≡◌, ◌≢◌, ◌<◌, ℕ, length, Bool, true, refl, arith}
-use Rattle.std.proofs.lemmas.Option.{slice_get_read, slice_get_within}
+use Rattle.std.proofs.Common.{◌≡◌, ◌≢◌, true, refl}
+use Rattle.std.proofs.lemmas.Option.{slice_get_read}
 use Rattle.sc_graph.proofs.Each.{each_more, each_of_all}
 use Rattle.tick_core.proofs.inputs.is_new.Goals as goal
 

@@ -1,4 +1,4 @@
-use Rattle.std.proofs.Common.{◌≡◌, ℕ, take, subst, rules}
+use Rattle.std.proofs.Common.{◌≡◌, subst, rules}
 use Rattle.sc_graph.specs.Tick.{start}
 use Rattle.tick_core.specs.State.{BeginsTick}
 use Rattle.sc_graph.specs.declared.control.Control.{Control}

@@ -1,4 +1,4 @@
-use Rattle.std.proofs.Common.{◌≡◌, ℕ, ap, subst, refl, ◌∙◌}
+use Rattle.std.proofs.Common.{◌≡◌, ap, subst, refl, ◌∙◌}
 use Rattle.sc_values.specs.Runs.{IsOver, IsOrdered}
 use Rattle.sc_graph.specs.Program.{Program}
 use Rattle.sc_graph.specs.Machine.{machine}

@@ -1,8 +1,4 @@
-use Rattle.std.proofs.Common.{◌≡◌, ◌≤◌, refl, rules}
-use Rattle.std.specs.Prelude.{vec_capacity}
-use Rattle.sc_graph.specs.Program.{kinds}
-use Rattle.sc_graph.specs.Tick.{AreAccepted, start}
-use Rattle.tick_core.specs.State.{InTick}
+use Rattle.std.proofs.Common.{refl, rules}
 use Rattle.tick_core.proofs.Keeping.{Begins, is_begun, holds_begun}
 use Rattle.tick_core.proofs.state.begin.Goals as goal
 

@@ -1,5 +1,6 @@
 use Rattle.std.proofs.Common.{◌≡◌, ◌-◌}
-use Rattle.bytecode.specs.Layout.{node_rows, AreNodes}
+use Rattle.bytecode.specs.Layout.{node_rows}
+use Rattle.bytecode.specs.Inside.Columns.{AreNodes}
 use Rattle.bytecode.specs.Reading.{each_at}
 use Rattle.bytecode.specs.Reading.Nodes.{node_at}
 use Rattle.bytecode.proofs.Loop.{with_front}

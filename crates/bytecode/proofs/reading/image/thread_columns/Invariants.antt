@@ -1,5 +1,6 @@
 use Rattle.std.proofs.Common.{◌≡◌, ◌-◌}
-use Rattle.bytecode.specs.Layout.{thread_rows, AreThreads}
+use Rattle.bytecode.specs.Layout.{thread_rows}
+use Rattle.bytecode.specs.Inside.Columns.{AreThreads}
 use Rattle.bytecode.specs.Reading.{each_at}
 use Rattle.bytecode.specs.Reading.Nodes.{thread_at}
 use Rattle.bytecode.proofs.Loop.{with_front}

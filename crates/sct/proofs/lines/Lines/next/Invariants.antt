@@ -1,4 +1,4 @@
-use Rattle.std.proofs.Common.{◌≡◌, ℕ, ◌+◌, ◌-◌, ◌*◌, min, length, vec_len, false}
+use Rattle.std.proofs.Common.{◌≡◌, ◌+◌, ◌-◌, ◌*◌, min, length, vec_len, false}
 use Rattle.std.specs.Io.KnownBytes.{Consumes}
 use Rattle.sct.specs.Lines.{line_limit, has_feed, ahead}
 use Rattle.sct.proofs.lines.Lines.next.Given as goal

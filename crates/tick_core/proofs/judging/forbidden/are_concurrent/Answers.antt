@@ -1,4 +1,4 @@
-use Rattle.std.proofs.Common.{◌≡◌, ℕ, Bool, true, false, get_or}
+use Rattle.std.proofs.Common.{get_or}
 use Rattle.tick_core.proofs.Forbidding.{no_step, two_steps, concurrent_by, concurrent_threads, none_between, not_true, not_from}
 use Rattle.tick_core.proofs.judging.forbidden.are_concurrent.Goals as goal
 

@@ -1,4 +1,4 @@
-use Rattle.std.proofs.Common.{◌≡◌, ℕ, ◌<◌, true, arith}
+use Rattle.std.proofs.Common.{◌≡◌, ◌<◌, true, arith}
 use Rattle.sc_graph.specs.Threads.{ForkedApart}
 use Rattle.tick_core.specs.Judging.{IsForbidden}
 use Rattle.tick_core.specs.Inside.Judging.{acts_at}

@@ -1,7 +1,3 @@
-use Rattle.std.proofs.Common.{ℕ}
-use Rattle.sc_graph.specs.Threads.{ForkedApart}
-use Rattle.tick_core.specs.Judging.{IsForbidden}
-use Rattle.tick_core.specs.Inside.Judging.{acts_at}
 use Rattle.tick_core.proofs.Forbidding.{first_from, ordered_from, none_more_places}
 use Rattle.tick_core.proofs.judging.forbidden.first_forbidden.Goals as goal
 

@@ -1,8 +1,5 @@
-use Rattle.std.proofs.Common.{◌≡◌, ℕ, take, get_or, subst, sym}
-use Rattle.std.proofs.lemmas.List.{take_more}
+use Rattle.std.proofs.Common.{take, get_or}
 use Rattle.std.proofs.lemmas.Option.{slice_get-get_or}
-use Rattle.sc_graph.specs.Steps.{step}
-use Rattle.tick_core.specs.Inside.Judging.{RunsBy}
 use Rattle.tick_core.proofs.Replaying.{reached_by, some_step, runs_more}
 use Rattle.tick_core.proofs.judging.replaying.replay.Goals as goal
 

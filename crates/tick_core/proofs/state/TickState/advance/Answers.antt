@@ -1,4 +1,4 @@
-use Rattle.std.proofs.Common.{◌≡◌, ◌∙◌, refl, sym, ap, subst, arith}
+use Rattle.std.proofs.Common.{◌∙◌, refl, sym, ap, subst, arith}
 use Rattle.std.specs.Prelude.{IsSome}
 use Rattle.sc_graph.specs.Steps.{step}
 use Rattle.tick_core.proofs.Keeping.{leads_at, step_is_defined, has_room, has_place, kept_advanced}

@@ -1,4 +1,4 @@
-use Rattle.std.proofs.Common.{◌≡◌, ◌∙◌, sym, ap, map, option_and_then}
+use Rattle.std.proofs.Common.{◌∙◌, sym, ap, map, option_and_then}
 use Rattle.std.specs.Option.{option_copied}
 use Rattle.sc_values.specs.Operator.{kind_of}
 use Rattle.sc_values.specs.Code.{code_value}
@@ -8,7 +8,7 @@ use Rattle.tick_core.proofs.Fresh.{code_stands}
 use Rattle.tick_core.proofs.state.ending.present_value.Goals as goal
 
 pub present-operands-requires : goal.present-operands-requires
-present-operands-requires c = (code_stands _ _ c.args.verified.now.tables _ c.args.thread _ _ _ _ c.requires.valid c.requires.configuration c.requires.kinds (c.program.ensures ∙ ap (λ i. i.program) c.image.ensures.value) c.status.ensures (ap option_copied c.in_ok-code.was) c.code_at.ensures).formed.loaded
+present-operands-requires c = (code_stands _ _ c.args.verified.now.tables _ c.args.thread _ _ _ _ c.requires.valid c.requires.configuration c.requires.kinds (c.program.ensures ∙ ap (λ i. i.program) c.image.ensures.value) c.status.ensures (ap option_copied c.in_ok-code.was) c.code_at.ensures).formed.within.loaded
 
 pub known-requires : goal.known-requires
 known-requires c = (code_stands _ _ c.args.verified.now.tables _ c.args.thread _ _ _ _ c.requires.valid c.requires.configuration c.requires.kinds (c.program.ensures ∙ ap (λ i. i.program) c.image.ensures.value) c.status.ensures (ap option_copied c.in_ok-code.was) c.code_at.ensures).formed

@@ -9,8 +9,7 @@ use Rattle.sc_graph.specs.Threads.{AreConcurrent}
 use Rattle.sc_graph.specs.Structure.{ForksChild, ExactlyOne}
 use Rattle.sc_graph.specs.Valid.{IsFormed}
 use Rattle.sc_graph.specs.Inside.Parting.{PartAt, OneFork}
-use Rattle.sc_graph.specs.Told.{told, told_in, TableTells}
-use Rattle.sc_graph.specs.Inside.Rows.{RowTells, RowsTell, ForksAre, SameFork}
+use Rattle.sc_graph.specs.Inside.Rows.{rows_say, row_says, TableSays, RowSays, RowsSay, ForksAre, SameFork}
 use Rattle.sc_graph.proofs.Tree.{part_here, never_root}
 use Rattle.sc_graph.proofs.Parting.{PartAlike, alike_at_first, alike_left, alike_right}
 use Rattle.sc_graph.proofs.Formed.{falls_upwards, within_threads, concurrent_within, concurrent_swapped, alike_concurrent, forks_apart, one_fork_apart, one_fork_known, one_fork_left, one_fork_right, parts}
@@ -69,27 +68,27 @@ alike_decide p formed t u v w same r answer = (
   λ x. answer.1 (alike_concurrent p formed t u v w same.up x),
 )
 
-row_at : (p : Program) (rows : List (List Bool)) (t v : ℕ) → RowsTell p rows t → v < t → RowTells p (unwrap_or (slice_get rows v) []) v (length p.threads)
-row_at p rows t v tell lt =
-    let within : v < length rows = omega (arith, tell.long) in
+row_at : (p : Program) (rows : List (List Bool)) (t v : ℕ) → RowsSay p rows t → v < t → RowSays p (unwrap_or (slice_get rows v) []) v (length p.threads)
+row_at p rows t v say lt =
+    let within : v < length rows = omega (arith, say.long) in
     let at : slice_get rows v ≡ Some (get_or rows v []) = slice_get-get_or rows v [] within in
     let e : unwrap_or (slice_get rows v) [] ≡ get_or rows v [] = ap (λ o. unwrap_or o []) at in
-    subst (λ (row : List Bool). RowTells p row v (length p.threads)) (sym e) (tell.tells v (get_or rows v []) at)
+    subst (λ (row : List Bool). RowSays p row v (length p.threads)) (sym e) (say.says v (get_or rows v []) at)
 
 -- by the row of the parent
-pub parent_decides : (p : Program) → IsFormed p → (rows : List (List Bool)) (t u q s : ℕ) → RowsTell p rows t → u < length p.threads → parent_of p t ≡ Some q → parent_of p u ≡ Some s → s < q → (r : Bool) → r ≡ told rows q u → Decides r (AreConcurrent p t u)
-parent_decides p formed rows t u q s tell within up other less r is =
+pub parent_decides : (p : Program) → IsFormed p → (rows : List (List Bool)) (t u q s : ℕ) → RowsSay p rows t → u < length p.threads → parent_of p t ≡ Some q → parent_of p u ≡ Some s → s < q → (r : Bool) → r ≡ rows_say rows q u → Decides r (AreConcurrent p t u)
+parent_decides p formed rows t u q s say within up other less r is =
     let lower : q < t = (falls_upwards p formed).falls t q up in
-    let row : RowTells p (unwrap_or (slice_get rows q) []) q (length p.threads) = row_at p rows t q tell lower in
-    let answer : Decides (told rows q u) (AreConcurrent p q u) = row.tells u within in
+    let row : RowSays p (unwrap_or (slice_get rows q) []) q (length p.threads) = row_at p rows t q say lower in
+    let answer : Decides (rows_say rows q u) (AreConcurrent p q u) = row.says u within in
     alike_decide p formed t u q u (alike_left p (falls_upwards p formed) t u t u q s up other less (alike_at_first p t u)) r
     (subst (λ (b : Bool). Decides b (AreConcurrent p q u)) (sym is) answer)
 
 -- by the same row, at the other's parent
-pub other_parent_decides : (p : Program) → IsFormed p → (row : List Bool) (t u q s : ℕ) → RowTells p row t u → parent_of p t ≡ Some q → parent_of p u ≡ Some s → q < s → (r : Bool) → r ≡ told_in row s → Decides r (AreConcurrent p t u)
-other_parent_decides p formed row t u q s tell up other less r is =
+pub other_parent_decides : (p : Program) → IsFormed p → (row : List Bool) (t u q s : ℕ) → RowSays p row t u → parent_of p t ≡ Some q → parent_of p u ≡ Some s → q < s → (r : Bool) → r ≡ row_says row s → Decides r (AreConcurrent p t u)
+other_parent_decides p formed row t u q s say up other less r is =
     let lower : s < u = (falls_upwards p formed).falls u s other in
-    let answer : Decides (told_in row s) (AreConcurrent p t s) = tell.tells s lower in
+    let answer : Decides (row_says row s) (AreConcurrent p t s) = say.says s lower in
     alike_decide p formed t u t s (alike_right p (falls_upwards p formed) t u t u q s up other less (alike_at_first p t u)) r
     (subst (λ (b : Bool). Decides b (AreConcurrent p t s)) (sym is) answer)
 
@@ -100,32 +99,32 @@ never_without_parent p formed t u root x = never_root p t u x.apart.left x.apart
 pub never_without_other : (p : Program) → IsFormed p → (t u : ℕ) → parent_of p u ≡ None → ¬ AreConcurrent p t u
 never_without_other p formed t u root x = never_without_parent p formed u t root (concurrent_swapped p t u x)
 
-told_before : (row : List Bool) (b : Bool) (v : ℕ) → v < length row → told_in (row ++ b ∷ []) v ≡ told_in row v
-told_before row b v lt = grind (arith, common_steps, gets)
+says_before : (row : List Bool) (b : Bool) (v : ℕ) → v < length row → row_says (row ++ b ∷ []) v ≡ row_says row v
+says_before row b v lt = grind (arith, common_steps, gets)
 
-told_last : (row : List Bool) (b : Bool) → told_in (row ++ b ∷ []) (length row) ≡ b
-told_last row b = grind (arith, common_steps, gets)
+says_last : (row : List Bool) (b : Bool) → row_says (row ++ b ∷ []) (length row) ≡ b
+says_last row b = grind (arith, common_steps, gets)
 
 -- one more cell of a row
-pub row_more : (p : Program) (row : List Bool) (t u : ℕ) (b : Bool) → RowTells p row t u → Decides b (AreConcurrent p t u) → RowTells p (row ++ b ∷ []) t (u + 1)
-row_more p row t u b tell answer = record {
-  long = omega (arith, length-append row (b ∷ []), tell.long);
-  tells = below_more (λ (v : ℕ). Decides (told_in (row ++ b ∷ []) v) (AreConcurrent p t v)) u
+pub row_more : (p : Program) (row : List Bool) (t u : ℕ) (b : Bool) → RowSays p row t u → Decides b (AreConcurrent p t u) → RowSays p (row ++ b ∷ []) t (u + 1)
+row_more p row t u b say answer = record {
+  long = omega (arith, length-append row (b ∷ []), say.long);
+  says = below_more (λ (v : ℕ). Decides (row_says (row ++ b ∷ []) v) (AreConcurrent p t v)) u
       (λ v lt.
-      let within : v < length row = omega (arith, tell.long) in
-      subst (λ (r : Bool). Decides r (AreConcurrent p t v)) (sym (told_before row b v within)) (tell.tells v lt))
-      (let last : told_in (row ++ b ∷ []) u ≡ b = subst (λ (n : ℕ). told_in (row ++ b ∷ []) n ≡ b) tell.long (told_last row b) in
+      let within : v < length row = omega (arith, say.long) in
+      subst (λ (r : Bool). Decides r (AreConcurrent p t v)) (sym (says_before row b v within)) (say.says v lt))
+      (let last : row_says (row ++ b ∷ []) u ≡ b = subst (λ (n : ℕ). row_says (row ++ b ∷ []) n ≡ b) say.long (says_last row b) in
       subst (λ (r : Bool). Decides r (AreConcurrent p t u)) (sym last) answer);
 }
 
-row_tells_all : (p : Program) → IsFormed p → (row : List Bool) (t : ℕ) → RowTells p row t (length p.threads) → (u : ℕ) → Decides (told_in row u) (AreConcurrent p t u)
-row_tells_all p formed row t tell u =
+row_says_all : (p : Program) → IsFormed p → (row : List Bool) (t : ℕ) → RowSays p row t (length p.threads) → (u : ℕ) → Decides (row_says row u) (AreConcurrent p t u)
+row_says_all p formed row t say u =
     elim (cases_lt u (length p.threads)) [
-      | inl lt ↦ tell.tells u lt
+      | inl lt ↦ say.says u lt
       | inr past ↦
-          let le : length row ≤ u = omega (arith, tell.long) in
+          let le : length row ≤ u = omega (arith, say.long) in
           let none : slice_get row u ≡ None = slice_get_past row u le in
-          let e : told_in row u ≡ false = ap (λ o. unwrap_or o false) none in (
+          let e : row_says row u ≡ false = ap (λ o. unwrap_or o false) none in (
             λ yes. cc (yes, e),
             λ x.
                 let lt : u < length p.threads = concurrent_within p formed u t (concurrent_swapped p t u x) in
@@ -134,14 +133,14 @@ row_tells_all p formed row t tell u =
     ]
 
 -- all rows make the table
-pub table_tells : (p : Program) → IsFormed p → (rows : List (List Bool)) (n : ℕ) → length p.threads ≤ n → RowsTell p rows n → TableTells p rows
-table_tells p formed rows n all tell = record {
-  tells = λ t u. elim (cases_lt t n) [
-    | inl lt ↦ row_tells_all p formed (unwrap_or (slice_get rows t) []) t (row_at p rows n t tell lt) u
+pub table_says : (p : Program) → IsFormed p → (rows : List (List Bool)) (n : ℕ) → length p.threads ≤ n → RowsSay p rows n → TableSays p rows
+table_says p formed rows n all say = record {
+  says = λ t u. elim (cases_lt t n) [
+    | inl lt ↦ row_says_all p formed (unwrap_or (slice_get rows t) []) t (row_at p rows n t say lt) u
     | inr past ↦
-        let le : length rows ≤ t = omega (arith, tell.long) in
+        let le : length rows ≤ t = omega (arith, say.long) in
         let none : slice_get rows t ≡ None = slice_get_past rows t le in
-        let e : told rows t u ≡ false = ap (λ o. told_in (unwrap_or o []) u) none in (
+        let e : rows_say rows t u ≡ false = ap (λ o. row_says (unwrap_or o []) u) none in (
           λ yes. cc (yes, e),
           λ x.
               let lt : t < length p.threads = concurrent_within p formed t u x in

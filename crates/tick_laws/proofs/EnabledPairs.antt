@@ -1,4 +1,4 @@
--- What the rules of pairs of nodes say of two threads that are forked apart, and so of two ready ones:
+-- What the rules of pairs of nodes say of two threads that are forked apart, and so of two enabled ones:
 -- they don't clash, and priority falls where one must come before the other.
 use Rattle.std.proofs.Common.{◌≡◌, ◌≢◌, ℕ, ◌<◌, Some, sym, ap, subst, subst₂, ◌∙◌, ⊎_elim}
 use Rattle.std.proofs.lemmas.Option.{same_Some}
@@ -15,13 +15,13 @@ use Rattle.sc_graph.specs.Control.{status_of, access_at}
 use Rattle.sc_graph.specs.Tick.{IsConfiguration}
 use Rattle.sc_graph.specs.Valid.{IsValid}
 use Rattle.tick_laws.proofs.Formed.{valid_formed}
-use Rattle.tick_laws.proofs.Kin.{apart_turned, ready_meet}
+use Rattle.tick_laws.proofs.Kin.{apart_turned, enabled_meet}
 use Rattle.tick_laws.proofs.Tree.{not_self_apart}
 use Rattle.tick_laws.proofs.Diamond.{clash_turned}
-use Rattle.tick_laws.proofs.Views.{Ready, stands, completes}
+use Rattle.tick_laws.proofs.Views.{Enabled, stands, completes}
 use Rattle.tick_laws.proofs.Sound.{node_owned, waits_owned}
 
--- the node from which a ready thread steps: its own, or the join at which it waits
+-- the node from which a enabled thread steps: its own, or the join at which it waits
 pub record StepsFrom (p : Program) (q : Tables) (c : Control) (t : ℕ) : Type 0 where
   pub node : ℕ
   pub owned : owner_of p node ≡ Some t
@@ -55,25 +55,25 @@ module _ (p : Program) (q : Tables) (valid : IsValid p q) where
   edge_falls m n t u a of_m of_n apart precedes = valid.protocol (place.Pair m n) (record { concurrent = nodes_apart m n t u a of_m of_n apart; precedes = precedes })
 
   module _ (c : Control) (ok : IsConfiguration p c) where
-    pub steps_from : (t : ℕ) → Ready p c t → StepsFrom p q c t
+    pub steps_from : (t : ℕ) → Enabled p c t → StepsFrom p q c t
     steps_from t (stands n at) = record { node = n; owned = node_owned p (valid_formed p q valid) c ok t n at; access = ap (access_at p) at; priority = ap (priority_of q) at }
     steps_from t (completes h) = record { node = h.join; owned = waits_owned p (valid_formed p q valid) c ok t h.join h.at; access = ap (access_at p) h.at; priority = ap (priority_of q) h.at }
 
-    meet : (t u : ℕ) → t ≢ u → Ready p c t → Ready p c u → (a : ℕ) × ForkedApart p t u a
-    meet t u ne r s = ready_meet p (valid_formed p q valid) c ok t u r s ne
+    meet : (t u : ℕ) → t ≢ u → Enabled p c t → Enabled p c u → (a : ℕ) × ForkedApart p t u a
+    meet t u ne r s = enabled_meet p (valid_formed p q valid) c ok t u r s ne
 
-    -- the steps of two ready threads don't clash
-    pub ready_no_clash : (t u : ℕ) → t ≢ u → Ready p c t → Ready p c u → ¬ Clash (access_at p (status_of c t)) (access_at p (status_of c u))
-    ready_no_clash t u ne r s clash =
+    -- the steps of two enabled threads don't clash
+    pub enabled_no_clash : (t u : ℕ) → t ≢ u → Enabled p c t → Enabled p c u → ¬ Clash (access_at p (status_of c t)) (access_at p (status_of c u))
+    enabled_no_clash t u ne r s clash =
         let from = steps_from t r in
         let to = steps_from u s in
         let m = meet t u ne r s in
         no_clash from.node to.node t u m.0 from.owned to.owned m.1 (subst₂ Clash from.access to.access clash)
 
     -- and priority falls strictly from the one that must come before
-    pub ready_edge_falls : (t u : ℕ) → t ≢ u → Ready p c t → Ready p c u → Precedes (access_at p (status_of c t)) (access_at p (status_of c u)) →
+    pub enabled_edge_falls : (t u : ℕ) → t ≢ u → Enabled p c t → Enabled p c u → Precedes (access_at p (status_of c t)) (access_at p (status_of c u)) →
         priority_of q (status_of c u) < priority_of q (status_of c t)
-    ready_edge_falls t u ne r s precedes =
+    enabled_edge_falls t u ne r s precedes =
         let from = steps_from t r in
         let to = steps_from u s in
         let m = meet t u ne r s in

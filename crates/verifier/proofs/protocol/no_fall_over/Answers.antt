@@ -1,24 +1,24 @@
 use Rattle.sc_graph.specs.Protocol.{ProtocolAt}
-use Rattle.verifier.specs.Inside.Pairs.{AllFall, FallsOn, RisesBetween}
+use Rattle.verifier.specs.Inside.Pairs.{AllFall, FallsOn, NoFallBetween}
 use Rattle.verifier.proofs.Answer.{answer_turned}
 use Rattle.verifier.proofs.Ordering.{falls_on, init_update_breaks, init_read_breaks, update_read_breaks}
-use Rattle.verifier.proofs.protocol.rise_over.Goals as goal
+use Rattle.verifier.proofs.protocol.no_fall_over.Goals as goal
 
 pub returns-in-Some : goal.returns-in-Some
 returns-in-Some c = init_update_breaks c.args.program.now c.args.tables.now c.args.x c.args.inits.now c.args.updates.now c.requires.inits c.requires.updates c.in-Some.place c.in-Some.ensures
 
-pub returns-in-Some-rise_between : goal.returns-in-Some-rise_between
-returns-in-Some-rise_between c = init_read_breaks c.args.program.now c.args.tables.now c.args.x c.args.inits.now c.args.reads.now c.requires.inits c.requires.reads c.in-Some-rise_between.place c.in-Some-rise_between.ensures
+pub returns-in-Some-no_fall_between : goal.returns-in-Some-no_fall_between
+returns-in-Some-no_fall_between c = init_read_breaks c.args.program.now c.args.tables.now c.args.x c.args.inits.now c.args.reads.now c.requires.inits c.requires.reads c.in-Some-no_fall_between.place c.in-Some-no_fall_between.ensures
 
 pub returns : goal.returns
 returns c =
     let p = c.args.program.now in
     let q = c.args.tables.now in
-    answer_turned c.rise_between-3.result
+    answer_turned c.no_fall_between-3.result
     (AllFall p q c.args.updates.now c.args.reads.now)
     (FallsOn p q c.args.x)
-    (RisesBetween p q c.args.updates.now c.args.reads.now)
+    (NoFallBetween p q c.args.updates.now c.args.reads.now)
     (λ at. ¬ ProtocolAt p q at)
-    (λ h. falls_on p q c.args.x c.args.inits.now c.args.updates.now c.args.reads.now c.requires.inits c.requires.updates c.requires.reads c.in_default.ensures c.in_default-rise_between.ensures h)
+    (λ h. falls_on p q c.args.x c.args.inits.now c.args.updates.now c.args.reads.now c.requires.inits c.requires.updates c.requires.reads c.in_default.ensures c.in_default-no_fall_between.ensures h)
     (λ at r. update_read_breaks p q c.args.x c.args.updates.now c.args.reads.now c.requires.updates c.requires.reads at r)
-    c.rise_between-3.ensures
+    c.no_fall_between-3.ensures

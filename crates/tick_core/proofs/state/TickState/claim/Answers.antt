@@ -1,0 +1,6 @@
+use Rattle.std.proofs.Common.{rules}
+use Rattle.tick_core.specs.declared.state.Turn.TheVariants as turn
+use Rattle.tick_core.proofs.state.TickState.claim.Goals as goal
+
+pub returns-clause-happens : goal.returns-clause-happens
+returns-clause-happens c = (c.requires, (turn.Claim c.new_claim-claim.result, search rules))

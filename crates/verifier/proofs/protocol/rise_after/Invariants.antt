@@ -1,6 +1,0 @@
-use Rattle.std.proofs.Common.{ℕ, ◌<◌, get_or}
-use Rattle.verifier.specs.Inside.Pairs.{IsRise}
-use Rattle.verifier.proofs.protocol.rise_after.Given as goal
-
-abbrev pub invariant-loop-n : goal.invariant-loop-n
-invariant-loop-n l = (k : ℕ) → k < l.n-index → ¬ IsRise l.program l.tables l.m (get_or l.seconds k 0)

@@ -1,7 +1,0 @@
-use Rattle.std.proofs.Common.{ℕ, ◌<◌, get_or}
-use Rattle.std.specs.Prelude.{Contains}
-use Rattle.verifier.specs.Inside.Pairs.{IsRise}
-use Rattle.verifier.proofs.protocol.rise_between.Given as goal
-
-abbrev pub invariant-loop-m : goal.invariant-loop-m
-invariant-loop-m l = (k : ℕ) → k < l.m-index → (n : ℕ) → Contains l.seconds n → ¬ IsRise l.program l.tables (get_or l.firsts k 0) n
