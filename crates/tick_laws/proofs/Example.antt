@@ -1,7 +1,9 @@
--- The law is not empty: a program with a fork, of which one child updates a variable that the other reads,
--- with tables that make it valid.
-use Rattle.std.proofs.Common.{◌≡◌, ◌≢◌, ℕ, zero, suc, ◌+◌, ◌≤◌, ◌<◌, true, Option, Some, None, List, [], ◌∷◌, length, take, get_or, slice_get, option_and_then, Contains, refl, ap, subst, sym, ◌∙◌, ⊎_elim, arith, pos}
+-- The law is not empty: a program that forks two threads in each tick, of which one updates a variable that
+-- the other reads, and then pauses, with tables that make it valid.
+use Rattle.std.proofs.Common.{◌≡◌, ◌≢◌, ℕ, zero, suc, ◌+◌, ◌≤◌, ◌<◌, true, false, Option, Some, None, List, [], ◌∷◌, length, take, get_or, slice_get, option_and_then, option_map, Contains, refl, ap, subst, sym, ◌∙◌, ⊎_elim, arith, ℤ, pos}
 use Rattle.std.proofs.lemmas.Option.{none-some, same_Some}
+use Rattle.std.proofs.lemmas.Int.{int_wrap_fits, fits_signed_from_abs}
+use Rattle.std.specs.Int.{w32}
 use Rattle.std.proofs.lemmas.List.Elements.{All-nil, All-cons}
 use Rattle.sc_values.specs.declared.value.Kind.TheVariants as kind_is
 use Rattle.sc_values.specs.declared.value.Value.{Value}
@@ -15,20 +17,25 @@ use Rattle.sc_values.specs.declared.expression.Expr.TheOpen as tree
 use Rattle.sc_values.specs.declared.expression.Expr.TheViews.{roll-Expr}
 use Rattle.sc_values.specs.Access.{Update, Init, Precedes, init_update, init_read, update_read, Clash, two_inits, two_updates}
 use Rattle.sc_values.specs.Operator.{kind_of}
+use Rattle.sc_values.specs.Runs.{replay}
 use Rattle.sc_values.specs.Code.{IsWellFormed, grown, trees}
-use Rattle.sc_values.proofs.Induction.{postorder-literal, postorder-load, kind-literal, kind-load}
+use Rattle.sc_values.proofs.Induction.{postorder-literal, postorder-load, kind-literal, kind-load, value-literal, value-load}
 use Rattle.sc_graph.specs.declared.program.Variable.{Variable}
 use Rattle.sc_graph.specs.declared.program.Role.TheVariants as role
 use Rattle.sc_graph.specs.declared.program.Thread.{Thread}
 use Rattle.sc_graph.specs.declared.program.Node.{Node}
 use Rattle.sc_graph.specs.declared.program.Step.{Step}
 use Rattle.sc_graph.specs.declared.program.Step.TheVariants as step
+use Rattle.sc_graph.specs.declared.control.Control.{Control}
+use Rattle.sc_graph.specs.declared.control.Status.{Status}
 use Rattle.sc_graph.specs.declared.control.Status.TheVariants as status
 use Rattle.sc_graph.specs.declared.tables.Tables.{Tables}
 use Rattle.sc_graph.specs.declared.place.Place.{Place}
 use Rattle.sc_graph.specs.declared.place.Place.TheVariants as place
 use Rattle.sc_graph.specs.Program.{Program, step_at, kind_at, owner_of, parent_of, kinds}
 use Rattle.sc_graph.specs.Accesses.{accesses}
+use Rattle.sc_graph.specs.Machine.{machine}
+use Rattle.sc_graph.specs.Steps.{after, assigned, updated, step as step_of}
 use Rattle.sc_graph.specs.Threads.{Descends}
 use Rattle.sc_graph.specs.Tables.{priority, weight, end_bit, bound}
 use Rattle.sc_graph.specs.Control.{status_of}
@@ -43,7 +50,7 @@ use Rattle.tick_laws.specs.OneEnd.{OneEnd}
 use Rattle.tick_laws.proofs.Final.{one_end_of_tick}
 use Rattle.tick_laws.proofs.Lists.{contains_none, contains_cons, map_some}
 
--- the root forks two threads: one adds 1 to x, the other sets y to x
+-- again and again the root forks two threads, of which one adds 1 to x and the other sets y to x, and pauses
 abbrev pub example : Program
 example =
     record {
@@ -51,14 +58,15 @@ example =
           record { name = 120 ∷ []; kind = kind_is.Int; role = role.Output }
           ∷ record { name = 121 ∷ []; kind = kind_is.Int; role = role.Output } ∷ [];
       threads =
-          record { parent = None; entry = 0 } ∷ record { parent = Some 0; entry = 3 } ∷ record { parent = Some 0; entry = 5 } ∷ [];
+          record { parent = None; entry = 0 } ∷ record { parent = Some 0; entry = 4 } ∷ record { parent = Some 0; entry = 6 } ∷ [];
       nodes =
           record { owner = 0; step = step.Fork (1 ∷ 2 ∷ []) 1 }
           ∷ record { owner = 0; step = step.Join 2 }
-          ∷ record { owner = 0; step = step.Exit }
-          ∷ record { owner = 1; step = step.Update 0 combine.Add (op.Literal (value_is.Int (pos 1)) ∷ []) 4 }
+          ∷ record { owner = 0; step = step.Surf 3 }
+          ∷ record { owner = 0; step = step.Depth 0 }
+          ∷ record { owner = 1; step = step.Update 0 combine.Add (op.Literal (value_is.Int (pos 1)) ∷ []) 5 }
           ∷ record { owner = 1; step = step.Exit }
-          ∷ record { owner = 2; step = step.Assign 1 (op.Load 0 ∷ []) 6 }
+          ∷ record { owner = 2; step = step.Assign 1 (op.Load 0 ∷ []) 7 }
           ∷ record { owner = 2; step = step.Exit } ∷ [];
     }
 
@@ -66,11 +74,11 @@ example =
 abbrev pub example_tables : Tables
 example_tables =
     record {
-      priorities = 1 ∷ 0 ∷ 0 ∷ 1 ∷ 0 ∷ 0 ∷ 0 ∷ [];
-      weights = 7 ∷ 2 ∷ 1 ∷ 2 ∷ 1 ∷ 2 ∷ 1 ∷ [];
-      end_bits = true ∷ true ∷ true ∷ true ∷ true ∷ true ∷ true ∷ [];
-      bounds = 2 ∷ 0 ∷ 0 ∷ [];
-      budget = 7;
+      priorities = 1 ∷ 0 ∷ 0 ∷ 1 ∷ 1 ∷ 0 ∷ 0 ∷ 0 ∷ [];
+      weights = 7 ∷ 2 ∷ 1 ∷ 8 ∷ 2 ∷ 1 ∷ 2 ∷ 1 ∷ [];
+      end_bits = false ∷ false ∷ false ∷ false ∷ true ∷ true ∷ true ∷ true ∷ [];
+      bounds = 8 ∷ 0 ∷ 0 ∷ [];
+      budget = 8;
     }
 
 -- a fact of each element, with its number
@@ -90,12 +98,12 @@ each_step P h n s e =
 
 -- needed weights and end bits
 example_weights : (n : ℕ) (s : Step) → step_at example n ≡ Some s → needed_weight example example_tables s ≤ weight example_tables n
-example_weights = each_step (λ n s. needed_weight example example_tables s ≤ weight example_tables n) (omega arith, (omega arith, (omega arith, (omega arith, (omega arith, (omega arith, (omega arith, tt)))))))
+example_weights = each_step (λ n s. needed_weight example example_tables s ≤ weight example_tables n) (omega arith, (omega arith, (omega arith, (omega arith, (omega arith, (omega arith, (omega arith, (omega arith, tt))))))))
 
 example_end_bits : (n : ℕ) (s : Step) → step_at example n ≡ Some s → may_end example example_tables s ≡ true → end_bit example_tables n ≡ true
-example_end_bits = each_step (λ n s. may_end example example_tables s ≡ true → end_bit example_tables n ≡ true) (λ _. refl, (λ _. refl, (λ _. refl, (λ _. refl, (λ _. refl, (λ _. refl, (λ _. refl, tt)))))))
+example_end_bits = each_step (λ n s. may_end example example_tables s ≡ true → end_bit example_tables n ≡ true) (λ none. none, (λ none. none, (λ none. none, (λ none. none, (λ _. refl, (λ _. refl, (λ _. refl, (λ _. refl, tt))))))))
 
--- who forks, who joins, and that nobody pauses
+-- who forks, who joins, and where the pause is
 record IsTheFork (n : ℕ) (children : List ℕ) (j : ℕ) : Type 0 where
   node : n ≡ 0
   forked : children ≡ 1 ∷ 2 ∷ []
@@ -104,17 +112,23 @@ record IsTheFork (n : ℕ) (children : List ℕ) (j : ℕ) : Type 0 where
 the_fork : (n : ℕ) (children : List ℕ) (j : ℕ) → step_at example n ≡ Some (step.Fork children j) → IsTheFork n children j
 the_fork n children j h =
     each_step (λ n s. (children : List ℕ) (j : ℕ) → s ≡ step.Fork children j → IsTheFork n children j)
-    (here, (λ ks j e. absurd (cc), (λ ks j e. absurd (cc), (λ ks j e. absurd (cc), (λ ks j e. absurd (cc), (λ ks j e. absurd (cc), (λ ks j e. absurd (cc), tt)))))))
+    (here, (λ ks j e. absurd (cc), (λ ks j e. absurd (cc), (λ ks j e. absurd (cc), (λ ks j e. absurd (cc), (λ ks j e. absurd (cc), (λ ks j e. absurd (cc), (λ ks j e. absurd (cc), tt))))))))
     n (step.Fork children j) h children j refl
   where
     here : (children : List ℕ) (j : ℕ) → step.Fork (1 ∷ 2 ∷ []) 1 ≡ step.Fork children j → IsTheFork 0 children j
     here children j e = record { node = refl; forked = cc; join = cc }
 
-no_depth : (n m : ℕ) → step_at example n ≡ Some (step.Depth m) → ⊥
-no_depth n m h =
-    each_step (λ n s. (m : ℕ) → s ≡ step.Depth m → ⊥)
-    (λ m e. cc, (λ m e. cc, (λ m e. cc, (λ m e. cc, (λ m e. cc, (λ m e. cc, (λ m e. cc, tt)))))))
+the_depth : (n m : ℕ) → step_at example n ≡ Some (step.Depth m) → n ≡ 3
+the_depth n m h =
+    each_step (λ n s. (m : ℕ) → s ≡ step.Depth m → n ≡ 3)
+    (λ m e. absurd (cc), (λ m e. absurd (cc), (λ m e. absurd (cc), (λ m e. refl, (λ m e. absurd (cc), (λ m e. absurd (cc), (λ m e. absurd (cc), (λ m e. absurd (cc), tt))))))))
     n (step.Depth m) h m refl
+
+the_pause : (n : ℕ) → step_at example n ≡ Some (step.Surf 3) → n ≡ 2
+the_pause n h =
+    each_step (λ n s. s ≡ step.Surf 3 → n ≡ 2)
+    (λ e. absurd (cc), (λ e. absurd (cc), (λ e. refl, (λ e. absurd (cc), (λ e. absurd (cc), (λ e. absurd (cc), (λ e. absurd (cc), (λ e. absurd (cc), tt))))))))
+    n (step.Surf 3) h refl
 
 -- size and range
 root_has_none : (n u : ℕ) → Descends example (suc n) 0 u → ⊥
@@ -161,25 +175,7 @@ children_fit =
 
 example_nodes : (n : ℕ) (a : Node) → slice_get example.nodes n ≡ Some a → NodeFits example a
 example_nodes =
-    each (λ n. NodeFits example) example.nodes (
-      record { owner = omega arith; fits = (children_fit, omega arith) },
-      (
-        record { owner = omega arith; fits = omega arith },
-        (
-          record { owner = omega arith; fits = tt },
-          (
-            record { owner = omega arith; fits = (omega arith, All-nil (λ x. x < 2), omega arith) },
-            (
-              record { owner = omega arith; fits = tt },
-              (
-                record { owner = omega arith; fits = (omega arith, All-cons (λ x. x < 2) 0 [] (omega arith) (All-nil (λ x. x < 2)), omega arith) },
-                (record { owner = omega arith; fits = tt }, tt),
-              ),
-            ),
-          ),
-        ),
-      ),
-    )
+    each (λ n. NodeFits example) example.nodes (record { owner = omega arith; fits = (children_fit, omega arith) }, (record { owner = omega arith; fits = omega arith }, (record { owner = omega arith; fits = omega arith }, (record { owner = omega arith; fits = omega arith }, (record { owner = omega arith; fits = (omega arith, All-nil (λ x. x < 2), omega arith) }, (record { owner = omega arith; fits = tt }, (record { owner = omega arith; fits = (omega arith, All-cons (λ x. x < 2) 0 [] (omega arith) (All-nil (λ x. x < 2)), omega arith) }, (record { owner = omega arith; fits = tt }, tt))))))))
 
 example_size : (at : Place) → SizeAt example example_tables at
 example_size place.Image = (record { variables = omega arith; some_thread = omega arith; threads = omega arith; some_node = omega arith; nodes = omega arith }, omega arith)
@@ -211,27 +207,12 @@ example_joins : ExactlyOne (JoinsAt example 1)
 example_joins =
     record { one = 0; is = record { children = 1 ∷ 2 ∷ []; forks = refl }; alone = λ n f. (the_fork n f.children 1 f.forks).node }
 
+example_pauses : ExactlyOne (λ m. step_at example m ≡ Some (step.Surf 3))
+example_pauses = record { one = 2; is = refl; alone = the_pause }
+
 example_nodes_stand : (n : ℕ) (a : Node) → slice_get example.nodes n ≡ Some a → NodeStands example n a
 example_nodes_stand =
-    each (NodeStands example) example.nodes (
-      record { stays = (refl, All-cons (λ k. parent_of example k ≡ Some 0) 1 (2 ∷ []) refl (All-cons (λ k. parent_of example k ≡ Some 0) 2 [] refl (All-nil (λ k. parent_of example k ≡ Some 0)))); belongs = tt },
-      (
-        record { stays = refl; belongs = example_joins },
-        (
-          record { stays = tt; belongs = tt },
-          (
-            record { stays = refl; belongs = tt },
-            (
-              record { stays = tt; belongs = tt },
-              (
-                record { stays = refl; belongs = tt },
-                (record { stays = tt; belongs = tt }, tt),
-              ),
-            ),
-          ),
-        ),
-      ),
-    )
+    each (NodeStands example) example.nodes (record { stays = (refl, All-cons (λ k. parent_of example k ≡ Some 0) 1 (2 ∷ []) refl (All-cons (λ k. parent_of example k ≡ Some 0) 2 [] refl (All-nil (λ k. parent_of example k ≡ Some 0)))); belongs = tt }, (record { stays = refl; belongs = example_joins }, (record { stays = refl; belongs = tt }, (record { stays = refl; belongs = example_pauses }, (record { stays = refl; belongs = tt }, (record { stays = tt; belongs = tt }, (record { stays = refl; belongs = tt }, (record { stays = tt; belongs = tt }, tt))))))))
 
 example_structure : (at : Place) → StructureAt example at
 example_structure place.Image = tt
@@ -267,23 +248,11 @@ load_formed =
     }
 
 example_codes : (n : ℕ) (s : Step) → step_at example n ≡ Some s → StepIsWellFormed example s
-example_codes = each_step (λ n s. StepIsWellFormed example s) (tt, (tt, (tt, (literal_formed, (tt, (load_formed, (tt, tt)))))))
+example_codes = each_step (λ n s. StepIsWellFormed example s) (tt, (tt, (tt, (tt, (literal_formed, (tt, (load_formed, (tt, tt))))))))
 
 example_writes : (n : ℕ) (s : Step) → step_at example n ≡ Some s → StepIsAssigned example s
 example_writes =
-    each_step (λ n s. StepIsAssigned example s) (
-      tt,
-      (
-        tt,
-        (
-          tt,
-          (
-            (record { gives = kind_is.Int; code_gives = kind-literal (value_is.Int (pos 1)) (kinds example); variable_takes = refl; no_input = λ e. cc }, refl, λ h. contains_none 0 h),
-            (tt, (record { gives = kind_is.Int; code_gives = kind-load 0 (kinds example); variable_takes = refl; no_input = λ e. cc }, (tt, tt))),
-          ),
-        ),
-      ),
-    )
+    each_step (λ n s. StepIsAssigned example s) (tt, (tt, (tt, (tt, ((record { gives = kind_is.Int; code_gives = kind-literal (value_is.Int (pos 1)) (kinds example); variable_takes = refl; no_input = λ e. cc }, refl, λ h. contains_none 0 h), (tt, (record { gives = kind_is.Int; code_gives = kind-load 0 (kinds example); variable_takes = refl; no_input = λ e. cc }, (tt, tt))))))))
 
 example_code : (at : Place) → CodeAt example at
 example_code place.Image = tt
@@ -301,8 +270,13 @@ example_assignment (place.Pair m n) = tt
 
 -- costs
 example_bounds : (t : ℕ) → BoundHolds example example_tables t
-example_bounds t = record { depths = λ d m owned at. absurd (no_depth d m at); joins = λ n j ks owned at. covered n j ks owned (the_fork n ks j at) }
+example_bounds t = record { depths = λ d m owned at. woken d owned (the_depth d m at); joins = λ n j ks owned at. covered n j ks owned (the_fork n ks j at) }
   where
+    woken : (d : ℕ) → owner_of example d ≡ Some t → d ≡ 3 → weight example_tables d ≤ bound example_tables t
+    woken d owned is =
+        let root : 0 ≡ t = same_Some 0 t (ap (owner_of example) (sym is) ∙ owned) in
+        omega (arith, ap (weight example_tables) is, ap (bound example_tables) root)
+
     covered : (n j : ℕ) (ks : List ℕ) → owner_of example j ≡ Some t → IsTheFork n ks j → weight example_tables j + child_bounds example_tables ks ≤ bound example_tables t
     covered n j ks owned f =
         let root : 0 ≡ t = same_Some 0 t (ap (owner_of example) (sym f.join) ∙ owned) in
@@ -338,32 +312,15 @@ highest (suc (suc (suc zero))) = omega arith
 highest (suc (suc (suc (suc zero)))) = omega arith
 highest (suc (suc (suc (suc (suc zero))))) = omega arith
 highest (suc (suc (suc (suc (suc (suc zero)))))) = omega arith
-highest (suc (suc (suc (suc (suc (suc (suc n))))))) = omega arith
+highest (suc (suc (suc (suc (suc (suc (suc zero))))))) = omega arith
+highest (suc (suc (suc (suc (suc (suc (suc (suc n)))))))) = omega arith
 
 low_next : (x n top : ℕ) → Contains (x ∷ []) n → priority example_tables x ≤ top → priority example_tables n ≤ top
 low_next x n top h le = ⊎_elim (λ e. subst (λ m. priority example_tables m ≤ top) e le) (λ none. absurd (contains_none n none)) (contains_cons x n [] h)
 
 example_successors : (m : ℕ) (s : Step) → step_at example m ≡ Some s → (n : ℕ) → Contains (successors s) n → priority example_tables n ≤ priority example_tables m
 example_successors =
-    each_step (λ m s. (n : ℕ) → Contains (successors s) n → priority example_tables n ≤ priority example_tables m) (
-      λ n h. absurd (contains_none n h),
-      (
-        λ n h. low_next 2 n 0 h (omega arith),
-        (
-          λ n h. absurd (contains_none n h),
-          (
-            λ n h. low_next 4 n 1 h (omega arith),
-            (
-              λ n h. absurd (contains_none n h),
-              (
-                λ n h. low_next 6 n 0 h (omega arith),
-                (λ n h. absurd (contains_none n h), tt),
-              ),
-            ),
-          ),
-        ),
-      ),
-    )
+    each_step (λ m s. (n : ℕ) → Contains (successors s) n → priority example_tables n ≤ priority example_tables m) (λ n h. absurd (contains_none n h), (λ n h. low_next 2 n 0 h (omega arith), (λ n h. absurd (contains_none n h), (λ n h. low_next 0 n 1 h (omega arith), (λ n h. low_next 5 n 1 h (omega arith), (λ n h. absurd (contains_none n h), (λ n h. low_next 7 n 0 h (omega arith), (λ n h. absurd (contains_none n h), tt))))))))
 
 example_falls : (m n : ℕ) → Instant example m n → priority example_tables n ≤ priority example_tables m
 example_falls m n (by_successor s at h) = example_successors m s at n h
@@ -371,35 +328,38 @@ example_falls m n (by_entry t children j k fork child entry) = omega (arith, hig
 example_falls m n (by_exit f t children k fork child owned exit) = omega (arith, ap (priority example_tables) (the_fork f children n fork.forks).join)
 
 -- accesses
-updates_at : (m x : ℕ) (f : Combination) → (accesses example m).writes ≡ Update x f → (m ≡ 3) × (x ≡ 0) × (f ≡ combine.Add)
+updates_at : (m x : ℕ) (f : Combination) → (accesses example m).writes ≡ Update x f → (m ≡ 4) × (x ≡ 0) × (f ≡ combine.Add)
 updates_at zero x f h = absurd (cc)
 updates_at (suc zero) x f h = absurd (cc)
 updates_at (suc (suc zero)) x f h = absurd (cc)
-updates_at (suc (suc (suc zero))) x f h = (refl, cc, cc)
-updates_at (suc (suc (suc (suc zero)))) x f h = absurd (cc)
+updates_at (suc (suc (suc zero))) x f h = absurd (cc)
+updates_at (suc (suc (suc (suc zero)))) x f h = (refl, cc, cc)
 updates_at (suc (suc (suc (suc (suc zero))))) x f h = absurd (cc)
 updates_at (suc (suc (suc (suc (suc (suc zero)))))) x f h = absurd (cc)
-updates_at (suc (suc (suc (suc (suc (suc (suc m))))))) x f h = absurd (cc)
+updates_at (suc (suc (suc (suc (suc (suc (suc zero))))))) x f h = absurd (cc)
+updates_at (suc (suc (suc (suc (suc (suc (suc (suc m)))))))) x f h = absurd (cc)
 
-inits_at : (m x : ℕ) (literal : Option Value) → (accesses example m).writes ≡ Init x literal → (m ≡ 5) × (x ≡ 1)
+inits_at : (m x : ℕ) (literal : Option Value) → (accesses example m).writes ≡ Init x literal → (m ≡ 6) × (x ≡ 1)
 inits_at zero x literal h = absurd (cc)
 inits_at (suc zero) x literal h = absurd (cc)
 inits_at (suc (suc zero)) x literal h = absurd (cc)
 inits_at (suc (suc (suc zero))) x literal h = absurd (cc)
 inits_at (suc (suc (suc (suc zero)))) x literal h = absurd (cc)
-inits_at (suc (suc (suc (suc (suc zero))))) x literal h = (refl, cc)
-inits_at (suc (suc (suc (suc (suc (suc zero)))))) x literal h = absurd (cc)
-inits_at (suc (suc (suc (suc (suc (suc (suc m))))))) x literal h = absurd (cc)
+inits_at (suc (suc (suc (suc (suc zero))))) x literal h = absurd (cc)
+inits_at (suc (suc (suc (suc (suc (suc zero)))))) x literal h = (refl, cc)
+inits_at (suc (suc (suc (suc (suc (suc (suc zero))))))) x literal h = absurd (cc)
+inits_at (suc (suc (suc (suc (suc (suc (suc (suc m)))))))) x literal h = absurd (cc)
 
-reads_at : (m x : ℕ) → Contains (accesses example m).reads x → (m ≡ 5) × (x ≡ 0)
+reads_at : (m x : ℕ) → Contains (accesses example m).reads x → (m ≡ 6) × (x ≡ 0)
 reads_at zero x h = absurd (contains_none x h)
 reads_at (suc zero) x h = absurd (contains_none x h)
 reads_at (suc (suc zero)) x h = absurd (contains_none x h)
 reads_at (suc (suc (suc zero))) x h = absurd (contains_none x h)
 reads_at (suc (suc (suc (suc zero)))) x h = absurd (contains_none x h)
-reads_at (suc (suc (suc (suc (suc zero))))) x h = (refl, ⊎_elim (λ e. sym e) (λ none. absurd (contains_none x none)) (contains_cons 0 x [] h))
-reads_at (suc (suc (suc (suc (suc (suc zero)))))) x h = absurd (contains_none x h)
-reads_at (suc (suc (suc (suc (suc (suc (suc m))))))) x h = absurd (contains_none x h)
+reads_at (suc (suc (suc (suc (suc zero))))) x h = absurd (contains_none x h)
+reads_at (suc (suc (suc (suc (suc (suc zero)))))) x h = (refl, ⊎_elim (λ e. sym e) (λ none. absurd (contains_none x none)) (contains_cons 0 x [] h))
+reads_at (suc (suc (suc (suc (suc (suc (suc zero))))))) x h = absurd (contains_none x h)
+reads_at (suc (suc (suc (suc (suc (suc (suc (suc m)))))))) x h = absurd (contains_none x h)
 
 example_precedes : (m n : ℕ) → Precedes (accesses example m) (accesses example n) → priority example_tables n < priority example_tables m
 example_precedes m n (init_update x f i u) = absurd (omega (arith, (inits_at m x i.0 i.1).1, (updates_at n x f u).1))
@@ -484,3 +444,81 @@ example_accepts = record { named = λ i name v h. absurd (none-some (name, v) h)
 -- the law speaks of this program's first tick
 pub example_has_one_end : OneEnd example example_tables (start example [] (initial example))
 example_has_one_end = one_end_of_tick example example_tables (initial example) [] example_valid example_rests example_accepts
+
+-- a configuration in which the root is paused
+abbrev pub example_paused : Control
+example_paused =
+    record { variables = value_is.Int (pos 1) ∷ value_is.Int (pos 1) ∷ []; statuses = status.Paused 3 ∷ status.Absent ∷ status.Absent ∷ [] }
+
+paused_kinds : (x : ℕ) (v : Value) → slice_get example_paused.variables x ≡ Some v → kind_at example x ≡ Some (kind_of v)
+paused_kinds zero v h = ap (λ v. Some (kind_of v)) (same_Some (value_is.Int (pos 1)) v h)
+paused_kinds (suc zero) v h = ap (λ v. Some (kind_of v)) (same_Some (value_is.Int (pos 1)) v h)
+paused_kinds (suc (suc x)) v h = absurd (none-some v h)
+
+paused_places : (t : ℕ) → IsPlace example t (status_of example_paused t)
+paused_places zero = refl
+paused_places (suc zero) = tt
+paused_places (suc (suc zero)) = tt
+paused_places (suc (suc (suc t))) = tt
+
+nobody_waits : (t j : ℕ) → status_of example_paused t ≡ status.Waiting j → ⊥
+nobody_waits zero j h = cc
+nobody_waits (suc zero) j h = cc
+nobody_waits (suc (suc zero)) j h = cc
+nobody_waits (suc (suc (suc t))) j h = cc
+
+nobody_stands : (t n : ℕ) → status_of example_paused t ≡ status.At n → ⊥
+nobody_stands zero n h = cc
+nobody_stands (suc zero) n h = cc
+nobody_stands (suc (suc zero)) n h = cc
+nobody_stands (suc (suc (suc t))) n h = cc
+
+children_absent : (k : ℕ) → Contains (1 ∷ 2 ∷ []) k → IsPresent (status_of example_paused k) → ⊥
+children_absent zero child here = ⊎_elim (λ e. absurd (omega (arith, e))) (λ rest. ⊎_elim (λ e. absurd (omega (arith, e))) (λ none. absurd (contains_none 0 none)) (contains_cons 2 0 [] rest)) (contains_cons 1 0 (2 ∷ []) child)
+children_absent (suc zero) child here = here
+children_absent (suc (suc zero)) child here = here
+children_absent (suc (suc (suc k))) child here = here
+
+pub example_rests_paused : Rests example example_paused
+example_rests_paused =
+    record {
+      configuration =
+          record {
+            values = refl;
+            kinds = paused_kinds;
+            threads = refl;
+            places = paused_places;
+            present = λ n t children j k fork child. (
+              λ here. absurd (children_absent k (subst (λ ks. Contains ks k) (the_fork n children j fork.forks).forked child) here),
+              λ waits. absurd (nobody_waits t j waits),
+            );
+          };
+      nobody_at = nobody_stands;
+    }
+
+-- and of a tick that finds it paused
+pub example_has_one_end_paused : OneEnd example example_tables (start example [] example_paused)
+example_has_one_end_paused = one_end_of_tick example example_tables example_paused [] example_valid example_rests_paused example_accepts
+
+-- the first tick leads there: fork, add, end, set, end, join and pause
+abbrev stands : ℤ → ℤ → Status → Status → Status → Control
+stands x y root adds sets = record { variables = value_is.Int x ∷ value_is.Int y ∷ []; statuses = root ∷ adds ∷ sets ∷ [] }
+
+abbrev forked : Control
+forked = stands (pos 0) (pos 0) (status.Waiting 1) (status.At 4) (status.At 6)
+
+added : step_of example 1 forked ≡ Some (stands (pos 1) (pos 0) (status.Waiting 1) (status.At 5) (status.At 6))
+added =
+    ap (λ o. option_map (λ e. after e forked) (option_and_then (updated example 1 0 combine.Add 5) o)) (value-literal (value_is.Int (pos 1)) forked.variables)
+    ∙ ap (λ z. Some (stands z (pos 0) (status.Waiting 1) (status.At 5) (status.At 6))) (int_wrap_fits w32 (pos 1) (fits_signed_from_abs w32 (pos 1) (omega arith)))
+
+abbrev adds_no_more : Control
+adds_no_more = stands (pos 1) (pos 0) (status.Waiting 1) status.Ended (status.At 6)
+
+set : step_of example 2 adds_no_more ≡ Some (stands (pos 1) (pos 1) (status.Waiting 1) status.Ended (status.At 7))
+set = ap (λ o. option_map (λ e. after e adds_no_more) (option_and_then (assigned example 2 1 7) o)) (value-load 0 adds_no_more.variables)
+
+pub example_first_tick : replay (machine example) (0 ∷ 1 ∷ 1 ∷ 2 ∷ 2 ∷ 0 ∷ 0 ∷ []) (start example [] (initial example)) ≡ Some example_paused
+example_first_tick =
+    ap (option_and_then (replay (machine example) (1 ∷ 2 ∷ 2 ∷ 0 ∷ 0 ∷ []))) added
+    ∙ ap (option_and_then (replay (machine example) (2 ∷ 0 ∷ 0 ∷ []))) set
