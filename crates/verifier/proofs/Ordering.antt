@@ -84,26 +84,26 @@ no_conflicts_kept p formed h (place.Pair m n) = λ w. over w w.clash
     over w (two_inits x i j) = (h x (init_variable p formed m x i)).inits m n i j w
     over w (two_updates x f g u v ne) = (h x (update_variable p formed m x f u)).updates m n (f, u) (g, v) w
 
-rise_breaks : (p : Program) (q : Tables) (m n : ℕ) (at : Place) → at ≡ place.Pair m n → DoesNotFall p q m n → Precedes (accesses p m) (accesses p n) → ¬ ProtocolAt p q at
-rise_breaks p q m n at is r before kept =
+no_fall_breaks : (p : Program) (q : Tables) (m n : ℕ) (at : Place) → at ≡ place.Pair m n → DoesNotFall p q m n → Precedes (accesses p m) (accesses p n) → ¬ ProtocolAt p q at
+no_fall_breaks p q m n at is r before kept =
     let P : Place → Type 0 = λ a. ProtocolAt p q a in
     let falls : priority q n < priority q m = (subst P is kept) (record { concurrent = r.concurrent; precedes = before }) in
-    let rises = r.rises in
-    omega (arith, rises)
+    let no_greater = r.no_greater in
+    omega (arith, no_greater)
 
 pub init_update_breaks : (p : Program) (q : Tables) (x : ℕ) (inits updates : List ℕ) → Lists inits (InitsAt p x) → Lists updates (UpdatesAt p x) → (at : Place) → NoFallBetween p q inits updates at → ¬ ProtocolAt p q at
 init_update_breaks p q x inits updates i u at r =
     let w = u.only r.second r.in_seconds in
-    rise_breaks p q r.first r.second at r.is r.rises (init_update x w.0 (i.only r.first r.in_firsts) w.1)
+    no_fall_breaks p q r.first r.second at r.is r.no_fall (init_update x w.0 (i.only r.first r.in_firsts) w.1)
 
 pub init_read_breaks : (p : Program) (q : Tables) (x : ℕ) (inits reads : List ℕ) → Lists inits (InitsAt p x) → Lists reads (ReadsAt p x) → (at : Place) → NoFallBetween p q inits reads at → ¬ ProtocolAt p q at
 init_read_breaks p q x inits reads i l at r =
-    rise_breaks p q r.first r.second at r.is r.rises (init_read x (i.only r.first r.in_firsts) (l.only r.second r.in_seconds))
+    no_fall_breaks p q r.first r.second at r.is r.no_fall (init_read x (i.only r.first r.in_firsts) (l.only r.second r.in_seconds))
 
 pub update_read_breaks : (p : Program) (q : Tables) (x : ℕ) (updates reads : List ℕ) → Lists updates (UpdatesAt p x) → Lists reads (ReadsAt p x) → (at : Place) → NoFallBetween p q updates reads at → ¬ ProtocolAt p q at
 update_read_breaks p q x updates reads u l at r =
     let w = u.only r.first r.in_firsts in
-    rise_breaks p q r.first r.second at r.is r.rises (update_read x w.0 w.1 (l.only r.second r.in_seconds))
+    no_fall_breaks p q r.first r.second at r.is r.no_fall (update_read x w.0 w.1 (l.only r.second r.in_seconds))
 
 pub falls_on : (p : Program) (q : Tables) (x : ℕ) (inits updates reads : List ℕ) → Lists inits (InitsAt p x) → Lists updates (UpdatesAt p x) → Lists reads (ReadsAt p x) →
     AllFall p q inits updates → AllFall p q inits reads → AllFall p q updates reads → FallsOn p q x
@@ -117,9 +117,9 @@ less_or_not : (a b : ℕ) → (a < b) ⊎ (b ≤ a)
 less_or_not a b = grind arith
 
 falls : (p : Program) (q : Tables) (m n : ℕ) → ConcurrentNodes p m n → ¬ DoesNotFall p q m n → priority q n < priority q m
-falls p q m n concurrent no_rise = elim (less_or_not (priority q n) (priority q m)) [
+falls p q m n concurrent always = elim (less_or_not (priority q n) (priority q m)) [
   | inl lt ↦ lt
-  | inr le ↦ absurd (no_rise (record { concurrent = concurrent; rises = le }))
+  | inr le ↦ absurd (always (record { concurrent = concurrent; no_greater = le }))
 ]
 
 pub falls_kept : (p : Program) (q : Tables) → IsFormed p → ((x : ℕ) → x < length p.variables → FallsOn p q x) → (at : Place) → ProtocolAt p q at

@@ -1,3 +1,3 @@
 pub mod Verdict
-pub mod FaultLine
+pub mod FaultText
 pub mod Inside

@@ -7,7 +7,7 @@ mod codes;
 mod concurrency;
 mod conflicts;
 mod end_bits;
-mod fault_line;
+mod fault_text;
 mod flow;
 mod kinds;
 mod protocol;

@@ -38,7 +38,7 @@ pub record NoConflictOn (p : Program) (x : ℕ) : Type 0 where
 -- of two concurrent nodes the first does not have the greater priority
 pub record DoesNotFall (p : Program) (q : Tables) (m n : ℕ) : Type 0 where
   pub concurrent : ConcurrentNodes p m n
-  pub rises : priority q m ≤ priority q n
+  pub no_greater : priority q m ≤ priority q n
 
 -- priority falls from each of the first nodes to each concurrent one of the second
 abbrev pub AllFall : Program → Tables → List ℕ → List ℕ → Type 0
@@ -51,7 +51,7 @@ pub record NoFallBetween (p : Program) (q : Tables) (firsts seconds : List ℕ) 
   pub is : at ≡ place.Pair first second
   pub in_firsts : Contains firsts first
   pub in_seconds : Contains seconds second
-  pub rises : DoesNotFall p q first second
+  pub no_fall : DoesNotFall p q first second
 
 -- priority falls along the protocol edges that are about variable x
 pub record FallsOn (p : Program) (q : Tables) (x : ℕ) : Type 0 where

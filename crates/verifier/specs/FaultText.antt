@@ -14,5 +14,5 @@ place_text (place.Thread t) = codes "thread " ++ decimal t
 place_text (place.Node n) = decimal n
 place_text (place.Pair m n) = decimal m ++ codes " " ++ decimal n
 
-abbrev pub fault_line : Broken → List ℕ
-fault_line broken = codes "E" ++ decimal (fault_number broken.rule) ++ codes " " ++ place_text broken.place
+abbrev pub fault_text : Broken → List ℕ
+fault_text broken = codes "E" ++ decimal (fault_number broken.rule) ++ codes " " ++ place_text broken.place

@@ -1,4 +1,4 @@
-//! The line of a fault: the number of its rule, and the place.
+//! The text of a fault: the number of its rule, and the place.
 
 ghost use Rattle.std.specs.Prelude.{◌≡◌};
 ghost use Rattle.verifier.specs.Verdict.{fault_number};
@@ -29,9 +29,9 @@ impl Rule {
 
 impl fmt::Display for Broken {
     ghost use Rattle.std.specs.Prelude.{Some};
-    ghost use Rattle.verifier.specs.FaultLine.{fault_line};
+    ghost use Rattle.verifier.specs.FaultText.{fault_text};
 
-    ghost output = { λ broken. Some (fault_line broken) };
+    ghost output = { λ broken. Some (fault_text broken) };
 
     fn fmt<W: fmt::Write>(&self, f: &mut fmt::Formatter<W>) -> fmt::Result {
         write!(f, "E{} ", self.rule.fault_number())?;
