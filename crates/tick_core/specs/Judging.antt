@@ -9,7 +9,6 @@ use Rattle.sc_graph.specs.Control.{is_enabled, IsEnabled}
 use Rattle.sc_graph.specs.Machine.{machine}
 use Rattle.tick_core.specs.declared.judging.Judged.{Judged}
 use Rattle.tick_core.specs.declared.judging.Judged.TheVariants as judged
-use Rattle.tick_core.specs.declared.judging.replaying.Replayed.TheVariants as replayed
 
 -- the steps before place i can be taken, and the thread at place i isn't enabled then
 pub record IsNotRun (p : Program) (begun : Control) (run : List ℕ) (i : ℕ) : Type 0 where

@@ -9,8 +9,6 @@ mod every_run_tests;
 mod forbidden;
 mod replaying;
 #[cfg(test)]
-mod sample_images;
-#[cfg(test)]
 mod tests;
 
 use crate::inputs::{Inputs, are_accepted};

@@ -2,7 +2,7 @@ mod acts;
 mod claims;
 mod event_lists;
 mod faults;
-mod images;
+pub(crate) mod images;
 mod inputs;
 mod plain;
 mod ticks;

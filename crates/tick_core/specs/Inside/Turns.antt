@@ -6,7 +6,6 @@ use Rattle.sc_graph.specs.Program.{Program}
 use Rattle.sc_graph.specs.Control.{status_of, is_enabled}
 use Rattle.sc_graph.specs.Tables.{priority_of}
 use Rattle.sc_graph.specs.Priority.{Leads}
-use Rattle.tick_core.specs.declared.state.Turn.TheVariants as turn
 use Rattle.tick_core.specs.Claims.{Claim, value_by}
 use Rattle.tick_core.specs.Inside.Work.{value_at}
 use Rattle.tick_core.specs.State.{InTick, IsFresh}

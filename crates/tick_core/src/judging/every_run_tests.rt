@@ -4,12 +4,12 @@ ghost use Rattle.sc_graph.specs.Tick.{Rests};
 use crate::inputs::{Inputs, are_accepted};
 use crate::judging::Judged;
 use crate::judging::replaying::{Replayed, replay};
-use crate::judging::sample_images::{
+use crate::judging::tests::{end_of_tick, judgement};
+use crate::starting::started;
+use crate::tests::images::{
     init_and_update, init_update_read, nested_forks, two_pauses, updates_and_read, write_and_read,
     write_and_read_later,
 };
-use crate::judging::tests::{end_of_tick, judgement};
-use crate::starting::started;
 use sc_graph::{Control, ThreadId};
 use sqlite_items::Items;
 use std::alloc::{AllocError, Global};

@@ -3,9 +3,9 @@ ghost use Rattle.std.specs.Prelude.{IfOk};
 ghost use Rattle.sc_graph.specs.Tick.{Rests};
 
 use crate::inputs::Inputs;
-use crate::judging::sample_images::{init_and_update, two_pauses, write_and_read};
 use crate::judging::{Judged, judge};
 use crate::state::begin;
+use crate::tests::images::{init_and_update, two_pauses, write_and_read};
 use sc_graph::{Control, Status, ThreadId};
 use sc_values::Value;
 use sqlite_items::Items;

@@ -1,11 +1,12 @@
 // Claims of several workers.
 use crate::tests::acts::{Act, Told, first_tick, perform};
-use crate::tests::images::{TWO_THREADS, WRAPPING_SUM, verified};
+use crate::tests::images::{wrapping_sum, write_and_read};
 use crate::{Control, Done, Entry, Report, TickState};
 use sc_graph::{NodeId, ThreadId};
 use sc_values::Value;
 use std::process::Abort;
 use std::test::Fail;
+use verifier::Verified;
 
 // Acts, with what each is told; gives the claims.
 fn play<'a, R: Abort + AllocGlobal>(
@@ -31,13 +32,12 @@ fn ended(state: TickState<'_>) -> (Control, Report) {
 // the variables after it.
 fn expect_played<R: Abort + AllocGlobal>(
     rt: &R,
-    image: &[u8],
+    image: &Verified,
     acts: &[(Act, Told)],
     steps: &[(ThreadId, u8)],
     values: [i32; 2],
 ) -> Result<(), Fail> {
-    let image = verified(rt.alloc(), image)?;
-    let mut state = first_tick(rt.alloc(), &image)?;
+    let mut state = first_tick(rt.alloc(), image)?;
     let _given = play(rt, &mut state, acts)?;
     let (end, report) = ended(state);
     let mut history = Vec::new(rt.alloc());
@@ -74,7 +74,7 @@ fn commits_come_in_the_order_of_the_threads(rt: HostRuntime) -> Result<(), Fail>
         (Act::Look, stands(3, -2147483648)),
     ];
     let steps = [(0, 1), (1, 1), (2, 2), (1, 0), (2, 0), (0, 0), (0, 0)];
-    expect_played(&rt, &WRAPPING_SUM, &acts, &steps, WRAPPED)
+    expect_played(&rt, &wrapping_sum(rt.alloc())?, &acts, &steps, WRAPPED)
 }
 
 #[test]
@@ -90,7 +90,7 @@ fn commits_come_in_the_other_order(rt: HostRuntime) -> Result<(), Fail> {
         (Act::Look, stands(3, -2147483648)),
     ];
     let steps = [(0, 1), (2, 2), (1, 1), (1, 0), (2, 0), (0, 0), (0, 0)];
-    expect_played(&rt, &WRAPPING_SUM, &acts, &steps, WRAPPED)
+    expect_played(&rt, &wrapping_sum(rt.alloc())?, &acts, &steps, WRAPPED)
 }
 
 #[test]
@@ -112,7 +112,7 @@ fn one_commit_closes_a_claim(rt: HostRuntime) -> Result<(), Fail> {
         (Act::Claim(1), Told::Over),
     ];
     let steps = [(0, 1), (2, 2), (1, 1), (1, 0), (2, 0), (0, 0), (0, 0)];
-    expect_played(&rt, &WRAPPING_SUM, &acts, &steps, WRAPPED)
+    expect_played(&rt, &wrapping_sum(rt.alloc())?, &acts, &steps, WRAPPED)
 }
 
 #[test]
@@ -133,7 +133,7 @@ fn a_claim_that_was_given_back_is_stale(rt: HostRuntime) -> Result<(), Fail> {
         (Act::Commit(3), Told::At(2)),
     ];
     let steps = [(0, 1), (2, 2), (1, 3), (1, 0), (2, 0), (0, 0), (0, 0)];
-    expect_played(&rt, &WRAPPING_SUM, &acts, &steps, WRAPPED)
+    expect_played(&rt, &wrapping_sum(rt.alloc())?, &acts, &steps, WRAPPED)
 }
 
 #[test]
@@ -151,7 +151,7 @@ fn equal_claims_are_the_same(rt: HostRuntime) -> Result<(), Fail> {
         (Act::Commit(2), Told::Stale),
     ];
     let steps = [(0, 1), (1, 0), (1, 0), (2, 0), (2, 0), (0, 0), (0, 0)];
-    expect_played(&rt, &WRAPPING_SUM, &acts, &steps, WRAPPED)
+    expect_played(&rt, &wrapping_sum(rt.alloc())?, &acts, &steps, WRAPPED)
 }
 
 #[test]
@@ -164,7 +164,7 @@ fn running_alone_drops_claims(rt: HostRuntime) -> Result<(), Fail> {
     ];
     // the writer goes before the reader, since its node has the greater priority
     let steps = [(0, 0), (1, 0), (1, 0), (2, 0), (2, 0), (0, 0), (0, 0)];
-    expect_played(&rt, &TWO_THREADS, &acts, &steps, [1, 1])
+    expect_played(&rt, &write_and_read(rt.alloc())?, &acts, &steps, [1, 1])
 }
 
 // What a claim bears: its worker, thread and node, its operations and its first operand, and its value.
@@ -194,7 +194,7 @@ fn borne_by(done: &Done<'_>) -> Borne {
 
 #[test]
 fn claims_bear_the_present(rt: HostRuntime) -> Result<(), Fail> {
-    let image = verified(rt.alloc(), &TWO_THREADS)?;
+    let image = write_and_read(rt.alloc())?;
     let mut state = first_tick(rt.alloc(), &image)?;
     let acts = [
         (Act::Claim(3), Told::Given(0)),

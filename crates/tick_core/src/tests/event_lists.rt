@@ -3,7 +3,7 @@ ghost use Rattle.std.specs.Prelude.{◌<◌};
 
 use crate::tests::acts::{Act, Told, perform};
 use crate::tests::images::{
-    COUNTER, THREE_LEVELS, TWO_PAUSES, TWO_THREADS, WRAPPING_SUM, branches, verified,
+    branches, counter, nested_forks, two_pauses, wrapping_sum, write_and_read,
 };
 use crate::tests::inputs::inputs_of;
 use crate::tests::plain::Plain;
@@ -312,17 +312,13 @@ fn expect_ends<R: Abort + AllocGlobal>(
 
 #[test]
 fn random_events_replay(rt: HostRuntime) -> Result<(), Fail> {
-    for bytes in [
-        TWO_THREADS.as_slice(),
-        WRAPPING_SUM.as_slice(),
-        TWO_PAUSES.as_slice(),
-        THREE_LEVELS.as_slice(),
-    ] {
-        let image = verified(rt.alloc(), bytes)?;
+    let alloc = rt.alloc();
+    for image in [write_and_read(alloc)?, wrapping_sum(alloc)?] {
         expect_ends(&rt, &image, &[])?;
     }
-    let counter = verified(rt.alloc(), &COUNTER)?;
-    expect_ends(&rt, &counter, &[("A", Value::Bool(true))])?;
-    let wide = branches(rt.alloc(), 8)?;
-    expect_ends(&rt, &wide, &[])
+    for image in [two_pauses(alloc)?, nested_forks(alloc)?] {
+        expect_ends(&rt, &image, &[])?;
+    }
+    expect_ends(&rt, &branches(alloc, 8)?, &[])?;
+    expect_ends(&rt, &counter(alloc)?, &[("A", Value::Bool(true))])
 }

@@ -1,5 +1,5 @@
 // Inputs that a tick takes, and inputs that it refuses.
-use crate::tests::images::{COUNTER, verified};
+use crate::tests::images::counter;
 use crate::tests::ticks::tick;
 use crate::{BeginFault, Control, Inputs, Status, begin};
 use sc_values::{Name, Value};
@@ -19,7 +19,7 @@ pub(crate) fn inputs_of(alloc: Global, given: &[(&str, Value)]) -> Result<Inputs
 
 #[test]
 fn inputs_last_one_tick(rt: HostRuntime) -> Result<(), Fail> {
-    let image = verified(rt.alloc(), &COUNTER)?;
+    let image = counter(rt.alloc())?;
     let mut control = Control::initial(rt.alloc(), image.image().program())?;
     let yes = [("A", Value::Bool(true))];
     let no = [("A", Value::Bool(false))];
@@ -65,7 +65,7 @@ fn expect_refused<R: Abort + AllocGlobal>(
 
 #[test]
 fn bad_inputs_are_refused(rt: HostRuntime) -> Result<(), Fail> {
-    let image = verified(rt.alloc(), &COUNTER)?;
+    let image = counter(rt.alloc())?;
     let yes = Value::Bool(true);
     // no variable, an output, another kind
     expect_refused(&rt, &image, &[("B", yes)])?;

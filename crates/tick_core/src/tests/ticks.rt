@@ -1,7 +1,7 @@
 // Whole ticks, by one worker.
 use crate::tests::acts::first_tick;
 use crate::tests::images::{
-    ONE_EXIT, THREE_LEVELS, TWO_PAUSES, TWO_THREADS, WRAPPING_SUM, assignments, branches, verified,
+    assignments, branches, nested_forks, one_exit, two_pauses, wrapping_sum, write_and_read,
 };
 use crate::{Control, Inputs, Report, Status, begin};
 use sc_values::Value;
@@ -47,22 +47,22 @@ fn expect_ticks<R: Abort + AllocGlobal>(
 
 #[test]
 fn small_programs_end(rt: HostRuntime) -> Result<(), Fail> {
-    let one_exit = verified(rt.alloc(), &ONE_EXIT)?;
-    expect_ticks(&rt, &one_exit, &[(1, &[]), (0, &[])])?;
+    let image = one_exit(rt.alloc())?;
+    expect_ticks(&rt, &image, &[(1, &[]), (0, &[])])?;
     let ones = [Value::Int(1), Value::Int(1)];
-    let two_threads = verified(rt.alloc(), &TWO_THREADS)?;
-    expect_ticks(&rt, &two_threads, &[(7, &ones), (0, &ones)])?;
+    let image = write_and_read(rt.alloc())?;
+    expect_ticks(&rt, &image, &[(7, &ones), (0, &ones)])?;
     let least = [Value::Int(-2147483648), Value::Int(0)];
-    let wrapping_sum = verified(rt.alloc(), &WRAPPING_SUM)?;
-    expect_ticks(&rt, &wrapping_sum, &[(7, &least), (0, &least)])?;
+    let image = wrapping_sum(rt.alloc())?;
+    expect_ticks(&rt, &image, &[(7, &least), (0, &least)])?;
     let threes = [Value::Int(3), Value::Int(3)];
-    let three_levels = verified(rt.alloc(), &THREE_LEVELS)?;
-    expect_ticks(&rt, &three_levels, &[(12, &threes), (0, &threes)])
+    let image = nested_forks(rt.alloc())?;
+    expect_ticks(&rt, &image, &[(12, &threes), (0, &threes)])
 }
 
 #[test]
 fn later_ticks_meet_the_budget(rt: HostRuntime) -> Result<(), Fail> {
-    let image = verified(rt.alloc(), &TWO_PAUSES)?;
+    let image = two_pauses(rt.alloc())?;
     assert_eq!(rt; image.image().tables().budget, 8);
     let zeros = [Value::Int(0), Value::Int(0)];
     expect_ticks(&rt, &image, &[(3, &zeros), (8, &zeros), (8, &zeros)])
@@ -78,7 +78,7 @@ fn long_and_wide_ticks_end(rt: HostRuntime) -> Result<(), Fail> {
 
 #[test]
 fn ticks_begin_at_their_start(rt: HostRuntime) -> Result<(), Fail> {
-    let image = verified(rt.alloc(), &TWO_THREADS)?;
+    let image = write_and_read(rt.alloc())?;
     let mut state = first_tick(rt.alloc(), &image)?;
     let start = [Status::At(0), Status::Absent, Status::Absent];
     assert_eq!(rt; state.present().statuses.as_slice(), start.as_slice());
