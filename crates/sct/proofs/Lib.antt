@@ -2,6 +2,7 @@ pub mod Ahead
 pub mod Cut
 pub mod Feeds
 pub mod Given
+pub mod OneTrace
 pub mod Playing
 pub mod Shown
 pub mod Splits

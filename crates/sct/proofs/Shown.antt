@@ -9,7 +9,6 @@ use Rattle.serde_json.specs.Written.{has_float, members_have_float}
 use Rattle.sc_values.specs.declared.value.Value.{Value}
 use Rattle.sc_values.specs.declared.value.Value.TheVariants as value
 use Rattle.sc_graph.specs.declared.program.Variable.{Variable}
-use Rattle.sc_graph.specs.declared.program.Role.TheVariants as role
 use Rattle.sct.specs.Output.{data_of, is_output, with_output, with_outputs, tick_data}
 
 has_float-data_of : (v : Value) → has_float (data_of v) ≡ false

@@ -19,7 +19,7 @@ pub record PlaysWhole (input old new : Option (List ℕ)) : Type 0 where
   pub image : Image
   pub valid : IsValid image.program image.tables
   pub out : List (List ℕ)
-  pub plays : Plays image.program input old new out Good
+  pub plays : Plays image input old new out Good
 
 -- a text that is not empty was written
 pub record WritesText (old new : Option (List ℕ)) : Type 0 where

@@ -1,17 +1,17 @@
 -- The trace of an input: for each line a tick and a line of output, until a line gives no inputs.
-use Rattle.std.specs.Prelude.{ℕ, ◌≡◌, ◌+◌, ◌<◌, ◌≤◌, ◌^◌, ◌⊎◌, ⊤, Option, Some, None, List, [], ◌∷◌, ◌++◌, length, if◌then◌else◌}
+use Rattle.std.specs.Prelude.{ℕ, ◌≡◌, ◌+◌, ◌<◌, ◌≤◌, ◌^◌, ◌⊎◌, ⊤, Option, Some, None, List, [], ◌∷◌, ◌++◌, length, if◌then◌else◌, IsPermutation}
 use Rattle.std.specs.List.{concat}
 use Rattle.std.specs.Io.KnownBytes.{Appends}
 use Rattle.serde_json.specs.Data.{Members}
-use Rattle.sc_values.specs.Runs.{IsAdmissible, Completes}
+use Rattle.sc_values.specs.Runs.{IsAdmissible, Completes, Ends}
 use Rattle.sc_values.specs.Streams.{GrowsInto}
 use Rattle.sc_graph.specs.declared.control.Control.{Control}
 use Rattle.sc_graph.specs.Machine.{machine}
 use Rattle.sc_graph.specs.Program.{Program}
 use Rattle.sc_graph.specs.Tick.{Inputs, AreAccepted, start, initial}
+use Rattle.bytecode.specs.Image.{Image}
 use Rattle.sct.specs.declared.play.PlayFault.{PlayFault}
 use Rattle.sct.specs.declared.play.PlayFault.TheVariants as play_fault
-use Rattle.sct.specs.declared.lines.LinesFault.TheVariants as lines_fault
 use Rattle.sct.specs.Line.{IsObjectOf, inputs_of}
 use Rattle.sct.specs.Lines.{line_limit, is_feed}
 use Rattle.sct.specs.Output.{outputs_of, tick_line}
@@ -50,21 +50,25 @@ pub record GivesNoInputs (p : Program) (line : List ℕ) : Type 0 where
 abbrev pub IsNoObject : List ℕ → Type 0
 IsNoObject line = (line_limit < length line) ⊎ ((members : Members) → ¬ IsObjectOf line members)
 
--- under these inputs a tick from c ends in d, by an admissible run of so many steps
-pub record Reacts (p : Program) (inputs : Inputs) (c d : Control) (steps : ℕ) : Type 0 where
-  pub accepted : AreAccepted p inputs
+-- under these inputs a tick from c ends in d and nowhere else: an admissible run of so many steps, within the
+-- budget, leads there, and every admissible complete run is a reordering of it
+pub record Reacts (image : Image) (inputs : Inputs) (c d : Control) (steps : ℕ) : Type 0 where
+  pub accepted : AreAccepted image.program inputs
   pub run : List ℕ
-  pub complete : Completes (machine p) run (start p inputs c) d
-  pub admissible : IsAdmissible (machine p) run (start p inputs c)
+  pub complete : Completes (machine image.program) run (start image.program inputs c) d
+  pub admissible : IsAdmissible (machine image.program) run (start image.program inputs c)
   pub count : steps ≡ length run
+  pub within : steps ≤ image.tables.budget
+  pub one_end : (other : Control) → Ends (machine image.program) (start image.program inputs c) other → other ≡ d
+  pub reordered : (other : List ℕ) (end : Control) → Completes (machine image.program) other (start image.program inputs c) end → IsAdmissible (machine image.program) other (start image.program inputs c) → IsPermutation other run
 
 -- line number k makes a tick from c to d, of which this is shown
-pub record Shows (p : Program) (k : ℕ) (c : Control) (line : List ℕ) (d : Control) (shown : List ℕ) : Type 0 where
+pub record Shows (image : Image) (k : ℕ) (c : Control) (line : List ℕ) (d : Control) (shown : List ℕ) : Type 0 where
   pub inputs : Inputs
   pub steps : ℕ
-  pub gives : GivesInputs p line inputs
-  pub reacts : Reacts p inputs c d steps
-  pub is : shown ≡ tick_line k steps (outputs_of p.variables d.variables)
+  pub gives : GivesInputs image.program line inputs
+  pub reacts : Reacts image inputs c d steps
+  pub is : shown ≡ tick_line k steps (outputs_of image.program.variables d.variables)
 
 -- how a trace ends: after the last line, or at the line of a number, which gives no inputs or is no object
 pub data End : Type 0 where
@@ -79,47 +83,47 @@ EndsAt p k line (NoInputs n) = (n ≡ k) × GivesNoInputs p line
 EndsAt p k line (NoObject n) = (n ≡ k) × IsNoObject line
 
 -- from c on the lines from number k on make these lines of output, and this end
-abbrev pub Goes : Program → ℕ → Control → List (List ℕ) → List (List ℕ) → End → Type 0
-Goes p k c [] [] end = end ≡ Good
-Goes p k c [] (shown ∷ out) end = ⊥
-Goes p k c (line ∷ lines) [] end = EndsAt p k line end
-Goes p k c (line ∷ lines) (shown ∷ out) end = (d : Control) × Shows p k c line d shown × Goes p (k + 1) d lines out end
+abbrev pub Goes : Image → ℕ → Control → List (List ℕ) → List (List ℕ) → End → Type 0
+Goes image k c [] [] end = end ≡ Good
+Goes image k c [] (shown ∷ out) end = ⊥
+Goes image k c (line ∷ lines) [] end = EndsAt image.program k line end
+Goes image k c (line ∷ lines) (shown ∷ out) end = (d : Control) × Shows image k c line d shown × Goes image (k + 1) d lines out end
 
 -- the trace of lines: their lines of output, and its end
-abbrev pub Trace : Program → List (List ℕ) → List (List ℕ) → End → Type 0
-Trace p lines out end = Goes p 1 (initial p) lines out end
+abbrev pub Trace : Image → List (List ℕ) → List (List ℕ) → End → Type 0
+Trace image lines out end = Goes image 1 (initial image.program) lines out end
 
 -- the whole trace of an input was written
-pub record Plays (p : Program) (input old new : Option (List ℕ)) (out : List (List ℕ)) (end : End) : Type 0 where
+pub record Plays (image : Image) (input old new : Option (List ℕ)) (out : List (List ℕ)) (end : End) : Type 0 where
   pub lines : List (List ℕ)
   pub cut : AreLinesOf input lines
-  pub trace : Trace p lines out end
+  pub trace : Trace image lines out end
   pub written : Appends old new (concat out)
 
 -- the trace of the first lines of an input was written
-pub record PlaysFirst (p : Program) (input old new : Option (List ℕ)) : Type 0 where
+pub record PlaysFirst (image : Image) (input old new : Option (List ℕ)) : Type 0 where
   pub first : List (List ℕ)
   pub rest : List (List ℕ)
   pub cut : AreLinesOf input (first ++ rest)
   pub out : List (List ℕ)
-  pub trace : Trace p first out Good
+  pub trace : Trace image first out Good
   pub written : Appends old new (concat out)
 
 -- the trace of the first lines of an input was written, of its last line of output perhaps a part
-pub record PlaysPart (p : Program) (input old new : Option (List ℕ)) : Type 0 where
+pub record PlaysPart (image : Image) (input old new : Option (List ℕ)) : Type 0 where
   pub first : List (List ℕ)
   pub rest : List (List ℕ)
   pub cut : AreLinesOf input (first ++ rest)
   pub out : List (List ℕ)
   pub last : List ℕ
-  pub trace : Trace p first (out ++ last ∷ []) Good
+  pub trace : Trace image first (out ++ last ∷ []) Good
   pub before : Option (List ℕ)
   pub written : Appends old before (concat out)
   pub in_part : GrowsInto before new last
 
 -- what was written before a fault
-abbrev pub Leaves : Program → Option (List ℕ) → Option (List ℕ) → Option (List ℕ) → PlayFault → Type 0
-Leaves p input old new (play_fault.Input line) = (out : List (List ℕ)) × Plays p input old new out (NoInputs line)
-Leaves p input old new (play_fault.NotJson line) = (out : List (List ℕ)) × Plays p input old new out (NoObject line)
-Leaves p input old new play_fault.Write = PlaysPart p input old new
-Leaves p input old new other = PlaysFirst p input old new
+abbrev pub Leaves : Image → Option (List ℕ) → Option (List ℕ) → Option (List ℕ) → PlayFault → Type 0
+Leaves image input old new (play_fault.Input line) = (out : List (List ℕ)) × Plays image input old new out (NoInputs line)
+Leaves image input old new (play_fault.NotJson line) = (out : List (List ℕ)) × Plays image input old new out (NoObject line)
+Leaves image input old new play_fault.Write = PlaysPart image input old new
+Leaves image input old new other = PlaysFirst image input old new

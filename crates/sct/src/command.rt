@@ -70,7 +70,7 @@ fn refuse<X: Sink>(alloc: Global, fault: &Fault, errors: &mut X) -> u8
     REFUSED
 }
 
-// WritesText the help that was asked for, or else what is wrong with the words.
+// Writes the help that was asked for, or else what is wrong with the words.
 fn show<W: Sink, X: Sink>(
     alloc: Global,
     text: &str,

@@ -8,6 +8,7 @@ mod check;
 mod command;
 mod fault;
 mod files;
+mod laws;
 mod line;
 mod lines;
 mod output;
@@ -38,7 +39,7 @@ fn words_of(rt: &HostRuntime) -> io::Result<Vec<String>> {
 
 // The status where the words cannot be had: memory was refused, or one is no text.
 fn without_words(rt: &HostRuntime, error: &io::Error) -> u8
-    ensures { result ≤ MISUSED }
+    ensures { (REFUSED ≤ result) × (result ≤ MISUSED) }
 {
     if error.kind() == io::ErrorKind::OutOfMemory {
         let _ = rt.eprintln("sct: E52");

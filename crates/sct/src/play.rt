@@ -62,7 +62,7 @@ fn tick(
 ) -> Result<(Control, u64), BeginFault>
     requires { Rests image.now.program control.now }
     ensures rests { IfOk result (λ r. Rests image.now.program r.0) }
-    ensures reacts { IfOk result (λ r. Reacts image.now.program inputs.now control.now r.0 r.1) }
+    ensures reacts { IfOk result (λ r. Reacts image.now inputs.now control.now r.0 r.1) }
     ensures refused { IsErrOf result BeginFault.Input
         → ¬ AreAccepted image.now.program inputs.now }
 {
@@ -83,7 +83,7 @@ fn react(
     requires rests { Rests image.now.program control.now }
     requires short { length line.now ≤ line_limit }
     ensures rests { IfOk result (λ r. Rests image.now.program r.0) }
-    ensures shows { IfOk result (λ r. Shows image.now.program number control.now line.now r.0
+    ensures shows { IfOk result (λ r. Shows image.now number control.now line.now r.0
         (string_bytes r.1)) }
     ensures fault { IfErr result (Tells image.now.program number line.now) }
 {
@@ -120,8 +120,8 @@ pub fn play<R: Source, W: Sink>(
     sink: &mut W,
 ) -> Result<u64, PlayFault>
     ensures whole { IfOk result (λ ticks. (out : List (List ℕ)) × (ticks ≡ length out)
-        × Plays image.now.program (R.to_come source.old) (W.taken sink.old) (W.taken sink.new) out Good) }
-    ensures fault { IfErr result (Leaves image.now.program
+        × Plays image.now (R.to_come source.old) (W.taken sink.old) (W.taken sink.new) out Good) }
+    ensures fault { IfErr result (Leaves image.now
         (R.to_come source.old) (W.taken sink.old) (W.taken sink.new)) }
     ensures read { IsErrOf result PlayFault.Read
         → R.failures source.new ≡ R.failures source.old + 1 }
