@@ -1,6 +1,6 @@
 -- Line feeds in lists that are joined and cut.
 use Rattle.std.proofs.Common.{◌≡◌, ℕ, ◌+◌, ◌<◌, ◌≤◌, Bool, true, false, not, cond, List, [], ◌++◌, length, take, drop, get_or, replicate, refl, ap, sym, ◌∙◌, arith, Some, None, is_some, length-append}
-use Rattle.std.specs.List.{position_or_len, prefix_len}
+use Rattle.std.specs.List.{position_or_len}
 use Rattle.std.proofs.lemmas.Bool.{ltb-true, ltb-false, le-ltb}
 use Rattle.std.proofs.lemmas.Bool.Decides.{nat_tests}
 use Rattle.std.proofs.lemmas.List.{get_or-take, length-replicate, length-take-le, take-append-le, drop-append-le}

@@ -26,8 +26,8 @@ one_gift p line a b x y =
 
 one_reaction : (image : Image) (inputs : Inputs) (c d e : Control) (m n : ℕ) → Reacts image inputs c d m → Reacts image inputs c e n → (e ≡ d) × (n ≡ m)
 one_reaction image inputs c d e m n x y = (
-  x.one_end e (record { run = y.run; complete = y.complete; admissible = y.admissible }),
-  y.count ∙ sym (length_permutation y.run x.run (x.reordered y.run e y.complete y.admissible)) ∙ sym x.count,
+  x.tick.one_end e (record { run = y.run; complete = y.tick.complete; admissible = y.tick.admissible }),
+  y.count ∙ sym (length_permutation y.run x.run (x.tick.reordered y.run e y.tick.complete y.tick.admissible)) ∙ sym x.count,
 )
 
 one_shown : (image : Image) (k : ℕ) (c d e : Control) (line shown other : List ℕ) → Shows image k c line d shown → Shows image k c line e other → (e ≡ d) × (other ≡ shown)

@@ -1,15 +1,14 @@
 -- The trace of an input: for each line a tick and a line of output, until a line gives no inputs.
-use Rattle.std.specs.Prelude.{ℕ, ◌≡◌, ◌+◌, ◌<◌, ◌≤◌, ◌^◌, ◌⊎◌, ⊤, Option, Some, None, List, [], ◌∷◌, ◌++◌, length, if◌then◌else◌, IsPermutation}
+use Rattle.std.specs.Prelude.{ℕ, ◌≡◌, ◌+◌, ◌<◌, ◌≤◌, ◌^◌, ◌⊎◌, ⊤, Option, Some, None, List, [], ◌∷◌, ◌++◌, length, if◌then◌else◌}
 use Rattle.std.specs.List.{concat}
 use Rattle.std.specs.Io.KnownBytes.{Appends}
 use Rattle.serde_json.specs.Data.{Members}
-use Rattle.sc_values.specs.Runs.{IsAdmissible, Completes, Ends}
 use Rattle.sc_values.specs.Streams.{GrowsInto}
 use Rattle.sc_graph.specs.declared.control.Control.{Control}
-use Rattle.sc_graph.specs.Machine.{machine}
 use Rattle.sc_graph.specs.Program.{Program}
 use Rattle.sc_graph.specs.Tick.{Inputs, AreAccepted, start, initial}
 use Rattle.bytecode.specs.Image.{Image}
+use Rattle.tick_core.specs.Whole.{WholeTick}
 use Rattle.sct.specs.declared.play.PlayFault.{PlayFault}
 use Rattle.sct.specs.declared.play.PlayFault.TheVariants as play_fault
 use Rattle.sct.specs.Line.{IsObjectOf, inputs_of}
@@ -50,17 +49,12 @@ pub record GivesNoInputs (p : Program) (line : List ℕ) : Type 0 where
 abbrev pub IsNoObject : List ℕ → Type 0
 IsNoObject line = (line_limit < length line) ⊎ ((members : Members) → ¬ IsObjectOf line members)
 
--- under these inputs a tick from c ends in d and nowhere else: an admissible run of so many steps, within the
--- budget, leads there, and every admissible complete run is a reordering of it
+-- under these inputs, which are accepted, a tick of so many steps leads from c to d
 pub record Reacts (image : Image) (inputs : Inputs) (c d : Control) (steps : ℕ) : Type 0 where
   pub accepted : AreAccepted image.program inputs
   pub run : List ℕ
-  pub complete : Completes (machine image.program) run (start image.program inputs c) d
-  pub admissible : IsAdmissible (machine image.program) run (start image.program inputs c)
+  pub tick : WholeTick image (start image.program inputs c) run d
   pub count : steps ≡ length run
-  pub within : steps ≤ image.tables.budget
-  pub one_end : (other : Control) → Ends (machine image.program) (start image.program inputs c) other → other ≡ d
-  pub reordered : (other : List ℕ) (end : Control) → Completes (machine image.program) other (start image.program inputs c) end → IsAdmissible (machine image.program) other (start image.program inputs c) → IsPermutation other run
 
 -- line number k makes a tick from c to d, of which this is shown
 pub record Shows (image : Image) (k : ℕ) (c : Control) (line : List ℕ) (d : Control) (shown : List ℕ) : Type 0 where

@@ -1,6 +1,6 @@
 -- What the state of a tick keeps, from its beginning through every event.
 use Rattle.std.proofs.Common.{◌≡◌, ◌≢◌, ℕ, ◌+◌, ◌<◌, ◌≤◌, List, [], ◌∷◌, ◌++◌, map, length, length-append, length-set, take, get_or, Option, Some, None, option_map, slice_get, slice_set, refl, sym, ap, subst, ◌∙◌, ◌⊎◌, inl, inr, arith}
-use Rattle.std.specs.Prelude.{IsSome, is_some, is_none, IsTrue, ◌↔◌, MatchOption, IsPermutation, unwrap_or, zero, suc, false}
+use Rattle.std.specs.Prelude.{IsSome, is_some, is_none, IsTrue, ◌↔◌, MatchOption, unwrap_or, zero, suc, false}
 use Rattle.std.proofs.lemmas.List.{length-map, map-append, append-nil, append_assoc, take_more}
 use Rattle.std.proofs.lemmas.Option.{slice_get-map, slice_get_within}
 use Rattle.sc_graph.specs.declared.program.Thread.{Thread}
@@ -11,7 +11,7 @@ use Rattle.sc_graph.specs.Valid.{IsValid}
 use Rattle.bytecode.specs.Image.{Image}
 use Rattle.tick_core.specs.declared.history.Entry.{Entry}
 use Rattle.tick_core.specs.Claims.{Claim}
-use Rattle.tick_core.specs.State.{InTick, Holds, IsBegun, BeginsTick, threads_of}
+use Rattle.tick_core.specs.State.{InTick, Holds, BeginsTick, threads_of}
 use Rattle.sc_graph.specs.declared.place.Place.TheVariants as place
 use Rattle.sc_graph.specs.Limits.{budget_limit}
 use Rattle.sc_graph.specs.declared.tables.Tables.{Tables}
@@ -19,7 +19,7 @@ use Rattle.sc_graph.specs.declared.control.Status.{Status}
 use Rattle.sc_graph.specs.declared.control.Status.TheVariants as status
 use Rattle.sc_graph.specs.Control.{status_of, status_enabled, is_enabled, IsEnabled}
 use Rattle.sc_graph.specs.Machine.{machine}
-use Rattle.sc_values.specs.Runs.{IsOver, IsAdmissible, Completes, Ends}
+use Rattle.sc_values.specs.Runs.{IsOver, IsAdmissible}
 use Rattle.sc_graph.specs.Steps.{step}
 use Rattle.sc_graph.specs.Tick.{IsConfiguration}
 use Rattle.sc_graph.specs.Priority.{Leads, PriorityRun}
@@ -32,6 +32,7 @@ use Rattle.tick_laws.proofs.Final.{one_end_of_tick}
 use Rattle.tick_core.specs.Claims.{value_by}
 use Rattle.tick_core.specs.Inside.Work.{value_at}
 use Rattle.tick_core.specs.State.{IsFresh, Advances, GoesAlone}
+use Rattle.tick_core.specs.Whole.{WholeTick}
 use Rattle.tick_core.specs.Inside.Turns.{DropsClaims}
 use Rattle.tick_core.proofs.Fresh.{fresh_kept, fresh_value}
 
@@ -52,17 +53,6 @@ pub record Begins (image : Image) (c : Control) (inputs : Inputs) (s : InTick) :
   pub present_is : s.present ≡ start image.program inputs c
   pub no_step : s.history ≡ []
   pub claims_are : s.claims ≡ map (λ _. None) image.program.threads
-
-pub is_begun : (image : Image) (c : Control) (inputs : Inputs) (s : InTick) → Begins image c inputs s → IsBegun image c inputs s
-is_begun image c inputs s begins =
-    record {
-      accepted = begins.accepted;
-      image_is = begins.image_is;
-      begun_is = begins.begun_is;
-      present_is = begins.present_is;
-      no_step = begins.no_step;
-      no_claim = no_claims_at image.program.threads s.claims begins.claims_are;
-    }
 
 pub holds_begun : (image : Image) (c : Control) (inputs : Inputs) (s : InTick) → IsValid image.program image.tables →
     Rests image.program c → Begins image c inputs s → Holds s
@@ -274,23 +264,19 @@ module _ (s : InTick) (h : Holds s) where
 -- what holds of a finished tick: its last configuration, and its steps
 pub record Finished (s : InTick) (end : Control) (history : List Entry) : Type 0 where
   pub rests : Rests s.image.program end
-  pub within : length history ≤ s.image.tables.budget
-  pub complete : Completes (machine s.image.program) (threads_of history) s.begun end
-  pub admissible : IsAdmissible (machine s.image.program) (threads_of history) s.begun
-  pub ends : Ends (machine s.image.program) s.begun end
-  pub one_end : (other : Control) → Ends (machine s.image.program) s.begun other → other ≡ end
-  pub reordered : (run : List ℕ) (other : Control) → Completes (machine s.image.program) run s.begun other → IsAdmissible (machine s.image.program) run s.begun → IsPermutation run (threads_of history)
+  pub tick : WholeTick s.image s.begun (threads_of history) end
 
 finished_at : (s : InTick) → Holds s → IsOver (machine s.image.program) s.present → Finished s s.present s.history
 finished_at s h over =
     record {
       rests = rests_when_over s.image.program s.present (configuration s h) over;
-      within = within_budget s h;
-      complete = record { runs = (so_far s h).runs; over = over };
-      admissible = (so_far s h).admissible;
-      ends = (so_far s h).ends over;
-      one_end = (so_far s h).one_end over;
-      reordered = (so_far s h).reordered over;
+      tick = record {
+        complete = record { runs = (so_far s h).runs; over = over };
+        admissible = (so_far s h).admissible;
+        within = (at_present s h).bounded;
+        one_end = (so_far s h).one_end over;
+        reordered = (so_far s h).reordered over;
+      };
     }
 
 pub finished : (was s : InTick) (end : Control) (history : List Entry) → was ≡ s → Holds was → IsOver (machine s.image.program) s.present → end ≡ s.present → history ≡ s.history → Finished s end history

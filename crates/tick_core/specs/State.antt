@@ -56,15 +56,6 @@ pub record Holds (s : InTick) : Type 0 where
   pub fresh : (t : ℕ) (a : Claim) → slice_get s.claims t ≡ Some (Some a) →
       IsFresh s.image.program s.image.tables s.present (length s.history) t a
 
--- a tick just begun from c: no step yet, and no claim
-pub record IsBegun (image : Image) (c : Control) (inputs : Inputs) (s : InTick) : Type 0 where
-  pub accepted : AreAccepted image.program inputs
-  pub image_is : s.image ≡ image
-  pub begun_is : s.begun ≡ start image.program inputs c
-  pub present_is : s.present ≡ start image.program inputs c
-  pub no_step : s.history ≡ []
-  pub no_claim : (t : ℕ) (a : Claim) → slice_get s.claims t ≢ Some (Some a)
-
 -- from one state to the next by a committed step of thread t, on a claim of this worker
 pub record Advances (s s' : InTick) (t worker : ℕ) : Type 0 where
   pub image_is : s'.image ≡ s.image

@@ -9,7 +9,7 @@ ghost use Rattle.sc_graph.specs.Steps.{step};
 ghost use Rattle.sc_graph.specs.Tick.{IsConfiguration, Rests, AreAccepted};
 ghost use Rattle.tick_core.specs.Claims.{Claim as OpenClaim};
 ghost use Rattle.tick_core.specs.Events.{begun};
-ghost use Rattle.tick_core.specs.State.{IsBegun, IsFresh, threads_of};
+ghost use Rattle.tick_core.specs.State.{IsFresh, threads_of};
 
 mod claiming;
 mod ending;
@@ -116,7 +116,7 @@ pub fn begin<'a>(
     inputs: &Inputs,
 ) -> Result<TickState<'a>, BeginFault>
     requires { Rests verified.now.program control.now }
-    ensures begun { IfOk result (IsBegun verified.now control.now inputs.now) }
+    ensures accepted { IfOk result (λ _. AreAccepted verified.now.program inputs.now) }
     ensures start { IfOk result (λ s. s ≡ begun verified.now inputs.now control.now) }
     ensures refused { IsErrOf result BeginFault.Input ↔ ¬ (AreAccepted verified.now.program inputs.now) }
 {

@@ -1,6 +1,6 @@
 -- How a run is judged by the steps that it takes.
 use Rattle.std.specs.Prelude.{ℕ, ◌≡◌, ◌<◌, ◌≤◌, Some, List, map, slice_get}
-use Rattle.sc_values.specs.Runs.{Act, replay, acts, IsOrdered, IsOver, Ends}
+use Rattle.sc_values.specs.Runs.{Act, replay, acts, IsOrdered, IsOver}
 use Rattle.sc_graph.specs.declared.control.Control.{Control}
 use Rattle.sc_graph.specs.Program.{Program}
 use Rattle.sc_graph.specs.Threads.{ForkedApart}

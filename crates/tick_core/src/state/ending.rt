@@ -1,6 +1,5 @@
-ghost use Rattle.std.specs.Prelude.{◌≡◌, ◌↔◌, ◌<◌, ◌≤◌, ◌==◌, ◌≢◌, List, Some, ℕ, IsTrue, IsPermutation, MatchOption, count_by, length, slice_get, slice_index};
-ghost use Rattle.sc_values.specs.Runs.{IsOver, IsAdmissible, Completes, Ends};
-ghost use Rattle.sc_graph.specs.declared.control.Control.{Control as Configuration};
+ghost use Rattle.std.specs.Prelude.{◌≡◌, ◌↔◌, ◌<◌, ◌≤◌, ◌==◌, ◌≢◌, List, Some, ℕ, IsTrue, MatchOption, count_by, length, slice_get, slice_index};
+ghost use Rattle.sc_values.specs.Runs.{IsOver};
 ghost use Rattle.sc_graph.specs.Machine.{machine};
 ghost use Rattle.sc_graph.specs.Priority.{Leads, PriorityRun};
 ghost use Rattle.sc_graph.specs.Tick.{IsConfiguration, Rests};
@@ -10,6 +9,7 @@ ghost use Rattle.sc_graph.specs.Valid.{IsValid};
 ghost use Rattle.tick_core.specs.Claims.{Claim as OpenClaim};
 ghost use Rattle.tick_core.specs.Inside.Work.{value_at};
 ghost use Rattle.tick_core.specs.State.{Advances, GoesAlone, threads_of};
+ghost use Rattle.tick_core.specs.Whole.{WholeTick};
 ghost use Rattle.tick_core.specs.Inside.Turns.{DropsClaims};
 
 use crate::claim::Claim;
@@ -86,14 +86,9 @@ impl<'a> TickState<'a> {
         ensures present { result.0 ≡ self.entry.present }
         ensures rests { Rests self.entry.image.program result.0 }
         ensures history { result.1.history ≡ self.entry.history }
-        ensures within { length result.1.history ≤ self.entry.image.tables.budget }
+        ensures tick { WholeTick self.entry.image self.entry.begun (threads_of result.1.history) result.0 }
         ensures by_priority { PriorityRun self.entry.image.program self.entry.image.tables (threads_of result.1.history) self.entry.begun result.0 }
         ensures by { (w : ℕ) → w < 9 → slice_index result.1.by w ≡ count_by (λ e. e.worker == w) self.entry.history }
-        ensures complete { Completes (machine self.entry.image.program) (threads_of result.1.history) self.entry.begun result.0 }
-        ensures admissible { IsAdmissible (machine self.entry.image.program) (threads_of result.1.history) self.entry.begun }
-        ensures ends { Ends (machine self.entry.image.program) self.entry.begun result.0 }
-        ensures one_end { (other : Configuration) → Ends (machine self.entry.image.program) self.entry.begun other → other ≡ result.0 }
-        ensures reordered { (run : List ℕ) (end : Configuration) → Completes (machine self.entry.image.program) run self.entry.begun end → IsAdmissible (machine self.entry.image.program) run self.entry.begun → IsPermutation run (threads_of result.1.history) }
     {
         let TickState {
             verified: _,

@@ -1,5 +1,5 @@
 use Rattle.std.proofs.Common.{refl, rules}
-use Rattle.tick_core.proofs.Keeping.{Begins, is_begun, holds_begun}
+use Rattle.tick_core.proofs.Keeping.{Begins, holds_begun}
 use Rattle.tick_core.proofs.state.begin.Goals as goal
 
 begins : (c : goal.In_ok-claims) → Begins c.args.verified.now c.args.control.now c.args.inputs.now
@@ -22,6 +22,3 @@ begins c =
 pub invariant_of-result : goal.invariant_of-result
 invariant_of-result c =
     (holds_begun _ _ _ _ (search rules) c.requires (begins c), search rules, search rules)
-
-pub returns-clause-begun : goal.returns-clause-begun
-returns-clause-begun c = is_begun _ _ _ _ (begins c)

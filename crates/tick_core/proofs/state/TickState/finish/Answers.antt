@@ -13,20 +13,5 @@ ended c =
 pub returns-clause-rests : goal.returns-clause-rests
 returns-clause-rests c = (ended c).rests
 
-pub returns-clause-within : goal.returns-clause-within
-returns-clause-within c = (ended c).within
-
-pub returns-clause-complete : goal.returns-clause-complete
-returns-clause-complete c = (ended c).complete
-
-pub returns-clause-admissible : goal.returns-clause-admissible
-returns-clause-admissible c = (ended c).admissible
-
-pub returns-clause-ends : goal.returns-clause-ends
-returns-clause-ends c = (ended c).ends
-
-pub returns-clause-one_end : goal.returns-clause-one_end
-returns-clause-one_end c = (ended c).one_end
-
-pub returns-clause-reordered : goal.returns-clause-reordered
-returns-clause-reordered c = (ended c).reordered
+pub returns-clause-tick : goal.returns-clause-tick
+returns-clause-tick c = (ended c).tick
