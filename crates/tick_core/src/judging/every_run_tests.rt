@@ -250,30 +250,60 @@ fn expected(complete: usize, admissible: usize, astray: usize) -> Counts {
     }
 }
 
-// Two threads of two steps each stand in 6 orders, and in half of them the first writes first. Each
-// other order reads too early, or updates what is initialized then.
-#[test]
-fn two_threads_end_once(rt: HostRuntime) -> Result<(), Fail> {
-    let alloc = rt.alloc();
-    for image in [write_and_read(alloc)?, init_and_update(alloc)?] {
-        let (first, second) = first_and_second(alloc, &image)?;
-        assert_eq!(rt; first, expected(6, 3, 3));
-        // the root has ended
-        assert_eq!(rt; second, expected(1, 1, 0));
-    }
+// The second tick of a program that ends in its first: the run of no step.
+const OVER: Counts = Counts {
+    complete: 1,
+    admissible: 1,
+    astray: 0,
+};
+
+// What is counted in the first tick, and in the second.
+fn expect_counted<R: Abort + AllocGlobal>(
+    rt: &R,
+    image: &Verified,
+    in_the_first: Counts,
+    in_the_second: Counts,
+) -> Result<(), Fail> {
+    let (first, second) = first_and_second(rt.alloc(), image)?;
+    assert_eq!(rt; first, in_the_first);
+    assert_eq!(rt; second, in_the_second);
     Ok(())
 }
 
-// Three threads of two steps each stand in 90 orders: a third of them has the read behind both
-// updates, a sixth the init, the update and the read in this order.
+// Two threads of two steps each stand in 6 orders, and in half of them the first writes first. Each
+// other order reads too early.
 #[test]
-fn three_threads_end_once(rt: HostRuntime) -> Result<(), Fail> {
-    let alloc = rt.alloc();
-    let (first, _second) = first_and_second(alloc, &updates_and_read(alloc)?)?;
-    assert_eq!(rt; first, expected(90, 30, 60));
-    let (first, _second) = first_and_second(alloc, &init_update_read(alloc)?)?;
-    assert_eq!(rt; first, expected(90, 15, 75));
-    Ok(())
+fn a_write_and_a_read_end_once(rt: HostRuntime) -> Result<(), Fail> {
+    expect_counted(&rt, &write_and_read(rt.alloc())?, expected(6, 3, 3), OVER)
+}
+
+// Each other order updates what is initialized then.
+#[test]
+fn an_init_and_an_update_end_once(rt: HostRuntime) -> Result<(), Fail> {
+    expect_counted(&rt, &init_and_update(rt.alloc())?, expected(6, 3, 3), OVER)
+}
+
+// Three threads of two steps each stand in 90 orders: a third of them has the read behind both
+// updates.
+#[test]
+fn two_updates_and_a_read_end_once(rt: HostRuntime) -> Result<(), Fail> {
+    expect_counted(
+        &rt,
+        &updates_and_read(rt.alloc())?,
+        expected(90, 30, 60),
+        OVER,
+    )
+}
+
+// A sixth of them has the init, the update and the read in this order.
+#[test]
+fn an_init_an_update_and_a_read_end_once(rt: HostRuntime) -> Result<(), Fail> {
+    expect_counted(
+        &rt,
+        &init_update_read(rt.alloc())?,
+        expected(90, 15, 75),
+        OVER,
+    )
 }
 
 // The inner threads stand in 6 orders, each between the fork and the two steps at and behind the
@@ -281,22 +311,29 @@ fn three_threads_end_once(rt: HostRuntime) -> Result<(), Fail> {
 // updates in 15 of them where the updates are neighbours, in 10 where they are not: 4 · 15 + 2 · 10.
 #[test]
 fn nested_threads_end_once(rt: HostRuntime) -> Result<(), Fail> {
-    let alloc = rt.alloc();
-    let (first, _second) = first_and_second(alloc, &nested_forks(alloc)?)?;
-    assert_eq!(rt; first, expected(216, 80, 136));
-    Ok(())
+    expect_counted(
+        &rt,
+        &nested_forks(rt.alloc())?,
+        expected(216, 80, 136),
+        OVER,
+    )
 }
 
 // In the first tick two pauses stand in two orders. In the second the threads wake, end and pause
-// again: 6 · 2 orders, and 20 · 2 where each takes one step more.
+// again: 6 · 2 orders.
 #[test]
-fn later_ticks_end_once(rt: HostRuntime) -> Result<(), Fail> {
-    let alloc = rt.alloc();
-    let (first, second) = first_and_second(alloc, &two_pauses(alloc)?)?;
-    assert_eq!(rt; first, expected(2, 2, 0));
-    assert_eq!(rt; second, expected(12, 12, 0));
-    let (first, second) = first_and_second(alloc, &write_and_read_later(alloc)?)?;
-    assert_eq!(rt; first, expected(2, 2, 0));
-    assert_eq!(rt; second, expected(40, 20, 20));
-    Ok(())
+fn pauses_end_once(rt: HostRuntime) -> Result<(), Fail> {
+    expect_counted(
+        &rt,
+        &two_pauses(rt.alloc())?,
+        expected(2, 2, 0),
+        expected(12, 12, 0),
+    )
+}
+
+// Where each takes one step more in the second tick, there are 20 · 2 orders.
+#[test]
+fn a_later_write_and_read_end_once(rt: HostRuntime) -> Result<(), Fail> {
+    let image = write_and_read_later(rt.alloc())?;
+    expect_counted(&rt, &image, expected(2, 2, 0), expected(40, 20, 20))
 }

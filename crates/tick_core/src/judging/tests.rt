@@ -89,24 +89,46 @@ fn second_tick(alloc: Global, image: &Verified, run: &[ThreadId]) -> Result<Told
     Ok(answer_of(&judgement(alloc, image, &resting, run)?))
 }
 
+// What is judged of runs of the first tick.
+fn expect_judged<R: Abort + AllocGlobal>(
+    rt: &R,
+    image: &Verified,
+    rows: &[(&[ThreadId], Told)],
+) -> Result<(), Fail> {
+    for (run, wanted) in rows {
+        assert_eq!(rt; first_tick(rt.alloc(), image, run)?, *wanted);
+    }
+    Ok(())
+}
+
 #[test]
-fn judges_first_ticks(rt: HostRuntime) -> Result<(), Fail> {
+fn judges_a_write_and_a_read(rt: HostRuntime) -> Result<(), Fail> {
     let image = write_and_read(rt.alloc())?;
-    for (run, wanted) in [
+    let rows = [
         ([0, 1, 1, 2, 2, 0, 0].as_slice(), Told::Ends(1, 1, 0)),
         ([0, 1, 2, 1, 2, 0, 0].as_slice(), Told::Ends(1, 1, 0)),
         ([0, 2, 1, 1, 2, 0, 0].as_slice(), Told::NotAdmissible(1, 2)),
         ([0, 0].as_slice(), Told::NotRun(1)),
         ([0, 1].as_slice(), Told::Incomplete),
-    ] {
-        assert_eq!(rt; first_tick(rt.alloc(), &image, run)?, wanted);
-    }
+    ];
+    expect_judged(&rt, &image, &rows)
+}
+
+#[test]
+fn judges_an_init_and_an_update(rt: HostRuntime) -> Result<(), Fail> {
     let image = init_and_update(rt.alloc())?;
     let run = [0, 2, 1, 1, 2, 0, 0];
-    assert_eq!(rt;
-        first_tick(rt.alloc(), &image, &run)?,
-        Told::NotAdmissible(1, 2)
-    );
+    expect_judged(&rt, &image, &[(&run, Told::NotAdmissible(1, 2))])
+}
+
+// What is judged of a run of the second tick.
+fn expect_judged_later<R: Abort + AllocGlobal>(
+    rt: &R,
+    image: &Verified,
+    run: &[ThreadId],
+    wanted: Told,
+) -> Result<(), Fail> {
+    assert_eq!(rt; second_tick(rt.alloc(), image, run)?, wanted);
     Ok(())
 }
 
@@ -114,10 +136,6 @@ fn judges_first_ticks(rt: HostRuntime) -> Result<(), Fail> {
 fn judges_second_ticks(rt: HostRuntime) -> Result<(), Fail> {
     let image = two_pauses(rt.alloc())?;
     let run = [1, 1, 2, 2, 0, 0, 1, 2];
-    assert_eq!(rt; second_tick(rt.alloc(), &image, &run)?, Told::Ends(0, 0, 2));
-    assert_eq!(rt;
-        second_tick(rt.alloc(), &image, &[1, 1, 0])?,
-        Told::NotRun(2)
-    );
-    Ok(())
+    expect_judged_later(&rt, &image, &run, Told::Ends(0, 0, 2))?;
+    expect_judged_later(&rt, &image, &[1, 1, 0], Told::NotRun(2))
 }

@@ -1,7 +1,7 @@
 // What workers do in a tick, act by act, and what each is told.
 ghost use Rattle.std.specs.Prelude.{◌≤◌};
 
-use crate::{Control, Done, Inputs, TickState, Turn, begin, evaluate};
+use crate::{Control, Done, Inputs, Report, TickState, Turn, begin, evaluate};
 use sc_graph::ThreadId;
 use sc_values::Value;
 use sqlite_items::Items;
@@ -41,6 +41,13 @@ pub(crate) fn first_tick<'a>(alloc: Global, image: &'a Verified) -> Result<TickS
     let opening = Control::initial(alloc, image.image().program())?;
     let inputs: Inputs = Items::new(alloc);
     Ok(begin(alloc, image, &opening, &inputs)?)
+}
+
+/// What becomes of a tick that then ends alone.
+pub(crate) fn ended(state: TickState<'_>) -> (Control, Report) {
+    let mut state = state;
+    state.run_alone();
+    state.finish()
 }
 
 /// Does what is to be done, and puts a new claim behind those that were given.

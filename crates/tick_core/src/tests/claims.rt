@@ -1,7 +1,7 @@
 // Claims of several workers.
-use crate::tests::acts::{Act, Told, first_tick, perform};
+use crate::tests::acts::{Act, Told, ended, first_tick, perform};
 use crate::tests::images::{wrapping_sum, write_and_read};
-use crate::{Control, Done, Entry, Report, TickState};
+use crate::{Done, Entry, TickState};
 use sc_graph::{NodeId, ThreadId};
 use sc_values::Value;
 use std::process::Abort;
@@ -20,12 +20,6 @@ fn play<'a, R: Abort + AllocGlobal>(
         assert_eq!(rt; told, *wanted, "at {number}");
     }
     Ok(given)
-}
-
-fn ended(state: TickState<'_>) -> (Control, Report) {
-    let mut state = state;
-    state.run_alone();
-    state.finish()
 }
 
 // Acts in the first tick of an image, which then ends alone: the threads and workers of its steps, and

@@ -311,14 +311,31 @@ fn expect_ends<R: Abort + AllocGlobal>(
 }
 
 #[test]
-fn random_events_replay(rt: HostRuntime) -> Result<(), Fail> {
-    let alloc = rt.alloc();
-    for image in [write_and_read(alloc)?, wrapping_sum(alloc)?] {
-        expect_ends(&rt, &image, &[])?;
-    }
-    for image in [two_pauses(alloc)?, nested_forks(alloc)?] {
-        expect_ends(&rt, &image, &[])?;
-    }
-    expect_ends(&rt, &branches(alloc, 8)?, &[])?;
-    expect_ends(&rt, &counter(alloc)?, &[("A", Value::Bool(true))])
+fn events_of_a_write_and_a_read_replay(rt: HostRuntime) -> Result<(), Fail> {
+    expect_ends(&rt, &write_and_read(rt.alloc())?, &[])
+}
+
+#[test]
+fn events_of_two_updates_replay(rt: HostRuntime) -> Result<(), Fail> {
+    expect_ends(&rt, &wrapping_sum(rt.alloc())?, &[])
+}
+
+#[test]
+fn events_of_pauses_replay(rt: HostRuntime) -> Result<(), Fail> {
+    expect_ends(&rt, &two_pauses(rt.alloc())?, &[])
+}
+
+#[test]
+fn events_of_nested_forks_replay(rt: HostRuntime) -> Result<(), Fail> {
+    expect_ends(&rt, &nested_forks(rt.alloc())?, &[])
+}
+
+#[test]
+fn events_of_wide_forks_replay(rt: HostRuntime) -> Result<(), Fail> {
+    expect_ends(&rt, &branches(rt.alloc(), 8)?, &[])
+}
+
+#[test]
+fn events_of_ticks_with_inputs_replay(rt: HostRuntime) -> Result<(), Fail> {
+    expect_ends(&rt, &counter(rt.alloc())?, &[("A", Value::Bool(true))])
 }

@@ -1,5 +1,5 @@
 // Whole ticks, by one worker.
-use crate::tests::acts::first_tick;
+use crate::tests::acts::{ended, first_tick};
 use crate::tests::images::{
     assignments, branches, nested_forks, one_exit, two_pauses, wrapping_sum, write_and_read,
 };
@@ -21,9 +21,7 @@ pub(crate) fn tick(
     if !control.fits(image.image().program()) {
         return Err("a configuration that rests")?;
     }
-    let mut state = begin(alloc, image, control, inputs)?;
-    state.run_alone();
-    Ok(state.finish())
+    Ok(ended(begin(alloc, image, control, inputs)?))
 }
 
 // The steps of each tick without inputs, and the values of the variables after it.
@@ -46,17 +44,29 @@ fn expect_ticks<R: Abort + AllocGlobal>(
 }
 
 #[test]
-fn small_programs_end(rt: HostRuntime) -> Result<(), Fail> {
+fn one_step_ends(rt: HostRuntime) -> Result<(), Fail> {
     let image = one_exit(rt.alloc())?;
-    expect_ticks(&rt, &image, &[(1, &[]), (0, &[])])?;
-    let ones = [Value::Int(1), Value::Int(1)];
+    expect_ticks(&rt, &image, &[(1, &[]), (0, &[])])
+}
+
+#[test]
+fn what_is_written_is_read(rt: HostRuntime) -> Result<(), Fail> {
     let image = write_and_read(rt.alloc())?;
-    expect_ticks(&rt, &image, &[(7, &ones), (0, &ones)])?;
-    let least = [Value::Int(-2147483648), Value::Int(0)];
+    let ones = [Value::Int(1), Value::Int(1)];
+    expect_ticks(&rt, &image, &[(7, &ones), (0, &ones)])
+}
+
+#[test]
+fn sums_wrap(rt: HostRuntime) -> Result<(), Fail> {
     let image = wrapping_sum(rt.alloc())?;
-    expect_ticks(&rt, &image, &[(7, &least), (0, &least)])?;
-    let threes = [Value::Int(3), Value::Int(3)];
+    let least = [Value::Int(-2147483648), Value::Int(0)];
+    expect_ticks(&rt, &image, &[(7, &least), (0, &least)])
+}
+
+#[test]
+fn nested_forks_join(rt: HostRuntime) -> Result<(), Fail> {
     let image = nested_forks(rt.alloc())?;
+    let threes = [Value::Int(3), Value::Int(3)];
     expect_ticks(&rt, &image, &[(12, &threes), (0, &threes)])
 }
 
@@ -69,11 +79,15 @@ fn later_ticks_meet_the_budget(rt: HostRuntime) -> Result<(), Fail> {
 }
 
 #[test]
-fn long_and_wide_ticks_end(rt: HostRuntime) -> Result<(), Fail> {
-    let long = assignments(rt.alloc(), 4095)?;
-    expect_ticks(&rt, &long, &[(4096, &[Value::Int(1)])])?;
-    let wide = branches(rt.alloc(), 64)?;
-    expect_ticks(&rt, &wide, &[(131, &[Value::Int(64)])])
+fn long_ticks_end(rt: HostRuntime) -> Result<(), Fail> {
+    let image = assignments(rt.alloc(), 4095)?;
+    expect_ticks(&rt, &image, &[(4096, &[Value::Int(1)])])
+}
+
+#[test]
+fn wide_ticks_end(rt: HostRuntime) -> Result<(), Fail> {
+    let image = branches(rt.alloc(), 64)?;
+    expect_ticks(&rt, &image, &[(131, &[Value::Int(64)])])
 }
 
 #[test]
