@@ -277,7 +277,7 @@ fn a_write_and_a_read_end_once(rt: HostRuntime) -> Result<(), Fail> {
     expect_counted(&rt, &write_and_read(rt.alloc())?, expected(6, 3, 3), OVER)
 }
 
-// Each other order updates what is initialized then.
+// In half of 6 orders the init comes first. Each other order updates what is initialized then.
 #[test]
 fn an_init_and_an_update_end_once(rt: HostRuntime) -> Result<(), Fail> {
     expect_counted(&rt, &init_and_update(rt.alloc())?, expected(6, 3, 3), OVER)
@@ -295,7 +295,7 @@ fn two_updates_and_a_read_end_once(rt: HostRuntime) -> Result<(), Fail> {
     )
 }
 
-// A sixth of them has the init, the update and the read in this order.
+// A sixth of 90 orders has the init, the update and the read in this order.
 #[test]
 fn an_init_an_update_and_a_read_end_once(rt: HostRuntime) -> Result<(), Fail> {
     expect_counted(
@@ -331,7 +331,7 @@ fn pauses_end_once(rt: HostRuntime) -> Result<(), Fail> {
     )
 }
 
-// Where each takes one step more in the second tick, there are 20 · 2 orders.
+// As two pauses, but in the second tick each thread takes one step more: 20 · 2 orders.
 #[test]
 fn a_later_write_and_read_end_once(rt: HostRuntime) -> Result<(), Fail> {
     let image = write_and_read_later(rt.alloc())?;
