@@ -20,6 +20,10 @@ use Rattle.sc_values.proofs.Running.{given}
 unary_is : (f : UnaryOperator) (a k : Kind) → unary_kind f a ≡ Some k → given_by_unary f ≡ k
 unary_is unary.Negate kind_is.Int k is = cc
 unary_is unary.Negate kind_is.Bool k is = absurd cc
+unary_is (unary.Divide d) kind_is.Int k is = cc
+unary_is (unary.Divide d) kind_is.Bool k is = absurd cc
+unary_is (unary.Remainder d) kind_is.Int k is = cc
+unary_is (unary.Remainder d) kind_is.Bool k is = absurd cc
 unary_is unary.Not kind_is.Bool k is = cc
 unary_is unary.Not kind_is.Int k is = absurd cc
 

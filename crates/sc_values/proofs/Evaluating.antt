@@ -172,11 +172,10 @@ few_after (op.Load x) n i h = omega arith
 few_after (op.Unary f) n i h = omega arith
 few_after (op.Binary f) n i h = omega arith
 
-pub going_acts : (operands : List Value) (code : List Operation) (i n : ℕ) (stack : List Value) (d : Operation) → i < length code → Going operands code i n stack → Acts operands code i n stack (get_or code i d)
-going_acts operands code i n stack d within so =
-    let o = get_or code i d in
+pub going_acts : (operands : List Value) (code : List Operation) (i n : ℕ) (stack : List Value) (o : Operation) → i < length code → o ≡ get_or code i o → Going operands code i n stack → Acts operands code i n stack o
+going_acts operands code i n stack o within is_at so =
     let rest = drop (i + 1) code in
-    let here = drop_more code i d within in
+    let here : drop i code ≡ o ∷ rest = drop_more code i o within ∙ ap (λ p. p ∷ rest) (sym is_at) in
     let run : ran operands (numbered n (o ∷ rest)) stack ≡ Some (so.end ∷ []) = ap (λ c. ran operands (numbered n c) stack) (sym here) ∙ so.runs in
     let g = given (ran operands (numbered (loads_after o n) rest)) (acted (taken operands n o) o stack) (so.end ∷ []) (sym (ran_numbered operands n o rest stack) ∙ run) in
     let tall = height_acted (taken operands n o) o stack g.operand g.is in

@@ -1,5 +1,6 @@
 pub mod Merge
 pub mod Induction
+pub mod Division
 pub mod Spelling
 pub mod Loading
 pub mod WellKinded
@@ -13,3 +14,4 @@ pub mod Testing
 pub mod Writing
 pub mod Ending
 pub mod Order
+pub mod Literals

@@ -50,24 +50,24 @@ pub gathers_all : {A : Type 0} (all : List A) (code : List Operation) (i : ℕ) 
 gathers_all all code i done past so =
     sym (append-nil done) ∙ ap (λ t. done ++ loaded_from all t) (sym (drop_past code i past)) ∙ so.is
 
-module _ {A : Type 0} (all : List A) (code : List Operation) (i : ℕ) (d : Operation) (done : List A) (within : i < length code) where
+module _ {A : Type 0} (all : List A) (code : List Operation) (i : ℕ) (o : Operation) (done : List A) (within : i < length code) (is_at : o ≡ get_or code i o) where
   -- the operation at i, and what comes behind it
-  next : (found : List A) → option_to_list (loaded_item all (get_or code i d)) ≡ found → loaded_from all (drop i code) ≡ found ++ loaded_from all (drop (i + 1) code)
+  next : (found : List A) → option_to_list (loaded_item all o) ≡ found → loaded_from all (drop i code) ≡ found ++ loaded_from all (drop (i + 1) code)
   next found is =
-      ap (loaded_from all) (drop_more code i d within)
-      ∙ loaded_from-cons all (get_or code i d) (drop (i + 1) code)
+      ap (loaded_from all) (drop_more code i o within ∙ ap (λ p. p ∷ drop (i + 1) code) (sym is_at))
+      ∙ loaded_from-cons all o (drop (i + 1) code)
       ∙ ap (λ t. t ++ loaded_from all (drop (i + 1) code)) is
 
-  pub gathers_some : (v : A) → Some v ≡ loaded_item all (get_or code i d) → Gathers all code i done → Gathers all code (i + 1) (done ++ v ∷ [])
+  pub gathers_some : (v : A) → Some v ≡ loaded_item all o → Gathers all code i done → Gathers all code (i + 1) (done ++ v ∷ [])
   gathers_some v found so = record {
     is = append_assoc done (v ∷ []) (loaded_from all (drop (i + 1) code)) ∙ ap (λ t. done ++ t) (sym (next (v ∷ []) (ap option_to_list (sym found)))) ∙ so.is;
   }
 
-  pub gathers_none : None ≡ loaded_item all (get_or code i d) → Gathers all code i done → Gathers all code (i + 1) done
+  pub gathers_none : None ≡ loaded_item all o → Gathers all code i done → Gathers all code (i + 1) done
   gathers_none found so = record { is = ap (λ t. done ++ t) (sym (next [] (ap option_to_list (sym found)))) ∙ so.is }
 
   -- there is room for one more
-  pub gathers_room : (v : A) (limit : ℕ) → Some v ≡ loaded_item all (get_or code i d) → length (loads code) ≤ limit → Gathers all code i done → length done < limit
+  pub gathers_room : (v : A) (limit : ℕ) → Some v ≡ loaded_item all o → length (loads code) ≤ limit → Gathers all code i done → length done < limit
   gathers_room v limit found fits so =
       let more = gathers_some v found so in
       let e = ap length more.is in

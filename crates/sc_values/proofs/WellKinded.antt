@@ -25,7 +25,11 @@ pub record Gives (result : Option Value) (k : Kind) : Type 0 where
 pub unary_gives : (f : UnaryOperator) (a : Value) (k : Kind) → unary_kind f (kind_of a) ≡ Some k → Gives (unary_value f a) k
 unary_gives unary.Negate (value_of.Int n) k is = record { value = _; is = refl; kind = cc }
 unary_gives unary.Not (value_of.Bool b) k is = record { value = _; is = refl; kind = cc }
+unary_gives (unary.Divide d) (value_of.Int n) k is = record { value = _; is = refl; kind = cc }
+unary_gives (unary.Remainder d) (value_of.Int n) k is = record { value = _; is = refl; kind = cc }
 unary_gives unary.Negate (value_of.Bool b) k is = absurd cc
+unary_gives (unary.Divide d) (value_of.Bool b) k is = absurd cc
+unary_gives (unary.Remainder d) (value_of.Bool b) k is = absurd cc
 unary_gives unary.Not (value_of.Int n) k is = absurd cc
 
 pub binary_gives : (f : BinaryOperator) (a b : Value) (k : Kind) → binary_kind f (kind_of a) (kind_of b) ≡ Some k → Gives (binary_value f a b) k

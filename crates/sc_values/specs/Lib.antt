@@ -1,10 +1,13 @@
 pub mod Limits
 pub mod Name
+pub mod Division
 pub mod Operator
 pub mod Expr
 pub mod Code
 pub mod Access
+pub mod Assignment
 pub mod Checked
+pub mod FaultText
 pub mod Streams
 pub mod Runs
 pub mod Inside

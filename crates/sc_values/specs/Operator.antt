@@ -2,6 +2,7 @@
 use Rattle.std.specs.Prelude.{Option, Some, None, Bool, false, not, ◌&&◌, ◌||◌, ℤ, pos, ◌+ℤ◌, ◌-ℤ◌, ◌*ℤ◌, neg_ℤ, int_lt, int_le, unwrap_or}
 use Rattle.std.specs.Int.{int_wrap, int_min, int_max, w32}
 use Rattle.std.specs.Ordering.{int_eq}
+use Rattle.sc_values.specs.Division.{quotient, remainder}
 use Rattle.sc_values.specs.declared.value.Value.{Value}
 use Rattle.sc_values.specs.declared.value.Value.TheVariants as value
 use Rattle.sc_values.specs.declared.value.Kind.{Kind}
@@ -35,6 +36,8 @@ same a b = (a && b) || (not a && not b)
 abbrev pub unary_value : UnaryOperator → Value → Option Value
 unary_value unary.Negate (value.Int n) = int_of (neg_ℤ n)
 unary_value unary.Not (value.Bool b) = bool_of (not b)
+unary_value (unary.Divide d) (value.Int n) = int_of (quotient n d)
+unary_value (unary.Remainder d) (value.Int n) = int_of (remainder n d)
 unary_value f a = None
 
 -- an operator of two integers
@@ -88,6 +91,8 @@ combined f present by = unwrap_or (binary_value (operator_of f) present by) pres
 abbrev pub unary_kind : UnaryOperator → Kind → Option Kind
 unary_kind unary.Negate kind.Int = Some kind.Int
 unary_kind unary.Not kind.Bool = Some kind.Bool
+unary_kind (unary.Divide d) kind.Int = Some kind.Int
+unary_kind (unary.Remainder d) kind.Int = Some kind.Int
 unary_kind f a = None
 
 abbrev pub int_kind : BinaryOperator → Option Kind

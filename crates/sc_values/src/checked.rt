@@ -1,17 +1,15 @@
-ghost use Rattle.std.specs.Prelude.{◌≡◌, ◌↔◌, ◌-◌, ◌≤◌, IsTrue, List, [], ◌∷◌, length, option_and_then, slice_get, MatchOption, Some, None};
+ghost use Rattle.std.specs.Prelude.{◌≡◌, List, MatchOption};
 ghost use Rattle.sc_values.specs.declared.value.Kind.{Kind};
-ghost use Rattle.sc_values.specs.Limits.{load_limit, operation_limit};
-ghost use Rattle.sc_values.specs.Code.{IsWellFormed, loaded, loads};
+ghost use Rattle.sc_values.specs.Code.{IsWellFormed};
 ghost use Rattle.sc_values.specs.Checked.{Checks, IsChecked, loaded_from};
-ghost use Rattle.sc_values.specs.Inside.Stack.{alone, kind_acted, last_kind, tested};
 
 use crate::code::Code;
-use crate::expression::variable_kind;
+use crate::code_loads::load_kinds;
+use crate::last_operation::last_left;
 use crate::limits::LOAD_LIMIT;
 use crate::operands::Operands;
-use crate::operation::Operation;
-use crate::stack::Stack;
 use crate::value::{Kind, Value};
+use crate::well_formed::is_well_formed;
 use arrayvec::ArrayVec;
 use std::marker::Model;
 
@@ -122,106 +120,4 @@ impl<'a> PartialEq for CheckedCode<'a> {
     {
         self.code == other.code && self.loads() == other.loads()
     }
-}
-
-// Whether a code is well formed under these kinds of the variables.
-fn is_well_formed(code: &Code, kinds: &[Kind]) -> bool
-    ensures { IsTrue result ↔ IsWellFormed kinds.now code.now }
-{
-    let operations = code.operations();
-    kind_of_code(operations, kinds).is_some() && load_count(operations) <= LOAD_LIMIT
-}
-
-// The kinds of the variables that a code loads, in the order of its loads.
-fn load_kinds(code: &Code, kinds: &[Kind]) -> ArrayVec<Kind, LOAD_LIMIT>
-    requires { length (loads code.now) ≤ load_limit }
-    ensures { result.items ≡ loaded_from kinds.now code.now }
-{
-    let mut found = ArrayVec::new();
-    for operation in code.operations() {
-        if let Some(kind) = loaded_kind(operation, kinds) {
-            found.push(kind);
-        }
-    }
-    found
-}
-
-// The kind of the variable that an operation loads, if it loads one.
-fn loaded_kind(operation: &Operation, kinds: &[Kind]) -> Option<Kind>
-    ensures { result ≡ option_and_then (slice_get kinds.now) (loaded operation.now) }
-{
-    match operation {
-        Operation::Load(x) => variable_kind(kinds, *x),
-        _ => None,
-    }
-}
-
-// The kind of what a code leaves on a stack of kinds. None: it leaves another number of operands
-// than one, or an operand is missing, of another kind or one too many.
-fn kind_of_code(operations: &[Operation], kinds: &[Kind]) -> Option<Kind>
-    ensures { result ≡ option_and_then alone (tested kinds.now operations.now []) }
-{
-    let mut stack = Stack::new();
-    for operation in operations {
-        match kind_left(&mut stack, operation, loaded_kind(operation, kinds)) {
-            Some(kind) if !stack.is_full() => stack.push(kind),
-            _ => return None,
-        }
-    }
-    let kind = stack.pop()?;
-    if stack.is_empty() { Some(kind) } else { None }
-}
-
-// The kind that an operation leaves for those of its operands, which it takes off the stack.
-fn kind_left(stack: &mut Stack<Kind>, operation: &Operation, variable: Option<Kind>) -> Option<Kind>
-    ensures { MatchOption result (kind_acted variable operation.now stack.old ≡ None) (λ k. kind_acted variable operation.now stack.old ≡ Some (k ∷ stack.new)) }
-{
-    match operation {
-        Operation::Literal(value) => Some(value.kind()),
-        Operation::Load(_) => variable,
-        Operation::Unary(f) => match stack.pop() {
-            Some(operand) => f.kind(operand),
-            None => None,
-        },
-        Operation::Binary(f) => match (stack.pop(), stack.pop()) {
-            (Some(right), Some(left)) => f.kind(left, right),
-            _ => None,
-        },
-    }
-}
-
-// The kind of what the last operation leaves, where the loads are of these kinds.
-fn last_left(operations: &[Operation], loads: &[Kind]) -> Option<Kind>
-    ensures { result ≡ option_and_then (last_kind (slice_get loads.now 0)) (slice_get operations.now (length operations.now - 1)) }
-{
-    match operations.last() {
-        Some(operation) => kind_after(operation, loads.first().copied()),
-        None => None,
-    }
-}
-
-// The kind of what an operation leaves, where the code's first load is of this kind.
-fn kind_after(operation: &Operation, first: Option<Kind>) -> Option<Kind>
-    ensures { result ≡ last_kind first operation.now }
-{
-    match operation {
-        Operation::Literal(value) => Some(value.kind()),
-        Operation::Load(_) => first,
-        Operation::Unary(f) => Some(f.gives()),
-        Operation::Binary(f) => Some(f.gives()),
-    }
-}
-
-// How many operations are loads.
-fn load_count(operations: &[Operation]) -> usize
-    requires { length operations.now ≤ operation_limit }
-    ensures { result ≡ length (loads operations.now) }
-{
-    let mut count = 0;
-    for operation in operations {
-        if let Operation::Load(_) = operation {
-            count += 1;
-        }
-    }
-    count
 }

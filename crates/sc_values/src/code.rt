@@ -1,16 +1,17 @@
-ghost use Rattle.std.specs.Prelude.{◌≡◌, ◌<◌, ◌≤◌, [], ◌∷◌, ◌++◌, ◌↔◌, IfOk, IsSome, MatchBool, SomeIff, None, length};
+ghost use Rattle.std.specs.Prelude.{◌≡◌, ◌<◌, ◌≤◌, [], ◌∷◌, ◌++◌, ◌↔◌, IfOk, IfSome, IsSome, List, MatchBool, SomeIff, None, length};
 ghost use Rattle.std.specs.Result.{IsErrOf};
 ghost use Rattle.sc_values.specs.declared.expression.Expr.{Expr};
+ghost use Rattle.sc_values.specs.declared.value.Value.{Value};
 ghost use Rattle.sc_values.specs.Limits.{operation_limit};
 ghost use Rattle.sc_values.specs.Expr.{kind, postorder};
-ghost use Rattle.sc_values.specs.Code.{Spells, IsWellFormed, IsWithinLimits};
+ghost use Rattle.sc_values.specs.Code.{Spells, IsWellFormed, IsWithinLimits, code_value, literal_of};
 
 use crate::checked::CheckedCode;
 use crate::code_fault::CodeFault;
 use crate::expression::Expr;
 use crate::limits::OPERATION_LIMIT;
 use crate::operation::Operation;
-use crate::value::Kind;
+use crate::value::{Kind, Value};
 use arrayvec::ArrayVec;
 use std::marker::Model;
 
@@ -94,6 +95,18 @@ impl Code {
         }
         self.operations.push(operation);
         true
+    }
+
+    /// Its literal, where it is nothing but one: its value, whatever the variables hold. A literal with
+    /// a negation behind it is none.
+    pub fn literal(&self) -> Option<Value>
+        ensures is { result ≡ literal_of self.now }
+        ensures value { IfSome result (λ v. (variables : List Value) → code_value self.now variables ≡ Some v) }
+    {
+        match self.operations() {
+            [Operation::Literal(value)] => Some(*value),
+            _ => None,
+        }
     }
 
     /// Its operations, in order.

@@ -5,8 +5,11 @@
 mod checked;
 mod code;
 mod code_fault;
+mod code_loads;
+mod divisor;
 mod evaluation;
 mod expression;
+mod last_operation;
 mod laws;
 mod limits;
 mod memory;
@@ -18,10 +21,12 @@ mod operator;
 mod stack;
 mod streams;
 mod value;
+mod well_formed;
 
 pub use checked::CheckedCode;
 pub use code::Code;
 pub use code_fault::CodeFault;
+pub use divisor::Divisor;
 pub use evaluation::eval;
 pub use expression::Expr;
 pub use laws::code_spells_one_tree;

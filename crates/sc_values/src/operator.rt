@@ -2,13 +2,18 @@ ghost use Rattle.std.specs.Prelude.{◌≡◌};
 ghost use Rattle.sc_values.specs.Operator.{operator_of, kind_combined, combined, unary_value, binary_value, int_value, truth_value, unary_kind, binary_kind, int_kind, truth_kind};
 ghost use Rattle.sc_values.specs.Inside.Stack.{given_by_unary, given_by_binary};
 
+use crate::divisor::Divisor;
 use crate::value::{Kind, Value};
 
-/// A prefix operator.
+/// An operator of one operand. A division is one: its divisor is part of it.
 #[derive(Clone, Copy, Debug, PartialEq, Eq)]
 pub enum UnaryOperator {
     Negate,
     Not,
+    /// The quotient by this divisor, rounded towards 0.
+    Divide(Divisor),
+    /// What that quotient leaves.
+    Remainder(Divisor),
 }
 
 /// An operator of two operands. `Min` and `Max` are written as calls, the others as infixes.
@@ -87,6 +92,8 @@ impl UnaryOperator {
         match (self, operand) {
             (UnaryOperator::Negate, Value::Int(n)) => Some(Value::Int(n.wrapping_neg())),
             (UnaryOperator::Not, Value::Bool(b)) => Some(Value::Bool(!b)),
+            (UnaryOperator::Divide(d), Value::Int(n)) => Some(Value::Int(d.quotient_of(n))),
+            (UnaryOperator::Remainder(d), Value::Int(n)) => Some(Value::Int(d.remainder_of(n))),
             _ => None,
         }
     }
@@ -96,7 +103,9 @@ impl UnaryOperator {
         ensures { result ≡ given_by_unary self }
     {
         match self {
-            UnaryOperator::Negate => Kind::Int,
+            UnaryOperator::Negate | UnaryOperator::Divide(_) | UnaryOperator::Remainder(_) => {
+                Kind::Int
+            }
             UnaryOperator::Not => Kind::Bool,
         }
     }
@@ -108,6 +117,8 @@ impl UnaryOperator {
         match (self, operand) {
             (UnaryOperator::Negate, Kind::Int) => Some(Kind::Int),
             (UnaryOperator::Not, Kind::Bool) => Some(Kind::Bool),
+            (UnaryOperator::Divide(_), Kind::Int) => Some(Kind::Int),
+            (UnaryOperator::Remainder(_), Kind::Int) => Some(Kind::Int),
             _ => None,
         }
     }

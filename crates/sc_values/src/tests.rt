@@ -4,7 +4,7 @@ ghost use Rattle.std.specs.Prelude.{◌≡◌, map};
 ghost use Rattle.sc_values.specs.Operator.{kind_of};
 
 use crate::{
-    BinaryOperator, CheckedCode, Code, CodeFault, Combination, Expr, Kind, Name, Operands,
+    BinaryOperator, CheckedCode, Code, CodeFault, Combination, Divisor, Expr, Kind, Name, Operands,
     Operation, UnaryOperator, Value, eval,
 };
 use sqlite_items::Boxed;
@@ -182,6 +182,52 @@ fn products_and_negation_wrap(rt: HostRuntime) {
     assert_eq!(rt; times.apply(most, most), Some(Value::Int(1)));
     let minus = BinaryOperator::Subtract;
     assert_eq!(rt; minus.apply(least, Value::Int(1)), Some(most));
+}
+
+// A number divided, and what is left of it.
+fn divided(number: i32, by: i32) -> Option<(Value, Value)> {
+    let divisor = Divisor::of(by)?;
+    let number = Value::Int(number);
+    let quotient = UnaryOperator::Divide(divisor).apply(number)?;
+    let remainder = UnaryOperator::Remainder(divisor).apply(number)?;
+    Some((quotient, remainder))
+}
+
+#[test]
+fn quotients_are_rounded_towards_zero(rt: HostRuntime) {
+    for (number, by, quotient, remainder) in [
+        (7, 2, 3, 1),
+        (-7, 2, -3, -1),
+        (7, -2, -3, 1),
+        (-7, -2, 3, -1),
+        (-2147483648, -1, -2147483648, 0),
+        (2147483647, -2147483648, 0, 2147483647),
+    ] {
+        let wanted = Some((Value::Int(quotient), Value::Int(remainder)));
+        assert_eq!(rt; divided(number, by), wanted, "{number} by {by}");
+    }
+    assert_eq!(rt; divided(7, 0), None);
+}
+
+// A variable divided by 2.
+fn half(alloc: Global) -> Result<Option<Expr>, AllocError> {
+    match Divisor::of(2) {
+        Some(two) => Ok(Some(Expr::Unary(
+            UnaryOperator::Divide(two),
+            Boxed::new(alloc, Expr::Load(0))?,
+        ))),
+        None => Ok(None),
+    }
+}
+
+#[test]
+fn a_division_is_one_operation(rt: HostRuntime) -> Result<(), Fail> {
+    let half = half(rt.alloc())?.ok_or("2 is a divisor")?;
+    assert_eq!(rt; Code::of(&half, &[Kind::Bool]), Err(CodeFault::Kind));
+    assert_eq!(rt; Code::of(&half, &[Kind::Int])?.operations().len(), 2);
+    let value = value_of(&half, &[Kind::Int], &[Value::Int(-5)])?;
+    assert_eq!(rt; value, Value::Int(-2));
+    Ok(())
 }
 
 #[test]

@@ -15,8 +15,8 @@ use Rattle.sc_values.specs.Operator.{kind_of, unary_value, binary_value, unary_k
 
 -- the kind of what an operator gives, where its operands fit
 abbrev pub given_by_unary : UnaryOperator → Kind
-given_by_unary unary.Negate = kind.Int
 given_by_unary unary.Not = kind.Bool
+given_by_unary f = kind.Int
 
 abbrev pub given_by_binary : BinaryOperator → Kind
 given_by_binary binary.Add = kind.Int

@@ -1,6 +1,4 @@
 use Rattle.std.proofs.Common.{◌≡◌, Some, false, refl, sym, ap, ◌∙◌}
-use Rattle.sc_values.specs.declared.value.Value.TheVariants as value
-use Rattle.sc_values.specs.declared.operation.Operation.TheVariants as op
 use Rattle.sc_values.specs.Checked.{value_over}
 use Rattle.sc_values.proofs.Evaluating.{going_begins, going_acts, going_ends, value_present, value_kind, tree_value}
 use Rattle.sc_values.proofs.evaluation.eval.Goals as goal
@@ -12,17 +10,17 @@ loop-operation-init c =
 
 pub act-requires-clause-runs : goal.act-requires-clause-runs
 act-requires-clause-runs c =
-    let acts = going_acts _ _ _ _ _ (op.Literal (value.Bool false)) c.loop-operation-test.true c.loop-operation.invariant in
+    let acts = going_acts _ _ _ _ _ c.operation-item.result c.loop-operation-test.true c.operation-item.is c.loop-operation.invariant in
     rw (c.operand_of-operand.ensures, c.values.ensures.value, acts.runs) refl
 
 pub act-requires-clause-room : goal.act-requires-clause-room
 act-requires-clause-room c =
-    let acts = going_acts _ _ _ _ _ (op.Literal (value.Bool false)) c.loop-operation-test.true c.loop-operation.invariant in
+    let acts = going_acts _ _ _ _ _ c.operation-item.result c.loop-operation-test.true c.operation-item.is c.loop-operation.invariant in
     acts.room
 
 pub loop-operation-preserved : goal.loop-operation-preserved
 loop-operation-preserved c =
-    let acts = going_acts _ _ _ _ _ (op.Literal (value.Bool false)) c.loop-operation-test.true c.loop-operation.invariant in
+    let acts = going_acts _ _ _ _ _ c.operation-item.result c.loop-operation-test.true c.operation-item.is c.loop-operation.invariant in
     let did = rw (c.operand_of-operand.ensures, c.values.ensures.value) at c.act.ensures in
     let same : acts.after ≡ c.act.new.stack = (let e : Some acts.after ≡ Some c.act.new.stack = sym acts.runs ∙ did in cc) in
     rw c.loads_so_far-loaded.ensures (rw (← same) acts.next)

@@ -5,7 +5,7 @@ use Rattle.sc_values.specs.Limits.{load_limit}
 use Rattle.sc_values.specs.Inside.Stack.{alone, tested}
 use Rattle.sc_values.specs.declared.operation.Operation.{Operation}
 use Rattle.sc_values.proofs.Testing.{formed_where, formed_leaves}
-use Rattle.sc_values.proofs.checked.is_well_formed.Goals as goal
+use Rattle.sc_values.proofs.well_formed.is_well_formed.Goals as goal
 
 pub returns-then-is_some : goal.returns-then-is_some
 returns-then-is_some c =

@@ -2,13 +2,13 @@ use Rattle.std.proofs.Common.{ap, ◌∙◌, arith}
 use Rattle.sc_values.specs.Checked.{loaded_from}
 use Rattle.sc_values.specs.Limits.{load_limit}
 use Rattle.sc_values.proofs.Loaded.{gathers_none_yet, gathers_some, gathers_none, gathers_room, gathers_all}
-use Rattle.sc_values.proofs.checked.load_kinds.Goals as goal
-use Rattle.sc_values.proofs.checked.load_kinds.Goals.{in-Some, in_default}
+use Rattle.sc_values.proofs.code_loads.load_kinds.Goals as goal
+use Rattle.sc_values.proofs.code_loads.load_kinds.Goals.{in-Some, in_default}
 
 pub push-requires : goal.push-requires
 push-requires c = (
   omega arith,
-  gathers_room _ _ _ _ _ c.loop-operation-test.true c.in-Some.kind load_limit c.in-Some.ensures
+  gathers_room _ _ _ _ _ c.loop-operation-test.true c.operation-item.is c.in-Some.kind load_limit c.in-Some.ensures
       (rw c.operations-operation-items.ensures.value c.requires) c.loop-operation.invariant,
 )
 
@@ -18,8 +18,8 @@ loop-operation-init c = rw c.new-found.ensures (gathers_none_yet _ _)
 pub loop-operation-preserved : goal.loop-operation-preserved
 loop-operation-preserved c =
     elim c.match-loaded_kind.branch [
-      | in-Some w ↦ rw (w.found-is, w.push.ensures.items) (gathers_some _ _ _ _ _ c.loop-operation-test.true w.in-Some.kind w.in-Some.ensures c.loop-operation.invariant)
-      | in_default w ↦ rw w.found-is (gathers_none _ _ _ _ _ c.loop-operation-test.true w.in_default.ensures c.loop-operation.invariant)
+      | in-Some w ↦ rw (w.found-is, w.push.ensures.items) (gathers_some _ _ _ _ _ c.loop-operation-test.true c.operation-item.is w.in-Some.kind w.in-Some.ensures c.loop-operation.invariant)
+      | in_default w ↦ rw w.found-is (gathers_none _ _ _ _ _ c.loop-operation-test.true c.operation-item.is w.in_default.ensures c.loop-operation.invariant)
     ]
 
 pub returns : goal.returns
