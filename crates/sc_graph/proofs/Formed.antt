@@ -1,5 +1,5 @@
 -- What formed programs have: a tree of threads, each forked by one fork of its parent.
-use Rattle.std.proofs.Common.{ℕ, zero, suc, ◌≡◌, ◌≢◌, ◌<◌, Option, Some, None, option_map, option_and_then, List, Contains, length, slice_get, inl, inr, refl, sym, subst, ap, arith, nat_eq, eqb-true, eq-eqb}
+use Rattle.std.proofs.Common.{ℕ, zero, suc, ◌≡◌, ◌≢◌, ◌<◌, Bool, Option, Some, None, option_map, option_and_then, List, Contains, length, slice_get, inl, inr, refl, sym, subst, ap, arith, nat_eq, eqb-true, eq-eqb}
 use Rattle.std.specs.Bool.{Decides}
 use Rattle.std.proofs.lemmas.List.Elements.{All-contains}
 use Rattle.std.proofs.lemmas.Option.{slice_get_within}
@@ -86,6 +86,11 @@ parent_is_owner p formed n t join k children fork child =
 one_fork : (p : Program) (k : ℕ) → IsForkedOnce p k → k ≢ 0 → ExactlyOne (ForksChild p k)
 one_fork p zero once other = absurd (other refl)
 one_fork p (suc k) once other = once
+
+-- a test of whether a thread that isn't the root is a child of one fork
+pub forked_decides : (p : Program) (t : ℕ) (b : Bool) → t ≢ 0 → Decides b (ExactlyOne (ForksChild p t)) → Decides b (IsForkedOnce p t)
+forked_decides p zero b other test = absurd (other refl)
+forked_decides p (suc t) b other test = test
 
 -- a thread with a parent is a child of one fork
 pub forked_once : (p : Program) → IsFormed p → (k q : ℕ) → parent_of p k ≡ Some q → ExactlyOne (ForksChild p k)

@@ -1,8 +1,9 @@
 pub mod AtRest
 pub mod Each
-pub mod Links
+pub mod Searching
 pub mod Climbs
 pub mod Nodes
+pub mod Linking
 pub mod Choosing
 pub mod Distinct
 pub mod Loads
@@ -11,7 +12,6 @@ pub mod Places
 pub mod Tree
 pub mod Formed
 pub mod Parting
-pub mod Rows
 pub mod Loaded
 pub mod Clashing
 pub mod Preceding

@@ -1,5 +1,5 @@
 -- The loads of a code, operation by operation.
-use Rattle.std.proofs.Common.{ℕ, suc, add-one, ◌+◌, ◌<◌, length, drop, get_or, subst, sym, drop-cons, ◌≡◌, ◌↔◌, List, ◌∷◌, MatchOption}
+use Rattle.std.proofs.Common.{ℕ, suc, add-one, ap, ◌∙◌, ◌+◌, ◌<◌, length, drop, get_or, subst, sym, drop-cons, ◌≡◌, ◌↔◌, List, ◌∷◌, MatchOption}
 use Rattle.std.proofs.lemmas.List.Elements.{All-cons, All-head, All-tail}
 use Rattle.std.specs.Prelude.{⊤}
 use Rattle.sc_values.specs.declared.operation.Operation.{Operation}
@@ -26,13 +26,17 @@ other_loads_fit p (op.Literal v) code fits = fits
 other_loads_fit p (op.Unary f) code fits = fits
 other_loads_fit p (op.Binary f) code fits = fits
 
-pub load_refused : (p : Program) (code : List Operation) (i : ℕ) (d : Operation) → i < length code → ¬ MatchOption (loaded (get_or code i d)) ⊤ (InVariables p) → ¬ LoadsFit p (drop i code)
-load_refused p code i d lt refused fits =
-    refused (first_load_fits p (get_or code i d) (drop (suc i) code) (subst (λ (xs : List Operation). LoadsFit p xs) (drop-cons code i d lt) fits))
+-- the operation at i, and what comes behind it
+at_item : (code : List Operation) (i : ℕ) (o : Operation) → i < length code → o ≡ get_or code i o → drop i code ≡ o ∷ drop (i + 1) code
+at_item code i o lt is_at = rw add-one (drop-cons code i o lt ∙ ap (λ x. x ∷ drop (suc i) code) (sym is_at))
 
-pub load_passed : (p : Program) (code : List Operation) (i : ℕ) (d : Operation) → i < length code → MatchOption (loaded (get_or code i d)) ⊤ (InVariables p) → LoadsFit p (drop i code) ↔ LoadsFit p (drop (i + 1) code)
-load_passed p code i d lt passed =
-    let e : drop i code ≡ get_or code i d ∷ drop (i + 1) code = rw add-one (drop-cons code i d lt) in (
-      λ fits. other_loads_fit p (get_or code i d) (drop (i + 1) code) (subst (λ (xs : List Operation). LoadsFit p xs) e fits),
-      λ fits. subst (λ (xs : List Operation). LoadsFit p xs) (sym e) (more_loads_fit p (get_or code i d) (drop (i + 1) code) passed fits),
+pub load_refused : (p : Program) (code : List Operation) (i : ℕ) (o : Operation) → i < length code → o ≡ get_or code i o → ¬ MatchOption (loaded o) ⊤ (InVariables p) → ¬ LoadsFit p (drop i code)
+load_refused p code i o lt is_at refused fits =
+    refused (first_load_fits p o (drop (i + 1) code) (subst (λ (xs : List Operation). LoadsFit p xs) (at_item code i o lt is_at) fits))
+
+pub load_passed : (p : Program) (code : List Operation) (i : ℕ) (o : Operation) → i < length code → o ≡ get_or code i o → MatchOption (loaded o) ⊤ (InVariables p) → LoadsFit p (drop i code) ↔ LoadsFit p (drop (i + 1) code)
+load_passed p code i o lt is_at passed =
+    let e = at_item code i o lt is_at in (
+      λ fits. other_loads_fit p o (drop (i + 1) code) (subst (λ (xs : List Operation). LoadsFit p xs) e fits),
+      λ fits. subst (λ (xs : List Operation). LoadsFit p xs) (sym e) (more_loads_fit p o (drop (i + 1) code) passed fits),
     )

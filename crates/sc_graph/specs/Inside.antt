@@ -1,6 +1,6 @@
 -- What private functions alone say of themselves. It is proved, and no public contract rests on what it means.
 pub mod Fits
+pub mod Linking
 pub mod Links
 pub mod Lookups
 pub mod Parting
-pub mod Rows

@@ -12,6 +12,7 @@ pub mod Priority
 pub mod Certified
 pub mod Size
 pub mod Structure
+pub mod Links
 pub mod Codes
 pub mod Protocol
 pub mod Costs

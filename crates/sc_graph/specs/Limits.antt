@@ -8,10 +8,10 @@ abbrev pub output_limit : ℕ
 output_limit = 64
 
 abbrev pub thread_limit : ℕ
-thread_limit = 256
+thread_limit = 1024
 
 abbrev pub node_limit : ℕ
-node_limit = 4096
+node_limit = 16384
 
 -- the children of a fork
 abbrev pub child_limit : ℕ
@@ -22,7 +22,7 @@ abbrev pub ancestor_limit : ℕ
 ancestor_limit = 32
 
 abbrev pub budget_limit : ℕ
-budget_limit = 1048576
+budget_limit = 16777216
 
 -- how many variables, threads and nodes a count of the layout can say
 abbrev pub count_limit : ℕ

@@ -1,8 +1,8 @@
 ghost use Rattle.std.specs.Prelude.{◌≡◌, ◌↔◌, IsTrue, Contains};
 ghost use Rattle.std.specs.List.{list_any};
 ghost use Rattle.sc_values.specs.declared.operator.Combination.{Combination as Operator};
-ghost use Rattle.sc_values.specs.Code.{loads};
-ghost use Rattle.sc_values.specs.Access.{Reads, Inits, Updates, Precedes, Clash, MayPrecede};
+ghost use Rattle.sc_values.specs.Code.{literal_of, loads};
+ghost use Rattle.sc_values.specs.Access.{Reads, Inits, Updates, Precedes, Clash, MayPrecede, same_literal};
 ghost use Rattle.sc_graph.specs.Accesses.{access_of};
 ghost use Rattle.sc_graph.specs.Inside.Lookups.{is_load};
 
@@ -28,24 +28,36 @@ impl Step {
         }
     }
 
-    /// Whether it may not be taken beside another step, where the two are concurrent.
+    /// Whether it may not be taken beside another step, where the two are concurrent: both initialize
+    /// a variable and are not by one literal, or both update it by different combinations.
     pub fn clashes(&self, other: &Step) -> bool
         ensures { IsTrue result ↔ Clash (access_of self.now) (access_of other.now) }
     {
         match (self, other) {
-            (Step::Assign { variable: x, .. }, Step::Assign { variable: y, .. }) => *x == *y,
+            (
+                Step::Assign {
+                    variable: x,
+                    code: a,
+                    ..
+                },
+                Step::Assign {
+                    variable: y,
+                    code: b,
+                    ..
+                },
+            ) => *x == *y && !are_one_literal(a, b),
             (
                 Step::Update {
-                    variable: x,
+                    variable: u,
                     combine: f,
                     ..
                 },
                 Step::Update {
-                    variable: y,
+                    variable: v,
                     combine: g,
                     ..
                 },
-            ) => *x == *y && *f != *g,
+            ) => *u == *v && *f != *g,
             _ => false,
         }
     }
@@ -81,6 +93,16 @@ impl Step {
             }
             _ => false,
         }
+    }
+}
+
+/// Whether two codes are one literal and nothing else.
+pub fn are_one_literal(a: &Code, b: &Code) -> bool
+    ensures { result ≡ same_literal (literal_of a.now) (literal_of b.now) }
+{
+    match (a.literal(), b.literal()) {
+        (Some(v), Some(w)) => v == w,
+        _ => false,
     }
 }
 

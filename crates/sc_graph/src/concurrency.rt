@@ -1,8 +1,10 @@
-ghost use Rattle.std.specs.Prelude.{◌≡◌, ◌↔◌, ℕ, IsTrue, IsSome, IfSome, MatchOption};
+ghost use Rattle.std.specs.Prelude.{◌≡◌, ◌<◌, ◌↔◌, ℕ, IsTrue, IsSome, IfSome, MatchOption, length};
+ghost use Rattle.sc_graph.specs.Links.{Tells};
 ghost use Rattle.sc_graph.specs.Threads.{ForkedApart, AreConcurrent};
 ghost use Rattle.sc_graph.specs.Inside.Parting.{PartAt, OneFork};
 ghost use Rattle.sc_graph.specs.Valid.{IsFormed};
 
+use crate::links::Links;
 use crate::program::{Program, ThreadId};
 
 /// Whether two threads of a formed program are concurrent: they are, or descend from, two different
@@ -30,6 +32,34 @@ pub fn lca(program: &Program, first: ThreadId, second: ThreadId) -> Option<Threa
             }
         }
         None => None,
+    }
+}
+
+impl Links {
+    /// Whether two threads of the formed program whose links these are are concurrent. It costs one
+    /// step for each thread above them, up to where they part.
+    pub fn are_concurrent(&self, program: &Program, first: ThreadId, second: ThreadId) -> bool
+        requires formed { IsFormed program.now }
+        requires links { Tells program.now self.now }
+        ensures { IsTrue result ↔ AreConcurrent program.now first second }
+    {
+        match parting(program, first, second) {
+            Some((left, right)) => self.have_one_fork(program, left, right),
+            None => false,
+        }
+    }
+
+    fn have_one_fork(&self, program: &Program, left: ThreadId, right: ThreadId) -> bool
+        requires formed { IsFormed program.now }
+        requires links { Tells program.now self.now }
+        requires left { left < length program.now.threads }
+        requires right { right < length program.now.threads }
+        ensures { IsTrue result ↔ OneFork program.now left right }
+    {
+        match (self.fork_of(left), self.fork_of(right)) {
+            (Some(fork), Some(other)) => fork == other,
+            _ => false,
+        }
     }
 }
 

@@ -7,6 +7,7 @@ mod concurrent_threads;
 mod control;
 mod laws;
 mod limits;
+mod links;
 mod lookups;
 mod place;
 mod program;
@@ -26,6 +27,7 @@ pub use limits::{
     ANCESTOR_LIMIT, BUDGET_LIMIT, CHILD_COUNT_LIMIT, CHILD_LIMIT, COUNT_LIMIT, NO_PARENT,
     NODE_LIMIT, OUTPUT_LIMIT, THREAD_LIMIT, VARIABLE_LIMIT,
 };
+pub use links::{Found, Links};
 pub use place::Place;
 pub use program::{
     Node, NodeId, Program, ProgramFault, Role, Step, Thread, ThreadId, Variable, VariableId,

@@ -7,10 +7,10 @@ pub const VARIABLE_LIMIT: usize = 256;
 pub const OUTPUT_LIMIT: usize = 64;
 
 /// The threads of a program.
-pub const THREAD_LIMIT: usize = 256;
+pub const THREAD_LIMIT: usize = 1_024;
 
 /// The nodes of a program.
-pub const NODE_LIMIT: usize = 4_096;
+pub const NODE_LIMIT: usize = 16_384;
 
 /// The children of a fork.
 pub const CHILD_LIMIT: usize = 64;
@@ -19,7 +19,7 @@ pub const CHILD_LIMIT: usize = 64;
 pub const ANCESTOR_LIMIT: u16 = 32;
 
 /// The steps of a tick.
-pub const BUDGET_LIMIT: u32 = 1_048_576;
+pub const BUDGET_LIMIT: u32 = 16_777_216;
 
 /// How many variables, threads and nodes an image can count.
 pub const COUNT_LIMIT: usize = 65_535;

@@ -8,8 +8,9 @@ ghost use Rattle.sc_graph.specs.declared.program.Thread.{Thread};
 use crate::limits::{CHILD_COUNT_LIMIT, COUNT_LIMIT, NO_PARENT};
 use sc_values::{Code, Combination, Kind, Name};
 use sqlite_items::Items;
+use std::error::Error;
+use std::fmt;
 use std::marker::Model;
-use thiserror::Error;
 
 /// The number of a variable, from 0.
 pub type VariableId = u16;
@@ -93,13 +94,27 @@ pub struct Node {
     pub step: Step,
 }
 
-/// Why lists make no program.
-#[derive(Clone, Copy, Debug, PartialEq, Eq, Error)]
+/// Why lists make no program. It prints as the number of the fault.
+#[derive(Clone, Copy, Debug, PartialEq, Eq)]
 pub enum ProgramFault {
-    /// A count does not fit the layout of an image, or a parent has the number that stands for none.
-    #[error("E07")]
+    /// E07: a count does not fit the layout of an image, or a parent has the number that stands for
+    /// none.
     Limit,
 }
+
+impl fmt::Display for ProgramFault {
+    ghost use Rattle.std.specs.Prelude.{Some, codes};
+
+    ghost output = { λ _. Some (codes "E07") };
+
+    fn fmt<W: fmt::Write>(&self, f: &mut fmt::Formatter<W>) -> fmt::Result {
+        match self {
+            ProgramFault::Limit => write!(f, "E07"),
+        }
+    }
+}
+
+impl Error for ProgramFault {}
 
 /// A program: its variables, its threads and their nodes, in counts that an image can hold.
 /// Contracts see the three lists.

@@ -1,19 +1,14 @@
-ghost use Rattle.std.specs.Prelude.{◌≡◌, ◌↔◌, ℕ, IsTrue, IsSome, IfSome, MatchOption, Some, All};
+ghost use Rattle.std.specs.Prelude.{◌≡◌, ◌↔◌, ◌<◌, ℕ, IsTrue, IsSome, IfSome, MatchOption, Some, All, length};
+ghost use Rattle.std.specs.Option.{option_copied};
 ghost use Rattle.sc_graph.specs.Program.{parent_of};
 ghost use Rattle.sc_graph.specs.Structure.{StepStays, ForksChild, ExactlyOne, BelongsToOne, IsForkedOnce, StructureAt};
-ghost use Rattle.sc_graph.specs.Inside.Links.{Links};
+ghost use Rattle.sc_graph.specs.Links.{Tells};
+ghost use Rattle.sc_graph.specs.Inside.Links.{IsInRange, IsLink};
 ghost use Rattle.sc_graph.specs.Valid.{IsFormed};
 
+use crate::links::{Link, Links};
 use crate::place::Place;
 use crate::program::{NodeId, Program, Step, ThreadId};
-
-// What a node can be alone: the fork of a thread, the fork of a join, the pause of a depth.
-#[derive(Clone, Copy)]
-enum Link {
-    Child(ThreadId),
-    Join(NodeId),
-    Depth(NodeId),
-}
 
 impl Program {
     /// Whether the program keeps the size and range rule, the budget aside, and the structure rule.
@@ -27,51 +22,74 @@ impl Program {
     pub fn structure_fault(&self) -> Option<Place>
         ensures { MatchOption result ((at : Place) → StructureAt self.now at) (λ at. ¬ StructureAt self.now at) }
     {
-        if let Some(thread) = self.misplaced_thread() {
+        self.structure_fault_by(None)
+    }
+
+    /// As `structure_fault`, by the links of the program: in one pass over its nodes.
+    pub fn structure_fault_with(&self, links: &Links) -> Option<Place>
+        requires { Tells self.now links.now }
+        ensures { MatchOption result ((at : Place) → StructureAt self.now at) (λ at. ¬ StructureAt self.now at) }
+    {
+        self.structure_fault_by(Some(links))
+    }
+
+    // By the links, or by a search of all nodes for each link.
+    fn structure_fault_by(&self, links: Option<&Links>) -> Option<Place>
+        requires { IfSome (option_copied links) (Tells self.now) }
+        ensures { MatchOption result ((at : Place) → StructureAt self.now at) (λ at. ¬ StructureAt self.now at) }
+    {
+        if let Some(thread) = self.misplaced_thread(links) {
             return Some(Place::Thread(thread));
         }
-        match self.misplaced_node() {
+        match self.misplaced_node(links) {
             Some(node) => Some(Place::Node(node)),
             None => None,
         }
     }
 
-    fn misplaced_thread(&self) -> Option<ThreadId>
+    fn misplaced_thread(&self, links: Option<&Links>) -> Option<ThreadId>
+        requires { IfSome (option_copied links) (Tells self.now) }
         ensures { MatchOption result ((t : ℕ) → StructureAt self.now (Place.Thread t)) (λ t. ¬ StructureAt self.now (Place.Thread t)) }
     {
         for thread in 0..self.thread_count() {
-            if !self.thread_stands(thread) {
+            if !self.thread_stands(thread, links) {
                 return Some(thread);
             }
         }
         None
     }
 
-    fn misplaced_node(&self) -> Option<NodeId>
+    fn misplaced_node(&self, links: Option<&Links>) -> Option<NodeId>
+        requires { IfSome (option_copied links) (Tells self.now) }
         ensures { MatchOption result ((n : ℕ) → StructureAt self.now (Place.Node n)) (λ n. ¬ StructureAt self.now (Place.Node n)) }
     {
         for node in 0..self.node_count() {
-            if !self.node_stands(node) {
+            if !self.node_stands(node, links) {
                 return Some(node);
             }
         }
         None
     }
 
-    fn thread_stands(&self, thread: ThreadId) -> bool
+    fn thread_stands(&self, thread: ThreadId, links: Option<&Links>) -> bool
+        requires { IfSome (option_copied links) (Tells self.now) }
         ensures { IsTrue result ↔ StructureAt self.now (Place.Thread thread) }
     {
         match self.threads().get(thread as usize) {
             None => true,
-            Some(found) => self.is_target(thread, found.entry) && self.is_forked_once(thread),
+            Some(found) => {
+                self.is_target(thread, found.entry) && self.is_forked_once(thread, links)
+            }
         }
     }
 
     // Whether a thread, unless it is the root, is a child of exactly one fork.
-    fn is_forked_once(&self, thread: ThreadId) -> bool
+    fn is_forked_once(&self, thread: ThreadId, links: Option<&Links>) -> bool
+        requires links { IfSome (option_copied links) (Tells self.now) }
+        requires within { thread < length self.now.threads }
         ensures { IsTrue result ↔ IsForkedOnce self.now thread }
     {
-        thread == 0 || self.fork_of(thread).is_some()
+        thread == 0 || self.only_node(Link::Child(thread), links).is_some()
     }
 
     /// The only fork of which a thread is a child. None: there is no such fork, or more than one.
@@ -79,16 +97,18 @@ impl Program {
         ensures once { IsSome result ↔ ExactlyOne (ForksChild self.now child) }
         ensures fork { IfSome result (λ n. ForksChild self.now child n) }
     {
-        self.only_node(Link::Child(child))
+        self.searched_node(Link::Child(child))
     }
 
-    fn node_stands(&self, node: NodeId) -> bool
+    fn node_stands(&self, node: NodeId, links: Option<&Links>) -> bool
+        requires { IfSome (option_copied links) (Tells self.now) }
         ensures { IsTrue result ↔ StructureAt self.now (Place.Node node) }
     {
         match self.nodes().get(node as usize) {
             None => true,
             Some(found) => {
-                self.step_stays(found.owner, &found.step) && self.belongs_to_one(node, &found.step)
+                self.step_stays(found.owner, &found.step)
+                    && self.belongs_to_one(node, &found.step, links)
             }
         }
     }
@@ -137,20 +157,35 @@ impl Program {
     }
 
     // Whether a join belongs to one fork, and a depth to one pause.
-    fn belongs_to_one(&self, node: NodeId, step: &Step) -> bool
+    fn belongs_to_one(&self, node: NodeId, step: &Step, links: Option<&Links>) -> bool
+        requires links { IfSome (option_copied links) (Tells self.now) }
+        requires within { node < length self.now.nodes }
         ensures { IsTrue result ↔ BelongsToOne self.now node step.now }
     {
         match step {
-            Step::Join { next: _ } => self.only_node(Link::Join(node)).is_some(),
-            Step::Depth { next: _ } => self.only_node(Link::Depth(node)).is_some(),
+            Step::Join { next: _ } => self.only_node(Link::Join(node), links).is_some(),
+            Step::Depth { next: _ } => self.only_node(Link::Depth(node), links).is_some(),
             _ => true,
         }
     }
 
-    // The only node that is such a link.
-    fn only_node(&self, link: Link) -> Option<NodeId>
-        ensures once { IsSome result ↔ ExactlyOne (Links self.now link) }
-        ensures link { IfSome result (λ n. Links self.now link n) }
+    // The only node that is such a link, by the links where they are given.
+    fn only_node(&self, link: Link, links: Option<&Links>) -> Option<NodeId>
+        requires links { IfSome (option_copied links) (Tells self.now) }
+        requires within { IsInRange self.now link }
+        ensures once { IsSome result ↔ ExactlyOne (IsLink self.now link) }
+        ensures link { IfSome result (λ n. IsLink self.now link n) }
+    {
+        match links {
+            Some(links) => links.only(link),
+            None => self.searched_node(link),
+        }
+    }
+
+    // The only node that is such a link, by a search of all nodes.
+    fn searched_node(&self, link: Link) -> Option<NodeId>
+        ensures once { IsSome result ↔ ExactlyOne (IsLink self.now link) }
+        ensures link { IfSome result (λ n. IsLink self.now link n) }
     {
         let mut found = None;
         for node in 0..self.node_count() {
@@ -165,7 +200,7 @@ impl Program {
     }
 
     fn is_link(&self, link: Link, node: NodeId) -> bool
-        ensures { IsTrue result ↔ Links self.now link node }
+        ensures { IsTrue result ↔ IsLink self.now link node }
     {
         match (link, self.step(node)) {
             (Link::Child(child), Some(Step::Fork { children, join: _ })) => {

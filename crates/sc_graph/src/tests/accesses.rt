@@ -1,6 +1,6 @@
 use super::programs::{Small, step, update};
 use crate::Step;
-use sc_values::{Combination, Operation, Value};
+use sc_values::{Code, Combination, Operation, UnaryOperator, Value};
 use std::alloc::Global;
 use std::test::Fail;
 
@@ -41,6 +41,59 @@ fn writes_that_clash(rt: HostRuntime) -> Result<(), Fail> {
     assert!(rt; add.clashes(&multiply) && !add.may_precede(&multiply));
     assert!(rt; !add.clashes(&again) && add.may_precede(&again));
     assert!(rt; !init.clashes(&add) && !small(rt.alloc(), Small::Assign(Y, 0))?.clashes(&init));
+    Ok(())
+}
+
+fn init(operations: &[Operation]) -> Result<Step, Fail> {
+    Ok(Step::Assign {
+        variable: X,
+        code: Code::from_operations(operations).ok_or("a code")?,
+        next: 0,
+    })
+}
+
+// Whether inits by these codes clash, and whether the second may come first.
+fn of_inits(first: &[Operation], second: &[Operation]) -> Result<(bool, bool), Fail> {
+    let first = init(first)?;
+    let second = init(second)?;
+    Ok((first.clashes(&second), second.may_precede(&first)))
+}
+
+fn literal(number: i32) -> Operation {
+    Operation::Literal(Value::Int(number))
+}
+
+fn truth(truth: bool) -> Operation {
+    Operation::Literal(Value::Bool(truth))
+}
+
+#[test]
+fn inits_by_one_literal(rt: HostRuntime) -> Result<(), Fail> {
+    for (first, second) in [(literal(1), literal(1)), (truth(true), truth(true))] {
+        assert_eq!(rt; of_inits(&[first], &[second])?, (false, true));
+    }
+    Ok(())
+}
+
+#[test]
+fn inits_by_no_literal_or_two(rt: HostRuntime) -> Result<(), Fail> {
+    for (first, second) in [
+        (literal(1), literal(2)),
+        (truth(true), truth(false)),
+        (literal(1), truth(true)),
+        (literal(1), Operation::Load(Y)),
+        (Operation::Load(Y), Operation::Load(Y)),
+    ] {
+        assert_eq!(rt; of_inits(&[first], &[second])?, (true, false));
+    }
+    Ok(())
+}
+
+#[test]
+fn inits_by_a_negated_literal(rt: HostRuntime) -> Result<(), Fail> {
+    let negated = [literal(1), Operation::Unary(UnaryOperator::Negate)];
+    assert_eq!(rt; of_inits(&negated, &negated)?, (true, false));
+    assert_eq!(rt; of_inits(&negated, &[literal(1)])?, (true, false));
     Ok(())
 }
 

@@ -13,8 +13,8 @@ fn counts_at_their_limits(rt: HostRuntime) -> Result<(), Fail> {
     let variables = with_variables(alloc, variables(alloc, 64, 193)?)?;
     assert!(rt; variables.size_fault() == Some(Place::Image));
     assert!(rt; !variables.formed());
-    assert!(rt; star(alloc, 256)?.size_fault().is_none());
-    assert!(rt; star(alloc, 257)?.size_fault() == Some(Place::Image));
+    assert!(rt; star(alloc, 1_024)?.size_fault().is_none());
+    assert!(rt; star(alloc, 1_025)?.size_fault() == Some(Place::Image));
     Ok(())
 }
 
@@ -22,7 +22,7 @@ fn counts_at_their_limits(rt: HostRuntime) -> Result<(), Fail> {
 fn nodes_at_their_limit(rt: HostRuntime) -> Result<(), Fail> {
     let alloc = rt.alloc();
     let mut list = Vec::new(alloc);
-    for _ in 0..4_096 {
+    for _ in 0..16_384 {
         list.push((0, Small::Exit))?;
     }
     assert!(rt; program(alloc, &[(None, 0)], list.as_slice())?.formed());

@@ -1,5 +1,0 @@
-use Rattle.sc_graph.proofs.Places.{stands_everywhere}
-use Rattle.sc_graph.proofs.program.Program.structure_fault.Goals as goal
-
-pub returns-in-None : goal.returns-in-None
-returns-in-None c = stands_everywhere c.args.self.now c.in_default.ensures c.in-None.ensures
