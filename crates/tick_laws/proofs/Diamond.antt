@@ -1,15 +1,16 @@
 -- Two enabled threads whose steps stand in no order and in no conflict: each step keeps the other's effect,
 -- and both orders lead to the same configuration.
-use Rattle.std.proofs.Common.{◌≡◌, ◌≢◌, ℕ, zero, suc, ◌⊎◌, true, List, set, Option, Some, None, slice_get, unwrap_or, option_map, option_and_then, Contains, refl, sym, ap, ap₂, subst, subst₂, ◌∙◌, inl, inr, ⊎_elim, set-set}
+use Rattle.std.proofs.Common.{◌≡◌, ◌≢◌, ℕ, zero, suc, ◌⊎◌, Bool, true, false, List, set, Option, Some, None, slice_get, unwrap_or, option_map, option_and_then, Contains, refl, sym, ap, ap₂, subst, subst₂, ◌∙◌, inl, inr, ⊎_elim, set-set}
 use Rattle.std.proofs.lemmas.List.{set_comm}
 use Rattle.std.proofs.lemmas.Option.{slice_get_within}
 use Rattle.sc_values.specs.declared.value.Value.{Value}
 use Rattle.sc_values.specs.declared.operator.Combination.{Combination}
 use Rattle.sc_values.specs.declared.operator.Combination.TheVariants as combine
 use Rattle.sc_values.specs.Operator.{combined}
-use Rattle.sc_values.specs.Access.{Access, no_access, Reads, Inits, Updates, Precedes, init_update, init_read, update_read, Clash, two_inits, two_updates}
+use Rattle.sc_values.specs.Access.{Access, no_access, Reads, Inits, Updates, Precedes, init_update, init_read, update_read, Clash, two_inits, two_updates, one_literal}
 use Rattle.sc_values.proofs.Merge.{combined_turn}
 use Rattle.sc_values.proofs.Loading.{code_value_same}
+use Rattle.sc_values.proofs.Literals.{one_literal_turned, literal_from_same}
 use Rattle.sc_graph.specs.declared.control.Control.{Control}
 use Rattle.sc_graph.specs.declared.control.Status.TheVariants as status
 use Rattle.sc_graph.specs.declared.program.Step.{Step}
@@ -22,7 +23,7 @@ use Rattle.sc_graph.specs.Tick.{IsConfiguration}
 use Rattle.sc_graph.specs.Valid.{IsFormed}
 use Rattle.tick_laws.proofs.Lists.{same_or_not, get_set_other, get_set_same}
 use Rattle.tick_laws.proofs.Moves.{moved_turned}
-use Rattle.tick_laws.proofs.Views.{Completes, Enabled, stands, completes, Does, simple, forks, joins, Changes, does, all_ended_from, enabled_from_effect}
+use Rattle.tick_laws.proofs.Views.{Completes, Enabled, stands, completes, Does, simple, forks, joins, InitsBy, Changes, does, all_ended_from, enabled_from_effect}
 use Rattle.tick_laws.proofs.Sound.{apart, keeps_self, stay_ended}
 
 -- two steps that stand in no order and in no conflict
@@ -32,16 +33,19 @@ pub record Free (a b : Access) : Type 0 where
   pub no_clash : ¬ Clash a b
 
 pub clash_turned : (a b : Access) → Clash a b → Clash b a
-clash_turned a b (two_inits x h i) = two_inits x i h
+clash_turned a b (two_inits x h i differ) = two_inits x i h (one_literal_turned b.writes a.writes ∙ differ)
 clash_turned a b (two_updates x f g h i differ) = two_updates x g f i h (λ e. differ (sym e))
 
 pub free_turned : (a b : Access) → Free a b → Free b a
 free_turned a b free = record { not_before = free.not_after; not_after = free.not_before; no_clash = λ h. free.no_clash (clash_turned b a h) }
 
+inits : {a : Access} {x : ℕ} {v : Value} → InitsBy a x v → Inits a x
+inits by = (by.literal, by.writes)
+
 -- a change is what an access writes
 abbrev pub Writes : Access → Change → Type 0
 Writes a Keep = Unit {0}
-Writes a (Put x v) = Inits a x
+Writes a (Put x v) = InitsBy a x v
 Writes a (Combine x f v) = Updates a x f
 
 -- a change is of variable k
@@ -133,22 +137,39 @@ one_combined values x f v w =
     combined_twice values x f v w (slice_get values x) refl
     ∙ (either_first values x f v w (slice_get values x) ∙ sym (combined_twice values x f w v (slice_get values x) refl))
 
-module _ (a b : Access) (free : Free a b) (values : List Value) where
-  both_put : (x : ℕ) (v : Value) (y : ℕ) (w : Value) → Inits a x → Inits b y → changed (Put x v) (changed (Put y w) values) ≡ changed (Put y w) (changed (Put x v) values)
-  both_put x v y w by_a by_b =
-      ⊎_elim (λ same. absurd (free.no_clash (two_inits x by_a (subst (Inits b) (sym same) by_b))))
-      (λ differ. set_comm values y x w v (λ e. differ (sym e))) (same_or_not x y)
+true_or_false : (b : Bool) → (b ≡ true) ⊎ (b ≡ false)
+true_or_false true = inl refl
+true_or_false false = inr refl
 
-  put_combine : (x : ℕ) (v : Value) (y : ℕ) (g : Combination) (w : Value) → Inits a x → Updates b y g →
+-- inits by one literal write one value
+one_value : (a b : Access) (x : ℕ) (v : Value) (y : ℕ) (w : Value) → InitsBy a x v → InitsBy b y w → one_literal a.writes b.writes ≡ true → v ≡ w
+one_value a b x v y w by_a by_b one =
+    let literal = literal_from_same by_a.literal by_b.literal (sym (ap₂ one_literal by_a.writes by_b.writes) ∙ one) in
+    by_a.by_literal literal.value literal.first ∙ sym (by_b.by_literal literal.value literal.second)
+
+module _ (a b : Access) (free : Free a b) (values : List Value) where
+  both_put : (x : ℕ) (v : Value) (y : ℕ) (w : Value) → InitsBy a x v → InitsBy b y w → changed (Put x v) (changed (Put y w) values) ≡ changed (Put y w) (changed (Put x v) values)
+  both_put x v y w by_a by_b = ⊎_elim at_one (λ differ. set_comm values y x w v (λ e. differ (sym e))) (same_or_not x y)
+    where
+      by_one : x ≡ y → v ≡ w → changed (Put x v) (changed (Put y w) values) ≡ changed (Put y w) (changed (Put x v) values)
+      by_one same one = subst₂ (λ z u. changed (Put x v) (changed (Put z u) values) ≡ changed (Put z u) (changed (Put x v) values)) same one refl
+
+      at_one : x ≡ y → changed (Put x v) (changed (Put y w) values) ≡ changed (Put y w) (changed (Put x v) values)
+      at_one same =
+          ⊎_elim (λ one. by_one same (one_value a b x v y w by_a by_b one))
+          (λ other. absurd (free.no_clash (two_inits x (inits by_a) (subst (Inits b) (sym same) (inits by_b)) other)))
+          (true_or_false (one_literal a.writes b.writes))
+
+  put_combine : (x : ℕ) (v : Value) (y : ℕ) (g : Combination) (w : Value) → InitsBy a x v → Updates b y g →
       changed (Put x v) (changed (Combine y g w) values) ≡ changed (Combine y g w) (changed (Put x v) values)
   put_combine x v y g w by_a by_b =
-      ⊎_elim (λ same. absurd (free.not_before (init_update x g by_a (subst (λ z. Updates b z g) (sym same) by_b))))
+      ⊎_elim (λ same. absurd (free.not_before (init_update x g (inits by_a) (subst (λ z. Updates b z g) (sym same) by_b))))
       (put_turned values x v y g w) (same_or_not x y)
 
-  combine_put : (x : ℕ) (f : Combination) (v : Value) (y : ℕ) (w : Value) → Updates a x f → Inits b y →
+  combine_put : (x : ℕ) (f : Combination) (v : Value) (y : ℕ) (w : Value) → Updates a x f → InitsBy b y w →
       changed (Combine x f v) (changed (Put y w) values) ≡ changed (Put y w) (changed (Combine x f v) values)
   combine_put x f v y w by_a by_b =
-      ⊎_elim (λ same. absurd (free.not_after (init_update y f by_b (subst (λ z. Updates a z f) same by_a))))
+      ⊎_elim (λ same. absurd (free.not_after (init_update y f (inits by_b) (subst (λ z. Updates a z f) same by_a))))
       (λ differ. sym (put_turned values y w x f v (λ e. differ (sym e)))) (same_or_not x y)
 
   both_combine : (x : ℕ) (f : Combination) (v : Value) (y : ℕ) (g : Combination) (w : Value) → Updates a x f → Updates b y g →
@@ -178,7 +199,7 @@ module _ (a b : Access) (free : Free a b) (values : List Value) where
     where
       of_other : (d : Change) → Writes b d → ¬ IsOf d k
       of_other Keep by h = h
-      of_other (Put x v) by h = free.not_after (init_read x by (subst (Reads a) h reads))
+      of_other (Put x v) by h = free.not_after (init_read x (inits by) (subst (Reads a) h reads))
       of_other (Combine x f v) by h = free.not_after (update_read x f by (subst (Reads a) h reads))
 
 accesses_is : (p : Program) (n : ℕ) (s : Step) → step_at p n ≡ Some s → accesses p n ≡ access_of s

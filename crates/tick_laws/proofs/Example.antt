@@ -367,7 +367,7 @@ example_precedes m n (init_read x i r) = absurd (omega (arith, (inits_at m x i.0
 example_precedes m n (update_read x f u r) = omega (arith, ap (priority example_tables) (updates_at m x f u).0, ap (priority example_tables) (reads_at n x r).0)
 
 example_clash : (m n : ℕ) → m < n → Clash (accesses example m) (accesses example n) → ⊥
-example_clash m n lt (two_inits x i j) = absurd (omega (arith, lt, (inits_at m x i.0 i.1).0, (inits_at n x j.0 j.1).0))
+example_clash m n lt (two_inits x i j other) = absurd (omega (arith, lt, (inits_at m x i.0 i.1).0, (inits_at n x j.0 j.1).0))
 example_clash m n lt (two_updates x f g u v differ) = differ ((updates_at m x f u).2 ∙ sym (updates_at n x g v).2)
 
 example_flow : (at : Place) → FlowAt example example_tables at

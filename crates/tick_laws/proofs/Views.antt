@@ -7,9 +7,10 @@ use Rattle.sc_values.specs.declared.value.Value.{Value}
 use Rattle.sc_values.specs.declared.value.Value.TheVariants as value
 use Rattle.sc_values.specs.declared.operation.Operation.{Operation}
 use Rattle.sc_values.specs.declared.operator.Combination.{Combination}
-use Rattle.sc_values.specs.Access.{Inits, Updates}
+use Rattle.sc_values.specs.Access.{Access, Init, Updates}
 use Rattle.sc_values.specs.Code.{code_value, literal_of}
 use Rattle.sc_values.specs.Operator.{kind_of, kind_combined}
+use Rattle.sc_values.proofs.Literals.{literal_is_value}
 use Rattle.sc_graph.specs.declared.program.Step.{Step}
 use Rattle.sc_graph.specs.declared.program.Step.TheVariants as steps
 use Rattle.sc_graph.specs.declared.control.Control.{Control}
@@ -43,10 +44,16 @@ GoesTo p t s status.Ended = s ≡ steps.Exit
 GoesTo p t s (status.Waiting j) = ⊥
 GoesTo p t s status.Absent = ⊥
 
+-- an init of x by value v: where it carries a literal, that is v
+pub record InitsBy (a : Access) (x : ℕ) (v : Value) : Type 0 where
+  pub literal : Option Value
+  pub writes : a.writes ≡ Init x literal
+  pub by_literal : (w : Value) → literal ≡ Some w → v ≡ w
+
 -- what such a step changes: what its node writes, at the kind of the variable
 abbrev pub Changes : Program → Step → Change → Type 0
 Changes p s Keep = Unit {0}
-Changes p s (Put x v) = Inits (access_of s) x × (takes_kind (kind_at p x) (kind_of v) ≡ true)
+Changes p s (Put x v) = InitsBy (access_of s) x v × (takes_kind (kind_at p x) (kind_of v) ≡ true)
 Changes p s (Combine x f v) = Updates (access_of s) x f × (takes_kind (kind_at p x) (kind_of v) ≡ true) × (is_kind (kind_combined f) (kind_of v) ≡ true)
 
 -- a step that moves its own thread alone
@@ -152,7 +159,7 @@ module _ (p : Program) (c : Control) (t : ℕ) (e : Effect) where
   does_assign n x code m at found h =
       let v = and_then_some (assigned p t x m) (code_value code c.variables) e h in
       let parts = only_if_some (takes_kind (kind_at p x) (kind_of v.0)) (goes p t (Put x v.0) m) e v.2 in
-      gone n (steps.Assign x code m) (Put x v.0) m at found (contains_head m []) ((literal_of code, refl), parts.0) parts.1
+      gone n (steps.Assign x code m) (Put x v.0) m at found (contains_head m []) (record { literal = literal_of code; writes = refl; by_literal = λ w. literal_is_value code v.0 w c.variables v.1 }, parts.0) parts.1
 
   does_update : (n x : ℕ) (f : Combination) (code : List Operation) (m : ℕ) → status_of c t ≡ status.At n → step_at p n ≡ Some (steps.Update x f code m) →
       node_effect p c t (steps.Update x f code m) ≡ Some e → Does p c t e
