@@ -56,16 +56,16 @@ pub headed : (version : ℕ) (bytes rest : List ℕ) → IsBytes bytes → heade
 headed version bytes rest fits e = (rest, (header_takes version bytes rest fits e).parts)
 
 -- the columns of what was read fit the layout
-pub columns_fit : (bytes : List ℕ) (variables : List Variable) (threads : List Thread) (bounds : List ℕ) (nodes : List Node) (priorities weights : List ℕ) (end_bits : List Bool) (budget : ℕ)
+pub columns_fit : (version : ℕ) (bytes : List ℕ) (variables : List Variable) (threads : List Thread) (bounds : List ℕ) (nodes : List Node) (priorities weights : List ℕ) (end_bits : List Bool) (budget : ℕ)
     → IsBytes bytes → AreThreads threads bounds (length threads) → AreNodes nodes priorities weights end_bits (length nodes)
-    → body_at bytes ≡ Ok (image_of variables (thread_rows threads bounds) (node_rows nodes priorities weights end_bits) budget)
+    → (body_at version) bytes ≡ Ok (image_of variables (thread_rows threads bounds) (node_rows nodes priorities weights end_bits) budget)
     → FitsLayout variables threads nodes
-columns_fit bytes variables threads bounds nodes priorities weights end_bits budget fits ts ns e =
+columns_fit version bytes variables threads bounds nodes priorities weights end_bits budget fits ts ns e =
     let ts_rows = thread_rows threads bounds in
     let ns_rows = node_rows nodes priorities weights end_bits in
     let made = image_is variables threads bounds nodes priorities weights end_bits budget (length threads) (length nodes) ts ns in
-    let read = body_takes bytes (image_of variables ts_rows ns_rows budget) fits e in
-    subst (λ (i : Image). FitsLayout i.program.variables i.program.threads i.program.nodes) made (rows_fit variables ts_rows ns_rows budget read.1)
+    let read = (body_takes version) bytes (image_of variables ts_rows ns_rows budget) fits e in
+    subst (λ (i : Image). FitsLayout i.program.variables i.program.threads i.program.nodes) made ((rows_fit version) variables ts_rows ns_rows budget read.1)
 
 pub reading_spells : (version : ℕ) (bytes : List ℕ) (i : Image) → IsBytes bytes → reading version bytes ≡ Ok i → Spells version bytes i
 unfolding reading

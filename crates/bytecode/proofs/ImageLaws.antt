@@ -88,9 +88,9 @@ body_is variables threads nodes budget =
     rw (thread_rows_back threads, node_rows_back nodes) (simp (length-map, append_assoc))
 
 -- an image of rows that fit
-rows_image_fits : (variables : List Variable) (threads : List ThreadRow) (nodes : List NodeRow) (budget : ℕ)
-    → CountedFits VariableFits variables → CountedFits ThreadFits threads → CountedFits NodeFits nodes → budget < 2 ^ 32 → ImageFits (image_of variables threads nodes budget)
-rows_image_fits variables threads nodes budget v t n b = record {
+rows_image_fits : (version : ℕ) (variables : List Variable) (threads : List ThreadRow) (nodes : List NodeRow) (budget : ℕ)
+    → CountedFits VariableFits variables → CountedFits ThreadFits threads → CountedFits (NodeFits version) nodes → budget < 2 ^ 32 → (ImageFits version) (image_of variables threads nodes budget)
+rows_image_fits version variables threads nodes budget v t n b = record {
   variables_counted = v.0;
   threads_counted = omega (arith, t.0, length-map threads (λ x. x.thread));
   nodes_counted = omega (arith, n.0, length-map nodes (λ x. x.node));
@@ -102,16 +102,16 @@ rows_image_fits variables threads nodes budget v t n b = record {
   };
   variables = v.1;
   threads = subst (AllByRecursion ThreadFits) (sym (thread_rows_back threads)) t.1;
-  nodes = subst (AllByRecursion NodeFits) (sym (node_rows_back nodes)) n.1;
+  nodes = subst (AllByRecursion (NodeFits version)) (sym (node_rows_back nodes)) n.1;
   budget = b;
 }
 
-pub body_takes : (bytes : List ℕ) (i : Image) → IsBytes bytes → body_at bytes ≡ Ok i → (bytes ≡ body_bytes i) × ImageFits i
+pub body_takes : (version : ℕ) (bytes : List ℕ) (i : Image) → IsBytes bytes → (body_at version) bytes ≡ Ok i → (bytes ≡ body_bytes i) × (ImageFits version) i
 unfolding body_at
-body_takes bytes i fits e =
+body_takes version bytes i fits e =
     let v = first (counted_law variable_law) bytes _ i fits e in
     let t = first (counted_law thread_law) v.got.1 _ i v.took.rest_bytes v.next in
-    let n = first (counted_law node_law) t.got.1 _ i t.took.rest_bytes t.next in
+    let n = first (counted_law (node_law version)) t.got.1 _ i t.took.rest_bytes t.next in
     let b = first number32_law n.got.1 (λ budget. cond (eqb (length budget.1) 0) (Ok (image_of v.got.0 t.got.0 n.got.0 budget.0)) (Err fault.Trailing)) i n.took.rest_bytes n.next in
     let g = passed (eqb (length b.got.1) 0) fault.Trailing (image_of v.got.0 t.got.0 n.got.0 b.got.0) i b.next in
     let nothing : b.got.1 ≡ [] = nil_from_length b.got.1 (eqb-true _ _ g.0) in
@@ -119,17 +119,17 @@ body_takes bytes i fits e =
     let text = rows_bytes v.got.0 t.got.0 n.got.0 b.got.0 in
     let same : bytes ≡ body_bytes (image_of v.got.0 t.got.0 n.got.0 b.got.0) =
     whole.parts ∙ ap (λ (rest : List ℕ). text ++ rest) nothing ∙ append-nil text ∙ sym (body_is v.got.0 t.got.0 n.got.0 b.got.0) in
-    subst (λ (x : Image). (bytes ≡ body_bytes x) × ImageFits x) g.1 (same, rows_image_fits v.got.0 t.got.0 n.got.0 b.got.0 v.fits t.fits n.fits b.fits)
+    subst (λ (x : Image). (bytes ≡ body_bytes x) × (ImageFits version) x) g.1 (same, (rows_image_fits version) v.got.0 t.got.0 n.got.0 b.got.0 v.fits t.fits n.fits b.fits)
 
-rows_again : (variables : List Variable) (threads : List ThreadRow) (nodes : List NodeRow) (budget : ℕ)
-    → CountedFits VariableFits variables → CountedFits ThreadFits threads → CountedFits NodeFits nodes → budget < 2 ^ 32
-    → body_at (rows_bytes variables threads nodes budget) ≡ Ok (image_of variables threads nodes budget)
+rows_again : (version : ℕ) (variables : List Variable) (threads : List ThreadRow) (nodes : List NodeRow) (budget : ℕ)
+    → CountedFits VariableFits variables → CountedFits ThreadFits threads → CountedFits (NodeFits version) nodes → budget < 2 ^ 32
+    → (body_at version) (rows_bytes variables threads nodes budget) ≡ Ok (image_of variables threads nodes budget)
 unfolding body_at
-rows_again variables threads nodes budget v t n b =
+rows_again version variables threads nodes budget v t n b =
     let last : number_at w32 (u32_bytes budget) ≡ Ok (budget, []) = ap (number_at w32) (sym (append-nil (u32_bytes budget))) ∙ number32_law.again budget [] b in
     let ls = counted_law variable_law in
     let lt = counted_law thread_law in
-    let ln = counted_law node_law in
+    let ln = counted_law (node_law version) in
     rw (
       ls.again variables (counted_bytes thread_bytes threads ++ (counted_bytes node_bytes nodes ++ u32_bytes budget)) v,
       lt.again threads (counted_bytes node_bytes nodes ++ u32_bytes budget) t,
@@ -138,8 +138,8 @@ rows_again variables threads nodes budget v t n b =
     ) refl
 
 -- the rows of an image are counted by its threads and its nodes
-pub body_again : (i : Image) → ImageFits i → body_at (body_bytes i) ≡ Ok i
-body_again i fits =
+pub body_again : (version : ℕ) (i : Image) → (ImageFits version) i → (body_at version) (body_bytes i) ≡ Ok i
+body_again version i fits =
     let threads = rows_of_threads i in
     let nodes = rows_of_nodes i in
     let made : image_of i.program.variables threads nodes i.tables.budget ≡ i =
@@ -148,8 +148,8 @@ body_again i fits =
     (record { nodes_counted = refl; priorities_counted = fits.lengths.priorities; weights_counted = fits.lengths.weights; end_bits_counted = fits.lengths.end_bits }) in
     let thread_count : length threads ≡ length i.program.threads = sym (length-map threads (λ x. x.thread)) ∙ ap (λ (x : Image). length x.program.threads) made in
     let node_count : length nodes ≡ length i.program.nodes = sym (length-map nodes (λ x. x.node)) ∙ ap (λ (x : Image). length x.program.nodes) made in
-    ap body_at (ap body_bytes (sym made) ∙ body_is i.program.variables threads nodes i.tables.budget)
-    ∙ rows_again i.program.variables threads nodes i.tables.budget (fits.variables_counted, fits.variables) (omega (arith, thread_count, fits.threads_counted), fits.threads)
+    ap (body_at version) (ap body_bytes (sym made) ∙ body_is i.program.variables threads nodes i.tables.budget)
+    ∙ (rows_again version) i.program.variables threads nodes i.tables.budget (fits.variables_counted, fits.variables) (omega (arith, thread_count, fits.threads_counted), fits.threads)
     (omega (arith, node_count, fits.nodes_counted), fits.nodes) fits.budget
     ∙ ap (λ (x : Image). Ok x) made
 
@@ -158,12 +158,12 @@ body_again i fits =
 pub image_takes : (version : ℕ) (bytes : List ℕ) (i : Image) → IsBytes bytes → image_at version bytes ≡ Ok i → Spells version bytes i
 unfolding image_at spelling
 image_takes version bytes i fits e =
-    let a = bind_ok (header_at version bytes) body_at i e in
+    let a = bind_ok (header_at version bytes) (body_at version) i e in
     let header = header_takes version bytes a.0 fits a.1 in
-    let body = body_takes a.0 i header.rest_bytes a.2 in
+    let body = (body_takes version) a.0 i header.rest_bytes a.2 in
     record { fits = body.1; spelt = header.parts ∙ ap (λ (rest : List ℕ). magic ++ version ∷ rest) body.0 }
 
 pub image_again : (version : ℕ) (bytes : List ℕ) (i : Image) → Spells version bytes i → image_at version bytes ≡ Ok i
 unfolding image_at spelling
 image_again version bytes i spells =
-    ap (image_at version) spells.spelt ∙ rw (header_again version (body_bytes i)) (body_again i spells.fits)
+    ap (image_at version) spells.spelt ∙ rw (header_again version (body_bytes i)) ((body_again version) i spells.fits)

@@ -87,15 +87,15 @@ image_is variables threads bounds nodes priorities weights end_bits budget t n t
 
 -- ---- what fits an image fits its program
 
-counts_children : (s : Step) → StepFits s → CountsChildren s
-counts_children step.Exit fits = tt
-counts_children (step.Assign variable code next) fits = tt
-counts_children (step.Update variable combine code next) fits = tt
-counts_children (step.Cond code target other) fits = tt
-counts_children (step.Fork children join) fits = fits.1
-counts_children (step.Join next) fits = tt
-counts_children (step.Surf depth) fits = tt
-counts_children (step.Depth next) fits = tt
+counts_children : (version : ℕ) (s : Step) → (StepFits version) s → CountsChildren s
+counts_children version step.Exit fits = tt
+counts_children version (step.Assign variable code next) fits = tt
+counts_children version (step.Update variable combine code next) fits = tt
+counts_children version (step.Cond code target other) fits = tt
+counts_children version (step.Fork children join) fits = fits.1
+counts_children version (step.Join next) fits = tt
+counts_children version (step.Surf depth) fits = tt
+counts_children version (step.Depth next) fits = tt
 
 abbrev node_given : Node → Option Node
 node_given x = Some x
@@ -103,10 +103,10 @@ node_given x = Some x
 counts_of : (a x : Node) → node_given a ≡ node_given x → CountsChildren a.step → CountsChildren x.step
 counts_of a x e counts = let same : a ≡ x = cc in subst (λ (n : Node). CountsChildren n.step) same counts
 
-children_counted : (rows : List NodeRow) → AllByRecursion NodeFits rows → (n : ℕ) (x : Node) → slice_get (map (λ r. r.node) rows) n ≡ Some x → CountsChildren x.step
-children_counted [] all n x e = absurd cc
-children_counted (row ∷ rows) all zero x e = counts_of row.node x e (counts_children row.node.step all.0.step)
-children_counted (row ∷ rows) all (suc n) x e = children_counted rows all.1 n x e
+children_counted : (version : ℕ) (rows : List NodeRow) → AllByRecursion (NodeFits version) rows → (n : ℕ) (x : Node) → slice_get (map (λ r. r.node) rows) n ≡ Some x → CountsChildren x.step
+children_counted version [] all n x e = absurd cc
+children_counted version (row ∷ rows) all zero x e = counts_of row.node x e ((counts_children version) row.node.step all.0.step)
+children_counted version (row ∷ rows) all (suc n) x e = (children_counted version) rows all.1 n x e
 
 no_such_parent : (parent : Option ℕ) → IfSome parent (λ p. p < no_parent) → parent ≢ Some no_parent
 no_such_parent None fits e = absurd cc
@@ -124,12 +124,12 @@ parents (row ∷ rows) all zero x e = parent_same row.thread x e (no_such_parent
 parents (row ∷ rows) all (suc t) x e = parents rows all.1 t x e
 
 -- the columns of these rows fit the layout
-pub rows_fit : (variables : List Variable) (threads : List ThreadRow) (nodes : List NodeRow) (budget : ℕ) → ImageFits (image_of variables threads nodes budget)
+pub rows_fit : (version : ℕ) (variables : List Variable) (threads : List ThreadRow) (nodes : List NodeRow) (budget : ℕ) → (ImageFits version) (image_of variables threads nodes budget)
     → FitsLayout variables (map (λ t. t.thread) threads) (map (λ n. n.node) nodes)
-rows_fit variables threads nodes budget fits = record {
+rows_fit version variables threads nodes budget fits = record {
   variables_counted = fits.variables_counted;
   threads_counted = fits.threads_counted;
   nodes_counted = fits.nodes_counted;
-  children_counted = children_counted nodes (subst (AllByRecursion NodeFits) (node_rows_back nodes) fits.nodes);
+  children_counted = children_counted version nodes (subst (AllByRecursion (NodeFits version)) (node_rows_back nodes) fits.nodes);
   parents = parents threads (subst (AllByRecursion ThreadFits) (thread_rows_back threads) fits.threads);
 }

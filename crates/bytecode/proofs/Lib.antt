@@ -9,3 +9,4 @@ pub mod ImageRows
 pub mod ImageLaws
 pub mod Decoding
 pub mod Offsets
+pub mod Versions

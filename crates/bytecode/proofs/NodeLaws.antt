@@ -68,41 +68,41 @@ thread_law = record { takes = thread_takes; again = thread_again }
 -- ---- steps
 
 -- a step that these bytes are, behind its tag
-abbrev StepTakes : ℕ → List ℕ → Step × List ℕ → Type 0
-StepTakes tag rest x = Takes (tag ∷ rest) (step_bytes x.0) x.1 × StepFits x.0
+abbrev StepTakes : ℕ → ℕ → List ℕ → Step × List ℕ → Type 0
+StepTakes version tag rest x = Takes (tag ∷ rest) (step_bytes x.0) x.1 × (StepFits version) x.0
 
-assign_takes : (rest : List ℕ) (x : Step × List ℕ) → IsBytes rest → assign_at rest ≡ Ok x → StepTakes 1 rest x
+assign_takes : (version : ℕ) (rest : List ℕ) (x : Step × List ℕ) → IsBytes rest → (assign_at version) rest ≡ Ok x → (StepTakes version) 1 rest x
 unfolding assign_at step_bytes
-assign_takes rest x fits e =
+assign_takes version rest x fits e =
     let a = first number16_law rest _ x fits e in
     let b = first number16_law a.got.1 _ x a.took.rest_bytes a.next in
-    let c = first code_law b.got.1 _ x b.took.rest_bytes b.next in
+    let c = first (code_law version) b.got.1 _ x b.took.rest_bytes b.next in
     let made : Step × List ℕ = (step.Assign a.got.0 c.got.0 b.got.0, c.got.1) in
-    subst (StepTakes 1 rest) (ok_is made x c.next) (behind 1 rest _ _ (then_takes (then_takes a.took b.took) c.took), (a.fits, b.fits, c.fits))
+    subst ((StepTakes version) 1 rest) (ok_is made x c.next) (behind 1 rest _ _ (then_takes (then_takes a.took b.took) c.took), (a.fits, b.fits, c.fits))
 
-update_takes : (rest : List ℕ) (x : Step × List ℕ) → IsBytes rest → update_at rest ≡ Ok x → StepTakes 2 rest x
+update_takes : (version : ℕ) (rest : List ℕ) (x : Step × List ℕ) → IsBytes rest → (update_at version) rest ≡ Ok x → (StepTakes version) 2 rest x
 unfolding update_at step_bytes
-update_takes rest x fits e =
+update_takes version rest x fits e =
     let a = first number16_law rest _ x fits e in
     let f = first combination_law a.got.1 _ x a.took.rest_bytes a.next in
     let b = first number16_law f.got.1 _ x f.took.rest_bytes f.next in
-    let c = first code_law b.got.1 _ x b.took.rest_bytes b.next in
+    let c = first (code_law version) b.got.1 _ x b.took.rest_bytes b.next in
     let made : Step × List ℕ = (step.Update a.got.0 f.got.0 c.got.0 b.got.0, c.got.1) in
-    subst (StepTakes 2 rest) (ok_is made x c.next)
+    subst ((StepTakes version) 2 rest) (ok_is made x c.next)
     (behind 2 rest _ _ (then_takes (then_takes a.took (then_takes f.took b.took)) c.took), (a.fits, b.fits, c.fits))
 
-cond_takes : (rest : List ℕ) (x : Step × List ℕ) → IsBytes rest → cond_at rest ≡ Ok x → StepTakes 3 rest x
+cond_takes : (version : ℕ) (rest : List ℕ) (x : Step × List ℕ) → IsBytes rest → (cond_at version) rest ≡ Ok x → (StepTakes version) 3 rest x
 unfolding cond_at step_bytes
-cond_takes rest x fits e =
+cond_takes version rest x fits e =
     let a = first number16_law rest _ x fits e in
     let b = first number16_law a.got.1 _ x a.took.rest_bytes a.next in
-    let c = first code_law b.got.1 _ x b.took.rest_bytes b.next in
+    let c = first (code_law version) b.got.1 _ x b.took.rest_bytes b.next in
     let made : Step × List ℕ = (step.Cond c.got.0 a.got.0 b.got.0, c.got.1) in
-    subst (StepTakes 3 rest) (ok_is made x c.next) (behind 3 rest _ _ (then_takes (then_takes a.took b.took) c.took), (a.fits, b.fits, c.fits))
+    subst ((StepTakes version) 3 rest) (ok_is made x c.next) (behind 3 rest _ _ (then_takes (then_takes a.took b.took) c.took), (a.fits, b.fits, c.fits))
 
-fork_takes : (rest : List ℕ) (x : Step × List ℕ) → IsBytes rest → fork_at rest ≡ Ok x → StepTakes 4 rest x
+fork_takes : (version : ℕ) (rest : List ℕ) (x : Step × List ℕ) → IsBytes rest → fork_at rest ≡ Ok x → (StepTakes version) 4 rest x
 unfolding fork_at step_bytes
-fork_takes rest x fits e =
+fork_takes version rest x fits e =
     let a = first number16_law rest _ x fits e in
     let n = first byte_law a.got.1 (λ count. each_at (number_at w16) count.0 count.1 >>= λ children. Ok (step.Fork children.0 a.got.0, children.1)) x a.took.rest_bytes a.next in
     let b = bind_ok (each_at (number_at w16) n.got.0 n.got.1) (λ children. Ok (step.Fork children.0 a.got.0, children.1)) x n.next in
@@ -110,91 +110,91 @@ fork_takes rest x fits e =
     let counted : Takes a.got.1 (length b.0.0 ∷ flat_map u16_bytes b.0.0) b.0.1 =
     subst (λ (count : ℕ). Takes a.got.1 (count ∷ flat_map u16_bytes b.0.0) b.0.1) (sym t.1) (then_takes n.took t.0) in
     let made : Step × List ℕ = (step.Fork b.0.0 a.got.0, b.0.1) in
-    subst (StepTakes 4 rest) (ok_is made x b.2) (behind 4 rest _ _ (then_takes a.took counted), (a.fits, omega (arith, t.1, n.fits), t.2))
+    subst ((StepTakes version) 4 rest) (ok_is made x b.2) (behind 4 rest _ _ (then_takes a.took counted), (a.fits, omega (arith, t.1, n.fits), t.2))
 
 -- a step that is told by one node
-target_takes : (tag : ℕ) (make : ℕ → Step) → ((n : ℕ) → step_bytes (make n) ≡ tag ∷ u16_bytes n) → ((n : ℕ) → n < 2 ^ 16 → StepFits (make n))
-    → (rest : List ℕ) (x : Step × List ℕ) → IsBytes rest → target_at make rest ≡ Ok x → StepTakes tag rest x
+target_takes : (version : ℕ) (tag : ℕ) (make : ℕ → Step) → ((n : ℕ) → step_bytes (make n) ≡ tag ∷ u16_bytes n) → ((n : ℕ) → n < 2 ^ 16 → (StepFits version) (make n))
+    → (rest : List ℕ) (x : Step × List ℕ) → IsBytes rest → target_at make rest ≡ Ok x → (StepTakes version) tag rest x
 unfolding target_at
-target_takes tag make bytes_are fits_too rest x fits e =
+target_takes version tag make bytes_are fits_too rest x fits e =
     let a = first number16_law rest _ x fits e in
     let made : Step × List ℕ = (make a.got.0, a.got.1) in
-    subst (StepTakes tag rest) (ok_is made x a.next)
+    subst ((StepTakes version) tag rest) (ok_is made x a.next)
     (subst (λ (text : List ℕ). Takes (tag ∷ rest) text a.got.1) (sym (bytes_are a.got.0)) (behind tag rest _ _ a.took), fits_too a.got.0 a.fits)
 
-body_takes : (bytes : List ℕ) (tag : ℕ) (rest : List ℕ) (x : Step × List ℕ) → IsBytes rest → step_body bytes tag rest ≡ Ok x → StepTakes tag rest x
+body_takes : (version : ℕ) (bytes : List ℕ) (tag : ℕ) (rest : List ℕ) (x : Step × List ℕ) → IsBytes rest → (step_body version) bytes tag rest ≡ Ok x → (StepTakes version) tag rest x
 unfolding step_body step_bytes
-body_takes bytes zero rest x fits e =
+body_takes version bytes zero rest x fits e =
     let made : Step × List ℕ = (step.Exit, rest) in
-    subst (StepTakes 0 rest) (ok_is made x e) (record { parts = refl; rest_bytes = fits }, tt)
-body_takes bytes (suc zero) rest x fits e = assign_takes rest x fits e
-body_takes bytes (suc (suc zero)) rest x fits e = update_takes rest x fits e
-body_takes bytes (suc (suc (suc zero))) rest x fits e = cond_takes rest x fits e
-body_takes bytes (suc (suc (suc (suc zero)))) rest x fits e = fork_takes rest x fits e
-body_takes bytes (suc (suc (suc (suc (suc zero))))) rest x fits e = target_takes 5 step.Join (λ n. refl) (λ n lt. lt) rest x fits e
-body_takes bytes (suc (suc (suc (suc (suc (suc zero)))))) rest x fits e = target_takes 6 step.Surf (λ n. refl) (λ n lt. lt) rest x fits e
-body_takes bytes (suc (suc (suc (suc (suc (suc (suc zero))))))) rest x fits e = target_takes 7 step.Depth (λ n. refl) (λ n lt. lt) rest x fits e
-body_takes bytes (suc (suc (suc (suc (suc (suc (suc (suc n)))))))) rest x fits e = absurd cc
+    subst ((StepTakes version) 0 rest) (ok_is made x e) (record { parts = refl; rest_bytes = fits }, tt)
+body_takes version bytes (suc zero) rest x fits e = (assign_takes version) rest x fits e
+body_takes version bytes (suc (suc zero)) rest x fits e = (update_takes version) rest x fits e
+body_takes version bytes (suc (suc (suc zero))) rest x fits e = (cond_takes version) rest x fits e
+body_takes version bytes (suc (suc (suc (suc zero)))) rest x fits e = (fork_takes version) rest x fits e
+body_takes version bytes (suc (suc (suc (suc (suc zero))))) rest x fits e = (target_takes version) 5 step.Join (λ n. refl) (λ n lt. lt) rest x fits e
+body_takes version bytes (suc (suc (suc (suc (suc (suc zero)))))) rest x fits e = (target_takes version) 6 step.Surf (λ n. refl) (λ n lt. lt) rest x fits e
+body_takes version bytes (suc (suc (suc (suc (suc (suc (suc zero))))))) rest x fits e = (target_takes version) 7 step.Depth (λ n. refl) (λ n lt. lt) rest x fits e
+body_takes version bytes (suc (suc (suc (suc (suc (suc (suc (suc n)))))))) rest x fits e = absurd cc
 
-step_takes : (bytes : List ℕ) (x : Step × List ℕ) → IsBytes bytes → step_at bytes ≡ Ok x → Takes bytes (step_bytes x.0) x.1 × StepFits x.0
+step_takes : (version : ℕ) (bytes : List ℕ) (x : Step × List ℕ) → IsBytes bytes → (step_at version) bytes ≡ Ok x → Takes bytes (step_bytes x.0) x.1 × (StepFits version) x.0
 unfolding step_at
-step_takes bytes x fits e =
-    let a = first byte_law bytes (λ tag. step_body bytes tag.0 tag.1) x fits e in
-    subst (λ (from : List ℕ). Takes from (step_bytes x.0) x.1 × StepFits x.0) (sym a.took.parts)
-    (body_takes bytes a.got.0 a.got.1 x a.took.rest_bytes a.next)
+step_takes version bytes x fits e =
+    let a = first byte_law bytes (λ tag. (step_body version) bytes tag.0 tag.1) x fits e in
+    subst (λ (from : List ℕ). Takes from (step_bytes x.0) x.1 × (StepFits version) x.0) (sym a.took.parts)
+    ((body_takes version) bytes a.got.0 a.got.1 x a.took.rest_bytes a.next)
 
-step_again : (s : Step) (rest : List ℕ) → StepFits s → step_at (step_bytes s ++ rest) ≡ Ok (s, rest)
+step_again : (version : ℕ) (s : Step) (rest : List ℕ) → (StepFits version) s → (step_at version) (step_bytes s ++ rest) ≡ Ok (s, rest)
 unfolding step_at step_body step_bytes byte_at assign_at update_at cond_at fork_at target_at
-step_again step.Exit rest fits = refl
-step_again (step.Assign variable code next) rest fits =
+step_again version step.Exit rest fits = refl
+step_again version (step.Assign variable code next) rest fits =
     let regrouped : (u16_bytes variable ++ u16_bytes next ++ code_bytes code) ++ rest ≡ u16_bytes variable ++ (u16_bytes next ++ (code_bytes code ++ rest)) = simp append_assoc in
-    ap assign_at regrouped ∙ rw (number16_law.again variable (u16_bytes next ++ (code_bytes code ++ rest)) fits.0, number16_law.again next (code_bytes code ++ rest) fits.1, code_law.again code rest fits.2) refl
-step_again (step.Update variable combine code next) rest fits =
+    ap (assign_at version) regrouped ∙ rw (number16_law.again variable (u16_bytes next ++ (code_bytes code ++ rest)) fits.0, number16_law.again next (code_bytes code ++ rest) fits.1, (code_law version).again code rest fits.2) refl
+step_again version (step.Update variable combine code next) rest fits =
     let regrouped : (u16_bytes variable ++ combination_number combine ∷ u16_bytes next ++ code_bytes code) ++ rest ≡ u16_bytes variable ++ ((combination_number combine ∷ []) ++ (u16_bytes next ++ (code_bytes code ++ rest))) = simp append_assoc in
-    ap update_at regrouped ∙ rw (
+    ap (update_at version) regrouped ∙ rw (
       number16_law.again variable ((combination_number combine ∷ []) ++ (u16_bytes next ++ (code_bytes code ++ rest))) fits.0,
       combination_law.again combine (u16_bytes next ++ (code_bytes code ++ rest)) tt,
       number16_law.again next (code_bytes code ++ rest) fits.1,
-      code_law.again code rest fits.2,
+      (code_law version).again code rest fits.2,
     ) refl
-step_again (step.Cond code target other) rest fits =
+step_again version (step.Cond code target other) rest fits =
     let regrouped : (u16_bytes target ++ u16_bytes other ++ code_bytes code) ++ rest ≡ u16_bytes target ++ (u16_bytes other ++ (code_bytes code ++ rest)) = simp append_assoc in
-    ap cond_at regrouped ∙ rw (number16_law.again target (u16_bytes other ++ (code_bytes code ++ rest)) fits.0, number16_law.again other (code_bytes code ++ rest) fits.1, code_law.again code rest fits.2) refl
-step_again (step.Fork children join) rest fits =
+    ap (cond_at version) regrouped ∙ rw (number16_law.again target (u16_bytes other ++ (code_bytes code ++ rest)) fits.0, number16_law.again other (code_bytes code ++ rest) fits.1, (code_law version).again code rest fits.2) refl
+step_again version (step.Fork children join) rest fits =
     let regrouped : (u16_bytes join ++ length children ∷ flat_map u16_bytes children) ++ rest ≡ u16_bytes join ++ (length children ∷ (flat_map u16_bytes children ++ rest)) = simp append_assoc in
     ap fork_at regrouped ∙ rw (number16_law.again join (length children ∷ (flat_map u16_bytes children ++ rest)) fits.0, each_again number16_law children rest fits.2) refl
-step_again (step.Join next) rest fits = rw (number16_law.again next rest fits) refl
-step_again (step.Surf depth) rest fits = rw (number16_law.again depth rest fits) refl
-step_again (step.Depth next) rest fits = rw (number16_law.again next rest fits) refl
+step_again version (step.Join next) rest fits = rw (number16_law.again next rest fits) refl
+step_again version (step.Surf depth) rest fits = rw (number16_law.again depth rest fits) refl
+step_again version (step.Depth next) rest fits = rw (number16_law.again next rest fits) refl
 
-step_law : IsRead step_at step_bytes StepFits
-step_law = record { takes = step_takes; again = step_again }
+step_law : (version : ℕ) → IsRead (step_at version) step_bytes (StepFits version)
+step_law version = record { takes = (step_takes version); again = (step_again version) }
 
 -- ---- nodes
 
-node_takes : (bytes : List ℕ) (x : NodeRow × List ℕ) → IsBytes bytes → node_at bytes ≡ Ok x → Takes bytes (node_bytes x.0) x.1 × NodeFits x.0
+node_takes : (version : ℕ) (bytes : List ℕ) (x : NodeRow × List ℕ) → IsBytes bytes → (node_at version) bytes ≡ Ok x → Takes bytes (node_bytes x.0) x.1 × (NodeFits version) x.0
 unfolding node_at node_bytes
-node_takes bytes x fits e =
+node_takes version bytes x fits e =
     let a = first number16_law bytes _ x fits e in
     let b = first number16_law a.got.1 _ x a.took.rest_bytes a.next in
     let c = first number16_law b.got.1 _ x b.took.rest_bytes b.next in
     let d = first flag_law c.got.1 _ x c.took.rest_bytes c.next in
-    let s = first step_law d.got.1 _ x d.took.rest_bytes d.next in
+    let s = first (step_law version) d.got.1 _ x d.took.rest_bytes d.next in
     let made : NodeRow × List ℕ = (record { node = record { owner = a.got.0; step = s.got.0 }; priority = b.got.0; weight = c.got.0; end_bit = d.got.0 }, s.got.1) in
-    subst (λ (y : NodeRow × List ℕ). Takes bytes (node_bytes y.0) y.1 × NodeFits y.0) (ok_is made x s.next)
+    subst (λ (y : NodeRow × List ℕ). Takes bytes (node_bytes y.0) y.1 × (NodeFits version) y.0) (ok_is made x s.next)
     (then_takes (then_takes (then_takes a.took b.took) c.took) (then_takes d.took s.took), record { owner = a.fits; priority = b.fits; weight = c.fits; step = s.fits })
 
-node_again : (n : NodeRow) (rest : List ℕ) → NodeFits n → node_at (node_bytes n ++ rest) ≡ Ok (n, rest)
+node_again : (version : ℕ) (n : NodeRow) (rest : List ℕ) → (NodeFits version) n → (node_at version) (node_bytes n ++ rest) ≡ Ok (n, rest)
 unfolding node_at node_bytes
-node_again n rest fits =
+node_again version n rest fits =
     let regrouped : node_bytes n ++ rest ≡ u16_bytes n.node.owner ++ (u16_bytes n.priority ++ (u16_bytes n.weight ++ ((flag_number n.end_bit ∷ []) ++ (step_bytes n.node.step ++ rest)))) = simp append_assoc in
-    ap node_at regrouped ∙ rw (
+    ap (node_at version) regrouped ∙ rw (
       number16_law.again n.node.owner (u16_bytes n.priority ++ (u16_bytes n.weight ++ ((flag_number n.end_bit ∷ []) ++ (step_bytes n.node.step ++ rest)))) fits.owner,
       number16_law.again n.priority (u16_bytes n.weight ++ ((flag_number n.end_bit ∷ []) ++ (step_bytes n.node.step ++ rest))) fits.priority,
       number16_law.again n.weight ((flag_number n.end_bit ∷ []) ++ (step_bytes n.node.step ++ rest)) fits.weight,
       flag_law.again n.end_bit (step_bytes n.node.step ++ rest) tt,
-      step_law.again n.node.step rest fits.step,
+      (step_law version).again n.node.step rest fits.step,
     ) refl
 
-pub node_law : IsRead node_at node_bytes NodeFits
-node_law = record { takes = node_takes; again = node_again }
+pub node_law : (version : ℕ) → IsRead (node_at version) node_bytes (NodeFits version)
+node_law version = record { takes = (node_takes version); again = (node_again version) }

@@ -2,12 +2,13 @@
 -- and takes no memory.
 use Rattle.std.proofs.Common.{◌≡◌, ◌≢◌, ℕ, zero, suc, ◌-◌, ◌<◌, ◌≤◌, Bool, true, false, cond, ltb, leb, eqb, List, [], ◌∷◌, length, take, drop, Option, Some, None, Result, Ok, Err, refl, subst, arith}
 use Rattle.std.specs.Prelude.{nat_eq, slice_get, ◌&&◌}
-use Rattle.std.specs.Int.{Width, w16, w32, byte_len, from_le_bytes}
+use Rattle.std.specs.Int.{Width, w16, w32, byte_len, from_le_bytes, cast_signed}
 use Rattle.std.specs.Cmp.Lexicographic.{pointwise}
 use Rattle.std.specs.Result.{IsErrOf}
 use Rattle.std.proofs.lemmas.Bool.{ltb-false, leb-true, and_parts}
 use Rattle.std.proofs.lemmas.List.{length-drop}
 use Rattle.sc_values.specs.declared.operation.Operation.{Operation}
+use Rattle.sc_values.specs.Division.{divisor_of}
 use Rattle.sc_values.specs.Limits.{name_limit, operation_limit}
 use Rattle.sc_graph.specs.declared.program.Step.{Step}
 use Rattle.sc_graph.specs.declared.program.Step.TheVariants as step
@@ -19,7 +20,7 @@ use Rattle.bytecode.specs.Image.{Image}
 use Rattle.bytecode.specs.Layout.{magic}
 use Rattle.bytecode.specs.Reading.{◌>>=◌, Reader, or_field, each_at}
 use Rattle.bytecode.specs.Reading.Fields.{bytes_at, byte_at, number_at, choice_at, flags, roles, kinds, combinations, length_at, name_of, name_at, variable_at}
-use Rattle.bytecode.specs.Reading.Codes.{operators, operation_body, operation_at, code_at}
+use Rattle.bytecode.specs.Reading.Codes.{operators, operation_body, divisor_at, is_division, division_at, operation_at, code_at}
 use Rattle.bytecode.specs.Reading.Nodes.{thread_at, assign_at, update_at, cond_at, fork_at, target_at, step_body, step_at, node_at}
 use Rattle.bytecode.specs.Reading.Image.{counted_at, header_at, image_of, body_at, image_at, answer, reading, Answers}
 use Rattle.bytecode.proofs.Readers.{bind_ok, passed, not_short}
@@ -157,16 +158,42 @@ operation_body_stays (suc (suc zero)) rest = behind_byte rest _ (then_stays unre
 operation_body_stays (suc (suc (suc n))) rest =
     chosen_stays unread (suc (suc (suc n)) ∷ rest) (slice_get operators n) (λ operator. Ok (operator, rest)) (omega arith) (λ operator. omega arith)
 
-operation_stays : (bytes : List ℕ) → Stays unread (length bytes) (operation_at bytes)
-unfolding operation_at byte_at
-operation_stays [] = tt
-operation_stays (number ∷ rest) = operation_body_stays number rest
+number_enough : (bytes : List ℕ) (x : ℕ × List ℕ) → number_at w32 bytes ≡ Ok x → 0 < length bytes
+unfolding number_at
+number_enough bytes x e =
+    let a = bind_ok (bytes_at 4 bytes) (λ front. Ok (from_le_bytes w32 front.0, front.1)) x e in
+    let four = bytes_enough 4 bytes a.0 a.1 in omega (arith, four)
 
-code_stays : (bytes : List ℕ) → Stays unread (length bytes) (code_at bytes)
+-- a bad divisor begins where its bytes do
+divisor_stays : (bytes : List ℕ) → Stays unread (length bytes) (divisor_at bytes)
+unfolding divisor_at
+divisor_stays bytes = when (number_at w32 bytes) refl
+  where
+    when : (r : Result (ℕ × List ℕ) Fault) → number_at w32 bytes ≡ r
+        → Stays unread (length bytes) (r >>= λ n. or_field bytes (divisor_of (cast_signed w32 n.0)) >>= λ d. Ok (d, n.1))
+    when (Err f) e = subst (Stays unread (length bytes)) e (number_stays w32 bytes)
+    when (Ok x) e =
+        let rest : length x.1 ≤ length bytes = subst (Stays unread (length bytes)) e (number_stays w32 bytes) in
+        chosen_stays unread bytes (divisor_of (cast_signed w32 x.0)) (λ d. Ok (d, x.1)) (number_enough bytes x e) (λ d. rest)
+
+division_stays : (number : ℕ) (bytes : List ℕ) → Stays unread (length bytes) (division_at number bytes)
+unfolding division_at
+division_stays number bytes = then_stays unread unread _ (divisor_at bytes) _ (divisor_stays bytes) (λ d e. omega arith)
+
+either_stays : (number : ℕ) (rest : List ℕ) (b : Bool) → Stays unread (suc (length rest)) (cond b (division_at number rest) (operation_body (number ∷ rest) number rest))
+either_stays number rest true = behind_byte rest _ (division_stays number rest)
+either_stays number rest false = operation_body_stays number rest
+
+operation_stays : (version : ℕ) (bytes : List ℕ) → Stays unread (length bytes) (operation_at version bytes)
+unfolding operation_at byte_at
+operation_stays version [] = tt
+operation_stays version (number ∷ rest) = either_stays number rest (is_division version number)
+
+code_stays : (version : ℕ) (bytes : List ℕ) → Stays unread (length bytes) ((code_at version) bytes)
 unfolding code_at
-code_stays bytes =
+code_stays version bytes =
     then_stays unread unread _ (length_at 0 operation_limit bytes) _ (length_stays 0 operation_limit bytes)
-    (λ len e. each_stays operation_at operation_stays len.0 len.1)
+    (λ len e. each_stays (operation_at version) (operation_stays version) len.0 len.1)
 
 -- ---- threads and nodes
 
@@ -178,20 +205,20 @@ thread_stays bytes =
     (λ entry f. then_stays unread unread _ (number_at w32 entry.1) _ (number_stays w32 entry.1) (λ bound g. omega arith)))
 
 -- two numbers and a code
-coded_stays : {A : Type 0} (bytes : List ℕ) (made : ℕ → ℕ → List Operation → A)
-    → Stays unread (length bytes) (number_at w16 bytes >>= λ first. number_at w16 first.1 >>= λ second. code_at second.1 >>= λ code. Ok (made first.0 second.0 code.0, code.1))
-coded_stays bytes made =
+coded_stays : (version : ℕ) {A : Type 0} (bytes : List ℕ) (made : ℕ → ℕ → List Operation → A)
+    → Stays unread (length bytes) (number_at w16 bytes >>= λ first. number_at w16 first.1 >>= λ second. (code_at version) second.1 >>= λ code. Ok (made first.0 second.0 code.0, code.1))
+coded_stays version bytes made =
     then_stays unread unread _ (number_at w16 bytes) _ (number_stays w16 bytes)
     (λ first e. then_stays unread unread _ (number_at w16 first.1) _ (number_stays w16 first.1)
-    (λ second f. then_stays unread unread _ (code_at second.1) _ (code_stays second.1) (λ code g. omega arith)))
+    (λ second f. then_stays unread unread _ ((code_at version) second.1) _ ((code_stays version) second.1) (λ code g. omega arith)))
 
-update_stays : (bytes : List ℕ) → Stays unread (length bytes) (update_at bytes)
+update_stays : (version : ℕ) (bytes : List ℕ) → Stays unread (length bytes) ((update_at version) bytes)
 unfolding update_at
-update_stays bytes =
+update_stays version bytes =
     then_stays unread unread _ (number_at w16 bytes) _ (number_stays w16 bytes)
     (λ variable e. then_stays unread unread _ (choice_at combinations variable.1) _ (choice_stays combinations variable.1)
     (λ combine f. then_stays unread unread _ (number_at w16 combine.1) _ (number_stays w16 combine.1)
-    (λ next g. then_stays unread unread _ (code_at next.1) _ (code_stays next.1) (λ code h. omega arith))))
+    (λ next g. then_stays unread unread _ ((code_at version) next.1) _ ((code_stays version) next.1) (λ code h. omega arith))))
 
 fork_stays : (bytes : List ℕ) → Stays unread (length bytes) (fork_at bytes)
 unfolding fork_at
@@ -204,31 +231,31 @@ target_stays : (made : ℕ → Step) (bytes : List ℕ) → Stays unread (length
 unfolding target_at
 target_stays made bytes = then_stays unread unread _ (number_at w16 bytes) _ (number_stays w16 bytes) (λ target e. omega arith)
 
-step_body_stays : (tag : ℕ) (rest : List ℕ) → Stays unread (suc (length rest)) (step_body (tag ∷ rest) tag rest)
+step_body_stays : (version : ℕ) (tag : ℕ) (rest : List ℕ) → Stays unread (suc (length rest)) ((step_body version) (tag ∷ rest) tag rest)
 unfolding step_body assign_at cond_at
-step_body_stays zero rest = omega arith
-step_body_stays (suc zero) rest = behind_byte rest _ (coded_stays rest (λ variable next code. step.Assign variable code next))
-step_body_stays (suc (suc zero)) rest = behind_byte rest _ (update_stays rest)
-step_body_stays (suc (suc (suc zero))) rest = behind_byte rest _ (coded_stays rest (λ target other code. step.Cond code target other))
-step_body_stays (suc (suc (suc (suc zero)))) rest = behind_byte rest _ (fork_stays rest)
-step_body_stays (suc (suc (suc (suc (suc zero))))) rest = behind_byte rest _ (target_stays step.Join rest)
-step_body_stays (suc (suc (suc (suc (suc (suc zero)))))) rest = behind_byte rest _ (target_stays step.Surf rest)
-step_body_stays (suc (suc (suc (suc (suc (suc (suc zero))))))) rest = behind_byte rest _ (target_stays step.Depth rest)
-step_body_stays (suc (suc (suc (suc (suc (suc (suc (suc n)))))))) rest = (omega arith, omega arith)
+step_body_stays version zero rest = omega arith
+step_body_stays version (suc zero) rest = behind_byte rest _ ((coded_stays version) rest (λ variable next code. step.Assign variable code next))
+step_body_stays version (suc (suc zero)) rest = behind_byte rest _ ((update_stays version) rest)
+step_body_stays version (suc (suc (suc zero))) rest = behind_byte rest _ ((coded_stays version) rest (λ target other code. step.Cond code target other))
+step_body_stays version (suc (suc (suc (suc zero)))) rest = behind_byte rest _ (fork_stays rest)
+step_body_stays version (suc (suc (suc (suc (suc zero))))) rest = behind_byte rest _ (target_stays step.Join rest)
+step_body_stays version (suc (suc (suc (suc (suc (suc zero)))))) rest = behind_byte rest _ (target_stays step.Surf rest)
+step_body_stays version (suc (suc (suc (suc (suc (suc (suc zero))))))) rest = behind_byte rest _ (target_stays step.Depth rest)
+step_body_stays version (suc (suc (suc (suc (suc (suc (suc (suc n)))))))) rest = (omega arith, omega arith)
 
-step_stays : (bytes : List ℕ) → Stays unread (length bytes) (step_at bytes)
+step_stays : (version : ℕ) (bytes : List ℕ) → Stays unread (length bytes) ((step_at version) bytes)
 unfolding step_at byte_at
-step_stays [] = tt
-step_stays (tag ∷ rest) = step_body_stays tag rest
+step_stays version [] = tt
+step_stays version (tag ∷ rest) = (step_body_stays version) tag rest
 
-node_stays : (bytes : List ℕ) → Stays unread (length bytes) (node_at bytes)
+node_stays : (version : ℕ) (bytes : List ℕ) → Stays unread (length bytes) ((node_at version) bytes)
 unfolding node_at
-node_stays bytes =
+node_stays version bytes =
     then_stays unread unread _ (number_at w16 bytes) _ (number_stays w16 bytes)
     (λ owner e. then_stays unread unread _ (number_at w16 owner.1) _ (number_stays w16 owner.1)
     (λ priority f. then_stays unread unread _ (number_at w16 priority.1) _ (number_stays w16 priority.1)
     (λ weight g. then_stays unread unread _ (choice_at flags weight.1) _ (choice_stays flags weight.1)
-    (λ end_bit h. then_stays unread unread _ (step_at end_bit.1) _ (step_stays end_bit.1) (λ step i. omega arith)))))
+    (λ end_bit h. then_stays unread unread _ ((step_at version) end_bit.1) _ ((step_stays version) end_bit.1) (λ step i. omega arith)))))
 
 -- ---- images
 
@@ -254,18 +281,18 @@ header_stays version bytes =
 pub header_remembers : (version : ℕ) (bytes : List ℕ) → header_at version bytes ≢ Err fault.Memory
 header_remembers version bytes e = subst (Stays length (length bytes)) e (header_stays version bytes)
 
-body_stays : (bytes : List ℕ) → Stays all_read (length bytes) (body_at bytes)
+body_stays : (version : ℕ) (bytes : List ℕ) → Stays all_read (length bytes) ((body_at version) bytes)
 unfolding body_at
-body_stays bytes =
+body_stays version bytes =
     then_stays unread all_read _ (counted_at variable_at bytes) _ (counted_stays variable_at variable_stays bytes)
     (λ variables e. then_stays unread all_read _ (counted_at thread_at variables.1) _ (counted_stays thread_at thread_stays variables.1)
-    (λ threads f. then_stays unread all_read _ (counted_at node_at threads.1) _ (counted_stays node_at node_stays threads.1)
+    (λ threads f. then_stays unread all_read _ (counted_at (node_at version) threads.1) _ (counted_stays (node_at version) (node_stays version) threads.1)
     (λ nodes g. then_stays unread all_read _ (number_at w32 nodes.1) _ (number_stays w32 nodes.1)
     (λ budget h. tested_stays all_read _ (eqb (length budget.1) 0) (image_of variables.0 threads.0 nodes.0 budget.0) fault.Trailing (omega arith) tt))))
 
 image_stays : (version : ℕ) (bytes : List ℕ) → Stays all_read (length bytes) (image_at version bytes)
 unfolding image_at
-image_stays version bytes = then_stays length all_read _ (header_at version bytes) _ (header_stays version bytes) (λ rest e. body_stays rest)
+image_stays version bytes = then_stays length all_read _ (header_at version bytes) _ (header_stays version bytes) (λ rest e. (body_stays version) rest)
 
 -- a bad field of these bytes has the offset of one of them
 offset_within : (bytes : List ℕ) (r : Result Image Fault) (offset : ℕ) → Stays all_read (length bytes) r → IsErrOf (answer bytes r) (decode.Field offset) → offset < length bytes

@@ -6,4 +6,5 @@ pub mod Layout
 pub mod Fits
 pub mod Spells
 pub mod Reading
+pub mod FaultText
 pub mod Inside

@@ -6,5 +6,5 @@ use Rattle.bytecode.specs.Fits.{ImageFits}
 
 -- the bytes are those of an image that this version of the layout can say
 pub record Spells (version : ℕ) (bytes : List ℕ) (i : Image) : Type 0 where
-  pub fits : ImageFits i
+  pub fits : ImageFits version i
   pub spelt : bytes ≡ spelling version i

@@ -4,30 +4,46 @@ ghost use Rattle.std.specs.Prelude.{◌≡◌};
 ghost use Rattle.bytecode.specs.declared.fault.Fault.TheVariants.{Memory};
 
 use std::alloc::{AllocError, AllocFailed};
-use thiserror::Error;
+use std::error::Error;
+use std::fmt;
 
-/// Why bytes could not be read as an image: the first fault from the left.
-#[derive(Clone, Copy, Debug, PartialEq, Eq, Error)]
+/// Why bytes could not be read as an image: the first fault from the left. It prints as the number of
+/// the fault, and of a bad field where it begins.
+#[derive(Clone, Copy, Debug, PartialEq, Eq)]
 pub enum DecodeFault {
-    /// A field has too few bytes left.
-    #[error("E21")]
+    /// E21: a field has too few bytes left.
     Short,
-    /// The bytes do not begin with `SCCB`.
-    #[error("E22")]
+    /// E22: the bytes do not begin with `SCCB`.
     Magic,
-    /// The version is not the one that is read.
-    #[error("E23")]
+    /// E23: the version is not the one that is read.
     Version,
-    /// Bytes stand after the end.
-    #[error("E24")]
+    /// E24: bytes stand after the end.
     Trailing,
-    /// The field whose first byte has this offset holds what it never holds.
-    #[error("E25 at {0}")]
+    /// E25: the field whose first byte has this offset holds what it never holds.
     Field(usize),
-    /// Memory was refused.
-    #[error("E52")]
+    /// E52: memory was refused.
     Memory,
 }
+
+impl fmt::Display for DecodeFault {
+    ghost use Rattle.std.specs.Prelude.{Some};
+    ghost use Rattle.bytecode.specs.FaultText.{fault_text};
+
+    ghost output = { λ fault. Some (fault_text fault) };
+
+    fn fmt<W: fmt::Write>(&self, f: &mut fmt::Formatter<W>) -> fmt::Result {
+        match self {
+            DecodeFault::Short => write!(f, "E21"),
+            DecodeFault::Magic => write!(f, "E22"),
+            DecodeFault::Version => write!(f, "E23"),
+            DecodeFault::Trailing => write!(f, "E24"),
+            DecodeFault::Field(offset) => write!(f, "E25 at {offset}"),
+            DecodeFault::Memory => write!(f, "E52"),
+        }
+    }
+}
+
+impl Error for DecodeFault {}
 
 /// A fault as it is met: a bad field is named by how many bytes there are from its first one on.
 #[derive(Clone, Copy, Debug, PartialEq, Eq)]

@@ -11,8 +11,11 @@ mod writing;
 
 pub use fault::DecodeFault;
 pub use image::Image;
-pub use laws::{bytes_spell_one_image, image_has_one_spelling, reading_is_spelling};
-pub use reading::decode;
+pub use laws::{
+    bytes_spell_one_image, image_has_one_spelling, reading_is_spelling,
+    version_1_is_spelled_in_version_2,
+};
+pub use reading::{decode, decode_either, decode_v1};
 pub use writing::encode;
 
 #[cfg(test)]

@@ -5,4 +5,4 @@ mod fields;
 mod image;
 mod nodes;
 
-pub use image::decode;
+pub use image::{decode, decode_either, decode_v1};

@@ -1,13 +1,13 @@
 use super::*;
 use sc_graph::{Node, Program, Role, Step, Tables, Thread, Variable};
-use sc_values::{Code, Kind, Name, Operation, Value};
+use sc_values::{Code, Divisor, Kind, Name, Operation, UnaryOperator, Value};
 use sqlite_items::Items;
 use std::alloc::{AllocError, Global};
 use std::test::*;
 
 // One thread of one node, its exit.
 const SMALLEST: [u8; 31] = [
-    0x53, 0x43, 0x43, 0x42, 0x01, // magic, version
+    0x53, 0x43, 0x43, 0x42, 0x02, // magic, version
     0x00, 0x00, // variables
     0x01, 0x00, 0xff, 0xff, 0x00, 0x00, 0x00, 0x00, 0x00, 0x00, // threads
     0x01, 0x00, 0x00, 0x00, 0x00, 0x00, 0x01, 0x00, 0x01, 0x00, // nodes
@@ -16,7 +16,7 @@ const SMALLEST: [u8; 31] = [
 
 // `fork { x = 1; } par { y = x; } join;`
 const FORK: [u8; 130] = [
-    0x53, 0x43, 0x43, 0x42, 0x01, // magic, version
+    0x53, 0x43, 0x43, 0x42, 0x02, // magic, version
     0x02, 0x00, 0x01, 0x01, 0x01, 0x78, 0x01, 0x01, 0x01, 0x79, // x and y
     0x03, 0x00, // threads
     0xff, 0xff, 0x00, 0x00, 0x02, 0x00, 0x00, 0x00, // the root
@@ -38,6 +38,17 @@ const FORK: [u8; 130] = [
 fn fault(alloc: Global, bytes: &[u8]) -> Option<DecodeFault> {
     decode(alloc, bytes).err()
 }
+
+// `x = x / 2`, whose code begins at byte 35
+const HALF: [u8; 56] = [
+    0x53, 0x43, 0x43, 0x42, 0x02, // magic, version
+    0x01, 0x00, 0x01, 0x01, 0x01, 0x78, // x
+    0x01, 0x00, 0xff, 0xff, 0x00, 0x00, 0x00, 0x00, 0x00, 0x00, // threads
+    0x02, 0x00, 0x00, 0x00, 0x00, 0x00, 0x02, 0x00, 0x01, 0x01, 0x00, 0x00, 0x01, 0x00, // assign
+    0x02, 0x02, 0x00, 0x00, 0x12, 0x02, 0x00, 0x00, 0x00, // x / 2
+    0x00, 0x00, 0x00, 0x00, 0x01, 0x00, 0x01, 0x00, // exit
+    0x02, 0x00, 0x00, 0x00, // budget
+];
 
 // The bytes with one of them changed.
 fn damaged(alloc: Global, bytes: &[u8], at: usize, byte: u8) -> Result<Vec<u8>, AllocError> {
@@ -186,7 +197,8 @@ fn damaged_images(rt: HostRuntime) -> Result<(), Fail> {
     for (at, byte, wanted) in [
         (0, 0x54, DecodeFault::Magic),
         (3, 0x43, DecodeFault::Magic),
-        (4, 2, DecodeFault::Version),
+        (4, 1, DecodeFault::Version),
+        (4, 3, DecodeFault::Version),
         (25, 2, DecodeFault::Field(25)),
         (26, 9, DecodeFault::Field(26)),
         (26, 8, DecodeFault::Field(26)),
@@ -210,7 +222,7 @@ fn bad_fields(rt: HostRuntime) -> Result<(), Fail> {
         (49, 2),
         (50, 8),
         (88, 65),
-        (89, 18),
+        (89, 20),
         (89, 255),
     ] {
         let bytes = damaged(rt.alloc(), &FORK, at, byte)?;
@@ -231,10 +243,84 @@ fn bad_fields(rt: HostRuntime) -> Result<(), Fail> {
     Ok(())
 }
 
+// What the operations of the first node's code are.
+fn first_code(image: &Image) -> Option<Code> {
+    match image.program().nodes().first() {
+        Some(
+            Node {
+                step: Step::Assign { code, .. },
+                ..
+            },
+        ) => Code::from_operations(code.operations()),
+        _ => None,
+    }
+}
+
+#[test]
+fn a_division_has_its_divisor_behind_it(rt: HostRuntime) -> Result<(), Fail> {
+    for (at, byte, number, divisor) in [
+        (39, 18, 18, 2),
+        (39, 19, 19, 2),
+        (43, 128, 18, -2147483646),
+    ] {
+        let bytes = damaged(rt.alloc(), &HALF, at, byte)?;
+        let image = decode(rt.alloc(), &bytes)?;
+        let divisor = Divisor::of(divisor).ok_or("a divisor")?;
+        let operator = if number == 18 {
+            UnaryOperator::Divide(divisor)
+        } else {
+            UnaryOperator::Remainder(divisor)
+        };
+        let wanted = Code::from_operations(&[Operation::Load(0), Operation::Unary(operator)]);
+        assert!(rt; first_code(&image) == wanted, "at {at}");
+        let again = encode(rt.alloc(), &image)?;
+        assert_eq!(rt; again.as_slice(), bytes.as_slice());
+    }
+    Ok(())
+}
+
+#[test]
+fn bad_divisions(rt: HostRuntime) -> Result<(), Fail> {
+    let zero = damaged(rt.alloc(), &HALF, 40, 0)?;
+    assert_eq!(rt; fault(rt.alloc(), &zero), Some(DecodeFault::Field(40)));
+    let old = damaged(rt.alloc(), &HALF, 4, 1)?;
+    assert_eq!(rt;
+        decode_v1(rt.alloc(), &old).err(),
+        Some(DecodeFault::Field(39))
+    );
+    Ok(())
+}
+
+#[test]
+fn both_versions(rt: HostRuntime) -> Result<(), Fail> {
+    let old = damaged(rt.alloc(), &FORK, 4, 1)?;
+    let image = decode_v1(rt.alloc(), &old)?;
+    let bytes = encode(rt.alloc(), &image)?;
+    assert_eq!(rt; bytes.as_slice(), FORK.as_slice());
+    let either = decode_either(rt.alloc(), &old)?;
+    let again = encode(rt.alloc(), &either)?;
+    assert_eq!(rt; again.as_slice(), FORK.as_slice());
+    Ok(())
+}
+
+#[test]
+fn other_versions(rt: HostRuntime) -> Result<(), Fail> {
+    let wrong = Some(DecodeFault::Version);
+    assert_eq!(rt; decode_v1(rt.alloc(), &FORK).err(), wrong);
+    assert!(rt; decode_either(rt.alloc(), &FORK).is_ok());
+    let third = damaged(rt.alloc(), &FORK, 4, 3)?;
+    assert_eq!(rt; decode_either(rt.alloc(), &third).err(), wrong);
+    assert_eq!(rt;
+        decode_either(rt.alloc(), &FORK[..4]).err(),
+        Some(DecodeFault::Short)
+    );
+    Ok(())
+}
+
 #[test]
 fn reserved_word_is_a_name(rt: HostRuntime) -> Result<(), Fail> {
     let bytes = [
-        0x53, 0x43, 0x43, 0x42, 1, 1, 0, 0, 0, 2, 0x69, 0x66, 0, 0, 0, 0, 0, 0, 0, 0,
+        0x53, 0x43, 0x43, 0x42, 2, 1, 0, 0, 0, 2, 0x69, 0x66, 0, 0, 0, 0, 0, 0, 0, 0,
     ];
     let image = decode(rt.alloc(), &bytes)?;
     for variable in image.program().variables() {
@@ -247,7 +333,7 @@ fn reserved_word_is_a_name(rt: HostRuntime) -> Result<(), Fail> {
 
 // One node that tests a code of so many times `true`.
 fn long_code(alloc: Global, count: u8) -> Result<Vec<u8>, AllocError> {
-    let mut bytes = Vec::from_slice(alloc, &[0x53, 0x43, 0x43, 0x42, 1, 0, 0, 0, 0, 1, 0])?;
+    let mut bytes = Vec::from_slice(alloc, &[0x53, 0x43, 0x43, 0x42, 2, 0, 0, 0, 0, 1, 0])?;
     bytes.extend_from_slice(&[0, 0, 0, 0, 1, 0, 0, 3, 0, 0, 0, 0, count])?;
     for _ in 0..count {
         bytes.extend_from_slice(&[0, 1])?;

@@ -1,5 +1,5 @@
 -- Reading an image: its fields from the left, and nothing behind them.
-use Rattle.std.specs.Prelude.{ℕ, ◌≡◌, ◌==◌, ◌-◌, nat_eq, List, length, map, Result, Ok, Err, if◌then◌else◌}
+use Rattle.std.specs.Prelude.{ℕ, zero, suc, Option, Some, slice_get, ◌≡◌, ◌==◌, ◌-◌, nat_eq, List, length, map, Result, Ok, Err, if◌then◌else◌}
 use Rattle.std.specs.Int.{w16, w32}
 use Rattle.std.specs.Cmp.Lexicographic.{pointwise}
 use Rattle.sc_graph.specs.declared.program.Variable.{Variable}
@@ -43,18 +43,18 @@ image_of variables threads nodes budget = record {
 }
 
 -- the fields behind the header, and nothing behind them
-unfoldable pub body_at : List ℕ → Result Image Fault
-body_at bytes = do
+unfoldable pub body_at : ℕ → List ℕ → Result Image Fault
+body_at version bytes = do
   variables ← counted_at variable_at bytes
   threads ← counted_at thread_at variables.1
-  nodes ← counted_at node_at threads.1
+  nodes ← counted_at (node_at version) threads.1
   budget ← number_at w32 nodes.1
   if length budget.1 == 0 then Ok (image_of variables.0 threads.0 nodes.0 budget.0) else Err fault.Trailing
 
 unfoldable pub image_at : ℕ → List ℕ → Result Image Fault
 image_at version bytes = do
   start ← header_at version bytes
-  body_at start
+  body_at version start
 
 -- a fault in these bytes: a bad field is named by its offset
 abbrev pub told : List ℕ → Fault → DecodeFault
@@ -68,6 +68,14 @@ told bytes fault.Memory = decode.Memory
 abbrev pub answer : List ℕ → Result Image Fault → Result Image DecodeFault
 answer bytes (Ok i) = Ok i
 answer bytes (Err f) = Err (told bytes f)
+
+-- the version in which bytes are read: the first where they say so, else the second
+abbrev pub version_said : Option ℕ → ℕ
+version_said (Some (suc zero)) = 1
+version_said other = 2
+
+abbrev pub version_of : List ℕ → ℕ
+version_of bytes = version_said (slice_get bytes 4)
 
 -- the image that the bytes are in this version of the layout, or the first fault
 unfoldable pub reading : ℕ → List ℕ → Result Image DecodeFault

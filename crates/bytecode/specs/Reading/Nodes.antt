@@ -21,26 +21,26 @@ thread_at bytes = do
   bound ← number_at w32 entry.1
   Ok (record { thread = record { parent = parent_of parent.0; entry = entry.0 }; bound = bound.0 }, bound.1)
 
-unfoldable pub assign_at : Reader Step
-assign_at bytes = do
+unfoldable pub assign_at : ℕ → Reader Step
+assign_at version bytes = do
   variable ← number_at w16 bytes
   next ← number_at w16 variable.1
-  code ← code_at next.1
+  code ← code_at version next.1
   Ok (step.Assign variable.0 code.0 next.0, code.1)
 
-unfoldable pub update_at : Reader Step
-update_at bytes = do
+unfoldable pub update_at : ℕ → Reader Step
+update_at version bytes = do
   variable ← number_at w16 bytes
   combine ← choice_at combinations variable.1
   next ← number_at w16 combine.1
-  code ← code_at next.1
+  code ← code_at version next.1
   Ok (step.Update variable.0 combine.0 code.0 next.0, code.1)
 
-unfoldable pub cond_at : Reader Step
-cond_at bytes = do
+unfoldable pub cond_at : ℕ → Reader Step
+cond_at version bytes = do
   target ← number_at w16 bytes
   other ← number_at w16 target.1
-  code ← code_at other.1
+  code ← code_at version other.1
   Ok (step.Cond code.0 target.0 other.0, code.1)
 
 unfoldable pub fork_at : Reader Step
@@ -57,27 +57,27 @@ target_at step bytes = do
   Ok (step target.0, target.1)
 
 -- what comes behind the tag of a step, which begins these bytes
-unfoldable pub step_body : List ℕ → ℕ → Reader Step
-step_body bytes zero rest = Ok (step.Exit, rest)
-step_body bytes (suc zero) rest = assign_at rest
-step_body bytes (suc (suc zero)) rest = update_at rest
-step_body bytes (suc (suc (suc zero))) rest = cond_at rest
-step_body bytes (suc (suc (suc (suc zero)))) rest = fork_at rest
-step_body bytes (suc (suc (suc (suc (suc zero))))) rest = target_at step.Join rest
-step_body bytes (suc (suc (suc (suc (suc (suc zero)))))) rest = target_at step.Surf rest
-step_body bytes (suc (suc (suc (suc (suc (suc (suc zero))))))) rest = target_at step.Depth rest
-step_body bytes (suc (suc (suc (suc (suc (suc (suc (suc n)))))))) rest = Err (fault.Field (length bytes))
+unfoldable pub step_body : ℕ → List ℕ → ℕ → Reader Step
+step_body version bytes zero rest = Ok (step.Exit, rest)
+step_body version bytes (suc zero) rest = assign_at version rest
+step_body version bytes (suc (suc zero)) rest = update_at version rest
+step_body version bytes (suc (suc (suc zero))) rest = cond_at version rest
+step_body version bytes (suc (suc (suc (suc zero)))) rest = fork_at rest
+step_body version bytes (suc (suc (suc (suc (suc zero))))) rest = target_at step.Join rest
+step_body version bytes (suc (suc (suc (suc (suc (suc zero)))))) rest = target_at step.Surf rest
+step_body version bytes (suc (suc (suc (suc (suc (suc (suc zero))))))) rest = target_at step.Depth rest
+step_body version bytes (suc (suc (suc (suc (suc (suc (suc (suc n)))))))) rest = Err (fault.Field (length bytes))
 
-unfoldable pub step_at : Reader Step
-step_at bytes = do
+unfoldable pub step_at : ℕ → Reader Step
+step_at version bytes = do
   tag ← byte_at bytes
-  step_body bytes tag.0 tag.1
+  step_body version bytes tag.0 tag.1
 
-unfoldable pub node_at : Reader NodeRow
-node_at bytes = do
+unfoldable pub node_at : ℕ → Reader NodeRow
+node_at version bytes = do
   owner ← number_at w16 bytes
   priority ← number_at w16 owner.1
   weight ← number_at w16 priority.1
   end_bit ← choice_at flags weight.1
-  step ← step_at end_bit.1
+  step ← step_at version end_bit.1
   Ok (record { node = record { owner = owner.0; step = step.0 }; priority = priority.0; weight = weight.0; end_bit = end_bit.0 }, step.1)

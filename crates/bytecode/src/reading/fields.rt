@@ -7,7 +7,7 @@ ghost use Rattle.bytecode.specs.Reading.Fields.{bytes_at, byte_at, number_at, ch
 
 use crate::fault::Fault;
 use sc_graph::{Role, Variable};
-use sc_values::{Combination, Kind, Name};
+use sc_values::{Combination, Kind, NAME_LIMIT, Name};
 
 /// What an end bit or a Bool literal can be, by its number.
 pub const FLAGS: [bool; 2] = [false, true];
@@ -104,7 +104,7 @@ pub fn length(least: u8, most: u8, bytes: &[u8]) -> Result<(u8, &[u8]), Fault>
 fn name(bytes: &[u8]) -> Result<(Name, &[u8]), Fault>
     ensures { Reads (λ x. (x.0, x.1.now)) result (name_at bytes.now) }
 {
-    let (length, rest) = length(1, 64, bytes)?;
+    let (length, rest) = length(1, NAME_LIMIT as u8, bytes)?;
     let (text, after) = front(rest, length as usize)?;
     match Name::from_bytes(text) {
         Some(name) => Ok((name, after)),

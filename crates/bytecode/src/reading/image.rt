@@ -13,7 +13,7 @@ ghost use Rattle.bytecode.specs.Reading.{each_at};
 ghost use Rattle.bytecode.specs.Inside.Readers.{Gives, Reads};
 ghost use Rattle.bytecode.specs.Reading.Fields.{variable_at};
 ghost use Rattle.bytecode.specs.Reading.Nodes.{thread_at, node_at};
-ghost use Rattle.bytecode.specs.Reading.Image.{header_at, body_at, image_at, image_of, reading, Answers};
+ghost use Rattle.bytecode.specs.Reading.Image.{header_at, body_at, image_at, image_of, reading, version_of, Answers};
 
 use crate::fault::{DecodeFault, Fault};
 use crate::image::Image;
@@ -88,8 +88,13 @@ fn thread_columns(alloc: Global, count: u16, bytes: &[u8]) -> Result<(Threads, &
     Ok((Threads { threads, bounds }, rest))
 }
 
-fn node_columns(alloc: Global, count: u16, bytes: &[u8]) -> Result<(Nodes, &[u8]), Fault>
-    ensures gives { Gives (λ x. (node_rows x.0.nodes x.0.priorities x.0.weights x.0.end_bits, x.1.now)) result (each_at node_at count bytes.now) }
+fn node_columns(
+    alloc: Global,
+    version: u8,
+    count: u16,
+    bytes: &[u8],
+) -> Result<(Nodes, &[u8]), Fault>
+    ensures gives { Gives (λ x. (node_rows x.0.nodes x.0.priorities x.0.weights x.0.end_bits, x.1.now)) result (each_at (node_at version) count bytes.now) }
     ensures lengths { IfOk result (λ x. AreNodes x.0.nodes x.0.priorities x.0.weights x.0.end_bits count) }
 {
     let mut nodes = Items::new(alloc);
@@ -98,7 +103,7 @@ fn node_columns(alloc: Global, count: u16, bytes: &[u8]) -> Result<(Nodes, &[u8]
     let mut end_bits = Items::new(alloc);
     let mut rest = bytes;
     for _ in 0..count {
-        let (row, after) = node(alloc, rest)?;
+        let (row, after) = node(alloc, version, rest)?;
         nodes.push(row.node)?;
         priorities.push(row.priority)?;
         weights.push(row.weight)?;
@@ -124,8 +129,8 @@ struct Parts {
 }
 
 #[tactic(auto, unfolding(crate::specs::Reading::Image::body_at, crate::specs::Reading::Image::counted_at))]
-fn all_parts(alloc: Global, bytes: &[u8]) -> Result<Parts, Fault>
-    ensures gives { Gives (λ p. image_of p.variables (thread_rows p.threads.threads p.threads.bounds) (node_rows p.nodes.nodes p.nodes.priorities p.nodes.weights p.nodes.end_bits) p.budget) result (body_at bytes.now) }
+fn all_parts(alloc: Global, version: u8, bytes: &[u8]) -> Result<Parts, Fault>
+    ensures gives { Gives (λ p. image_of p.variables (thread_rows p.threads.threads p.threads.bounds) (node_rows p.nodes.nodes p.nodes.priorities p.nodes.weights p.nodes.end_bits) p.budget) result (body_at version bytes.now) }
     ensures threads { IfOk result (λ p. AreThreads p.threads.threads p.threads.bounds (length p.threads.threads)) }
     ensures nodes { IfOk result (λ p. AreNodes p.nodes.nodes p.nodes.priorities p.nodes.weights p.nodes.end_bits (length p.nodes.nodes)) }
 {
@@ -134,7 +139,7 @@ fn all_parts(alloc: Global, bytes: &[u8]) -> Result<Parts, Fault>
     let (count, rest) = number16(rest)?;
     let (threads, rest) = thread_columns(alloc, count, rest)?;
     let (count, rest) = number16(rest)?;
-    let (nodes, rest) = node_columns(alloc, count, rest)?;
+    let (nodes, rest) = node_columns(alloc, version, count, rest)?;
     let (budget, rest) = number32(rest)?;
     if !rest.is_empty() {
         return Err(Fault::Trailing);
@@ -181,10 +186,10 @@ fn image_from(parts: Parts) -> Image
     }
 }
 
-fn body(alloc: Global, bytes: &[u8]) -> Result<Image, Fault>
-    ensures { Gives (λ i. i) result (body_at bytes.now) }
+fn body(alloc: Global, version: u8, bytes: &[u8]) -> Result<Image, Fault>
+    ensures { Gives (λ i. i) result (body_at version bytes.now) }
 {
-    let parts = all_parts(alloc, bytes)?;
+    let parts = all_parts(alloc, version, bytes)?;
     Ok(image_from(parts))
 }
 
@@ -194,7 +199,7 @@ fn image(alloc: Global, version: u8, bytes: &[u8]) -> Result<Image, Fault>
     ensures memory { result ≡ Err fault.Memory → HasHeader version bytes.now }
 {
     let rest = header(version, bytes)?;
-    body(alloc, rest)
+    body(alloc, version, rest)
 }
 
 fn read(alloc: Global, version: u8, bytes: &[u8]) -> Result<Image, DecodeFault>
@@ -207,11 +212,28 @@ fn read(alloc: Global, version: u8, bytes: &[u8]) -> Result<Image, DecodeFault>
     }
 }
 
-/// The image that all of the bytes are, in version 1 of the layout; else the first fault from the
+/// The image that all of the bytes are, in version 2 of the layout; else the first fault from the
 /// left: `Short` for a field with too few bytes left, `Magic`, `Version` or `Field` for a bad one,
 /// and `Trailing` for bytes behind the last. `Memory` claims nothing of the bytes but that they begin
 /// with `SCCB` and the version.
 pub fn decode(alloc: Global, bytes: &[u8]) -> Result<Image, DecodeFault>
+    // What is read is spelled so.
+    ensures found { IfOk result (λ i. Spells 2 bytes.now i) }
+    // What spells an image is read as that image, unless memory was refused.
+    ensures only { (i : Image) → Spells 2 bytes.now i → Answers result (Ok i) }
+    // Which fault it is.
+    ensures exact { Answers result (reading 2 bytes.now) }
+    // Memory is taken for what stands behind a good header alone.
+    ensures memory { result ≡ Err Memory → HasHeader 2 bytes.now }
+    // A bad field begins at one of the bytes.
+    ensures within { (offset : ℕ) → IsErrOf result (Field offset) → offset < length bytes.now }
+{
+    read(alloc, 2, bytes)
+}
+
+/// The image that all of the bytes are, in version 1 of the layout, which has no divisions. It
+/// answers as `decode` does.
+pub fn decode_v1(alloc: Global, bytes: &[u8]) -> Result<Image, DecodeFault>
     // What is read is spelled so.
     ensures found { IfOk result (λ i. Spells 1 bytes.now i) }
     // What spells an image is read as that image, unless memory was refused.
@@ -224,4 +246,26 @@ pub fn decode(alloc: Global, bytes: &[u8]) -> Result<Image, DecodeFault>
     ensures within { (offset : ℕ) → IsErrOf result (Field offset) → offset < length bytes.now }
 {
     read(alloc, 1, bytes)
+}
+
+// The version in which bytes are read.
+fn version_said(bytes: &[u8]) -> u8
+    ensures { result ≡ version_of bytes.now }
+{
+    match bytes.get(4) {
+        Some(1) => 1,
+        _ => 2,
+    }
+}
+
+/// The image that all of the bytes are, in either version of the layout: in version 1 where the fifth
+/// byte is 1, else in version 2. It answers as `decode_v1` or `decode` does.
+pub fn decode_either(alloc: Global, bytes: &[u8]) -> Result<Image, DecodeFault>
+    ensures found { IfOk result (λ i. Spells (version_of bytes.now) bytes.now i) }
+    ensures only { (i : Image) → Spells (version_of bytes.now) bytes.now i → Answers result (Ok i) }
+    ensures exact { Answers result (reading (version_of bytes.now) bytes.now) }
+    ensures memory { result ≡ Err Memory → HasHeader (version_of bytes.now) bytes.now }
+    ensures within { (offset : ℕ) → IsErrOf result (Field offset) → offset < length bytes.now }
+{
+    read(alloc, version_said(bytes), bytes)
 }

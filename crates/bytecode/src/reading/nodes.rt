@@ -39,12 +39,12 @@ pub fn thread(bytes: &[u8]) -> Result<(ThreadRow, &[u8]), Fault>
 }
 
 #[tactic(auto, unfolding(crate::specs::Reading::Nodes::assign_at))]
-fn assign(bytes: &[u8]) -> Result<(Step, &[u8]), Fault>
-    ensures { Reads (λ x. (x.0, x.1.now)) result (assign_at bytes.now) }
+fn assign(version: u8, bytes: &[u8]) -> Result<(Step, &[u8]), Fault>
+    ensures { Reads (λ x. (x.0, x.1.now)) result (assign_at version bytes.now) }
 {
     let (variable, rest) = number16(bytes)?;
     let (next, rest) = number16(rest)?;
-    let (code, rest) = code(rest)?;
+    let (code, rest) = code(version, rest)?;
     let step = Step::Assign {
         variable,
         code,
@@ -54,13 +54,13 @@ fn assign(bytes: &[u8]) -> Result<(Step, &[u8]), Fault>
 }
 
 #[tactic(auto, unfolding(crate::specs::Reading::Nodes::update_at))]
-fn update(bytes: &[u8]) -> Result<(Step, &[u8]), Fault>
-    ensures { Reads (λ x. (x.0, x.1.now)) result (update_at bytes.now) }
+fn update(version: u8, bytes: &[u8]) -> Result<(Step, &[u8]), Fault>
+    ensures { Reads (λ x. (x.0, x.1.now)) result (update_at version bytes.now) }
 {
     let (variable, rest) = number16(bytes)?;
     let (combine, rest) = choice(&COMBINATIONS, rest)?;
     let (next, rest) = number16(rest)?;
-    let (code, rest) = code(rest)?;
+    let (code, rest) = code(version, rest)?;
     let step = Step::Update {
         variable,
         combine,
@@ -71,12 +71,12 @@ fn update(bytes: &[u8]) -> Result<(Step, &[u8]), Fault>
 }
 
 #[tactic(auto, unfolding(crate::specs::Reading::Nodes::cond_at))]
-fn cond(bytes: &[u8]) -> Result<(Step, &[u8]), Fault>
-    ensures { Reads (λ x. (x.0, x.1.now)) result (cond_at bytes.now) }
+fn cond(version: u8, bytes: &[u8]) -> Result<(Step, &[u8]), Fault>
+    ensures { Reads (λ x. (x.0, x.1.now)) result (cond_at version bytes.now) }
 {
     let (then, rest) = number16(bytes)?;
     let (other, rest) = number16(rest)?;
-    let (code, rest) = code(rest)?;
+    let (code, rest) = code(version, rest)?;
     Ok((Step::Cond { code, then, other }, rest))
 }
 
@@ -104,14 +104,20 @@ fn fork(alloc: Global, bytes: &[u8]) -> Result<(Step, &[u8]), Fault>
 }
 
 #[tactic(auto, unfolding(crate::specs::Reading::Nodes::step_body, crate::specs::Reading::Nodes::target_at))]
-fn body<'b>(alloc: Global, bytes: &[u8], tag: u8, rest: &'b [u8]) -> Result<(Step, &'b [u8]), Fault>
-    ensures { Gives (λ x. (x.0, x.1.now)) result (step_body bytes.now tag rest.now) }
+fn body<'b>(
+    alloc: Global,
+    version: u8,
+    bytes: &[u8],
+    tag: u8,
+    rest: &'b [u8],
+) -> Result<(Step, &'b [u8]), Fault>
+    ensures { Gives (λ x. (x.0, x.1.now)) result (step_body version bytes.now tag rest.now) }
 {
     match tag {
         0 => Ok((Step::Exit, rest)),
-        1 => assign(rest),
-        2 => update(rest),
-        3 => cond(rest),
+        1 => assign(version, rest),
+        2 => update(version, rest),
+        3 => cond(version, rest),
         4 => fork(alloc, rest),
         5 => {
             let (next, rest) = number16(rest)?;
@@ -130,23 +136,23 @@ fn body<'b>(alloc: Global, bytes: &[u8], tag: u8, rest: &'b [u8]) -> Result<(Ste
 }
 
 #[tactic(auto, unfolding(crate::specs::Reading::Nodes::step_at))]
-fn step(alloc: Global, bytes: &[u8]) -> Result<(Step, &[u8]), Fault>
-    ensures { Gives (λ x. (x.0, x.1.now)) result (step_at bytes.now) }
+fn step(alloc: Global, version: u8, bytes: &[u8]) -> Result<(Step, &[u8]), Fault>
+    ensures { Gives (λ x. (x.0, x.1.now)) result (step_at version bytes.now) }
 {
     let (tag, rest) = byte(bytes)?;
-    body(alloc, bytes, tag, rest)
+    body(alloc, version, bytes, tag, rest)
 }
 
 /// A node and its entries in the tables.
 #[tactic(auto, unfolding(crate::specs::Reading::Nodes::node_at))]
-pub fn node(alloc: Global, bytes: &[u8]) -> Result<(NodeRow, &[u8]), Fault>
-    ensures { Gives (λ x. (x.0, x.1.now)) result (node_at bytes.now) }
+pub fn node(alloc: Global, version: u8, bytes: &[u8]) -> Result<(NodeRow, &[u8]), Fault>
+    ensures { Gives (λ x. (x.0, x.1.now)) result (node_at version bytes.now) }
 {
     let (owner, rest) = number16(bytes)?;
     let (priority, rest) = number16(rest)?;
     let (weight, rest) = number16(rest)?;
     let (end_bit, rest) = choice(&FLAGS, rest)?;
-    let (step, rest) = step(alloc, rest)?;
+    let (step, rest) = step(alloc, version, rest)?;
     let row = NodeRow {
         node: Node { owner, step },
         priority,

@@ -2,11 +2,14 @@
 
 ghost use Rattle.std.specs.Prelude.{◌≡◌, ◌++◌, OnOk};
 ghost use Rattle.std.specs.List.{flat_map, AllByRecursion};
-ghost use Rattle.bytecode.specs.Codes.{unary_number, binary_number, operation_bytes, code_bytes};
+ghost use Rattle.std.specs.Int.{w32};
+ghost use Rattle.std.specs.Int.RustNames.{FitsSigned};
+ghost use Rattle.sc_values.specs.declared.operation.Operation.TheVariants as op;
+ghost use Rattle.bytecode.specs.Codes.{unary_number, divisor_bytes, binary_number, operation_bytes, code_bytes};
 ghost use Rattle.bytecode.specs.Fits.{OperationFits, CodeFits};
 
 use crate::writing::fields::{put16, put32};
-use sc_values::{BinaryOperator, Code, Operation, UnaryOperator, Value};
+use sc_values::{BinaryOperator, Code, Divisor, Operation, UnaryOperator, Value};
 use std::alloc::AllocError;
 
 fn unary_byte(operator: UnaryOperator) -> u8
@@ -15,6 +18,28 @@ fn unary_byte(operator: UnaryOperator) -> u8
     match operator {
         UnaryOperator::Negate => 3,
         UnaryOperator::Not => 4,
+        UnaryOperator::Divide(_) => 18,
+        UnaryOperator::Remainder(_) => 19,
+    }
+}
+
+fn put_divisor(out: &mut Vec<u8>, divisor: Divisor) -> Result<(), AllocError>
+    ensures written { OnOk result (out.new.items ≡ out.old.items ++ divisor_bytes divisor) }
+    ensures fits { FitsSigned w32 divisor.number }
+{
+    put32(out, divisor.number().cast_unsigned())
+}
+
+#[tactic(auto, unfolding(crate::specs::Codes::operation_bytes))]
+fn put_unary(out: &mut Vec<u8>, operator: UnaryOperator) -> Result<(), AllocError>
+    ensures written { OnOk result (out.new.items ≡ out.old.items ++ operation_bytes (op.Unary operator)) }
+    ensures fits { OnOk result (OperationFits 2 (op.Unary operator)) }
+{
+    out.push(unary_byte(operator))?;
+    match operator {
+        UnaryOperator::Negate | UnaryOperator::Not => Ok(()),
+        UnaryOperator::Divide(divisor) => put_divisor(out, divisor),
+        UnaryOperator::Remainder(divisor) => put_divisor(out, divisor),
     }
 }
 
@@ -41,7 +66,7 @@ fn binary_byte(operator: BinaryOperator) -> u8
 #[tactic(auto, unfolding(crate::specs::Codes::operation_bytes))]
 fn put_operation(out: &mut Vec<u8>, operation: &Operation) -> Result<(), AllocError>
     ensures written { OnOk result (out.new.items ≡ out.old.items ++ operation_bytes operation.now) }
-    ensures fits { OnOk result (OperationFits operation.now) }
+    ensures fits { OnOk result (OperationFits 2 operation.now) }
 {
     match *operation {
         Operation::Literal(Value::Bool(literal)) => {
@@ -57,10 +82,7 @@ fn put_operation(out: &mut Vec<u8>, operation: &Operation) -> Result<(), AllocEr
             out.push(2)?;
             put16(out, variable)
         }
-        Operation::Unary(operator) => {
-            out.push(unary_byte(operator))?;
-            Ok(())
-        }
+        Operation::Unary(operator) => put_unary(out, operator),
         Operation::Binary(operator) => {
             out.push(binary_byte(operator))?;
             Ok(())
@@ -70,7 +92,7 @@ fn put_operation(out: &mut Vec<u8>, operation: &Operation) -> Result<(), AllocEr
 
 fn put_operations(out: &mut Vec<u8>, operations: &[Operation]) -> Result<(), AllocError>
     ensures written { OnOk result (out.new.items ≡ out.old.items ++ flat_map operation_bytes operations.now) }
-    ensures fits { OnOk result (AllByRecursion OperationFits operations.now) }
+    ensures fits { OnOk result (AllByRecursion (OperationFits 2) operations.now) }
 {
     for operation in operations {
         put_operation(out, operation)?;
@@ -82,7 +104,7 @@ fn put_operations(out: &mut Vec<u8>, operations: &[Operation]) -> Result<(), All
 #[tactic(auto, unfolding(crate::specs::Codes::code_bytes))]
 pub fn put_code(out: &mut Vec<u8>, code: &Code) -> Result<(), AllocError>
     ensures written { OnOk result (out.new.items ≡ out.old.items ++ code_bytes code.now) }
-    ensures fits { OnOk result (CodeFits code.now) }
+    ensures fits { OnOk result (CodeFits 2 code.now) }
 {
     let operations = code.operations();
     out.push(operations.len() as u8)?;

@@ -43,7 +43,7 @@ fn put_threads(out: &mut Vec<u8>, program: &Program, tables: &Tables) -> Result<
 fn put_nodes(out: &mut Vec<u8>, program: &Program, tables: &Tables) -> Result<(), AllocError>
     requires { HasLengths program.now tables.now }
     ensures written { OnOk result (out.new.items ≡ out.old.items ++ flat_map node_bytes (node_rows program.now.nodes tables.now.priorities tables.now.weights tables.now.end_bits)) }
-    ensures fits { OnOk result (AllByRecursion NodeFits (node_rows program.now.nodes tables.now.priorities tables.now.weights tables.now.end_bits)) }
+    ensures fits { OnOk result (AllByRecursion (NodeFits 2) (node_rows program.now.nodes tables.now.priorities tables.now.weights tables.now.end_bits)) }
 {
     let count = program.node_count();
     let nodes = program.nodes();
@@ -60,16 +60,16 @@ fn put_nodes(out: &mut Vec<u8>, program: &Program, tables: &Tables) -> Result<()
     Ok(())
 }
 
-/// The bytes that spell an image, in version 1 of the layout. Err: memory was refused.
+/// The bytes that spell an image, in version 2 of the layout. Err: memory was refused.
 #[tactic(auto, unfolding(crate::specs::Layout::spelling, crate::specs::Layout::body_bytes))]
 pub fn encode(alloc: Global, image: &Image) -> Result<Vec<u8>, AllocError>
-    ensures { IfOk result (λ bytes. Spells 1 bytes.items image.now) }
+    ensures { IfOk result (λ bytes. Spells 2 bytes.items image.now) }
 {
     let program = image.program();
     let tables = image.tables();
     let mut out = Vec::new(alloc);
     out.extend_from_slice(&MAGIC)?;
-    out.push(1)?;
+    out.push(2)?;
     put16(&mut out, program.variable_count())?;
     put_variables(&mut out, program.variables())?;
     put16(&mut out, program.thread_count())?;

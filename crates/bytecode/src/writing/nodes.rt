@@ -45,7 +45,7 @@ fn put_assign(
     next: NodeId,
 ) -> Result<(), AllocError>
     ensures written { OnOk result (out.new.items ≡ out.old.items ++ step_bytes (step.Assign variable code.now next)) }
-    ensures fits { OnOk result (StepFits (step.Assign variable code.now next)) }
+    ensures fits { OnOk result (StepFits 2 (step.Assign variable code.now next)) }
 {
     out.push(1)?;
     put16(out, variable)?;
@@ -62,7 +62,7 @@ fn put_update(
     next: NodeId,
 ) -> Result<(), AllocError>
     ensures written { OnOk result (out.new.items ≡ out.old.items ++ step_bytes (step.Update variable combine code.now next)) }
-    ensures fits { OnOk result (StepFits (step.Update variable combine code.now next)) }
+    ensures fits { OnOk result (StepFits 2 (step.Update variable combine code.now next)) }
 {
     out.push(2)?;
     put16(out, variable)?;
@@ -74,7 +74,7 @@ fn put_update(
 #[tactic(auto, unfolding(crate::specs::Nodes::step_bytes))]
 fn put_cond(out: &mut Vec<u8>, code: &Code, then: NodeId, other: NodeId) -> Result<(), AllocError>
     ensures written { OnOk result (out.new.items ≡ out.old.items ++ step_bytes (step.Cond code.now then other)) }
-    ensures fits { OnOk result (StepFits (step.Cond code.now then other)) }
+    ensures fits { OnOk result (StepFits 2 (step.Cond code.now then other)) }
 {
     out.push(3)?;
     put16(out, then)?;
@@ -86,7 +86,7 @@ fn put_cond(out: &mut Vec<u8>, code: &Code, then: NodeId, other: NodeId) -> Resu
 fn put_fork(out: &mut Vec<u8>, children: &[ThreadId], join: NodeId) -> Result<(), AllocError>
     requires { CountsChildren (step.Fork children.now join) }
     ensures written { OnOk result (out.new.items ≡ out.old.items ++ step_bytes (step.Fork children.now join)) }
-    ensures fits { OnOk result (StepFits (step.Fork children.now join)) }
+    ensures fits { OnOk result (StepFits 2 (step.Fork children.now join)) }
 {
     out.push(4)?;
     put16(out, join)?;
@@ -106,7 +106,7 @@ fn put_target(out: &mut Vec<u8>, tag: u8, target: NodeId) -> Result<(), AllocErr
 fn put_step(out: &mut Vec<u8>, step: &Step) -> Result<(), AllocError>
     requires { CountsChildren step.now }
     ensures written { OnOk result (out.new.items ≡ out.old.items ++ step_bytes step.now) }
-    ensures fits { OnOk result (StepFits step.now) }
+    ensures fits { OnOk result (StepFits 2 step.now) }
 {
     match step {
         Step::Exit => {
@@ -143,7 +143,7 @@ pub fn put_node(
 ) -> Result<(), AllocError>
     requires { CountsChildren node.now.step }
     ensures written { OnOk result (out.new.items ≡ out.old.items ++ node_bytes (record { node = node.now; priority = priority; weight = weight; end_bit = end_bit })) }
-    ensures fits { OnOk result (NodeFits (record { node = node.now; priority = priority; weight = weight; end_bit = end_bit })) }
+    ensures fits { OnOk result (NodeFits 2 (record { node = node.now; priority = priority; weight = weight; end_bit = end_bit })) }
 {
     put16(out, node.owner)?;
     put16(out, priority)?;

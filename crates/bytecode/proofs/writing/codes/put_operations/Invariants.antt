@@ -7,5 +7,5 @@ use Rattle.bytecode.proofs.writing.codes.put_operations.Given as goal
 abbrev pub invariant-loop-operation : goal.invariant-loop-operation
 invariant-loop-operation l = record {
   written : l.out.items ≡ l.fn.out.items ++ flat_map operation_bytes (take l.operation-index l.operations);
-  fits : AllByRecursion OperationFits (take l.operation-index l.operations);
+  fits : AllByRecursion (OperationFits 2) (take l.operation-index l.operations);
 }

@@ -20,5 +20,5 @@ loop-n-preserved c =
     c.index-nodes-n.is c.priority.ensures c.weight.ensures c.end_bit.ensures in
     rw next (record {
       written = c.in_ok-put_node.ensures.written ∙ ap (λ (bytes : List ℕ). bytes ++ node_bytes row) c.loop-n.invariant.written ∙ flat_map_more node_bytes c.args.out.now.items front row;
-      fits = all_push NodeFits front row c.loop-n.invariant.fits c.in_ok-put_node.ensures.fits;
+      fits = all_push (NodeFits 2) front row c.loop-n.invariant.fits c.in_ok-put_node.ensures.fits;
     })

@@ -8,5 +8,5 @@ use Rattle.bytecode.proofs.writing.image.put_nodes.Given as goal
 abbrev pub invariant-loop-n : goal.invariant-loop-n
 invariant-loop-n l = record {
   written : l.out.items ≡ l.fn.out.items ++ flat_map node_bytes (node_rows (take l.n l.nodes) l.tables.priorities l.tables.weights l.tables.end_bits);
-  fits : AllByRecursion NodeFits (node_rows (take l.n l.nodes) l.tables.priorities l.tables.weights l.tables.end_bits);
+  fits : AllByRecursion (NodeFits 2) (node_rows (take l.n l.nodes) l.tables.priorities l.tables.weights l.tables.end_bits);
 }
