@@ -1,5 +1,5 @@
 -- Lists of the nodes that use each variable, as they grow.
-use Rattle.std.proofs.Common.{ℕ, zero, suc, add-one, ◌≡◌, ◌≢◌, ◌<◌, ◌≤◌, ◌+◌, ◌⊎◌, inl, inr, Some, Result, Ok, Err, List, [], ◌∷◌, ◌++◌, length, map, get_or, drop, drop-cons, refl, sym, ◌∙◌, ap, subst, arith}
+use Rattle.std.proofs.Common.{ℕ, zero, suc, add-one, ◌≡◌, ◌≢◌, ◌∙◌, ◌<◌, ◌≤◌, ◌+◌, ◌⊎◌, inl, inr, Some, Result, Ok, Err, List, [], ◌∷◌, ◌++◌, length, map, get_or, drop, drop-cons, refl, sym, ◌∙◌, ap, subst, arith}
 use Rattle.std.specs.Prelude.{Contains, ◌↔◌}
 use Rattle.std.specs.Result.{OnOk}
 use Rattle.std.proofs.Math.ListN.{drop_of_length-le, set}
@@ -14,31 +14,32 @@ use Rattle.sc_values.specs.Code.{loads, loaded, literal_of}
 use Rattle.sc_graph.specs.declared.program.Step.{Step}
 use Rattle.sc_graph.specs.declared.program.Step.TheVariants as step
 use Rattle.sc_graph.specs.Accesses.{access_of}
-use Rattle.sc_graph.specs.Program.{Program, step_at}
+use Rattle.sc_graph.specs.Program.{Program, step_at, owner_of}
+use Rattle.verifier.specs.Inside.ByNode.{IsExitOf}
 use Rattle.verifier.specs.Inside.Pairs.{InitsAt, UpdatesAt, ReadsAt}
 use Rattle.verifier.proofs.Within.{access_there}
 use Rattle.verifier.specs.Inside.Users.{ListsEach, IsUnused, Gains}
 use Rattle.verifier.proofs.Listing.{ListsBelow, lists_all, single, split}
 
 -- the lists have exactly the nodes below a bound that use each variable
-pub record ListsUpTo (p : Program) (Uses : ℕ → ℕ → Type 0) (lists : List (List ℕ)) (bound : ℕ) : Type 0 where
-  pub count : length lists ≡ length p.variables
-  pub each : (x : ℕ) → x < length p.variables → ListsBelow (get_or lists x []) (Uses x) bound
+pub record ListsUpTo (count : ℕ) (Uses : ℕ → ℕ → Type 0) (lists : List (List ℕ)) (bound : ℕ) : Type 0 where
+  pub long : length lists ≡ count
+  pub each : (x : ℕ) → x < count → ListsBelow (get_or lists x []) (Uses x) bound
 
-pub lists_start : (p : Program) (Uses : ℕ → ℕ → Type 0) (lists : List (List ℕ)) → IsUnused (length p.variables) lists → ListsUpTo p Uses lists 0
-lists_start p Uses lists u = record {
-  count = u.count;
+pub lists_start : (count : ℕ) (Uses : ℕ → ℕ → Type 0) (lists : List (List ℕ)) → IsUnused count lists → ListsUpTo count Uses lists 0
+lists_start count Uses lists u = record {
+  long = u.long;
   each = λ x lt. record { each = λ n below h. absurd (omega (arith, below)); only = λ n c. absurd (u.unused x n c) };
 }
 
-pub lists_gain : (p : Program) (Uses : ℕ → ℕ → Type 0) (old new : List (List ℕ)) (n : ℕ) → ListsUpTo p Uses old n → Gains old new n (λ x. Uses x n) → ListsUpTo p Uses new (n + 1)
-lists_gain p Uses old new n l g = record {
-  count = g.count ∙ l.count;
+pub lists_gain : (count : ℕ) (Uses : ℕ → ℕ → Type 0) (old new : List (List ℕ)) (n : ℕ) → ListsUpTo count Uses old n → Gains old new n (λ x. Uses x n) → ListsUpTo count Uses new (n + 1)
+lists_gain count Uses old new n l g = record {
+  long = g.count ∙ l.long;
   each = λ x lt. record {
     each = λ m below used. elim (split m n below) [
       | inl less ↦ g.keeps x m ((l.each x lt).each m less used)
       | inr same ↦ (let P : ℕ → Type 0 = λ k. Contains (get_or new x []) k in let U : ℕ → Type 0 = Uses x in
-          let within : x < length old = (let e = l.count in omega (arith, lt, e)) in
+          let within : x < length old = (let e = l.long in omega (arith, lt, e)) in
           subst P (sym same) (g.gains x within (subst U same used)))
     ];
     only = λ m c. elim (g.only x m c) [
@@ -48,8 +49,8 @@ lists_gain p Uses old new n l g = record {
   };
 }
 
-pub lists_end : (p : Program) (Uses : ℕ → ℕ → Type 0) (lists : List (List ℕ)) (bound : ℕ) → ListsUpTo p Uses lists bound → ((x n : ℕ) → Uses x n → n < bound) → ListsEach p Uses lists
-lists_end p Uses lists bound l h = record { each = λ x lt. lists_all (get_or lists x []) (Uses x) bound (l.each x lt) (h x) }
+pub lists_end : (count : ℕ) (Uses : ℕ → ℕ → Type 0) (lists : List (List ℕ)) (bound : ℕ) → ListsUpTo count Uses lists bound → ((x n : ℕ) → Uses x n → n < bound) → ListsEach count Uses lists
+lists_end count Uses lists bound l h = record { each = λ x lt. lists_all (get_or lists x []) (Uses x) bound (l.each x lt) (h x) }
 
 pub gains_nothing : (lists : List (List ℕ)) (n : ℕ) (Uses : ℕ → Type 0) → ((x : ℕ) → ¬ Uses x) → Gains lists lists n Uses
 gains_nothing lists n Uses none = record {
@@ -131,12 +132,11 @@ later (op.Literal v) code x c = c
 later (op.Unary f) code x c = c
 later (op.Binary f) code x c = c
 
-pub gains_load : (a b c : List (List ℕ)) (n : ℕ) (code : List Operation) (i : ℕ) (d : Operation) → i < length code →
-    Gains a b n (λ x. loaded (get_or code i d) ≡ Some x) → Gains b c n (Contains (loads (drop (i + 1) code))) → Gains a c n (Contains (loads (drop i code)))
-gains_load a b c n code i d lt g h =
-    let o : Operation = get_or code i d in
+pub gains_load : (a b c : List (List ℕ)) (n : ℕ) (code : List Operation) (i : ℕ) (o : Operation) → i < length code → o ≡ get_or code i o →
+    Gains a b n (λ x. loaded o ≡ Some x) → Gains b c n (Contains (loads (drop (i + 1) code))) → Gains a c n (Contains (loads (drop i code)))
+gains_load a b c n code i o lt is_at g h =
     let rest : List Operation = drop (i + 1) code in
-    let e : drop i code ≡ o ∷ rest = rw add-one (drop-cons code i d lt) in
+    let e : drop i code ≡ o ∷ rest = rw add-one (drop-cons code i o lt ∙ ap (λ x. x ∷ drop (suc i) code) (sym is_at)) in
     let P : List Operation → Type 0 = λ xs. Gains a c n (Contains (loads xs)) in
     subst P (sym e) (gains_more a b c n (λ x. loaded o ≡ Some x) (Contains (loads rest)) (Contains (loads (o ∷ rest))) (first_or_later o rest) (first o rest) (later o rest) g h)
 
@@ -152,9 +152,9 @@ empty_more f [] y e h (suc x) = refl
 empty_more f (z ∷ zs) y e h zero = h zero
 empty_more f (z ∷ zs) y e h (suc x) = empty_more f zs y e (λ k. h (suc k)) x
 
-pub unused_from : (lists : List (List ℕ)) (variables : ℕ) → length lists ≡ variables → ((x : ℕ) → get_or lists x [] ≡ []) → IsUnused variables lists
-unused_from lists variables count empty = record {
-  count = count;
+pub unused_from : (lists : List (List ℕ)) (count : ℕ) → length lists ≡ count → ((x : ℕ) → get_or lists x [] ≡ []) → IsUnused count lists
+unused_from lists count long empty = record {
+  long = long;
   unused = λ x n c. let P : List ℕ → Type 0 = λ xs. Contains xs n in let lt = (subst P (empty x) c).1 in omega arith;
 }
 
@@ -204,3 +204,10 @@ gains_same_load old new n x o is g =
 
 pub gains_of_code : (old new : List (List ℕ)) (n : ℕ) (s : Step) (code : List Operation) → (access_of s).reads ≡ loads code → Gains old new n (Contains (loads code)) → Gains old new n (Reads (access_of s))
 gains_of_code old new n s code e g = let P : List ℕ → Type 0 = λ xs. Gains old new n (Contains xs) in subst P (sym e) g
+
+pub gains_exit : (p : Program) (old new : List (List ℕ)) (n t : ℕ) → owner_of p n ≡ Some t → step_at p n ≡ Some step.Exit →
+    Gains old new n (λ u. u ≡ t) → Gains old new n (λ u. IsExitOf p u n)
+gains_exit p old new n t owned exits g =
+    let S : ℕ → Type 0 = λ u. u ≡ t in
+    let T : ℕ → Type 0 = λ u. IsExitOf p u n in
+    gains_same old new n S T (λ u. (λ e. record { owned = owned ∙ ap Some (sym e); exits = exits }, λ x. let o = x.owned in cc)) g

@@ -6,5 +6,8 @@ pub mod Listing
 pub mod Lowest
 pub mod Ordering
 pub mod Rising
+pub mod Each
+pub mod Standing
+pub mod Sampling
 pub mod Giving
 pub mod Gaining

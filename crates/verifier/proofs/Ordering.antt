@@ -81,7 +81,7 @@ no_conflicts_kept p formed h (place.Node n) = tt
 no_conflicts_kept p formed h (place.Pair m n) = λ w. over w w.clash
   where
     over : WriteConflict p m n → Clash (accesses p m) (accesses p n) → ⊥
-    over w (two_inits x i j) = (h x (init_variable p formed m x i)).inits m n i j w
+    over w (two_inits x i j other) = (h x (init_variable p formed m x i)).inits m n i j w
     over w (two_updates x f g u v ne) = (h x (update_variable p formed m x f u)).updates m n (f, u) (g, v) w
 
 no_fall_breaks : (p : Program) (q : Tables) (m n : ℕ) (at : Place) → at ≡ place.Pair m n → DoesNotFall p q m n → Precedes (accesses p m) (accesses p n) → ¬ ProtocolAt p q at

@@ -1,5 +1,5 @@
 -- Priority rises along no edge that a step makes exactly where it rises along no edge.
-use Rattle.std.proofs.Common.{ℕ, ◌≡◌, ◌<◌, ◌≤◌, Option, Some, List, length, ◌∙◌, subst, get_or, arith}
+use Rattle.std.proofs.Common.{ℕ, ◌≡◌, ◌<◌, ◌≤◌, Option, Some, List, [], length, ◌∙◌, subst, get_or, arith}
 use Rattle.std.specs.Prelude.{Contains}
 use Rattle.std.proofs.lemmas.List.{get_or_default}
 use Rattle.sc_graph.specs.declared.place.Place.{Place}
@@ -12,7 +12,11 @@ use Rattle.sc_graph.specs.Program.{Program, step_at, owner_of}
 use Rattle.sc_graph.specs.Threads.{IsFork}
 use Rattle.sc_graph.specs.Tables.{priority}
 use Rattle.sc_graph.specs.Protocol.{FlowAt, Instant, by_successor, by_entry, by_exit}
-use Rattle.verifier.specs.Inside.ByNode.{StepFlows, ForksTo, RisesToSuccessor, RisesToEntry, RisesFromExit, EntryFlows, ExitsFlow, ChildrenFlow}
+use Rattle.verifier.specs.Inside.ByNode.{StepFlows, ForksTo, RisesToSuccessor, RisesToEntry, RisesFromOneOf, AllFlow, IsExitOf, EntryFlows, ExitsFlow, ChildrenFlow}
+use Rattle.verifier.specs.Inside.Pairs.{Lists}
+use Rattle.verifier.specs.Inside.Users.{ListsEach}
+use Rattle.sc_graph.specs.Valid.{IsFormed}
+use Rattle.sc_graph.proofs.Formed.{parent_is_owner, within_threads}
 use Rattle.sc_graph.proofs.Nodes.{node_of_step, step_within}
 
 pub flows_kept : (p : Program) (q : Tables) → ((n : ℕ) → n < length p.nodes → StepFlows p q n) → (at : Place) → FlowAt p q at
@@ -50,11 +54,26 @@ rises_to_entry p q n child join at way r kept =
     let rises = r.rises in
     omega (arith, rises)
 
-pub rises_from_exit : (p : Program) (q : Tables) (n child join : ℕ) (at : Place) → ForksTo p n child join → RisesFromExit p q child join at → ¬ FlowAt p q at
-rises_from_exit p q n child join at way r kept =
+-- a child of a fork is a thread of the program
+child_within : (p : Program) → IsFormed p → (n child join : ℕ) → ForksTo p n child join → child < length p.threads
+child_within p formed n child join way =
+    let fork = fork_of p n child join way in
+    within_threads p child fork.0 (parent_is_owner p formed n fork.0 join child way.children fork.1 way.among)
+
+-- the list has the exits of a child of a fork
+pub child_exits : (p : Program) → IsFormed p → (lists : List (List ℕ)) → ListsEach (length p.threads) (IsExitOf p) lists → (n child join : ℕ) → ForksTo p n child join →
+    Lists (get_or lists child []) (IsExitOf p child)
+child_exits p formed lists exits n child join way = exits.each child (child_within p formed n child join way)
+
+pub exits_flow : (p : Program) (q : Tables) (child join : ℕ) (exits : List ℕ) → Lists exits (IsExitOf p child) → AllFlow q exits join → ExitsFlow p q child join
+exits_flow p q child join exits l h m x = h.each m (l.each m x)
+
+pub rises_from_exit : (p : Program) (q : Tables) (n child join : ℕ) (at : Place) (exits : List ℕ) → Lists exits (IsExitOf p child) → ForksTo p n child join → RisesFromOneOf q exits join at → ¬ FlowAt p q at
+rises_from_exit p q n child join at exits l way r kept =
     let P : Place → Type 0 = λ a. FlowAt p q a in
     let fork = fork_of p n child join way in
-    let flows : priority q join ≤ priority q r.exit = (subst P r.is kept) (by_exit n fork.0 way.children child fork.1 way.among r.exits.owned r.exits.exits) in
+    let exit : IsExitOf p child r.exit = l.only r.exit r.among in
+    let flows : priority q join ≤ priority q r.exit = (subst P r.is kept) (by_exit n fork.0 way.children child fork.1 way.among exit.owned exit.exits) in
     let rises = r.rises in
     omega (arith, rises)
 

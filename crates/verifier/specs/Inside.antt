@@ -3,3 +3,8 @@ pub mod Faults
 pub mod ByNode
 pub mod Pairs
 pub mod Users
+pub mod Extremes
+pub mod Samples
+pub mod Chosen
+pub mod Linked
+pub mod Known

@@ -1,6 +1,6 @@
 //! The assignment kind rule: a variable takes the kind of what is written to it, and is no input.
 
-ghost use Rattle.std.specs.Prelude.{◌≡◌, ◌↔◌, ◌<◌, IsTrue, IfOk, Contains, Some};
+ghost use Rattle.std.specs.Prelude.{◌≡◌, ◌↔◌, ◌<◌, IsTrue, Contains, Some};
 ghost use Rattle.sc_values.specs.Code.{IsWellFormed, loads};
 ghost use Rattle.sc_values.specs.Operator.{kind_combined};
 ghost use Rattle.sc_graph.specs.Codes.{AssignmentAt, CodeAt, IsWritten, StepIsAssigned, StepIsWellFormed};
@@ -9,24 +9,12 @@ ghost use Rattle.sc_graph.specs.declared.place.Place.{Place};
 ghost use Rattle.sc_graph.specs.declared.place.Place.TheVariants as place;
 ghost use Rattle.verifier.specs.Inside.Faults.{IsFault};
 
-use crate::kinds::{kind_given, kinds_of};
+use crate::kinds::kind_given;
 use sc_graph::{NodeId, Place, Program, Role, Step, VariableId, is_loaded};
 use sc_values::{Code, Combination, Kind};
-use std::alloc::{AllocError, Global};
 
 /// A place where the rule is broken, where it is.
-pub(crate) fn assignment_fault(
-    alloc: Global,
-    program: &Program,
-) -> Result<Option<Place>, AllocError>
-    requires { (at : Place) → CodeAt program.now at }
-    ensures { IfOk result (IsFault (AssignmentAt program.now)) }
-{
-    let kinds = kinds_of(alloc, program)?;
-    Ok(assignment_fault_by(program, kinds.as_slice()))
-}
-
-fn assignment_fault_by(program: &Program, known: &[Kind]) -> Option<Place>
+pub(crate) fn assignment_fault(program: &Program, known: &[Kind]) -> Option<Place>
     requires known { known.now ≡ kinds program.now }
     requires codes { (at : Place) → CodeAt program.now at }
     ensures { IsFault (AssignmentAt program.now) result }

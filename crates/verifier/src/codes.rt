@@ -1,7 +1,7 @@
 //! The well-formed code rule: each code spells a well-kinded expression within the limits, and a
 //! condition's code gives a truth value.
 
-ghost use Rattle.std.specs.Prelude.{◌≡◌, ◌↔◌, ◌<◌, IsTrue, IfOk, Some};
+ghost use Rattle.std.specs.Prelude.{◌≡◌, ◌↔◌, ◌<◌, IsTrue, Some};
 ghost use Rattle.sc_values.specs.declared.value.Kind.TheVariants.{Bool};
 ghost use Rattle.sc_values.specs.Code.{code_kind, IsWellFormed};
 ghost use Rattle.sc_graph.specs.Codes.{CodeAt, StepIsWellFormed};
@@ -9,20 +9,12 @@ ghost use Rattle.sc_graph.specs.Program.{kinds};
 ghost use Rattle.sc_graph.specs.declared.place.Place.TheVariants as place;
 ghost use Rattle.verifier.specs.Inside.Faults.{IsFault};
 
-use crate::kinds::{kind_given, kinds_of};
+use crate::kinds::kind_given;
 use sc_graph::{NodeId, Place, Program, Step};
 use sc_values::{Code, Kind};
-use std::alloc::{AllocError, Global};
 
 /// A place where the rule is broken, where it is.
-pub(crate) fn code_fault(alloc: Global, program: &Program) -> Result<Option<Place>, AllocError>
-    ensures { IfOk result (IsFault (CodeAt program.now)) }
-{
-    let kinds = kinds_of(alloc, program)?;
-    Ok(code_fault_by(program, kinds.as_slice()))
-}
-
-fn code_fault_by(program: &Program, known: &[Kind]) -> Option<Place>
+pub(crate) fn code_fault(program: &Program, known: &[Kind]) -> Option<Place>
     requires { known.now ≡ kinds program.now }
     ensures { IsFault (CodeAt program.now) result }
 {

@@ -1,64 +1,91 @@
 //! The write-conflict rule: no two concurrent inits of a variable, and no two concurrent updates of
 //! it by different combinations.
 
-ghost use Rattle.std.specs.Prelude.{◌≡◌, ◌↔◌, IfOk, IsTrue, MatchOption, ℕ, Contains};
+ghost use Rattle.std.specs.Prelude.{◌<◌, ◌↔◌, IsTrue, MatchOption, ℕ, Contains, length};
 ghost use Rattle.sc_values.specs.Access.{Clash};
 ghost use Rattle.sc_graph.specs.Accesses.{accesses};
 ghost use Rattle.sc_graph.specs.Protocol.{NoConflictAt, WriteConflict};
-ghost use Rattle.sc_graph.specs.Valid.{IsFormed};
-ghost use Rattle.verifier.specs.Inside.Pairs.{InitsAt, Lists, NoConflictOn, NoneConflict, UpdatesAt};
+ghost use Rattle.verifier.specs.Inside.Pairs.{NoConflictOn, NoneConflict};
 ghost use Rattle.verifier.specs.Inside.Faults.{IsFault};
+ghost use Rattle.verifier.specs.Inside.Chosen.{SamplesOf};
+ghost use Rattle.verifier.specs.Inside.Samples.{IsSample};
+ghost use Rattle.verifier.specs.Inside.Users.{UsersOf};
+ghost use Rattle.verifier.specs.Inside.Linked.{IsLinked};
 
 use crate::concurrency::are_concurrent;
+use crate::extremes::list_of;
+use crate::samples::Samples;
 use crate::users::Users;
-use sc_graph::{ConcurrentThreads, NodeId, Place, Program, VariableId};
-use std::alloc::{AllocError, Global};
+use sc_graph::{Links, NodeId, Place, Program, VariableId};
 
 /// A place where the rule is broken, where it is.
 pub(crate) fn no_conflict_fault(
-    alloc: Global,
     program: &Program,
-) -> Result<Option<Place>, AllocError>
-    requires { IsFormed program.now }
-    ensures { IfOk result (IsFault (NoConflictAt program.now)) }
+    links: &Links,
+    users: &Users,
+    samples: &Samples,
+) -> Option<Place>
+    requires links { IsLinked program.now links.now }
+    requires users { UsersOf program.now users.now }
+    requires samples { SamplesOf program.now users.now samples.now }
+    ensures { IsFault (NoConflictAt program.now) result }
 {
-    let threads = ConcurrentThreads::of(alloc, program)?;
-    let inits = Users::initializing(alloc, program)?;
-    let updates = Users::updating(alloc, program)?;
     for x in 0..program.variable_count() {
-        if let Some(place) = conflict_over(program, &threads, x, inits.of(x), updates.of(x)) {
-            return Ok(Some(place));
+        if let Some(place) = conflict_over(program, links, users, samples, x) {
+            return Some(place);
         }
     }
-    Ok(None)
+    None
 }
 
 // Two of the inits of a variable, or two of its updates, that conflict.
 fn conflict_over(
     program: &Program,
-    threads: &ConcurrentThreads,
+    links: &Links,
+    users: &Users,
+    samples: &Samples,
     x: VariableId,
-    inits: &[NodeId],
-    updates: &[NodeId],
 ) -> Option<Place>
-    requires threads { threads.now ≡ program.now }
-    requires inits { Lists inits.now (InitsAt program.now x) }
-    requires updates { Lists updates.now (UpdatesAt program.now x) }
+    requires links { IsLinked program.now links.now }
+    requires users { UsersOf program.now users.now }
+    requires samples { SamplesOf program.now users.now samples.now }
+    requires within { x < length program.now.variables }
     ensures { MatchOption result (NoConflictOn program.now x) (λ at. ¬ NoConflictAt program.now at) }
 {
-    match conflict_among(program, threads, inits) {
+    let inits = users.inits.of(x);
+    match conflict_by(program, links, inits, list_of(&samples.inits, x)) {
         Some(place) => Some(place),
-        None => conflict_among(program, threads, updates),
+        None => {
+            let updates = users.updates.of(x);
+            conflict_by(program, links, updates, list_of(&samples.updates, x))
+        }
+    }
+}
+
+// Two of these nodes that conflict; they are looked for only where two of the samples do.
+fn conflict_by(
+    program: &Program,
+    links: &Links,
+    nodes: &[NodeId],
+    samples: &[NodeId],
+) -> Option<Place>
+    requires links { IsLinked program.now links.now }
+    requires samples { IsSample program.now nodes.now samples.now }
+    ensures { MatchOption result (NoneConflict program.now nodes.now) (λ at. ¬ NoConflictAt program.now at) }
+{
+    match conflict_among(program, links, samples) {
+        Some(_place) => conflict_among(program, links, nodes),
+        None => None,
     }
 }
 
 // Two of these nodes that conflict.
-fn conflict_among(program: &Program, threads: &ConcurrentThreads, nodes: &[NodeId]) -> Option<Place>
-    requires { threads.now ≡ program.now }
+fn conflict_among(program: &Program, links: &Links, nodes: &[NodeId]) -> Option<Place>
+    requires { IsLinked program.now links.now }
     ensures { MatchOption result (NoneConflict program.now nodes.now) (λ at. ¬ NoConflictAt program.now at) }
 {
     for m in nodes {
-        if let Some(place) = conflict_with(program, threads, *m, nodes) {
+        if let Some(place) = conflict_with(program, links, *m, nodes) {
             return Some(place);
         }
     }
@@ -66,17 +93,12 @@ fn conflict_among(program: &Program, threads: &ConcurrentThreads, nodes: &[NodeI
 }
 
 // A node and one of these that conflict.
-fn conflict_with(
-    program: &Program,
-    threads: &ConcurrentThreads,
-    m: NodeId,
-    nodes: &[NodeId],
-) -> Option<Place>
-    requires { threads.now ≡ program.now }
+fn conflict_with(program: &Program, links: &Links, m: NodeId, nodes: &[NodeId]) -> Option<Place>
+    requires { IsLinked program.now links.now }
     ensures { MatchOption result ((n : ℕ) → Contains nodes.now n → ¬ WriteConflict program.now m n) (λ at. ¬ NoConflictAt program.now at) }
 {
     for n in nodes {
-        if is_conflict(program, threads, m, *n) {
+        if is_conflict(program, links, m, *n) {
             return Some(Place::Pair(m, *n));
         }
     }
@@ -84,8 +106,8 @@ fn conflict_with(
 }
 
 // Whether two nodes, the smaller first, conflict.
-fn is_conflict(program: &Program, threads: &ConcurrentThreads, m: NodeId, n: NodeId) -> bool
-    requires { threads.now ≡ program.now }
+fn is_conflict(program: &Program, links: &Links, m: NodeId, n: NodeId) -> bool
+    requires { IsLinked program.now links.now }
     ensures { IsTrue result ↔ WriteConflict program.now m n }
 {
     if n <= m {
@@ -94,11 +116,11 @@ fn is_conflict(program: &Program, threads: &ConcurrentThreads, m: NodeId, n: Nod
     if !nodes_clash(program, m, n) {
         return false;
     }
-    are_concurrent(program, threads, m, n)
+    are_concurrent(program, links, m, n)
 }
 
-// Whether two nodes, if they are concurrent, may not both be taken.
-fn nodes_clash(program: &Program, m: NodeId, n: NodeId) -> bool
+/// Whether two nodes, if they are concurrent, may not both be taken.
+pub(crate) fn nodes_clash(program: &Program, m: NodeId, n: NodeId) -> bool
     ensures { IsTrue result ↔ Clash (accesses program.now m) (accesses program.now n) }
 {
     match (program.step(m), program.step(n)) {

@@ -3,8 +3,9 @@
 ghost use Rattle.std.specs.Prelude.{◌≡◌};
 ghost use Rattle.verifier.specs.Verdict.{fault_number};
 
-use crate::rule::{Broken, Rule};
+use crate::rule::{Broken, Refusal, Rule};
 use sc_graph::Place;
+use std::error::Error;
 use std::fmt;
 
 impl Rule {
@@ -44,3 +45,19 @@ impl fmt::Display for Broken {
         }
     }
 }
+
+impl fmt::Display for Refusal {
+    ghost use Rattle.std.specs.Prelude.{Some};
+    ghost use Rattle.verifier.specs.FaultText.{refusal_text};
+
+    ghost output = { λ refusal. Some (refusal_text refusal) };
+
+    fn fmt<W: fmt::Write>(&self, f: &mut fmt::Formatter<W>) -> fmt::Result {
+        match self {
+            Refusal::Broken(broken) => write!(f, "{broken}"),
+            Refusal::Memory => write!(f, "E52"),
+        }
+    }
+}
+
+impl Error for Refusal {}

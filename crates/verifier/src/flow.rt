@@ -1,22 +1,27 @@
 //! The rule of priority along flow: it never rises along an instantaneous edge.
 
-ghost use Rattle.std.specs.Prelude.{◌≡◌, ◌↔◌, ◌<◌, ◌≤◌, IsTrue, MatchOption, ℕ, Some};
+ghost use Rattle.std.specs.Prelude.{◌≡◌, ◌<◌, ◌≤◌, MatchOption, ℕ, Some, length};
 ghost use Rattle.sc_graph.specs.Program.{step_at};
 ghost use Rattle.sc_graph.specs.Protocol.{FlowAt};
 ghost use Rattle.sc_graph.specs.Tables.{priority};
 ghost use Rattle.sc_graph.specs.declared.place.Place.TheVariants as place;
 ghost use Rattle.sc_graph.specs.declared.program.Step.TheVariants as step;
-ghost use Rattle.verifier.specs.Inside.ByNode.{ChildrenFlow, EntryFlows, ExitsFlow, ForksTo, IsExitOf, RisesFromExit, RisesToEntry, RisesToSuccessor, StepFlows, SuccessorsFlow};
+ghost use Rattle.verifier.specs.Inside.ByNode.{AllFlow, ChildrenFlow, EntryFlows, ExitsFlow, ForksTo, IsExitOf, RisesFromOneOf, RisesToEntry, RisesToSuccessor, StepFlows, SuccessorsFlow};
+ghost use Rattle.verifier.specs.Inside.Users.{ListsEach};
+ghost use Rattle.sc_graph.specs.Valid.{IsFormed};
 ghost use Rattle.verifier.specs.Inside.Faults.{IsFault};
 
+use crate::node_lists::NodeLists;
 use sc_graph::{NodeId, Place, Program, Step, Tables, ThreadId};
 
 /// A place where the rule is broken, where it is.
-pub(crate) fn flow_fault(program: &Program, tables: &Tables) -> Option<Place>
+pub(crate) fn flow_fault(program: &Program, tables: &Tables, exits: &NodeLists) -> Option<Place>
+    requires formed { IsFormed program.now }
+    requires exits { ListsEach (length program.now.threads) (IsExitOf program.now) exits.now }
     ensures { IsFault (FlowAt program.now tables.now) result }
 {
     for n in 0..program.node_count() {
-        if let Some(rising) = rise_at_step(program, tables, n) {
+        if let Some(rising) = rise_at_step(program, tables, exits, n) {
             return Some(rising);
         }
     }
@@ -24,13 +29,15 @@ pub(crate) fn flow_fault(program: &Program, tables: &Tables) -> Option<Place>
 }
 
 // An edge that the step of a node makes and along which priority rises.
-fn rise_at_step(program: &Program, tables: &Tables, n: NodeId) -> Option<Place>
+fn rise_at_step(program: &Program, tables: &Tables, exits: &NodeLists, n: NodeId) -> Option<Place>
+    requires formed { IsFormed program.now }
+    requires exits { ListsEach (length program.now.threads) (IsExitOf program.now) exits.now }
     ensures { MatchOption result (StepFlows program.now tables.now n) (λ at. ¬ FlowAt program.now tables.now at) }
 {
     match program.step(n) {
         Some(step) => match rise_to_successor(tables, n, step) {
             Some(rising) => Some(rising),
-            None => rise_at_fork(program, tables, n, step),
+            None => rise_at_fork(program, tables, exits, n, step),
         },
         None => None,
     }
@@ -65,13 +72,21 @@ fn rise_along(tables: &Tables, from: NodeId, to: NodeId) -> Option<Place>
 }
 
 // An edge to a child of a fork, or from it to the join, along which priority rises.
-fn rise_at_fork(program: &Program, tables: &Tables, n: NodeId, step: &Step) -> Option<Place>
-    requires { step_at program.now n ≡ Some step.now }
+fn rise_at_fork(
+    program: &Program,
+    tables: &Tables,
+    exits: &NodeLists,
+    n: NodeId,
+    step: &Step,
+) -> Option<Place>
+    requires formed { IsFormed program.now }
+    requires exits { ListsEach (length program.now.threads) (IsExitOf program.now) exits.now }
+    requires step { step_at program.now n ≡ Some step.now }
     ensures { MatchOption result (ChildrenFlow program.now tables.now n) (λ at. ¬ FlowAt program.now tables.now at) }
 {
     match step {
         Step::Fork { children, join } => {
-            rise_at_children(program, tables, n, children.as_slice(), *join)
+            rise_at_children(program, tables, exits, n, children.as_slice(), *join)
         }
         Step::Assign { .. }
         | Step::Update { .. }
@@ -86,15 +101,18 @@ fn rise_at_fork(program: &Program, tables: &Tables, n: NodeId, step: &Step) -> O
 fn rise_at_children(
     program: &Program,
     tables: &Tables,
+    exits: &NodeLists,
     n: NodeId,
     children: &[ThreadId],
     join: NodeId,
 ) -> Option<Place>
-    requires { step_at program.now n ≡ Some (step.Fork children.now join) }
+    requires formed { IsFormed program.now }
+    requires exits { ListsEach (length program.now.threads) (IsExitOf program.now) exits.now }
+    requires step { step_at program.now n ≡ Some (step.Fork children.now join) }
     ensures { MatchOption result (ChildrenFlow program.now tables.now n) (λ at. ¬ FlowAt program.now tables.now at) }
 {
     for child in children {
-        if let Some(rising) = rise_at_child(program, tables, n, *child, join) {
+        if let Some(rising) = rise_at_child(program, tables, exits, n, *child, join) {
             return Some(rising);
         }
     }
@@ -105,16 +123,19 @@ fn rise_at_children(
 fn rise_at_child(
     program: &Program,
     tables: &Tables,
+    exits: &NodeLists,
     n: NodeId,
     child: ThreadId,
     join: NodeId,
 ) -> Option<Place>
-    requires { ForksTo program.now n child join }
+    requires formed { IsFormed program.now }
+    requires exits { ListsEach (length program.now.threads) (IsExitOf program.now) exits.now }
+    requires way { ForksTo program.now n child join }
     ensures { MatchOption result (EntryFlows program.now tables.now n child × ExitsFlow program.now tables.now child join) (λ at. ¬ FlowAt program.now tables.now at) }
 {
     match rise_to_entry(program, tables, n, child) {
         Some(rising) => Some(rising),
-        None => rise_from_exit(program, tables, child, join),
+        None => rise_from_one_of(tables, exits.of(child), join),
     }
 }
 
@@ -128,26 +149,14 @@ fn rise_to_entry(program: &Program, tables: &Tables, n: NodeId, child: ThreadId)
     }
 }
 
-// An edge from an exit of a thread to a join, along which priority rises.
-fn rise_from_exit(
-    program: &Program,
-    tables: &Tables,
-    child: ThreadId,
-    join: NodeId,
-) -> Option<Place>
-    ensures { MatchOption result (ExitsFlow program.now tables.now child join) (RisesFromExit program.now tables.now child join) }
+// An edge from one of the exits of a thread to a join, along which priority rises.
+fn rise_from_one_of(tables: &Tables, exits: &[NodeId], join: NodeId) -> Option<Place>
+    ensures { MatchOption result (AllFlow tables.now exits.now join) (RisesFromOneOf tables.now exits.now join) }
 {
-    for n in 0..program.node_count() {
-        if is_exit_of(program, child, n) && tables.priority(n) < tables.priority(join) {
-            return Some(Place::Pair(n, join));
+    for n in exits {
+        if let Some(rising) = rise_along(tables, *n, join) {
+            return Some(rising);
         }
     }
     None
-}
-
-// Whether a node is an exit of a thread.
-fn is_exit_of(program: &Program, thread: ThreadId, n: NodeId) -> bool
-    ensures { IsTrue result ↔ IsExitOf program.now thread n }
-{
-    program.owns(thread, n) && matches!(program.step(n), Some(Step::Exit))
 }

@@ -6,10 +6,17 @@ ghost use Rattle.sc_graph.specs.Program.{kinds};
 
 use sc_graph::Program;
 use sc_values::{CheckedCode, Code, Kind};
+use sqlite_items::Items;
 use std::alloc::{AllocError, Global};
 
 /// The kinds of the variables.
-pub(crate) fn kinds_of(alloc: Global, program: &Program) -> Result<Vec<Kind>, AllocError>
+pub(crate) fn kinds_of(alloc: Global, program: &Program) -> Result<Items<Kind>, AllocError>
+    ensures { IfOk result (λ list. list ≡ kinds program.now) }
+{
+    Ok(Items::from_vec(collected_kinds(alloc, program)?))
+}
+
+fn collected_kinds(alloc: Global, program: &Program) -> Result<Vec<Kind>, AllocError>
     ensures { IfOk result (λ v. v.items ≡ kinds program.now) }
 {
     program

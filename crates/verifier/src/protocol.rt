@@ -1,45 +1,48 @@
 //! The rule of priority along protocol edges: it falls from each init of a variable to each concurrent
 //! update and read, and from each update to each concurrent read.
 
-ghost use Rattle.std.specs.Prelude.{◌≡◌, ◌↔◌, IfOk, IsTrue, MatchOption, ℕ, Contains};
+ghost use Rattle.std.specs.Prelude.{◌≡◌, ◌↔◌, IsTrue, MatchOption, ℕ, Contains};
 ghost use Rattle.sc_graph.specs.Protocol.{ProtocolAt};
 ghost use Rattle.sc_graph.specs.Valid.{IsFormed};
 ghost use Rattle.sc_graph.specs.declared.place.Place.TheVariants as place;
 ghost use Rattle.verifier.specs.Inside.Pairs.{AllFall, FallsOn, InitsAt, DoesNotFall, Lists, ReadsAt, NoFallBetween, UpdatesAt};
 ghost use Rattle.verifier.specs.Inside.Faults.{IsFault};
+ghost use Rattle.verifier.specs.Inside.Known.{KnownOf};
+ghost use Rattle.verifier.specs.Inside.Linked.{IsLinked};
+ghost use Rattle.verifier.specs.Inside.Chosen.{StandOver};
+ghost use Rattle.verifier.specs.Inside.Extremes.{StandFor};
+ghost use Rattle.verifier.specs.declared.extremes.Extreme.TheVariants.{Greatest, Least};
 
 use crate::concurrency::are_concurrent;
-use crate::users::Users;
-use sc_graph::{ConcurrentThreads, NodeId, Place, Program, Tables, VariableId};
-use std::alloc::{AllocError, Global};
+use crate::extremes::{Extremes, list_of};
+use crate::known::Known;
+use sc_graph::{Links, NodeId, Place, Program, Tables, VariableId};
 
 /// A place where the rule is broken, where it is.
-pub(crate) fn protocol_fault(
-    alloc: Global,
-    program: &Program,
-    tables: &Tables,
-) -> Result<Option<Place>, AllocError>
-    requires { IsFormed program.now }
-    ensures { IfOk result (IsFault (ProtocolAt program.now tables.now)) }
+pub(crate) fn protocol_fault(program: &Program, tables: &Tables, known: &Known) -> Option<Place>
+    requires formed { IsFormed program.now }
+    requires known { KnownOf program.now tables.now known.now }
+    ensures { IsFault (ProtocolAt program.now tables.now) result }
 {
-    let threads = ConcurrentThreads::of(alloc, program)?;
-    let inits = Users::initializing(alloc, program)?;
-    let updates = Users::updating(alloc, program)?;
-    let reads = Users::reading(alloc, program)?;
+    let users = &known.users;
     for x in 0..program.variable_count() {
+        let inits = users.inits.of(x);
+        let updates = users.updates.of(x);
+        let reads = users.reads.of(x);
         if let Some(place) = no_fall_over(
             program,
             tables,
-            &threads,
+            &known.links,
+            &known.extremes,
             x,
-            inits.of(x),
-            updates.of(x),
-            reads.of(x),
+            inits,
+            updates,
+            reads,
         ) {
-            return Ok(Some(place));
+            return Some(place);
         }
     }
-    Ok(None)
+    None
 }
 
 // A protocol edge about a variable along which priority does not fall, over the lists of the
@@ -47,40 +50,93 @@ pub(crate) fn protocol_fault(
 fn no_fall_over(
     program: &Program,
     tables: &Tables,
-    threads: &ConcurrentThreads,
+    links: &Links,
+    extremes: &Extremes,
     x: VariableId,
     inits: &[NodeId],
     updates: &[NodeId],
     reads: &[NodeId],
 ) -> Option<Place>
-    requires threads { threads.now ≡ program.now }
+    requires links { IsLinked program.now links.now }
     requires inits { Lists inits.now (InitsAt program.now x) }
     requires updates { Lists updates.now (UpdatesAt program.now x) }
     requires reads { Lists reads.now (ReadsAt program.now x) }
+    requires extremes { StandOver program.now tables.now extremes.now x inits.now updates.now reads.now }
     ensures { MatchOption result (FallsOn program.now tables.now x) (λ at. ¬ ProtocolAt program.now tables.now at) }
 {
-    if let Some(place) = no_fall_between(program, tables, threads, inits, updates) {
+    let least_inits = list_of(&extremes.least_inits, x);
+    let greatest_updates = list_of(&extremes.greatest_updates, x);
+    if let Some(place) = no_fall_by(
+        program,
+        tables,
+        links,
+        inits,
+        least_inits,
+        updates,
+        greatest_updates,
+    ) {
         return Some(place);
     }
-    if let Some(place) = no_fall_between(program, tables, threads, inits, reads) {
+    let greatest_reads = list_of(&extremes.greatest_reads, x);
+    if let Some(place) = no_fall_by(
+        program,
+        tables,
+        links,
+        inits,
+        least_inits,
+        reads,
+        greatest_reads,
+    ) {
         return Some(place);
     }
-    no_fall_between(program, tables, threads, updates, reads)
+    let least_updates = list_of(&extremes.least_updates, x);
+    no_fall_by(
+        program,
+        tables,
+        links,
+        updates,
+        least_updates,
+        reads,
+        greatest_reads,
+    )
+}
+
+// A first and a concurrent second node between which priority does not fall. They are looked for
+// only where it does not fall from the nodes that stand for the first ones, by least priority, to
+// those that stand for the second ones, by greatest.
+fn no_fall_by(
+    program: &Program,
+    tables: &Tables,
+    links: &Links,
+    firsts: &[NodeId],
+    least: &[NodeId],
+    seconds: &[NodeId],
+    greatest: &[NodeId],
+) -> Option<Place>
+    requires links { IsLinked program.now links.now }
+    requires least { StandFor program.now tables.now Least firsts.now least.now }
+    requires greatest { StandFor program.now tables.now Greatest seconds.now greatest.now }
+    ensures { MatchOption result (AllFall program.now tables.now firsts.now seconds.now) (NoFallBetween program.now tables.now firsts.now seconds.now) }
+{
+    match no_fall_between(program, tables, links, least, greatest) {
+        Some(_place) => no_fall_between(program, tables, links, firsts, seconds),
+        None => None,
+    }
 }
 
 // A first and a concurrent second node between which priority does not fall.
 fn no_fall_between(
     program: &Program,
     tables: &Tables,
-    threads: &ConcurrentThreads,
+    links: &Links,
     firsts: &[NodeId],
     seconds: &[NodeId],
 ) -> Option<Place>
-    requires { threads.now ≡ program.now }
+    requires { IsLinked program.now links.now }
     ensures { MatchOption result (AllFall program.now tables.now firsts.now seconds.now) (NoFallBetween program.now tables.now firsts.now seconds.now) }
 {
     for m in firsts {
-        if let Some(n) = no_fall_after(program, tables, threads, *m, seconds) {
+        if let Some(n) = no_fall_after(program, tables, links, *m, seconds) {
             return Some(Place::Pair(*m, n));
         }
     }
@@ -91,15 +147,15 @@ fn no_fall_between(
 fn no_fall_after(
     program: &Program,
     tables: &Tables,
-    threads: &ConcurrentThreads,
+    links: &Links,
     m: NodeId,
     seconds: &[NodeId],
 ) -> Option<NodeId>
-    requires { threads.now ≡ program.now }
+    requires { IsLinked program.now links.now }
     ensures { MatchOption result ((n : ℕ) → Contains seconds.now n → ¬ DoesNotFall program.now tables.now m n) (λ n. Contains seconds.now n × DoesNotFall program.now tables.now m n) }
 {
     for n in seconds {
-        if does_not_fall(program, tables, threads, m, *n) {
+        if does_not_fall(program, tables, links, m, *n) {
             return Some(*n);
         }
     }
@@ -107,15 +163,9 @@ fn no_fall_after(
 }
 
 // Whether two nodes are concurrent and priority does not fall from the first to the second.
-fn does_not_fall(
-    program: &Program,
-    tables: &Tables,
-    threads: &ConcurrentThreads,
-    m: NodeId,
-    n: NodeId,
-) -> bool
-    requires { threads.now ≡ program.now }
+fn does_not_fall(program: &Program, tables: &Tables, links: &Links, m: NodeId, n: NodeId) -> bool
+    requires { IsLinked program.now links.now }
     ensures { IsTrue result ↔ DoesNotFall program.now tables.now m n }
 {
-    tables.priority(m) <= tables.priority(n) && are_concurrent(program, threads, m, n)
+    tables.priority(m) <= tables.priority(n) && are_concurrent(program, links, m, n)
 }

@@ -2,32 +2,31 @@ ghost use Rattle.std.specs.Prelude.{◌≡◌};
 
 use sc_graph::Place;
 use std::alloc::AllocError;
-use thiserror::Error;
 
 /// A rule of a valid image, in order.
 #[derive(Clone, Copy, Debug, PartialEq, Eq)]
 pub enum Rule {
-    /// Counts and the budget are within their limits, names are distinct, and each number names
+    /// E31: counts and the budget are within their limits, names are distinct, and each number names
     /// something.
     Size,
-    /// Who owns what a step names; one fork for each join and for each thread but the root, one
+    /// E32: who owns what a step names; one fork for each join and for each thread but the root, one
     /// pause for each depth.
     Structure,
-    /// Each code spells a well-kinded expression within the limits, and that of a Cond is Bool.
+    /// E33: each code spells a well-kinded expression within the limits, and that of a Cond is Bool.
     Code,
-    /// What is written fits the variable, which is no input, and no update loads its own variable.
+    /// E34: what is written fits the variable, which is no input, and no update loads its own variable.
     Assignment,
-    /// A node from which a thread may end in this tick has its end bit.
+    /// E35: a node from which a thread may end in this tick has its end bit.
     EndBit,
-    /// No two concurrent writes conflict.
+    /// E36: no two concurrent writes conflict.
     NoConflict,
-    /// Priority never rises along an instantaneous edge.
+    /// E37: priority never rises along an instantaneous edge.
     Flow,
-    /// Priority falls strictly along each protocol edge.
+    /// E38: priority falls strictly along each protocol edge.
     Protocol,
-    /// A weight covers the steps that may follow in this tick.
+    /// E39: a weight covers the steps that may follow in this tick.
     Weight,
-    /// The bounds of threads, and the budget, cover a tick.
+    /// E40: the bounds of threads, and the budget, cover a tick.
     Bound,
 }
 
@@ -39,13 +38,11 @@ pub struct Broken {
 }
 
 /// Why an image is not verified.
-#[derive(Clone, Copy, Debug, PartialEq, Eq, Error)]
+#[derive(Clone, Copy, Debug, PartialEq, Eq)]
 pub enum Refusal {
     /// The lowest rule that is broken.
-    #[error("{0}")]
     Broken(Broken),
-    /// Memory was refused.
-    #[error("E52")]
+    /// E52: memory was refused.
     Memory,
 }
 

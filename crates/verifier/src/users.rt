@@ -1,85 +1,68 @@
 //! The nodes that use each variable: those that initialize it, those that update it, and those that
-//! read it. Each of the three is found in one pass over the nodes.
+//! read it.
 
-ghost use Rattle.std.specs.Prelude.{◌≡◌, ◌↔◌, ◌⊎◌, ℕ, [], IfOk, OnOk, Some, Contains, get_or};
+ghost use Rattle.std.specs.Prelude.{◌≡◌, ◌↔◌, ℕ, IfOk, OnOk, Some, Contains, length};
 ghost use Rattle.sc_values.specs.Access.{Reads};
 ghost use Rattle.sc_values.specs.Code.{loads, loaded};
 ghost use Rattle.sc_graph.specs.Accesses.{access_of};
 ghost use Rattle.verifier.specs.Inside.Pairs.{InitsAt, ReadsAt, UpdatesAt};
-ghost use Rattle.verifier.specs.Inside.Users.{Gains, IsUnused, ListsEach};
+ghost use Rattle.verifier.specs.Inside.Users.{Gains, ListsEach, UsersOf, UsesAt};
 
-use sc_graph::{NodeId, Program, Step, VariableId};
+use crate::node_lists::NodeLists;
+use sc_graph::{NodeId, Program, Step};
 use sc_values::{Code, Operation};
 use std::alloc::{AllocError, Global};
-use std::marker::Model;
 
-/// A list of nodes for each variable. Contracts see the lists.
-#[derive(Drop)]
-pub(crate) struct Users {
-    lists: Vec<Vec<NodeId>>,
+/// A way to use a variable.
+#[derive(Clone, Copy)]
+pub(crate) enum Use {
+    Init,
+    Update,
+    Read,
 }
 
-impl Model for Users {
-    ghost use Rattle.std.specs.Prelude.{ℕ, List, map};
-
-    ghost Value = { List (List ℕ) };
-
-    ghost view = { λ u. map (λ v. v.items) u.lists.items };
+/// The nodes that use each variable, in each of the three ways.
+#[derive(Drop)]
+pub(crate) struct Users {
+    pub(crate) inits: NodeLists,
+    pub(crate) updates: NodeLists,
+    pub(crate) reads: NodeLists,
 }
 
 impl Users {
-    /// The nodes that initialize each variable.
-    pub(crate) fn initializing(alloc: Global, program: &Program) -> Result<Users, AllocError>
-        ensures { IfOk result (ListsEach program.now (InitsAt program.now)) }
+    /// The users of the variables of a program. Err: memory was refused.
+    pub(crate) fn of(alloc: Global, program: &Program) -> Result<Users, AllocError>
+        ensures { IfOk result (UsersOf program.now) }
     {
-        let mut users = Users::none(alloc, program.variable_count())?;
+        Ok(Users {
+            inits: NodeLists::using(alloc, program, Use::Init)?,
+            updates: NodeLists::using(alloc, program, Use::Update)?,
+            reads: NodeLists::using(alloc, program, Use::Read)?,
+        })
+    }
+}
+
+impl NodeLists {
+    /// The nodes that use each variable in a way, found in one pass over the nodes.
+    pub(crate) fn using(alloc: Global, program: &Program, way: Use) -> Result<NodeLists, AllocError>
+        ensures { IfOk result (ListsEach (length program.now.variables) (UsesAt program.now way)) }
+    {
+        let mut users = NodeLists::none(alloc, program.variable_count())?;
         for n in 0..program.node_count() {
-            users.note_init(program, n)?;
+            users.note_use(program, n, way)?;
         }
         Ok(users)
     }
 
-    /// The nodes that update each variable.
-    pub(crate) fn updating(alloc: Global, program: &Program) -> Result<Users, AllocError>
-        ensures { IfOk result (ListsEach program.now (UpdatesAt program.now)) }
+    // Puts a node into the list of each variable that it uses in a way.
+    fn note_use(&mut self, program: &Program, n: NodeId, way: Use) -> Result<(), AllocError>
+        ensures { OnOk result (Gains self.old self.new n (λ x. UsesAt program.now way x n)) }
     {
-        let mut users = Users::none(alloc, program.variable_count())?;
-        for n in 0..program.node_count() {
-            users.note_update(program, n)?;
+        match way {
+            Use::Init => self.note_init(program, n),
+            Use::Update => self.note_update(program, n),
+            Use::Read => self.note_reads(program, n),
         }
-        Ok(users)
-    }
-
-    /// The nodes that read each variable.
-    pub(crate) fn reading(alloc: Global, program: &Program) -> Result<Users, AllocError>
-        ensures { IfOk result (ListsEach program.now (ReadsAt program.now)) }
-    {
-        let mut users = Users::none(alloc, program.variable_count())?;
-        for n in 0..program.node_count() {
-            users.note_reads(program, n)?;
-        }
-        Ok(users)
-    }
-
-    /// The nodes of a variable.
-    pub(crate) fn of(&self, x: VariableId) -> &[NodeId]
-        ensures { result.now ≡ get_or self.now x [] }
-    {
-        match self.lists.get(x as usize) {
-            Some(nodes) => nodes.as_slice(),
-            None => &[],
-        }
-    }
-
-    // An empty list for each of so many variables.
-    fn none(alloc: Global, variables: u16) -> Result<Users, AllocError>
-        ensures { IfOk result (IsUnused variables) }
-    {
-        let mut lists = Vec::with_capacity(alloc, variables as usize)?;
-        for _ in 0..variables {
-            lists.push(Vec::new(alloc))?;
-        }
-        Ok(Users { lists })
     }
 
     // Puts a node into the list of the variable that it initializes.
@@ -141,26 +124,4 @@ impl Users {
             _ => Ok(()),
         }
     }
-
-    // Puts a node into the list of a variable, if it does not end with it.
-    fn note(&mut self, x: VariableId, n: NodeId) -> Result<(), AllocError>
-        ensures { OnOk result (Gains self.old self.new n (λ y. y ≡ x)) }
-    {
-        let at = x as usize;
-        if at < self.lists.len() {
-            note_last(&mut self.lists[at], n)
-        } else {
-            Ok(())
-        }
-    }
-}
-
-// Puts a node at the end of a list that does not end with it.
-fn note_last(nodes: &mut Vec<NodeId>, n: NodeId) -> Result<(), AllocError>
-    ensures { OnOk result ((m : ℕ) → Contains nodes.new.items m ↔ Contains nodes.old.items m ⊎ (m ≡ n)) }
-{
-    if nodes.last() != Some(&n) {
-        nodes.push(n)?;
-    }
-    Ok(())
 }

@@ -1,9 +1,10 @@
 //! All rules in order, and the lowest that an image breaks.
 
-ghost use Rattle.std.specs.Prelude.{◌≡◌, ◌≤◌, IfOk, OnErr, MatchOption, ◌≢◌, Err};
+ghost use Rattle.std.specs.Prelude.{◌≡◌, IfOk, MatchOption, ◌≢◌, Err};
 ghost use Rattle.sc_graph.specs.Valid.{IsValid};
 ghost use Rattle.verifier.specs.Verdict.{IsLowestBroken, KeepsBelow, KeptAt, fault_number};
 ghost use Rattle.verifier.specs.Inside.Faults.{IsFault};
+ghost use Rattle.verifier.specs.Inside.Known.{KnownOf};
 ghost use Rattle.verifier.specs.declared.rule.Broken.{Broken};
 ghost use Rattle.verifier.specs.declared.rule.Refusal.TheVariants as refusal;
 ghost use Rattle.verifier.specs.declared.rule.Rule.TheVariants as named;
@@ -14,6 +15,7 @@ use crate::codes::code_fault;
 use crate::conflicts::no_conflict_fault;
 use crate::end_bits::end_bit_fault;
 use crate::flow::flow_fault;
+use crate::known::Known;
 use crate::protocol::protocol_fault;
 use crate::rule::{Broken, Refusal, Rule};
 use crate::size::size_fault;
@@ -21,7 +23,7 @@ use crate::verified::Verified;
 use crate::weights::weight_fault;
 use bytecode::Image;
 use sc_graph::{Place, Program, Tables};
-use std::alloc::{AllocError, Global};
+use std::alloc::Global;
 
 /// Verifies an image, and gives it where it is valid. `Broken`: the lowest rule that it breaks, and
 /// a place where it does. `Memory`: memory was refused; then the image keeps the first two rules,
@@ -34,27 +36,59 @@ pub fn verify(alloc: Global, image: Image) -> Result<Verified, Refusal>
     ensures memory { result ≡ Err refusal.Memory → KeepsBelow image.program image.tables (fault_number named.Code) }
     ensures accepted { IsValid image.program image.tables → (broken : Broken) → result ≢ Err (refusal.Broken broken) }
 {
-    match lowest_broken(alloc, image.program(), image.tables())? {
-        None => Ok(Verified::known(image)),
+    match Known::of(alloc, image.program(), image.tables()) {
+        Ok(known) => verify_by(image, known),
+        Err(_refused) => Err(refusal_without_memory(image.program(), image.tables())),
+    }
+}
+
+// By what is known of its program.
+fn verify_by(image: Image, known: Known) -> Result<Verified, Refusal>
+    requires { KnownOf image.program image.tables known }
+    ensures verified { IfOk result (λ v. v ≡ image) }
+    ensures valid { IfOk result (λ v. IsValid v.program v.tables) }
+    ensures broken { (broken : Broken) → result ≡ Err (refusal.Broken broken) → IsLowestBroken image.program image.tables broken }
+    ensures memory { result ≢ Err refusal.Memory }
+    ensures accepted { IsValid image.program image.tables → (broken : Broken) → result ≢ Err (refusal.Broken broken) }
+{
+    match lowest_broken(image.program(), image.tables(), &known) {
+        None => Ok(Verified::known(image, known.into_links())),
         Some(broken) => Err(Refusal::Broken(broken)),
     }
 }
 
+// What is said where memory was refused: whether one of the first two rules is broken is told
+// without it.
+fn refusal_without_memory(program: &Program, tables: &Tables) -> Refusal
+    ensures broken { (broken : Broken) → result ≡ refusal.Broken broken → IsLowestBroken program.now tables.now broken }
+    ensures memory { result ≡ refusal.Memory → KeepsBelow program.now tables.now (fault_number named.Code) }
+{
+    if let Some(place) = size_fault(program, tables) {
+        return Refusal::Broken(Broken {
+            rule: Rule::Size,
+            place,
+        });
+    }
+    match program.structure_fault() {
+        Some(place) => Refusal::Broken(Broken {
+            rule: Rule::Structure,
+            place,
+        }),
+        None => Refusal::Memory,
+    }
+}
+
 // The lowest rule that is broken, and a place where it is.
-fn lowest_broken(
-    alloc: Global,
-    program: &Program,
-    tables: &Tables,
-) -> Result<Option<Broken>, AllocError>
-    ensures lowest { IfOk result (λ answer. MatchOption answer (IsValid program.now tables.now) (IsLowestBroken program.now tables.now)) }
-    ensures memory { OnErr result (KeepsBelow program.now tables.now (fault_number named.Code)) }
+fn lowest_broken(program: &Program, tables: &Tables, known: &Known) -> Option<Broken>
+    requires { KnownOf program.now tables.now known.now }
+    ensures { MatchOption result (IsValid program.now tables.now) (IsLowestBroken program.now tables.now) }
 {
     for rule in RULES {
-        if let Some(place) = broken_place(alloc, rule, program, tables)? {
-            return Ok(Some(Broken { rule, place }));
+        if let Some(place) = broken_place(rule, program, tables, known) {
+            return Some(Broken { rule, place });
         }
     }
-    Ok(None)
+    None
 }
 
 const RULES: [Rule; 10] = [
@@ -71,26 +105,21 @@ const RULES: [Rule; 10] = [
 ];
 
 // A place where a rule is broken, where it is. The lower rules are kept.
-fn broken_place(
-    alloc: Global,
-    rule: Rule,
-    program: &Program,
-    tables: &Tables,
-) -> Result<Option<Place>, AllocError>
-    requires { KeepsBelow program.now tables.now (fault_number rule) }
-    ensures fault { IfOk result (IsFault (KeptAt rule program.now tables.now)) }
-    ensures memory { OnErr result (fault_number named.Code ≤ fault_number rule) }
+fn broken_place(rule: Rule, program: &Program, tables: &Tables, known: &Known) -> Option<Place>
+    requires lower { KeepsBelow program.now tables.now (fault_number rule) }
+    requires known { KnownOf program.now tables.now known.now }
+    ensures { IsFault (KeptAt rule program.now tables.now) result }
 {
     match rule {
-        Rule::Size => Ok(size_fault(program, tables)),
-        Rule::Structure => Ok(program.structure_fault()),
-        Rule::Code => code_fault(alloc, program),
-        Rule::Assignment => assignment_fault(alloc, program),
-        Rule::EndBit => Ok(end_bit_fault(program, tables)),
-        Rule::NoConflict => no_conflict_fault(alloc, program),
-        Rule::Flow => Ok(flow_fault(program, tables)),
-        Rule::Protocol => protocol_fault(alloc, program, tables),
-        Rule::Weight => Ok(weight_fault(program, tables)),
-        Rule::Bound => Ok(bound_fault(program, tables)),
+        Rule::Size => size_fault(program, tables),
+        Rule::Structure => program.structure_fault_with(&known.links),
+        Rule::Code => code_fault(program, known.kinds.as_slice()),
+        Rule::Assignment => assignment_fault(program, known.kinds.as_slice()),
+        Rule::EndBit => end_bit_fault(program, tables),
+        Rule::NoConflict => no_conflict_fault(program, &known.links, &known.users, &known.samples),
+        Rule::Flow => flow_fault(program, tables, &known.exits),
+        Rule::Protocol => protocol_fault(program, tables, known),
+        Rule::Weight => weight_fault(program, tables),
+        Rule::Bound => bound_fault(program, tables),
     }
 }

@@ -63,9 +63,13 @@ pub record RisesToEntry (p : Program) (q : Tables) (n child : ℕ) (at : Place) 
   pub enters : entry_of p child ≡ Some entry
   pub rises : priority q n < priority q entry
 
--- .. or from an exit of a thread
-pub record RisesFromExit (p : Program) (q : Tables) (child n : ℕ) (at : Place) : Type 0 where
+-- .. or from one of these nodes to another
+pub record RisesFromOneOf (q : Tables) (exits : List ℕ) (n : ℕ) (at : Place) : Type 0 where
   pub exit : ℕ
   pub is : at ≡ place.Pair exit n
-  pub exits : IsExitOf p child exit
+  pub among : Contains exits exit
   pub rises : priority q exit < priority q n
+
+-- priority never rises from one of these nodes to another
+pub record AllFlow (q : Tables) (exits : List ℕ) (n : ℕ) : Type 0 where
+  pub each : (m : ℕ) → Contains exits m → priority q n ≤ priority q m

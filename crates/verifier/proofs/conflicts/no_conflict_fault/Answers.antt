@@ -7,4 +7,4 @@ pub loop-x-preserved : goal.loop-x-preserved
 loop-x-preserved c = below_more (NoConflictOn c.args.program.now) _ c.loop-x.invariant c.in_default.ensures
 
 pub returns : goal.returns
-returns c = no_conflicts_kept c.args.program.now c.requires (λ x h. c.loop-x.invariant x (omega (arith, h)))
+returns c = no_conflicts_kept c.args.program.now c.requires.links.formed (λ x h. c.loop-x.invariant x (omega (arith, h)))

@@ -10,4 +10,4 @@ loop-child-preserved c =
     below_more P _ c.loop-child.invariant c.in_default.ensures
 
 pub returns : goal.returns
-returns c = children_flow c.args.program.now c.args.tables.now c.args.n c.args.join c.args.children.now c.requires (λ k h. c.loop-child.invariant k (omega (arith, h)))
+returns c = children_flow c.args.program.now c.args.tables.now c.args.n c.args.join c.args.children.now c.requires.step (λ k h. c.loop-child.invariant k (omega (arith, h)))

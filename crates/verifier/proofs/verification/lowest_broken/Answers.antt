@@ -10,20 +10,20 @@ use Rattle.verifier.proofs.verification.lowest_broken.Goals as goal
 pub loop-rule-init : goal.loop-rule-init
 loop-rule-init c = keeps_none c.args.program.now c.args.tables.now
 
-pub broken_place-requires : goal.broken_place-requires
-broken_place-requires c =
+pub broken_place-requires-clause-lower : goal.broken_place-requires-clause-lower
+broken_place-requires-clause-lower c =
     let i = c.loop-rule.rule-index in
     let lt : i < 10 = c.loop-rule-test.true in
     subst (KeepsBelow c.args.program.now c.args.tables.now) (sym (number_of i rule.Size lt)) c.loop-rule.invariant
 
-pub returns-in-Some-clause-lowest : goal.returns-in-Some-clause-lowest
-returns-in-Some-clause-lowest c =
+pub returns-in-Some : goal.returns-in-Some
+returns-in-Some c =
     let i = c.loop-rule.rule-index in
     let lt : i < 10 = c.loop-rule-test.true in
     let r : Rule = get_or rules_in_order i rule.Size in
     let P : Option Place → Type 0 = IsFault (KeptAt r c.args.program.now c.args.tables.now) in
     record {
-      breaks = subst P c.in-Some.is c.in_ok-place.ensures.fault;
+      breaks = c.in-Some.ensures;
       lower = subst (KeepsBelow c.args.program.now c.args.tables.now) (sym (number_of i rule.Size lt)) c.loop-rule.invariant;
     }
 
@@ -35,13 +35,13 @@ loop-rule-preserved c =
     let lt : i < 10 = c.loop-rule-test.true in
     let r : Rule = get_or rules_in_order i rule.Size in
     let P : Option Place → Type 0 = IsFault (KeptAt r p q) in
-    let kept : (at : Place) → KeptAt r p q at = subst P c.in_default.is c.in_ok-place.ensures.fault in
+    let kept : (at : Place) → KeptAt r p q at = c.in_default.ensures in
     let more : KeepsBelow p q (31 + i + 1) = keeps_next p q (31 + i) r (number_of i rule.Size lt) c.loop-rule.invariant kept in
     let same : 31 + i + 1 ≡ 31 + (i + 1) = omega arith in
     subst (KeepsBelow p q) same more
 
-pub returns-clause-lowest : goal.returns-clause-lowest
-returns-clause-lowest c =
+pub returns : goal.returns
+returns c =
     let p = c.args.program.now in
     let q = c.args.tables.now in
     let end : 10 ≤ c.loop-rule.rule-index = c.loop-rule-test.false in

@@ -1,0 +1,25 @@
+# run in crates/verifier, after apply.py and rt fmt
+import os
+def edit(d,name,file,old,new):
+    src=open(file).read()
+    if src.count(old)!=1: print('BAD',name,src.count(old)); return
+    os.makedirs(d,exist_ok=True)
+    open(f"{d}/{name}.edit","w").write(f"file: {file}\nold: {old}\nnew: {new}\n")
+edit('edits','first_thread_twice','src/concurrency.rt',"        (Some(first), Some(second)) => links.are_concurrent(program, first, second),","        (Some(first), Some(_second)) => links.are_concurrent(program, first, first),")
+edit('edits','sequential_nodes_ordered','src/protocol.rt',"    tables.priority(m) <= tables.priority(n) && are_concurrent(program, links, m, n)","    tables.priority(m) <= tables.priority(n)")
+edit('edits','sequential_writes_conflict','src/conflicts.rt',"    are_concurrent(program, links, m, n)","    n > m || are_concurrent(program, links, m, n)")
+edit('edits','structure_always_refused','src/verification.rt',"        Rule::Structure => program.structure_fault_with(&known.links),","        Rule::Structure => Some(program.structure_fault_with(&known.links).unwrap_or(Place::Image)),")
+edit('edits','structure_never_asked','src/verification.rt',"        Rule::Structure => program.structure_fault_with(&known.links),","        Rule::Structure => None,")
+edit('edits','two_updates_accepted','src/conflicts.rt',"            let updates = users.updates.of(x);","            let updates = users.inits.of(x);")
+edit('must-fail','broken_rule_told_as_memory','src/verification.rt',"        Some(broken) => Err(Refusal::Broken(broken)),","        Some(_broken) => Err(Refusal::Memory),")
+edit('must-fail','later_rule_named','src/verification.rt',"            return Some(Broken { rule, place });","            return Some(Broken { rule: Rule::Bound, place });")
+edit('must-fail','two_inits_accepted','src/conflicts.rt',"    let inits = users.inits.of(x);","    let inits = users.updates.of(x);")
+edit('must-fail','update_and_read_skipped','src/protocol.rt',"    let least_updates = list_of(&extremes.least_updates, x);","    let (updates, least_updates) = (inits, least_inits);")
+edit('must-fail','greatest_read_taken_for_the_least','src/extremes.rt',"        Extreme::Greatest => tables.priority(other) < tables.priority(n),","        Extreme::Greatest => tables.priority(n) < tables.priority(other),")
+edit('edits','first_init_taken_for_the_least','src/extremes.rt',"        Extreme::Least => tables.priority(n) < tables.priority(other),","        Extreme::Least => tables.priority(other) < tables.priority(n),")
+edit('edits','one_thread_stands_for_all','src/extremes.rt',"            if program.owner(*other) == program.owner(n) {","            if program.owner(*other) <= program.owner(n) {")
+edit('edits','lesser_of_one_thread_forgotten','src/extremes.rt',"                chosen.set(at, n);","                chosen.set(at, other);")
+edit('edits','first_like_itself_alone','src/samples.rt',"        if nodes_clash(program, first, *n) {","        if nodes_clash(program, *n, *n) {")
+edit('edits','second_literal_of_a_thread_forgotten','src/samples.rt',"    if nodes_clash(program, first, first) {","    if !nodes_clash(program, first, first) {")
+edit('edits','exit_of_another_thread','src/exits.rt',"    program.owns(thread, n) && matches!(program.step(n), Some(Step::Exit))","    matches!(program.step(n), Some(Step::Exit))")
+edit('edits','structure_untold_without_memory','src/verification.rt',"        None => Refusal::Memory,","        None => Refusal::Broken(Broken { rule: Rule::Structure, place: Place::Image }),")

@@ -1,7 +1,0 @@
-use Rattle.std.proofs.Common.{ℕ, ◌<◌}
-use Rattle.sc_graph.specs.Codes.{AssignmentAt}
-use Rattle.sc_graph.specs.declared.place.Place.TheVariants as place
-use Rattle.verifier.proofs.assignments.assignment_fault_by.Given as goal
-
-abbrev pub invariant-loop-n : goal.invariant-loop-n
-invariant-loop-n l = (k : ℕ) → k < l.n → AssignmentAt l.program (place.Node k)

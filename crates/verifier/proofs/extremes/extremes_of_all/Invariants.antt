@@ -1,0 +1,6 @@
+use Rattle.verifier.specs.Inside.Users.{EachOf}
+use Rattle.verifier.specs.Inside.Extremes.{StandFor}
+use Rattle.verifier.proofs.extremes.extremes_of_all.Given as goal
+
+abbrev pub invariant-loop-x : goal.invariant-loop-x
+invariant-loop-x l = EachOf (StandFor l.program l.tables l.extreme) l.x l.users l.lists
