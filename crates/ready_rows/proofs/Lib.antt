@@ -1,0 +1,5 @@
+pub mod Lists
+pub mod Moving
+mod Reading
+pub mod Counting
+pub mod Fitting
