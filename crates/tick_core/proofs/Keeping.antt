@@ -1,6 +1,6 @@
 -- What the state of a tick keeps, from its beginning through every event.
 use Rattle.std.proofs.Common.{◌≡◌, ◌≢◌, ℕ, ◌+◌, ◌<◌, ◌≤◌, List, [], ◌∷◌, ◌++◌, map, length, length-append, length-set, take, get_or, Option, Some, None, option_map, slice_get, slice_set, refl, sym, ap, subst, ◌∙◌, ◌⊎◌, inl, inr, arith}
-use Rattle.std.specs.Prelude.{IsSome, is_some, is_none, IsTrue, ◌↔◌, MatchOption, unwrap_or, zero, suc, false}
+use Rattle.std.specs.Prelude.{IsSome, is_some, is_none, IsTrue, ◌↔◌, MatchOption, unwrap_or, zero, suc, true, false}
 use Rattle.std.proofs.lemmas.List.{length-map, map-append, append-nil, append_assoc, take_more}
 use Rattle.std.proofs.lemmas.Option.{slice_get-map, slice_get_within}
 use Rattle.sc_graph.specs.declared.program.Thread.{Thread}
@@ -26,6 +26,8 @@ use Rattle.sc_graph.specs.Priority.{Leads, PriorityRun}
 use Rattle.tick_laws.specs.OneEnd.{OneEnd, OfPriority, OfEach}
 use Rattle.tick_laws.proofs.Lists.{same_or_not, get_set_same, get_set_other}
 use Rattle.tick_laws.proofs.Claims.{room}
+use Rattle.tick_laws.proofs.Formed.{valid_formed}
+use Rattle.tick_laws.proofs.Starting.{start_config}
 use Rattle.tick_laws.proofs.RunsOn.{priority_push}
 use Rattle.tick_laws.proofs.Finishing.{rests_when_over}
 use Rattle.tick_laws.proofs.Final.{one_end_of_tick}
@@ -66,6 +68,10 @@ holds_begun image c inputs s valid rests begins =
       places = ap length begins.claims_are ∙ (length-map image.program.threads (λ _. None) ∙ ap (λ i. length i.program.threads) (sym p_is));
       fresh = λ t a is. absurd (no_claims_at image.program.threads s.claims begins.claims_are t a is);
     }
+
+-- where a tick begins is a configuration
+pub begun_configuration : (image : Image) (c : Control) (inputs : Inputs) → IsValid image.program image.tables → Rests image.program c → AreAccepted image.program inputs → IsConfiguration image.program (start image.program inputs c)
+begun_configuration image c inputs valid rests accepted = start_config image.program (valid_formed image.program image.tables valid) inputs accepted c rests
 
 no_thread : Thread
 no_thread = record { parent = None; entry = 0 }
@@ -112,7 +118,7 @@ advances_is s s' t worker advances =
 pub leads_at : (s s' : InTick) (t : ℕ) → s ≡ s' → Leads s'.image.program s'.image.tables s'.present t → Leads s.image.program s.image.tables s.present t
 leads_at s s' t same leads = subst (λ s. Leads s.image.program s.image.tables s.present t) (sym same) leads
 
-enabled_within : (p : Program) (c : Control) (t : ℕ) → IsEnabled p c t → t < length c.statuses
+pub enabled_within : (p : Program) (c : Control) (t : ℕ) → IsEnabled p c t → t < length c.statuses
 enabled_within p c t enabled = go (slice_get c.statuses t) refl
   where
     go : (o : Option Status) → slice_get c.statuses t ≡ o → t < length c.statuses
@@ -315,3 +321,22 @@ places_shown was s claims same h is = ap length is ∙ (subst Holds same h).plac
 pub fresh_shown : (was s : InTick) (claims : List (Option Claim)) → was ≡ s → Holds was → claims ≡ s.claims →
     (t : ℕ) (a : Claim) → slice_get claims t ≡ Some (Some a) → IsFresh s.image.program s.image.tables s.present (length s.history) t a
 fresh_shown was s claims same h is t a at = (subst Holds same h).fresh t a (sym (ap (λ xs. slice_get xs t) is) ∙ at)
+
+-- where no claim is open, each place of a claim is bare
+all_bare : (claims : List (Option Claim)) (threads : List Thread) → length claims ≡ length threads → ((t : ℕ) (a : Claim) → slice_get claims t ≢ Some (Some a)) → claims ≡ map (λ _. None) threads
+all_bare [] [] long none = refl
+all_bare [] (x ∷ threads) long none = absurd (omega arith)
+all_bare (c ∷ claims) [] long none = absurd (omega arith)
+all_bare (None ∷ claims) (x ∷ threads) long none = ap (λ rest. None ∷ rest) (all_bare claims threads (omega arith) (λ t a. none (suc t) a))
+all_bare (Some a ∷ claims) (x ∷ threads) long none = absurd (none zero a refl)
+
+-- when a tick is over no claim is open
+pub none_open : (was s : InTick) → was ≡ s → Holds was → IsOver (machine s.image.program) s.present → was.claims ≡ map (λ _. None) was.image.program.threads
+none_open was s same h over =
+    all_bare was.claims was.image.program.threads h.places (λ t a is. idle t a is)
+  where
+    idle : (t : ℕ) (a : Claim) → slice_get was.claims t ≡ Some (Some a) → ⊥
+    idle t a is =
+        let enabled : is_enabled was.image.program was.present t ≡ true = (h.fresh t a is).leads.enabled in
+        let no : is_enabled was.image.program was.present t ≡ false = subst (λ x. IsOver (machine x.image.program) x.present) (sym same) over t in
+        cc

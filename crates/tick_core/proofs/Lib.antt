@@ -1,4 +1,9 @@
 pub mod Accepted
+mod Layouts
+mod OwnRoom
+mod Unmoved
+mod Led
+pub mod Reports
 pub mod Taken
 pub mod Fresh
 pub mod Keeping

@@ -4,5 +4,6 @@ pub mod State
 pub mod Whole
 pub mod Turns
 pub mod Events
+pub mod FaultText
 pub mod Judging
 pub mod Inside

@@ -24,21 +24,22 @@ impl Report {
         ensures history { result.history ≡ history }
         ensures by { (w : ℕ) → w < 9 → slice_index result.by w ≡ count_by (λ e. e.worker == w) history }
     {
-        let mut by = [0; 9];
-        for (worker, count) in by.iter_mut().enumerate() {
-            *count = entries_by(history.as_slice(), worker);
-        }
+        let by = counts_of(history.as_slice());
         Report { history, by }
     }
 }
 
-// How many entries bear this worker.
-fn entries_by(history: &[Entry], worker: usize) -> u32
+// For each worker from 0, how many entries bear it.
+fn counts_of(history: &[Entry]) -> [u32; 9]
     requires { length history.now < 2 ^ 32 }
-    ensures { result ≡ count_by (λ e. e.worker == worker) history.now }
+    ensures { (w : ℕ) → w < 9 → slice_index result w ≡ count_by (λ e. e.worker == w) history.now }
 {
-    history
-        .iter()
-        .filter(|entry| entry.worker as usize == worker)
-        .count() as u32
+    let mut counts = [0; 9];
+    for entry in history {
+        let worker = entry.worker as usize;
+        if worker < counts.len() {
+            counts[worker] += 1;
+        }
+    }
+    counts
 }

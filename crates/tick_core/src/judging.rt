@@ -3,17 +3,15 @@ ghost use Rattle.std.specs.Result.{IsErrOf};
 ghost use Rattle.sc_graph.specs.Tick.{Rests, AreAccepted, IsConfiguration, start};
 ghost use Rattle.tick_core.specs.Judging.{IsJudgement};
 ghost use Rattle.tick_core.specs.Inside.Judging.{JudgesSteps};
+ghost use Rattle.tick_core.specs.Inside.Layout.{FindsForks};
 
-#[cfg(test)]
-mod every_run_tests;
 mod forbidden;
 mod replaying;
-#[cfg(test)]
-mod tests;
 
 use crate::inputs::{Inputs, are_accepted};
 use crate::judging::forbidden::first_forbidden;
 use crate::judging::replaying::{Replayed, Taken, replay};
+use crate::layout::Layout;
 use crate::leading::leader;
 use crate::starting::started;
 use crate::state::BeginFault;
@@ -55,15 +53,17 @@ pub fn judge(
         return Err(BeginFault::Input);
     }
     let mut reached = started(alloc, program, inputs.as_slice(), control)?;
-    match replay(alloc, verified, &mut reached, run)? {
+    let layout = Layout::of(alloc, verified)?;
+    match replay(alloc, &layout, verified, &mut reached, run)? {
         Replayed::Stopped(at) => Ok(Judged::NotRun(at)),
-        Replayed::Whole(steps) => Ok(judge_steps(verified, reached, &steps)),
+        Replayed::Whole(steps) => Ok(judge_steps(&layout, verified, reached, &steps)),
     }
 }
 
 // Judges a run by its steps and by what it leads to.
-fn judge_steps(verified: &Verified, reached: Control, steps: &[Taken]) -> Judged
-    requires { IsConfiguration verified.now.program reached }
+fn judge_steps(layout: &Layout, verified: &Verified, reached: Control, steps: &[Taken]) -> Judged
+    requires forks { FindsForks verified.now.program layout.now }
+    requires configuration { IsConfiguration verified.now.program reached }
     ensures { JudgesSteps verified.now.program steps.now reached result }
 {
     let image = verified.image();
@@ -71,7 +71,7 @@ fn judge_steps(verified: &Verified, reached: Control, steps: &[Taken]) -> Judged
     if let Some((first, second)) = first_forbidden(program, steps) {
         return Judged::NotAdmissible(first, second);
     }
-    match leader(program, image.tables(), &reached) {
+    match leader(layout, program, image.tables(), &reached) {
         Some(_) => Judged::Incomplete,
         None => Judged::Ends(reached),
     }

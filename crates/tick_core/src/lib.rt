@@ -4,21 +4,22 @@
 mod claim;
 mod enabled;
 mod events;
+mod fault_text;
 mod history;
 mod inputs;
 mod judging;
+mod layout;
 mod leading;
+mod sorting;
 mod starting;
 mod state;
 mod stepping;
-#[cfg(test)]
-mod tests;
 mod unclaimed;
 
 pub use claim::{Claim, Done, evaluate};
-pub use events::every_order_replays;
+pub use events::{all_ticks_end_alike, every_order_replays};
 pub use history::{Entry, Report};
 pub use inputs::Inputs;
 pub use judging::{Judged, judge};
 pub use sc_graph::{Control, Status};
-pub use state::{BeginFault, Receipt, StaleClaim, TickState, Turn, begin};
+pub use state::{BeginFault, Receipt, Room, StaleClaim, TickState, Turn, begin};

@@ -39,11 +39,11 @@ fn started_values(
     requires { length values.now ≡ length variables.now }
     ensures { IfOk result (λ started. started ≡ values_at_start inputs.now variables.now values.now) }
 {
-    let mut started = Items::new(alloc);
+    let mut started = Vec::with_capacity(alloc, variables.len())?;
     for (x, variable) in variables.iter().enumerate() {
         started.push(started_value(inputs, variable, values[x]))?;
     }
-    Ok(started)
+    Ok(Items::from_vec(started))
 }
 
 fn started_value(inputs: &[(Name, Value)], variable: &Variable, present: Value) -> Value
@@ -77,16 +77,16 @@ fn started_statuses(
 ) -> Result<Items<Status>, AllocError>
     ensures { IfOk result (λ started. started ≡ statuses_at_start program.now statuses.now) }
 {
-    let mut started = Items::new(alloc);
+    let mut started = Vec::with_capacity(alloc, statuses.len())?;
     if let Some((root, others)) = statuses.split_first() {
         started.push(started_root(program.entry(0), *root))?;
         push_woken(&mut started, others)?;
     }
-    Ok(started)
+    Ok(Items::from_vec(started))
 }
 
-fn push_woken(started: &mut Items<Status>, others: &[Status]) -> Result<(), AllocError>
-    ensures { OnOk result (started.new ≡ started.old ++ map woken others.now) }
+fn push_woken(started: &mut Vec<Status>, others: &[Status]) -> Result<(), AllocError>
+    ensures { OnOk result (started.new.items ≡ started.old.items ++ map woken others.now) }
 {
     for status in others {
         started.push(woken(*status))?;

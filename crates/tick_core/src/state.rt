@@ -17,24 +17,24 @@ mod ending;
 use crate::claim::Claim;
 use crate::history::Entry;
 use crate::inputs::{Inputs, are_accepted};
+use crate::layout::Layout;
+use crate::sorting::{rows_of, sort_every};
 use crate::starting::started;
 use bytecode::Image;
 pub(crate) use ending::present_value;
+use ready_rows::Rows;
 use sc_graph::{Control, Program};
 use sc_values::{Kind, Value};
 use std::alloc::{AllocError, AllocFailed, Global};
 use std::marker::Model;
-use thiserror::Error;
 use verifier::Verified;
 
-/// Why a tick was not begun.
-#[derive(Clone, Copy, Debug, PartialEq, Eq, Error)]
+/// Why a tick was not begun. It prints as the number of the fault.
+#[derive(Clone, Copy, Debug, PartialEq, Eq)]
 pub enum BeginFault {
-    /// An input names no input variable, has another kind, or comes twice.
-    #[error("E51")]
+    /// E51: an input names no input variable, has another kind, or comes twice.
     Input,
-    /// Memory was refused.
-    #[error("E52")]
+    /// E52: memory was refused.
     Memory,
 }
 
@@ -63,6 +63,8 @@ impl<T: Drop> From<AllocFailed<T>> for BeginFault {
 #[derive(Drop)]
 pub struct TickState<'a> {
     verified: &'a Verified,
+    layout: Layout,
+    rows: Rows,
     variable_kinds: Vec<Kind>,
     begun: Control,
     present: Control,
@@ -76,12 +78,40 @@ impl<'a> Model for TickState<'a> {
     ghost use Rattle.std.specs.Prelude.{◌≡◌, ◌≤◌, vec_capacity};
     ghost use Rattle.sc_graph.specs.Program.{kinds};
     ghost use Rattle.tick_core.specs.State.{InTick, Holds};
+    ghost use Rattle.tick_core.specs.Inside.Layout.{FindsForks};
+    ghost use Rattle.tick_core.specs.Inside.Sorting.{AreSorted};
 
     ghost Value = { InTick };
 
     ghost view = { λ s. record { image = s.verified.now; begun = s.begun; present = s.present; history = s.history.items; claims = s.claims.items } };
 
-    ghost invariant = { λ s. Holds (record { image = s.verified.now; begun = s.begun; present = s.present; history = s.history.items; claims = s.claims.items }) × (s.variable_kinds.items ≡ kinds s.verified.now.program) × (s.verified.now.tables.budget ≤ vec_capacity s.history) };
+    ghost invariant = { λ s. Holds (record { image = s.verified.now; begun = s.begun; present = s.present; history = s.history.items; claims = s.claims.items }) × (s.variable_kinds.items ≡ kinds s.verified.now.program) × (s.verified.now.tables.budget ≤ vec_capacity s.history) × FindsForks s.verified.now.program s.layout × AreSorted s.verified.now.program s.verified.now.tables s.present s.rows };
+}
+
+/// What the ticks of one verified image take over from one another: the table of its joins, the kinds
+/// of its variables and the places of claims. Contracts see the image.
+#[derive(Drop)]
+pub struct Room<'a> {
+    verified: &'a Verified,
+    layout: Layout,
+    rows: Rows,
+    variable_kinds: Vec<Kind>,
+    // by thread, none of them open
+    claims: Vec<Option<Claim<'a>>>,
+}
+
+impl<'a> Model for Room<'a> {
+    ghost use Rattle.std.specs.Prelude.{◌≡◌, map, None};
+    ghost use Rattle.sc_graph.specs.Program.{kinds};
+    ghost use Rattle.bytecode.specs.Image.{Image};
+    ghost use Rattle.tick_core.specs.Inside.Layout.{FindsForks};
+    ghost use Rattle.tick_core.specs.Inside.Sorting.{OwnRows};
+
+    ghost Value = { Image };
+
+    ghost view = { λ r. r.verified.now };
+
+    ghost invariant = { λ r. (r.variable_kinds.items ≡ kinds r.verified.now.program) × (r.claims.items ≡ map (λ _. None) r.verified.now.program.threads) × FindsForks r.verified.now.program r.layout × OwnRows r.verified.now.program r.verified.now.tables r.rows };
 }
 
 /// What `claim` answers.
@@ -95,9 +125,8 @@ pub enum Turn<'a> {
     Over,
 }
 
-/// No open claim equals it: it was committed, given back or dropped, or is none of this tick.
-#[derive(Clone, Copy, Debug, PartialEq, Eq, Error)]
-#[error("E53")]
+/// E53: no open claim equals it: it was committed, given back or dropped, or is none of this tick.
+#[derive(Clone, Copy, Debug, PartialEq, Eq)]
 pub struct StaleClaim;
 
 /// The place of a committed step in the history, from 0.
@@ -120,24 +149,86 @@ pub fn begin<'a>(
     ensures start { IfOk result (λ s. s ≡ begun verified.now inputs.now control.now) }
     ensures refused { IsErrOf result BeginFault.Input ↔ ¬ (AreAccepted verified.now.program inputs.now) }
 {
-    let image = verified.image();
-    let program = image.program();
-    if !are_accepted(program, inputs.as_slice()) {
+    if !are_accepted(verified.image().program(), inputs.as_slice()) {
         return Err(BeginFault::Input);
     }
-    let begun = started(alloc, program, inputs.as_slice(), control)?;
-    let present = started(alloc, program, inputs.as_slice(), control)?;
-    let variable_kinds = kinds_of(alloc, program)?;
-    let history = Vec::with_capacity(alloc, image.tables().budget as usize)?;
-    let claims = no_claims(alloc, program)?;
-    Ok(TickState {
-        verified,
-        variable_kinds,
-        begun,
-        present,
-        history,
-        claims,
-    })
+    let room = Room::of(alloc, verified)?;
+    Ok(room.start(alloc, control, inputs)?)
+}
+
+impl<'a> Room<'a> {
+    /// Room for the ticks of a verified image.
+    pub fn of(alloc: Global, verified: &'a Verified) -> Result<Room<'a>, AllocError>
+        ensures { IfOk result (λ r. r ≡ verified.now) }
+    {
+        let program = verified.image().program();
+        let layout = Layout::of(alloc, verified)?;
+        let rows = rows_of(alloc, verified)?;
+        let variable_kinds = kinds_of(alloc, program)?;
+        let claims = no_claims(alloc, program)?;
+        Ok(Room {
+            verified,
+            layout,
+            rows,
+            variable_kinds,
+            claims,
+        })
+    }
+
+    /// Begins a tick of the image as the function `begin` does, in the room that an earlier one left.
+    pub fn begin(
+        self,
+        alloc: Global,
+        control: &Control,
+        inputs: &Inputs,
+    ) -> Result<TickState<'a>, BeginFault>
+        requires { Rests self.program control.now }
+        ensures accepted { IfOk result (λ _. AreAccepted self.entry.program inputs.now) }
+        ensures start { IfOk result (λ s. s ≡ begun self.entry inputs.now control.now) }
+        ensures refused { IsErrOf result BeginFault.Input ↔ ¬ (AreAccepted self.entry.program inputs.now) }
+    {
+        if !are_accepted(self.verified.image().program(), inputs.as_slice()) {
+            return Err(BeginFault::Input);
+        }
+        Ok(self.start(alloc, control, inputs)?)
+    }
+
+    // Begins a tick under inputs that are accepted.
+    fn start(
+        self,
+        alloc: Global,
+        control: &Control,
+        inputs: &Inputs,
+    ) -> Result<TickState<'a>, AllocError>
+        requires rests { Rests self.program control.now }
+        requires accepted { AreAccepted self.program inputs.now }
+        ensures { IfOk result (λ s. s ≡ begun self.entry inputs.now control.now) }
+    {
+        let Room {
+            verified,
+            layout,
+            mut rows,
+            variable_kinds,
+            claims,
+        } = self;
+        let image = verified.image();
+        let program = image.program();
+        let begun = started(alloc, program, inputs.as_slice(), control)?;
+        let present = started(alloc, program, inputs.as_slice(), control)?;
+        let tables = image.tables();
+        let history = Vec::with_capacity(alloc, tables.budget as usize)?;
+        sort_every(&layout, program, tables, &present, &mut rows);
+        Ok(TickState {
+            verified,
+            layout,
+            rows,
+            variable_kinds,
+            begun,
+            present,
+            history,
+            claims,
+        })
+    }
 }
 
 impl<'a> TickState<'a> {
@@ -190,7 +281,7 @@ impl<'a> TickState<'a> {
 pub(crate) fn kinds_of(alloc: Global, program: &Program) -> Result<Vec<Kind>, AllocError>
     ensures { IfOk result (λ found. found.items ≡ kinds program.now) }
 {
-    let mut found = Vec::new(alloc);
+    let mut found = Vec::with_capacity(alloc, program.variables().len())?;
     for variable in program.variables() {
         found.push(variable.kind)?;
     }
@@ -200,7 +291,7 @@ pub(crate) fn kinds_of(alloc: Global, program: &Program) -> Result<Vec<Kind>, Al
 fn no_claims<'a>(alloc: Global, program: &Program) -> Result<Vec<Option<Claim<'a>>>, AllocError>
     ensures { IfOk result (λ claims. claims.items ≡ map (λ _. None) program.now.threads) }
 {
-    let mut claims = Vec::new(alloc);
+    let mut claims = Vec::with_capacity(alloc, program.threads().len())?;
     for _thread in program.threads() {
         claims.push(None)?;
     }

@@ -72,6 +72,7 @@ impl<'a> TickState<'a> {
         let image = self.verified.image();
         let greatest = priority(image.tables(), self.present.status(leader));
         unclaimed(
+            &self.layout,
             image.program(),
             image.tables(),
             &self.present,

@@ -14,8 +14,8 @@ ghost use Rattle.tick_core.specs.Inside.Turns.{DropsClaims};
 
 use crate::claim::Claim;
 use crate::history::{Entry, Report};
-use crate::leading::leader;
-use crate::state::TickState;
+use crate::sorting::sort_after;
+use crate::state::{Room, TickState};
 use crate::stepping::{code_at, take_step};
 use sc_graph::{Control, ThreadId};
 use sc_values::{CheckedCode, Kind, Operands, Value, eval};
@@ -27,7 +27,7 @@ impl<'a> TickState<'a> {
     pub fn is_over(&self) -> bool
         ensures { IsTrue result ↔ (IsOver (machine self.now.image.program) self.now.present) }
     {
-        self.leader().is_none()
+        self.rows.is_empty()
     }
 
     /// Drops all open claims, and then steps as worker 0 until nobody is enabled.
@@ -52,8 +52,7 @@ impl<'a> TickState<'a> {
     pub(super) fn leader(&self) -> Option<ThreadId>
         ensures { MatchOption result (IsOver (machine self.now.image.program) self.now.present) (Leads self.now.image.program self.now.image.tables self.now.present) }
     {
-        let image = self.verified.image();
-        leader(image.program(), image.tables(), &self.present)
+        self.rows.first()
     }
 
     // One step of worker 0.
@@ -73,8 +72,19 @@ impl<'a> TickState<'a> {
         requires value { value ≡ value_at self.old.image.program self.old.present (status_of self.old.present thread) }
         ensures { Advances self.old self.new thread worker }
     {
-        let program = self.verified.image().program();
-        take_step(program, &mut self.present, thread, value);
+        let image = self.verified.image();
+        let program = image.program();
+        let was = self.present.status(thread);
+        take_step(&self.layout, program, &mut self.present, thread, value);
+        sort_after(
+            &self.layout,
+            program,
+            image.tables(),
+            &self.present,
+            &mut self.rows,
+            thread,
+            was,
+        );
         self.history.push_reserved(Entry { thread, worker });
         self.claims[thread as usize] = None;
     }
@@ -90,16 +100,39 @@ impl<'a> TickState<'a> {
         ensures by_priority { PriorityRun self.entry.image.program self.entry.image.tables (threads_of result.1.history) self.entry.begun result.0 }
         ensures by { (w : ℕ) → w < 9 → slice_index result.1.by w ≡ count_by (λ e. e.worker == w) self.entry.history }
     {
+        let (control, report, _room) = self.hand_over();
+        (control, report)
+    }
+
+    /// The same as `finish`, with the room for the next tick of the image.
+    pub fn hand_over(self) -> (Control, Report, Room<'a>)
+        requires { IsOver (machine self.image.program) self.present }
+        ensures present { result.0 ≡ self.entry.present }
+        ensures rests { Rests self.entry.image.program result.0 }
+        ensures history { result.1.history ≡ self.entry.history }
+        ensures tick { WholeTick self.entry.image self.entry.begun (threads_of result.1.history) result.0 }
+        ensures by_priority { PriorityRun self.entry.image.program self.entry.image.tables (threads_of result.1.history) self.entry.begun result.0 }
+        ensures by { (w : ℕ) → w < 9 → slice_index result.1.by w ≡ count_by (λ e. e.worker == w) self.entry.history }
+        ensures room { result.2 ≡ self.entry.image }
+    {
         let TickState {
-            verified: _,
-            variable_kinds: _,
+            verified,
+            layout,
+            rows,
+            variable_kinds,
             begun: _,
             present,
             history,
-            claims: _,
+            claims,
         } = self;
-        let report = Report::of(Items::from_vec(history));
-        (present, report)
+        let room = Room {
+            verified,
+            layout,
+            rows,
+            variable_kinds,
+            claims,
+        };
+        (present, Report::of(Items::from_vec(history)), room)
     }
 }
 

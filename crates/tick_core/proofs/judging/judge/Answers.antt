@@ -10,8 +10,8 @@ use Rattle.tick_core.proofs.Replaying.{reached_by}
 use Rattle.tick_core.proofs.JudgedBySteps.{judged_run}
 use Rattle.tick_core.proofs.judging.judge.Goals as goal
 
-pub judge_steps-requires : goal.judge_steps-requires
-judge_steps-requires c =
+pub judge_steps-requires-clause-configuration : goal.judge_steps-requires-clause-configuration
+judge_steps-requires-clause-configuration c =
     let p = c.args.verified.now.program in
     let begins : BeginsTick p c.in_ok-reached.reached = search rules in
     let by : RunsBy p c.in_ok-reached.reached c.args.run.now c.replay.new.control c.in-Whole.steps.items =

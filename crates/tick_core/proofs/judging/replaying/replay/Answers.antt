@@ -5,13 +5,13 @@ use Rattle.tick_core.proofs.judging.replaying.replay.Goals as goal
 
 pub step_if_enabled-requires-clause-configuration : goal.step_if_enabled-requires-clause-configuration
 step_if_enabled-requires-clause-configuration c =
-    (reached_by c.args.verified.now.program c.args.verified.now.tables c.args.control.now c.image.ensures.valid c.requires
+    (reached_by c.args.verified.now.program c.args.verified.now.tables c.args.control.now c.image.ensures.valid c.requires.begins
     (take c.loop-at.at c.args.run.now) c.loop-at.control c.loop-at.steps.items c.loop-at.invariant).configuration
 
 pub step_if_enabled-requires-clause-defined : goal.step_if_enabled-requires-clause-defined
 step_if_enabled-requires-clause-defined c enabled =
     some_step
-    ((reached_by c.args.verified.now.program c.args.verified.now.tables c.args.control.now c.image.ensures.valid c.requires
+    ((reached_by c.args.verified.now.program c.args.verified.now.tables c.args.control.now c.image.ensures.valid c.requires.begins
     (take c.loop-at.at c.args.run.now) c.loop-at.control c.loop-at.steps.items c.loop-at.invariant).defined (get_or c.args.run.now c.loop-at.at 0) enabled)
 
 pub returns-in-None : goal.returns-in-None

@@ -12,4 +12,6 @@ invariant_of-self c = (
   rw (c.thread.ensures, c.copied.ensures) (kept_claimed _ c.self.invariant.0 _ c.args.claim.now (fresh_at _ _ c.args.claim.now c.self.view_is c.requires)),
   c.self.invariant.1,
   c.self.invariant.2,
+  c.self.invariant.3,
+  c.self.invariant.4,
 )

@@ -1,0 +1,51 @@
+use Rattle.std.proofs.Common.{refl, rules, ◌≡◌, ◌∙◌, ap, sym, subst}
+use Rattle.sc_graph.specs.Tick.{Rests, AreAccepted, IsConfiguration, start}
+use Rattle.sc_graph.specs.Valid.{IsValid}
+use Rattle.tick_core.specs.Inside.Sorting.{OwnRows, AreSorted}
+use Rattle.tick_core.proofs.Keeping.{holds_begun, begun_configuration}
+use Rattle.tick_core.proofs.state.Room.start.Goals as goal
+
+pub sort_every-requires-clause-valid : goal.sort_every-requires-clause-valid
+sort_every-requires-clause-valid c =
+    subst (λ p. IsValid p c.tables-tables.result.now) (sym (c.program-program.ensures ∙ ap (λ i. i.program) c.image-image.ensures.value))
+    (subst (IsValid c.self.inside.verified.now.program) (sym (c.tables-tables.ensures.value ∙ ap (λ i. i.tables) c.image-image.ensures.value)) c.image-image.ensures.valid)
+
+pub sort_every-requires-clause-configuration : goal.sort_every-requires-clause-configuration
+sort_every-requires-clause-configuration c =
+    let image = c.image-image.ensures.value in
+    let program = c.program-program.ensures in
+    let present = c.in_ok-present.ensures in
+    let present_is : c.in_ok-present.present ≡ start c.self.inside.verified.now.program c.args.inputs.now c.args.control.now = cc in
+    subst (λ p. IsConfiguration p c.in_ok-present.present) (sym (c.program-program.ensures ∙ ap (λ i. i.program) c.image-image.ensures.value))
+    (subst (IsConfiguration c.self.inside.verified.now.program) (sym present_is)
+    (begun_configuration c.self.inside.verified.now c.args.control.now c.args.inputs.now (search rules)
+    (subst (λ i. Rests i.program c.args.control.now) (sym c.self.view_is) c.requires.rests)
+    (subst (λ i. AreAccepted i.program c.args.inputs.now) (sym c.self.view_is) c.requires.accepted)))
+
+pub sort_every-requires-clause-rows : goal.sort_every-requires-clause-rows
+sort_every-requires-clause-rows c =
+    subst (λ p. OwnRows p c.tables-tables.result.now c.self.inside.rows) (sym (c.program-program.ensures ∙ ap (λ i. i.program) c.image-image.ensures.value))
+    (subst (λ q. OwnRows c.self.inside.verified.now.program q c.self.inside.rows) (sym (c.tables-tables.ensures.value ∙ ap (λ i. i.tables) c.image-image.ensures.value)) c.self.invariant.3)
+
+pub invariant_of-result : goal.invariant_of-result
+invariant_of-result c =
+    let image = c.image-image.ensures.value in
+    let program = c.program-program.ensures in
+    let begun = c.in_ok-begun.ensures in
+    let present = c.in_ok-present.ensures in (
+      holds_begun c.self.inside.verified.now c.args.control.now c.args.inputs.now _ (search rules)
+          (subst (λ i. Rests i.program c.args.control.now) (sym c.self.view_is) c.requires.rests)
+          (record {
+            accepted = subst (λ i. AreAccepted i.program c.args.inputs.now) (sym c.self.view_is) c.requires.accepted;
+            image_is = refl;
+            begun_is = cc;
+            present_is = cc;
+            no_step = c.in_ok-history.ensures.items;
+            claims_are = c.self.invariant.1;
+          }),
+      c.self.invariant.0,
+      search rules,
+      c.self.invariant.2,
+      subst (λ p. AreSorted p c.self.inside.verified.now.tables c.in_ok-present.present c.sort_every.new.rows) (c.program-program.ensures ∙ ap (λ i. i.program) c.image-image.ensures.value)
+          (subst (λ q. AreSorted c.program-program.result.now q c.in_ok-present.present c.sort_every.new.rows) (c.tables-tables.ensures.value ∙ ap (λ i. i.tables) c.image-image.ensures.value) c.sort_every.ensures),
+    )

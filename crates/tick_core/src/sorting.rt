@@ -1,0 +1,163 @@
+ghost use Rattle.std.specs.Prelude.{◌≡◌, ◌<◌, All, IfOk, length};
+ghost use Rattle.sc_graph.specs.Control.{status_of};
+ghost use Rattle.sc_graph.specs.Program.{parent_of};
+ghost use Rattle.sc_graph.specs.Tick.{IsConfiguration};
+ghost use Rattle.sc_graph.specs.Valid.{IsValid};
+ghost use Rattle.tick_core.specs.Inside.Layout.{FindsForks};
+ghost use Rattle.tick_core.specs.Inside.Sorting.{OwnRows, AreSorted, step_priority, sorted_one, sorted_parent, sorted_all, children_at, NodePriorities};
+
+use crate::enabled::is_enabled;
+use crate::layout::Layout;
+use crate::leading::priority;
+use ready_rows::Rows;
+use sc_graph::{Control, Program, Status, Step, Tables, ThreadId};
+use std::alloc::{AllocError, Global};
+use verifier::Verified;
+
+/// Sorts anew whom a step of a thread from this status can have made enabled or not: the thread, its
+/// parent, and the children whom the step forked or left.
+pub(crate) fn sort_after(
+    layout: &Layout,
+    program: &Program,
+    tables: &Tables,
+    control: &Control,
+    rows: &mut Rows,
+    thread: ThreadId,
+    was: Status,
+)
+    requires forks { FindsForks program.now layout.now }
+    requires valid { IsValid program.now tables.now }
+    requires configuration { IsConfiguration program.now control.now }
+    requires place { thread < length program.now.threads }
+    requires rows { OwnRows program.now tables.now rows.old }
+    ensures sorted { rows.new ≡ sorted_all program.now tables.now control.now (children_at program.now was) (sorted_parent program.now tables.now control.now (sorted_one program.now tables.now control.now rows.old thread) (parent_of program.now thread)) }
+    ensures rows { OwnRows program.now tables.now rows.new }
+{
+    sort(layout, program, tables, control, rows, thread);
+    if let Some(parent) = program.parent(thread) {
+        sort(layout, program, tables, control, rows, parent);
+    }
+    let children = children_at(layout, program, was);
+    sort_all(layout, program, tables, control, rows, children);
+    rows.settle();
+}
+
+// The children whom a step from this status forks or leaves behind.
+fn children_at<'p>(layout: &Layout, program: &'p Program, status: Status) -> &'p [ThreadId]
+    requires { FindsForks program.now layout.now }
+    ensures { result.now ≡ children_at program.now status }
+{
+    match status {
+        Status::At(node) => match program.step(node) {
+            Some(Step::Fork { children, join: _ }) => children.as_slice(),
+            _ => &[],
+        },
+        Status::Waiting(join) => match layout.joined(program, join) {
+            Some(children) => children,
+            None => &[],
+        },
+        Status::Absent | Status::Paused(_) | Status::Ended => &[],
+    }
+}
+
+fn sort_all(
+    layout: &Layout,
+    program: &Program,
+    tables: &Tables,
+    control: &Control,
+    rows: &mut Rows,
+    threads: &[ThreadId],
+)
+    requires forks { FindsForks program.now layout.now }
+    requires valid { IsValid program.now tables.now }
+    requires configuration { IsConfiguration program.now control.now }
+    requires places { All (λ t. t < length program.now.threads) threads.now }
+    requires rows { OwnRows program.now tables.now rows.old }
+    ensures sorted { rows.new ≡ sorted_all program.now tables.now control.now threads.now rows.old }
+    ensures rows { OwnRows program.now tables.now rows.new }
+{
+    for thread in threads {
+        sort(layout, program, tables, control, rows, *thread);
+    }
+}
+
+/// Puts a thread into the row of its priority where it is enabled, else into none.
+pub(crate) fn sort(
+    layout: &Layout,
+    program: &Program,
+    tables: &Tables,
+    control: &Control,
+    rows: &mut Rows,
+    thread: ThreadId,
+)
+    requires forks { FindsForks program.now layout.now }
+    requires valid { IsValid program.now tables.now }
+    requires configuration { IsConfiguration program.now control.now }
+    requires place { thread < length program.now.threads }
+    requires rows { OwnRows program.now tables.now rows.old }
+    ensures sorted { rows.new ≡ sorted_one program.now tables.now control.now rows.old thread }
+    ensures rows { OwnRows program.now tables.now rows.new }
+{
+    let row = step_priority(layout, program, tables, control, thread);
+    rows.set(thread, row);
+}
+
+// The priority at which a thread can step; None where it isn't enabled.
+fn step_priority(
+    layout: &Layout,
+    program: &Program,
+    tables: &Tables,
+    control: &Control,
+    thread: ThreadId,
+) -> Option<u16>
+    requires { FindsForks program.now layout.now }
+    ensures { result ≡ step_priority program.now tables.now control.now thread }
+{
+    if is_enabled(layout, program, control, thread) {
+        Some(priority(tables, control.status(thread)))
+    } else {
+        None
+    }
+}
+
+/// Sorts all threads, as a tick begins.
+pub(crate) fn sort_every(
+    layout: &Layout,
+    program: &Program,
+    tables: &Tables,
+    control: &Control,
+    rows: &mut Rows,
+)
+    requires forks { FindsForks program.now layout.now }
+    requires valid { IsValid program.now tables.now }
+    requires configuration { IsConfiguration program.now control.now }
+    requires rows { OwnRows program.now tables.now rows.old }
+    ensures { AreSorted program.now tables.now control.now rows.new }
+{
+    for thread in 0..program.thread_count() {
+        sort(layout, program, tables, control, rows, thread);
+    }
+    rows.settle();
+}
+
+/// Rows for the threads of a verified image, in which nobody stands.
+pub(crate) fn rows_of(alloc: Global, verified: &Verified) -> Result<Rows, AllocError>
+    ensures { IfOk result (OwnRows verified.now.program verified.now.tables) }
+{
+    let image = verified.image();
+    let program = image.program();
+    let priorities = priorities_of(alloc, program, image.tables())?;
+    let rows = Rows::of(alloc, &priorities, program.thread_count())?;
+    Ok(rows)
+}
+
+// The priorities of all nodes.
+fn priorities_of(alloc: Global, program: &Program, tables: &Tables) -> Result<Vec<u16>, AllocError>
+    ensures { IfOk result (λ found. NodePriorities program.now tables.now found.items) }
+{
+    let mut found = Vec::with_capacity(alloc, program.node_count() as usize)?;
+    for node in 0..program.node_count() {
+        found.push(tables.priority(node))?;
+    }
+    Ok(found)
+}
