@@ -1,0 +1,373 @@
+// Random lists of events, beside a plain account of them.
+ghost use Rattle.std.specs.Prelude.{◌<◌};
+
+use crate::acts::{Act, Told, ended, perform};
+use crate::inputs::inputs_of;
+use crate::plain::Plain;
+use crate::ticks::{tick, verified};
+use bytecode::Image;
+use samples::{
+    branches, counter, inits_by_one_literal, nested_forks, two_pauses, wrapping_sum, write_and_read,
+};
+use sc_graph::ThreadId;
+use sc_values::Value;
+use std::alloc::{AllocError, Global};
+use std::test::Fail;
+use tick_core::{Control, Done, Entry, Inputs, TickState, begin};
+use verifier::Verified;
+
+// Numbers of a linear congruential generator.
+#[derive(Drop)]
+struct Chance {
+    state: u64,
+}
+
+impl Chance {
+    fn of(seed: u8) -> Chance {
+        Chance {
+            state: u64::from(seed),
+        }
+    }
+
+    // The next number below this one.
+    fn below(&mut self, limit: usize) -> usize
+        requires { 0 < limit }
+        ensures { result < limit }
+    {
+        self.state = self
+            .state
+            .wrapping_mul(6364136223846793005)
+            .wrapping_add(1442695040888963407);
+        (self.state >> 33) as usize % limit
+    }
+
+    // Any event, where so many claims were given.
+    fn act(&mut self, given: usize) -> Act {
+        let event = self.below(8);
+        if given == 0 || event < 4 {
+            return Act::Claim(self.below(9) as u8);
+        }
+        // often the last claim, else any
+        let number = match self.below(2) {
+            0 => given - 1,
+            _ => self.below(given),
+        };
+        if event < 7 {
+            Act::Commit(number)
+        } else {
+            Act::GiveBack(number)
+        }
+    }
+}
+
+// The open claims by thread, each as its worker and the commits before it, and what was committed.
+#[derive(Drop)]
+struct Account {
+    open: Vec<Option<(u8, u32)>>,
+    committed: Vec<Entry>,
+}
+
+// Whose claim it is: its thread, its worker and the commits before it.
+type Bearer = (ThreadId, u8, u32);
+
+fn bearer(done: &Done<'_>) -> Bearer {
+    let claim = done.claim();
+    (claim.thread(), claim.worker(), claim.commits())
+}
+
+impl Account {
+    fn new(alloc: Global, threads: usize) -> Result<Account, AllocError> {
+        let mut open = Vec::new(alloc);
+        for _thread in 0..threads {
+            open.push(None)?;
+        }
+        Ok(Account {
+            open,
+            committed: Vec::new(alloc),
+        })
+    }
+
+    // Whether an act on a claim of this bearer may be told so. It is noted.
+    fn agrees(&mut self, act: Act, bearer: Option<Bearer>, told: Told) -> Result<bool, AllocError> {
+        if !answers(told, act) {
+            return Ok(false);
+        }
+        match told {
+            Told::NoneNow => Ok(self.open.iter().any(|claim| claim.is_some())),
+            Told::Over => Ok(self.open.iter().all(|claim| claim.is_none())),
+            _ => match bearer {
+                Some(bearer) => Ok(is_by(bearer, act) && self.agrees_with(bearer, told)?),
+                None => Ok(false),
+            },
+        }
+    }
+
+    // The same of what is told of one claim.
+    fn agrees_with(&mut self, bearer: Bearer, told: Told) -> Result<bool, AllocError> {
+        let commits = self.committed.len();
+        match told {
+            Told::Given(thread) => {
+                Ok(bearer.0 == thread && bearer.2 as usize == commits && self.opens(bearer))
+            }
+            Told::At(at) => {
+                self.committed.push(Entry {
+                    thread: bearer.0,
+                    worker: bearer.1,
+                })?;
+                Ok(at as usize == commits && self.closes(bearer))
+            }
+            Told::GivenBack => Ok(self.closes(bearer)),
+            Told::Stale => Ok(!self.is_open(bearer)),
+            _ => Ok(false),
+        }
+    }
+
+    // Equal claims are of the same worker and moment.
+    fn is_open(&self, bearer: Bearer) -> bool {
+        self.open.get(bearer.0 as usize) == Some(&Some((bearer.1, bearer.2)))
+    }
+
+    // Closes the claim. False: it isn't open.
+    fn closes(&mut self, bearer: Bearer) -> bool {
+        let was_open = self.is_open(bearer);
+        self.put(bearer.0, None);
+        was_open
+    }
+
+    // Opens the claim. False: its thread has an open one.
+    fn opens(&mut self, bearer: Bearer) -> bool {
+        let was_free = self.open.get(bearer.0 as usize) == Some(&None);
+        self.put(bearer.0, Some((bearer.1, bearer.2)));
+        was_free
+    }
+
+    fn put(&mut self, thread: ThreadId, claim: Option<(u8, u32)>) {
+        if let Some(place) = self.open.get_mut(thread as usize) {
+            *place = claim;
+        }
+    }
+}
+
+// Whether the worker that asks for a claim is the one that bears it.
+fn is_by(bearer: Bearer, act: Act) -> bool {
+    match act {
+        Act::Claim(worker) => bearer.1 == worker,
+        _ => true,
+    }
+}
+
+// Whether this may be told of such an act.
+fn answers(told: Told, act: Act) -> bool {
+    match told {
+        Told::Given(_) | Told::NoneNow | Told::Over => match act {
+            Act::Claim(_) => true,
+            _ => false,
+        },
+        Told::At(_) => match act {
+            Act::Commit(_) => true,
+            _ => false,
+        },
+        Told::GivenBack => match act {
+            Act::GiveBack(_) => true,
+            _ => false,
+        },
+        Told::Stale => match act {
+            Act::Commit(_) | Act::GiveBack(_) => true,
+            _ => false,
+        },
+        Told::Done | Told::Stands(..) => false,
+    }
+}
+
+// The claim that an act is about: the one of its number, or the last one.
+fn concerned(given: &[Done<'_>], act: Act) -> Option<Bearer> {
+    match act {
+        Act::Commit(number) | Act::GiveBack(number) => given.get(number).map(bearer),
+        _ => given.last().map(bearer),
+    }
+}
+
+// So many random events. Whether the account agrees with what is told of each.
+fn agree<'a>(
+    state: &mut TickState<'a>,
+    given: &mut Vec<Done<'a>>,
+    account: &mut Account,
+    chance: Chance,
+    events: usize,
+) -> Result<bool, Fail> {
+    let mut chance = chance;
+    for _ in 0..events {
+        let act = chance.act(given.len());
+        let told = perform(state, given, act)?;
+        if !account.agrees(act, concerned(given.as_slice(), act), told)? {
+            return Ok(false);
+        }
+    }
+    Ok(true)
+}
+
+// So many random events. Whether the account agrees with each, and at last with the history.
+fn events_agree(
+    alloc: Global,
+    state: &mut TickState<'_>,
+    chance: Chance,
+    events: usize,
+) -> Result<bool, Fail> {
+    let mut account = Account::new(alloc, state.image().program().threads().len())?;
+    let mut given = Vec::new(alloc);
+    Ok(
+        agree(state, &mut given, &mut account, chance, events)?
+            && state.history() == account.committed.as_slice(),
+    )
+}
+
+// Whether the plain machine, from the start of the tick by the steps of the history, each of which it
+// takes, comes to the present.
+fn is_replayed(alloc: Global, state: &TickState<'_>) -> Result<bool, AllocError> {
+    let mut plain = Plain::at(alloc, state.image(), state.begun())?;
+    for entry in state.history() {
+        if plain.step_by_priority(entry.thread).is_none() {
+            return Ok(false);
+        }
+    }
+    Ok(plain.is_at(state.present()))
+}
+
+// Runs the tick alone. Whether its history begins as it was.
+fn goes_on_alone(alloc: Global, state: &mut TickState<'_>) -> Result<bool, Fail> {
+    let first = Vec::from_slice(alloc, state.history())?;
+    state.run_alone();
+    Ok(state.history().get(..first.len()) == Some(first.as_slice()))
+}
+
+// Random events, and then the tick alone. Whether all is as it has to be.
+fn plays_well(
+    alloc: Global,
+    state: &mut TickState<'_>,
+    chance: Chance,
+    events: usize,
+) -> Result<bool, Fail> {
+    Ok(
+        events_agree(alloc, state, chance, events)?
+            && is_replayed(alloc, state)?
+            && goes_on_alone(alloc, state)?
+            && is_replayed(alloc, state)?,
+    )
+}
+
+fn is_same(one: &Control, other: &Control) -> bool {
+    one.variables.as_slice() == other.variables.as_slice()
+        && one.statuses.as_slice() == other.statuses.as_slice()
+}
+
+// Whether a tick of random events that then ends alone ends here.
+fn ends_at(
+    alloc: Global,
+    image: &Verified,
+    control: &Control,
+    inputs: &Inputs,
+    chance: Chance,
+    events: usize,
+    end: &Control,
+) -> Result<bool, Fail> {
+    if !control.fits(image.image().program()) {
+        return Ok(false);
+    }
+    let mut state = begin(alloc, image, control, inputs)?;
+    if !plays_well(alloc, &mut state, chance, events)? {
+        return Ok(false);
+    }
+    let (reached, _report) = ended(state);
+    Ok(is_same(&reached, end))
+}
+
+// Four ticks in a row, each second one with these inputs, each under other events. Whether each ends as
+// the tick that is run alone.
+fn four_end_as_alone(
+    alloc: Global,
+    image: &Verified,
+    none: &Inputs,
+    given: &Inputs,
+    seed: u8,
+) -> Result<bool, Fail> {
+    let events = 3 * usize::from(seed);
+    let mut control = Control::initial(alloc, image.image().program())?;
+    for (inputs, more) in [(none, 0), (given, 10), (none, 20), (given, 30)] {
+        let (end, _report) = tick(alloc, image, &control, inputs)?;
+        if !ends_at(
+            alloc,
+            image,
+            &control,
+            inputs,
+            Chance::of(seed),
+            events + more,
+            &end,
+        )? {
+            return Ok(false);
+        }
+        control = end;
+    }
+    Ok(true)
+}
+
+// Such ticks from twelve seeds: the first seed of which one does not end so.
+fn seed_astray(
+    alloc: Global,
+    image: &Verified,
+    given: &[(&str, Value)],
+) -> Result<Option<u8>, Fail> {
+    let none = inputs_of(alloc, &[])?;
+    let given = inputs_of(alloc, given)?;
+    for seed in 0..12 {
+        if !four_end_as_alone(alloc, image, &none, &given, seed)? {
+            return Ok(Some(seed));
+        }
+    }
+    Ok(None)
+}
+
+fn expect_ends(alloc: Global, image: Image, given: &[(&str, Value)]) -> Result<(), Fail> {
+    match seed_astray(alloc, &verified(alloc, image)?, given)? {
+        None => Ok(()),
+        Some(seed) => Err(Fail::new(format!(in alloc; "by the seed {seed}")?)),
+    }
+}
+
+#[test]
+fn events_of_a_write_and_a_read_replay(rt: HostRuntime) -> Result<(), Fail> {
+    expect_ends(rt.alloc(), write_and_read(rt.alloc())?, &[])
+}
+
+#[test]
+fn events_of_two_updates_replay(rt: HostRuntime) -> Result<(), Fail> {
+    expect_ends(rt.alloc(), wrapping_sum(rt.alloc())?, &[])
+}
+
+#[test]
+fn events_of_inits_by_one_literal_replay(rt: HostRuntime) -> Result<(), Fail> {
+    expect_ends(rt.alloc(), inits_by_one_literal(rt.alloc())?, &[])
+}
+
+#[test]
+fn events_of_pauses_replay(rt: HostRuntime) -> Result<(), Fail> {
+    expect_ends(rt.alloc(), two_pauses(rt.alloc())?, &[])
+}
+
+#[test]
+fn events_of_nested_forks_replay(rt: HostRuntime) -> Result<(), Fail> {
+    expect_ends(rt.alloc(), nested_forks(rt.alloc())?, &[])
+}
+
+#[test]
+fn events_of_wide_forks_replay(rt: HostRuntime) -> Result<(), Fail> {
+    expect_ends(rt.alloc(), branches(rt.alloc(), 8)?, &[])
+}
+
+#[test]
+fn events_of_ticks_with_inputs_replay(rt: HostRuntime) -> Result<(), Fail> {
+    expect_ends(
+        rt.alloc(),
+        counter(rt.alloc())?,
+        &[("A", Value::Bool(true))],
+    )
+}
