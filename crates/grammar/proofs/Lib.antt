@@ -1,0 +1,12 @@
+pub mod Sets
+pub mod Reading
+pub mod Parts
+pub mod Joined
+pub mod Repeated
+pub mod Every
+pub mod Shorter
+pub mod Levels
+pub mod Told
+pub mod Shaped
+pub mod Sums
+pub mod SumsRows
