@@ -1,0 +1,5 @@
+pub mod Words
+pub mod Pieces
+pub mod Tokens
+pub mod FaultText
+pub mod Inside

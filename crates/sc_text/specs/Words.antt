@@ -1,0 +1,61 @@
+-- How the reserved words and the signs are spelled.
+use Rattle.std.specs.Prelude.{ℕ, List}
+use Rattle.std.specs.Prelude.{codes}
+use Rattle.sc_text.specs.declared.word.Word.{Word}
+use Rattle.sc_text.specs.declared.word.Word.TheVariants as word
+use Rattle.sc_text.specs.declared.sign.Sign.{Sign}
+use Rattle.sc_text.specs.declared.sign.Sign.TheVariants as sign
+
+abbrev pub word_text : Word → List ℕ
+word_text word.Chart = codes "chart"
+word_text word.Scl = codes "scl"
+word_text word.Input = codes "input"
+word_text word.Output = codes "output"
+word_text word.Local = codes "local"
+word_text word.Bool = codes "bool"
+word_text word.Int = codes "int"
+word_text word.Region = codes "region"
+word_text word.Initial = codes "initial"
+word_text word.Final = codes "final"
+word_text word.State = codes "state"
+word_text word.Go = codes "go"
+word_text word.Strong = codes "strong"
+word_text word.Weak = codes "weak"
+word_text word.Join = codes "join"
+word_text word.Immediate = codes "immediate"
+word_text word.If = codes "if"
+word_text word.Else = codes "else"
+word_text word.Do = codes "do"
+word_text word.Goto = codes "goto"
+word_text word.Fork = codes "fork"
+word_text word.Par = codes "par"
+word_text word.Pause = codes "pause"
+word_text word.True = codes "true"
+word_text word.False = codes "false"
+word_text word.Not = codes "not"
+word_text word.And = codes "and"
+word_text word.Or = codes "or"
+word_text word.Min = codes "min"
+word_text word.Max = codes "max"
+
+abbrev pub sign_text : Sign → List ℕ
+sign_text sign.OpenBrace = codes "{"
+sign_text sign.CloseBrace = codes "}"
+sign_text sign.OpenParenthesis = codes "("
+sign_text sign.CloseParenthesis = codes ")"
+sign_text sign.Semicolon = codes ";"
+sign_text sign.Colon = codes ":"
+sign_text sign.Comma = codes ","
+sign_text sign.Becomes = codes "="
+sign_text sign.Equal = codes "=="
+sign_text sign.NotEqual = codes "!="
+sign_text sign.Less = codes "<"
+sign_text sign.LessOrEqual = codes "<="
+sign_text sign.Greater = codes ">"
+sign_text sign.GreaterOrEqual = codes ">="
+sign_text sign.Plus = codes "+"
+sign_text sign.Minus = codes "-"
+sign_text sign.Star = codes "*"
+sign_text sign.Slash = codes "/"
+sign_text sign.Percent = codes "%"
+sign_text sign.Arrow = codes "->"

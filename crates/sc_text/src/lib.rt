@@ -1,0 +1,20 @@
+//! The tokens of chart text and of SCL text, with their places, and the faults of readers.
+#![tactic(auto)]
+
+mod language;
+mod piece;
+mod read_fault;
+mod scan;
+mod sign;
+mod token;
+mod word;
+
+pub use language::Language;
+pub use read_fault::{Broken, ReadFault};
+pub use scan::tokens;
+pub use sign::Sign;
+pub use token::{Token, TokenKind};
+pub use word::Word;
+
+#[cfg(test)]
+mod tests;
