@@ -1,0 +1,5 @@
+pub mod Standing
+pub mod Table
+pub mod Turns
+pub mod Steps
+pub mod Machine

@@ -1,0 +1,72 @@
+-- Where labels and gotos lead. They take no step: a thread comes to stand at the next other statement.
+use Rattle.std.specs.Prelude.{ℕ, zero, suc, ◌+◌, Option, Some, None, List, option_map, option_and_then, if◌then◌else◌}
+use Rattle.std.specs.Str.{bytes_eq}
+use Rattle.scl.specs.Block.{Block, End, Assign, Label, Goto, Pause, If, Fork, Branches, NoMore, Branch}
+
+-- a list of statements, and then what follows it
+abbrev pub before : Block → Block → Block
+before (End n) k = k
+before (Assign n x e rest) k = Assign n x e (before rest k)
+before (Label name rest) k = Label name (before rest k)
+before (Goto g name rest) k = Goto g name (before rest k)
+before (Pause n rest) k = Pause n (before rest k)
+before (If n e first second rest) k = If n e first second (before rest k)
+before (Fork n branches rest) k = Fork n branches (before rest k)
+
+-- what stands behind the labels at the front
+pub data Front : Type 0 where
+  Jumps : (g : ℕ) (name : List ℕ) → Front
+  Begins : (todo : Block) → Front
+
+abbrev pub front : Block → Front
+front (Label name rest) = front rest
+front (Goto g name rest) = Jumps g name
+front todo = Begins todo
+
+abbrev pub or_else : Option Block → Option Block → Option Block
+or_else (Some k) other = Some k
+or_else None other = other
+
+abbrev mutual
+  -- what is to be done from behind the label of this name, up to the end of its thread; None where there is none
+  pub behind_label : Block → List ℕ → Option Block
+  behind_label (End n) name = None
+  behind_label (Assign n x e rest) name = behind_label rest name
+  behind_label (Label l rest) name = if bytes_eq l name then Some rest else behind_label rest name
+  behind_label (Goto g l rest) name = behind_label rest name
+  behind_label (Pause n rest) name = behind_label rest name
+  behind_label (If n e first second rest) name =
+      or_else (option_map (λ k. before k rest) (behind_label first name))
+      (or_else (option_map (λ k. before k rest) (behind_label second name)) (behind_label rest name))
+  behind_label (Fork n branches rest) name = or_else (behind_label_among branches name) (behind_label rest name)
+
+  pub behind_label_among : Branches → List ℕ → Option Block
+  behind_label_among NoMore name = None
+  behind_label_among (Branch t body more) name = or_else (behind_label body name) (behind_label_among more name)
+
+abbrev mutual
+  -- how many labels there are
+  pub label_count : Block → ℕ
+  label_count (End n) = 0
+  label_count (Assign n x e rest) = label_count rest
+  label_count (Label name rest) = suc (label_count rest)
+  label_count (Goto g name rest) = label_count rest
+  label_count (Pause n rest) = label_count rest
+  label_count (If n e first second rest) = label_count first + (label_count second + label_count rest)
+  label_count (Fork n branches rest) = label_count_among branches + label_count rest
+
+  pub label_count_among : Branches → ℕ
+  label_count_among NoMore = 0
+  label_count_among (Branch t body more) = label_count body + label_count_among more
+
+-- the statement to which at most so many gotos lead
+abbrev pub reached_by : Block → ℕ → Front → Option Block
+reached_by root most (Begins todo) = Some todo
+reached_by root zero (Jumps g name) = None
+reached_by root (suc most) (Jumps g name) =
+    option_and_then (λ k. reached_by root most (front k)) (behind_label root name)
+
+-- the statement at which a thread comes to stand. A way through more gotos than there are labels comes to one of them
+-- twice, and so leads nowhere: then None
+abbrev pub settled : Block → Block → Option Block
+settled root todo = reached_by root (label_count root) (front todo)

@@ -1,0 +1,5 @@
+pub mod Block
+pub mod Numbering
+pub mod Labels
+pub mod Places
+pub mod Meaning
