@@ -1,0 +1,5 @@
+pub mod Upward
+pub mod Ranked
+pub mod Walking
+pub mod Cutting
+pub mod Closing

@@ -1,0 +1,3 @@
+pub mod Least
+pub mod Walks
+pub mod Inside
