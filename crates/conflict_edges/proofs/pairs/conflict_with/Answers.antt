@@ -1,0 +1,17 @@
+use Rattle.std.proofs.Common.{ℕ, ◌≡◌, get_or, arith, below_more, true}
+use Rattle.sc_graph.specs.Protocol.{WriteConflict}
+use Rattle.conflict_edges.proofs.Finding.{of_each}
+use Rattle.conflict_edges.proofs.pairs.conflict_with.Goals as goal
+
+pub loop-n-preserved : goal.loop-n-preserved
+loop-n-preserved c =
+    let P : ℕ → Type 0 = λ k. ¬ WriteConflict c.args.program.now c.args.m (get_or c.args.nodes.now k 0) in
+    below_more P _ c.loop-n.invariant (λ w. absurd (let e : c.is_conflict.result ≡ true = c.is_conflict.ensures.1 w in let f = c.if-is_conflict.false in cc))
+
+pub returns : goal.returns
+returns c =
+    let P : ℕ → Type 0 = λ n. ¬ WriteConflict c.args.program.now c.args.m n in
+    of_each c.args.nodes.now P (λ k h. c.loop-n.invariant k (omega (arith, h)))
+
+pub returns-then-is_conflict : goal.returns-then-is_conflict
+returns-then-is_conflict c = c.is_conflict.ensures.0 c.if-is_conflict.true

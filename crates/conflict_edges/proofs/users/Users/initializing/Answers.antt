@@ -1,0 +1,24 @@
+use Rattle.std.proofs.Common.{ℕ, ◌<◌, length, subst, arith}
+use Rattle.conflict_edges.specs.Inside.Pairs.{InitsAt}
+use Rattle.conflict_edges.specs.Inside.Users.{IsUnused}
+use Rattle.conflict_edges.proofs.Within.{inits_within}
+use Rattle.conflict_edges.proofs.Gaining.{lists_start, lists_gain, lists_end}
+use Rattle.conflict_edges.proofs.users.Users.initializing.Goals as goal
+
+pub loop-n-init : goal.loop-n-init
+loop-n-init c =
+    let p = c.args.program.now in
+    let P : ℕ → Type 0 = λ count. IsUnused count c.in_ok-users.users in
+    lists_start p (InitsAt p) c.in_ok-users.users (subst P c.variable_count.ensures c.in_ok-users.ensures)
+
+pub loop-n-preserved : goal.loop-n-preserved
+loop-n-preserved c =
+    let p = c.args.program.now in
+    lists_gain p (InitsAt p) c.loop-n.users c.note_init.new.self c.loop-n.n c.loop-n.invariant c.in_ok-note_init.ensures
+
+pub returns : goal.returns
+returns c =
+    let p = c.args.program.now in
+    let end = c.loop-n-test.false in
+    lists_end p (InitsAt p) c.loop-n.users c.loop-n.n c.loop-n.invariant
+    (λ x n h. let lt : n < length p.nodes = inits_within p x n h in let count = c.node_count-n-end.ensures.count in omega (arith, lt, end, count))

@@ -1,0 +1,11 @@
+//! The write conflicts of a program, and its protocol edges.
+#![tactic(auto)]
+
+mod choosing;
+mod edges;
+mod fault;
+mod pairs;
+mod users;
+
+pub use edges::{Edges, Followers, conflicts};
+pub use fault::ConflictFault;

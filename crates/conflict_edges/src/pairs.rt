@@ -1,0 +1,152 @@
+//! Write conflicts: two concurrent inits of a variable, unless they are by one literal, or two
+//! concurrent updates of it by different combinations.
+
+ghost use Rattle.std.specs.Prelude.{◌≡◌, ◌↔◌, IfOk, IsTrue, MatchOption, ℕ, Contains};
+ghost use Rattle.sc_values.specs.Access.{Clash};
+ghost use Rattle.sc_graph.specs.Accesses.{accesses};
+ghost use Rattle.sc_graph.specs.Protocol.{WriteConflict};
+ghost use Rattle.sc_graph.specs.Threads.{ConcurrentNodes};
+ghost use Rattle.sc_graph.specs.Valid.{IsFormed};
+ghost use Rattle.conflict_edges.specs.Conflicts.{HasNoConflict};
+ghost use Rattle.conflict_edges.specs.Inside.Candidates.{AreAlike};
+ghost use Rattle.conflict_edges.specs.Inside.Pairs.{InitsAt, Lists, NoConflictOn, NoneConflict, UpdatesAt};
+
+use crate::choosing::candidates;
+use crate::users::Users;
+use sc_graph::{ConcurrentThreads, NodeId, Program, VariableId};
+use std::alloc::{AllocError, Global};
+
+/// Two nodes of a formed program, the smaller first, that conflict. None: there are none.
+pub(crate) fn find_conflict(
+    alloc: Global,
+    program: &Program,
+    threads: &ConcurrentThreads,
+) -> Result<Option<(NodeId, NodeId)>, AllocError>
+    requires formed { IsFormed program.now }
+    requires threads { threads.now ≡ program.now }
+    ensures { IfOk result (λ found. MatchOption found (HasNoConflict program.now) (λ s. WriteConflict program.now s.0 s.1)) }
+{
+    let inits = Users::initializing(alloc, program)?;
+    let updates = Users::updating(alloc, program)?;
+    for x in 0..program.variable_count() {
+        match conflict_over(alloc, program, threads, x, inits.of(x), updates.of(x))? {
+            Some(pair) => return Ok(Some(pair)),
+            None => {}
+        }
+    }
+    Ok(None)
+}
+
+// Two of the inits of a variable, or two of its updates, that conflict.
+fn conflict_over(
+    alloc: Global,
+    program: &Program,
+    threads: &ConcurrentThreads,
+    x: VariableId,
+    inits: &[NodeId],
+    updates: &[NodeId],
+) -> Result<Option<(NodeId, NodeId)>, AllocError>
+    requires formed { IsFormed program.now }
+    requires threads { threads.now ≡ program.now }
+    requires inits { Lists inits.now (InitsAt program.now x) }
+    requires updates { Lists updates.now (UpdatesAt program.now x) }
+    ensures { IfOk result (λ found. MatchOption found (NoConflictOn program.now x) (λ s. WriteConflict program.now s.0 s.1)) }
+{
+    match conflict_in(alloc, program, threads, inits)? {
+        Some(pair) => return Ok(Some(pair)),
+        None => {}
+    }
+    match conflict_in(alloc, program, threads, updates)? {
+        Some(pair) => Ok(Some(pair)),
+        None => Ok(None),
+    }
+}
+
+// Two of these nodes, which write one variable in one way, that conflict.
+fn conflict_in(
+    alloc: Global,
+    program: &Program,
+    threads: &ConcurrentThreads,
+    nodes: &[NodeId],
+) -> Result<Option<(NodeId, NodeId)>, AllocError>
+    requires formed { IsFormed program.now }
+    requires threads { threads.now ≡ program.now }
+    requires alike { AreAlike program.now nodes.now }
+    ensures { IfOk result (λ found. MatchOption found (NoneConflict program.now nodes.now) (λ s. WriteConflict program.now s.0 s.1)) }
+{
+    let few = candidates(alloc, program, nodes)?;
+    match conflict_among(program, threads, few.as_slice()) {
+        Some(pair) => Ok(Some(pair)),
+        None => Ok(None),
+    }
+}
+
+// Two of these nodes that conflict.
+fn conflict_among(
+    program: &Program,
+    threads: &ConcurrentThreads,
+    nodes: &[NodeId],
+) -> Option<(NodeId, NodeId)>
+    requires { threads.now ≡ program.now }
+    ensures { MatchOption result (NoneConflict program.now nodes.now) (λ s. WriteConflict program.now s.0 s.1) }
+{
+    for m in nodes {
+        if let Some(n) = conflict_with(program, threads, *m, nodes) {
+            return Some((*m, n));
+        }
+    }
+    None
+}
+
+// One of these nodes that conflicts with a smaller one.
+fn conflict_with(
+    program: &Program,
+    threads: &ConcurrentThreads,
+    m: NodeId,
+    nodes: &[NodeId],
+) -> Option<NodeId>
+    requires { threads.now ≡ program.now }
+    ensures { MatchOption result ((n : ℕ) → Contains nodes.now n → ¬ WriteConflict program.now m n) (WriteConflict program.now m) }
+{
+    for n in nodes {
+        if is_conflict(program, threads, m, *n) {
+            return Some(*n);
+        }
+    }
+    None
+}
+
+// Whether two nodes, the smaller first, conflict.
+fn is_conflict(program: &Program, threads: &ConcurrentThreads, m: NodeId, n: NodeId) -> bool
+    requires { threads.now ≡ program.now }
+    ensures { IsTrue result ↔ WriteConflict program.now m n }
+{
+    if n <= m {
+        return false;
+    }
+    if !nodes_clash(program, m, n) {
+        return false;
+    }
+    are_concurrent(program, threads, m, n)
+}
+
+// Whether two nodes, if they are concurrent, may not both be taken.
+pub(crate) fn nodes_clash(program: &Program, m: NodeId, n: NodeId) -> bool
+    ensures { IsTrue result ↔ Clash (accesses program.now m) (accesses program.now n) }
+{
+    match (program.step(m), program.step(n)) {
+        (Some(a), Some(b)) => a.clashes(b),
+        _ => false,
+    }
+}
+
+// Whether two nodes are concurrent, by the table of their program's threads.
+fn are_concurrent(program: &Program, threads: &ConcurrentThreads, m: NodeId, n: NodeId) -> bool
+    requires { threads.now ≡ program.now }
+    ensures { IsTrue result ↔ ConcurrentNodes program.now m n }
+{
+    match (program.owner(m), program.owner(n)) {
+        (Some(first), Some(second)) => threads.are(first, second),
+        _ => false,
+    }
+}
