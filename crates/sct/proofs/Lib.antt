@@ -1,4 +1,5 @@
 pub mod Ahead
+pub mod Asking
 pub mod Cut
 pub mod Feeds
 pub mod Given
@@ -7,3 +8,4 @@ pub mod Playing
 pub mod Shown
 pub mod Splits
 pub mod Taken
+pub mod Naming

@@ -1,5 +1,5 @@
 -- The same lines have one trace.
-use Rattle.std.proofs.Common.{ℕ, ◌≡◌, ◌≤◌, ◌+◌, Some, List, [], ◌∷◌, length, refl, ap, sym, ◌∙◌, subst, arith, inl, inr}
+use Rattle.std.proofs.Common.{ℕ, ◌≡◌, ◌≤◌, Some, List, [], ◌∷◌, length, refl, ap, sym, ◌∙◌, subst, arith, inl, inr}
 use Rattle.std.proofs.lemmas.List.Sorted.{length_permutation}
 use Rattle.serde_json.specs.Data.{Members}
 use Rattle.sc_graph.specs.declared.control.Control.{Control}
@@ -9,7 +9,7 @@ use Rattle.bytecode.specs.Image.{Image}
 use Rattle.sct.specs.Line.{IsObjectOf, inputs_of}
 use Rattle.sct.specs.Lines.{line_limit}
 use Rattle.sct.specs.Output.{outputs_of, tick_line}
-use Rattle.sct.specs.Trace.{GivesInputs, GivesNoInputs, IsNoObject, Reacts, Shows, End, Good, NoInputs, NoObject, EndsAt, Goes, Trace}
+use Rattle.sct.specs.Trace.{GivesInputs, GivesNoInputs, IsNoObject, Reacts, Shows, End, Good, NoInputs, NoObject, EndsAt, next_number, Goes, Trace}
 
 one_object : (line : List ℕ) (a b : Members) → IsObjectOf line a → IsObjectOf line b → a ≡ b
 one_object line a b x y =
@@ -72,7 +72,7 @@ goes_one_way image k c (line ∷ lines) [] (shown ∷ other) end last x y = absu
 goes_one_way image k c (line ∷ lines) (shown ∷ out) [] end last x y = absurd (ends_or_shows image k c x.0 line shown last y x.1)
 goes_one_way image k c (line ∷ lines) (shown ∷ out) (second ∷ other) end last x y =
     let one = one_shown image k c x.0 y.0 line shown second x.1 y.1 in
-    let rest = goes_one_way image (k + 1) x.0 lines out other end last x.2 (subst (λ d. Goes image (k + 1) d lines other last) one.0 y.2) in
+    let rest = goes_one_way image (next_number k) x.0 lines out other end last x.2 (subst (λ d. Goes image (next_number k) d lines other last) one.0 y.2) in
     let first = one.1 in
     let others = rest.0 in
     (cc (first, others), rest.1)

@@ -1,9 +1,8 @@
 -- How a trace grows, line by line.
-use Rattle.std.proofs.Common.{◌≡◌, ℕ, ◌+◌, ◌-◌, ◌^◌, Option, Some, None, option_map, List, [], ◌∷◌, ◌++◌, length, refl, ap, sym, ◌∙◌, subst, arith, append_assoc, append-nil, length-append, inl}
+use Rattle.std.proofs.Common.{◌≡◌, ℕ, ◌+◌, min, Option, Some, None, option_map, List, [], ◌∷◌, ◌++◌, length, refl, ap, sym, ◌∙◌, subst, arith, append_assoc, append-nil, length-append, inl}
 use Rattle.std.specs.List.{concat}
 use Rattle.std.specs.Io.KnownBytes.{Appends, IsAtEnd}
 use Rattle.std.proofs.lemmas.List.Folds.{concat-append}
-use Rattle.std.proofs.lemmas.List.{nil_from_length}
 use Rattle.std.proofs.KnownBytes.{Appends-nil, Appends-trans, prepend_known-nil}
 use Rattle.sc_values.specs.Streams.{GrowsInto}
 use Rattle.sc_graph.specs.declared.control.Control.{Control}
@@ -14,18 +13,17 @@ use Rattle.sct.specs.declared.lines.LinesFault.TheVariants as lines_fault
 use Rattle.sct.specs.declared.play.PlayFault.{PlayFault}
 use Rattle.sct.specs.declared.play.PlayFault.TheVariants as play_fault
 use Rattle.sct.specs.Lines.{ahead, TakesLine, IsTooLong}
-use Rattle.sct.specs.Trace.{lines_of, AreLinesOf, End, Good, NoInputs, NoObject, EndsAt, Shows, Goes, Trace, Plays, PlaysFirst, PlaysPart, Leaves}
+use Rattle.sct.specs.Trace.{End, Good, NoInputs, NoObject, EndsAt, Shows, greatest, next_number, Goes, Trace, Plays, PlaysFirst, PlaysPart, Leaves}
 use Rattle.sct.specs.Inside.Faults.{Tells, unread}
-use Rattle.sct.proofs.Splits.{Cut, known_lines, cut_known, are_lines, cut_at_end, length-lines_of, cut_taken, cut_too_long}
+use Rattle.sct.proofs.Splits.{Cut, known_lines, cut_known, are_lines, cut_at_end, cut_taken, cut_too_long}
 
--- after k lines the configuration is c, and these lines of output were written
+-- after the line of number k the configuration is c, and these lines of output were written
 pub record Played (image : Image) (start now : Option (List ℕ)) (k : ℕ) (c : Control) (old new : Option (List ℕ)) : Type 0 where
   pub done : List (List ℕ)
   pub out : List (List ℕ)
   pub leads : (rest : List (List ℕ)) → Cut now rest → Cut start (done ++ rest)
-  pub goes : (lines rest : List (List ℕ)) (end : End) → Goes image (k + 1) c lines rest end → Trace image (done ++ lines) (out ++ rest) end
-  pub shown : k ≡ length out
-  pub taken : k ≡ length done
+  pub goes : (lines rest : List (List ℕ)) (end : End) → Goes image (next_number k) c lines rest end → Trace image (done ++ lines) (out ++ rest) end
+  pub shown : k ≡ min (length out) greatest
   pub written : Appends old new (concat out)
 
 at_start : (image : Image) (start old : Option (List ℕ)) → Played image start (ahead [] start) 0 (initial image.program) old old
@@ -36,7 +34,6 @@ at_start image start old =
       leads = λ rest cut. subst (λ bytes. Cut bytes rest) (prepend_known-nil start) cut;
       goes = λ lines rest end trace. trace;
       shown = refl;
-      taken = refl;
       written = Appends-nil old;
     }
 
@@ -48,8 +45,8 @@ none_played image start old held c none first =
 
 -- one line more was taken, and its line of output written
 pub one_played : (image : Image) (start now now' : Option (List ℕ)) (k : ℕ) (c d : Control) (old new new' : Option (List ℕ)) (line shown : List ℕ)
-    → Played image start now k c old new → TakesLine now now' line → Shows image (k + 1) c line d shown → Appends new new' shown
-    → Played image start now' (k + 1) d old new'
+    → Played image start now k c old new → TakesLine now now' line → Shows image (next_number k) c line d shown → Appends new new' shown
+    → Played image start now' (next_number k) d old new'
 one_played image start now now' k c d old new new' line shown a takes shows writes =
     record {
       done = a.done ++ line ∷ [];
@@ -59,7 +56,6 @@ one_played image start now now' k c d old new new' line shown a takes shows writ
           subst (λ xs. Trace image xs ((a.out ++ shown ∷ []) ++ rest) end) (sym (append_assoc a.done (line ∷ []) lines))
           (subst (λ ys. Trace image (a.done ++ line ∷ lines) ys end) (sym (append_assoc a.out (shown ∷ []) rest)) (a.goes (line ∷ lines) (shown ∷ rest) end (d, shows, trace)));
       shown = omega (arith, a.shown, length-append a.out (shown ∷ []));
-      taken = omega (arith, a.taken, length-append a.done (line ∷ []));
       written =
           subst (Appends old new') (sym (concat-append a.out (shown ∷ []) ∙ ap (λ last. concat a.out ++ last) (append-nil shown)))
           (Appends-trans old new new' (concat a.out) shown a.written writes);
@@ -73,7 +69,7 @@ so_far image start now k c old new a =
 
 -- all lines were played
 pub all_played : (image : Image) (start now : Option (List ℕ)) (k : ℕ) (c : Control) (old new : Option (List ℕ)) → Played image start now k c old new → IsAtEnd now
-    → (out : List (List ℕ)) × (k ≡ length out) × Plays image start old new out Good
+    → (out : List (List ℕ)) × (k ≡ min (length out) greatest) × Plays image start old new out Good
 all_played image start now k c old new a ended = (
   a.out,
   a.shown,
@@ -85,32 +81,9 @@ all_played image start now k c old new a ended = (
   },
 )
 
--- as many lines were played as there can be
-most_lines : (start now : Option (List ℕ)) (done : List (List ℕ)) → 2 ^ 64 - 1 ≡ length done → ((rest : List (List ℕ)) → Cut now rest → Cut start (done ++ rest)) → AreLinesOf start done
-most_lines None now done most leads = tt
-most_lines (Some bytes) None done most leads = λ _. sym (append-nil done) ∙ leads [] tt
-most_lines (Some bytes) (Some ys) done most leads = λ few.
-    let all : done ++ lines_of ys ≡ lines_of bytes = leads (lines_of ys) refl in
-    let long : length (done ++ lines_of ys) ≡ length (lines_of bytes) = ap length all in
-    let none : length (lines_of ys) ≡ 0 = omega (arith, few, most, long, length-append done (lines_of ys), length-lines_of bytes) in
-    sym (append-nil done) ∙ ap (λ rest. done ++ rest) (sym (nil_from_length (lines_of ys) none)) ∙ all
-
-pub most_played : (image : Image) (start now : Option (List ℕ)) (k : ℕ) (c : Control) (old new : Option (List ℕ)) → Played image start now k c old new → k ≡ 2 ^ 64 - 1
-    → (out : List (List ℕ)) × (k ≡ length out) × Plays image start old new out Good
-most_played image start now k c old new a most = (
-  a.out,
-  a.shown,
-  record {
-    lines = a.done;
-    cut = most_lines start now a.done (sym most ∙ a.taken) a.leads;
-    trace = so_far image start now k c old new a;
-    written = a.written;
-  },
-)
-
 -- a line ends the trace
 ends_at : (image : Image) (start now : Option (List ℕ)) (k : ℕ) (c : Control) (old new : Option (List ℕ)) (line : List ℕ) (rest : List (List ℕ)) (end : End)
-    → Played image start now k c old new → Cut now (line ∷ rest) → EndsAt image.program (k + 1) line end → (out : List (List ℕ)) × Plays image start old new out end
+    → Played image start now k c old new → Cut now (line ∷ rest) → EndsAt image.program (next_number k) line end → (out : List (List ℕ)) × Plays image start old new out end
 ends_at image start now k c old new line rest end a cut ends = (
   a.out,
   record {
@@ -123,16 +96,16 @@ ends_at image start now k c old new line rest end a cut ends = (
 
 -- the line that was taken is refused
 pub refused : (image : Image) (start now now' : Option (List ℕ)) (k : ℕ) (c : Control) (old new : Option (List ℕ)) (line : List ℕ) (end : End)
-    → Played image start now k c old new → TakesLine now now' line → EndsAt image.program (k + 1) line end → (out : List (List ℕ)) × Plays image start old new out end
+    → Played image start now k c old new → TakesLine now now' line → EndsAt image.program (next_number k) line end → (out : List (List ℕ)) × Plays image start old new out end
 refused image start now now' k c old new line end a takes ends =
     ends_at image start now k c old new line (known_lines now') end a (cut_taken now now' line (known_lines now') takes (cut_known now')) ends
 
 -- the next line is too long
 pub refused_long : (image : Image) (start now : Option (List ℕ)) (k : ℕ) (c : Control) (old new : Option (List ℕ))
-    → Played image start now k c old new → IsTooLong now → (out : List (List ℕ)) × Plays image start old new out (NoObject (k + 1))
+    → Played image start now k c old new → IsTooLong now → (out : List (List ℕ)) × Plays image start old new out (NoObject (next_number k))
 refused_long image start now k c old new a long =
     let cut = cut_too_long now long in
-    ends_at image start now k c old new cut.0 cut.1 (NoObject (k + 1)) a cut.3 (refl, inl cut.2)
+    ends_at image start now k c old new cut.0 cut.1 (NoObject (next_number k)) a cut.3 (refl, inl cut.2)
 
 -- nothing more can be done
 pub stopped : (image : Image) (start now : Option (List ℕ)) (k : ℕ) (c : Control) (old new : Option (List ℕ)) → Played image start now k c old new → PlaysFirst image start old new
@@ -159,7 +132,7 @@ wanted_appends (Some xs) bytes = refl
 
 -- the line of output could not be written, or not to its end
 pub stopped_writing : (image : Image) (start now now' : Option (List ℕ)) (k : ℕ) (c d : Control) (old new new' : Option (List ℕ)) (line shown : List ℕ)
-    → Played image start now k c old new → TakesLine now now' line → Shows image (k + 1) c line d shown → GrowsInto new new' shown → PlaysPart image start old new'
+    → Played image start now k c old new → TakesLine now now' line → Shows image (next_number k) c line d shown → GrowsInto new new' shown → PlaysPart image start old new'
 unfolding one_played
 stopped_writing image start now now' k c d old new new' line shown a takes shows writes =
     let b = one_played image start now now' k c d old new (wanted new shown) line shown a takes shows (wanted_appends new shown) in
@@ -169,22 +142,22 @@ stopped_writing image start now now' k c d old new new' line shown a takes shows
       cut = are_lines start (b.done ++ known_lines now') (b.leads (known_lines now') (cut_known now'));
       out = a.out;
       last = shown;
-      trace = so_far image start now' (k + 1) d old (wanted new shown) b;
+      trace = so_far image start now' (next_number k) d old (wanted new shown) b;
       before = new;
       written = a.written;
       in_part = writes;
     }
 
--- line k + 1 could not be had
+-- the next line could not be had
 pub stopped_reading : (image : Image) (start now : Option (List ℕ)) (k : ℕ) (c : Control) (old new : Option (List ℕ)) (f : LinesFault)
-    → Played image start now k c old new → (f ≡ lines_fault.TooLong → IsTooLong now) → Leaves image start old new (unread f (k + 1))
+    → Played image start now k c old new → (f ≡ lines_fault.TooLong → IsTooLong now) → Leaves image start old new (unread f (next_number k))
 stopped_reading image start now k c old new lines_fault.Memory a long = stopped image start now k c old new a
 stopped_reading image start now k c old new lines_fault.Read a long = stopped image start now k c old new a
 stopped_reading image start now k c old new lines_fault.TooLong a long = refused_long image start now k c old new a (long refl)
 
--- line k + 1 makes no tick
+-- the next line makes no tick
 pub stopped_reacting : (image : Image) (start now now' : Option (List ℕ)) (k : ℕ) (c : Control) (old new : Option (List ℕ)) (line : List ℕ) (f : PlayFault)
-    → Played image start now k c old new → TakesLine now now' line → Tells image.program (k + 1) line f → Leaves image start old new f
+    → Played image start now k c old new → TakesLine now now' line → Tells image.program (next_number k) line f → Leaves image start old new f
 stopped_reacting image start now now' k c old new line (play_fault.Input n) a takes tells = refused image start now now' k c old new line (NoInputs n) a takes tells
 stopped_reacting image start now now' k c old new line (play_fault.NotJson n) a takes tells = refused image start now now' k c old new line (NoObject n) a takes tells
 stopped_reacting image start now now' k c old new line play_fault.Memory a takes tells = stopped image start now k c old new a

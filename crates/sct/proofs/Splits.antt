@@ -22,7 +22,7 @@ cut_known (Some bytes) = refl
 
 pub are_lines : (bytes : Option (List ℕ)) (lines : List (List ℕ)) → Cut bytes lines → AreLinesOf bytes lines
 are_lines None lines cut = tt
-are_lines (Some bytes) lines cut = λ _. cut
+are_lines (Some bytes) lines cut = cut
 
 pub cut_at_end : (bytes : Option (List ℕ)) → IsAtEnd bytes → Cut bytes []
 cut_at_end None ended = tt

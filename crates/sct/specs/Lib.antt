@@ -1,7 +1,10 @@
 pub mod Answer
+pub mod FaultText
+pub mod Files
 pub mod Line
 pub mod Lines
 pub mod Output
+pub mod Request
 pub mod Summary
 pub mod Trace
 pub mod Inside

@@ -1,5 +1,5 @@
 -- The trace of an input: for each line a tick and a line of output, until a line gives no inputs.
-use Rattle.std.specs.Prelude.{ℕ, ◌≡◌, ◌+◌, ◌<◌, ◌≤◌, ◌^◌, ◌⊎◌, ⊤, Option, Some, None, List, [], ◌∷◌, ◌++◌, length, if◌then◌else◌}
+use Rattle.std.specs.Prelude.{ℕ, ◌≡◌, ◌+◌, ◌<◌, ◌≤◌, min, ◌⊎◌, ⊤, Option, Some, None, List, [], ◌∷◌, ◌++◌, length, if◌then◌else◌}
 use Rattle.std.specs.List.{concat}
 use Rattle.std.specs.Io.KnownBytes.{Appends}
 use Rattle.serde_json.specs.Data.{Members}
@@ -25,10 +25,10 @@ abbrev pub lines_of : List ℕ → List (List ℕ)
 lines_of [] = []
 lines_of (byte ∷ bytes) = if is_feed byte then [] ∷ lines_of bytes else onto_first byte (lines_of bytes)
 
--- the lines of an input whose bytes are known. Inputs of 2^64 bytes and more are not spoken of
+-- the lines of an input whose bytes are known
 abbrev pub AreLinesOf : Option (List ℕ) → List (List ℕ) → Type 0
 AreLinesOf None lines = ⊤
-AreLinesOf (Some bytes) lines = length bytes < 2 ^ 64 → lines ≡ lines_of bytes
+AreLinesOf (Some bytes) lines = lines ≡ lines_of bytes
 
 -- the line is a JSON object of these inputs, which the program accepts
 pub record GivesInputs (p : Program) (line : List ℕ) (inputs : Inputs) : Type 0 where
@@ -56,6 +56,13 @@ pub record Reacts (image : Image) (inputs : Inputs) (c d : Control) (steps : ℕ
   pub tick : WholeTick image (start image.program inputs c) run d
   pub count : steps ≡ length run
 
+-- the number of the next line and its tick: numbers have 64 bits, and stay at the greatest
+abbrev pub greatest : ℕ
+greatest = 18446744073709551615
+
+abbrev pub next_number : ℕ → ℕ
+next_number k = min (k + 1) greatest
+
 -- line number k makes a tick from c to d, of which this is shown
 pub record Shows (image : Image) (k : ℕ) (c : Control) (line : List ℕ) (d : Control) (shown : List ℕ) : Type 0 where
   pub inputs : Inputs
@@ -81,7 +88,7 @@ abbrev pub Goes : Image → ℕ → Control → List (List ℕ) → List (List �
 Goes image k c [] [] end = end ≡ Good
 Goes image k c [] (shown ∷ out) end = ⊥
 Goes image k c (line ∷ lines) [] end = EndsAt image.program k line end
-Goes image k c (line ∷ lines) (shown ∷ out) end = (d : Control) × Shows image k c line d shown × Goes image (k + 1) d lines out end
+Goes image k c (line ∷ lines) (shown ∷ out) end = (d : Control) × Shows image k c line d shown × Goes image (next_number k) d lines out end
 
 -- the trace of lines: their lines of output, and its end
 abbrev pub Trace : Image → List (List ℕ) → List (List ℕ) → End → Type 0

@@ -1,8 +1,10 @@
-ghost use Rattle.std.specs.Prelude.{◌≡◌};
+ghost use Rattle.std.specs.Prelude.{◌≡◌, Some, None, IfOk, OnErr, map, option_map, string_bytes};
+ghost use Rattle.std.specs.List.{list_any};
+ghost use Rattle.sct.specs.Request.{seen, is_option, operands, asked, request_of};
 ghost use Rattle.sct.specs.declared.arguments.Unread.TheVariants.{Memory};
 
 use clap::error::ErrorKind;
-use clap::{Arg, ArgAction, ArgMatches, Command, Error};
+use clap::{Arg, ArgAction, Command, Error};
 use std::alloc::{AllocError, Global};
 
 /// What the words ask for.
@@ -12,6 +14,8 @@ pub enum Request<'a> {
     Check(&'a str),
     /// Run the image in this file.
     Run(&'a str),
+    /// Write the image in the first file to the second, in version 2 of the layout.
+    Migrate(&'a str, &'a str),
 }
 
 /// Why the words ask for nothing that can be done.
@@ -35,12 +39,32 @@ const EXAMPLE: &str = "Example:\n  sct run examples/two_threads.image < examples
 
 // A command that takes the file of an image.
 fn over_image<'a>(alloc: Global, name: &'a str, about: &'a str) -> Result<Command<'a>, AllocError> {
-    let image = Arg::new(alloc, "image")
-        .value_name("IMAGE")
-        .help("The file of the image")
-        .required(true)
-        .action(ArgAction::Set);
+    let image = file_name(alloc, "image", "IMAGE", "The file of the image");
     Command::new(alloc, name).about(about).arg(image)
+}
+
+// The operand of a command that is the name of a file.
+fn file_name<'a>(alloc: Global, name: &'a str, shown: &'a str, about: &'a str) -> Arg<'a> {
+    Arg::new(alloc, name)
+        .value_name(shown)
+        .help(about)
+        .required(true)
+        .action(ArgAction::Set)
+}
+
+// The command over two files.
+fn migrate_command<'a>(alloc: Global) -> Result<Command<'a>, AllocError> {
+    let old = file_name(
+        alloc,
+        "old",
+        "OLD",
+        "The file of the image, in either version",
+    );
+    let new = file_name(alloc, "new", "NEW", "The file that is written");
+    Command::new(alloc, "migrate")
+        .about("Writes an image in version 2 of the layout")
+        .arg(old)?
+        .arg(new)
 }
 
 fn sct_command<'a>(alloc: Global) -> Result<Command<'a>, AllocError> {
@@ -59,18 +83,8 @@ fn sct_command<'a>(alloc: Global) -> Result<Command<'a>, AllocError> {
         .disable_help_subcommand(true)
         .after_help(EXAMPLE)
         .subcommand(check)?
-        .subcommand(run)
-}
-
-// What is asked for by words that were taken apart; None where that is no command of ours.
-fn request_of<'a>(matches: &ArgMatches<'a>) -> Option<Request<'a>> {
-    let (name, matches) = matches.subcommand()?;
-    let image = matches.get_str("image")?;
-    match name {
-        "check" => Some(Request::Check(image)),
-        "run" => Some(Request::Run(image)),
-        _ => None,
-    }
+        .subcommand(run)?
+        .subcommand(migrate_command(alloc)?)
 }
 
 fn shown(alloc: Global, error: &Error) -> Unread {
@@ -86,17 +100,76 @@ fn shown(alloc: Global, error: &Error) -> Unread {
     }
 }
 
-/// What these words, without the program's name, ask for.
-pub fn read_words<'a>(alloc: Global, words: &'a [String]) -> Result<Request<'a>, Unread> {
-    let matches = match sct_command(alloc)?.try_get_matches_from(words) {
-        Ok(matches) => matches,
-        Err(error) => return Err(shown(alloc, &error)),
+// Whether a word is an option: a hyphen and more.
+fn is_option(word: &String) -> bool
+    ensures { result ≡ is_option (string_bytes word.now) }
+{
+    match word.as_bytes() {
+        [first, _, ..] => *first == b'-',
+        _ => false,
+    }
+}
+
+fn has_option(words: &[String]) -> bool
+    ensures { result ≡ list_any (λ word. is_option (string_bytes word)) words.now }
+{
+    words.iter().any(is_option)
+}
+
+// The words behind the verb: all, where none is an option, or those behind a `--`.
+fn operands(words: &[String]) -> Option<&[String]>
+    ensures { option_map (λ s. map string_bytes s.now) result ≡ operands (map string_bytes words.now) }
+{
+    let Some((first, rest)) = words.split_first() else {
+        return Some(words);
     };
-    match request_of(&matches) {
-        Some(request) => Ok(request),
-        None => Err(Unread::Shown {
+    if first.as_str() == "--" {
+        Some(rest)
+    } else if has_option(words) {
+        None
+    } else {
+        Some(words)
+    }
+}
+
+// What a verb asks for with these operands.
+fn asked<'a>(verb: &str, operands: &'a [String]) -> Option<Request<'a>>
+    ensures { option_map seen result ≡ asked verb.now (map string_bytes operands.now) }
+{
+    match operands {
+        [name] if verb == "check" => Some(Request::Check(name.as_str())),
+        [name] if verb == "run" => Some(Request::Run(name.as_str())),
+        [from, to] if verb == "migrate" => Some(Request::Migrate(from.as_str(), to.as_str())),
+        _ => None,
+    }
+}
+
+// The request of these words, without the program's name.
+fn request_of<'a>(words: &'a [String]) -> Option<Request<'a>>
+    ensures { option_map seen result ≡ request_of (map string_bytes words.now) }
+{
+    let (verb, words) = words.split_first()?;
+    asked(verb.as_str(), operands(words)?)
+}
+
+// What is shown for words that ask for nothing.
+fn why_unread(alloc: Global, words: &[String]) -> Result<Unread, AllocError> {
+    match sct_command(alloc)?.try_get_matches_from(words) {
+        Ok(_) => Ok(Unread::Shown {
             text: String::from_str(alloc, "error: no such command\n")?,
             asked: false,
         }),
+        Err(error) => Ok(shown(alloc, &error)),
+    }
+}
+
+/// What these words, without the program's name, ask for. Err: they ask for nothing.
+pub fn read_words<'a>(alloc: Global, words: &'a [String]) -> Result<Request<'a>, Unread>
+    ensures asked { IfOk result (λ request. request_of (map string_bytes words.now) ≡ Some (seen request)) }
+    ensures unread { OnErr result (request_of (map string_bytes words.now) ≡ None) }
+{
+    match request_of(words) {
+        Some(request) => Ok(request),
+        None => Err(why_unread(alloc, words)?),
     }
 }

@@ -1,10 +1,15 @@
-ghost use Rattle.std.specs.Prelude.{◌≡◌, ◌≤◌, ℕ, List, IfOk, OnOk, string_bytes};
-ghost use Rattle.sct.specs.Answer.{SumsUp, PlaysWhole, WritesText, IsDone, TellsFault, fault_line};
+ghost use Rattle.std.specs.Prelude.{◌≡◌, ◌≤◌, ◌+◌, Some, None, IfOk, IfErr, OnOk, map, string_bytes};
+ghost use Rattle.sct.specs.Answer.{SumsUp, PlaysWhole, WritesText, WritesPart, RefusesCheck, RefusesRun, reads_failed, writes_failed};
+ghost use Rattle.sct.specs.Answer.{Does, Refuses, IsRefused, TellsFault, fault_line};
+ghost use Rattle.sct.specs.FaultText.{fault_text};
+ghost use Rattle.sct.specs.Request.{IsMigration, IsRun, request_of, seen};
+ghost use Rattle.sct.specs.declared.fault.Fault.TheVariants as told;
 
 use crate::arguments::{Request, Unread, read_words};
 use crate::check::{load_verified, summary_of};
 use crate::fault::Fault;
 use crate::files::Files;
+use crate::migrate::migrate;
 use crate::play::play;
 use sc_values::{Sink, Source, write_all};
 use std::alloc::{AllocError, Global};
@@ -24,12 +29,19 @@ fn check<F: Files, W: Sink>(
     files: &mut F,
     output: &mut W,
 ) -> Result<(), Fault>
-    ensures done { OnOk result (SumsUp (W.taken output.old) (W.taken output.new)) }
+    ensures done { OnOk result (SumsUp (F.contents files.old) name.now (W.taken output.old) (W.taken output.new)) }
+    ensures refused { IfErr result (RefusesCheck (F.contents files.old) name.now (W.taken output.old) (W.taken output.new)) }
     ensures none_failed { OnOk result (W.failures output.new ≡ W.failures output.old) }
+    ensures failed { IfErr result (λ fault. W.failures output.new ≡ W.failures output.old + writes_failed fault) }
+    ensures files { F.contents files.new ≡ F.contents files.old }
+    ensures unread { IfErr result (λ fault. reads_failed fault ≡ 0) }
 {
     let image = load_verified(alloc, files, name)?;
     let line = summary_of(alloc, image.image())?;
-    write_all(output, line.as_bytes()).map_err(|_| Fault::Write)
+    match write_all(output, line.as_bytes()) {
+        Ok(()) => Ok(()),
+        Err(_) => Err(Fault::Write),
+    }
 }
 
 fn run<F: Files, R: Source, W: Sink>(
@@ -39,9 +51,13 @@ fn run<F: Files, R: Source, W: Sink>(
     input: &mut R,
     output: &mut W,
 ) -> Result<(), Fault>
-    ensures done { OnOk result (PlaysWhole (R.to_come input.old) (W.taken output.old) (W.taken output.new)) }
+    ensures done { OnOk result (PlaysWhole (F.contents files.old) name.now (R.to_come input.old) (W.taken output.old) (W.taken output.new)) }
+    ensures refused { IfErr result (RefusesRun (F.contents files.old) name.now (R.to_come input.old) (W.taken output.old) (W.taken output.new)) }
     ensures none_read { OnOk result (R.failures input.new ≡ R.failures input.old) }
+    ensures read { IfErr result (λ fault. R.failures input.new ≡ R.failures input.old + reads_failed fault) }
     ensures none_failed { OnOk result (W.failures output.new ≡ W.failures output.old) }
+    ensures failed { IfErr result (λ fault. W.failures output.new ≡ W.failures output.old + writes_failed fault) }
+    ensures files { F.contents files.new ≡ F.contents files.old }
 {
     let image = load_verified(alloc, files, name)?;
     match play(alloc, &image, input, output) {
@@ -52,16 +68,15 @@ fn run<F: Files, R: Source, W: Sink>(
 
 // The line of a fault.
 fn line_of(alloc: Global, fault: &Fault) -> Result<String, AllocError>
-    ensures { IfOk result (λ line. (text : List ℕ) × (string_bytes line ≡ fault_line text)) }
+    ensures { IfOk result (λ line. string_bytes line ≡ fault_line (fault_text fault.now)) }
 {
-    let text = format!(in alloc; "{fault}")?;
-    format!(in alloc; "sct: {text}\n")
+    format!(in alloc; "sct: {fault}\n")
 }
 
 // Writes the line of a fault. Where it cannot be written, nothing else can be done.
 fn refuse<X: Sink>(alloc: Global, fault: &Fault, errors: &mut X) -> u8
     ensures status { result ≡ REFUSED }
-    ensures line { TellsFault (X.taken errors.old) (X.taken errors.new) (X.failures errors.old) (X.failures errors.new) }
+    ensures line { TellsFault fault.now (X.taken errors.old) (X.taken errors.new) (X.failures errors.old) (X.failures errors.new) }
 {
     let _ = match line_of(alloc, fault) {
         Ok(line) => write_all(errors, line.as_bytes()),
@@ -82,8 +97,10 @@ fn show<W: Sink, X: Sink>(
     ensures shown { result ≡ DONE → WritesText (W.taken output.old) (W.taken output.new) }
     ensures quiet { result ≡ DONE → X.taken errors.new ≡ X.taken errors.old }
     ensures none_failed { result ≡ DONE → W.failures output.new ≡ W.failures output.old }
-    ensures refused { result ≡ REFUSED
-        → TellsFault (X.taken errors.old) (X.taken errors.new) (X.failures errors.old) (X.failures errors.new) }
+    ensures refused { result ≡ REFUSED → WritesPart (W.taken output.old) (W.taken output.new) }
+    ensures failed { result ≡ REFUSED → W.failures output.new ≡ W.failures output.old + 1 }
+    ensures told { result ≡ REFUSED
+        → TellsFault told.Write (X.taken errors.old) (X.taken errors.new) (X.failures errors.old) (X.failures errors.new) }
     ensures misused { result ≡ MISUSED → W.taken output.new ≡ W.taken output.old }
 {
     if !asked || text.is_empty() {
@@ -93,6 +110,30 @@ fn show<W: Sink, X: Sink>(
     match write_all(output, text.as_bytes()) {
         Ok(()) => DONE,
         Err(_) => refuse(alloc, &Fault::Write, errors),
+    }
+}
+
+// Does what is asked for.
+fn perform<F: Files, R: Source, W: Sink>(
+    alloc: Global,
+    request: Request<'_>,
+    files: &mut F,
+    input: &mut R,
+    output: &mut W,
+) -> Result<(), Fault>
+    ensures done { OnOk result (Does (F.contents files.old) (F.contents files.new) (Some (seen request.entry)) (R.to_come input.old) (W.taken output.old) (W.taken output.new)) }
+    ensures refused { IfErr result (Refuses (F.contents files.old) (F.contents files.new) (Some (seen request.entry)) (R.to_come input.old) (W.taken output.old) (W.taken output.new)) }
+    ensures none_read { OnOk result (R.failures input.new ≡ R.failures input.old) }
+    ensures read { IfErr result (λ fault. R.failures input.new ≡ R.failures input.old + reads_failed fault) }
+    ensures none_failed { OnOk result (W.failures output.new ≡ W.failures output.old) }
+    ensures failed { IfErr result (λ fault. W.failures output.new ≡ W.failures output.old + writes_failed fault) }
+    ensures unread { ¬ IsRun (Some (seen request.entry)) → R.to_come input.new ≡ R.to_come input.old }
+    ensures files { ¬ IsMigration (Some (seen request.entry)) → F.contents files.new ≡ F.contents files.old }
+{
+    match request {
+        Request::Check(name) => check(alloc, name, files, output),
+        Request::Run(name) => run(alloc, name, files, input, output),
+        Request::Migrate(from, to) => migrate(alloc, from, to, files, output),
     }
 }
 
@@ -107,25 +148,32 @@ pub fn command<F: Files, R: Source, W: Sink, X: Sink>(
     errors: &mut X,
 ) -> u8
     ensures status { result ≤ MISUSED }
-    ensures done { result ≡ DONE → IsDone (R.to_come input.old) (W.taken output.old) (W.taken output.new) }
+
+    ensures done { result ≡ DONE → Does (F.contents files.old) (F.contents files.new) (request_of (map string_bytes words.now)) (R.to_come input.old) (W.taken output.old) (W.taken output.new) }
     ensures quiet { result ≡ DONE → X.taken errors.new ≡ X.taken errors.old }
     ensures none_failed { result ≡ DONE → W.failures output.new ≡ W.failures output.old }
     ensures none_read { result ≡ DONE → R.failures input.new ≡ R.failures input.old }
-    ensures refused { result ≡ REFUSED
-        → TellsFault (X.taken errors.old) (X.taken errors.new) (X.failures errors.old) (X.failures errors.new) }
-    ensures misused { result ≡ MISUSED → W.taken output.new ≡ W.taken output.old }
-    ensures unread { result ≡ MISUSED → R.to_come input.new ≡ R.to_come input.old }
+
+    ensures refused { result ≡ REFUSED → IsRefused (F.contents files.old) (F.contents files.new) (request_of (map string_bytes words.now))
+        (R.to_come input.old) (W.taken output.old) (W.taken output.new)
+        (R.failures input.old) (R.failures input.new) (W.failures output.old) (W.failures output.new)
+        (X.taken errors.old) (X.taken errors.new) (X.failures errors.old) (X.failures errors.new) }
+
+    ensures misused { result ≡ MISUSED → request_of (map string_bytes words.now) ≡ None }
+    ensures nothing { result ≡ MISUSED → W.taken output.new ≡ W.taken output.old }
+
+    ensures unread { ¬ IsRun (request_of (map string_bytes words.now)) → R.to_come input.new ≡ R.to_come input.old }
+    ensures files { ¬ IsMigration (request_of (map string_bytes words.now)) → F.contents files.new ≡ F.contents files.old }
 {
-    let done = match read_words(alloc, words) {
-        Ok(Request::Check(name)) => check(alloc, name, files, output),
-        Ok(Request::Run(name)) => run(alloc, name, files, input, output),
+    let fault = match read_words(alloc, words) {
+        Ok(request) => match perform(alloc, request, files, input, output) {
+            Ok(()) => return DONE,
+            Err(fault) => fault,
+        },
         Err(Unread::Shown { text, asked }) => {
             return show(alloc, text.as_str(), asked, output, errors);
         }
-        Err(Unread::Memory) => Err(Fault::Memory),
+        Err(Unread::Memory) => Fault::Memory,
     };
-    match done {
-        Ok(()) => DONE,
-        Err(fault) => refuse(alloc, &fault, errors),
-    }
+    refuse(alloc, &fault, errors)
 }

@@ -4,29 +4,22 @@ ghost use Rattle.sct.specs.declared.fault.Fault.TheVariants.{Memory};
 use crate::play::PlayFault;
 use bytecode::DecodeFault;
 use std::alloc::{AllocError, AllocFailed};
-use thiserror::Error;
 use verifier::Refusal;
 
 /// Why the program refuses. It prints as the fault line says it, after the program's name.
-#[derive(Debug, Drop, Error)]
+#[derive(Debug, Drop)]
 pub enum Fault {
-    /// Memory was refused.
-    #[error("E52")]
+    /// E52: memory was refused.
     Memory,
     /// The bytes spell no image, or memory was refused.
-    #[error("{0}")]
     Image(DecodeFault),
     /// The image breaks a rule, or memory was refused.
-    #[error("{0}")]
     Rule(Refusal),
     /// Standard input was not played to its end.
-    #[error("{0}")]
     Play(PlayFault),
-    /// Standard output failed, or took no byte.
-    #[error("E63")]
+    /// E63: standard output failed, or took no byte.
     Write,
-    /// The file of this name cannot be read.
-    #[error("E64 {0}")]
+    /// E64: the file cannot be read whose name is shown so.
     File(String),
 }
 

@@ -1,4 +1,4 @@
-ghost use Rattle.std.specs.Prelude.{◌≡◌, ◌≢◌, ◌+◌, ◌<◌, ◌≤◌, ◌↔◌, ◌++◌, [], false, length, IfOk, OnOk, OnErr, IfSome, IfNone, IsErrOf, IsTrue, position};
+ghost use Rattle.std.specs.Prelude.{◌≡◌, ◌≢◌, ◌+◌, ◌<◌, ◌≤◌, ◌↔◌, ◌++◌, [], false, true, length, IfOk, OnOk, OnErr, IfSome, IfNone, IsErrOf, IsTrue, position};
 ghost use Rattle.std.specs.Bool.{OnFalse};
 ghost use Rattle.sct.specs.declared.lines.LinesFault.TheVariants.{Memory, Read};
 ghost use Rattle.std.specs.Io.KnownBytes.{Consumes, IsAtEnd};
@@ -38,6 +38,14 @@ impl From<Failed> for LinesFault {
     fn from(_failed: Failed) -> LinesFault {
         LinesFault::Read
     }
+}
+
+/// A line of an input, without its line feed.
+#[derive(Debug, Drop)]
+pub struct Line {
+    pub bytes: Vec<u8>,
+    /// The end of the input was seen behind it.
+    pub is_last: bool,
 }
 
 /// Cuts what a source gives into lines. Contracts see the bytes that were read and are in no line yet.
@@ -108,17 +116,20 @@ impl Lines {
     }
 
     /// The next line, without its line feed; None at the end of the input. A last line may lack its
-    /// line feed. `TooLong` where the line has more than 65,536 bytes, `Read` where the source
-    /// failed. After an error the rest of the input is not to be read.
+    /// line feed; it is the last where the end was seen behind it, and then nothing is to be read any
+    /// more. `TooLong` where the line has more than 65,536 bytes, `Read` where the source failed. After
+    /// an error the rest of the input is not to be read.
     pub fn next<R: Source>(
         &mut self,
         alloc: Global,
         source: &mut R,
-    ) -> Result<Option<Vec<u8>>, LinesFault>
+    ) -> Result<Option<Line>, LinesFault>
         ensures line { IfOk result (λ next. IfSome next (λ line. TakesLine
-            (ahead self.old (R.to_come source.old)) (ahead self.new (R.to_come source.new)) line.items)) }
-        ensures one { IfOk result (λ next. IfSome next (λ line. has_feed line.items ≡ false)) }
-        ensures short { IfOk result (λ next. IfSome next (λ line. length line.items ≤ line_limit)) }
+            (ahead self.old (R.to_come source.old)) (ahead self.new (R.to_come source.new)) line.bytes.items)) }
+        ensures one { IfOk result (λ next. IfSome next (λ line. has_feed line.bytes.items ≡ false)) }
+        ensures short { IfOk result (λ next. IfSome next (λ line. length line.bytes.items ≤ line_limit)) }
+        ensures last { IfOk result (λ next. IfSome next (λ line. line.is_last ≡ true
+            → IsAtEnd (ahead self.new (R.to_come source.new)))) }
         ensures failed { IsErrOf result LinesFault.Read
             → R.failures source.new ≡ R.failures source.old + 1 }
         ensures none_failed { result ≢ Err LinesFault.Read
@@ -134,13 +145,19 @@ impl Lines {
                 return Err(LinesFault::TooLong);
             }
             if is_whole {
-                return Ok(Some(line));
+                return Ok(Some(Line {
+                    bytes: line,
+                    is_last: false,
+                }));
             }
             if !self.refill(source)? {
                 if line.is_empty() {
                     return Ok(None);
                 }
-                return Ok(Some(line));
+                return Ok(Some(Line {
+                    bytes: line,
+                    is_last: true,
+                }));
             }
         }
     }

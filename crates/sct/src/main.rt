@@ -7,10 +7,12 @@ mod arguments;
 mod check;
 mod command;
 mod fault;
+mod fault_text;
 mod files;
 mod laws;
 mod line;
 mod lines;
+mod migrate;
 mod output;
 mod play;
 #[cfg(test)]

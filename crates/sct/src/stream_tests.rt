@@ -107,8 +107,8 @@ fn cuts_lines(rt: HostRuntime) -> Result<(), Fail> {
 
 #[test]
 fn tells_each_failing_read(rt: HostRuntime) -> Result<(), Fail> {
-    // two bytes a read: the second ends the first line, the fourth and fifth find the end
-    for (reads, output) in [(0, ""), (1, ""), (2, FIRST), (3, FIRST), (4, BOTH)] {
+    // two bytes a read: the second ends the first line, the fourth finds the end
+    for (reads, output) in [(0, ""), (1, ""), (2, FIRST), (3, FIRST)] {
         let broken = FromSlice {
             rest: b"{}\n{}",
             each: 2,
@@ -116,10 +116,11 @@ fn tells_each_failing_read(rt: HostRuntime) -> Result<(), Fail> {
         };
         expect_run(&rt, broken, 1, output, "sct: E61\n")?;
     }
+    // and none is made behind it
     let in_time = FromSlice {
         rest: b"{}\n{}",
         each: 2,
-        plan: Plan::After(5),
+        plan: Plan::After(4),
     };
     expect_run(&rt, in_time, 0, BOTH, "")
 }

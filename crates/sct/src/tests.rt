@@ -8,6 +8,7 @@ use crate::files::{FileFault, Files, HostFiles};
 use crate::play::PlayFault;
 use sc_values::{Failures, FromSlice, Plan, Sink, ToVec};
 use std::alloc::{AllocError, Global};
+use std::fs;
 use std::marker::Brand;
 use std::process::Abort;
 use std::sync::ledger::{Blank, Ledger};
@@ -15,13 +16,13 @@ use std::test::Fail;
 
 // One thread that ends at once.
 pub(crate) const ONE_EXIT: [u8; 31] = [
-    0x53, 0x43, 0x43, 0x42, 0x01, 0x00, 0x00, 0x01, 0x00, 0xff, 0xff, 0x00, 0x00, 0x00, 0x00, 0x00,
+    0x53, 0x43, 0x43, 0x42, 0x02, 0x00, 0x00, 0x01, 0x00, 0xff, 0xff, 0x00, 0x00, 0x00, 0x00, 0x00,
     0x00, 0x01, 0x00, 0x00, 0x00, 0x00, 0x00, 0x01, 0x00, 0x01, 0x00, 0x01, 0x00, 0x00, 0x00,
 ];
 
 // `fork { x = 1; } par { y = x; } join;`
 pub(crate) const TWO_THREADS: [u8; 130] = [
-    0x53, 0x43, 0x43, 0x42, 0x01, 0x02, 0x00, 0x01, 0x01, 0x01, 0x78, 0x01, 0x01, 0x01, 0x79, 0x03,
+    0x53, 0x43, 0x43, 0x42, 0x02, 0x02, 0x00, 0x01, 0x01, 0x01, 0x78, 0x01, 0x01, 0x01, 0x79, 0x03,
     0x00, 0xff, 0xff, 0x00, 0x00, 0x02, 0x00, 0x00, 0x00, 0x00, 0x00, 0x03, 0x00, 0x00, 0x00, 0x00,
     0x00, 0x00, 0x00, 0x05, 0x00, 0x00, 0x00, 0x00, 0x00, 0x07, 0x00, 0x00, 0x00, 0x01, 0x00, 0x07,
     0x00, 0x01, 0x04, 0x01, 0x00, 0x02, 0x01, 0x00, 0x02, 0x00, 0x00, 0x00, 0x00, 0x00, 0x02, 0x00,
@@ -46,6 +47,10 @@ impl Files for OneFile<'_> {
         } else {
             Err(FileFault::Named)
         }
+    }
+
+    fn store(&mut self, _alloc: Global, _name: &str, _bytes: &[u8]) -> Result<(), FileFault> {
+        Err(FileFault::Named)
     }
 }
 
@@ -221,7 +226,7 @@ fn refuses_each_cut(rt: HostRuntime) -> Result<(), Fail> {
 fn refuses_damaged_bytes(rt: HostRuntime) -> Result<(), Fail> {
     for (at, byte, errors) in [
         (0, 0x54, "sct: E22\n"),
-        (4, 2, "sct: E23\n"),
+        (4, 3, "sct: E23\n"),
         (26, 9, "sct: E25 at 26\n"),
         (25, 2, "sct: E25 at 25\n"),
         (23, 0, "sct: E39 0\n"),
@@ -375,8 +380,19 @@ fn accepts_greater_tables(rt: HostRuntime) -> Result<(), Fail> {
 
 #[test]
 fn names_a_missing_file(rt: HostRuntime) -> Result<(), Fail> {
-    for verb in ["check", "run"] {
-        expect_left(&rt, &[verb, "none"], b"", b"", 1, "", "sct: E64 none\n")?;
+    for (words, errors) in [
+        (["check", "none"].as_slice(), "sct: E64 none\n"),
+        (["run", "none"].as_slice(), "sct: E64 none\n"),
+        (["check", "--", "-none"].as_slice(), "sct: E64 -none\n"),
+        (["check", "-"].as_slice(), "sct: E64 -\n"),
+        (["check", ""].as_slice(), "sct: E64 \n"),
+        // on one line
+        (
+            ["check", "a\nb\u{7f}\u{e9}"].as_slice(),
+            "sct: E64 a?b?\u{e9}\n",
+        ),
+    ] {
+        expect_left(&rt, words, b"", b"", 1, "", errors)?;
     }
     Ok(())
 }
@@ -387,6 +403,10 @@ struct NoMemory {}
 
 impl Files for NoMemory {
     fn load(&mut self, _alloc: Global, _name: &str) -> Result<Vec<u8>, FileFault> {
+        Err(FileFault::Memory)
+    }
+
+    fn store(&mut self, _alloc: Global, _name: &str, _bytes: &[u8]) -> Result<(), FileFault> {
         Err(FileFault::Memory)
     }
 }
@@ -409,5 +429,29 @@ fn a_missing_file_of_the_system_is_named(rt: HostRuntime) -> Result<(), Fail> {
         Ok(_bytes) => panic!(rt; "a file that is not there"),
         Err(fault) => assert_eq!(rt; fault, FileFault::Named),
     }
+    Ok(())
+}
+
+// What a file of the system holds after these bytes were stored under its name.
+fn stored(alloc: Global, rt: &HostRuntime, bytes: &[u8]) -> Result<Vec<u8>, FileFault> {
+    let mut files = HostFiles::new(rt);
+    files.store(alloc, "stored.image", bytes)?;
+    files.load(alloc, "stored.image")
+}
+
+#[test]
+fn stores_whole_files(rt: HostRuntime) -> Result<(), Fail> {
+    for bytes in [b"abc".as_slice(), b"".as_slice(), b"de".as_slice()] {
+        let same = match stored(rt.alloc(), &rt, bytes) {
+            Ok(found) => found.as_slice() == bytes,
+            Err(_) => false,
+        };
+        assert!(rt; same);
+    }
+    // nothing is left beside it
+    assert!(rt; fs::remove_file(&rt, "stored.image").is_ok());
+    assert!(rt; fs::remove_file(&rt, "stored.image.new0").is_err());
+    let mut files = HostFiles::new(&rt);
+    assert!(rt; files.store(rt.alloc(), "no_such_folder/image", b"a") == Err(FileFault::Named));
     Ok(())
 }

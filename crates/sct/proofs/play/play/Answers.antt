@@ -1,12 +1,13 @@
-use Rattle.std.proofs.Common.{◌≡◌, ◌∙◌, ◌+◌, Err, ap, sym, subst, refl, rules, string_bytes}
+use Rattle.std.proofs.Common.{◌≡◌, ◌∙◌, Err, ap, sym, subst, refl, rules, string_bytes}
 use Rattle.std.specs.Io.KnownBytes.{Appends, IsAtEnd}
 use Rattle.std.proofs.lemmas.Result.{err_from_is_err_and}
 use Rattle.sc_graph.specs.Tick.{Rests, initial}
+use Rattle.bytecode.specs.Image.{Image}
 use Rattle.sct.specs.Lines.{ahead, TakesLine, IsTooLong}
 use Rattle.sct.specs.declared.lines.LinesFault.TheVariants as lines_fault
-use Rattle.sct.specs.Trace.{Shows}
-use Rattle.sct.specs.Inside.Faults.{Tells}
-use Rattle.sct.proofs.Playing.{not_begun, none_played, one_played, all_played, most_played, stopped_reading, stopped_reacting, stopped_writing}
+use Rattle.sct.specs.Trace.{Leaves, Shows, next_number}
+use Rattle.sct.specs.Inside.Faults.{Tells, unread}
+use Rattle.sct.proofs.Playing.{Played, not_begun, none_played, one_played, all_played, stopped, stopped_reading, stopped_reacting, stopped_writing}
 use Rattle.sct.proofs.play.play.Goals as goal
 
 pub returns-in_err-control-clause-fault : goal.returns-in_err-control-clause-fault
@@ -19,95 +20,137 @@ returns-in_err-lines-clause-fault g c =
     let p = err_from_is_err_and c.from_residual-in_err-lines.result c.from_residual-in_err-lines.ensures.1 in
     rw (p.1, p.2) (not_begun c.args.image.now (g.R.Source.to_come c.args.source.now) (g.W.Sink.taken c.args.sink.now))
 
-pub loop-ticks-init : goal.loop-ticks-init
-loop-ticks-init g c =
+pub returns-in_err-room-clause-fault : goal.returns-in_err-room-clause-fault
+returns-in_err-room-clause-fault g c =
+    let p = err_from_is_err_and c.from_residual-in_err-room.result c.from_residual-in_err-room.ensures.1 in
+    rw (p.1, p.2) (not_begun c.args.image.now (g.R.Source.to_come c.args.source.now) (g.W.Sink.taken c.args.sink.now))
+
+pub loop-turn-init : goal.loop-turn-init
+loop-turn-init g c =
     let same : c.program.result.now ≡ c.args.image.now.program = c.program.ensures ∙ ap (λ i. i.program) c.image.ensures.value in
     record {
       played =
           none_played c.args.image.now (g.R.Source.to_come c.args.source.now) (g.W.Sink.taken c.args.sink.now) c.in_ok-lines.lines c.in_ok-control.control
           c.in_ok-lines.ensures (c.in_ok-control.ensures.value ∙ ap initial same);
       rests = subst (λ p. Rests p c.in_ok-control.control) same c.in_ok-control.ensures.rests;
+      room = c.in_ok-room.ensures;
       none_read = refl;
       none_write = refl;
     }
 
 pub returns-in-Ok-None-clause-whole : goal.returns-in-Ok-None-clause-whole
 returns-in-Ok-None-clause-whole g c =
-    let l = c.loop-ticks in
+    let l = c.loop-turn in
     let ended : IsAtEnd (ahead l.lines (g.R.Source.to_come l.source)) = rw c.in-Ok-None.field-0-is at c.in-Ok-None.ensures.end in
-    all_played c.args.image.now (g.R.Source.to_come c.args.source.now) (ahead l.lines (g.R.Source.to_come l.source)) l.ticks l.control
+    all_played c.args.image.now (g.R.Source.to_come c.args.source.now) (ahead l.lines (g.R.Source.to_come l.source)) l.number l.control
     (g.W.Sink.taken c.args.sink.now) (g.W.Sink.taken l.sink) l.invariant.played ended
 
 pub returns-in-Err-clause-fault : goal.returns-in-Err-clause-fault
 returns-in-Err-clause-fault g c =
-    let l = c.loop-ticks in
+    let l = c.loop-turn in
+    let i = c.args.image.now in
+    let start = g.R.Source.to_come c.args.source.now in
+    let old = g.W.Sink.taken c.args.sink.now in
+    let new = g.W.Sink.taken l.sink in
     let long : c.in-Err.fault ≡ lines_fault.TooLong → IsTooLong (ahead l.lines (g.R.Source.to_come l.source)) = λ e. c.in-Err.ensures.too_long (ap Err e) in
     rw c.unread_line.ensures
-    (stopped_reading c.args.image.now (g.R.Source.to_come c.args.source.now) (ahead l.lines (g.R.Source.to_come l.source)) l.ticks l.control
-    (g.W.Sink.taken c.args.sink.now) (g.W.Sink.taken l.sink) c.in-Err.fault l.invariant.played long)
+    (subst (λ k. Leaves i start old new (unread c.in-Err.fault k)) (sym c.next_number-next.ensures)
+    (stopped_reading i start (ahead l.lines (g.R.Source.to_come l.source)) l.number l.control old new c.in-Err.fault l.invariant.played long))
 
 pub returns-in_err-after-clause-fault : goal.returns-in_err-after-clause-fault
 returns-in_err-after-clause-fault g c =
-    let l = c.loop-ticks in
+    let l = c.loop-turn in
+    let p = c.args.image.now.program in
     let fault = c.in_err-after.field-0.0 in
-    let line = c.in-Ok-Some.line.items in
-    let tells : Tells c.args.image.now.program (l.ticks + 1) line fault =
-    subst (λ bytes. Tells c.args.image.now.program (l.ticks + 1) bytes fault) c.deref.ensures.value c.in_err-after.ensures.fault in
+    let line = c.in-Ok-Some.line.bytes.items in
+    let tells : Tells p (next_number l.number) line fault =
+    subst (λ k. Tells p k line fault) c.next_number-next.ensures
+    (subst (λ bytes. Tells p c.next_number-next.result bytes fault) c.deref.ensures.value c.in_err-after.ensures.fault) in
     let takes : TakesLine (ahead l.lines (g.R.Source.to_come l.source)) (ahead c.next.new.self (g.R.Source.to_come c.next.new.source)) line = search rules in
     let exit = err_from_is_err_and c.from_residual-in_err-after.result c.from_residual-in_err-after.ensures.1 in
     rw (exit.1, exit.2)
     (stopped_reacting c.args.image.now (g.R.Source.to_come c.args.source.now) (ahead l.lines (g.R.Source.to_come l.source))
-    (ahead c.next.new.self (g.R.Source.to_come c.next.new.source)) l.ticks l.control
+    (ahead c.next.new.self (g.R.Source.to_come c.next.new.source)) l.number l.control
     (g.W.Sink.taken c.args.sink.now) (g.W.Sink.taken l.sink) line fault l.invariant.played takes tells)
 
 pub returns-then-is_err-clause-fault : goal.returns-then-is_err-clause-fault
 returns-then-is_err-clause-fault g c =
-    let l = c.loop-ticks in
+    let l = c.loop-turn in
     let i = c.args.image.now in
-    let line = c.in-Ok-Some.line.items in
+    let line = c.in-Ok-Some.line.bytes.items in
     let written = c.as_bytes.result.now in
     let after = c.in_ok-after.after in
-    let shows : Shows i (l.ticks + 1) l.control line after written =
-    subst (λ bytes. Shows i (l.ticks + 1) l.control line after bytes) (sym c.as_bytes.ensures.value)
-    (subst (λ bytes. Shows i (l.ticks + 1) l.control bytes after (string_bytes c.in_ok-after.shown)) c.deref.ensures.value c.in_ok-after.ensures.shows) in
+    let next = c.next_number-next.result in
+    let shows : Shows i (next_number l.number) l.control line after written =
+    subst (λ k. Shows i k l.control line after written) c.next_number-next.ensures
+    (subst (λ bytes. Shows i next l.control line after bytes) (sym c.as_bytes.ensures.value)
+    (subst (λ bytes. Shows i next l.control bytes after (string_bytes c.in_ok-after.shown)) c.deref.ensures.value c.in_ok-after.ensures.shows)) in
     let takes : TakesLine (ahead l.lines (g.R.Source.to_come l.source)) (ahead c.next.new.self (g.R.Source.to_come c.next.new.source)) line = search rules in
     stopped_writing i (g.R.Source.to_come c.args.source.now) (ahead l.lines (g.R.Source.to_come l.source))
-    (ahead c.next.new.self (g.R.Source.to_come c.next.new.source)) l.ticks l.control after
+    (ahead c.next.new.self (g.R.Source.to_come c.next.new.source)) l.number l.control after
     (g.W.Sink.taken c.args.sink.now) (g.W.Sink.taken l.sink) (g.W.Sink.taken c.write_all.new.sink) line written
     l.invariant.played takes shows c.write_all.ensures.some
 
-pub loop-ticks-preserved : goal.loop-ticks-preserved
-loop-ticks-preserved g c =
-    let l = c.loop-ticks in
+pub returns-then-line-clause-whole : goal.returns-then-line-clause-whole
+returns-then-line-clause-whole g c =
+    let l = c.loop-turn in
     let i = c.args.image.now in
-    let line = c.in-Ok-Some.line.items in
+    let start = g.R.Source.to_come c.args.source.now in
+    let old = g.W.Sink.taken c.args.sink.now in
+    let line = c.in-Ok-Some.line.bytes.items in
     let written = c.as_bytes.result.now in
     let after = c.in_ok-after.after in
-    let shows : Shows i (l.ticks + 1) l.control line after written =
-    subst (λ bytes. Shows i (l.ticks + 1) l.control line after bytes) (sym c.as_bytes.ensures.value)
-    (subst (λ bytes. Shows i (l.ticks + 1) l.control bytes after (string_bytes c.in_ok-after.shown)) c.deref.ensures.value c.in_ok-after.ensures.shows) in
-    let takes : TakesLine (ahead l.lines (g.R.Source.to_come l.source)) (ahead c.next.new.self (g.R.Source.to_come c.next.new.source)) line = search rules in
-    let appends : Appends (g.W.Sink.taken l.sink) (g.W.Sink.taken c.write_all.new.sink) written = search rules in
+    let next = c.next_number-next.result in
+    let ahead_now = ahead c.next.new.self (g.R.Source.to_come c.next.new.source) in
+    let taken = g.W.Sink.taken c.write_all.new.sink in
+    let shows : Shows i (next_number l.number) l.control line after written =
+    subst (λ k. Shows i k l.control line after written) c.next_number-next.ensures
+    (subst (λ bytes. Shows i next l.control line after bytes) (sym c.as_bytes.ensures.value)
+    (subst (λ bytes. Shows i next l.control bytes after (string_bytes c.in_ok-after.shown)) c.deref.ensures.value c.in_ok-after.ensures.shows)) in
+    let takes : TakesLine (ahead l.lines (g.R.Source.to_come l.source)) ahead_now line = search rules in
+    let appends : Appends (g.W.Sink.taken l.sink) taken written = search rules in
+    let played : Played i start ahead_now next after old taken =
+    subst (λ k. Played i start ahead_now k after old taken) (sym c.next_number-next.ensures)
+    (one_played i start (ahead l.lines (g.R.Source.to_come l.source)) ahead_now l.number l.control after
+    old (g.W.Sink.taken l.sink) taken line written l.invariant.played takes shows appends) in
+    let last = rw c.in-Ok-Some.field-0-is at c.in-Ok-Some.ensures.last in
+    let ended : IsAtEnd ahead_now = last c.if-line.true in
+    all_played i start ahead_now next after old taken played ended
+
+pub loop-turn-preserved : goal.loop-turn-preserved
+loop-turn-preserved g c =
+    let l = c.loop-turn in
+    let i = c.args.image.now in
+    let start = g.R.Source.to_come c.args.source.now in
+    let old = g.W.Sink.taken c.args.sink.now in
+    let line = c.in-Ok-Some.line.bytes.items in
+    let written = c.as_bytes.result.now in
+    let after = c.in_ok-after.after in
+    let next = c.next_number-next.result in
+    let ahead_now = ahead c.next.new.self (g.R.Source.to_come c.next.new.source) in
+    let taken = g.W.Sink.taken c.write_all.new.sink in
+    let shows : Shows i (next_number l.number) l.control line after written =
+    subst (λ k. Shows i k l.control line after written) c.next_number-next.ensures
+    (subst (λ bytes. Shows i next l.control line after bytes) (sym c.as_bytes.ensures.value)
+    (subst (λ bytes. Shows i next l.control bytes after (string_bytes c.in_ok-after.shown)) c.deref.ensures.value c.in_ok-after.ensures.shows)) in
+    let takes : TakesLine (ahead l.lines (g.R.Source.to_come l.source)) ahead_now line = search rules in
+    let appends : Appends (g.W.Sink.taken l.sink) taken written = search rules in
+    let played : Played i start ahead_now next after old taken =
+    subst (λ k. Played i start ahead_now k after old taken) (sym c.next_number-next.ensures)
+    (one_played i start (ahead l.lines (g.R.Source.to_come l.source)) ahead_now l.number l.control after
+    old (g.W.Sink.taken l.sink) taken line written l.invariant.played takes shows appends) in
     let none_read : g.R.Source.failures c.next.new.source ≡ g.R.Source.failures l.source = search rules in
     let none_write : g.W.Sink.failures c.write_all.new.sink ≡ g.W.Sink.failures l.sink = search rules in
     record {
-      played =
-          one_played i (g.R.Source.to_come c.args.source.now) (ahead l.lines (g.R.Source.to_come l.source))
-          (ahead c.next.new.self (g.R.Source.to_come c.next.new.source)) l.ticks l.control after
-          (g.W.Sink.taken c.args.sink.now) (g.W.Sink.taken l.sink) (g.W.Sink.taken c.write_all.new.sink) line written
-          l.invariant.played takes shows appends;
-      rests = c.in_ok-after.ensures.rests;
+      played = played;
+      rests = subst (λ (image : Image). Rests image.program after) l.invariant.room c.in_ok-after.ensures.rests;
+      room = c.in_ok-after.ensures.room;
       none_read = none_read ∙ l.invariant.none_read;
       none_write = none_write ∙ l.invariant.none_write;
     }
 
-pub returns-clause-whole : goal.returns-clause-whole
-returns-clause-whole g c =
-    let l = c.loop-ticks in
-    let test = c.loop-ticks-test.false in
-    let bound = l.auto.ticks-end in
-    let most : l.ticks ≡ 18446744073709551615 = search rules in
-    let all =
-    most_played c.args.image.now (g.R.Source.to_come c.args.source.now) (ahead l.lines (g.R.Source.to_come l.source)) l.ticks l.control
-    (g.W.Sink.taken c.args.sink.now) (g.W.Sink.taken l.sink) l.invariant.played most in
-    (all.0, sym most ∙ all.1, all.2)
+pub returns-clause-fault : goal.returns-clause-fault
+returns-clause-fault g c =
+    let l = c.loop-turn in
+    stopped c.args.image.now (g.R.Source.to_come c.args.source.now) (ahead l.lines (g.R.Source.to_come l.source)) l.number l.control
+    (g.W.Sink.taken c.args.sink.now) (g.W.Sink.taken l.sink) l.invariant.played

@@ -7,14 +7,14 @@ use Rattle.sct.proofs.play.tick.Goals as goal
 
 pub returns-clause-reacts : goal.returns-clause-reacts
 returns-clause-reacts c =
-    let image = c.args.image.now in
+    let image = c.args.room in
     let state = c.run_alone.new.self in
     let ensured = c.in_ok-state.ensures in
     let alone = c.run_alone.ensures.alone in
-    let finish = c.finish-control.ensures in
-    let history = c.finish-control.result.1.history in
+    let finish = c.hand_over-control.ensures in
+    let history = c.hand_over-control.result.1.history in
     let run = threads_of history in
-    let end = c.finish-control.result.0 in
+    let end = c.hand_over-control.result.0 in
     let same_image : state.image ≡ image = alone.image_is ∙ ap (λ s. s.image) ensured.start in
     let same_start : state.begun ≡ start image.program c.args.inputs.now c.args.control.now = alone.begun_is ∙ ap (λ s. s.begun) ensured.start in
     record {

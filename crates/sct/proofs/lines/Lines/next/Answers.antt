@@ -1,5 +1,6 @@
-use Rattle.std.proofs.Common.{◌≡◌, ◌∙◌, [], ◌<◌, sym, false, true, length, vec_len, rules}
-use Rattle.std.specs.Io.KnownBytes.{Consumes}
+use Rattle.std.proofs.Common.{◌≡◌, ◌∙◌, [], ◌<◌, sym, subst, false, true, length, vec_len, rules}
+use Rattle.std.specs.Io.KnownBytes.{Consumes, IsAtEnd}
+use Rattle.std.proofs.KnownBytes.{prepend_known-nil}
 use Rattle.sct.specs.Lines.{ahead, has_feed, line_limit}
 use Rattle.sct.proofs.Ahead.{moves_all, moved_no_feed, reads, takes, takes_last, too_long_moved, nothing_read, something_taken}
 use Rattle.sct.proofs.lines.Lines.next.Goals as goal
@@ -52,3 +53,10 @@ returns-then-len-gt-LINE_LIMIT-clause-too_long g c =
     let long : line_limit < length line = search rules in
     λ _. too_long_moved start (g.R.Source.to_come c.loop-line.source) c.loop-line.line.items c.loop-line.self line
     c.loop-line.invariant.no_feed c.in_ok-is_whole.ensures.line long c.loop-line.invariant.taken
+
+pub returns-then-not-branch-clause-last : goal.returns-then-not-branch-clause-last
+returns-then-not-branch-clause-last g c =
+    let to_come = g.R.Source.to_come c.refill.new.source in
+    let empty = nothing_read c.refill.new.self c.in_ok-refill.field-0 c.if-not-branch.true c.in_ok-refill.ensures.more.1 in
+    let ended : IsAtEnd to_come = rw c.if-not-branch.true at c.in_ok-refill.ensures.end in
+    λ _. subst (λ held. IsAtEnd (ahead held to_come)) (sym empty) (subst IsAtEnd (sym (prepend_known-nil to_come)) ended)

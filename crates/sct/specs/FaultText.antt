@@ -1,0 +1,36 @@
+-- What is printed of a fault: its number, and where it lies.
+use Rattle.std.specs.Prelude.{ℕ, List, ◌++◌, codes, map, if◌then◌else◌, string_bytes}
+use Rattle.std.specs.Char.{is_ascii_control}
+use Rattle.std.specs.Fmt.{decimal}
+use Rattle.bytecode.specs.FaultText as bytes
+use Rattle.verifier.specs.FaultText as rules
+use Rattle.sct.specs.declared.fault.Fault.{Fault}
+use Rattle.sct.specs.declared.fault.Fault.TheVariants as fault
+use Rattle.sct.specs.declared.play.PlayFault.{PlayFault}
+use Rattle.sct.specs.declared.play.PlayFault.TheVariants as play_fault
+
+-- a line is named by its number, from 1
+abbrev pub play_fault_text : PlayFault → List ℕ
+play_fault_text (play_fault.Input line) = codes "E51 line " ++ decimal line
+play_fault_text play_fault.Memory = codes "E52"
+play_fault_text play_fault.Read = codes "E61"
+play_fault_text (play_fault.NotJson line) = codes "E62 line " ++ decimal line
+play_fault_text play_fault.Write = codes "E63"
+
+abbrev pub question_mark : ℕ
+question_mark = 63
+
+-- a byte of a file's name as it is shown: control characters are shown as `?`
+abbrev pub shown_byte : ℕ → ℕ
+shown_byte byte = if is_ascii_control byte then question_mark else byte
+
+abbrev pub shown_name : List ℕ → List ℕ
+shown_name name = map shown_byte name
+
+abbrev pub fault_text : Fault → List ℕ
+fault_text fault.Memory = codes "E52"
+fault_text (fault.Image f) = bytes.fault_text f
+fault_text (fault.Rule f) = rules.refusal_text f
+fault_text (fault.Play f) = play_fault_text f
+fault_text fault.Write = codes "E63"
+fault_text (fault.File shown) = codes "E64 " ++ string_bytes shown
