@@ -7,7 +7,7 @@ use sc_graph::{NodeId, ThreadId};
 use sc_values::Value;
 use std::alloc::Global;
 use std::test::Fail;
-use tick_core::{Control, Done, Report, TickState};
+use tick_core::{Control, Done, Entry, Report, TickState};
 use verifier::Verified;
 
 // Acts, the claims of which are put behind those that were given. Fails where one is told something
@@ -38,41 +38,59 @@ fn played(
     Ok(ended(state))
 }
 
-fn has_steps(report: &Report, steps: &[(ThreadId, u8)]) -> bool {
-    let history = report.history.as_slice();
-    if history.len() != steps.len() {
+// Whether a history begins with these steps, and all further ones are of worker 0, so many of each
+// thread.
+fn has_steps(history: &[Entry], first: &[(ThreadId, u8)], alone: [usize; 3]) -> bool {
+    let Some(rest) = history.get(first.len()..) else {
         return false;
-    }
-    for (entry, (thread, worker)) in history.iter().zip(steps) {
+    };
+    for (entry, (thread, worker)) in history.iter().zip(first) {
         if entry.thread != *thread || entry.worker != *worker {
             return false;
         }
     }
-    true
+    rest.iter().all(|entry| entry.worker == 0) && are_by(rest, alone)
 }
 
-// Whether the first tick of an image, after some acts and then alone, has these threads and workers as
-// its steps, and leaves these values.
+// Whether so many entries are of each of the first three threads, and none is of another.
+fn are_by(entries: &[Entry], wanted: [usize; 3]) -> bool {
+    let mut left = wanted;
+    for entry in entries {
+        match left.get_mut(entry.thread as usize) {
+            Some(count) if *count > 0 => *count -= 1,
+            _ => return false,
+        }
+    }
+    left == [0, 0, 0]
+}
+
+// Whether the first tick of an image, after some acts and then alone, begins with these threads and
+// workers as its steps, goes on by so many steps of each thread, and leaves these values.
 fn plays_so(
     alloc: Global,
     image: &Verified,
     acts: &[(Act, Told)],
-    steps: &[(ThreadId, u8)],
+    first: &[(ThreadId, u8)],
+    alone: [usize; 3],
     values: [i32; 2],
 ) -> Result<bool, Fail> {
     let (end, report) = played(alloc, image, acts)?;
-    Ok(has_steps(&report, steps) && end.variables.as_slice() == values.map(Value::Int).as_slice())
+    Ok(
+        has_steps(report.history.as_slice(), first, alone)
+            && end.variables.as_slice() == values.map(Value::Int).as_slice(),
+    )
 }
 
 fn expect_played(
     alloc: Global,
     image: Image,
     acts: &[(Act, Told)],
-    steps: &[(ThreadId, u8)],
+    first: &[(ThreadId, u8)],
+    alone: [usize; 3],
     values: [i32; 2],
 ) -> Result<(), Fail> {
     let image = verified(alloc, image)?;
-    if plays_so(alloc, &image, acts, steps, values)? {
+    if plays_so(alloc, &image, acts, first, alone, values)? {
         Ok(())
     } else {
         Err(Fail::new("other steps or values"))
@@ -100,12 +118,13 @@ fn commits_come_in_the_order_of_the_threads(rt: HostRuntime) -> Result<(), Fail>
         (Act::Commit(2), Told::At(2)),
         (Act::Look, stands(3, -2147483648)),
     ];
-    let steps = [(0, 1), (1, 1), (2, 2), (1, 0), (2, 0), (0, 0), (0, 0)];
+    let first = [(0, 1), (1, 1), (2, 2)];
     expect_played(
         rt.alloc(),
         wrapping_sum(rt.alloc())?,
         &acts,
-        &steps,
+        &first,
+        [2, 1, 1],
         WRAPPED,
     )
 }
@@ -122,12 +141,13 @@ fn commits_come_in_the_other_order(rt: HostRuntime) -> Result<(), Fail> {
         (Act::Commit(1), Told::At(2)),
         (Act::Look, stands(3, -2147483648)),
     ];
-    let steps = [(0, 1), (2, 2), (1, 1), (1, 0), (2, 0), (0, 0), (0, 0)];
+    let first = [(0, 1), (2, 2), (1, 1)];
     expect_played(
         rt.alloc(),
         wrapping_sum(rt.alloc())?,
         &acts,
-        &steps,
+        &first,
+        [2, 1, 1],
         WRAPPED,
     )
 }
@@ -150,12 +170,13 @@ fn one_commit_closes_a_claim(rt: HostRuntime) -> Result<(), Fail> {
         (Act::RunAlone, Told::Done),
         (Act::Claim(1), Told::Over),
     ];
-    let steps = [(0, 1), (2, 2), (1, 1), (1, 0), (2, 0), (0, 0), (0, 0)];
+    let first = [(0, 1), (2, 2), (1, 1)];
     expect_played(
         rt.alloc(),
         wrapping_sum(rt.alloc())?,
         &acts,
-        &steps,
+        &first,
+        [2, 1, 1],
         WRAPPED,
     )
 }
@@ -177,12 +198,13 @@ fn a_claim_that_was_given_back_is_stale(rt: HostRuntime) -> Result<(), Fail> {
         (Act::Commit(1), Told::Stale),
         (Act::Commit(3), Told::At(2)),
     ];
-    let steps = [(0, 1), (2, 2), (1, 3), (1, 0), (2, 0), (0, 0), (0, 0)];
+    let first = [(0, 1), (2, 2), (1, 3)];
     expect_played(
         rt.alloc(),
         wrapping_sum(rt.alloc())?,
         &acts,
-        &steps,
+        &first,
+        [2, 1, 1],
         WRAPPED,
     )
 }
@@ -201,12 +223,13 @@ fn equal_claims_are_the_same(rt: HostRuntime) -> Result<(), Fail> {
         (Act::Commit(0), Told::At(0)),
         (Act::Commit(2), Told::Stale),
     ];
-    let steps = [(0, 1), (1, 0), (1, 0), (2, 0), (2, 0), (0, 0), (0, 0)];
+    let first = [(0, 1)];
     expect_played(
         rt.alloc(),
         wrapping_sum(rt.alloc())?,
         &acts,
-        &steps,
+        &first,
+        [2, 2, 2],
         WRAPPED,
     )
 }
@@ -220,12 +243,13 @@ fn running_alone_drops_claims(rt: HostRuntime) -> Result<(), Fail> {
         (Act::Look, Told::Stands(7, Value::Int(1), true)),
     ];
     // the writer goes before the reader, since its node has the greater priority
-    let steps = [(0, 0), (1, 0), (1, 0), (2, 0), (2, 0), (0, 0), (0, 0)];
+    let first = [(0, 0), (1, 0)];
     expect_played(
         rt.alloc(),
         write_and_read(rt.alloc())?,
         &acts,
-        &steps,
+        &first,
+        [2, 1, 2],
         [1, 1],
     )
 }
