@@ -1,5 +1,6 @@
 pub mod Words
 pub mod Pieces
 pub mod Tokens
+pub mod Parts
 pub mod FaultText
 pub mod Inside

@@ -2,6 +2,7 @@
 #![tactic(auto)]
 
 mod language;
+mod parts;
 mod piece;
 mod read_fault;
 mod scan;
@@ -10,6 +11,7 @@ mod token;
 mod word;
 
 pub use language::Language;
+pub use parts::{are_distinct, is_expression, is_writable};
 pub use read_fault::{Broken, ReadFault};
 pub use scan::tokens;
 pub use sign::Sign;
