@@ -1,4 +1,6 @@
+pub mod Chart
 pub mod Standing
+pub mod Rules
 pub mod Table
 pub mod Turns
 pub mod Steps

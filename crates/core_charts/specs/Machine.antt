@@ -4,7 +4,7 @@ use Rattle.std.specs.List.{list_all}
 use Rattle.sc_values.specs.Operator.{initial_value}
 use Rattle.sc_values.specs.Runs.{Machine}
 use Rattle.sc_graph.specs.Tick.{Inputs, values_at_start}
-use Rattle.core_charts.specs.declared.chart.Transition.{Transition}
+use Rattle.core_charts.specs.declared.region.Transition.{Transition}
 use Rattle.core_charts.specs.Standing.{Standing, Outside, Trying, Entering, Guarding, Within, Acting, strong_aborts, closing_tests}
 use Rattle.core_charts.specs.Table.{Table, state_at}
 use Rattle.core_charts.specs.Turns.{State, standing, is_enabled, ForkedApart}

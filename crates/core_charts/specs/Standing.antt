@@ -1,9 +1,9 @@
 -- Where a region stands, and which transitions are tested when.
 use Rattle.std.specs.Prelude.{ℕ, Bool, true, false, List, filter, ◌++◌}
-use Rattle.core_charts.specs.declared.chart.Effect.{Effect}
-use Rattle.core_charts.specs.declared.chart.Transition.{Transition}
-use Rattle.core_charts.specs.declared.chart.TransitionKind.{TransitionKind}
-use Rattle.core_charts.specs.declared.chart.TransitionKind.TheVariants as kind
+use Rattle.core_charts.specs.declared.region.Effect.{Effect}
+use Rattle.core_charts.specs.declared.region.Transition.{Transition}
+use Rattle.core_charts.specs.declared.region.TransitionKind.{TransitionKind}
+use Rattle.core_charts.specs.declared.region.TransitionKind.TheVariants as kind
 
 -- where a region stands. The tests that are still to be made in this tick are kept beside the state
 pub data Standing : Type 0 where

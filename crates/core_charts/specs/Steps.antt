@@ -8,8 +8,8 @@ use Rattle.sc_values.specs.Expr.{value as value_of}
 use Rattle.sc_values.specs.Access.{Access, Nothing, no_access}
 use Rattle.sc_values.specs.Assignment.{reads, assignment_of, access_of_assignment}
 use Rattle.sc_graph.specs.Steps.{Change, Keep, Put, changed, only_if, takes_kind}
-use Rattle.core_charts.specs.declared.chart.Effect.{Effect}
-use Rattle.core_charts.specs.declared.chart.Transition.{Transition}
+use Rattle.core_charts.specs.declared.region.Effect.{Effect}
+use Rattle.core_charts.specs.declared.region.Transition.{Transition}
 use Rattle.core_charts.specs.Standing.{Standing, Outside, Trying, Entering, Guarding, Within, Acting, closing_tests, first_closing_tests}
 use Rattle.core_charts.specs.Table.{Table, Moves, state_at, region_at}
 use Rattle.core_charts.specs.Turns.{State, standing, inside, is_enabled}

@@ -3,11 +3,11 @@
 -- the chart, which counts as a superstate that no region holds.
 use Rattle.std.specs.Prelude.{ℕ, zero, suc, ◌+◌, Bool, true, false, not, List, [], ◌∷◌, ◌++◌, filter, map, slice_get, unwrap_or, if◌then◌else◌}
 use Rattle.sc_graph.specs.declared.program.Variable.{Variable}
-use Rattle.core_charts.specs.declared.chart.Chart.{Chart}
-use Rattle.core_charts.specs.declared.chart.Transition.{Transition}
-use Rattle.core_charts.specs.declared.chart.Region.{Region}
-use Rattle.core_charts.specs.declared.chart.Region.TheOpen.{Region-F, State-F}
-use Rattle.core_charts.specs.declared.chart.Region.TheFolds.{fold-Region}
+use Rattle.core_charts.specs.Chart.{Chart}
+use Rattle.core_charts.specs.declared.region.Transition.{Transition}
+use Rattle.core_charts.specs.declared.region.Region.{Region}
+use Rattle.core_charts.specs.declared.region.Region.TheOpen.{Region-F, State-F}
+use Rattle.core_charts.specs.declared.region.Region.TheFolds.{fold-Region}
 use Rattle.core_charts.specs.Standing.{Standing, Ended, Trying, Entering, Within, at_once, strong_aborts, first_closing_tests}
 
 -- new standings of regions, from left to right

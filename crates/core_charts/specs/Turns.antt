@@ -3,7 +3,7 @@
 use Rattle.std.specs.Prelude.{ℕ, zero, suc, ◌≡◌, ◌≢◌, ◌<◌, Bool, true, false, not, ◌&&◌, ◌||◌, nat_eq, List, [], ◌∷◌, filter, length, slice_get, unwrap_or, Contains}
 use Rattle.std.specs.List.{list_all, list_any}
 use Rattle.sc_values.specs.declared.value.Value.{Value}
-use Rattle.core_charts.specs.declared.chart.Transition.{Transition}
+use Rattle.core_charts.specs.declared.region.Transition.{Transition}
 use Rattle.core_charts.specs.Standing.{Standing, Outside, Ended, Trying, Entering, Guarding, Within, Acting, is_join}
 use Rattle.core_charts.specs.Table.{Table, RegionRow, state_at, region_at}
 

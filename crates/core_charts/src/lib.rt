@@ -2,5 +2,10 @@
 #![tactic(auto)]
 
 mod chart;
+mod features;
+mod region;
+mod rules;
 
-pub use chart::{Chart, Effect, Region, State, Transition, TransitionKind};
+pub use chart::{Chart, CoreChart};
+pub use features::{DEPTH_LIMIT, Features};
+pub use region::{Effect, Region, State, Transition, TransitionKind};
