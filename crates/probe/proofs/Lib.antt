@@ -1,0 +1,5 @@
+pub mod Prefixes
+pub mod Adding
+pub mod Seats
+pub mod Few
+pub mod Last

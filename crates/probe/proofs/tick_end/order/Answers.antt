@@ -1,0 +1,6 @@
+use Rattle.std.proofs.Common.{rules}
+use Rattle.std.proofs.lemmas.Fn.{always_returns_same}
+use Rattle.probe.proofs.tick_end.order.Goals as goal
+
+pub returns-clause-ordered : goal.returns-clause-ordered
+returns-clause-ordered c = c.sort_unstable_by_key.ensures.sorted (λ o. o.name) (always_returns_same _ _ _ (λ a r q k. search rules))

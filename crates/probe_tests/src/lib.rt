@@ -1,0 +1,11 @@
+//! Tests of observers: what they see of ticks that are published, also from another thread.
+#![tactic(auto)]
+
+#[cfg(test)]
+mod looks;
+#[cfg(test)]
+mod seats;
+#[cfg(test)]
+mod shows;
+#[cfg(test)]
+mod threads;

@@ -1,0 +1,57 @@
+// An observer in a thread of its own, while ticks are published.
+use crate::shows::{end_with, shows, two_threads};
+use probe::{Observer, Publisher, TickEnd};
+use std::sync::Wait;
+use std::test::Fail;
+use std::thread::{Threads, join};
+
+const TICKS: u64 = 10_000;
+
+const LOOKS: u64 = 1_000_000;
+
+// Publishes the end of a tick so often. False: memory was refused.
+fn publish_all<R: Wait>(rt: &R, publisher: &mut Publisher, end: &TickEnd) -> bool {
+    let mut all = true;
+    for _ in 0..TICKS {
+        all = publisher.publish(rt, end.again()).is_ok() && all;
+    }
+    all
+}
+
+// Looks so often. False: it went back.
+fn watch(observer: &mut Observer) -> bool {
+    let mut last = 0;
+    let mut rises = true;
+    for _ in 0..LOOKS {
+        let ticks = observer.look().ticks;
+        rises = rises && last <= ticks;
+        last = ticks;
+    }
+    rises
+}
+
+// Whether an observer that looks while ticks are published never goes back, and ends at the last.
+fn watched<R: Threads + Wait + Sync>(
+    rt: &R,
+    publisher: &mut Publisher,
+    end: &TickEnd,
+) -> Result<bool, Fail> {
+    let mut observer = publisher.observer()?;
+    let (rises, all) = join(
+        rt,
+        || watch(&mut observer),
+        || publish_all(rt, publisher, end),
+    );
+    Ok(rises && all && shows(&mut observer, TICKS, 1))
+}
+
+#[test]
+fn an_observer_in_a_thread_never_goes_back(rt: HostRuntime) -> Result<(), Fail> {
+    let image = two_threads(rt.alloc())?;
+    let end = end_with(rt.alloc(), &image, &[1, 1])?;
+    let mut publisher = Publisher::open(&rt, rt.alloc(), &image)?;
+    let shown = watched(&rt, &mut publisher, &end);
+    publisher.close(&rt);
+    assert!(rt; shown?);
+    Ok(())
+}
