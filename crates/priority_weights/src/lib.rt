@@ -1,0 +1,4 @@
+//! The least tables of a program, or a closed walk that shows why it has none.
+#![tactic(auto)]
+
+mod ends;
