@@ -1,1 +1,5 @@
 pub mod Bits
+pub mod Asking
+pub mod Flowing
+pub mod Instantly
+pub mod Ordering

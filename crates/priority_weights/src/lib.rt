@@ -2,3 +2,9 @@
 #![tactic(auto)]
 
 mod ends;
+mod falling;
+mod flow;
+mod instants;
+mod next;
+mod order;
+mod protocol;

@@ -1,0 +1,45 @@
+//! The least table that falls along edges, or a cycle along them.
+
+ghost use Rattle.std.specs.Prelude.{◌↔◌, ℕ, IfOk, slice_index};
+ghost use Rattle.least.specs.Least.{IsLeast, IsWithin};
+ghost use Rattle.least.specs.Walks.{Falls, IsCycle};
+ghost use Rattle.priority_weights.specs.Inside.Falling.{IsFalling};
+
+use least::{Graph, Rule, cycle, least};
+use sc_graph::NodeId;
+use std::alloc::{AllocError, Global};
+
+/// The least table that falls along edges by their weights, or a cycle.
+#[derive(Drop)]
+pub(crate) enum Falling {
+    Table(Vec<u32>),
+    Cycle(Vec<NodeId>),
+}
+
+/// Of hints for the search, for speed alone: an order of the nodes in which what an edge leads to is likely
+/// to stand first, and nodes of which an edge of weight 1 is likely to lie on a cycle.
+#[derive(Clone, Copy)]
+pub(crate) struct Hints<'a> {
+    pub(crate) order: &'a [NodeId],
+    pub(crate) suspects: &'a [NodeId],
+}
+
+/// The least table, of as many numbers as there are nodes, that falls along the edges of a graph; or a cycle
+/// along them. Err: memory was refused.
+pub(crate) fn table_or_cycle<G: Graph + Rule>(
+    alloc: Global,
+    graph: &G,
+    count: u16,
+    hints: Hints,
+) -> Result<Falling, AllocError>
+    requires { (q : ℕ → ℕ) (m : ℕ) → G.Rule.keeps graph.now q m ↔ Falls (G.Graph.leads graph.now) q m }
+    ensures { IfOk result (IsFalling (G.Graph.leads graph.now) count) }
+{
+    match least(alloc, graph, count, u32::from(count), hints.order)? {
+        Some(table) => Ok(Falling::Table(table)),
+        None => match cycle(alloc, graph, count, hints.suspects, hints.order)? {
+            Some(walk) => Ok(Falling::Cycle(walk)),
+            None => unreachable!(),
+        },
+    }
+}

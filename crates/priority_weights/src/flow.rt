@@ -1,0 +1,88 @@
+//! Flow within one tick: along it ranks fall, or it closes in an instant loop.
+
+ghost use Rattle.std.specs.Prelude.{◌≡◌, ◌↔◌, ℕ, slice_index};
+ghost use Rattle.std.proofs.Common.{rules};
+ghost use Rattle.priority_weights.specs.Inside.Entries.{bits};
+ghost use Rattle.least.specs.Walks.{Falls};
+ghost use Rattle.priority_weights.specs.Inside.Next.{FlowBy, FlowLeads, IsNext, join_at_once};
+
+use crate::ends::entry_bits;
+use crate::next::{NextNodes, asked_by_next, ranked_next, successors};
+use least::{Graph, Rule};
+use sc_graph::{NodeId, Program, Step, ThreadId};
+
+// Above each rank.
+const ANY: u64 = 4294967296;
+
+/// The edges to where a thread goes on in the same tick, and over each fork whose children may all end at once,
+/// by end bits. Each has weight 1.
+#[derive(Clone, Copy)]
+pub(crate) struct Flow<'a> {
+    pub(crate) program: &'a Program,
+    pub(crate) ends: &'a [u32],
+}
+
+impl<'a> Flow<'a> {
+    // Where the edges from a node lead.
+    fn next(&self, node: NodeId) -> NextNodes
+        ensures { (n : ℕ) → IsNext result n ↔ FlowBy self.now.program.now (slice_index self.now.ends.now) node n }
+    {
+        match self.program.step(node) {
+            Some(step) => match self.join_at_once(step) {
+                Some(join) => NextNodes {
+                    first: Some(join),
+                    second: None,
+                },
+                None => successors(step),
+            },
+            None => NextNodes {
+                first: None,
+                second: None,
+            },
+        }
+    }
+
+    // The join of a fork whose children may all end at once.
+    fn join_at_once(&self, step: &Step) -> Option<NodeId>
+        ensures { result ≡ join_at_once self.now.program.now (bits (slice_index self.now.ends.now)) step.now }
+    {
+        match step {
+            Step::Fork { children, join } => {
+                if entry_bits(self.program, self.ends, children.as_slice()) {
+                    Some(*join)
+                } else {
+                    None
+                }
+            }
+            Step::Assign { .. }
+            | Step::Update { .. }
+            | Step::Cond { .. }
+            | Step::Join { .. }
+            | Step::Surf { .. }
+            | Step::Depth { .. }
+            | Step::Exit => None,
+        }
+    }
+}
+
+impl<'a> Rule for Flow<'a> {
+    ghost keeps = { λ flow. Falls (FlowLeads flow.program.now (slice_index flow.ends.now)) };
+
+    fn need(&self, table: &[u32], place: u16) -> u64 {
+        asked_by_next(table, self.next(place), 1)
+    }
+}
+
+impl<'a> Graph for Flow<'a> {
+    ghost leads = { λ flow. FlowLeads flow.program.now (slice_index flow.ends.now) };
+
+    fn towards(&self, ranks: &[u32], node: u16, below: u64) -> Option<u16> {
+        ranked_next(ranks, self.next(node), below)
+    }
+
+    fn strictly_towards(&self, ranks: &[u32], node: u16) -> Option<u16> {
+        ranked_next(ranks, self.next(node), ANY)
+    }
+
+    ghost light = { λ flow m n w edge. Prim.search rules };
+}
