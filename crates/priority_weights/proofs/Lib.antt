@@ -3,3 +3,5 @@ pub mod Asking
 pub mod Flowing
 pub mod Instantly
 pub mod Ordering
+pub mod Sums
+pub mod Chains
