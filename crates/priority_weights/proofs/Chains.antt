@@ -79,8 +79,8 @@ part of up threads tree u before upto ks b marks (suc f) y lt = elim (same_or_no
     level : of y ≡ of u → sum_over (λ k. reach of up (suc f) k (marks k) y) ks + reach of up (suc f) (of u) before y + mark (nat_eq y u) ≤ reach of up (suc f) (of u) upto y
     level e =
         let kids = over_zero (λ k. reach of up (suc f) k (marks k) y) ks
-            (all_map (λ k. (of u < k) × (up k ≡ Some u)) (λ k. reach of up (suc f) k (marks k) y ≡ 0)
-            (λ k h. let less = h.0 in reach_none of up threads tree (suc f) k (marks k) y (omega (arith, less, e))) ks b.under) in
+        (all_map (λ k. (of u < k) × (up k ≡ Some u)) (λ k. reach of up (suc f) k (marks k) y ≡ 0)
+        (λ k h. let less = h.0 in reach_none of up threads tree (suc f) k (marks k) y (omega (arith, less, e))) ks b.under) in
         let first = reach_here of up f (of u) before y e in
         let second = reach_here of up f (of u) upto y e in
         elim (same_or_not y u) [
@@ -118,8 +118,8 @@ part of up threads tree u before upto ks b marks (suc f) y lt = elim (same_or_no
     lower : of y ≢ of u → ((z : ℕ) → of z < f → sum_over (λ k. reach of up f k (marks k) z) ks + reach of up f (of u) before z + mark (nat_eq z u) ≤ reach of up f (of u) upto z) → (o : Option ℕ) → up (of y) ≡ o → sum_over (λ k. reach of up (suc f) k (marks k) y) ks + reach of up (suc f) (of u) before y + mark (nat_eq y u) ≤ reach of up (suc f) (of u) upto y
     lower ne on None e =
         let kids = over_zero (λ k. reach of up (suc f) k (marks k) y) ks
-            (all_map (λ k. (of u < k) × (up k ≡ Some u)) (λ k. reach of up (suc f) k (marks k) y ≡ 0)
-            (λ k h. reach_above of up f k (marks k) y (λ same. (let P : ℕ → Type 0 = λ x. up x ≡ None in let is = subst P same e in let has = h.1 in cc)) ∙ ap (at_some (reach of up f k (marks k))) e) ks b.under) in
+        (all_map (λ k. (of u < k) × (up k ≡ Some u)) (λ k. reach of up (suc f) k (marks k) y ≡ 0)
+        (λ k h. reach_above of up f k (marks k) y (λ same. (let P : ℕ → Type 0 = λ x. up x ≡ None in let is = subst P same e in let has = h.1 in cc)) ∙ ap (at_some (reach of up f k (marks k))) e) ks b.under) in
         let first = reach_above of up f (of u) before y ne ∙ ap (at_some (reach of up f (of u) before)) e in
         let at : mark (nat_eq y u) ≡ 0 = ap mark (eq_false y u (λ is. ne (ap of is))) in
         omega (arith, kids, first, at)
@@ -133,7 +133,7 @@ part of up threads tree u before upto ks b marks (suc f) y lt = elim (same_or_no
               let P : ℕ → Type 0 = λ x. up (of y) ≡ Some x in
               let to : up (of y) ≡ Some u = subst P is e in
               let kids = over_le (λ k. reach of up (suc f) k (marks k) y) (λ k. mark (nat_eq (of y) k)) ks
-                  (all_map (λ k. (of u < k) × (up k ≡ Some u)) (λ k. reach of up (suc f) k (marks k) y ≤ mark (nat_eq (of y) k)) (under_it to) ks b.under) in
+              (all_map (λ k. (of u < k) × (up k ≡ Some u)) (λ k. reach of up (suc f) k (marks k) y ≤ mark (nat_eq (of y) k)) (under_it to) ks b.under) in
               let once = apart_once (of y) ks b.apart in
               let c = met of up u f before z is (omega (arith, less, lt)) in
               let d = met of up u f upto z is (omega (arith, less, lt)) in
@@ -142,7 +142,7 @@ part of up threads tree u before upto ks b marks (suc f) y lt = elim (same_or_no
               omega (arith, kids, once, first, second, at, c, d, c', d')
           | inr not ↦
               let kids = over_le (λ k. reach of up (suc f) k (marks k) y) (λ k. reach of up f k (marks k) z) ks
-                  (all_map (λ k. (of u < k) × (up k ≡ Some u)) (λ k. reach of up (suc f) k (marks k) y ≤ reach of up f k (marks k) z) (other ne z e not) ks b.under) in
+              (all_map (λ k. (of u < k) × (up k ≡ Some u)) (λ k. reach of up (suc f) k (marks k) y ≤ reach of up f k (marks k) z) (other ne z e not) ks b.under) in
               let rest = on z (omega (arith, less, lt)) in
               omega (arith, kids, first, second, at, rest)
         ]
@@ -157,5 +157,5 @@ parts of up threads tree u before upto ks b marks n lt =
     let all = total_add (λ y. sum_over (λ k. reach of up threads k (marks k) y) ks + reach of up threads (of u) before y) (λ y. mark (nat_eq y u)) n in
     let once = total_once u n lt in
     let le = total_le (λ y. sum_over (λ k. reach of up threads k (marks k) y) ks + reach of up threads (of u) before y + mark (nat_eq y u)) (reach of up threads (of u) upto) n
-        (λ y below. part of up threads tree u before upto ks b marks threads y (tree.small y)) in
+    (λ y below. part of up threads tree u before upto ks b marks threads y (tree.small y)) in
     omega (arith, kids, both, all, once, le)

@@ -5,3 +5,5 @@ pub mod Instantly
 pub mod Ordering
 pub mod Sums
 pub mod Chains
+pub mod Weighing
+pub mod Rooms

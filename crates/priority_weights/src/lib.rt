@@ -8,3 +8,4 @@ mod instants;
 mod next;
 mod order;
 mod protocol;
+mod weights;

@@ -31,3 +31,30 @@ step_bit p e step.Exit = true
 -- the end-bit rule at a node
 pub record BitKept (p : Program) (q : ℕ → ℕ) (n : ℕ) : Type 0 where
   pub kept : (s : Step) → step_at p n ≡ Some s → step_bit p (bits q) s ≡ true → 0 < q n
+
+abbrev pub entry_number : (ℕ → ℕ) → Option ℕ → ℕ
+entry_number w None = 0
+entry_number w (Some n) = w n
+
+abbrev pub entry_sum : Program → (ℕ → ℕ) → List ℕ → ℕ
+entry_sum p w [] = 0
+entry_sum p w (k ∷ children) = entry_number w (entry_of p k) + entry_sum p w children
+
+-- the weight of a fork's join, where its children may all end at once
+abbrev pub join_weight : Program → (ℕ → Bool) → (ℕ → ℕ) → List ℕ → ℕ → ℕ
+join_weight p e w children join = if entry_bits p e children then w join else 0
+
+-- what a step asks of the weight of its node
+abbrev pub step_weight : Program → (ℕ → Bool) → (ℕ → ℕ) → Step → ℕ
+step_weight p e w (step.Assign x code next) = 1 + w next
+step_weight p e w (step.Update x f code next) = 1 + w next
+step_weight p e w (step.Cond code on_true on_false) = 1 + max (w on_true) (w on_false)
+step_weight p e w (step.Fork children join) = 1 + entry_sum p w children + join_weight p e w children join
+step_weight p e w (step.Join next) = 1 + w next
+step_weight p e w (step.Surf depth) = 1
+step_weight p e w (step.Depth next) = 1 + w next
+step_weight p e w step.Exit = 1
+
+-- the step-weight rule at a node, by these end bits
+pub record WeightKept (p : Program) (e : ℕ → Bool) (w : ℕ → ℕ) (n : ℕ) : Type 0 where
+  pub kept : (s : Step) → step_at p n ≡ Some s → step_weight p e w s ≤ w n
