@@ -5,43 +5,47 @@ use Rattle.sc_values.specs.Operator.{initial_value}
 use Rattle.sc_values.specs.Runs.{Machine}
 use Rattle.sc_graph.specs.Tick.{Inputs, values_at_start}
 use Rattle.core_charts.specs.declared.region.Transition.{Transition}
-use Rattle.core_charts.specs.Standing.{Standing, Outside, Trying, Entering, Guarding, Within, Acting, strong_aborts, closing_tests}
-use Rattle.core_charts.specs.Table.{Table, state_at}
-use Rattle.core_charts.specs.Turns.{State, standing, is_enabled, ForkedApart}
+use Rattle.core_charts.specs.declared.standing.Standing.{Standing}
+use Rattle.core_charts.specs.declared.standing.Standing.TheVariants as at
+use Rattle.core_charts.specs.declared.standing.Configuration.{Configuration}
+use Rattle.core_charts.specs.declared.table.Table.{Table}
+use Rattle.core_charts.specs.Standing.{strong_aborts, closing_tests}
+use Rattle.core_charts.specs.Table.{state_at}
+use Rattle.core_charts.specs.Turns.{standing_of, is_enabled, ForkedApart}
 use Rattle.core_charts.specs.Steps.{step, moved, access_of}
 
 -- region r is thread r
 abbrev pub machine : Table → Machine
 machine k =
     record {
-      Configuration = State;
+      Configuration = Configuration;
       enabled = is_enabled k;
       step = step k;
-      access = λ c r. access_of (standing c r);
+      access = λ c r. access_of (standing_of c r);
       ForkedApart = ForkedApart k;
     }
 
 -- what stands before the first tick: all variables `false` or 0, no region entered
-abbrev pub initial : Table → State
+abbrev pub initial : Table → Configuration
 initial k =
     record {
       variables = map (λ x. initial_value x.kind) k.variables;
-      regions = Outside ∷ map (λ r. Outside) k.regions;
+      regions = at.Outside ∷ map (λ r. at.Outside) k.regions;
     }
 
 -- in a superstate at the start of a tick: strong aborts come first, where it has some
 abbrev pub guarded_first : ℕ → List Transition → List Transition → Standing
-guarded_first s [] closing = Within s closing
-guarded_first s (t ∷ strong) closing = Guarding s (t ∷ strong)
+guarded_first s [] closing = at.Within s closing
+guarded_first s (t ∷ strong) closing = at.Guarding s (t ∷ strong)
 
 -- a simple state tests all its transitions, a superstate all its aborts
 abbrev pub woken : Table → Standing → Standing
-woken k (Trying s tests) = Trying s (state_at k s).transitions
-woken k (Within s tests) = guarded_first s (strong_aborts (state_at k s).transitions) (closing_tests (state_at k s).transitions)
+woken k (at.Trying s tests) = at.Trying s (state_at k s).transitions
+woken k (at.Within s tests) = guarded_first s (strong_aborts (state_at k s).transitions) (closing_tests (state_at k s).transitions)
 woken k other = other
 
 abbrev pub is_outside : Standing → Bool
-is_outside Outside = true
+is_outside at.Outside = true
 is_outside other = false
 
 abbrev pub regions_at_start : Table → Bool → List Standing → List Standing
@@ -49,7 +53,7 @@ regions_at_start k true regions = moved k.opened regions
 regions_at_start k false regions = map (woken k) regions
 
 -- the start of a tick: inputs get their values; in the first tick, when no region is entered yet, those of the chart are
-abbrev pub start : Table → Inputs → State → State
+abbrev pub start : Table → Inputs → Configuration → Configuration
 start k inputs c =
     record {
       variables = values_at_start inputs k.variables c.variables;
@@ -57,13 +61,13 @@ start k inputs c =
     }
 
 abbrev pub stands_in : Standing → ℕ → Bool
-stands_in (Trying u tests) s = nat_eq u s
-stands_in (Entering u tests) s = nat_eq u s
-stands_in (Guarding u tests) s = nat_eq u s
-stands_in (Within u tests) s = nat_eq u s
-stands_in (Acting u effects target) s = nat_eq u s
+stands_in (at.Trying u tests) s = nat_eq u s
+stands_in (at.Entering u tests) s = nat_eq u s
+stands_in (at.Guarding u tests) s = nat_eq u s
+stands_in (at.Within u tests) s = nat_eq u s
+stands_in (at.Acting u effects target) s = nat_eq u s
 stands_in other s = false
 
 -- whether some region stands in state s
-abbrev pub is_active : Table → State → ℕ → Bool
-is_active k c s = stands_in (standing c (state_at k s).holder) s
+abbrev pub is_active : Table → Configuration → ℕ → Bool
+is_active k c s = stands_in (standing_of c (state_at k s).holder) s

@@ -1,25 +1,8 @@
--- Where a region stands, and which transitions are tested when.
-use Rattle.std.specs.Prelude.{ℕ, Bool, true, false, List, filter, ◌++◌}
-use Rattle.core_charts.specs.declared.region.Effect.{Effect}
+-- Which transitions are tested when.
+use Rattle.std.specs.Prelude.{Bool, true, false, List, filter, ◌++◌}
 use Rattle.core_charts.specs.declared.region.Transition.{Transition}
 use Rattle.core_charts.specs.declared.region.TransitionKind.{TransitionKind}
 use Rattle.core_charts.specs.declared.region.TransitionKind.TheVariants as kind
-
--- where a region stands. The tests that are still to be made in this tick are kept beside the state
-pub data Standing : Type 0 where
-  -- not entered
-  Outside : Standing
-  Ended : Standing
-  -- in a simple state, with these tests to make; with none it waits
-  Trying : (s : ℕ) (tests : List Transition) → Standing
-  -- come to a superstate: strong aborts are tested before its regions are entered
-  Entering : (s : ℕ) (tests : List Transition) → Standing
-  -- in a superstate of which strong aborts are tested before anything inside it steps
-  Guarding : (s : ℕ) (tests : List Transition) → Standing
-  -- in a superstate whose inside has the turn; when nobody inside can step, these are tested
-  Within : (s : ℕ) (tests : List Transition) → Standing
-  -- on a transition out of a state, with these effects to do before its target is entered
-  Acting : (s : ℕ) (effects : List Effect) (target : ℕ) → Standing
 
 abbrev pub is_strong : TransitionKind → Bool
 is_strong kind.Strong = true

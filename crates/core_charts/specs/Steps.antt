@@ -10,19 +10,28 @@ use Rattle.sc_values.specs.Assignment.{reads, assignment_of, access_of_assignmen
 use Rattle.sc_graph.specs.Steps.{Change, Keep, Put, changed, only_if, takes_kind}
 use Rattle.core_charts.specs.declared.region.Effect.{Effect}
 use Rattle.core_charts.specs.declared.region.Transition.{Transition}
-use Rattle.core_charts.specs.Standing.{Standing, Outside, Trying, Entering, Guarding, Within, Acting, closing_tests, first_closing_tests}
-use Rattle.core_charts.specs.Table.{Table, Moves, state_at, region_at}
-use Rattle.core_charts.specs.Turns.{State, standing, inside, is_enabled}
+use Rattle.core_charts.specs.declared.standing.Standing.{Standing}
+use Rattle.core_charts.specs.declared.standing.Standing.TheVariants as at
+use Rattle.core_charts.specs.declared.standing.Move.{Move}
+use Rattle.core_charts.specs.declared.standing.Configuration.{Configuration}
+use Rattle.core_charts.specs.declared.table.Table.{Table}
+use Rattle.core_charts.specs.Standing.{closing_tests, first_closing_tests}
+use Rattle.core_charts.specs.Table.{state_at, region_at}
+use Rattle.core_charts.specs.Turns.{standing_of, inside, is_enabled}
+
+-- region r comes to stand there
+abbrev pub to : ℕ → Standing → Move
+to r s = record { region = r; standing = s }
 
 pub record Deed : Type 0 where
   pub change : Change
-  pub moves : Moves
+  pub moves : List Move
 
-abbrev pub moved : Moves → List Standing → List Standing
+abbrev pub moved : List Move → List Standing → List Standing
 moved [] regions = regions
-moved (m ∷ moves) regions = moved moves (slice_set regions m.0 m.1)
+moved (m ∷ moves) regions = moved moves (slice_set regions m.region m.standing)
 
-abbrev pub after : Deed → State → State
+abbrev pub after : Deed → Configuration → Configuration
 after d c = record { variables = changed d.change c.variables; regions = moved d.moves c.regions }
 
 -- a missing trigger is true
@@ -39,60 +48,60 @@ abbrev pub state_in : Table → ℕ → ℕ → ℕ
 state_in k r place = unwrap_or (slice_get (region_at k r).states place) 0
 
 -- all that is inside is dropped, without a step
-abbrev pub dropped : Table → ℕ → Moves
-dropped k s = map (λ r. (r, Outside)) (inside k s)
+abbrev pub dropped : Table → ℕ → List Move
+dropped k s = map (λ r. to r at.Outside) (inside k s)
 
 -- goes on with the effects of a transition out of state s, or enters its target
-abbrev pub acts : Table → ℕ → ℕ → List Effect → ℕ → Moves
+abbrev pub acts : Table → ℕ → ℕ → List Effect → ℕ → List Move
 acts k r s [] target = (state_at k (state_in k r target)).entered
-acts k r s (e ∷ effects) target = (r, Acting s (e ∷ effects) target) ∷ []
+acts k r s (e ∷ effects) target = to r (at.Acting s (e ∷ effects) target) ∷ []
 
 -- takes a transition out of state s
-abbrev pub taken : Table → ℕ → ℕ → Transition → Moves
+abbrev pub taken : Table → ℕ → ℕ → Transition → List Move
 taken k r s t = dropped k s ++ acts k r s t.effects t.target
 
 -- a test: where it is true its transition is taken, else these moves are made
-abbrev pub tested : Table → State → ℕ → ℕ → Transition → Moves → Option Deed
+abbrev pub tested : Table → Configuration → ℕ → ℕ → Transition → List Move → Option Deed
 tested k c r s t otherwise =
     option_map (λ holds. record { change = Keep; moves = if holds then taken k r s t else otherwise })
     (verdict c.variables t.trigger)
 
 -- the regions of a superstate are entered, when no strong abort was taken
-abbrev pub entering_on : Table → ℕ → ℕ → List Transition → Moves
-entering_on k r s [] = (r, Within s (first_closing_tests (state_at k s).transitions)) ∷ (state_at k s).opened
-entering_on k r s (t ∷ tests) = (r, Entering s (t ∷ tests)) ∷ []
+abbrev pub entering_on : Table → ℕ → ℕ → List Transition → List Move
+entering_on k r s [] = to r (at.Within s (first_closing_tests (state_at k s).transitions)) ∷ (state_at k s).opened
+entering_on k r s (t ∷ tests) = to r (at.Entering s (t ∷ tests)) ∷ []
 
 -- the inside has its turn, when no strong abort was taken
-abbrev pub guarding_on : Table → ℕ → ℕ → List Transition → Moves
-guarding_on k r s [] = (r, Within s (closing_tests (state_at k s).transitions)) ∷ []
-guarding_on k r s (t ∷ tests) = (r, Guarding s (t ∷ tests)) ∷ []
+abbrev pub guarding_on : Table → ℕ → ℕ → List Transition → List Move
+guarding_on k r s [] = to r (at.Within s (closing_tests (state_at k s).transitions)) ∷ []
+guarding_on k r s (t ∷ tests) = to r (at.Guarding s (t ∷ tests)) ∷ []
 
 abbrev pub effected : Table → ℕ → ℕ → Effect → List Effect → ℕ → Value → Option Deed
 effected k r s e effects target v =
     only_if (takes_kind (option_map (λ x. x.kind) (slice_get k.variables e.variable)) (kind_of v))
     (Some (record { change = Put e.variable v; moves = acts k r s effects target }))
 
-abbrev pub deed_of : Table → State → ℕ → Standing → Option Deed
-deed_of k c r (Trying s (t ∷ tests)) = tested k c r s t ((r, Trying s tests) ∷ [])
-deed_of k c r (Entering s (t ∷ tests)) = tested k c r s t (entering_on k r s tests)
-deed_of k c r (Guarding s (t ∷ tests)) = tested k c r s t (guarding_on k r s tests)
-deed_of k c r (Within s (t ∷ tests)) = tested k c r s t ((r, Within s tests) ∷ [])
-deed_of k c r (Acting s (e ∷ effects) target) =
+abbrev pub deed_of : Table → Configuration → ℕ → Standing → Option Deed
+deed_of k c r (at.Trying s (t ∷ tests)) = tested k c r s t (to r (at.Trying s tests) ∷ [])
+deed_of k c r (at.Entering s (t ∷ tests)) = tested k c r s t (entering_on k r s tests)
+deed_of k c r (at.Guarding s (t ∷ tests)) = tested k c r s t (guarding_on k r s tests)
+deed_of k c r (at.Within s (t ∷ tests)) = tested k c r s t (to r (at.Within s tests) ∷ [])
+deed_of k c r (at.Acting s (e ∷ effects) target) =
     option_and_then (effected k r s e effects target) (value_of e.value c.variables)
 deed_of k c r other = None
 
 -- None where the region isn't enabled or its step is undefined
-abbrev pub step : Table → ℕ → State → Option State
-step k r c = only_if (is_enabled k c r) (option_map (λ d. after d c) (deed_of k c r (standing c r)))
+abbrev pub step : Table → ℕ → Configuration → Option Configuration
+step k r c = only_if (is_enabled k c r) (option_map (λ d. after d c) (deed_of k c r (standing_of c r)))
 
 abbrev pub access_of_trigger : Option Expr → Access
 access_of_trigger None = no_access
 access_of_trigger (Some e) = record { reads = reads e; writes = Nothing }
 
 abbrev pub access_of : Standing → Access
-access_of (Trying s (t ∷ tests)) = access_of_trigger t.trigger
-access_of (Entering s (t ∷ tests)) = access_of_trigger t.trigger
-access_of (Guarding s (t ∷ tests)) = access_of_trigger t.trigger
-access_of (Within s (t ∷ tests)) = access_of_trigger t.trigger
-access_of (Acting s (e ∷ effects) target) = access_of_assignment e.variable (assignment_of e.variable e.value)
+access_of (at.Trying s (t ∷ tests)) = access_of_trigger t.trigger
+access_of (at.Entering s (t ∷ tests)) = access_of_trigger t.trigger
+access_of (at.Guarding s (t ∷ tests)) = access_of_trigger t.trigger
+access_of (at.Within s (t ∷ tests)) = access_of_trigger t.trigger
+access_of (at.Acting s (e ∷ effects) target) = access_of_assignment e.variable (assignment_of e.variable e.value)
 access_of other = no_access

@@ -1,174 +1,191 @@
 -- A chart as a table. States are numbered from 0 in the order of the text. Regions are numbered from 1, each before
 -- what lies inside it and what lies inside its initial state before what lies inside its other states; 0 stands for
 -- the chart, which counts as a superstate that no region holds.
-use Rattle.std.specs.Prelude.{ℕ, zero, suc, ◌+◌, Bool, true, false, not, List, [], ◌∷◌, ◌++◌, filter, map, slice_get, unwrap_or, if◌then◌else◌}
+use Rattle.std.specs.Prelude.{ℕ, zero, suc, ◌+◌, Bool, true, false, List, [], ◌∷◌, ◌++◌, map, slice_get, unwrap_or, if◌then◌else◌}
 use Rattle.sc_graph.specs.declared.program.Variable.{Variable}
-use Rattle.core_charts.specs.Chart.{Chart}
 use Rattle.core_charts.specs.declared.region.Transition.{Transition}
 use Rattle.core_charts.specs.declared.region.Region.{Region}
 use Rattle.core_charts.specs.declared.region.Region.TheOpen.{Region-F, State-F}
-use Rattle.core_charts.specs.declared.region.Region.TheFolds.{fold-Region}
-use Rattle.core_charts.specs.Standing.{Standing, Ended, Trying, Entering, Within, at_once, strong_aborts, first_closing_tests}
+use Rattle.core_charts.specs.declared.region.Region.TheFolds.{fold-Region, fold-State}
+use Rattle.core_charts.specs.declared.region.State.{State}
+use Rattle.core_charts.specs.declared.standing.Move.{Move}
+use Rattle.core_charts.specs.declared.standing.Standing.TheVariants as standing
+use Rattle.core_charts.specs.declared.table.StateRow.{StateRow}
+use Rattle.core_charts.specs.declared.table.RegionRow.{RegionRow}
+use Rattle.core_charts.specs.declared.table.Table.{Table}
+use Rattle.core_charts.specs.declared.table.Scene.{Scene}
+use Rattle.core_charts.specs.declared.table.Parts.{Parts}
+use Rattle.core_charts.specs.declared.table.Inner.{Inner}
+use Rattle.core_charts.specs.Chart.{Chart}
+use Rattle.core_charts.specs.Standing.{at_once, strong_aborts, first_closing_tests}
 
--- new standings of regions, from left to right
-abbrev pub Moves : Type 0
-Moves = List (ℕ × Standing)
-
--- a state: the region that holds it, its own regions, its transitions, and what entering it makes of the region that
--- holds it and of those inside; and what entering its regions makes of these
-pub record StateRow : Type 0 where
-  pub holder : ℕ
-  pub regions : List ℕ
-  pub transitions : List Transition
-  pub entered : Moves
-  pub opened : Moves
-
--- a region: the superstates around it, the innermost first, and its states
-pub record RegionRow : Type 0 where
-  pub around : List ℕ
-  pub states : List ℕ
-
-pub record Table : Type 0 where
-  pub variables : List Variable
-  pub states : List StateRow
-  -- from that of number 1 on
-  pub regions : List RegionRow
-  -- what entering the chart's regions makes of them
-  pub opened : Moves
-
--- where a piece of a chart stands: the numbers of the next state and of the next region, the region that holds it,
--- and the superstates around it, the innermost first
-pub record Scene : Type 0 where
-  pub state : ℕ
-  pub region : ℕ
-  pub holder : ℕ
-  pub around : List ℕ
-
--- what a state, or a region, with all that is in it gives: how many states and regions, their rows, and the moves by
--- which it is entered
+-- a state, or a region, with all that is in it: how many states and regions it has, and what it gives where it stands
 pub record Piece : Type 0 where
   pub is_initial : Bool
   pub states : ℕ
   pub regions : ℕ
-  pub state_rows : Scene → List StateRow
-  pub region_rows : Scene → List RegionRow
-  pub entered : Scene → Moves
+  pub parts : Scene → Parts
 
-abbrev pub sum_of : (Piece → ℕ) → List Piece → ℕ
-sum_of f [] = 0
-sum_of f (p ∷ pieces) = f p + sum_of f pieces
+abbrev pub states_in : List Piece → ℕ
+states_in [] = 0
+states_in (p ∷ pieces) = p.states + states_in pieces
 
--- a piece and where it stands
-abbrev pub Placed : Type 0
-Placed = Piece × Scene
+abbrev pub regions_in : List Piece → ℕ
+regions_in [] = 0
+regions_in (p ∷ pieces) = p.regions + regions_in pieces
 
--- what pieces give, one behind the other
-abbrev pub gathered : {A : Type 0} → (Placed → List A) → List Placed → List A
-gathered f [] = []
-gathered f (x ∷ placed) = f x ++ gathered f placed
+abbrev pub nothing : Parts
+nothing = record { states = []; regions = []; entered = [] }
 
-abbrev pub state_rows_of : List Placed → List StateRow
-state_rows_of = gathered (λ x. x.0.state_rows x.1)
+abbrev pub both : Parts → Parts → Parts
+both a b = record { states = a.states ++ b.states; regions = a.regions ++ b.regions; entered = a.entered ++ b.entered }
 
-abbrev pub region_rows_of : List Placed → List RegionRow
-region_rows_of = gathered (λ x. x.0.region_rows x.1)
+-- where the next region of the superstate stands
+abbrev pub behind : Piece → Scene → Scene
+behind p at = record at { state = at.state + p.states; region = at.region + p.regions }
 
-abbrev pub moves_of : List Placed → Moves
-moves_of = gathered (λ x. x.0.entered x.1)
+-- the regions of a superstate, side by side
+abbrev pub side_by_side : List Piece → Scene → Parts
+side_by_side [] at = nothing
+side_by_side (p ∷ regions) at = both (p.parts at) (side_by_side regions (behind p at))
 
--- regions of one superstate, side by side
-abbrev pub side_by_side : Scene → List Piece → List Placed
-side_by_side at [] = []
-side_by_side at (p ∷ regions) =
-    (p, at) ∷ side_by_side (record at { state = at.state + p.states; region = at.region + p.regions }) regions
+-- their numbers
+abbrev pub region_numbers : List Piece → ℕ → List ℕ
+region_numbers [] n = []
+region_numbers (p ∷ regions) n = n ∷ region_numbers regions (n + p.regions)
 
 -- what is inside a superstate of this scene
 abbrev pub within : Scene → Scene
 within at = record at { state = suc at.state; around = at.state ∷ at.around }
 
+-- what entering a superstate makes of the region that holds it: strong aborts first, where some are immediate
+abbrev pub come_to : ℕ → ℕ → List Transition → List Transition → List Move → List Move
+come_to r s [] closing opened = record { region = r; standing = standing.Within s closing } ∷ opened
+come_to r s (t ∷ strong) closing opened = record { region = r; standing = standing.Entering s (t ∷ strong) } ∷ []
+
+abbrev pub entered_superstate : Scene → List Transition → List Move → List Move
+entered_superstate at transitions opened =
+    come_to at.holder at.state (at_once (strong_aborts transitions)) (first_closing_tests transitions) opened
+
 abbrev pub is_superstate : List Piece → Bool
 is_superstate [] = false
 is_superstate (p ∷ regions) = true
 
--- what entering a superstate makes of the region that holds it: strong aborts first, where some are immediate
-abbrev pub come_to : ℕ → ℕ → List Transition → List Transition → Moves → Moves
-come_to r s [] closing opened = (r, Within s closing) ∷ opened
-come_to r s (t ∷ strong) closing opened = (r, Entering s (t ∷ strong)) ∷ []
+-- what entering a state makes of regions, by whether it is final and whether it is a superstate: a final one ends its
+-- region, a simple one tests its immediate transitions
+abbrev pub entered_state : Bool → Bool → Scene → List Transition → List Move → List Move
+entered_state true super at transitions opened = record { region = at.holder; standing = standing.Ended } ∷ []
+entered_state false false at transitions opened =
+    record { region = at.holder; standing = standing.Trying at.state (at_once transitions) } ∷ []
+entered_state false true at transitions opened = entered_superstate at transitions opened
 
-abbrev pub entered_state : State-F Piece Piece → Scene → Moves → Moves
-entered_state s at opened =
-    if s.is_final then (at.holder, Ended) ∷ []
-    else (if is_superstate s.regions
-    then come_to at.holder at.state (at_once (strong_aborts s.transitions)) (first_closing_tests s.transitions) opened
-    else (at.holder, Trying at.state (at_once s.transitions)) ∷ [])
+abbrev pub state_row : State-F Piece Piece → Scene → List Move → StateRow
+state_row s at opened =
+    record {
+      holder = at.holder;
+      regions = region_numbers s.regions at.region;
+      transitions = s.transitions;
+      entered = entered_state s.is_final (is_superstate s.regions) at s.transitions opened;
+      opened = opened;
+    }
+
+-- a state, over what is inside it
+abbrev pub state_over : State-F Piece Piece → Scene → Parts → Parts
+state_over s at inside =
+    record {
+      states = state_row s at inside.entered ∷ inside.states;
+      regions = inside.regions;
+      entered = entered_state s.is_final (is_superstate s.regions) at s.transitions inside.entered;
+    }
 
 abbrev pub state_piece : State-F Piece Piece → Piece
 state_piece s =
     record {
       is_initial = s.is_initial;
-      states = suc (sum_of (λ p. p.states) s.regions);
-      regions = sum_of (λ p. p.regions) s.regions;
-      state_rows = λ at.
-          record {
-            holder = at.holder;
-            regions = map (λ x. x.1.region) (side_by_side (within at) s.regions);
-            transitions = s.transitions;
-            entered = entered_state s at (moves_of (side_by_side (within at) s.regions));
-            opened = moves_of (side_by_side (within at) s.regions);
-          } ∷ state_rows_of (side_by_side (within at) s.regions);
-      region_rows = λ at. region_rows_of (side_by_side (within at) s.regions);
-      entered = λ at. entered_state s at (moves_of (side_by_side (within at) s.regions));
+      states = suc (states_in s.regions);
+      regions = regions_in s.regions;
+      parts = λ at. state_over s at (side_by_side s.regions (within at));
     }
 
--- the states of a region in the order of the text. What lies inside the initial state has the first of the regions'
--- numbers, what lies inside the others those that come then
-abbrev pub in_region : ℕ → ℕ → Scene → List Piece → List Placed
-in_region first next at [] = []
-in_region first next at (p ∷ states) =
-    (p, record at { region = if p.is_initial then first else next }) ∷
-    in_region first (if p.is_initial then next else next + p.regions) (record at { state = at.state + p.states }) states
+abbrev pub joined : Inner → Inner → Inner
+joined a b = record { states = a.states ++ b.states; first = a.first ++ b.first; others = a.others ++ b.others; entered = a.entered ++ b.entered }
 
-abbrev pub initial_among : List Placed → List Placed
-initial_among placed = filter (λ x. x.0.is_initial) placed
+-- a scene with this number for the next region
+abbrev pub with_region : ℕ → Scene → Scene
+with_region n at = record at { region = n }
 
-abbrev pub others_among : List Placed → List Placed
-others_among placed = filter (λ x. not x.0.is_initial) placed
+abbrev pub past_states : ℕ → Scene → Scene
+past_states n at = record at { state = at.state + n }
 
--- the states of the region that comes next at a scene
-abbrev pub placed_states : Scene → List Piece → List Placed
-placed_states at states =
-    in_region (suc at.region) (suc at.region + sum_of (λ p. p.regions) (filter (λ p. p.is_initial) states))
-    (record at { holder = at.region }) states
+-- what one state of a region gives: the regions inside the initial one have the numbers from the scene's on, those
+-- inside another one the numbers from next on
+abbrev pub alone_with : Bool → (Scene → Parts) → ℕ → Scene → Inner
+alone_with true parts next at =
+    record { states = (parts at).states; first = (parts at).regions; others = []; entered = (parts at).entered }
+alone_with false parts next at =
+    record { states = (parts (with_region next at)).states; first = []; others = (parts (with_region next at)).regions; entered = [] }
+
+abbrev pub alone : Piece → ℕ → Scene → Inner
+alone p = alone_with p.is_initial p.parts
+
+abbrev pub next_behind : Piece → ℕ → ℕ
+next_behind p next = if p.is_initial then next else next + p.regions
+
+-- the states of a region in the order of the text
+abbrev pub in_region : List Piece → ℕ → Scene → Inner
+in_region [] next at = record { states = []; first = []; others = []; entered = [] }
+in_region (p ∷ states) next at = joined (alone p next at) (in_region states (next_behind p next) (past_states p.states at))
+
+-- the numbers of the states
+abbrev pub state_numbers : List Piece → ℕ → List ℕ
+state_numbers [] n = []
+state_numbers (p ∷ states) n = n ∷ state_numbers states (n + p.states)
+
+-- how many regions are inside the initial states
+abbrev pub regions_in_initial : List Piece → ℕ
+regions_in_initial [] = 0
+regions_in_initial (p ∷ states) = (if p.is_initial then p.regions else 0) + regions_in_initial states
+
+-- inside the region that comes next at a scene
+abbrev pub inside_region : Scene → Scene
+inside_region at = record at { region = suc at.region; holder = at.region }
+
+abbrev pub region_over : List ℕ → Scene → Inner → Parts
+region_over states at inner =
+    record {
+      states = inner.states;
+      regions = record { around = at.around; states = states } ∷ (inner.first ++ inner.others);
+      entered = inner.entered;
+    }
 
 abbrev pub region_piece : Region-F Piece Piece → Piece
 region_piece r =
     record {
       is_initial = false;
-      states = sum_of (λ p. p.states) r.states;
-      regions = suc (sum_of (λ p. p.regions) r.states);
-      state_rows = λ at. state_rows_of (placed_states at r.states);
-      region_rows = λ at.
-          record { around = at.around; states = map (λ x. x.1.state) (placed_states at r.states) } ∷
-          (region_rows_of (initial_among (placed_states at r.states)) ++ region_rows_of (others_among (placed_states at r.states)));
-      entered = λ at. moves_of (initial_among (placed_states at r.states));
+      states = states_in r.states;
+      regions = suc (regions_in r.states);
+      parts = λ at.
+          region_over (state_numbers r.states at.state) at
+          (in_region r.states (suc at.region + regions_in_initial r.states) (inside_region at));
     }
 
-abbrev pub piece_of : Region → Piece
-piece_of = fold-Region Piece Piece region_piece state_piece
+abbrev pub piece_of_region : Region → Piece
+piece_of_region = fold-Region Piece Piece region_piece state_piece
 
-abbrev pub pieces_of : List Region → List Piece
-pieces_of [] = []
-pieces_of (r ∷ regions) = piece_of r ∷ pieces_of regions
+abbrev pub piece_of_state : State → Piece
+piece_of_state = fold-State Piece Piece region_piece state_piece
 
 abbrev pub whole : Scene
 whole = record { state = 0; region = 1; holder = 0; around = [] }
 
-abbrev pub table_over : List Variable → List Placed → Table
-table_over variables regions =
-    record { variables = variables; states = state_rows_of regions; regions = region_rows_of regions; opened = moves_of regions }
+abbrev pub table_over : List Variable → Parts → Table
+table_over variables parts = record { variables = variables; states = parts.states; regions = parts.regions; opened = parts.entered }
+
+abbrev pub table_of : List Variable → List Region → Table
+table_of variables regions = table_over variables (side_by_side (map piece_of_region regions) whole)
 
 abbrev pub table : Chart → Table
-table c = table_over c.variables (side_by_side whole (pieces_of c.regions))
+table c = table_of c.variables c.regions
 
 -- a number without a state or region has an empty row
 abbrev pub state_at : Table → ℕ → StateRow

@@ -2,47 +2,46 @@
 -- termination for the end of all regions.
 use Rattle.std.specs.Prelude.{ℕ, zero, suc, ◌≡◌, ◌≢◌, ◌<◌, Bool, true, false, not, ◌&&◌, ◌||◌, nat_eq, List, [], ◌∷◌, filter, length, slice_get, unwrap_or, Contains}
 use Rattle.std.specs.List.{list_all, list_any}
-use Rattle.sc_values.specs.declared.value.Value.{Value}
 use Rattle.core_charts.specs.declared.region.Transition.{Transition}
-use Rattle.core_charts.specs.Standing.{Standing, Outside, Ended, Trying, Entering, Guarding, Within, Acting, is_join}
-use Rattle.core_charts.specs.Table.{Table, RegionRow, state_at, region_at}
-
--- what stands between two steps: the variables, and where each region stands. The chart itself, number 0, is no region
-pub record State : Type 0 where
-  pub variables : List Value
-  pub regions : List Standing
+use Rattle.core_charts.specs.declared.standing.Standing.{Standing}
+use Rattle.core_charts.specs.declared.standing.Standing.TheVariants as at
+use Rattle.core_charts.specs.declared.standing.Configuration.{Configuration}
+use Rattle.core_charts.specs.Standing.{is_join}
+use Rattle.core_charts.specs.declared.table.Table.{Table}
+use Rattle.core_charts.specs.declared.table.RegionRow.{RegionRow}
+use Rattle.core_charts.specs.Table.{state_at, region_at}
 
 -- a number without a region counts as outside
-abbrev pub standing : State → ℕ → Standing
-standing c r = unwrap_or (slice_get c.regions r) Outside
+abbrev pub standing_of : Configuration → ℕ → Standing
+standing_of c r = unwrap_or (slice_get c.regions r) at.Outside
 
 abbrev pub has_ended : Standing → Bool
-has_ended Ended = true
+has_ended at.Ended = true
 has_ended other = false
 
 -- a termination is tested only where all regions have ended
-abbrev pub may_close : Table → State → ℕ → List Transition → Bool
+abbrev pub may_close : Table → Configuration → ℕ → List Transition → Bool
 may_close k c s [] = false
-may_close k c s (t ∷ tests) = not (is_join t.kind) || list_all (λ r. has_ended (standing c r)) (state_at k s).regions
+may_close k c s (t ∷ tests) = not (is_join t.kind) || list_all (λ r. has_ended (standing_of c r)) (state_at k s).regions
 
 -- whether there is a test or an effect left for this tick
-abbrev pub has_work : Table → State → Standing → Bool
-has_work k c (Trying s (t ∷ tests)) = true
-has_work k c (Entering s tests) = true
-has_work k c (Guarding s tests) = true
-has_work k c (Acting s effects target) = true
-has_work k c (Within s tests) = may_close k c s tests
+abbrev pub has_work : Table → Configuration → Standing → Bool
+has_work k c (at.Trying s (t ∷ tests)) = true
+has_work k c (at.Entering s tests) = true
+has_work k c (at.Guarding s tests) = true
+has_work k c (at.Acting s effects target) = true
+has_work k c (at.Within s tests) = may_close k c s tests
 has_work k c other = false
 
 -- strong aborts still have to be tested
 abbrev pub guards : Standing → Bool
-guards (Entering s tests) = true
-guards (Guarding s tests) = true
+guards (at.Entering s tests) = true
+guards (at.Guarding s tests) = true
 guards other = false
 
 -- whether one of these superstates, around a region, has strong aborts to test
-abbrev pub is_guarded : Table → State → List ℕ → Bool
-is_guarded k c around = list_any (λ s. guards (standing c (state_at k s).holder)) around
+abbrev pub is_guarded : Table → Configuration → List ℕ → Bool
+is_guarded k c around = list_any (λ s. guards (standing_of c (state_at k s).holder)) around
 
 abbrev pub numbered_from : ℕ → List RegionRow → List ℕ
 numbered_from n [] = []
@@ -53,13 +52,13 @@ abbrev pub inside : Table → ℕ → List ℕ
 inside k s = filter (λ r. list_any (nat_eq s) (region_at k r).around) (numbered_from 1 k.regions)
 
 -- weak aborts and the termination of a superstate have their turn when nobody inside has anything left to do
-abbrev pub inside_is_done : Table → State → Standing → Bool
-inside_is_done k c (Within s tests) = list_all (λ r. not (has_work k c (standing c r))) (inside k s)
+abbrev pub inside_is_done : Table → Configuration → Standing → Bool
+inside_is_done k c (at.Within s tests) = list_all (λ r. not (has_work k c (standing_of c r))) (inside k s)
 inside_is_done k c other = true
 
-abbrev pub is_enabled : Table → State → ℕ → Bool
+abbrev pub is_enabled : Table → Configuration → ℕ → Bool
 is_enabled k c r =
-    has_work k c (standing c r) && (not (is_guarded k c (region_at k r).around) && inside_is_done k c (standing c r))
+    has_work k c (standing_of c r) && (not (is_guarded k c (region_at k r).around) && inside_is_done k c (standing_of c r))
 
 -- region r is region a, or lies inside it
 pub data LiesIn (k : Table) (r a : ℕ) : Type 0 where

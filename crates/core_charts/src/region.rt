@@ -1,4 +1,6 @@
 ghost use Rattle.std.specs.Prelude.{◌≡◌};
+ghost use Rattle.core_charts.specs.declared.region.Region.TheViews.{out-State};
+ghost use Rattle.core_charts.specs.Rules.{has_regions};
 ghost use Rattle.core_charts.specs.Standing.{is_strong, is_weak, is_join};
 
 use sc_graph::VariableId;
@@ -89,4 +91,13 @@ pub struct State {
     pub regions: Items<Region>,
     /// In the order of the text.
     pub transitions: Items<Transition>,
+}
+
+impl State {
+    /// Whether it is a superstate: it has regions.
+    pub fn is_superstate(&self) -> bool
+        ensures { result ≡ has_regions (out-State self.now).regions }
+    {
+        !self.regions.is_empty()
+    }
 }

@@ -11,7 +11,7 @@ ghost use Rattle.core_charts.specs.declared.region.State.{State};
 ghost use Rattle.core_charts.specs.declared.region.Region.{Region};
 ghost use Rattle.core_charts.specs.declared.region.Region.TheViews.{out-Region, out-State};
 ghost use Rattle.core_charts.specs.Standing.{is_join};
-ghost use Rattle.core_charts.specs.Rules.{IsWithin, kinds_of, IsEffect, IsBareIfFinal, fits_state, has_regions, IsTransition, IsState, IsRegion, AreRegions, IsChart};
+ghost use Rattle.core_charts.specs.Rules.{IsWithin, kinds_of, IsEffect, IsBareIfFinal, fits_state, IsTransition, IsState, IsRegion, AreRegions, IsChart};
 
 use crate::features::{DEPTH_LIMIT, Features};
 use crate::region::{Effect, Region, State, Transition, TransitionKind};
@@ -143,7 +143,7 @@ impl<'a> Frame<'a> {
         if join_count(transitions) > 1 {
             return Ok(false);
         }
-        if !self.are_transitions(states, has_regions(state), transitions) {
+        if !self.are_transitions(states, state.is_superstate(), transitions) {
             return Ok(false);
         }
         let inside_keeps = self.are_regions(alloc, levels, state.regions.as_slice())?;
@@ -210,13 +210,6 @@ fn is_bare_if_final(state: &State) -> bool
     ensures { IsTrue result ↔ IsBareIfFinal state.now }
 {
     !state.is_final || (state.regions.is_empty() && state.transitions.is_empty())
-}
-
-// Whether it is a superstate.
-fn has_regions(state: &State) -> bool
-    ensures { result ≡ has_regions (out-State state.now).regions }
-{
-    !state.regions.is_empty()
 }
 
 fn region_names(alloc: Global, regions: &[Region]) -> Result<Vec<Name>, AllocError>

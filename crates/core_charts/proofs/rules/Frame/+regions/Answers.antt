@@ -67,7 +67,7 @@ is_state-returns-then-not-are_transitions t c =
       λ is.
           let all : IsTrue c.are_transitions.result =
           c.are_transitions.ensures.1 (λ i x at.
-          subst (λ b. IsTransition c.args.self.features c.args.self.variables.now c.args.states b x) (sym c.has_regions.ensures)
+          subst (λ b. IsTransition c.args.self.features c.args.self.variables.now c.args.states b x) (sym c.is_superstate.ensures)
           (is.transitions i x (sym (ap (λ xs. slice_get xs i) e) ∙ at))) in
           let no : c.are_transitions.result ≡ false = c.if-not-are_transitions.true in
           cc,
@@ -88,7 +88,7 @@ is_state-returns t c =
         one_join =
             subst (λ xs. count_by (λ x. is_join x.kind) xs ≤ 1) e (omega (arith, c.join_count.ensures, c.if-join_count-gt1.false));
         transitions = λ i x at.
-            subst (λ b. IsTransition c.args.self.features c.args.self.variables.now c.args.states b x) c.has_regions.ensures
+            subst (λ b. IsTransition c.args.self.features c.args.self.variables.now c.args.states b x) c.is_superstate.ensures
             (c.are_transitions.ensures.0 c.if-not-are_transitions.false i x (ap (λ xs. slice_get xs i) e ∙ at));
       },
       λ is. c.in_ok-inside_keeps.ensures.1 (subst (λ xs. AreRegions c.args.self.features c.args.self.variables.now c.args.levels xs) (sym regions) is.regions),
