@@ -190,10 +190,10 @@ combinations_numbered = record { at_number = combination_at; number_at_place = c
 pub flag_law : IsRead (choice_at flags) (λ b. flag_number b ∷ []) (λ _. Unit {0})
 flag_law = choice_law flags_numbered
 
-role_law : IsRead (choice_at roles) (λ r. role_number r ∷ []) (λ _. Unit {0})
+pub role_law : IsRead (choice_at roles) (λ r. role_number r ∷ []) (λ _. Unit {0})
 role_law = choice_law roles_numbered
 
-kind_law : IsRead (choice_at kinds) (λ k. kind_number k ∷ []) (λ _. Unit {0})
+pub kind_law : IsRead (choice_at kinds) (λ k. kind_number k ∷ []) (λ _. Unit {0})
 kind_law = choice_law kinds_numbered
 
 pub combination_law : IsRead (choice_at combinations) (λ f. combination_number f ∷ []) (λ _. Unit {0})

@@ -1,10 +1,10 @@
 -- Images: what is read is what is written, and what is written is read again.
-use Rattle.std.proofs.Common.{◌≡◌, ℕ, ◌^◌, ◌<◌, ◌≤◌, true, cond, eqb, List, [], ◌∷◌, ◌++◌, length, Ok, Err, refl, sym, ap, subst, ◌∙◌, append_assoc, arith}
+use Rattle.std.proofs.Common.{◌≡◌, ◌≢◌, ℕ, ◌^◌, ◌<◌, ◌≤◌, Bool, true, false, cond, eqb, List, [], ◌∷◌, ◌++◌, length, Ok, Err, refl, sym, ap, subst, ◌∙◌, append_assoc, arith}
 use Rattle.std.specs.Prelude.{nat_eq}
 use Rattle.std.specs.List.{flat_map, AllByRecursion}
 use Rattle.std.specs.Int.{w32}
 use Rattle.std.specs.Cmp.Lexicographic.{pointwise}
-use Rattle.std.proofs.lemmas.Bool.{eqb-true, eq-eqb}
+use Rattle.std.proofs.lemmas.Bool.{eqb-true, eqb-false, eq-eqb}
 use Rattle.std.proofs.lemmas.Bool.Decides.{Decides-eqb}
 use Rattle.std.proofs.lemmas.Slice.Eq.{slice_eq-Decides}
 use Rattle.std.proofs.lemmas.List.{append-nil, nil_from_length, length-map}
@@ -12,6 +12,7 @@ use Rattle.sc_graph.specs.declared.program.Variable.{Variable}
 use Rattle.sc_graph.specs.Limits.{count_limit}
 use Rattle.bytecode.specs.declared.rows.ThreadRow.{ThreadRow}
 use Rattle.bytecode.specs.declared.rows.NodeRow.{NodeRow}
+use Rattle.bytecode.specs.declared.fault.Fault.{Fault}
 use Rattle.bytecode.specs.declared.fault.Fault.TheVariants as fault
 use Rattle.bytecode.specs.Image.{Image}
 use Rattle.bytecode.specs.Fields.{u16_bytes, u32_bytes, variable_bytes}
@@ -19,20 +20,23 @@ use Rattle.bytecode.specs.Nodes.{thread_bytes, node_bytes}
 use Rattle.bytecode.specs.Layout.{magic, rows_of_threads, rows_of_nodes, body_bytes, spelling}
 use Rattle.bytecode.specs.Fits.{VariableFits, ThreadFits, NodeFits, ImageFits}
 use Rattle.bytecode.specs.Spells.{Spells}
+use Rattle.bytecode.specs.Beginnings.{HasTail}
 use Rattle.bytecode.specs.Reading.{◌>>=◌, Reader, each_at}
-use Rattle.bytecode.specs.Reading.Fields.{bytes_at, byte_at, number_at}
+use Rattle.bytecode.specs.Reading.Fields.{bytes_at, byte_at, number_at, variable_at}
+use Rattle.bytecode.specs.Reading.Nodes.{thread_at, node_at}
 use Rattle.bytecode.specs.Reading.Image.{counted_at, header_at, image_of, body_at, image_at}
 use Rattle.bytecode.proofs.Readers.{IsBytes, bind_ok, passed, Takes, then_takes, IsRead, first, each_takes, each_again}
 use Rattle.bytecode.proofs.FieldLaws.{bytes_takes, bytes_again, byte_law, number16_law, number32_law, variable_law}
 use Rattle.bytecode.proofs.NodeLaws.{thread_law, node_law}
+use Rattle.bytecode.proofs.Offsets.{unread, tail_behind, number_stays, variable_stays, thread_stays, node_stays, counted_stays, header_stays}
 use Rattle.bytecode.proofs.ImageRows.{thread_rows_back, node_rows_back, image_is}
 
 -- ---- so many, behind their count
 
-abbrev counted_bytes : {A : Type 0} → (A → List ℕ) → List A → List ℕ
+abbrev pub counted_bytes : {A : Type 0} → (A → List ℕ) → List A → List ℕ
 counted_bytes text xs = u16_bytes (length xs) ++ flat_map text xs
 
-abbrev CountedFits : {A : Type 0} → (A → Type 0) → List A → Type 0
+abbrev pub CountedFits : {A : Type 0} → (A → Type 0) → List A → Type 0
 CountedFits Fits xs = (length xs ≤ count_limit) × AllByRecursion Fits xs
 
 counted_takes : {A : Type 0} {read : Reader A} {text : A → List ℕ} {Fits : A → Type 0} (law : IsRead read text Fits) (bytes : List ℕ) (x : List A × List ℕ)
@@ -50,7 +54,7 @@ counted_again {A} {read} {text} {Fits} law xs rest fits =
     ap (counted_at read) (append_assoc (u16_bytes (length xs)) (flat_map text xs) rest)
     ∙ rw (number16_law.again (length xs) (flat_map text xs ++ rest) (omega (arith, fits.0)), each_again law xs rest fits.1) refl
 
-counted_law : {A : Type 0} {read : Reader A} {text : A → List ℕ} {Fits : A → Type 0} → IsRead read text Fits → IsRead (counted_at read) (counted_bytes text) (CountedFits Fits)
+pub counted_law : {A : Type 0} {read : Reader A} {text : A → List ℕ} {Fits : A → Type 0} → IsRead read text Fits → IsRead (counted_at read) (counted_bytes text) (CountedFits Fits)
 counted_law law = record { takes = counted_takes law; again = counted_again law }
 
 -- ---- the header
@@ -69,7 +73,7 @@ header_takes version bytes rest fits e =
     let versioned : Takes b.0 (version ∷ []) rest = subst (λ (after : List ℕ). Takes b.0 (version ∷ []) after) v.1 (subst (λ (n : ℕ). Takes b.0 (n ∷ []) c.got.1) (eqb-true c.got.0 version v.0) c.took) in
     then_takes marked versioned
 
-header_again : (version : ℕ) (rest : List ℕ) → header_at version (magic ++ version ∷ rest) ≡ Ok rest
+pub header_again : (version : ℕ) (rest : List ℕ) → header_at version (magic ++ version ∷ rest) ≡ Ok rest
 unfolding header_at byte_at
 header_again version rest =
     let same : eqb version version ≡ true = eq-eqb version version refl in
@@ -88,7 +92,7 @@ body_is variables threads nodes budget =
     rw (thread_rows_back threads, node_rows_back nodes) (simp (length-map, append_assoc))
 
 -- an image of rows that fit
-rows_image_fits : (version : ℕ) (variables : List Variable) (threads : List ThreadRow) (nodes : List NodeRow) (budget : ℕ)
+pub rows_image_fits : (version : ℕ) (variables : List Variable) (threads : List ThreadRow) (nodes : List NodeRow) (budget : ℕ)
     → CountedFits VariableFits variables → CountedFits ThreadFits threads → CountedFits (NodeFits version) nodes → budget < 2 ^ 32 → (ImageFits version) (image_of variables threads nodes budget)
 rows_image_fits version variables threads nodes budget v t n b = record {
   variables_counted = v.0;
@@ -167,3 +171,42 @@ pub image_again : (version : ℕ) (bytes : List ℕ) (i : Image) → Spells vers
 unfolding image_at spelling
 image_again version bytes i spells =
     ap (image_at version) spells.spelt ∙ rw (header_again version (body_bytes i)) ((body_again version) i spells.fits)
+
+-- ---- bytes behind an image
+
+-- a test that failed
+failed : {A : Type 0} (b : Bool) (x : A) (f : Fault) → cond b (Ok x) (Err f) ≡ Err f → b ≡ false
+failed true x f e = absurd cc
+failed false x f e = refl
+
+-- what was read before a tail
+body_tail : (version : ℕ) (bytes : List ℕ) → IsBytes bytes → body_at version bytes ≡ Err fault.Trailing
+    → (i : Image) × (tail : List ℕ) × (tail ≢ []) × ImageFits version i × (bytes ≡ body_bytes i ++ tail)
+unfolding body_at
+body_tail version bytes fits e =
+    let v = tail_behind unread _ (counted_at variable_at bytes) _ (counted_stays variable_at variable_stays bytes) e in
+    let in_v = (counted_law variable_law).takes bytes v.0 fits v.1 in
+    let t = tail_behind unread _ (counted_at thread_at v.0.1) _ (counted_stays thread_at thread_stays v.0.1) v.2 in
+    let in_t = (counted_law thread_law).takes v.0.1 t.0 in_v.0.rest_bytes t.1 in
+    let n = tail_behind unread _ (counted_at (node_at version) t.0.1) _ (counted_stays (node_at version) (node_stays version) t.0.1) t.2 in
+    let in_n = (counted_law (node_law version)).takes t.0.1 n.0 in_t.0.rest_bytes n.1 in
+    let b = tail_behind unread _ (number_at w32 n.0.1) _ (number_stays w32 n.0.1) n.2 in
+    let in_b = number32_law.takes n.0.1 b.0 in_n.0.rest_bytes b.1 in
+    let made : Image = image_of v.0.0 t.0.0 n.0.0 b.0.0 in
+    let some : eqb (length b.0.1) 0 ≡ false = failed (eqb (length b.0.1) 0) made fault.Trailing b.2 in
+    let whole = then_takes in_v.0 (then_takes in_t.0 (then_takes in_n.0 in_b.0)) in (
+      made,
+      b.0.1,
+      (λ (none : b.0.1 ≡ []). eqb-false (length b.0.1) 0 some (ap length none)),
+      rows_image_fits version v.0.0 t.0.0 n.0.0 b.0.0 in_v.1 in_t.1 in_n.1 in_b.1,
+      whole.parts ∙ ap (λ (text : List ℕ). text ++ b.0.1) (sym (body_is v.0.0 t.0.0 n.0.0 b.0.0)),
+    )
+
+pub image_tail : (version : ℕ) (bytes : List ℕ) → IsBytes bytes → image_at version bytes ≡ Err fault.Trailing → HasTail version bytes
+unfolding image_at spelling
+image_tail version bytes fits e =
+    let h = tail_behind length (length bytes) (header_at version bytes) (body_at version) (header_stays version bytes) e in
+    let header = header_takes version bytes h.0 fits h.1 in
+    let (i, tail, some, said, parts) = body_tail version h.0 header.rest_bytes h.2 in
+    let text : List ℕ = magic ++ version ∷ body_bytes i in
+    (text, tail, some, (i, record { fits = said; spelt = refl }), header.parts ∙ ap (λ (rest : List ℕ). magic ++ version ∷ rest) parts)

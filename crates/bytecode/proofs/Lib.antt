@@ -10,3 +10,9 @@ pub mod ImageLaws
 pub mod Decoding
 pub mod Offsets
 pub mod Versions
+pub mod Longer
+pub mod Beginnings
+pub mod BadFields
+pub mod BadCodes
+pub mod BadNodes
+pub mod BadImages

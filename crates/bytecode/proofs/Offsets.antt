@@ -1,5 +1,5 @@
 -- Where a bad field begins: at one of the bytes that were read. A reader leaves no more bytes than it was given,
--- and takes no memory.
+-- takes no memory, and says nothing of a tail.
 use Rattle.std.proofs.Common.{◌≡◌, ◌≢◌, ℕ, zero, suc, ◌-◌, ◌<◌, ◌≤◌, Bool, true, false, cond, ltb, leb, eqb, List, [], ◌∷◌, length, take, drop, Option, Some, None, Result, Ok, Err, refl, subst, arith}
 use Rattle.std.specs.Prelude.{nat_eq, slice_get, ◌&&◌}
 use Rattle.std.specs.Int.{Width, w16, w32, byte_len, from_le_bytes, cast_signed}
@@ -25,41 +25,70 @@ use Rattle.bytecode.specs.Reading.Nodes.{thread_at, assign_at, update_at, cond_a
 use Rattle.bytecode.specs.Reading.Image.{counted_at, header_at, image_of, body_at, image_at, answer, reading, Answers}
 use Rattle.bytecode.proofs.Readers.{bind_ok, passed, not_short}
 
--- of n bytes: a bad field begins at one of them
-abbrev IsWithin : ℕ → Fault → Type 0
-IsWithin n (fault.Field left) = (0 < left) × (left ≤ n)
-IsWithin n fault.Memory = ⊥
-IsWithin n other = Unit {0}
+-- of n bytes: a bad field begins at one of them, and what is to hold of a tail
+abbrev IsWithin : Type 0 → ℕ → Fault → Type 0
+IsWithin tail n (fault.Field left) = (0 < left) × (left ≤ n)
+IsWithin tail n fault.Memory = ⊥
+IsWithin tail n fault.Trailing = tail
+IsWithin tail n other = Unit {0}
 
 -- of n bytes: no more are left, and a bad field begins at one of them
-abbrev Stays : {A : Type 0} → (A → ℕ) → ℕ → Result A Fault → Type 0
-Stays left n (Ok x) = left x ≤ n
-Stays left n (Err f) = IsWithin n f
+abbrev StaysOr : {A : Type 0} → Type 0 → (A → ℕ) → ℕ → Result A Fault → Type 0
+StaysOr tail left n (Ok x) = left x ≤ n
+StaysOr tail left n (Err f) = IsWithin tail n f
+
+abbrev pub Stays : {A : Type 0} → (A → ℕ) → ℕ → Result A Fault → Type 0
+Stays left n r = StaysOr ⊥ left n r
 
 -- the bytes after what was read
-abbrev unread : {A : Type 0} → A × List ℕ → ℕ
+abbrev pub unread : {A : Type 0} → A × List ℕ → ℕ
 unread x = length x.1
 
 abbrev all_read : Image → ℕ
 all_read i = 0
 
-within_more : (m n : ℕ) (f : Fault) → m ≤ n → IsWithin m f → IsWithin n f
-within_more m n fault.Short le is = tt
-within_more m n fault.Magic le is = tt
-within_more m n fault.Version le is = tt
-within_more m n fault.Trailing le is = tt
-within_more m n fault.Memory le is = is
-within_more m n (fault.Field left) le is = (is.0, omega (arith, is.1, le))
+within_more : (tail : Type 0) (m n : ℕ) (f : Fault) → m ≤ n → IsWithin tail m f → IsWithin tail n f
+within_more tail m n fault.Short le is = tt
+within_more tail m n fault.Magic le is = tt
+within_more tail m n fault.Version le is = tt
+within_more tail m n fault.Trailing le is = is
+within_more tail m n fault.Memory le is = is
+within_more tail m n (fault.Field left) le is = (is.0, omega (arith, is.1, le))
 
-stays_in_more : {A : Type 0} (left : A → ℕ) (m n : ℕ) (r : Result A Fault) → m ≤ n → Stays left m r → Stays left n r
-stays_in_more left m n (Ok x) le is = omega (arith, is, le)
-stays_in_more left m n (Err f) le is = within_more m n f le is
+stays_in_more : {A : Type 0} (tail : Type 0) (left : A → ℕ) (m n : ℕ) (r : Result A Fault) → m ≤ n → StaysOr tail left m r → StaysOr tail left n r
+stays_in_more tail left m n (Ok x) le is = omega (arith, is, le)
+stays_in_more tail left m n (Err f) le is = within_more tail m n f le is
+
+within_or : (tail : Type 0) (n : ℕ) (f : Fault) → IsWithin ⊥ n f → IsWithin tail n f
+within_or tail n fault.Short is = tt
+within_or tail n fault.Magic is = tt
+within_or tail n fault.Version is = tt
+within_or tail n fault.Trailing is = absurd is
+within_or tail n fault.Memory is = is
+within_or tail n (fault.Field left) is = is
 
 -- one reader and then another
 then_stays : {A B : Type 0} (left : A → ℕ) (after : B → ℕ) (n : ℕ) (r : Result A Fault) (f : A → Result B Fault)
     → Stays left n r → ((x : A) → r ≡ Ok x → Stays after (left x) (f x)) → Stays after n (r >>= f)
-then_stays left after n (Ok x) f first next = stays_in_more after (left x) n (f x) first (next x refl)
+then_stays left after n (Ok x) f first next = stays_in_more ⊥ after (left x) n (f x) first (next x refl)
 then_stays left after n (Err e) f first next = first
+
+-- one reader and then what may end with a tail
+then_may_end : {A B : Type 0} (left : A → ℕ) (after : B → ℕ) (n : ℕ) (r : Result A Fault) (f : A → Result B Fault)
+    → Stays left n r → ((x : A) → r ≡ Ok x → StaysOr (Unit {0}) after (left x) (f x)) → StaysOr (Unit {0}) after n (r >>= f)
+then_may_end left after n (Ok x) f first next = stays_in_more (Unit {0}) after (left x) n (f x) first (next x refl)
+then_may_end left after n (Err e) f first next = within_or (Unit {0}) n e first
+
+-- a tail was not said by the first reader
+pub tail_behind : {A B : Type 0} (left : A → ℕ) (n : ℕ) (r : Result A Fault) (f : A → Result B Fault)
+    → Stays left n r → (r >>= f) ≡ Err fault.Trailing → (x : A) × (r ≡ Ok x) × (f x ≡ Err fault.Trailing)
+tail_behind left n (Ok x) f first e = (x, refl, e)
+tail_behind left n (Err fault.Short) f first e = absurd cc
+tail_behind left n (Err fault.Magic) f first e = absurd cc
+tail_behind left n (Err fault.Version) f first e = absurd cc
+tail_behind left n (Err fault.Trailing) f first e = absurd first
+tail_behind left n (Err fault.Memory) f first e = absurd first
+tail_behind left n (Err (fault.Field at)) f first e = absurd cc
 
 -- a choice that is made or is a bad field
 chosen_stays : {A B : Type 0} (after : B → ℕ) (bytes : List ℕ) (o : Option A) (f : A → Result B Fault)
@@ -82,7 +111,7 @@ unfolding byte_at
 byte_stays [] = tt
 byte_stays (b ∷ rest) = omega arith
 
-number_stays : (w : Width) (bytes : List ℕ) → Stays unread (length bytes) (number_at w bytes)
+pub number_stays : (w : Width) (bytes : List ℕ) → Stays unread (length bytes) (number_at w bytes)
 unfolding number_at
 number_stays w bytes =
     then_stays unread unread (length bytes) (bytes_at (byte_len w) bytes) (λ front. Ok (from_le_bytes w front.0, front.1)) (bytes_stay (byte_len w) bytes) (λ x e. omega arith)
@@ -137,7 +166,7 @@ name_stays bytes =
     then_stays unread unread (length bytes) (length_at 1 name_limit bytes) (λ len. bytes_at len.0 len.1 >>= λ text. or_field len.1 (name_of text.0) >>= λ name. Ok (name, text.1)) (length_stays 1 name_limit bytes)
     (λ len e. text_stays len.0 len.1 (length_least 1 name_limit bytes len e))
 
-variable_stays : (bytes : List ℕ) → Stays unread (length bytes) (variable_at bytes)
+pub variable_stays : (bytes : List ℕ) → Stays unread (length bytes) (variable_at bytes)
 unfolding variable_at
 variable_stays bytes =
     then_stays unread unread _ (choice_at roles bytes) _ (choice_stays roles bytes)
@@ -148,7 +177,7 @@ variable_stays bytes =
 
 -- one byte more before these
 behind_byte : {A : Type 0} (rest : List ℕ) (r : Result (A × List ℕ) Fault) → Stays unread (length rest) r → Stays unread (suc (length rest)) r
-behind_byte rest r is = stays_in_more unread (length rest) (suc (length rest)) r (omega arith) is
+behind_byte rest r is = stays_in_more ⊥ unread (length rest) (suc (length rest)) r (omega arith) is
 
 operation_body_stays : (number : ℕ) (rest : List ℕ) → Stays unread (suc (length rest)) (operation_body (number ∷ rest) number rest)
 unfolding operation_body
@@ -197,7 +226,7 @@ code_stays version bytes =
 
 -- ---- threads and nodes
 
-thread_stays : (bytes : List ℕ) → Stays unread (length bytes) (thread_at bytes)
+pub thread_stays : (bytes : List ℕ) → Stays unread (length bytes) (thread_at bytes)
 unfolding thread_at
 thread_stays bytes =
     then_stays unread unread _ (number_at w16 bytes) _ (number_stays w16 bytes)
@@ -248,7 +277,7 @@ unfolding step_at byte_at
 step_stays version [] = tt
 step_stays version (tag ∷ rest) = (step_body_stays version) tag rest
 
-node_stays : (version : ℕ) (bytes : List ℕ) → Stays unread (length bytes) ((node_at version) bytes)
+pub node_stays : (version : ℕ) (bytes : List ℕ) → Stays unread (length bytes) ((node_at version) bytes)
 unfolding node_at
 node_stays version bytes =
     then_stays unread unread _ (number_at w16 bytes) _ (number_stays w16 bytes)
@@ -259,43 +288,47 @@ node_stays version bytes =
 
 -- ---- images
 
-counted_stays : {A : Type 0} (read : Reader A) → ((bytes : List ℕ) → Stays unread (length bytes) (read bytes)) → (bytes : List ℕ) → Stays unread (length bytes) (counted_at read bytes)
+pub counted_stays : {A : Type 0} (read : Reader A) → ((bytes : List ℕ) → Stays unread (length bytes) (read bytes)) → (bytes : List ℕ) → Stays unread (length bytes) (counted_at read bytes)
 unfolding counted_at
 counted_stays read stays bytes =
     then_stays unread unread _ (number_at w16 bytes) _ (number_stays w16 bytes) (λ count e. each_stays read stays count.0 count.1)
 
 -- a test that leads to an image or to a fault of no field
-tested_stays : {A : Type 0} (left : A → ℕ) (n : ℕ) (b : Bool) (x : A) (f : Fault) → left x ≤ n → IsWithin n f → Stays left n (cond b (Ok x) (Err f))
-tested_stays left n true x f kept none = kept
-tested_stays left n false x f kept none = none
+tested_stays : {A : Type 0} (tail : Type 0) (left : A → ℕ) (n : ℕ) (b : Bool) (x : A) (f : Fault) → left x ≤ n → IsWithin tail n f → StaysOr tail left n (cond b (Ok x) (Err f))
+tested_stays tail left n true x f kept none = kept
+tested_stays tail left n false x f kept none = none
 
-header_stays : (version : ℕ) (bytes : List ℕ) → Stays length (length bytes) (header_at version bytes)
+pub header_stays : (version : ℕ) (bytes : List ℕ) → Stays length (length bytes) (header_at version bytes)
 unfolding header_at
 header_stays version bytes =
     then_stays unread length _ (bytes_at 4 bytes) _ (bytes_stay 4 bytes)
-    (λ start e. then_stays length length _ (cond (pointwise nat_eq start.0 magic) (Ok start.1) (Err fault.Magic)) _ (tested_stays length _ (pointwise nat_eq start.0 magic) start.1 fault.Magic (omega arith) tt)
+    (λ start e. then_stays length length _ (cond (pointwise nat_eq start.0 magic) (Ok start.1) (Err fault.Magic)) _ (tested_stays ⊥ length _ (pointwise nat_eq start.0 magic) start.1 fault.Magic (omega arith) tt)
     (λ marked f. then_stays unread length _ (byte_at marked) _ (byte_stays marked)
-    (λ number g. tested_stays length _ (eqb number.0 version) number.1 fault.Version (omega arith) tt)))
+    (λ number g. tested_stays ⊥ length _ (eqb number.0 version) number.1 fault.Version (omega arith) tt)))
 
 -- a header takes no memory
 pub header_remembers : (version : ℕ) (bytes : List ℕ) → header_at version bytes ≢ Err fault.Memory
 header_remembers version bytes e = subst (Stays length (length bytes)) e (header_stays version bytes)
 
-body_stays : (version : ℕ) (bytes : List ℕ) → Stays all_read (length bytes) ((body_at version) bytes)
+body_stays : (version : ℕ) (bytes : List ℕ) → StaysOr (Unit {0}) all_read (length bytes) ((body_at version) bytes)
 unfolding body_at
 body_stays version bytes =
-    then_stays unread all_read _ (counted_at variable_at bytes) _ (counted_stays variable_at variable_stays bytes)
-    (λ variables e. then_stays unread all_read _ (counted_at thread_at variables.1) _ (counted_stays thread_at thread_stays variables.1)
-    (λ threads f. then_stays unread all_read _ (counted_at (node_at version) threads.1) _ (counted_stays (node_at version) (node_stays version) threads.1)
-    (λ nodes g. then_stays unread all_read _ (number_at w32 nodes.1) _ (number_stays w32 nodes.1)
-    (λ budget h. tested_stays all_read _ (eqb (length budget.1) 0) (image_of variables.0 threads.0 nodes.0 budget.0) fault.Trailing (omega arith) tt))))
+    then_may_end unread all_read _ (counted_at variable_at bytes) _ (counted_stays variable_at variable_stays bytes)
+    (λ variables e. then_may_end unread all_read _ (counted_at thread_at variables.1) _ (counted_stays thread_at thread_stays variables.1)
+    (λ threads f. then_may_end unread all_read _ (counted_at (node_at version) threads.1) _ (counted_stays (node_at version) (node_stays version) threads.1)
+    (λ nodes g. then_may_end unread all_read _ (number_at w32 nodes.1) _ (number_stays w32 nodes.1)
+    (λ budget h. tested_stays (Unit {0}) all_read _ (eqb (length budget.1) 0) (image_of variables.0 threads.0 nodes.0 budget.0) fault.Trailing (omega arith) tt))))
 
-image_stays : (version : ℕ) (bytes : List ℕ) → Stays all_read (length bytes) (image_at version bytes)
+image_stays : (version : ℕ) (bytes : List ℕ) → StaysOr (Unit {0}) all_read (length bytes) (image_at version bytes)
 unfolding image_at
-image_stays version bytes = then_stays length all_read _ (header_at version bytes) _ (header_stays version bytes) (λ rest e. (body_stays version) rest)
+image_stays version bytes = then_may_end length all_read _ (header_at version bytes) _ (header_stays version bytes) (λ rest e. (body_stays version) rest)
+
+-- a reading takes no memory
+pub image_remembers : (version : ℕ) (bytes : List ℕ) → image_at version bytes ≢ Err fault.Memory
+image_remembers version bytes e = subst (StaysOr (Unit {0}) all_read (length bytes)) e (image_stays version bytes)
 
 -- a bad field of these bytes has the offset of one of them
-offset_within : (bytes : List ℕ) (r : Result Image Fault) (offset : ℕ) → Stays all_read (length bytes) r → IsErrOf (answer bytes r) (decode.Field offset) → offset < length bytes
+offset_within : (bytes : List ℕ) (r : Result Image Fault) (offset : ℕ) → StaysOr (Unit {0}) all_read (length bytes) r → IsErrOf (answer bytes r) (decode.Field offset) → offset < length bytes
 offset_within bytes (Ok i) offset stays e = absurd cc
 offset_within bytes (Err fault.Short) offset stays e = absurd cc
 offset_within bytes (Err fault.Magic) offset stays e = absurd cc

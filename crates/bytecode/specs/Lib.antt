@@ -5,6 +5,9 @@ pub mod Nodes
 pub mod Layout
 pub mod Fits
 pub mod Spells
+pub mod Beginnings
+pub mod FieldList
+pub mod BadField
 pub mod Reading
 pub mod FaultText
 pub mod Inside

@@ -215,7 +215,8 @@ fn read(alloc: Global, version: u8, bytes: &[u8]) -> Result<Image, DecodeFault>
 /// The image that all of the bytes are, in version 2 of the layout; else the first fault from the
 /// left: `Short` for a field with too few bytes left, `Magic`, `Version` or `Field` for a bad one,
 /// and `Trailing` for bytes behind the last. `Memory` claims nothing of the bytes but that they begin
-/// with `SCCB` and the version.
+/// with `SCCB` and the version. What these faults say of spellings is stated by the laws
+/// `cut_spelling_is_short`, `spelling_and_more_has_a_tail` and `told_field_is_bad`.
 pub fn decode(alloc: Global, bytes: &[u8]) -> Result<Image, DecodeFault>
     // What is read is spelled so.
     ensures found { IfOk result (λ i. Spells 2 bytes.now i) }

@@ -1,4 +1,4 @@
-use Rattle.std.proofs.Common.{ℕ, List, subst, arith}
+use Rattle.std.proofs.Common.{ℕ, subst, arith}
 use Rattle.std.specs.Prelude.{IfOk}
 use Rattle.bytecode.specs.Layout.{HasHeader}
 use Rattle.bytecode.specs.Spells.{Spells}
