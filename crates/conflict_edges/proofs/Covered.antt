@@ -12,9 +12,9 @@ use Rattle.sc_graph.specs.Threads.{ConcurrentNodes, AreConcurrent}
 use Rattle.sc_graph.specs.Accesses.{accesses}
 use Rattle.sc_graph.specs.Valid.{IsFormed}
 use Rattle.sc_graph.proofs.Formed.{concurrent_swapped, never_own}
-use Rattle.conflict_edges.specs.Inside.Pairs.{InitsAt, UpdatesAt, Lists, NoneConflict}
+use Rattle.variable_users.specs.Users.{InitsAt, UpdatesAt, Lists, NoneConflict}
 use Rattle.conflict_edges.specs.Inside.Candidates.{AreAlike, SameThread, IsCovered, by_one, by_two, IsKept, added, left_out, Disagree, IsStoodFor, StandFor}
-use Rattle.conflict_edges.proofs.Finding.{of_each}
+use Rattle.variable_users.proofs.Variables.{of_each}
 
 -- a clash is one the other way round
 clash_turned : (a b : Access) → Clash a b → Clash b a

@@ -11,25 +11,26 @@ use Rattle.sc_graph.specs.Program.{Program, step_at}
 use Rattle.sc_graph.specs.Accesses.{accesses, access_of}
 use Rattle.conflict_edges.specs.declared.edges.Followers.{Followers}
 use Rattle.conflict_edges.specs.Conflicts.{AreFollowers, IsListed}
-use Rattle.conflict_edges.specs.Inside.Pairs.{InitsAt, UpdatesAt, ReadsAt}
-use Rattle.conflict_edges.specs.Inside.Users.{AreLists}
-use Rattle.conflict_edges.proofs.Finding.{access_is, step_or_none, init_variable, update_variable}
+use Rattle.variable_users.specs.Users.{InitsAt, UpdatesAt, ReadsAt}
+use Rattle.variable_users.specs.declared.users.Users.{Users}
+use Rattle.conflict_edges.specs.Inside.Held.{AreHeld}
+use Rattle.variable_users.proofs.Variables.{access_is, step_or_none, init_variable, update_variable}
 
 nothing_in : (n : ℕ) → ¬ Contains [] n
 nothing_in n c = let lt = c.1 in omega (arith, lt)
 
 -- an init comes before the updates and the reads of its variable
-pub after_init : (p threads : Program) (updates reads : List (List ℕ)) (m x : ℕ) (f : Followers) → AreLists p threads updates reads → InitsAt p x m →
-    f.updates.now ≡ get_or updates x [] → f.reads.now ≡ get_or reads x [] → AreFollowers p m f
-after_init p threads updates reads m x f l init u r =
+pub after_init : (p threads : Program) (users : Users) (m x : ℕ) (f : Followers) → AreHeld p threads users → InitsAt p x m →
+    f.updates.now ≡ get_or users.updates x [] → f.reads.now ≡ get_or users.reads x [] → AreFollowers p m f
+after_init p threads users m x f l init u r =
     let lt : x < length p.variables = init_variable p l.formed m x init in
     let C : (n : ℕ) → List ℕ → Type 0 = λ n xs. Contains xs n in
     record {
       edge = λ n listed concurrent. record {
         concurrent = concurrent;
         precedes = elim listed [
-          | inl c ↦ (let w = (l.updating.each x lt).only n (subst (C n) u c) in init_update x w.0 init w.1)
-          | inr c ↦ init_read x init ((l.reading.each x lt).only n (subst (C n) r c))
+          | inl c ↦ (let w = (l.used.updates.each x lt).only n (subst (C n) u c) in init_update x w.0 init w.1)
+          | inr c ↦ init_read x init ((l.used.reads.each x lt).only n (subst (C n) r c))
         ];
       };
       each = λ n edge. listed n edge.precedes;
@@ -43,18 +44,18 @@ after_init p threads updates reads m x f l init u r =
         let lt : x < length p.variables = init_variable p l.formed m x init in
         let P : ℕ → Type 0 = λ k. UpdatesAt p k n in
         let C : List ℕ → Type 0 = λ xs. Contains xs n in
-        inl (subst C (sym u) ((l.updating.each x lt).each n (subst P (same y i) (g, w))))
+        inl (subst C (sym u) ((l.used.updates.each x lt).each n (subst P (same y i) (g, w))))
     listed n (init_read y i w) =
         let lt : x < length p.variables = init_variable p l.formed m x init in
         let P : ℕ → Type 0 = λ k. ReadsAt p k n in
         let C : List ℕ → Type 0 = λ xs. Contains xs n in
-        inr (subst C (sym r) ((l.reading.each x lt).each n (subst P (same y i) w)))
+        inr (subst C (sym r) ((l.used.reads.each x lt).each n (subst P (same y i) w)))
     listed n (update_read y g w z) = absurd (let b = init.1 in cc)
 
 -- an update comes before the reads of its variable
-pub after_update : (p threads : Program) (updates reads : List (List ℕ)) (m x : ℕ) (f : Followers) → AreLists p threads updates reads → UpdatesAt p x m →
-    f.updates.now ≡ [] → f.reads.now ≡ get_or reads x [] → AreFollowers p m f
-after_update p threads updates reads m x f l update u r =
+pub after_update : (p threads : Program) (users : Users) (m x : ℕ) (f : Followers) → AreHeld p threads users → UpdatesAt p x m →
+    f.updates.now ≡ [] → f.reads.now ≡ get_or users.reads x [] → AreFollowers p m f
+after_update p threads users m x f l update u r =
     let lt : x < length p.variables = update_variable p l.formed m x update.0 update.1 in
     let C : (n : ℕ) → List ℕ → Type 0 = λ n xs. Contains xs n in
     record {
@@ -62,7 +63,7 @@ after_update p threads updates reads m x f l update u r =
         concurrent = concurrent;
         precedes = elim listed [
           | inl c ↦ absurd (nothing_in n (subst (C n) u c))
-          | inr c ↦ update_read x update.0 update.1 ((l.reading.each x lt).only n (subst (C n) r c))
+          | inr c ↦ update_read x update.0 update.1 ((l.used.reads.each x lt).only n (subst (C n) r c))
         ];
       };
       each = λ n edge. listed n edge.precedes;
@@ -78,7 +79,7 @@ after_update p threads updates reads m x f l update u r =
         let lt : x < length p.variables = update_variable p l.formed m x update.0 update.1 in
         let P : ℕ → Type 0 = λ k. ReadsAt p k n in
         let C : List ℕ → Type 0 = λ xs. Contains xs n in
-        inr (subst C (sym r) ((l.reading.each x lt).each n (subst P (same y g w) z)))
+        inr (subst C (sym r) ((l.used.reads.each x lt).each n (subst P (same y g w) z)))
 
 -- nothing comes after a node that writes nothing
 pub after_nothing : (p : Program) (m : ℕ) (f : Followers) → (accesses p m).writes ≡ Nothing → f.updates.now ≡ [] → f.reads.now ≡ [] → AreFollowers p m f

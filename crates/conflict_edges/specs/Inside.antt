@@ -1,3 +1,2 @@
-pub mod Pairs
-pub mod Users
+pub mod Held
 pub mod Candidates

@@ -10,29 +10,28 @@ ghost use Rattle.sc_graph.specs.Valid.{IsFormed};
 
 use crate::fault::ConflictFault;
 use crate::pairs::find_conflict;
-use crate::users::Users;
 use sc_graph::{ConcurrentThreads, NodeId, Program, Step};
 use std::alloc::Global;
 use std::marker::Model;
+use variable_users::Users;
 
 /// The protocol edges of a program without write conflicts. Contracts see the program.
 #[derive(Drop)]
 pub struct Edges<'a> {
     program: &'a Program,
     threads: ConcurrentThreads<'a>,
-    updates: Users,
-    reads: Users,
+    users: Users,
 }
 
 impl<'a> Model for Edges<'a> {
     ghost use Rattle.sc_graph.specs.Program.{Program};
-    ghost use Rattle.conflict_edges.specs.Inside.Users.{AreLists};
+    ghost use Rattle.conflict_edges.specs.Inside.Held.{AreHeld};
 
     ghost Value = { Program };
 
     ghost view = { λ e. e.program.now };
 
-    ghost invariant = { λ e. AreLists e.program.now e.threads e.updates e.reads };
+    ghost invariant = { λ e. AreHeld e.program.now e.threads e.users };
 }
 
 /// Nodes of which each that is concurrent with a given one must come after it: those that update the
@@ -52,31 +51,15 @@ pub fn conflicts<'a>(alloc: Global, program: &'a Program) -> Result<Edges<'a>, C
     ensures conflict { (m n : ℕ) → result ≡ Err (WriteWrite m n) → WriteConflict program.now m n }
 {
     let threads = ConcurrentThreads::of(alloc, program)?;
-    match find_conflict(alloc, program, &threads)? {
+    let users = Users::of(alloc, program)?;
+    match find_conflict(alloc, program, &threads, &users)? {
         Some((m, n)) => Err(ConflictFault::WriteWrite(m, n)),
-        None => edges_of(alloc, program, threads),
+        None => Ok(Edges {
+            program,
+            threads,
+            users,
+        }),
     }
-}
-
-// The edges of a formed program.
-fn edges_of<'a>(
-    alloc: Global,
-    program: &'a Program,
-    threads: ConcurrentThreads<'a>,
-) -> Result<Edges<'a>, ConflictFault>
-    requires formed { IsFormed program.now }
-    requires threads { threads ≡ program.now }
-    ensures edges { IfOk result (λ e. e ≡ program.now) }
-    ensures memory { (m n : ℕ) → ¬ (result ≡ Err (WriteWrite m n)) }
-{
-    let updates = Users::updating(alloc, program)?;
-    let reads = Users::reading(alloc, program)?;
-    Ok(Edges {
-        program,
-        threads,
-        updates,
-        reads,
-    })
 }
 
 // No nodes.
@@ -93,8 +76,8 @@ impl<'a> Edges<'a> {
     {
         match self.program.step(node) {
             Some(Step::Assign { variable, .. }) => Followers {
-                updates: self.updates.of(*variable),
-                reads: self.reads.of(*variable),
+                updates: self.users.updates.of(*variable),
+                reads: self.users.reads.of(*variable),
             },
             Some(
                 Step::Update {
@@ -103,7 +86,7 @@ impl<'a> Edges<'a> {
                 },
             ) => Followers {
                 updates: nobody(),
-                reads: self.reads.of(*updated),
+                reads: self.users.reads.of(*updated),
             },
             _ => Followers {
                 updates: nobody(),

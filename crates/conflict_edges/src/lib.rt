@@ -5,7 +5,6 @@ mod choosing;
 mod edges;
 mod fault;
 mod pairs;
-mod users;
 
 pub use edges::{Edges, Followers, conflicts};
 pub use fault::ConflictFault;

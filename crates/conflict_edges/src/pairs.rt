@@ -9,27 +9,29 @@ ghost use Rattle.sc_graph.specs.Threads.{ConcurrentNodes};
 ghost use Rattle.sc_graph.specs.Valid.{IsFormed};
 ghost use Rattle.conflict_edges.specs.Conflicts.{HasNoConflict};
 ghost use Rattle.conflict_edges.specs.Inside.Candidates.{AreAlike};
-ghost use Rattle.conflict_edges.specs.Inside.Pairs.{InitsAt, Lists, NoConflictOn, NoneConflict, UpdatesAt};
+ghost use Rattle.variable_users.specs.Users.{InitsAt, Lists, NoConflictOn, NoneConflict, UpdatesAt, UsersOf};
 
 use crate::choosing::candidates;
-use crate::users::Users;
 use sc_graph::{ConcurrentThreads, NodeId, Program, VariableId};
 use std::alloc::{AllocError, Global};
+use variable_users::Users;
 
 /// Two nodes of a formed program, the smaller first, that conflict. None: there are none.
 pub(crate) fn find_conflict(
     alloc: Global,
     program: &Program,
     threads: &ConcurrentThreads,
+    users: &Users,
 ) -> Result<Option<(NodeId, NodeId)>, AllocError>
     requires formed { IsFormed program.now }
     requires threads { threads.now ≡ program.now }
+    requires users { UsersOf program.now users.now }
     ensures { IfOk result (λ found. MatchOption found (HasNoConflict program.now) (λ s. WriteConflict program.now s.0 s.1)) }
 {
-    let inits = Users::initializing(alloc, program)?;
-    let updates = Users::updating(alloc, program)?;
     for x in 0..program.variable_count() {
-        match conflict_over(alloc, program, threads, x, inits.of(x), updates.of(x))? {
+        let inits = users.inits.of(x);
+        let updates = users.updates.of(x);
+        match conflict_over(alloc, program, threads, x, inits, updates)? {
             Some(pair) => return Ok(Some(pair)),
             None => {}
         }

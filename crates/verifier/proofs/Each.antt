@@ -2,7 +2,7 @@
 use Rattle.std.proofs.Common.{ℕ, ◌≡◌, ◌<◌, ◌+◌, inl, inr, List, [], ◌∷◌, ◌++◌, length, get_or, refl, sym, subst, arith, length-append}
 use Rattle.std.proofs.lemmas.Grind.{common_steps}
 use Rattle.sc_graph.proofs.Each.{below_or_at}
-use Rattle.verifier.specs.Inside.Users.{EachOf}
+use Rattle.verifier.specs.Inside.Each.{EachOf}
 
 pub each_none : (P : List ℕ → List ℕ → Type 0) (lists : List (List ℕ)) → EachOf P 0 lists []
 each_none P lists = record { long = refl; each = λ x lt. absurd (omega arith) }

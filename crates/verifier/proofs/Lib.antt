@@ -1,8 +1,6 @@
 pub mod Answer
-pub mod Within
 pub mod Everywhere
 pub mod Covering
-pub mod Listing
 pub mod Lowest
 pub mod Ordering
 pub mod Rising
@@ -10,4 +8,4 @@ pub mod Each
 pub mod Standing
 pub mod Sampling
 pub mod Giving
-pub mod Gaining
+pub mod ExitLists

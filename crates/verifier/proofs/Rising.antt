@@ -13,8 +13,7 @@ use Rattle.sc_graph.specs.Threads.{IsFork}
 use Rattle.sc_graph.specs.Tables.{priority}
 use Rattle.sc_graph.specs.Protocol.{FlowAt, Instant, by_successor, by_entry, by_exit}
 use Rattle.verifier.specs.Inside.ByNode.{StepFlows, ForksTo, RisesToSuccessor, RisesToEntry, RisesFromOneOf, AllFlow, IsExitOf, EntryFlows, ExitsFlow, ChildrenFlow}
-use Rattle.verifier.specs.Inside.Pairs.{Lists}
-use Rattle.verifier.specs.Inside.Users.{ListsEach}
+use Rattle.variable_users.specs.Users.{Lists, ListsEach}
 use Rattle.sc_graph.specs.Valid.{IsFormed}
 use Rattle.sc_graph.proofs.Formed.{parent_is_owner, within_threads}
 use Rattle.sc_graph.proofs.Nodes.{node_of_step, step_within}

@@ -2,7 +2,7 @@
 pub mod Faults
 pub mod ByNode
 pub mod Pairs
-pub mod Users
+pub mod Each
 pub mod Extremes
 pub mod Samples
 pub mod Chosen

@@ -2,38 +2,36 @@
 
 ghost use Rattle.std.specs.Prelude.{◌≡◌, ◌↔◌, ℕ, IfOk, OnOk, IsTrue, length};
 ghost use Rattle.verifier.specs.Inside.ByNode.{IsExitOf};
-ghost use Rattle.verifier.specs.Inside.Users.{Gains, ListsEach};
+ghost use Rattle.variable_users.specs.Users.{Gains, ListsEach};
 
-use crate::node_lists::NodeLists;
 use sc_graph::{NodeId, Program, Step, ThreadId};
 use std::alloc::{AllocError, Global};
+use variable_users::NodeLists;
 
-impl NodeLists {
-    /// The exits of each thread, found in one pass over the nodes.
-    pub(crate) fn exits(alloc: Global, program: &Program) -> Result<NodeLists, AllocError>
-        ensures { IfOk result (ListsEach (length program.now.threads) (IsExitOf program.now)) }
-    {
-        let mut exits = NodeLists::none(alloc, program.thread_count())?;
-        for n in 0..program.node_count() {
-            exits.note_exit(program, n)?;
-        }
-        Ok(exits)
+/// The exits of each thread, found in one pass over the nodes.
+pub(crate) fn exits_of(alloc: Global, program: &Program) -> Result<NodeLists, AllocError>
+    ensures { IfOk result (ListsEach (length program.now.threads) (IsExitOf program.now)) }
+{
+    let mut exits = NodeLists::none(alloc, program.thread_count())?;
+    for n in 0..program.node_count() {
+        note_exit(&mut exits, program, n)?;
     }
+    Ok(exits)
+}
 
-    // Puts a node into the list of its thread, where it is an exit.
-    fn note_exit(&mut self, program: &Program, n: NodeId) -> Result<(), AllocError>
-        ensures { OnOk result (Gains self.old self.new n (λ t. IsExitOf program.now t n)) }
-    {
-        match program.owner(n) {
-            Some(thread) => {
-                if is_exit_of(program, thread, n) {
-                    self.note(thread, n)
-                } else {
-                    Ok(())
-                }
+// Puts a node into the list of its thread, where it is an exit.
+fn note_exit(exits: &mut NodeLists, program: &Program, n: NodeId) -> Result<(), AllocError>
+    ensures { OnOk result (Gains exits.old exits.new n (λ t. IsExitOf program.now t n)) }
+{
+    match program.owner(n) {
+        Some(thread) => {
+            if is_exit_of(program, thread, n) {
+                exits.note(thread, n)
+            } else {
+                Ok(())
             }
-            None => Ok(()),
         }
+        None => Ok(()),
     }
 }
 

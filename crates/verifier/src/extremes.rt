@@ -4,14 +4,13 @@
 ghost use Rattle.std.specs.Prelude.{◌≡◌, ◌↔◌, ℕ, IfOk, OnOk, IfSome, IsTrue, length, get_or, []};
 ghost use Rattle.verifier.specs.Inside.Chosen.{ExtremesOf};
 ghost use Rattle.verifier.specs.Inside.Extremes.{Beats, OwnedAlike, StandFor, TakesIn};
-ghost use Rattle.verifier.specs.Inside.Users.{EachOf};
+ghost use Rattle.verifier.specs.Inside.Each.{EachOf};
 
-use crate::node_lists::NodeLists;
 use crate::places::Places;
-use crate::users::Users;
 use sc_graph::{NodeId, Program, Tables};
 use sqlite_items::Items;
 use std::alloc::{AllocError, Global};
+use variable_users::{NodeLists, Users};
 
 /// A way to choose a node by its priority.
 #[derive(Clone, Copy)]

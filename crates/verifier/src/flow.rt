@@ -7,12 +7,12 @@ ghost use Rattle.sc_graph.specs.Tables.{priority};
 ghost use Rattle.sc_graph.specs.declared.place.Place.TheVariants as place;
 ghost use Rattle.sc_graph.specs.declared.program.Step.TheVariants as step;
 ghost use Rattle.verifier.specs.Inside.ByNode.{AllFlow, ChildrenFlow, EntryFlows, ExitsFlow, ForksTo, IsExitOf, RisesFromOneOf, RisesToEntry, RisesToSuccessor, StepFlows, SuccessorsFlow};
-ghost use Rattle.verifier.specs.Inside.Users.{ListsEach};
+ghost use Rattle.variable_users.specs.Users.{ListsEach};
 ghost use Rattle.sc_graph.specs.Valid.{IsFormed};
 ghost use Rattle.verifier.specs.Inside.Faults.{IsFault};
 
-use crate::node_lists::NodeLists;
 use sc_graph::{NodeId, Place, Program, Step, Tables, ThreadId};
+use variable_users::NodeLists;
 
 /// A place where the rule is broken, where it is.
 pub(crate) fn flow_fault(program: &Program, tables: &Tables, exits: &NodeLists) -> Option<Place>

@@ -3,15 +3,15 @@
 ghost use Rattle.std.specs.Prelude.{◌≡◌, IfOk};
 ghost use Rattle.verifier.specs.Inside.Known.{KnownOf};
 
+use crate::exits::exits_of;
 use crate::extremes::Extremes;
 use crate::kinds::kinds_of;
-use crate::node_lists::NodeLists;
 use crate::samples::Samples;
-use crate::users::Users;
 use sc_graph::{Links, Program, Tables};
 use sc_values::Kind;
 use sqlite_items::Items;
 use std::alloc::{AllocError, Global};
+use variable_users::{NodeLists, Users};
 
 /// What is made once of an image: the links of its program, the kinds of its variables, the exits of
 /// each thread, the nodes that use each variable, and what is chosen of these.
@@ -34,7 +34,7 @@ impl Known {
         Ok(Known {
             links: Links::of(alloc, program)?,
             kinds: kinds_of(alloc, program)?,
-            exits: NodeLists::exits(alloc, program)?,
+            exits: exits_of(alloc, program)?,
             extremes: Extremes::of(alloc, program, tables, &users)?,
             samples: Samples::of(alloc, program, &users)?,
             users,

@@ -5,7 +5,7 @@ use Rattle.sc_graph.specs.Program.{Program, kinds}
 use Rattle.sc_graph.specs.Links.{Tells}
 use Rattle.verifier.specs.declared.known.Known.{Known}
 use Rattle.verifier.specs.Inside.ByNode.{IsExitOf}
-use Rattle.verifier.specs.Inside.Users.{ListsEach, UsersOf}
+use Rattle.variable_users.specs.Users.{ListsEach, UsersOf}
 use Rattle.verifier.specs.Inside.Chosen.{ExtremesOf, SamplesOf}
 
 pub record KnownOf (p : Program) (q : Tables) (k : Known) : Type 0 where

@@ -1,5 +1,5 @@
 use Rattle.std.proofs.Common.{ℕ, ◌≡◌, ◌≤◌, ◌+◌, List, length, subst, sym, arith}
-use Rattle.verifier.specs.Inside.Users.{EachOf}
+use Rattle.verifier.specs.Inside.Each.{EachOf}
 use Rattle.verifier.specs.Inside.Extremes.{StandFor}
 use Rattle.verifier.proofs.Each.{each_none, each_more}
 use Rattle.verifier.proofs.extremes.extremes_of_all.Goals as goal

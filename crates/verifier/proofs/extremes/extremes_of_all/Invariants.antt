@@ -1,4 +1,4 @@
-use Rattle.verifier.specs.Inside.Users.{EachOf}
+use Rattle.verifier.specs.Inside.Each.{EachOf}
 use Rattle.verifier.specs.Inside.Extremes.{StandFor}
 use Rattle.verifier.proofs.extremes.extremes_of_all.Given as goal
 

@@ -1,7 +1,7 @@
 use Rattle.std.proofs.Common.{ℕ, List, subst, sym}
 use Rattle.sc_graph.specs.Protocol.{FlowAt}
 use Rattle.verifier.specs.Inside.ByNode.{AllFlow, EntryFlows, ExitsFlow, IsExitOf, RisesFromOneOf}
-use Rattle.verifier.specs.Inside.Pairs.{Lists}
+use Rattle.variable_users.specs.Users.{Lists}
 use Rattle.verifier.proofs.Answer.{answer_turned}
 use Rattle.verifier.proofs.Rising.{rises_to_entry, child_exits, exits_flow, rises_from_exit}
 use Rattle.verifier.proofs.flow.rise_at_child.Goals as goal

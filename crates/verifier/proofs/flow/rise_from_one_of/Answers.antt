@@ -1,6 +1,6 @@
 use Rattle.std.proofs.Common.{ℕ, ◌≤◌, arith}
 use Rattle.sc_graph.specs.Tables.{priority}
-use Rattle.verifier.proofs.Rising.{of_each}
+use Rattle.variable_users.proofs.Variables.{of_each}
 use Rattle.verifier.proofs.flow.rise_from_one_of.Goals as goal
 
 pub returns : goal.returns

@@ -1,6 +1,6 @@
 use Rattle.std.proofs.Common.{ℕ, ◌≡◌, ◌++◌, ◌∷◌, List, [], sym, subst}
 use Rattle.verifier.specs.Inside.Samples.{IsSampled, SamplesToo}
-use Rattle.verifier.proofs.Gaining.{on_ok}
+use Rattle.variable_users.proofs.Gaining.{on_ok}
 use Rattle.verifier.proofs.Sampling.{samples_last, samples_same}
 use Rattle.verifier.proofs.samples.sample.Goals as goal
 

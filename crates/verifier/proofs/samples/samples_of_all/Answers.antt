@@ -1,5 +1,5 @@
 use Rattle.std.proofs.Common.{ℕ, ◌≡◌, ◌≤◌, ◌+◌, List, length, subst, sym, arith}
-use Rattle.verifier.specs.Inside.Users.{EachOf}
+use Rattle.verifier.specs.Inside.Each.{EachOf}
 use Rattle.verifier.specs.Inside.Samples.{IsSample}
 use Rattle.verifier.proofs.Each.{each_none, each_more}
 use Rattle.verifier.proofs.samples.samples_of_all.Goals as goal

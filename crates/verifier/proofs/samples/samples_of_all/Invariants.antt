@@ -1,4 +1,4 @@
-use Rattle.verifier.specs.Inside.Users.{EachOf}
+use Rattle.verifier.specs.Inside.Each.{EachOf}
 use Rattle.verifier.specs.Inside.Samples.{IsSample}
 use Rattle.verifier.proofs.samples.samples_of_all.Given as goal
 

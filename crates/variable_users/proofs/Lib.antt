@@ -1,0 +1,4 @@
+pub mod Within
+pub mod Listing
+pub mod Gaining
+pub mod Variables

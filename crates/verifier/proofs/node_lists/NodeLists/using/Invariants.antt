@@ -1,7 +1,0 @@
-use Rattle.std.proofs.Common.{length}
-use Rattle.verifier.specs.Inside.Users.{UsesAt}
-use Rattle.verifier.proofs.Gaining.{ListsUpTo}
-use Rattle.verifier.proofs.node_lists.NodeLists.using.Given as goal
-
-abbrev pub invariant-loop-n : goal.invariant-loop-n
-invariant-loop-n l = ListsUpTo (length l.program.variables) (UsesAt l.program l.way) l.users l.n
