@@ -18,7 +18,7 @@ use Rattle.bytecode.specs.declared.fault.Fault.{Fault}
 use Rattle.bytecode.specs.declared.fault.Fault.TheVariants as fault
 use Rattle.bytecode.specs.Fields.{u16_bytes, u32_bytes}
 use Rattle.bytecode.specs.Codes.{division_version, divisor_bytes, operation_bytes, code_bytes}
-use Rattle.bytecode.specs.Fits.{OperationFits, CodeFits}
+use Rattle.bytecode.specs.Fits.{SayableOperation, SayableCode}
 use Rattle.bytecode.specs.FieldList.{byte, operation_fields, code_fields}
 use Rattle.bytecode.specs.Reading.{◌>>=◌, Reader, or_field, each_at}
 use Rattle.bytecode.specs.Reading.Fields.{byte_at, number_at, choice_at, flags}
@@ -99,7 +99,7 @@ operation_spelt (op.Binary f) = refl
 
 -- the divisions by 1 begin so
 division_begins : (version n : ℕ) (Whole : List (List ℕ) → Type 0) (front : List (List ℕ)) → is_division version n ≡ true
-    → ((o : Operation) → OperationFits version o → Extends Whole (front ++ operation_fields o)) → Extends Whole (front ++ (byte n ∷ divisor_bytes one ∷ []))
+    → ((o : Operation) → SayableOperation version o → Extends Whole (front ++ operation_fields o)) → Extends Whole (front ++ (byte n ∷ divisor_bytes one ∷ []))
 division_begins version n Whole front is goes_on =
     let parts = and_parts _ _ is in
     let ends = and_parts _ _ parts.0 in
@@ -116,7 +116,7 @@ division_begins version n Whole front is goes_on =
         subst (λ (m : ℕ). Extends Whole (front ++ (byte m ∷ divisor_bytes one ∷ []))) at (goes_on (op.Unary (unary.Remainder one)) (new, one_fits))
 
 body_breaks : (version number : ℕ) (rest : List ℕ) (Whole : List (List ℕ) → Type 0) (front : List (List ℕ)) (left : ℕ) → IsBytes rest → is_division version number ≡ false
-    → ((o : Operation) → OperationFits version o → Extends Whole (front ++ operation_fields o)) → operation_body (number ∷ rest) number rest ≡ broken left
+    → ((o : Operation) → SayableOperation version o → Extends Whole (front ++ operation_fields o)) → operation_body (number ∷ rest) number rest ≡ broken left
     → Breaks Whole front (operation_at version) (number ∷ rest) left
 unfolding operation_at byte_at operation_body
 body_breaks version zero rest Whole front left fits is goes_on e =
@@ -138,7 +138,7 @@ body_breaks version (suc (suc (suc n))) rest Whole front left fits is goes_on e 
         at_once Whole front (operation_at version) (suc (suc (suc n)) ∷ []) rest (byte 3) left (goes_on (op.Unary unary.Negate) tt) refl
         (same_left {A = Operation × List ℕ} (suc (length rest)) left failed) (rw (is, at) refl)
 
-operation_breaks : (version : ℕ) → CanBreak (operation_at version) operation_fields (OperationFits version)
+operation_breaks : (version : ℕ) → CanBreak (operation_at version) operation_fields (SayableOperation version)
 unfolding operation_at byte_at division_at
 operation_breaks version Whole front [] left fits goes_on e = absurd cc
 operation_breaks version Whole front (number ∷ rest) left fits goes_on e = when (is_division version number) refl e
@@ -157,7 +157,7 @@ pub code_spelt : (code : List Operation) → concat (code_fields code) ≡ code_
 unfolding code_bytes
 code_spelt code = ap (λ (t : List ℕ). length code ∷ t) (each_spelt operation_bytes operation_fields operation_spelt code)
 
-pub code_breaks : (version : ℕ) → CanBreak (code_at version) code_fields (CodeFits version)
+pub code_breaks : (version : ℕ) → CanBreak (code_at version) code_fields (SayableCode version)
 unfolding code_at
 code_breaks version Whole front bytes left fits goes_on e =
     then_breaks (length_law 0 operation_limit) (λ n. byte n ∷ []) (λ n. refl) Whole front _ bytes left fits

@@ -11,7 +11,7 @@ use Rattle.sc_values.specs.declared.value.Kind.TheVariants as kind
 use Rattle.sc_values.specs.Limits.{name_limit}
 use Rattle.sc_values.specs.Name.{is_name, is_letter, is_digit}
 use Rattle.sc_graph.specs.declared.program.Role.TheVariants as role
-use Rattle.bytecode.specs.Fits.{VariableFits}
+use Rattle.bytecode.specs.Fits.{SayableVariable}
 use Rattle.bytecode.specs.Fields.{u16_bytes, role_number, kind_number}
 use Rattle.bytecode.specs.declared.fault.Fault.{Fault}
 use Rattle.bytecode.specs.declared.fault.Fault.TheVariants as fault
@@ -234,7 +234,7 @@ name_breaks Whole front bytes left fits goes_on e =
     (step_on Whole front (byte n ∷ []) (letters n ∷ [])
     (subst (λ (m : ℕ). Extends Whole (front ++ (byte m ∷ letters n ∷ []))) (letters_length n) (goes_on (letters n) (letters_name n within)))) failed) e
 
-pub variable_breaks : CanBreak variable_at variable_fields VariableFits
+pub variable_breaks : CanBreak variable_at variable_fields SayableVariable
 unfolding variable_at
 variable_breaks Whole front bytes left fits goes_on e =
     let a : List ℕ = 97 ∷ [] in

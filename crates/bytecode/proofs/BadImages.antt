@@ -19,7 +19,7 @@ use Rattle.bytecode.specs.Image.{Image}
 use Rattle.bytecode.specs.Fields.{u16_bytes, u32_bytes, role_number, kind_number, name_bytes, variable_bytes}
 use Rattle.bytecode.specs.Nodes.{thread_bytes, node_bytes}
 use Rattle.bytecode.specs.Layout.{magic, rows_of_threads, rows_of_nodes, body_bytes, spelling}
-use Rattle.bytecode.specs.Fits.{VariableFits, ThreadFits, NodeFits, ImageFits}
+use Rattle.bytecode.specs.Fits.{SayableVariable, SayableThread, SayableNode, SayableImage}
 use Rattle.bytecode.specs.Beginnings.{IsSpelling}
 use Rattle.bytecode.specs.FieldList.{byte, variable_fields, thread_fields, node_fields, fields}
 use Rattle.bytecode.specs.BadField.{IsBadField}
@@ -66,10 +66,10 @@ rows_have version variables threads nodes budget =
     (regroup (magic ∷ byte version ∷ []) (counted_fields variable_fields variables) (counted_fields thread_fields threads) (counted_fields node_fields nodes) (u32_bytes budget ∷ []))
 
 abbrev Whole : ℕ → List (List ℕ) → Type 0
-Whole version parts = (i : Image) × ImageFits version i × (fields version i ≡ parts)
+Whole version parts = (i : Image) × SayableImage version i × (fields version i ≡ parts)
 
 whole_of : (version : ℕ) (variables : List Variable) (threads : List ThreadRow) (nodes : List NodeRow) (budget : ℕ)
-    → CountedFits VariableFits variables → CountedFits ThreadFits threads → CountedFits (NodeFits version) nodes → budget < 2 ^ 32
+    → CountedFits SayableVariable variables → CountedFits SayableThread threads → CountedFits (SayableNode version) nodes → budget < 2 ^ 32
     → Extends (Whole version) (rows_fields version variables threads nodes budget)
 whole_of version variables threads nodes budget v t n b =
     ([], (image_of variables threads nodes budget, rows_image_fits version variables threads nodes budget v t n b, rows_have version variables threads nodes budget ∙ sym (append-nil (rows_fields version variables threads nodes budget))))

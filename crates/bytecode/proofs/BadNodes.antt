@@ -12,12 +12,12 @@ use Rattle.bytecode.specs.declared.rows.NodeRow.{NodeRow}
 use Rattle.bytecode.specs.declared.fault.Fault.{Fault}
 use Rattle.bytecode.specs.Fields.{u16_bytes, u32_bytes, combination_number, flag_number}
 use Rattle.bytecode.specs.Nodes.{parent_number, thread_bytes, step_bytes, node_bytes}
-use Rattle.bytecode.specs.Fits.{CodeFits, ThreadFits, StepFits, NodeFits}
+use Rattle.bytecode.specs.Fits.{SayableCode, SayableThread, SayableStep, SayableNode}
 use Rattle.bytecode.specs.FieldList.{byte, code_fields, thread_fields, step_fields, node_fields}
 use Rattle.bytecode.specs.Reading.{◌>>=◌, each_at}
 use Rattle.bytecode.specs.Reading.Fields.{byte_at, number_at, flags, combinations}
 use Rattle.bytecode.specs.Reading.Codes.{code_at}
-use Rattle.bytecode.specs.Reading.Nodes.{thread_at, assign_at, update_at, cond_at, fork_at, target_at, step_body, step_at, node_at}
+use Rattle.bytecode.specs.Reading.Nodes.{thread_at, assign_at, update_at, cond_at, fork_at, target_at, step_body, tagged_step_at, node_at}
 use Rattle.bytecode.proofs.Readers.{IsBytes}
 use Rattle.bytecode.proofs.FieldLaws.{IsBytes-rest, number16_law, flag_law, combination_law}
 use Rattle.bytecode.proofs.BadFields.{Extends, step_on, begin_at, Breaks, broken, reads, CanBreak, met_first, met_behind, then_breaks, before_made, at_once, number_breaks_not, byte_breaks_not, same_left, choice_breaks}
@@ -36,7 +36,7 @@ pub thread_spelt : (t : ThreadRow) → concat (thread_fields t) ≡ thread_bytes
 unfolding thread_bytes u16_bytes u32_bytes
 thread_spelt t = ap (λ (b : List ℕ). u16_bytes (parent_number t.thread.parent) ++ (u16_bytes t.thread.entry ++ b)) (append-nil (u32_bytes t.bound))
 
-pub thread_breaks : CanBreak thread_at thread_fields ThreadFits
+pub thread_breaks : CanBreak thread_at thread_fields SayableThread
 unfolding thread_at
 thread_breaks Whole front bytes left fits goes_on e =
     number_then Whole front _ bytes left fits
@@ -47,7 +47,7 @@ thread_breaks Whole front bytes left fits goes_on e =
 
 -- two numbers and a code
 coded_breaks : {A : Type 0} (version : ℕ) (made : ℕ → ℕ → List Operation → A) (Whole : List (List ℕ) → Type 0) (front : List (List ℕ)) (bytes : List ℕ) (left : ℕ) → IsBytes bytes
-    → ((m n : ℕ) (code : List Operation) → m < 2 ^ 16 → n < 2 ^ 16 → CodeFits version code → Extends Whole (front ++ (u16_bytes m ∷ u16_bytes n ∷ code_fields code)))
+    → ((m n : ℕ) (code : List Operation) → m < 2 ^ 16 → n < 2 ^ 16 → SayableCode version code → Extends Whole (front ++ (u16_bytes m ∷ u16_bytes n ∷ code_fields code)))
     → (number_at w16 bytes >>= λ first. number_at w16 first.1 >>= λ second. code_at version second.1 >>= λ code. reads (made first.0 second.0 code.0) code.1) ≡ broken left
     → Breaks Whole front (λ b. number_at w16 b >>= λ first. number_at w16 first.1 >>= λ second. code_at version second.1 >>= λ code. reads (made first.0 second.0 code.0) code.1) bytes left
 coded_breaks version made Whole front bytes left fits goes_on e =
@@ -60,7 +60,7 @@ coded_breaks version made Whole front bytes left fits goes_on e =
     (before_made (code_at version last) _ left last_failed))) failed) e
 
 update_breaks : (version : ℕ) (Whole : List (List ℕ) → Type 0) (front : List (List ℕ)) (bytes : List ℕ) (left : ℕ) → IsBytes bytes
-    → ((s : Step) → StepFits version s → Extends Whole (front ++ step_fields s)) → update_at version bytes ≡ broken left
+    → ((s : Step) → SayableStep version s → Extends Whole (front ++ step_fields s)) → update_at version bytes ≡ broken left
     → Breaks Whole (front ++ (byte 2 ∷ [])) (update_at version) bytes left
 unfolding update_at
 update_breaks version Whole front bytes left fits goes_on e =
@@ -120,18 +120,18 @@ step_spelt (step.Surf depth) = ap (λ (t : List ℕ). 6 ∷ t) (append-nil (u16_
 step_spelt (step.Depth next) = ap (λ (t : List ℕ). 7 ∷ t) (append-nil (u16_bytes next))
 
 step_body_breaks : (version tag : ℕ) (rest : List ℕ) (Whole : List (List ℕ) → Type 0) (front : List (List ℕ)) (left : ℕ) → IsBytes rest
-    → ((s : Step) → StepFits version s → Extends Whole (front ++ step_fields s)) → step_body version (tag ∷ rest) tag rest ≡ broken left
-    → Breaks Whole front (step_at version) (tag ∷ rest) left
-unfolding step_at byte_at step_body assign_at cond_at
+    → ((s : Step) → SayableStep version s → Extends Whole (front ++ step_fields s)) → step_body version (tag ∷ rest) tag rest ≡ broken left
+    → Breaks Whole front (tagged_step_at version) (tag ∷ rest) left
+unfolding tagged_step_at byte_at step_body assign_at cond_at
 step_body_breaks version zero rest Whole front left fits goes_on e = absurd cc
 step_body_breaks version (suc zero) rest Whole front left fits goes_on e =
-    met_behind Whole front (byte 1 ∷ []) (1 ∷ []) (step_at version) (assign_at version) (1 ∷ rest) rest left refl refl (λ more. refl)
+    met_behind Whole front (byte 1 ∷ []) (1 ∷ []) (tagged_step_at version) (assign_at version) (1 ∷ rest) rest left refl refl (λ more. refl)
     (coded_breaks version (λ variable next code. step.Assign variable code next) Whole (front ++ (byte 1 ∷ [])) rest left fits
     (λ variable next code v n c. step_on Whole front (byte 1 ∷ []) (u16_bytes variable ∷ u16_bytes next ∷ code_fields code) (goes_on (step.Assign variable code next) (v, n, c))) e)
 step_body_breaks version (suc (suc zero)) rest Whole front left fits goes_on e =
-    met_behind Whole front (byte 2 ∷ []) (2 ∷ []) (step_at version) (update_at version) (2 ∷ rest) rest left refl refl (λ more. refl) (update_breaks version Whole front rest left fits goes_on e)
+    met_behind Whole front (byte 2 ∷ []) (2 ∷ []) (tagged_step_at version) (update_at version) (2 ∷ rest) rest left refl refl (λ more. refl) (update_breaks version Whole front rest left fits goes_on e)
 step_body_breaks version (suc (suc (suc zero))) rest Whole front left fits goes_on e =
-    met_behind Whole front (byte 3 ∷ []) (3 ∷ []) (step_at version) (cond_at version) (3 ∷ rest) rest left refl refl (λ more. refl)
+    met_behind Whole front (byte 3 ∷ []) (3 ∷ []) (tagged_step_at version) (cond_at version) (3 ∷ rest) rest left refl refl (λ more. refl)
     (coded_breaks version (λ target other code. step.Cond code target other) Whole (front ++ (byte 3 ∷ [])) rest left fits
     (λ target other code t o c. step_on Whole front (byte 3 ∷ []) (u16_bytes target ∷ u16_bytes other ∷ code_fields code) (goes_on (step.Cond code target other) (t, o, c))) e)
 step_body_breaks version (suc (suc (suc (suc zero)))) rest Whole front left fits goes_on e = absurd (fork_breaks_not rest left e)
@@ -139,10 +139,10 @@ step_body_breaks version (suc (suc (suc (suc (suc zero))))) rest Whole front lef
 step_body_breaks version (suc (suc (suc (suc (suc (suc zero)))))) rest Whole front left fits goes_on e = absurd (target_breaks_not step.Surf rest left e)
 step_body_breaks version (suc (suc (suc (suc (suc (suc (suc zero))))))) rest Whole front left fits goes_on e = absurd (target_breaks_not step.Depth rest left e)
 step_body_breaks version (suc (suc (suc (suc (suc (suc (suc (suc n)))))))) rest Whole front left fits goes_on e =
-    at_once Whole front (step_at version) (suc (suc (suc (suc (suc (suc (suc (suc n))))))) ∷ []) rest (byte 0) left (goes_on step.Exit tt) refl (same_left {A = Step × List ℕ} (suc (length rest)) left e) refl
+    at_once Whole front (tagged_step_at version) (suc (suc (suc (suc (suc (suc (suc (suc n))))))) ∷ []) rest (byte 0) left (goes_on step.Exit tt) refl (same_left {A = Step × List ℕ} (suc (length rest)) left e) refl
 
-step_breaks : (version : ℕ) → CanBreak (step_at version) step_fields (StepFits version)
-unfolding step_at byte_at
+step_breaks : (version : ℕ) → CanBreak (tagged_step_at version) step_fields (SayableStep version)
+unfolding tagged_step_at byte_at
 step_breaks version Whole front [] left fits goes_on e = absurd cc
 step_breaks version Whole front (tag ∷ rest) left fits goes_on e = step_body_breaks version tag rest Whole front left (IsBytes-rest tag rest fits) goes_on e
 
@@ -157,7 +157,7 @@ node_spelt n =
 abbrev made_node : ℕ → ℕ → ℕ → Bool → Step → NodeRow
 made_node owner priority weight end_bit s = record { node = record { owner = owner; step = s }; priority = priority; weight = weight; end_bit = end_bit }
 
-pub node_breaks : (version : ℕ) → CanBreak (node_at version) node_fields (NodeFits version)
+pub node_breaks : (version : ℕ) → CanBreak (node_at version) node_fields (SayableNode version)
 unfolding node_at
 node_breaks version Whole front bytes left fits goes_on e =
     number_then Whole front _ bytes left fits
@@ -169,14 +169,14 @@ node_breaks version Whole front bytes left fits goes_on e =
     number_then Whole front2 _ rest2 left fits2
     (λ weight rest3 w_fits fits3 failed3.
     let front3 : List (List ℕ) = front2 ++ (u16_bytes weight ∷ []) in
-    let whole : (b : Bool) (s : Step) → StepFits version s → Extends Whole (front3 ++ (byte (flag_number b) ∷ step_fields s)) =
+    let whole : (b : Bool) (s : Step) → SayableStep version s → Extends Whole (front3 ++ (byte (flag_number b) ∷ step_fields s)) =
     λ b s s_fits. step_on Whole front2 (u16_bytes weight ∷ []) (byte (flag_number b) ∷ step_fields s)
     (step_on Whole front1 (u16_bytes priority ∷ []) (u16_bytes weight ∷ byte (flag_number b) ∷ step_fields s)
     (step_on Whole front (u16_bytes owner ∷ []) (u16_bytes priority ∷ u16_bytes weight ∷ byte (flag_number b) ∷ step_fields s)
     (goes_on (made_node owner priority weight b s) (record { owner = o_fits; priority = p_fits; weight = w_fits; step = s_fits })))) in
     then_breaks flag_law (λ b. byte (flag_number b) ∷ []) (λ b. refl) Whole front3 _ rest3 left fits3
     (choice_breaks flags 0 Whole front3 rest3 left (begin_at Whole front3 (byte 0 ∷ []) (byte 0 ∷ []) (whole false step.Exit tt)))
-    (λ b last any last_fits last_failed. met_first Whole (front3 ++ (byte (flag_number b) ∷ [])) (step_at version) _ last left
+    (λ b last any last_fits last_failed. met_first Whole (front3 ++ (byte (flag_number b) ∷ [])) (tagged_step_at version) _ last left
     (step_breaks version Whole (front3 ++ (byte (flag_number b) ∷ [])) last left last_fits
     (λ s s_fits. step_on Whole front3 (byte (flag_number b) ∷ []) (step_fields s) (whole b s s_fits))
-    (before_made (step_at version last) _ left last_failed))) failed3) failed2) failed1) e
+    (before_made (tagged_step_at version last) _ left last_failed))) failed3) failed2) failed1) e

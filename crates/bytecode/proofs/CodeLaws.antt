@@ -19,7 +19,7 @@ use Rattle.sc_values.specs.declared.operator.BinaryOperator.TheVariants as binar
 use Rattle.sc_values.specs.Limits.{operation_limit}
 use Rattle.bytecode.specs.Fields.{u32_bytes}
 use Rattle.bytecode.specs.Codes.{division_version, divisor_bytes, operation_bytes, code_bytes}
-use Rattle.bytecode.specs.Fits.{OperationFits, CodeFits}
+use Rattle.bytecode.specs.Fits.{SayableOperation, SayableCode}
 use Rattle.bytecode.specs.Reading.{◌>>=◌, or_field, each_at}
 use Rattle.bytecode.specs.Reading.Fields.{byte_at}
 use Rattle.bytecode.specs.Reading.Codes.{operators, operation_body, divisor_at, is_division, division, division_at, operation_at, code_at}
@@ -28,7 +28,7 @@ use Rattle.bytecode.proofs.FieldLaws.{byte_law, number16_law, number32_law, flag
 
 -- what an operator from number 3 on is written as
 abbrev IsNumbered : ℕ → ℕ → Operation → Type 0
-IsNumbered version n o = (operation_bytes o ≡ suc (suc (suc n)) ∷ []) × (OperationFits version) o
+IsNumbered version n o = (operation_bytes o ≡ suc (suc (suc n)) ∷ []) × (SayableOperation version) o
 
 numbered : (version : ℕ) (n : ℕ) (o a : Operation) → given a ≡ given o → (IsNumbered version) n a → (IsNumbered version) n o
 numbered version n o a e is = subst ((IsNumbered version) n) (same_Some a o e) is
@@ -57,30 +57,30 @@ pub behind : (n : ℕ) (rest text after : List ℕ) → Takes rest text after �
 behind n rest text after t = record { parts = ap (λ (w : List ℕ). n ∷ w) t.parts; rest_bytes = t.rest_bytes }
 
 body_takes : (version : ℕ) (bytes : List ℕ) (n : ℕ) (rest : List ℕ) (x : Operation × List ℕ) → IsBytes rest → operation_body bytes n rest ≡ Ok x
-    → Takes (n ∷ rest) (operation_bytes x.0) x.1 × (OperationFits version) x.0
+    → Takes (n ∷ rest) (operation_bytes x.0) x.1 × (SayableOperation version) x.0
 unfolding operation_body operation_bytes
 body_takes version bytes zero rest x fits e =
     let a = first flag_law rest _ x fits e in
     let made : Operation × List ℕ = (op.Literal (value.Bool a.got.0), a.got.1) in
-    subst (λ (p : Operation × List ℕ). Takes (0 ∷ rest) (operation_bytes p.0) p.1 × (OperationFits version) p.0) (ok_is made x a.next)
+    subst (λ (p : Operation × List ℕ). Takes (0 ∷ rest) (operation_bytes p.0) p.1 × (SayableOperation version) p.0) (ok_is made x a.next)
     (behind 0 rest _ _ a.took, tt)
 body_takes version bytes (suc zero) rest x fits e =
     let a = first number32_law rest _ x fits e in
     let n = a.got.0 in
     let same : cast_unsigned w32 (cast_signed w32 n) ≡ n = of_z-to_z w32 n a.fits in
     let made : Operation × List ℕ = (op.Literal (value.Int (cast_signed w32 n)), a.got.1) in
-    subst (λ (p : Operation × List ℕ). Takes (1 ∷ rest) (operation_bytes p.0) p.1 × (OperationFits version) p.0) (ok_is made x a.next)
+    subst (λ (p : Operation × List ℕ). Takes (1 ∷ rest) (operation_bytes p.0) p.1 × (SayableOperation version) p.0) (ok_is made x a.next)
     (behind 1 rest _ _ (subst (λ (m : ℕ). Takes rest (u32_bytes m) a.got.1) (sym same) a.took), sfits_to_z (record { fits = a.fits }))
 body_takes version bytes (suc (suc zero)) rest x fits e =
     let a = first number16_law rest _ x fits e in
     let made : Operation × List ℕ = (op.Load a.got.0, a.got.1) in
-    subst (λ (p : Operation × List ℕ). Takes (2 ∷ rest) (operation_bytes p.0) p.1 × (OperationFits version) p.0) (ok_is made x a.next)
+    subst (λ (p : Operation × List ℕ). Takes (2 ∷ rest) (operation_bytes p.0) p.1 × (SayableOperation version) p.0) (ok_is made x a.next)
     (behind 2 rest _ _ a.took, a.fits)
 body_takes version bytes (suc (suc (suc n))) rest x fits e =
     let a = bind_ok (or_field bytes (slice_get operators n)) (λ operator. Ok (operator, rest)) x e in
     let is = (operator_place version) n a.0 (chosen bytes (slice_get operators n) a.0 a.1) in
     let made : Operation × List ℕ = (a.0, rest) in
-    subst (λ (p : Operation × List ℕ). Takes (suc (suc (suc n)) ∷ rest) (operation_bytes p.0) p.1 × (OperationFits version) p.0) (ok_is made x a.2)
+    subst (λ (p : Operation × List ℕ). Takes (suc (suc (suc n)) ∷ rest) (operation_bytes p.0) p.1 × (SayableOperation version) p.0) (ok_is made x a.2)
     (subst (λ (text : List ℕ). Takes (suc (suc (suc n)) ∷ rest) text rest) (sym is.0) (record { parts = refl; rest_bytes = fits }), is.1)
 
 -- ---- divisions
@@ -115,7 +115,7 @@ divisor_law = record { takes = divisor_takes; again = divisor_again }
 
 -- what a division is written as
 abbrev IsDivision : ℕ → ℕ → Divisor → UnaryOperator → Type 0
-IsDivision version n d f = (operation_bytes (op.Unary f) ≡ n ∷ divisor_bytes d) × OperationFits version (op.Unary f)
+IsDivision version n d f = (operation_bytes (op.Unary f) ≡ n ∷ divisor_bytes d) × SayableOperation version (op.Unary f)
 
 division_is : (version n : ℕ) (d : Divisor) (b : Bool) → eqb n 18 ≡ b → 18 ≤ n → n ≤ 19 → division_version ≤ version → DivisorFits d
     → IsDivision version n d (cond b (unary.Divide d) (unary.Remainder d))
@@ -127,7 +127,7 @@ division_is version n d false e low high new fits =
     let is : 19 ≡ n = omega (arith, low, high, other) in (ap (λ (m : ℕ). m ∷ divisor_bytes d) is, (new, fits))
 
 division_takes : (version n : ℕ) (rest : List ℕ) (x : Operation × List ℕ) → is_division version n ≡ true → IsBytes rest → division_at n rest ≡ Ok x
-    → Takes (n ∷ rest) (operation_bytes x.0) x.1 × OperationFits version x.0
+    → Takes (n ∷ rest) (operation_bytes x.0) x.1 × SayableOperation version x.0
 unfolding division_at
 division_takes version n rest x is fits e =
     let parts = and_parts _ _ is in
@@ -136,23 +136,23 @@ division_takes version n rest x is fits e =
     let d = a.got.0 in
     let made : Operation × List ℕ = (op.Unary (division n d), a.got.1) in
     let w = division_is version n d (eqb n 18) refl (leb-true 18 n ends.0) (leb-true n 19 ends.1) (leb-true division_version version parts.1) a.fits in
-    subst (λ (p : Operation × List ℕ). Takes (n ∷ rest) (operation_bytes p.0) p.1 × OperationFits version p.0) (ok_is made x a.next)
+    subst (λ (p : Operation × List ℕ). Takes (n ∷ rest) (operation_bytes p.0) p.1 × SayableOperation version p.0) (ok_is made x a.next)
     (subst (λ (text : List ℕ). Takes (n ∷ rest) text a.got.1) (sym w.0) (behind n rest _ _ a.took), w.1)
 
 either_takes : (version : ℕ) (bytes : List ℕ) (n : ℕ) (rest : List ℕ) (x : Operation × List ℕ) (b : Bool) → is_division version n ≡ b → IsBytes rest
-    → cond b (division_at n rest) (operation_body bytes n rest) ≡ Ok x → Takes (n ∷ rest) (operation_bytes x.0) x.1 × OperationFits version x.0
+    → cond b (division_at n rest) (operation_body bytes n rest) ≡ Ok x → Takes (n ∷ rest) (operation_bytes x.0) x.1 × SayableOperation version x.0
 either_takes version bytes n rest x true is fits e = division_takes version n rest x is fits e
 either_takes version bytes n rest x false is fits e = body_takes version bytes n rest x fits e
 
 operation_takes : (version : ℕ) (bytes : List ℕ) (x : Operation × List ℕ) → IsBytes bytes → operation_at version bytes ≡ Ok x
-    → Takes bytes (operation_bytes x.0) x.1 × OperationFits version x.0
+    → Takes bytes (operation_bytes x.0) x.1 × SayableOperation version x.0
 unfolding operation_at
 operation_takes version bytes x fits e =
     let a = first byte_law bytes (λ number. cond (is_division version number.0) (division_at number.0 number.1) (operation_body bytes number.0 number.1)) x fits e in
-    subst (λ (from : List ℕ). Takes from (operation_bytes x.0) x.1 × OperationFits version x.0) (sym a.took.parts)
+    subst (λ (from : List ℕ). Takes from (operation_bytes x.0) x.1 × SayableOperation version x.0) (sym a.took.parts)
     (either_takes version bytes a.got.0 a.got.1 x (is_division version a.got.0) refl a.took.rest_bytes a.next)
 
-operation_again : (version : ℕ) (o : Operation) (rest : List ℕ) → (OperationFits version) o → (operation_at version) (operation_bytes o ++ rest) ≡ Ok (o, rest)
+operation_again : (version : ℕ) (o : Operation) (rest : List ℕ) → (SayableOperation version) o → (operation_at version) (operation_bytes o ++ rest) ≡ Ok (o, rest)
 unfolding operation_at operation_body division_at operation_bytes byte_at
 operation_again version (op.Literal (value.Bool b)) rest fits = rw (flag_law.again b rest tt) refl
 operation_again version (op.Literal (value.Int n)) rest fits =
@@ -177,20 +177,20 @@ operation_again version (op.Binary binary.LessOrEqual) rest fits = refl
 operation_again version (op.Binary binary.Greater) rest fits = refl
 operation_again version (op.Binary binary.GreaterOrEqual) rest fits = refl
 
-pub operation_law : (version : ℕ) → IsRead (operation_at version) operation_bytes (OperationFits version)
+pub operation_law : (version : ℕ) → IsRead (operation_at version) operation_bytes (SayableOperation version)
 operation_law version = record { takes = (operation_takes version); again = (operation_again version) }
 
-code_takes : (version : ℕ) (bytes : List ℕ) (x : List Operation × List ℕ) → IsBytes bytes → (code_at version) bytes ≡ Ok x → Takes bytes (code_bytes x.0) x.1 × (CodeFits version) x.0
+code_takes : (version : ℕ) (bytes : List ℕ) (x : List Operation × List ℕ) → IsBytes bytes → (code_at version) bytes ≡ Ok x → Takes bytes (code_bytes x.0) x.1 × (SayableCode version) x.0
 unfolding code_at code_bytes
 code_takes version bytes x fits e =
     let a = first (length_law 0 operation_limit) bytes (λ len. each_at (operation_at version) len.0 len.1) x fits e in
     let t = each_takes (operation_law version) a.got.0 a.got.1 x a.took.rest_bytes a.next in
     (subst (λ (n : ℕ). Takes bytes (n ∷ flat_map operation_bytes x.0) x.1) (sym t.1) (then_takes a.took t.0), (omega (arith, t.1, a.fits), t.2))
 
-code_again : (version : ℕ) (code : List Operation) (rest : List ℕ) → (CodeFits version) code → (code_at version) (code_bytes code ++ rest) ≡ Ok (code, rest)
+code_again : (version : ℕ) (code : List Operation) (rest : List ℕ) → (SayableCode version) code → (code_at version) (code_bytes code ++ rest) ≡ Ok (code, rest)
 unfolding code_at code_bytes
 code_again version code rest fits =
     rw ((length_law 0 operation_limit).again (length code) (flat_map operation_bytes code ++ rest) (omega arith, fits.0), each_again (operation_law version) code rest fits.1) refl
 
-pub code_law : (version : ℕ) → IsRead (code_at version) code_bytes (CodeFits version)
+pub code_law : (version : ℕ) → IsRead (code_at version) code_bytes (SayableCode version)
 code_law version = record { takes = (code_takes version); again = (code_again version) }

@@ -17,7 +17,7 @@ use Rattle.sc_graph.specs.declared.program.Role.TheVariants as role
 use Rattle.sc_graph.specs.declared.program.Variable.{Variable}
 use Rattle.bytecode.specs.declared.fault.Fault.TheVariants as fault
 use Rattle.bytecode.specs.Fields.{u16_bytes, u32_bytes, flag_number, role_number, kind_number, combination_number, name_bytes, variable_bytes}
-use Rattle.bytecode.specs.Fits.{VariableFits}
+use Rattle.bytecode.specs.Fits.{SayableVariable}
 use Rattle.bytecode.specs.Reading.{◌>>=◌, or_field}
 use Rattle.bytecode.specs.Reading.Fields.{bytes_at, byte_at, number_at, choice_at, flags, roles, kinds, combinations, length_at, name_of, name_at, variable_at}
 use Rattle.bytecode.proofs.Readers.{IsBytes, IsBytes-drop, IsBytes-take, bind_ok, passed, not_short, chosen, ok_is, Takes, then_takes, IsRead, first}
@@ -254,20 +254,20 @@ name_again name rest is =
 pub name_law : IsRead name_at name_bytes (λ name. IsTrue (is_name name))
 name_law = record { takes = name_takes; again = name_again }
 
-variable_takes : (bytes : List ℕ) (x : Variable × List ℕ) → IsBytes bytes → variable_at bytes ≡ Ok x → Takes bytes (variable_bytes x.0) x.1 × VariableFits x.0
+variable_takes : (bytes : List ℕ) (x : Variable × List ℕ) → IsBytes bytes → variable_at bytes ≡ Ok x → Takes bytes (variable_bytes x.0) x.1 × SayableVariable x.0
 unfolding variable_at variable_bytes
 variable_takes bytes x fits e =
     let a = first role_law bytes _ x fits e in
     let b = first kind_law a.got.1 _ x a.took.rest_bytes a.next in
     let c = first name_law b.got.1 _ x b.took.rest_bytes b.next in
     let made : Variable × List ℕ = (record { name = c.got.0; kind = b.got.0; role = a.got.0 }, c.got.1) in
-    subst (λ (p : Variable × List ℕ). Takes bytes (role_number p.0.role ∷ kind_number p.0.kind ∷ name_bytes p.0.name) p.1 × VariableFits p.0) (ok_is made x c.next)
+    subst (λ (p : Variable × List ℕ). Takes bytes (role_number p.0.role ∷ kind_number p.0.kind ∷ name_bytes p.0.name) p.1 × SayableVariable p.0) (ok_is made x c.next)
     (then_takes a.took (then_takes b.took c.took), c.fits)
 
-variable_again : (v : Variable) (rest : List ℕ) → VariableFits v → variable_at (variable_bytes v ++ rest) ≡ Ok (v, rest)
+variable_again : (v : Variable) (rest : List ℕ) → SayableVariable v → variable_at (variable_bytes v ++ rest) ≡ Ok (v, rest)
 unfolding variable_at variable_bytes
 variable_again v rest fits =
     rw (role_law.again v.role (kind_number v.kind ∷ name_bytes v.name ++ rest) tt, kind_law.again v.kind (name_bytes v.name ++ rest) tt, name_law.again v.name rest fits) refl
 
-pub variable_law : IsRead variable_at variable_bytes VariableFits
+pub variable_law : IsRead variable_at variable_bytes SayableVariable
 variable_law = record { takes = variable_takes; again = variable_again }

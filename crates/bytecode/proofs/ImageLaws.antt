@@ -18,7 +18,7 @@ use Rattle.bytecode.specs.Image.{Image}
 use Rattle.bytecode.specs.Fields.{u16_bytes, u32_bytes, variable_bytes}
 use Rattle.bytecode.specs.Nodes.{thread_bytes, node_bytes}
 use Rattle.bytecode.specs.Layout.{magic, rows_of_threads, rows_of_nodes, body_bytes, spelling}
-use Rattle.bytecode.specs.Fits.{VariableFits, ThreadFits, NodeFits, ImageFits}
+use Rattle.bytecode.specs.Fits.{SayableVariable, SayableThread, SayableNode, SayableImage}
 use Rattle.bytecode.specs.Spells.{Spells}
 use Rattle.bytecode.specs.Beginnings.{HasTail}
 use Rattle.bytecode.specs.Reading.{◌>>=◌, Reader, each_at}
@@ -93,7 +93,7 @@ body_is variables threads nodes budget =
 
 -- an image of rows that fit
 pub rows_image_fits : (version : ℕ) (variables : List Variable) (threads : List ThreadRow) (nodes : List NodeRow) (budget : ℕ)
-    → CountedFits VariableFits variables → CountedFits ThreadFits threads → CountedFits (NodeFits version) nodes → budget < 2 ^ 32 → (ImageFits version) (image_of variables threads nodes budget)
+    → CountedFits SayableVariable variables → CountedFits SayableThread threads → CountedFits (SayableNode version) nodes → budget < 2 ^ 32 → (SayableImage version) (image_of variables threads nodes budget)
 rows_image_fits version variables threads nodes budget v t n b = record {
   variables_counted = v.0;
   threads_counted = omega (arith, t.0, length-map threads (λ x. x.thread));
@@ -105,12 +105,12 @@ rows_image_fits version variables threads nodes budget v t n b = record {
     bounds = length-map threads (λ x. x.bound) ∙ sym (length-map threads (λ x. x.thread));
   };
   variables = v.1;
-  threads = subst (AllByRecursion ThreadFits) (sym (thread_rows_back threads)) t.1;
-  nodes = subst (AllByRecursion (NodeFits version)) (sym (node_rows_back nodes)) n.1;
+  threads = subst (AllByRecursion SayableThread) (sym (thread_rows_back threads)) t.1;
+  nodes = subst (AllByRecursion (SayableNode version)) (sym (node_rows_back nodes)) n.1;
   budget = b;
 }
 
-pub body_takes : (version : ℕ) (bytes : List ℕ) (i : Image) → IsBytes bytes → (body_at version) bytes ≡ Ok i → (bytes ≡ body_bytes i) × (ImageFits version) i
+pub body_takes : (version : ℕ) (bytes : List ℕ) (i : Image) → IsBytes bytes → (body_at version) bytes ≡ Ok i → (bytes ≡ body_bytes i) × (SayableImage version) i
 unfolding body_at
 body_takes version bytes i fits e =
     let v = first (counted_law variable_law) bytes _ i fits e in
@@ -123,10 +123,10 @@ body_takes version bytes i fits e =
     let text = rows_bytes v.got.0 t.got.0 n.got.0 b.got.0 in
     let same : bytes ≡ body_bytes (image_of v.got.0 t.got.0 n.got.0 b.got.0) =
     whole.parts ∙ ap (λ (rest : List ℕ). text ++ rest) nothing ∙ append-nil text ∙ sym (body_is v.got.0 t.got.0 n.got.0 b.got.0) in
-    subst (λ (x : Image). (bytes ≡ body_bytes x) × (ImageFits version) x) g.1 (same, (rows_image_fits version) v.got.0 t.got.0 n.got.0 b.got.0 v.fits t.fits n.fits b.fits)
+    subst (λ (x : Image). (bytes ≡ body_bytes x) × (SayableImage version) x) g.1 (same, (rows_image_fits version) v.got.0 t.got.0 n.got.0 b.got.0 v.fits t.fits n.fits b.fits)
 
 rows_again : (version : ℕ) (variables : List Variable) (threads : List ThreadRow) (nodes : List NodeRow) (budget : ℕ)
-    → CountedFits VariableFits variables → CountedFits ThreadFits threads → CountedFits (NodeFits version) nodes → budget < 2 ^ 32
+    → CountedFits SayableVariable variables → CountedFits SayableThread threads → CountedFits (SayableNode version) nodes → budget < 2 ^ 32
     → (body_at version) (rows_bytes variables threads nodes budget) ≡ Ok (image_of variables threads nodes budget)
 unfolding body_at
 rows_again version variables threads nodes budget v t n b =
@@ -142,7 +142,7 @@ rows_again version variables threads nodes budget v t n b =
     ) refl
 
 -- the rows of an image are counted by its threads and its nodes
-pub body_again : (version : ℕ) (i : Image) → (ImageFits version) i → (body_at version) (body_bytes i) ≡ Ok i
+pub body_again : (version : ℕ) (i : Image) → (SayableImage version) i → (body_at version) (body_bytes i) ≡ Ok i
 body_again version i fits =
     let threads = rows_of_threads i in
     let nodes = rows_of_nodes i in
@@ -181,7 +181,7 @@ failed false x f e = refl
 
 -- what was read before a tail
 body_tail : (version : ℕ) (bytes : List ℕ) → IsBytes bytes → body_at version bytes ≡ Err fault.Trailing
-    → (i : Image) × (tail : List ℕ) × (tail ≢ []) × ImageFits version i × (bytes ≡ body_bytes i ++ tail)
+    → (i : Image) × (tail : List ℕ) × (tail ≢ []) × SayableImage version i × (bytes ≡ body_bytes i ++ tail)
 unfolding body_at
 body_tail version bytes fits e =
     let v = tail_behind unread _ (counted_at variable_at bytes) _ (counted_stays variable_at variable_stays bytes) e in

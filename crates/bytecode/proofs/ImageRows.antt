@@ -13,7 +13,7 @@ use Rattle.bytecode.specs.declared.rows.ThreadRow.{ThreadRow}
 use Rattle.bytecode.specs.declared.rows.NodeRow.{NodeRow}
 use Rattle.bytecode.specs.Layout.{thread_rows, node_rows}
 use Rattle.bytecode.specs.Inside.Columns.{AreThreads, AreNodes}
-use Rattle.bytecode.specs.Fits.{ThreadFits, StepFits, NodeFits, ImageFits}
+use Rattle.bytecode.specs.Fits.{SayableThread, SayableStep, SayableNode, SayableImage}
 use Rattle.bytecode.specs.Reading.Image.{image_of}
 
 -- ---- rows to columns and back
@@ -87,7 +87,7 @@ image_is variables threads bounds nodes priorities weights end_bits budget t n t
 
 -- ---- what fits an image fits its program
 
-counts_children : (version : ℕ) (s : Step) → (StepFits version) s → CountsChildren s
+counts_children : (version : ℕ) (s : Step) → (SayableStep version) s → CountsChildren s
 counts_children version step.Exit fits = tt
 counts_children version (step.Assign variable code next) fits = tt
 counts_children version (step.Update variable combine code next) fits = tt
@@ -103,7 +103,7 @@ node_given x = Some x
 counts_of : (a x : Node) → node_given a ≡ node_given x → CountsChildren a.step → CountsChildren x.step
 counts_of a x e counts = let same : a ≡ x = cc in subst (λ (n : Node). CountsChildren n.step) same counts
 
-children_counted : (version : ℕ) (rows : List NodeRow) → AllByRecursion (NodeFits version) rows → (n : ℕ) (x : Node) → slice_get (map (λ r. r.node) rows) n ≡ Some x → CountsChildren x.step
+children_counted : (version : ℕ) (rows : List NodeRow) → AllByRecursion (SayableNode version) rows → (n : ℕ) (x : Node) → slice_get (map (λ r. r.node) rows) n ≡ Some x → CountsChildren x.step
 children_counted version [] all n x e = absurd cc
 children_counted version (row ∷ rows) all zero x e = counts_of row.node x e ((counts_children version) row.node.step all.0.step)
 children_counted version (row ∷ rows) all (suc n) x e = (children_counted version) rows all.1 n x e
@@ -118,18 +118,18 @@ thread_given x = Some x
 parent_same : (a x : Thread) → thread_given a ≡ thread_given x → a.parent ≢ Some no_parent → x.parent ≢ Some no_parent
 parent_same a x e is = let same : a ≡ x = cc in subst (λ (t : Thread). t.parent ≢ Some no_parent) same is
 
-parents : (rows : List ThreadRow) → AllByRecursion ThreadFits rows → (t : ℕ) (x : Thread) → slice_get (map (λ r. r.thread) rows) t ≡ Some x → x.parent ≢ Some no_parent
+parents : (rows : List ThreadRow) → AllByRecursion SayableThread rows → (t : ℕ) (x : Thread) → slice_get (map (λ r. r.thread) rows) t ≡ Some x → x.parent ≢ Some no_parent
 parents [] all t x e = absurd cc
 parents (row ∷ rows) all zero x e = parent_same row.thread x e (no_such_parent row.thread.parent all.0.parent)
 parents (row ∷ rows) all (suc t) x e = parents rows all.1 t x e
 
 -- the columns of these rows fit the layout
-pub rows_fit : (version : ℕ) (variables : List Variable) (threads : List ThreadRow) (nodes : List NodeRow) (budget : ℕ) → (ImageFits version) (image_of variables threads nodes budget)
+pub rows_fit : (version : ℕ) (variables : List Variable) (threads : List ThreadRow) (nodes : List NodeRow) (budget : ℕ) → (SayableImage version) (image_of variables threads nodes budget)
     → FitsLayout variables (map (λ t. t.thread) threads) (map (λ n. n.node) nodes)
 rows_fit version variables threads nodes budget fits = record {
   variables_counted = fits.variables_counted;
   threads_counted = fits.threads_counted;
   nodes_counted = fits.nodes_counted;
-  children_counted = children_counted version nodes (subst (AllByRecursion (NodeFits version)) (node_rows_back nodes) fits.nodes);
-  parents = parents threads (subst (AllByRecursion ThreadFits) (thread_rows_back threads) fits.threads);
+  children_counted = children_counted version nodes (subst (AllByRecursion (SayableNode version)) (node_rows_back nodes) fits.nodes);
+  parents = parents threads (subst (AllByRecursion SayableThread) (thread_rows_back threads) fits.threads);
 }

@@ -18,7 +18,7 @@ use Rattle.bytecode.specs.Layout.{magic}
 use Rattle.bytecode.specs.Reading.{◌>>=◌, Reader, or_field, each_at}
 use Rattle.bytecode.specs.Reading.Fields.{bytes_at, byte_at, number_at, choice_at, flags, roles, kinds, combinations, length_at, name_of, name_at, variable_at}
 use Rattle.bytecode.specs.Reading.Codes.{operators, operation_body, divisor_at, is_division, division_at, operation_at, code_at}
-use Rattle.bytecode.specs.Reading.Nodes.{thread_at, assign_at, update_at, cond_at, fork_at, target_at, step_body, step_at, node_at}
+use Rattle.bytecode.specs.Reading.Nodes.{thread_at, assign_at, update_at, cond_at, fork_at, target_at, step_body, tagged_step_at, node_at}
 use Rattle.bytecode.specs.Reading.Image.{counted_at, header_at, image_of, body_at, image_at}
 use Rattle.bytecode.proofs.FieldLaws.{bytes_again}
 
@@ -226,8 +226,8 @@ step_body_grows version (suc (suc (suc (suc (suc (suc (suc zero))))))) rest more
 step_body_grows version (suc (suc (suc (suc (suc (suc (suc (suc n)))))))) rest more =
     let fault_of : ℕ → Result (Step × List ℕ) Fault = λ n. Err (fault.Field n) in ap fault_of (length-append (suc (suc (suc (suc (suc (suc (suc (suc n))))))) ∷ rest) more)
 
-step_grows : (version : ℕ) → Grows (step_at version)
-unfolding step_at byte_at
+step_grows : (version : ℕ) → Grows (tagged_step_at version)
+unfolding tagged_step_at byte_at
 step_grows version [] more = tt
 step_grows version (tag ∷ rest) more = step_body_grows version tag rest more
 

@@ -12,10 +12,10 @@ use Rattle.bytecode.specs.declared.rows.NodeRow.{NodeRow}
 use Rattle.bytecode.specs.Fields.{u16_bytes, u32_bytes, flag_number, combination_number}
 use Rattle.bytecode.specs.Codes.{code_bytes}
 use Rattle.bytecode.specs.Nodes.{parent_number, thread_bytes, step_bytes, node_bytes}
-use Rattle.bytecode.specs.Fits.{ThreadFits, StepFits, NodeFits}
+use Rattle.bytecode.specs.Fits.{SayableThread, SayableStep, SayableNode}
 use Rattle.bytecode.specs.Reading.{◌>>=◌, each_at}
 use Rattle.bytecode.specs.Reading.Fields.{byte_at, number_at}
-use Rattle.bytecode.specs.Reading.Nodes.{parent_of, thread_at, assign_at, update_at, cond_at, fork_at, target_at, step_body, step_at, node_at}
+use Rattle.bytecode.specs.Reading.Nodes.{parent_of, thread_at, assign_at, update_at, cond_at, fork_at, target_at, step_body, tagged_step_at, node_at}
 use Rattle.bytecode.proofs.Readers.{IsBytes, bind_ok, ok_is, Takes, then_takes, IsRead, first, each_takes, each_again}
 use Rattle.bytecode.proofs.FieldLaws.{byte_law, number16_law, number32_law, flag_law, combination_law}
 use Rattle.bytecode.proofs.CodeLaws.{code_law, behind}
@@ -39,7 +39,7 @@ parent_fits : (parent : Option ℕ) → IfSome parent (λ p. p < no_parent) → 
 parent_fits None fits = omega arith
 parent_fits (Some p) fits = omega (arith, fits)
 
-thread_takes : (bytes : List ℕ) (x : ThreadRow × List ℕ) → IsBytes bytes → thread_at bytes ≡ Ok x → Takes bytes (thread_bytes x.0) x.1 × ThreadFits x.0
+thread_takes : (bytes : List ℕ) (x : ThreadRow × List ℕ) → IsBytes bytes → thread_at bytes ≡ Ok x → Takes bytes (thread_bytes x.0) x.1 × SayableThread x.0
 unfolding thread_at thread_bytes
 thread_takes bytes x fits e =
     let a = first number16_law bytes _ x fits e in
@@ -48,10 +48,10 @@ thread_takes bytes x fits e =
     let p = parent_when (eqb a.got.0 no_parent) a.got.0 refl a.fits in
     let made : ThreadRow × List ℕ = (record { thread = record { parent = parent_of a.got.0; entry = b.got.0 }; bound = c.got.0 }, c.got.1) in
     let parent : Takes bytes (u16_bytes (parent_number (parent_of a.got.0))) a.got.1 = subst (λ (n : ℕ). Takes bytes (u16_bytes n) a.got.1) (sym p.0) a.took in
-    subst (λ (y : ThreadRow × List ℕ). Takes bytes (thread_bytes y.0) y.1 × ThreadFits y.0) (ok_is made x c.next)
+    subst (λ (y : ThreadRow × List ℕ). Takes bytes (thread_bytes y.0) y.1 × SayableThread y.0) (ok_is made x c.next)
     (then_takes (then_takes parent b.took) c.took, record { parent = p.1; entry = b.fits; bound = c.fits })
 
-thread_again : (t : ThreadRow) (rest : List ℕ) → ThreadFits t → thread_at (thread_bytes t ++ rest) ≡ Ok (t, rest)
+thread_again : (t : ThreadRow) (rest : List ℕ) → SayableThread t → thread_at (thread_bytes t ++ rest) ≡ Ok (t, rest)
 unfolding thread_at thread_bytes
 thread_again t rest fits =
     let regrouped : thread_bytes t ++ rest ≡ u16_bytes (parent_number t.thread.parent) ++ (u16_bytes t.thread.entry ++ (u32_bytes t.bound ++ rest)) = simp append_assoc in
@@ -62,14 +62,14 @@ thread_again t rest fits =
       parent_back t.thread.parent fits.parent,
     ) refl
 
-pub thread_law : IsRead thread_at thread_bytes ThreadFits
+pub thread_law : IsRead thread_at thread_bytes SayableThread
 thread_law = record { takes = thread_takes; again = thread_again }
 
 -- ---- steps
 
 -- a step that these bytes are, behind its tag
 abbrev StepTakes : ℕ → ℕ → List ℕ → Step × List ℕ → Type 0
-StepTakes version tag rest x = Takes (tag ∷ rest) (step_bytes x.0) x.1 × (StepFits version) x.0
+StepTakes version tag rest x = Takes (tag ∷ rest) (step_bytes x.0) x.1 × (SayableStep version) x.0
 
 assign_takes : (version : ℕ) (rest : List ℕ) (x : Step × List ℕ) → IsBytes rest → (assign_at version) rest ≡ Ok x → (StepTakes version) 1 rest x
 unfolding assign_at step_bytes
@@ -113,7 +113,7 @@ fork_takes version rest x fits e =
     subst ((StepTakes version) 4 rest) (ok_is made x b.2) (behind 4 rest _ _ (then_takes a.took counted), (a.fits, omega (arith, t.1, n.fits), t.2))
 
 -- a step that is told by one node
-target_takes : (version : ℕ) (tag : ℕ) (make : ℕ → Step) → ((n : ℕ) → step_bytes (make n) ≡ tag ∷ u16_bytes n) → ((n : ℕ) → n < 2 ^ 16 → (StepFits version) (make n))
+target_takes : (version : ℕ) (tag : ℕ) (make : ℕ → Step) → ((n : ℕ) → step_bytes (make n) ≡ tag ∷ u16_bytes n) → ((n : ℕ) → n < 2 ^ 16 → (SayableStep version) (make n))
     → (rest : List ℕ) (x : Step × List ℕ) → IsBytes rest → target_at make rest ≡ Ok x → (StepTakes version) tag rest x
 unfolding target_at
 target_takes version tag make bytes_are fits_too rest x fits e =
@@ -136,15 +136,15 @@ body_takes version bytes (suc (suc (suc (suc (suc (suc zero)))))) rest x fits e 
 body_takes version bytes (suc (suc (suc (suc (suc (suc (suc zero))))))) rest x fits e = (target_takes version) 7 step.Depth (λ n. refl) (λ n lt. lt) rest x fits e
 body_takes version bytes (suc (suc (suc (suc (suc (suc (suc (suc n)))))))) rest x fits e = absurd cc
 
-step_takes : (version : ℕ) (bytes : List ℕ) (x : Step × List ℕ) → IsBytes bytes → (step_at version) bytes ≡ Ok x → Takes bytes (step_bytes x.0) x.1 × (StepFits version) x.0
-unfolding step_at
+step_takes : (version : ℕ) (bytes : List ℕ) (x : Step × List ℕ) → IsBytes bytes → (tagged_step_at version) bytes ≡ Ok x → Takes bytes (step_bytes x.0) x.1 × (SayableStep version) x.0
+unfolding tagged_step_at
 step_takes version bytes x fits e =
     let a = first byte_law bytes (λ tag. (step_body version) bytes tag.0 tag.1) x fits e in
-    subst (λ (from : List ℕ). Takes from (step_bytes x.0) x.1 × (StepFits version) x.0) (sym a.took.parts)
+    subst (λ (from : List ℕ). Takes from (step_bytes x.0) x.1 × (SayableStep version) x.0) (sym a.took.parts)
     ((body_takes version) bytes a.got.0 a.got.1 x a.took.rest_bytes a.next)
 
-step_again : (version : ℕ) (s : Step) (rest : List ℕ) → (StepFits version) s → (step_at version) (step_bytes s ++ rest) ≡ Ok (s, rest)
-unfolding step_at step_body step_bytes byte_at assign_at update_at cond_at fork_at target_at
+step_again : (version : ℕ) (s : Step) (rest : List ℕ) → (SayableStep version) s → (tagged_step_at version) (step_bytes s ++ rest) ≡ Ok (s, rest)
+unfolding tagged_step_at step_body step_bytes byte_at assign_at update_at cond_at fork_at target_at
 step_again version step.Exit rest fits = refl
 step_again version (step.Assign variable code next) rest fits =
     let regrouped : (u16_bytes variable ++ u16_bytes next ++ code_bytes code) ++ rest ≡ u16_bytes variable ++ (u16_bytes next ++ (code_bytes code ++ rest)) = simp append_assoc in
@@ -167,12 +167,12 @@ step_again version (step.Join next) rest fits = rw (number16_law.again next rest
 step_again version (step.Surf depth) rest fits = rw (number16_law.again depth rest fits) refl
 step_again version (step.Depth next) rest fits = rw (number16_law.again next rest fits) refl
 
-step_law : (version : ℕ) → IsRead (step_at version) step_bytes (StepFits version)
+step_law : (version : ℕ) → IsRead (tagged_step_at version) step_bytes (SayableStep version)
 step_law version = record { takes = (step_takes version); again = (step_again version) }
 
 -- ---- nodes
 
-node_takes : (version : ℕ) (bytes : List ℕ) (x : NodeRow × List ℕ) → IsBytes bytes → (node_at version) bytes ≡ Ok x → Takes bytes (node_bytes x.0) x.1 × (NodeFits version) x.0
+node_takes : (version : ℕ) (bytes : List ℕ) (x : NodeRow × List ℕ) → IsBytes bytes → (node_at version) bytes ≡ Ok x → Takes bytes (node_bytes x.0) x.1 × (SayableNode version) x.0
 unfolding node_at node_bytes
 node_takes version bytes x fits e =
     let a = first number16_law bytes _ x fits e in
@@ -181,10 +181,10 @@ node_takes version bytes x fits e =
     let d = first flag_law c.got.1 _ x c.took.rest_bytes c.next in
     let s = first (step_law version) d.got.1 _ x d.took.rest_bytes d.next in
     let made : NodeRow × List ℕ = (record { node = record { owner = a.got.0; step = s.got.0 }; priority = b.got.0; weight = c.got.0; end_bit = d.got.0 }, s.got.1) in
-    subst (λ (y : NodeRow × List ℕ). Takes bytes (node_bytes y.0) y.1 × (NodeFits version) y.0) (ok_is made x s.next)
+    subst (λ (y : NodeRow × List ℕ). Takes bytes (node_bytes y.0) y.1 × (SayableNode version) y.0) (ok_is made x s.next)
     (then_takes (then_takes (then_takes a.took b.took) c.took) (then_takes d.took s.took), record { owner = a.fits; priority = b.fits; weight = c.fits; step = s.fits })
 
-node_again : (version : ℕ) (n : NodeRow) (rest : List ℕ) → (NodeFits version) n → (node_at version) (node_bytes n ++ rest) ≡ Ok (n, rest)
+node_again : (version : ℕ) (n : NodeRow) (rest : List ℕ) → (SayableNode version) n → (node_at version) (node_bytes n ++ rest) ≡ Ok (n, rest)
 unfolding node_at node_bytes
 node_again version n rest fits =
     let regrouped : node_bytes n ++ rest ≡ u16_bytes n.node.owner ++ (u16_bytes n.priority ++ (u16_bytes n.weight ++ ((flag_number n.end_bit ∷ []) ++ (step_bytes n.node.step ++ rest)))) = simp append_assoc in
@@ -196,5 +196,5 @@ node_again version n rest fits =
       (step_law version).again n.node.step rest fits.step,
     ) refl
 
-pub node_law : (version : ℕ) → IsRead (node_at version) node_bytes (NodeFits version)
+pub node_law : (version : ℕ) → IsRead (node_at version) node_bytes (SayableNode version)
 node_law version = record { takes = (node_takes version); again = (node_again version) }

@@ -21,7 +21,7 @@ use Rattle.bytecode.specs.Layout.{magic}
 use Rattle.bytecode.specs.Reading.{◌>>=◌, Reader, or_field, each_at}
 use Rattle.bytecode.specs.Reading.Fields.{bytes_at, byte_at, number_at, choice_at, flags, roles, kinds, combinations, length_at, name_of, name_at, variable_at}
 use Rattle.bytecode.specs.Reading.Codes.{operators, operation_body, divisor_at, is_division, division_at, operation_at, code_at}
-use Rattle.bytecode.specs.Reading.Nodes.{thread_at, assign_at, update_at, cond_at, fork_at, target_at, step_body, step_at, node_at}
+use Rattle.bytecode.specs.Reading.Nodes.{thread_at, assign_at, update_at, cond_at, fork_at, target_at, step_body, tagged_step_at, node_at}
 use Rattle.bytecode.specs.Reading.Image.{counted_at, header_at, image_of, body_at, image_at, answer, reading, Answers}
 use Rattle.bytecode.proofs.Readers.{bind_ok, passed, not_short}
 
@@ -272,8 +272,8 @@ step_body_stays version (suc (suc (suc (suc (suc (suc zero)))))) rest = behind_b
 step_body_stays version (suc (suc (suc (suc (suc (suc (suc zero))))))) rest = behind_byte rest _ (target_stays step.Depth rest)
 step_body_stays version (suc (suc (suc (suc (suc (suc (suc (suc n)))))))) rest = (omega arith, omega arith)
 
-step_stays : (version : ℕ) (bytes : List ℕ) → Stays unread (length bytes) ((step_at version) bytes)
-unfolding step_at byte_at
+step_stays : (version : ℕ) (bytes : List ℕ) → Stays unread (length bytes) ((tagged_step_at version) bytes)
+unfolding tagged_step_at byte_at
 step_stays version [] = tt
 step_stays version (tag ∷ rest) = (step_body_stays version) tag rest
 
@@ -284,7 +284,7 @@ node_stays version bytes =
     (λ owner e. then_stays unread unread _ (number_at w16 owner.1) _ (number_stays w16 owner.1)
     (λ priority f. then_stays unread unread _ (number_at w16 priority.1) _ (number_stays w16 priority.1)
     (λ weight g. then_stays unread unread _ (choice_at flags weight.1) _ (choice_stays flags weight.1)
-    (λ end_bit h. then_stays unread unread _ ((step_at version) end_bit.1) _ ((step_stays version) end_bit.1) (λ step i. omega arith)))))
+    (λ end_bit h. then_stays unread unread _ ((tagged_step_at version) end_bit.1) _ ((step_stays version) end_bit.1) (λ step i. omega arith)))))
 
 -- ---- images
 

@@ -2,7 +2,7 @@
 use Rattle.std.specs.Prelude.{◌≡◌, ℕ, List, ◌∷◌, ◌++◌, length}
 use Rattle.std.specs.List.{concat}
 use Rattle.bytecode.specs.Image.{Image}
-use Rattle.bytecode.specs.Fits.{ImageFits}
+use Rattle.bytecode.specs.Fits.{SayableImage}
 use Rattle.bytecode.specs.Beginnings.{IsSpelling}
 use Rattle.bytecode.specs.FieldList.{fields}
 
@@ -10,7 +10,7 @@ use Rattle.bytecode.specs.FieldList.{fields}
 -- its length stands there, and no spelling begins so.
 pub record IsBadField (version : ℕ) (bytes : List ℕ) (offset : ℕ) : Type 0 where
   pub image : Image
-  pub fits : ImageFits version image
+  pub fits : SayableImage version image
   pub before : List (List ℕ)
   pub field : List ℕ
   pub after : List (List ℕ)

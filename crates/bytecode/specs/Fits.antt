@@ -19,48 +19,51 @@ use Rattle.bytecode.specs.Image.{Image, HasLengths}
 use Rattle.bytecode.specs.Codes.{division_version}
 use Rattle.bytecode.specs.Layout.{rows_of_threads, rows_of_nodes}
 
-abbrev pub VariableFits : Variable → Type 0
-VariableFits v = IsTrue (is_name v.name)
+abbrev pub SayableVariable : Variable → Type 0
+SayableVariable v = IsTrue (is_name v.name)
 
 -- an integer has 32 bits, and divisions came with version 2
-abbrev pub OperationFits : ℕ → Operation → Type 0
-OperationFits version (op.Literal (value.Int n)) = FitsSigned w32 n
-OperationFits version (op.Load x) = x < 2 ^ 16
-OperationFits version (op.Unary (unary.Divide d)) = (division_version ≤ version) × FitsSigned w32 d.number
-OperationFits version (op.Unary (unary.Remainder d)) = (division_version ≤ version) × FitsSigned w32 d.number
-OperationFits version other = Unit {0}
+abbrev pub SayableOperation : ℕ → Operation → Type 0
+SayableOperation version (op.Literal (value.Int n)) = FitsSigned w32 n
+SayableOperation version (op.Load x) = x < 2 ^ 16
+SayableOperation version (op.Unary (unary.Divide d)) = (division_version ≤ version) × FitsSigned w32 d.number
+SayableOperation version (op.Unary (unary.Remainder d)) = (division_version ≤ version) × FitsSigned w32 d.number
+SayableOperation version other = Unit {0}
 
-abbrev pub CodeFits : ℕ → List Operation → Type 0
-CodeFits version code = (length code ≤ operation_limit) × AllByRecursion (OperationFits version) code
+abbrev pub SayableCode : ℕ → List Operation → Type 0
+SayableCode version code = (length code ≤ operation_limit) × AllByRecursion (SayableOperation version) code
 
 -- no parent has the number that stands for none
-pub record ThreadFits (t : ThreadRow) : Type 0 where
+pub record SayableThread (t : ThreadRow) : Type 0 where
   pub parent : IfSome t.thread.parent (λ p. p < no_parent)
   pub entry : t.thread.entry < 2 ^ 16
   pub bound : t.bound < 2 ^ 32
 
-abbrev pub StepFits : ℕ → Step → Type 0
-StepFits version step.Exit = Unit {0}
-StepFits version (step.Assign variable code next) = (variable < 2 ^ 16) × (next < 2 ^ 16) × CodeFits version code
-StepFits version (step.Update variable combine code next) = (variable < 2 ^ 16) × (next < 2 ^ 16) × CodeFits version code
-StepFits version (step.Cond code target other) = (target < 2 ^ 16) × (other < 2 ^ 16) × CodeFits version code
-StepFits version (step.Fork children join) = (join < 2 ^ 16) × (length children ≤ child_count_limit) × AllByRecursion (λ t. t < 2 ^ 16) children
-StepFits version (step.Join next) = next < 2 ^ 16
-StepFits version (step.Surf depth) = depth < 2 ^ 16
-StepFits version (step.Depth next) = next < 2 ^ 16
+abbrev pub SayableStep : ℕ → Step → Type 0
+SayableStep version step.Exit = Unit {0}
+SayableStep version (step.Assign variable code next) =
+    (variable < 2 ^ 16) × (next < 2 ^ 16) × SayableCode version code
+SayableStep version (step.Update variable combine code next) =
+    (variable < 2 ^ 16) × (next < 2 ^ 16) × SayableCode version code
+SayableStep version (step.Cond code target other) = (target < 2 ^ 16) × (other < 2 ^ 16) × SayableCode version code
+SayableStep version (step.Fork children join) =
+    (join < 2 ^ 16) × (length children ≤ child_count_limit) × AllByRecursion (λ t. t < 2 ^ 16) children
+SayableStep version (step.Join next) = next < 2 ^ 16
+SayableStep version (step.Surf depth) = depth < 2 ^ 16
+SayableStep version (step.Depth next) = next < 2 ^ 16
 
-pub record NodeFits (version : ℕ) (n : NodeRow) : Type 0 where
+pub record SayableNode (version : ℕ) (n : NodeRow) : Type 0 where
   pub owner : n.node.owner < 2 ^ 16
   pub priority : n.priority < 2 ^ 16
   pub weight : n.weight < 2 ^ 16
-  pub step : StepFits version n.node.step
+  pub step : SayableStep version n.node.step
 
-pub record ImageFits (version : ℕ) (i : Image) : Type 0 where
+pub record SayableImage (version : ℕ) (i : Image) : Type 0 where
   pub variables_counted : length i.program.variables ≤ count_limit
   pub threads_counted : length i.program.threads ≤ count_limit
   pub nodes_counted : length i.program.nodes ≤ count_limit
   pub lengths : HasLengths i.program i.tables
-  pub variables : AllByRecursion VariableFits i.program.variables
-  pub threads : AllByRecursion ThreadFits (rows_of_threads i)
-  pub nodes : AllByRecursion (NodeFits version) (rows_of_nodes i)
+  pub variables : AllByRecursion SayableVariable i.program.variables
+  pub threads : AllByRecursion SayableThread (rows_of_threads i)
+  pub nodes : AllByRecursion (SayableNode version) (rows_of_nodes i)
   pub budget : i.tables.budget < 2 ^ 32

@@ -13,7 +13,8 @@ ghost use Rattle.bytecode.specs.declared.fault.DecodeFault.TheVariants.{Short, T
 
 /// Bytes spell one image at most: what is encoded and then decoded is the image.
 pub fn bytes_spell_one_image()
-    ensures { (version : ℕ) (bytes : List ℕ) (i j : Image) → Spells version bytes i → Spells version bytes j → i ≡ j }
+    ensures { (version : ℕ) (bytes : List ℕ) (i j : Image) → Spells version bytes i
+        → Spells version bytes j → i ≡ j }
 {}
 
 /// An image has one spelling at most: what is decoded and then encoded is the bytes.
@@ -35,7 +36,8 @@ pub fn version_1_is_spelled_in_version_2()
 
 /// A spelling that is cut is too short.
 pub fn cut_spelling_is_short()
-    ensures { (version : ℕ) (bytes : List ℕ) → IsCutSpelling version bytes → reading version bytes ≡ Err Short }
+    ensures { (version : ℕ) (bytes : List ℕ) → IsCutSpelling version bytes
+        → reading version bytes ≡ Err Short }
 {}
 
 /// Bytes have a tail exactly where they are a spelling and more behind it.

@@ -68,8 +68,8 @@ step_body version bytes (suc (suc (suc (suc (suc (suc zero)))))) rest = target_a
 step_body version bytes (suc (suc (suc (suc (suc (suc (suc zero))))))) rest = target_at step.Depth rest
 step_body version bytes (suc (suc (suc (suc (suc (suc (suc (suc n)))))))) rest = Err (fault.Field (length bytes))
 
-unfoldable pub step_at : ℕ → Reader Step
-step_at version bytes = do
+unfoldable pub tagged_step_at : ℕ → Reader Step
+tagged_step_at version bytes = do
   tag ← byte_at bytes
   step_body version bytes tag.0 tag.1
 
@@ -79,5 +79,5 @@ node_at version bytes = do
   priority ← number_at w16 owner.1
   weight ← number_at w16 priority.1
   end_bit ← choice_at flags weight.1
-  step ← step_at version end_bit.1
+  step ← tagged_step_at version end_bit.1
   Ok (record { node = record { owner = owner.0; step = step.0 }; priority = priority.0; weight = weight.0; end_bit = end_bit.0 }, step.1)

@@ -3,8 +3,9 @@
 ghost use Rattle.std.specs.Prelude.{◌≡◌, ◌≤◌};
 ghost use Rattle.sc_values.specs.Limits.{operation_limit};
 ghost use Rattle.bytecode.specs.Reading.{each_at};
-ghost use Rattle.bytecode.specs.Inside.Readers.{Reads};
-ghost use Rattle.bytecode.specs.Reading.Codes.{operation_body, divisor_at, is_division, division, operation_at, code_at};
+ghost use Rattle.bytecode.specs.Inside.Readers.{GivesExactly};
+ghost use Rattle.bytecode.specs.Reading.Codes.{operation_body, divisor_at, is_division};
+ghost use Rattle.bytecode.specs.Reading.Codes.{division, operation_at, code_at};
 
 use crate::fault::Fault;
 use crate::reading::fields::{FLAGS, byte, choice, length, number16, number32};
@@ -31,7 +32,7 @@ const OPERATORS: [Operation; 15] = [
 
 fn operator<'b>(bytes: &[u8], number: u8, rest: &'b [u8]) -> Result<(Operation, &'b [u8]), Fault>
     requires { 3 ≤ number }
-    ensures { Reads (λ x. (x.0, x.1.now)) result (operation_body bytes.now number rest.now) }
+    ensures { GivesExactly (λ x. (x.0, x.1.now)) result (operation_body bytes.now number rest.now) }
 {
     match at(&OPERATORS, number as usize - 3) {
         Some(operator) => Ok((*operator, rest)),
@@ -41,7 +42,7 @@ fn operator<'b>(bytes: &[u8], number: u8, rest: &'b [u8]) -> Result<(Operation, 
 
 #[tactic(auto, unfolding(crate::specs::Reading::Codes::operation_body))]
 fn body<'b>(bytes: &[u8], number: u8, rest: &'b [u8]) -> Result<(Operation, &'b [u8]), Fault>
-    ensures { Reads (λ x. (x.0, x.1.now)) result (operation_body bytes.now number rest.now) }
+    ensures { GivesExactly (λ x. (x.0, x.1.now)) result (operation_body bytes.now number rest.now) }
 {
     match number {
         0 => {
@@ -62,7 +63,7 @@ fn body<'b>(bytes: &[u8], number: u8, rest: &'b [u8]) -> Result<(Operation, &'b 
 
 #[tactic(auto, unfolding(crate::specs::Reading::Codes::divisor_at))]
 fn divisor(bytes: &[u8]) -> Result<(Divisor, &[u8]), Fault>
-    ensures { Reads (λ x. (x.0, x.1.now)) result (divisor_at bytes.now) }
+    ensures { GivesExactly (λ x. (x.0, x.1.now)) result (divisor_at bytes.now) }
 {
     let (number, rest) = number32(bytes)?;
     let left = bytes.len();
@@ -91,7 +92,7 @@ fn division(number: u8, divisor: Divisor) -> UnaryOperator
 
 #[tactic(auto, unfolding(crate::specs::Reading::Codes::operation_at, crate::specs::Reading::Codes::division_at))]
 fn operation(version: u8, bytes: &[u8]) -> Result<(Operation, &[u8]), Fault>
-    ensures { Reads (λ x. (x.0, x.1.now)) result (operation_at version bytes.now) }
+    ensures { GivesExactly (λ x. (x.0, x.1.now)) result (operation_at version bytes.now) }
 {
     let (number, rest) = byte(bytes)?;
     if is_division(version, number) {
@@ -104,7 +105,7 @@ fn operation(version: u8, bytes: &[u8]) -> Result<(Operation, &[u8]), Fault>
 
 fn operations(version: u8, count: u8, bytes: &[u8]) -> Result<(Code, &[u8]), Fault>
     requires { count ≤ operation_limit }
-    ensures { Reads (λ x. (x.0, x.1.now)) result (each_at (operation_at version) count bytes.now) }
+    ensures { GivesExactly (λ x. (x.0, x.1.now)) result (each_at (operation_at version) count bytes.now) }
 {
     let mut code = Code::new();
     let mut rest = bytes;
@@ -119,7 +120,7 @@ fn operations(version: u8, count: u8, bytes: &[u8]) -> Result<(Code, &[u8]), Fau
 /// A code of this version of the layout: its number of operations, and these.
 #[tactic(auto, unfolding(crate::specs::Reading::Codes::code_at))]
 pub fn code(version: u8, bytes: &[u8]) -> Result<(Code, &[u8]), Fault>
-    ensures { Reads (λ x. (x.0, x.1.now)) result (code_at version bytes.now) }
+    ensures { GivesExactly (λ x. (x.0, x.1.now)) result (code_at version bytes.now) }
 {
     let (count, rest) = length(0, OPERATION_LIMIT as u8, bytes)?;
     operations(version, count, rest)

@@ -2,8 +2,9 @@
 
 ghost use Rattle.std.specs.Prelude.{◌≤◌, IfOk};
 ghost use Rattle.std.specs.Int.{w16, w32};
-ghost use Rattle.bytecode.specs.Inside.Readers.{Reads};
-ghost use Rattle.bytecode.specs.Reading.Fields.{bytes_at, byte_at, number_at, choice_at, length_at, name_at, variable_at};
+ghost use Rattle.bytecode.specs.Inside.Readers.{GivesExactly};
+ghost use Rattle.bytecode.specs.Reading.Fields.{bytes_at, byte_at, number_at, choice_at};
+ghost use Rattle.bytecode.specs.Reading.Fields.{length_at, name_at, variable_at};
 
 use crate::fault::Fault;
 use sc_graph::{Role, Variable};
@@ -29,7 +30,7 @@ pub const COMBINATIONS: [Combination; 6] = [
 /// So many bytes, and those after them.
 #[tactic(auto, unfolding(crate::specs::Reading::Fields::bytes_at))]
 pub fn front(bytes: &[u8], count: usize) -> Result<(&[u8], &[u8]), Fault>
-    ensures { Reads (λ x. (x.0.now, x.1.now)) result (bytes_at count bytes.now) }
+    ensures { GivesExactly (λ x. (x.0.now, x.1.now)) result (bytes_at count bytes.now) }
 {
     if bytes.len() < count {
         return Err(Fault::Short);
@@ -40,7 +41,7 @@ pub fn front(bytes: &[u8], count: usize) -> Result<(&[u8], &[u8]), Fault>
 /// One byte, and those after it.
 #[tactic(auto, unfolding(crate::specs::Reading::Fields::byte_at))]
 pub fn byte(bytes: &[u8]) -> Result<(u8, &[u8]), Fault>
-    ensures { Reads (λ x. (x.0, x.1.now)) result (byte_at bytes.now) }
+    ensures { GivesExactly (λ x. (x.0, x.1.now)) result (byte_at bytes.now) }
 {
     match bytes {
         [] => Err(Fault::Short),
@@ -51,7 +52,7 @@ pub fn byte(bytes: &[u8]) -> Result<(u8, &[u8]), Fault>
 /// A number of two bytes, the lower one first.
 #[tactic(auto, unfolding(crate::specs::Reading::Fields::number_at, crate::specs::Reading::Fields::bytes_at))]
 pub fn number16(bytes: &[u8]) -> Result<(u16, &[u8]), Fault>
-    ensures { Reads (λ x. (x.0, x.1.now)) result (number_at w16 bytes.now) }
+    ensures { GivesExactly (λ x. (x.0, x.1.now)) result (number_at w16 bytes.now) }
 {
     if bytes.len() < 2 {
         return Err(Fault::Short);
@@ -64,7 +65,7 @@ pub fn number16(bytes: &[u8]) -> Result<(u16, &[u8]), Fault>
 /// A number of four bytes, the lowest one first.
 #[tactic(auto, unfolding(crate::specs::Reading::Fields::number_at, crate::specs::Reading::Fields::bytes_at))]
 pub fn number32(bytes: &[u8]) -> Result<(u32, &[u8]), Fault>
-    ensures { Reads (λ x. (x.0, x.1.now)) result (number_at w32 bytes.now) }
+    ensures { GivesExactly (λ x. (x.0, x.1.now)) result (number_at w32 bytes.now) }
 {
     if bytes.len() < 4 {
         return Err(Fault::Short);
@@ -77,7 +78,7 @@ pub fn number32(bytes: &[u8]) -> Result<(u32, &[u8]), Fault>
 /// The choice whose place among the choices is the first byte.
 #[tactic(auto, unfolding(crate::specs::Reading::Fields::choice_at))]
 pub fn choice<'b, T: Copy>(choices: &[T], bytes: &'b [u8]) -> Result<(T, &'b [u8]), Fault>
-    ensures { Reads (λ x. (x.0, x.1.now)) result (choice_at choices.now bytes.now) }
+    ensures { GivesExactly (λ x. (x.0, x.1.now)) result (choice_at choices.now bytes.now) }
 {
     let (number, rest) = byte(bytes)?;
     match choices.get(number as usize) {
@@ -89,7 +90,7 @@ pub fn choice<'b, T: Copy>(choices: &[T], bytes: &'b [u8]) -> Result<(T, &'b [u8
 /// A length between two bounds.
 #[tactic(auto, unfolding(crate::specs::Reading::Fields::length_at))]
 pub fn length(least: u8, most: u8, bytes: &[u8]) -> Result<(u8, &[u8]), Fault>
-    ensures gives { Reads (λ x. (x.0, x.1.now)) result (length_at least most bytes.now) }
+    ensures gives { GivesExactly (λ x. (x.0, x.1.now)) result (length_at least most bytes.now) }
     ensures bounds { IfOk result (λ x. (least ≤ x.0) × (x.0 ≤ most)) }
 {
     let (length, rest) = byte(bytes)?;
@@ -102,7 +103,7 @@ pub fn length(least: u8, most: u8, bytes: &[u8]) -> Result<(u8, &[u8]), Fault>
 
 #[tactic(auto, unfolding(crate::specs::Reading::Fields::name_at, crate::specs::Reading::Fields::name_of))]
 fn name(bytes: &[u8]) -> Result<(Name, &[u8]), Fault>
-    ensures { Reads (λ x. (x.0, x.1.now)) result (name_at bytes.now) }
+    ensures { GivesExactly (λ x. (x.0, x.1.now)) result (name_at bytes.now) }
 {
     let (length, rest) = length(1, NAME_LIMIT as u8, bytes)?;
     let (text, after) = front(rest, length as usize)?;
@@ -115,7 +116,7 @@ fn name(bytes: &[u8]) -> Result<(Name, &[u8]), Fault>
 /// A variable: role, kind and name.
 #[tactic(auto, unfolding(crate::specs::Reading::Fields::variable_at))]
 pub fn variable(bytes: &[u8]) -> Result<(Variable, &[u8]), Fault>
-    ensures { Reads (λ x. (x.0, x.1.now)) result (variable_at bytes.now) }
+    ensures { GivesExactly (λ x. (x.0, x.1.now)) result (variable_at bytes.now) }
 {
     let (role, rest) = choice(&ROLES, bytes)?;
     let (kind, rest) = choice(&KINDS, rest)?;

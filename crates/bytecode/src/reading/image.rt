@@ -10,7 +10,7 @@ ghost use Rattle.bytecode.specs.declared.fault.Fault.TheVariants as fault;
 ghost use Rattle.bytecode.specs.Image.{Image};
 ghost use Rattle.bytecode.specs.Spells.{Spells};
 ghost use Rattle.bytecode.specs.Reading.{each_at};
-ghost use Rattle.bytecode.specs.Inside.Readers.{Gives, Reads};
+ghost use Rattle.bytecode.specs.Inside.Readers.{Gives, GivesExactly};
 ghost use Rattle.bytecode.specs.Reading.Fields.{variable_at};
 ghost use Rattle.bytecode.specs.Reading.Nodes.{thread_at, node_at};
 ghost use Rattle.bytecode.specs.Reading.Image.{header_at, body_at, image_at, image_of, reading, version_of, Answers};
@@ -42,7 +42,7 @@ struct Nodes {
 
 #[tactic(auto, unfolding(crate::specs::Reading::Image::header_at))]
 fn header(version: u8, bytes: &[u8]) -> Result<&[u8], Fault>
-    ensures { Reads (λ x. x.now) result (header_at version bytes.now) }
+    ensures { GivesExactly (λ x. x.now) result (header_at version bytes.now) }
 {
     let (start, rest) = front(bytes, 4)?;
     if start != MAGIC.as_slice() {
@@ -73,7 +73,8 @@ fn variable_list(alloc: Global, count: u16, bytes: &[u8]) -> Result<(Items<Varia
 }
 
 fn thread_columns(alloc: Global, count: u16, bytes: &[u8]) -> Result<(Threads, &[u8]), Fault>
-    ensures gives { Gives (λ x. (thread_rows x.0.threads x.0.bounds, x.1.now)) result (each_at thread_at count bytes.now) }
+    ensures gives { Gives (λ x. (thread_rows x.0.threads x.0.bounds, x.1.now)) result
+        (each_at thread_at count bytes.now) }
     ensures lengths { IfOk result (λ x. AreThreads x.0.threads x.0.bounds count) }
 {
     let mut threads = Items::new(alloc);
@@ -94,7 +95,8 @@ fn node_columns(
     count: u16,
     bytes: &[u8],
 ) -> Result<(Nodes, &[u8]), Fault>
-    ensures gives { Gives (λ x. (node_rows x.0.nodes x.0.priorities x.0.weights x.0.end_bits, x.1.now)) result (each_at (node_at version) count bytes.now) }
+    ensures gives { Gives (λ x. (node_rows x.0.nodes x.0.priorities x.0.weights x.0.end_bits, x.1.now)) result
+        (each_at (node_at version) count bytes.now) }
     ensures lengths { IfOk result (λ x. AreNodes x.0.nodes x.0.priorities x.0.weights x.0.end_bits count) }
 {
     let mut nodes = Items::new(alloc);
@@ -130,9 +132,12 @@ struct Parts {
 
 #[tactic(auto, unfolding(crate::specs::Reading::Image::body_at, crate::specs::Reading::Image::counted_at))]
 fn all_parts(alloc: Global, version: u8, bytes: &[u8]) -> Result<Parts, Fault>
-    ensures gives { Gives (λ p. image_of p.variables (thread_rows p.threads.threads p.threads.bounds) (node_rows p.nodes.nodes p.nodes.priorities p.nodes.weights p.nodes.end_bits) p.budget) result (body_at version bytes.now) }
+    ensures gives { Gives (λ p. image_of p.variables (thread_rows p.threads.threads p.threads.bounds)
+        (node_rows p.nodes.nodes p.nodes.priorities p.nodes.weights p.nodes.end_bits) p.budget) result
+        (body_at version bytes.now) }
     ensures threads { IfOk result (λ p. AreThreads p.threads.threads p.threads.bounds (length p.threads.threads)) }
-    ensures nodes { IfOk result (λ p. AreNodes p.nodes.nodes p.nodes.priorities p.nodes.weights p.nodes.end_bits (length p.nodes.nodes)) }
+    ensures nodes { IfOk result (λ p. AreNodes p.nodes.nodes p.nodes.priorities p.nodes.weights p.nodes.end_bits
+        (length p.nodes.nodes)) }
 {
     let (count, rest) = number16(bytes)?;
     let (variables, rest) = variable_list(alloc, count, rest)?;
@@ -155,9 +160,23 @@ fn all_parts(alloc: Global, version: u8, bytes: &[u8]) -> Result<Parts, Fault>
 // The image of these parts.
 fn image_from(parts: Parts) -> Image
     requires threads { AreThreads parts.threads.threads parts.threads.bounds (length parts.threads.threads) }
-    requires nodes { AreNodes parts.nodes.nodes parts.nodes.priorities parts.nodes.weights parts.nodes.end_bits (length parts.nodes.nodes) }
+    requires nodes { AreNodes parts.nodes.nodes parts.nodes.priorities parts.nodes.weights parts.nodes.end_bits
+        (length parts.nodes.nodes) }
     requires fits { FitsLayout parts.variables parts.threads.threads parts.nodes.nodes }
-    ensures { result ≡ record { program = record { variables = parts.variables; threads = parts.threads.threads; nodes = parts.nodes.nodes }; tables = record { priorities = parts.nodes.priorities; weights = parts.nodes.weights; end_bits = parts.nodes.end_bits; bounds = parts.threads.bounds; budget = parts.budget } } }
+    ensures { result ≡ record {
+      program = record {
+        variables = parts.variables;
+        threads = parts.threads.threads;
+        nodes = parts.nodes.nodes;
+      };
+      tables = record {
+        priorities = parts.nodes.priorities;
+        weights = parts.nodes.weights;
+        end_bits = parts.nodes.end_bits;
+        bounds = parts.threads.bounds;
+        budget = parts.budget;
+      };
+    } }
 {
     let Parts {
         variables,

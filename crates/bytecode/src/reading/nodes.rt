@@ -3,9 +3,10 @@
 ghost use Rattle.std.specs.Prelude.{◌≡◌};
 ghost use Rattle.std.specs.Int.{w16};
 ghost use Rattle.bytecode.specs.Reading.{each_at};
-ghost use Rattle.bytecode.specs.Inside.Readers.{Gives, Reads};
+ghost use Rattle.bytecode.specs.Inside.Readers.{Gives, GivesExactly};
 ghost use Rattle.bytecode.specs.Reading.Fields.{number_at};
-ghost use Rattle.bytecode.specs.Reading.Nodes.{parent_of, thread_at, assign_at, update_at, cond_at, fork_at, step_body, step_at, node_at};
+ghost use Rattle.bytecode.specs.Reading.Nodes.{parent_of, thread_at, assign_at, update_at, cond_at};
+ghost use Rattle.bytecode.specs.Reading.Nodes.{fork_at, step_body, tagged_step_at, node_at};
 
 use crate::fault::Fault;
 use crate::reading::codes::code;
@@ -28,7 +29,7 @@ fn parent(number: u16) -> Option<ThreadId>
 /// A thread and its bound.
 #[tactic(auto, unfolding(crate::specs::Reading::Nodes::thread_at))]
 pub fn thread(bytes: &[u8]) -> Result<(ThreadRow, &[u8]), Fault>
-    ensures { Reads (λ x. (x.0, x.1.now)) result (thread_at bytes.now) }
+    ensures { GivesExactly (λ x. (x.0, x.1.now)) result (thread_at bytes.now) }
 {
     let (number, rest) = number16(bytes)?;
     let (entry, rest) = number16(rest)?;
@@ -40,7 +41,7 @@ pub fn thread(bytes: &[u8]) -> Result<(ThreadRow, &[u8]), Fault>
 
 #[tactic(auto, unfolding(crate::specs::Reading::Nodes::assign_at))]
 fn assign(version: u8, bytes: &[u8]) -> Result<(Step, &[u8]), Fault>
-    ensures { Reads (λ x. (x.0, x.1.now)) result (assign_at version bytes.now) }
+    ensures { GivesExactly (λ x. (x.0, x.1.now)) result (assign_at version bytes.now) }
 {
     let (variable, rest) = number16(bytes)?;
     let (next, rest) = number16(rest)?;
@@ -55,7 +56,7 @@ fn assign(version: u8, bytes: &[u8]) -> Result<(Step, &[u8]), Fault>
 
 #[tactic(auto, unfolding(crate::specs::Reading::Nodes::update_at))]
 fn update(version: u8, bytes: &[u8]) -> Result<(Step, &[u8]), Fault>
-    ensures { Reads (λ x. (x.0, x.1.now)) result (update_at version bytes.now) }
+    ensures { GivesExactly (λ x. (x.0, x.1.now)) result (update_at version bytes.now) }
 {
     let (variable, rest) = number16(bytes)?;
     let (combine, rest) = choice(&COMBINATIONS, rest)?;
@@ -72,7 +73,7 @@ fn update(version: u8, bytes: &[u8]) -> Result<(Step, &[u8]), Fault>
 
 #[tactic(auto, unfolding(crate::specs::Reading::Nodes::cond_at))]
 fn cond(version: u8, bytes: &[u8]) -> Result<(Step, &[u8]), Fault>
-    ensures { Reads (λ x. (x.0, x.1.now)) result (cond_at version bytes.now) }
+    ensures { GivesExactly (λ x. (x.0, x.1.now)) result (cond_at version bytes.now) }
 {
     let (then, rest) = number16(bytes)?;
     let (other, rest) = number16(rest)?;
@@ -135,9 +136,9 @@ fn body<'b>(
     }
 }
 
-#[tactic(auto, unfolding(crate::specs::Reading::Nodes::step_at))]
+#[tactic(auto, unfolding(crate::specs::Reading::Nodes::tagged_step_at))]
 fn step(alloc: Global, version: u8, bytes: &[u8]) -> Result<(Step, &[u8]), Fault>
-    ensures { Gives (λ x. (x.0, x.1.now)) result (step_at version bytes.now) }
+    ensures { Gives (λ x. (x.0, x.1.now)) result (tagged_step_at version bytes.now) }
 {
     let (tag, rest) = byte(bytes)?;
     body(alloc, version, bytes, tag, rest)

@@ -6,7 +6,7 @@ ghost use Rattle.std.specs.Int.{w32};
 ghost use Rattle.std.specs.Int.RustNames.{FitsSigned};
 ghost use Rattle.sc_values.specs.declared.operation.Operation.TheVariants as op;
 ghost use Rattle.bytecode.specs.Codes.{unary_number, divisor_bytes, binary_number, operation_bytes, code_bytes};
-ghost use Rattle.bytecode.specs.Fits.{OperationFits, CodeFits};
+ghost use Rattle.bytecode.specs.Fits.{SayableOperation, SayableCode};
 
 use crate::writing::fields::{put16, put32};
 use sc_values::{BinaryOperator, Code, Divisor, Operation, UnaryOperator, Value};
@@ -33,7 +33,7 @@ fn put_divisor(out: &mut Vec<u8>, divisor: Divisor) -> Result<(), AllocError>
 #[tactic(auto, unfolding(crate::specs::Codes::operation_bytes))]
 fn put_unary(out: &mut Vec<u8>, operator: UnaryOperator) -> Result<(), AllocError>
     ensures written { OnOk result (out.new.items ≡ out.old.items ++ operation_bytes (op.Unary operator)) }
-    ensures fits { OnOk result (OperationFits 2 (op.Unary operator)) }
+    ensures fits { OnOk result (SayableOperation 2 (op.Unary operator)) }
 {
     out.push(unary_byte(operator))?;
     match operator {
@@ -66,7 +66,7 @@ fn binary_byte(operator: BinaryOperator) -> u8
 #[tactic(auto, unfolding(crate::specs::Codes::operation_bytes))]
 fn put_operation(out: &mut Vec<u8>, operation: &Operation) -> Result<(), AllocError>
     ensures written { OnOk result (out.new.items ≡ out.old.items ++ operation_bytes operation.now) }
-    ensures fits { OnOk result (OperationFits 2 operation.now) }
+    ensures fits { OnOk result (SayableOperation 2 operation.now) }
 {
     match *operation {
         Operation::Literal(Value::Bool(literal)) => {
@@ -92,7 +92,7 @@ fn put_operation(out: &mut Vec<u8>, operation: &Operation) -> Result<(), AllocEr
 
 fn put_operations(out: &mut Vec<u8>, operations: &[Operation]) -> Result<(), AllocError>
     ensures written { OnOk result (out.new.items ≡ out.old.items ++ flat_map operation_bytes operations.now) }
-    ensures fits { OnOk result (AllByRecursion (OperationFits 2) operations.now) }
+    ensures fits { OnOk result (AllByRecursion (SayableOperation 2) operations.now) }
 {
     for operation in operations {
         put_operation(out, operation)?;
@@ -104,7 +104,7 @@ fn put_operations(out: &mut Vec<u8>, operations: &[Operation]) -> Result<(), All
 #[tactic(auto, unfolding(crate::specs::Codes::code_bytes))]
 pub fn put_code(out: &mut Vec<u8>, code: &Code) -> Result<(), AllocError>
     ensures written { OnOk result (out.new.items ≡ out.old.items ++ code_bytes code.now) }
-    ensures fits { OnOk result (CodeFits 2 code.now) }
+    ensures fits { OnOk result (SayableCode 2 code.now) }
 {
     let operations = code.operations();
     out.push(operations.len() as u8)?;

@@ -3,8 +3,9 @@
 ghost use Rattle.std.specs.Prelude.{◌≡◌, ◌++◌, OnOk, IsTrue};
 ghost use Rattle.sc_values.specs.Name.{is_name};
 ghost use Rattle.sc_graph.specs.declared.program.Role.{Role};
-ghost use Rattle.bytecode.specs.Fields.{u16_bytes, u32_bytes, role_number, kind_number, combination_number, name_bytes, variable_bytes};
-ghost use Rattle.bytecode.specs.Fits.{VariableFits};
+ghost use Rattle.bytecode.specs.Fields.{u16_bytes, u32_bytes, role_number, kind_number};
+ghost use Rattle.bytecode.specs.Fields.{combination_number, name_bytes, variable_bytes};
+ghost use Rattle.bytecode.specs.Fits.{SayableVariable};
 
 use sc_graph::{Role, Variable};
 use sc_values::{Combination, Kind, Name};
@@ -75,7 +76,7 @@ fn put_name(out: &mut Vec<u8>, name: &Name) -> Result<(), AllocError>
 #[tactic(auto, unfolding(crate::specs::Fields::variable_bytes))]
 pub fn put_variable(out: &mut Vec<u8>, variable: &Variable) -> Result<(), AllocError>
     ensures written { OnOk result (out.new.items ≡ out.old.items ++ variable_bytes variable.now) }
-    ensures fits { OnOk result (VariableFits variable.now) }
+    ensures fits { OnOk result (SayableVariable variable.now) }
 {
     out.push(role_byte(variable.role))?;
     out.push(kind_byte(variable.kind))?;

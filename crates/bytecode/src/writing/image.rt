@@ -7,7 +7,7 @@ ghost use Rattle.bytecode.specs.Fields.{variable_bytes};
 ghost use Rattle.bytecode.specs.Nodes.{thread_bytes, node_bytes};
 ghost use Rattle.bytecode.specs.Layout.{thread_rows, node_rows};
 ghost use Rattle.bytecode.specs.Spells.{Spells};
-ghost use Rattle.bytecode.specs.Fits.{VariableFits, ThreadFits, NodeFits};
+ghost use Rattle.bytecode.specs.Fits.{SayableVariable, SayableThread, SayableNode};
 
 use crate::image::Image;
 use crate::layout::MAGIC;
@@ -18,7 +18,7 @@ use std::alloc::{AllocError, Global};
 
 fn put_variables(out: &mut Vec<u8>, variables: &[Variable]) -> Result<(), AllocError>
     ensures written { OnOk result (out.new.items ≡ out.old.items ++ flat_map variable_bytes variables.now) }
-    ensures fits { OnOk result (AllByRecursion VariableFits variables.now) }
+    ensures fits { OnOk result (AllByRecursion SayableVariable variables.now) }
 {
     for variable in variables {
         put_variable(out, variable)?;
@@ -28,8 +28,9 @@ fn put_variables(out: &mut Vec<u8>, variables: &[Variable]) -> Result<(), AllocE
 
 fn put_threads(out: &mut Vec<u8>, program: &Program, tables: &Tables) -> Result<(), AllocError>
     requires { HasLengths program.now tables.now }
-    ensures written { OnOk result (out.new.items ≡ out.old.items ++ flat_map thread_bytes (thread_rows program.now.threads tables.now.bounds)) }
-    ensures fits { OnOk result (AllByRecursion ThreadFits (thread_rows program.now.threads tables.now.bounds)) }
+    ensures written { OnOk result (out.new.items ≡ out.old.items ++ flat_map thread_bytes
+        (thread_rows program.now.threads tables.now.bounds)) }
+    ensures fits { OnOk result (AllByRecursion SayableThread (thread_rows program.now.threads tables.now.bounds)) }
 {
     let count = program.thread_count();
     let threads = program.threads();
@@ -42,8 +43,10 @@ fn put_threads(out: &mut Vec<u8>, program: &Program, tables: &Tables) -> Result<
 
 fn put_nodes(out: &mut Vec<u8>, program: &Program, tables: &Tables) -> Result<(), AllocError>
     requires { HasLengths program.now tables.now }
-    ensures written { OnOk result (out.new.items ≡ out.old.items ++ flat_map node_bytes (node_rows program.now.nodes tables.now.priorities tables.now.weights tables.now.end_bits)) }
-    ensures fits { OnOk result (AllByRecursion (NodeFits 2) (node_rows program.now.nodes tables.now.priorities tables.now.weights tables.now.end_bits)) }
+    ensures written { OnOk result (out.new.items ≡ out.old.items ++ flat_map node_bytes
+        (node_rows program.now.nodes tables.now.priorities tables.now.weights tables.now.end_bits)) }
+    ensures fits { OnOk result (AllByRecursion (SayableNode 2)
+        (node_rows program.now.nodes tables.now.priorities tables.now.weights tables.now.end_bits)) }
 {
     let count = program.node_count();
     let nodes = program.nodes();

@@ -7,7 +7,7 @@ ghost use Rattle.sc_graph.specs.Limits.{no_parent};
 ghost use Rattle.sc_graph.specs.declared.program.Step.TheVariants as step;
 ghost use Rattle.bytecode.specs.Fields.{u16_bytes};
 ghost use Rattle.bytecode.specs.Nodes.{thread_bytes, step_bytes, node_bytes};
-ghost use Rattle.bytecode.specs.Fits.{ThreadFits, StepFits, NodeFits};
+ghost use Rattle.bytecode.specs.Fits.{SayableThread, SayableStep, SayableNode};
 
 use crate::writing::codes::put_code;
 use crate::writing::fields::{combination_byte, put16, put32};
@@ -19,8 +19,9 @@ use std::alloc::AllocError;
 #[tactic(auto, unfolding(crate::specs::Nodes::thread_bytes))]
 pub fn put_thread(out: &mut Vec<u8>, thread: &Thread, bound: u32) -> Result<(), AllocError>
     requires { thread.now.parent ≢ Some no_parent }
-    ensures written { OnOk result (out.new.items ≡ out.old.items ++ thread_bytes (record { thread = thread.now; bound = bound })) }
-    ensures fits { OnOk result (ThreadFits (record { thread = thread.now; bound = bound })) }
+    ensures written { OnOk result (out.new.items ≡ out.old.items ++ thread_bytes
+        (record { thread = thread.now; bound = bound })) }
+    ensures fits { OnOk result (SayableThread (record { thread = thread.now; bound = bound })) }
 {
     put16(out, thread.parent.unwrap_or(NO_PARENT))?;
     put16(out, thread.entry)?;
@@ -45,7 +46,7 @@ fn put_assign(
     next: NodeId,
 ) -> Result<(), AllocError>
     ensures written { OnOk result (out.new.items ≡ out.old.items ++ step_bytes (step.Assign variable code.now next)) }
-    ensures fits { OnOk result (StepFits 2 (step.Assign variable code.now next)) }
+    ensures fits { OnOk result (SayableStep 2 (step.Assign variable code.now next)) }
 {
     out.push(1)?;
     put16(out, variable)?;
@@ -61,8 +62,9 @@ fn put_update(
     code: &Code,
     next: NodeId,
 ) -> Result<(), AllocError>
-    ensures written { OnOk result (out.new.items ≡ out.old.items ++ step_bytes (step.Update variable combine code.now next)) }
-    ensures fits { OnOk result (StepFits 2 (step.Update variable combine code.now next)) }
+    ensures written { OnOk result (out.new.items ≡ out.old.items ++ step_bytes
+        (step.Update variable combine code.now next)) }
+    ensures fits { OnOk result (SayableStep 2 (step.Update variable combine code.now next)) }
 {
     out.push(2)?;
     put16(out, variable)?;
@@ -74,7 +76,7 @@ fn put_update(
 #[tactic(auto, unfolding(crate::specs::Nodes::step_bytes))]
 fn put_cond(out: &mut Vec<u8>, code: &Code, then: NodeId, other: NodeId) -> Result<(), AllocError>
     ensures written { OnOk result (out.new.items ≡ out.old.items ++ step_bytes (step.Cond code.now then other)) }
-    ensures fits { OnOk result (StepFits 2 (step.Cond code.now then other)) }
+    ensures fits { OnOk result (SayableStep 2 (step.Cond code.now then other)) }
 {
     out.push(3)?;
     put16(out, then)?;
@@ -86,7 +88,7 @@ fn put_cond(out: &mut Vec<u8>, code: &Code, then: NodeId, other: NodeId) -> Resu
 fn put_fork(out: &mut Vec<u8>, children: &[ThreadId], join: NodeId) -> Result<(), AllocError>
     requires { CountsChildren (step.Fork children.now join) }
     ensures written { OnOk result (out.new.items ≡ out.old.items ++ step_bytes (step.Fork children.now join)) }
-    ensures fits { OnOk result (StepFits 2 (step.Fork children.now join)) }
+    ensures fits { OnOk result (SayableStep 2 (step.Fork children.now join)) }
 {
     out.push(4)?;
     put16(out, join)?;
@@ -106,7 +108,7 @@ fn put_target(out: &mut Vec<u8>, tag: u8, target: NodeId) -> Result<(), AllocErr
 fn put_step(out: &mut Vec<u8>, step: &Step) -> Result<(), AllocError>
     requires { CountsChildren step.now }
     ensures written { OnOk result (out.new.items ≡ out.old.items ++ step_bytes step.now) }
-    ensures fits { OnOk result (StepFits 2 step.now) }
+    ensures fits { OnOk result (SayableStep 2 step.now) }
 {
     match step {
         Step::Exit => {
@@ -142,8 +144,10 @@ pub fn put_node(
     end_bit: bool,
 ) -> Result<(), AllocError>
     requires { CountsChildren node.now.step }
-    ensures written { OnOk result (out.new.items ≡ out.old.items ++ node_bytes (record { node = node.now; priority = priority; weight = weight; end_bit = end_bit })) }
-    ensures fits { OnOk result (NodeFits 2 (record { node = node.now; priority = priority; weight = weight; end_bit = end_bit })) }
+    ensures written { OnOk result (out.new.items ≡ out.old.items ++ node_bytes
+        (record { node = node.now; priority = priority; weight = weight; end_bit = end_bit })) }
+    ensures fits { OnOk result (SayableNode 2
+        (record { node = node.now; priority = priority; weight = weight; end_bit = end_bit })) }
 {
     put16(out, node.owner)?;
     put16(out, priority)?;

@@ -3,7 +3,7 @@ use Rattle.std.proofs.lemmas.List.{flat_map_more}
 use Rattle.bytecode.specs.declared.rows.NodeRow.{NodeRow}
 use Rattle.bytecode.specs.Nodes.{node_bytes}
 use Rattle.bytecode.specs.Layout.{node_rows}
-use Rattle.bytecode.specs.Fits.{NodeFits}
+use Rattle.bytecode.specs.Fits.{SayableNode}
 use Rattle.bytecode.proofs.Columns.{node_rows_more, all_push}
 use Rattle.bytecode.proofs.writing.image.put_nodes.Goals as goal
 
@@ -20,5 +20,5 @@ loop-n-preserved c =
     c.index-nodes-n.is c.priority.ensures c.weight.ensures c.end_bit.ensures in
     rw next (record {
       written = c.in_ok-put_node.ensures.written ∙ ap (λ (bytes : List ℕ). bytes ++ node_bytes row) c.loop-n.invariant.written ∙ flat_map_more node_bytes c.args.out.now.items front row;
-      fits = all_push (NodeFits 2) front row c.loop-n.invariant.fits c.in_ok-put_node.ensures.fits;
+      fits = all_push (SayableNode 2) front row c.loop-n.invariant.fits c.in_ok-put_node.ensures.fits;
     })

@@ -3,7 +3,7 @@ use Rattle.std.proofs.lemmas.List.{flat_map_more}
 use Rattle.bytecode.specs.declared.rows.ThreadRow.{ThreadRow}
 use Rattle.bytecode.specs.Nodes.{thread_bytes}
 use Rattle.bytecode.specs.Layout.{thread_rows}
-use Rattle.bytecode.specs.Fits.{ThreadFits}
+use Rattle.bytecode.specs.Fits.{SayableThread}
 use Rattle.bytecode.proofs.Columns.{thread_rows_more, all_push}
 use Rattle.bytecode.proofs.writing.image.put_threads.Goals as goal
 
@@ -19,5 +19,5 @@ loop-t-preserved c =
     thread_rows_more threads bounds t row (record { parent = None; entry = 0 }) (omega arith) (omega arith) refl c.bound.ensures in
     rw next (record {
       written = c.in_ok-put_thread.ensures.written ∙ ap (λ (bytes : List ℕ). bytes ++ thread_bytes row) c.loop-t.invariant.written ∙ flat_map_more thread_bytes c.args.out.now.items front row;
-      fits = all_push ThreadFits front row c.loop-t.invariant.fits c.in_ok-put_thread.ensures.fits;
+      fits = all_push SayableThread front row c.loop-t.invariant.fits c.in_ok-put_thread.ensures.fits;
     })
