@@ -65,8 +65,9 @@ fn tick<'a>(
 {
     let mut state = room.begin(alloc, control, inputs)?;
     state.run_alone();
-    let (control, report, room) = state.hand_over();
-    Ok((control, report.history.len() as u64, room))
+    let steps = state.history().len() as u64;
+    let (control, room) = state.hand_over();
+    Ok((control, steps, room))
 }
 
 // What the line of this number makes: the configuration after its tick, the line of output, and the

@@ -1,6 +1,6 @@
 -- What a search for a thread to claim finds, and that a new claim is as things stand.
-use Rattle.std.proofs.Common.{◌≡◌, ℕ, ◌<◌, ◌≤◌, ◌^◌, ◌&&◌, Bool, true, false, nat_eq, List, [], Option, Some, None, map, length, slice_get, slice_set, refl, sym, ap, subst, ◌∙◌, arith, eq-eqb, eqb-true}
-use Rattle.std.specs.Prelude.{IsSome, MatchOption}
+use Rattle.std.proofs.Common.{◌≡◌, ℕ, ◌<◌, ◌≤◌, ◌^◌, true, List, [], Option, Some, None, map, length, slice_get, slice_set, refl, sym, ap, subst, ◌∙◌, arith}
+use Rattle.std.specs.Prelude.{IsSome}
 use Rattle.sc_values.specs.declared.value.Value.{Value}
 use Rattle.sc_values.specs.declared.operation.Operation.{Operation}
 use Rattle.sc_values.specs.Operator.{kind_of}
@@ -11,20 +11,18 @@ use Rattle.sc_graph.specs.declared.control.Status.{Status}
 use Rattle.sc_graph.specs.declared.control.Status.TheVariants as status
 use Rattle.sc_graph.specs.declared.tables.Tables.{Tables}
 use Rattle.sc_graph.specs.Program.{Program, kinds}
-use Rattle.sc_graph.specs.Control.{status_of, status_enabled, is_enabled, IsEnabled}
-use Rattle.sc_graph.specs.Tables.{priority_of}
+use Rattle.sc_graph.specs.Control.{status_of, status_enabled, IsEnabled}
 use Rattle.sc_graph.specs.Priority.{Leads}
 use Rattle.sc_graph.specs.Tick.{IsConfiguration}
 use Rattle.sc_graph.specs.Valid.{IsValid}
-use Rattle.tick_laws.proofs.Lists.{slice_get_there}
 use Rattle.tick_core.specs.Claims.{Claim, present_operands}
 use Rattle.tick_core.specs.Inside.Work.{HasFormedCode, IsWork}
 use Rattle.tick_core.specs.Stepping.{node_of, code_at}
 use Rattle.tick_core.specs.State.{InTick, Holds, IsFresh}
-use Rattle.tick_core.specs.Turns.{claim_of, AllClaimed, IsOpen, GivesClaim}
-use Rattle.tick_core.specs.Inside.Turns.{is_none, is_unclaimed, NoneUnclaimed, IsUnclaimed, IsNew, MayCommit}
+use Rattle.tick_core.specs.Turns.{IsOpen, GivesClaim}
+use Rattle.tick_core.specs.Inside.Turns.{IsUnclaimed, IsNew, MayCommit}
 use Rattle.tick_core.proofs.Fresh.{values_are, code_formed}
-use Rattle.tick_core.proofs.Keeping.{leads_at, within_budget, budget_fits, has_place, open_value}
+use Rattle.tick_core.proofs.Keeping.{leads_at, within_budget, budget_fits, open_value}
 
 stands_at : (p : Program) (c : Control) (st : Status) → status_enabled p c st ≡ true → IsSome (node_of st)
 stands_at p c (status.At n) enabled = refl
@@ -107,68 +105,7 @@ is_new_at s s' p st worker t node commits code operands a same small leads p_is 
     let a_is : a ≡ parts worker t node code operands (length s.history) = is ∙ ap (parts worker t node code operands) count in
     subst (λ x. IsNew x worker t a) same (subst (IsNew s worker t) (sym a_is) whole)
 
-and_all : (x y z : Bool) → x ≡ true → y ≡ true → z ≡ true → x && y && z ≡ true
-and_all x y z a b c = ap (λ v. v && y && z) a ∙ (ap (λ v. true && v && z) b ∙ ap (λ v. true && true && v) c)
-
-and_parts : (x y z : Bool) → x && y && z ≡ true → (x ≡ true) × (y ≡ true) × (z ≡ true)
-and_parts true true true e = (refl, refl, refl)
-and_parts true true false e = absurd cc
-and_parts true false z e = absurd cc
-and_parts false y z e = absurd cc
-
-none_is : (o : Option (Option Claim)) → is_none o ≡ true → o ≡ Some None
-none_is (Some None) e = refl
-none_is (Some (Some a)) e = absurd cc
-none_is None e = absurd cc
-
 module _ (s : InTick) (h : Holds s) where
-  -- where nobody of a leader's priority is unclaimed, each leader is claimed
-  pub all_claimed : (leader : ℕ) → Leads s.image.program s.image.tables s.present leader →
-      NoneUnclaimed s.image.program s.image.tables s.present s.claims (priority_of s.image.tables (status_of s.present leader)) (length s.image.program.threads) → AllClaimed s
-  all_claimed leader leads none = record { someone = leader; leads = leads; each = each }
-    where
-      at : (t : ℕ) → Leads s.image.program s.image.tables s.present t → (o : Option (Option Claim)) → slice_get s.claims t ≡ o → (a : Claim) × (slice_get s.claims t ≡ Some (Some a))
-      at t own None is =
-          let there : (x : Option Claim) × (slice_get s.claims t ≡ Some x) = slice_get_there s.claims t (has_place s h t own) in
-          let never : None ≡ Some there.0 = sym is ∙ there.1 in
-          absurd cc
-      at t own (Some None) is =
-          let up : priority_of s.image.tables (status_of s.present t) ≤ priority_of s.image.tables (status_of s.present leader) = leads.greatest t own.enabled in
-          let down : priority_of s.image.tables (status_of s.present leader) ≤ priority_of s.image.tables (status_of s.present t) = own.greatest leader leads.enabled in
-          let same : priority_of s.image.tables (status_of s.present t) ≡ priority_of s.image.tables (status_of s.present leader) = omega arith in
-          let one : is_unclaimed s.image.program s.image.tables s.present s.claims (priority_of s.image.tables (status_of s.present leader)) t ≡ true =
-          and_all (is_enabled s.image.program s.present t) (nat_eq (priority_of s.image.tables (status_of s.present t)) (priority_of s.image.tables (status_of s.present leader))) (is_none (slice_get s.claims t))
-          own.enabled (eq-eqb _ _ same) (ap is_none is) in
-          let other = none.each t (omega (arith, has_place s h t own, h.places)) in
-          let never : false ≡ true = sym other ∙ one in
-          absurd cc
-      at t own (Some (Some a)) is = (a, is)
-
-      each : (t : ℕ) → Leads s.image.program s.image.tables s.present t → (a : Claim) × (claim_of s t ≡ Some (Some a))
-      each t own = at t own (slice_get s.claims t) refl
-
-  -- a thread that is found leads and has no open claim
-  pub found_unclaimed : (leader t : ℕ) → Leads s.image.program s.image.tables s.present leader →
-      is_unclaimed s.image.program s.image.tables s.present s.claims (priority_of s.image.tables (status_of s.present leader)) t ≡ true → IsUnclaimed s t
-  found_unclaimed leader t leads found =
-      let parts = and_parts (is_enabled s.image.program s.present t) (nat_eq (priority_of s.image.tables (status_of s.present t)) (priority_of s.image.tables (status_of s.present leader))) (is_none (slice_get s.claims t)) found in
-      let same : priority_of s.image.tables (status_of s.present t) ≡ priority_of s.image.tables (status_of s.present leader) = eqb-true _ _ parts.1 in
-      record {
-        leads = record {
-          enabled = parts.0;
-          greatest = λ u enabled. subst (λ n. priority_of s.image.tables (status_of s.present u) ≤ n) (sym same) (leads.greatest u enabled);
-        };
-        unclaimed = none_is (slice_get s.claims t) parts.2;
-      }
-
-  -- what a search for an unclaimed thread of a leader's priority answers
-  pub searched : (leader : ℕ) → Leads s.image.program s.image.tables s.present leader → (answer : Option ℕ) →
-      MatchOption answer (NoneUnclaimed s.image.program s.image.tables s.present s.claims (priority_of s.image.tables (status_of s.present leader)) (length s.image.program.threads))
-      (λ t. is_unclaimed s.image.program s.image.tables s.present s.claims (priority_of s.image.tables (status_of s.present leader)) t ≡ true) →
-      MatchOption answer (AllClaimed s) (IsUnclaimed s)
-  searched leader leads None none = all_claimed leader leads none
-  searched leader leads (Some t) found = found_unclaimed leader t leads found
-
   -- an open claim may be committed
   pub may_commit : (a : Claim) → IsOpen s a → MayCommit s a
   may_commit a is =

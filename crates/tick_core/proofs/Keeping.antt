@@ -85,7 +85,7 @@ none_more threads n below =
     ap (map unclaimed) (take_more threads n no_thread below) ∙ map-append unclaimed (take n threads) (get_or threads n no_thread ∷ [])
 
 -- what is open besides the claim that was closed
-still_open : (claims : List (Option Claim)) (t u : ℕ) (a : Claim) → slice_get (slice_set claims t None) u ≡ Some (Some a) → (u ≢ t) × (slice_get claims u ≡ Some (Some a))
+pub still_open : (claims : List (Option Claim)) (t u : ℕ) (a : Claim) → slice_get (slice_set claims t None) u ≡ Some (Some a) → (u ≢ t) × (slice_get claims u ≡ Some (Some a))
 still_open claims t u a is = go (same_or_not u t)
   where
     go : (u ≡ t) ⊎ (u ≢ t) → (u ≢ t) × (slice_get claims u ≡ Some (Some a))
@@ -226,6 +226,9 @@ module _ (s : InTick) (h : Holds s) where
   kept_closed t =
       kept_with (slice_set s.claims t None) (length-set s.claims t None)
       (λ u a is. h.fresh u a (still_open s.claims t u a is).1)
+
+  pub kept_closed_at : (t : ℕ) (claims : List (Option Claim)) → claims ≡ slice_set s.claims t None → Holds (record s { claims = claims })
+  kept_closed_at t claims is = subst (λ xs. Holds (record s { claims = xs })) (sym is) (kept_closed t)
 
   -- with a fresh claim opened
   pub kept_claimed : (t : ℕ) (b : Claim) → IsFresh s.image.program s.image.tables s.present (length s.history) t b →

@@ -1,6 +1,6 @@
 -- The forks that are noted in one pass are those of the joins.
-use Rattle.std.proofs.Common.{◌≡◌, ◌≢◌, ℕ, ◌+◌, ◌<◌, ◌≤◌, ◌⊎◌, Bool, true, false, nat_eq, List, [], ◌∷◌, ◌++◌, length, length-set, take, get_or, set, Option, Some, None, option_map, option_and_then, slice_get, refl, sym, ap, subst, ◌∙◌, inl, inr, arith}
-use Rattle.std.specs.Prelude.{replicate, IsSome, IsTrue, is_some, if◌then◌else◌}
+use Rattle.std.proofs.Common.{◌≡◌, ◌≢◌, ℕ, ◌+◌, ◌<◌, ◌≤◌, ◌⊎◌, Bool, true, false, nat_eq, List, [], ◌∷◌, ◌++◌, length, length-set, take, set, Option, Some, None, option_map, option_and_then, slice_get, refl, sym, ap, subst, ◌∙◌, inl, inr, arith}
+use Rattle.std.specs.Prelude.{replicate, IsSome, is_some, if◌then◌else◌}
 use Rattle.std.proofs.lemmas.List.{take_more, take_all, length-replicate, get_or-replicate}
 use Rattle.std.proofs.lemmas.Bool.{cases_lt, eqb-true, eq-eqb}
 use Rattle.std.proofs.lemmas.Option.{slice_get_within, slice_get_past, slice_get-get_or, get_or_from_slice_get}
@@ -11,9 +11,9 @@ use Rattle.sc_graph.specs.declared.tables.Tables.{Tables}
 use Rattle.sc_graph.specs.Program.{Program, step_at, owner_of}
 use Rattle.sc_graph.specs.Control.{joined_by, first_of, joined_among, joined_at}
 use Rattle.sc_graph.specs.Valid.{IsValid}
-use Rattle.tick_laws.proofs.Formed.{valid_formed, join_of, fork_join_owned, has_step}
+use Rattle.tick_laws.proofs.Formed.{valid_formed, join_of, fork_join_owned}
 use Rattle.tick_laws.proofs.Lists.{same_or_not, get_set_same, get_set_other, map_some, slice_get_there}
-use Rattle.tick_core.specs.Inside.Layout.{noted_children, FindsForks, FindsBelow, noted_at, noted, noted_step}
+use Rattle.tick_core.specs.Inside.Layout.{noted_children, FindsForks, FindsBelow, noted_at, noted_step}
 
 first_none : (o : Option (List ℕ)) → first_of o None ≡ o
 first_none None = refl

@@ -3,6 +3,8 @@ mod Layouts
 mod OwnRoom
 mod Unmoved
 mod Led
+mod Opened
+mod Counts
 pub mod Reports
 pub mod Taken
 pub mod Fresh

@@ -1,7 +1,7 @@
 -- A row has room for each enabled thread, since each stands at a node of its own.
-use Rattle.std.proofs.Common.{◌≡◌, ◌≢◌, ℕ, ◌<◌, ◌≤◌, ◌⊎◌, Bool, true, false, nat_eq, List, length, length-set, set, Option, Some, None, option_map, slice_get, slice_index, slice_set, refl, sym, ap, subst, ◌∙◌, inl, inr, arith}
+use Rattle.std.proofs.Common.{◌≡◌, ◌≢◌, ℕ, ◌<◌, ◌≤◌, ◌⊎◌, Bool, true, false, List, length, length-set, set, Option, Some, None, slice_get, slice_set, refl, sym, subst, ◌∙◌, inl, inr, arith}
 use Rattle.std.proofs.lemmas.Option.{slice_get_within, same_Some}
-use Rattle.ready_rows.specs.Rows.{Rows, IsIn, HasRoom, HasRooms, members}
+use Rattle.ready_rows.specs.Rows.{Rows, IsIn, HasRoom, members}
 use Rattle.ready_rows.proofs.Fitting.{Owns, fits_in}
 use Rattle.ready_rows.proofs.Moving.{entered, left}
 use Rattle.sc_graph.specs.declared.program.Node.{Node}
@@ -9,13 +9,14 @@ use Rattle.sc_graph.specs.declared.control.Control.{Control}
 use Rattle.sc_graph.specs.declared.tables.Tables.{Tables}
 use Rattle.sc_graph.specs.Program.{Program, owner_of}
 use Rattle.sc_graph.specs.Control.{status_of, is_enabled}
-use Rattle.sc_graph.specs.Tables.{priority, priority_of}
+use Rattle.sc_graph.specs.Tables.{priority_of}
 use Rattle.sc_graph.specs.Tick.{IsConfiguration}
 use Rattle.sc_graph.specs.Valid.{IsValid}
 use Rattle.tick_laws.proofs.Lists.{map_some}
 use Rattle.tick_laws.proofs.Views.{enabled_view}
 use Rattle.tick_laws.proofs.EnabledPairs.{StepsFrom, steps_from}
-use Rattle.tick_core.specs.Inside.Sorting.{row_at, step_priority, FitsNodes, OwnsNode, OwnRows, sorted_one}
+use Rattle.tick_core.specs.Claims.{Claim}
+use Rattle.tick_core.specs.Inside.Sorting.{row_at, step_priority, unless_claimed, ready_row, OwnsNode, OwnRows, sorted_one}
 
 module _ (p : Program) (q : Tables) (rows : Rows) (h : OwnRows p q rows) (t : ℕ) (below : t < length p.threads) where
   in_rows : t < length rows.classes
@@ -68,10 +69,16 @@ module _ (p : Program) (q : Tables) (rows : Rows) (h : OwnRows p q rows) (t : �
     at_row true enabled = (room_own (priority_of q (status_of c t)) (owns_node enabled), kept_in (priority_of q (status_of c t)) (owns_node enabled))
     at_row false idle = (in_rows, kept_out)
 
-    -- a thread has room in the row of its priority
-    pub has_room : HasRoom rows t (step_priority p q c t)
-    has_room = (at_row (is_enabled p c t) refl).0
+    module _ (claims : List (Option Claim)) where
+      at_claim : (o : Option (Option Claim)) → HasRoom rows t (unless_claimed o (step_priority p q c t)) × OwnRows p q (record rows { classes = slice_set rows.classes t (unless_claimed o (step_priority p q c t)) })
+      at_claim (Some None) = at_row (is_enabled p c t) refl
+      at_claim (Some (Some a)) = (in_rows, kept_out)
+      at_claim None = (in_rows, kept_out)
 
-    -- and sorted anew it stands in a row of its own
-    pub kept_one : OwnRows p q (sorted_one p q c rows t)
-    kept_one = (at_row (is_enabled p c t) refl).1
+      -- a thread has room in the row where it is ready
+      pub has_room : HasRoom rows t (ready_row p q c claims t)
+      has_room = (at_claim (slice_get claims t)).0
+
+      -- and sorted anew it stands in a row of its own
+      pub kept_one : OwnRows p q (sorted_one (ready_row p q c claims) rows t)
+      kept_one = (at_claim (slice_get claims t)).1

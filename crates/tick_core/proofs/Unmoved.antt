@@ -1,5 +1,5 @@
 -- Whom a step leaves as enabled as they were: all but its thread, the parent, and the children that it forks or leaves.
-use Rattle.std.proofs.Common.{◌≡◌, ◌≢◌, ℕ, ◌+◌, ◌<◌, ◌≤◌, ◌⊎◌, ◌&&◌, Bool, true, false, List, [], ◌∷◌, length, length-set, All, Option, Some, None, option_map, slice_get, slice_set, Contains, refl, sym, ap, subst, ◌∙◌, inl, inr, ⊎_elim, arith}
+use Rattle.std.proofs.Common.{◌≡◌, ◌≢◌, ℕ, ◌+◌, ◌<◌, ◌⊎◌, ◌&&◌, Bool, List, [], ◌∷◌, length, length-set, All, Option, Some, None, slice_get, slice_set, Contains, refl, sym, ap, subst, ◌∙◌, inl, inr, ⊎_elim, arith}
 use Rattle.std.specs.List.{list_all}
 use Rattle.ready_rows.specs.Rows.{Rows}
 use Rattle.sc_graph.specs.declared.program.Step.{Step}
@@ -9,7 +9,7 @@ use Rattle.sc_graph.specs.declared.control.Status.{Status}
 use Rattle.sc_graph.specs.declared.control.Status.TheVariants as status
 use Rattle.sc_graph.specs.declared.tables.Tables.{Tables}
 use Rattle.sc_graph.specs.Program.{Program, step_at, parent_of}
-use Rattle.sc_graph.specs.Control.{status_of, status_enabled, is_enabled, IsEnabled, has_ended, joined_at, all_ended}
+use Rattle.sc_graph.specs.Control.{status_of, status_enabled, is_enabled, has_ended, joined_at, all_ended}
 use Rattle.sc_graph.specs.Steps.{Effect, effect, after, step}
 use Rattle.sc_graph.specs.Tables.{priority_of}
 use Rattle.sc_graph.specs.Tick.{IsConfiguration}
@@ -21,7 +21,8 @@ use Rattle.tick_laws.proofs.Views.{does as what_does}
 use Rattle.tick_laws.proofs.ConfigurationKept.{configuration_kept}
 use Rattle.tick_laws.proofs.Moves.{IsMoved, moved_other, entering_movers, leaving_movers}
 use Rattle.tick_laws.proofs.Sound.{whom, IsIdleChild, fork_of_join}
-use Rattle.tick_core.specs.Inside.Sorting.{row_at, step_priority, OwnRows, AreSorted, sorted_one, sorted_parent, sorted_all, children_at, or_none, children_at_step}
+use Rattle.tick_core.specs.Claims.{Claim}
+use Rattle.tick_core.specs.Inside.Sorting.{row_at, step_priority, unless_claimed, ready_row, OwnRows, AreSorted, sorted_one, sorted_parent, sorted_all, children_at, or_none, children_at_step}
 
 same_tests : (f g : ℕ → Bool) (ks : List ℕ) → ((k : ℕ) → Contains ks k → f k ≡ g k) → list_all f ks ≡ list_all g ks
 same_tests f g [] each = refl
@@ -85,82 +86,86 @@ module _ (p : Program) (q : Tables) (valid : IsValid p q) (c : Control) (ok : Is
       ap (λ b. row_at b (priority_of q (status_of (after e c) u))) enabled ∙ ap (λ s. row_at (is_enabled p c u) (priority_of q s)) still
 
 -- who was sorted anew, and who was left
-module _ (p : Program) (q : Tables) (c : Control) where
-  one_at : (rows : Rows) (t u : ℕ) → t < length rows.classes → (u ≡ t) → slice_get (sorted_one p q c rows t).classes u ≡ Some (step_priority p q c u)
+module _ (row : ℕ → Option ℕ) where
+  pub one_at : (rows : Rows) (t u : ℕ) → t < length rows.classes → (u ≡ t) → slice_get (sorted_one row rows t).classes u ≡ Some (row u)
   one_at rows t u below same =
-      ap (slice_get (slice_set rows.classes t (step_priority p q c t))) same ∙ (get_set_same rows.classes t (step_priority p q c t) below ∙ ap (λ v. Some (step_priority p q c v)) (sym same))
+      ap (slice_get (slice_set rows.classes t (row t))) same ∙ (get_set_same rows.classes t (row t) below ∙ ap (λ v. Some (row v)) (sym same))
 
-  one_other : (rows : Rows) (t u : ℕ) → u ≢ t → slice_get (sorted_one p q c rows t).classes u ≡ slice_get rows.classes u
-  one_other rows t u other = get_set_other rows.classes t u (step_priority p q c t) other
+  pub one_other : (rows : Rows) (t u : ℕ) → u ≢ t → slice_get (sorted_one row rows t).classes u ≡ slice_get rows.classes u
+  one_other rows t u other = get_set_other rows.classes t u (row t) other
 
   -- a place that is right stays right
-  one_right : (rows : Rows) (t u : ℕ) → u < length rows.classes → slice_get rows.classes u ≡ Some (step_priority p q c u) → slice_get (sorted_one p q c rows t).classes u ≡ Some (step_priority p q c u)
+  one_right : (rows : Rows) (t u : ℕ) → u < length rows.classes → slice_get rows.classes u ≡ Some (row u) → slice_get (sorted_one row rows t).classes u ≡ Some (row u)
   one_right rows t u below right = go (same_or_not u t)
     where
-      go : (u ≡ t) ⊎ (u ≢ t) → slice_get (sorted_one p q c rows t).classes u ≡ Some (step_priority p q c u)
+      go : (u ≡ t) ⊎ (u ≢ t) → slice_get (sorted_one row rows t).classes u ≡ Some (row u)
       go (inl same) = one_at rows t u (omega (arith, below)) same
       go (inr other) = one_other rows t u other ∙ right
 
-  all_right : (ks : List ℕ) (rows : Rows) (u : ℕ) → u < length rows.classes → slice_get rows.classes u ≡ Some (step_priority p q c u) → slice_get (sorted_all p q c ks rows).classes u ≡ Some (step_priority p q c u)
+  all_right : (ks : List ℕ) (rows : Rows) (u : ℕ) → u < length rows.classes → slice_get rows.classes u ≡ Some (row u) → slice_get (sorted_all row ks rows).classes u ≡ Some (row u)
   all_right [] rows u below right = right
   all_right (k ∷ ks) rows u below right =
-      all_right ks (sorted_one p q c rows k) u (omega (arith, below, length-set rows.classes k (step_priority p q c k))) (one_right rows k u below right)
+      all_right ks (sorted_one row rows k) u (omega (arith, below, length-set rows.classes k (row k))) (one_right rows k u below right)
 
   -- each of a list that was sorted stands right
-  all_in : (ks : List ℕ) (rows : Rows) (u : ℕ) → u < length rows.classes → Contains ks u → slice_get (sorted_all p q c ks rows).classes u ≡ Some (step_priority p q c u)
+  all_in : (ks : List ℕ) (rows : Rows) (u : ℕ) → u < length rows.classes → Contains ks u → slice_get (sorted_all row ks rows).classes u ≡ Some (row u)
   all_in [] rows u below within = absurd (contains_none u within)
   all_in (k ∷ ks) rows u below within =
       ⊎_elim
-      (λ same. all_right ks (sorted_one p q c rows k) u (omega (arith, below, length-set rows.classes k (step_priority p q c k))) (one_at rows k u (omega (arith, below, same)) (sym same)))
-      (λ tail. all_in ks (sorted_one p q c rows k) u (omega (arith, below, length-set rows.classes k (step_priority p q c k))) tail)
+      (λ same. all_right ks (sorted_one row rows k) u (omega (arith, below, length-set rows.classes k (row k))) (one_at rows k u (omega (arith, below, same)) (sym same)))
+      (λ tail. all_in ks (sorted_one row rows k) u (omega (arith, below, length-set rows.classes k (row k))) tail)
       (contains_cons k u ks within)
 
-  all_out : (ks : List ℕ) (rows : Rows) (u : ℕ) → ¬ Contains ks u → slice_get (sorted_all p q c ks rows).classes u ≡ slice_get rows.classes u
+  all_out : (ks : List ℕ) (rows : Rows) (u : ℕ) → ¬ Contains ks u → slice_get (sorted_all row ks rows).classes u ≡ slice_get rows.classes u
   all_out [] rows u out = refl
   all_out (k ∷ ks) rows u out =
-      all_out ks (sorted_one p q c rows k) u (λ tail. out (contains_tail k u ks tail))
+      all_out ks (sorted_one row rows k) u (λ tail. out (contains_tail k u ks tail))
       ∙ one_other rows k u (λ same. out (subst (λ i. Contains (k ∷ ks) i) (sym same) (contains_head k ks)))
 
 -- after a step, who was sorted anew and who was left stand in the rows of their priorities
-pub sorted_after : (p : Program) (q : Tables) → IsValid p q → (c d : Control) → IsConfiguration p c → (t : ℕ) → t < length p.threads → step p t c ≡ Some d → (rows after_rows : Rows) → AreSorted p q c rows →
-    after_rows ≡ sorted_all p q d (children_at p (status_of c t)) (sorted_parent p q d (sorted_one p q d rows t) (parent_of p t)) → OwnRows p q after_rows → AreSorted p q d after_rows
-sorted_after p q valid c d ok t t_below stepped rows after_rows h is own =
+pub sorted_after : (p : Program) (q : Tables) → IsValid p q → (c d : Control) → IsConfiguration p c → (t : ℕ) → t < length p.threads → step p t c ≡ Some d → (claims : List (Option Claim)) (rows after_rows : Rows) → AreSorted p q c claims rows →
+    after_rows ≡ sorted_all (ready_row p q d (slice_set claims t None)) (children_at p (status_of c t)) (sorted_parent (ready_row p q d (slice_set claims t None)) (sorted_one (ready_row p q d (slice_set claims t None)) rows t) (parent_of p t)) → OwnRows p q after_rows → AreSorted p q d (slice_set claims t None) after_rows
+sorted_after p q valid c d ok t t_below stepped claims rows after_rows h is own =
     let found : (e : Effect) × (effect p c t ≡ Some e) × (after e c ≡ d) = map_some (λ (e : Effect). after e c) (effect p c t) d stepped in
     record { own_rows = own; each = λ u below. ap (λ (r : Rows). slice_get r.classes u) is ∙ each found.0 (what_does p c t found.0 found.1) found.2 u below (contained (children_at p (status_of c t)) u) }
   where
-    parent_long : (o : Option ℕ) → length (sorted_parent p q d (sorted_one p q d rows t) o).classes ≡ length p.threads
-    parent_long None = length-set rows.classes t (step_priority p q d t) ∙ h.own_rows.long
-    parent_long (Some w) = length-set (sorted_one p q d rows t).classes w (step_priority p q d w) ∙ (length-set rows.classes t (step_priority p q d t) ∙ h.own_rows.long)
+    row : ℕ → Option ℕ
+    row = ready_row p q d (slice_set claims t None)
+
+    parent_long : (o : Option ℕ) → length (sorted_parent row (sorted_one row rows t) o).classes ≡ length p.threads
+    parent_long None = length-set rows.classes t (row t) ∙ h.own_rows.long
+    parent_long (Some w) = length-set (sorted_one row rows t).classes w (row w) ∙ (length-set rows.classes t (row t) ∙ h.own_rows.long)
 
     own_at : (e : Effect) → Does p c t e → after e c ≡ d → (u : ℕ) → u < length p.threads → parent_of p t ≢ Some u → ¬ Contains (children_at p (status_of c t)) u → (u ≡ t) ⊎ (u ≢ t) →
-        slice_get (sorted_one p q d rows t).classes u ≡ Some (step_priority p q d u)
-    own_at e does same u below no_parent no_child (inl here) = one_at p q d rows t u (omega (arith, h.own_rows.long)) here
+        slice_get (sorted_one row rows t).classes u ≡ Some (row u)
+    own_at e does same u below no_parent no_child (inl here) = one_at row rows t u (omega (arith, h.own_rows.long)) here
     own_at e does same u below no_parent no_child (inr other) =
-        one_other p q d rows t u other ∙ (h.each u below ∙ ap Some (sym (alike p q valid c ok t e does u other no_parent no_child) ∙ ap (λ x. step_priority p q x u) same))
+        one_other row rows t u other ∙ (h.each u below ∙ ap Some (ap (λ o. unless_claimed o (step_priority p q c u)) (sym (get_set_other claims t u None other))
+        ∙ ap (unless_claimed (slice_get (slice_set claims t None) u)) (sym (alike p q valid c ok t e does u other no_parent no_child) ∙ ap (λ x. step_priority p q x u) same)))
 
     at_parent : (e : Effect) → Does p c t e → after e c ≡ d → (u : ℕ) → u < length p.threads → ¬ Contains (children_at p (status_of c t)) u → (o : Option ℕ) → parent_of p t ≡ o →
-        slice_get (sorted_parent p q d (sorted_one p q d rows t) o).classes u ≡ Some (step_priority p q d u)
+        slice_get (sorted_parent row (sorted_one row rows t) o).classes u ≡ Some (row u)
     at_parent e does same u below no_child None parent = own_at e does same u below (λ some. none_some u (sym parent ∙ some)) no_child (same_or_not u t)
       where
         none_some : (w : ℕ) → None ≡ Some w → ⊥
         none_some w never = cc
     at_parent e does same u below no_child (Some w) parent = go (same_or_not u w)
       where
-        go : (u ≡ w) ⊎ (u ≢ w) → slice_get (sorted_one p q d (sorted_one p q d rows t) w).classes u ≡ Some (step_priority p q d u)
-        go (inl here) = one_at p q d (sorted_one p q d rows t) w u (omega (arith, here, length-set rows.classes t (step_priority p q d t), h.own_rows.long)) here
+        go : (u ≡ w) ⊎ (u ≢ w) → slice_get (sorted_one row (sorted_one row rows t) w).classes u ≡ Some (row u)
+        go (inl here) = one_at row (sorted_one row rows t) w u (omega (arith, here, length-set rows.classes t (row t), h.own_rows.long)) here
         go (inr other) =
-            one_other p q d (sorted_one p q d rows t) w u other
+            one_other row (sorted_one row rows t) w u other
             ∙ own_at e does same u below (λ some. other (same_number u w (sym some ∙ parent))) no_child (same_or_not u t)
           where
             same_number : (a b : ℕ) → Some a ≡ Some b → a ≡ b
             same_number a b e = cc
 
     each : (e : Effect) → Does p c t e → after e c ≡ d → (u : ℕ) → u < length p.threads → Contains (children_at p (status_of c t)) u ⊎ ¬ Contains (children_at p (status_of c t)) u →
-        slice_get (sorted_all p q d (children_at p (status_of c t)) (sorted_parent p q d (sorted_one p q d rows t) (parent_of p t))).classes u ≡ Some (step_priority p q d u)
+        slice_get (sorted_all row (children_at p (status_of c t)) (sorted_parent row (sorted_one row rows t) (parent_of p t))).classes u ≡ Some (row u)
     each e does same u below (inl child) =
-        all_in p q d (children_at p (status_of c t)) (sorted_parent p q d (sorted_one p q d rows t) (parent_of p t)) u (omega (arith, parent_long (parent_of p t))) child
+        all_in row (children_at p (status_of c t)) (sorted_parent row (sorted_one row rows t) (parent_of p t)) u (omega (arith, parent_long (parent_of p t))) child
     each e does same u below (inr no_child) =
-        all_out p q d (children_at p (status_of c t)) (sorted_parent p q d (sorted_one p q d rows t) (parent_of p t)) u no_child
+        all_out row (children_at p (status_of c t)) (sorted_parent row (sorted_one row rows t) (parent_of p t)) u no_child
         ∙ at_parent e does same u below no_child (parent_of p t) refl
 
 -- the children of a step are threads
@@ -187,14 +192,15 @@ children_in p formed (status.Paused n) = λ k d lt. absurd (omega arith)
 children_in p formed status.Ended = λ k d lt. absurd (omega arith)
 
 -- the same, of a program, tables and status that are given twice
-pub sorted_after_at : (p : Program) (q : Tables) → IsValid p q → (c d : Control) → IsConfiguration p c → (t : ℕ) → t < length p.threads → step p t c ≡ Some d → (rows after_rows : Rows) → AreSorted p q c rows →
-    (p' : Program) (q' : Tables) (st : Status) → p' ≡ p → q' ≡ q → st ≡ status_of c t →
-    after_rows ≡ sorted_all p' q' d (children_at p' st) (sorted_parent p' q' d (sorted_one p' q' d rows t) (parent_of p' t)) → OwnRows p' q' after_rows → AreSorted p q d after_rows
-sorted_after_at p q valid c d ok t below stepped rows after_rows h p' q' st p_is q_is st_is is own =
-    let F : Program → Tables → Status → Rows = λ x y s. sorted_all x y d (children_at x s) (sorted_parent x y d (sorted_one x y d rows t) (parent_of x t)) in
-    sorted_after p q valid c d ok t below stepped rows after_rows h
-    (is ∙ (ap (λ x. F x q' st) p_is ∙ (ap (λ y. F p y st) q_is ∙ ap (F p q) st_is)))
-    (subst (λ y. OwnRows p y after_rows) q_is (subst (λ x. OwnRows x q' after_rows) p_is own))
+pub sorted_after_at : (p : Program) (q : Tables) → IsValid p q → (c d : Control) → IsConfiguration p c → (t : ℕ) → t < length p.threads → step p t c ≡ Some d → (claims : List (Option Claim)) (rows after_rows : Rows) → AreSorted p q c claims rows →
+    (p' : Program) (q' : Tables) (st : Status) → p' ≡ p → q' ≡ q → st ≡ status_of c t → (after_claims : List (Option Claim)) → after_claims ≡ slice_set claims t None →
+    after_rows ≡ sorted_all (ready_row p' q' d after_claims) (children_at p' st) (sorted_parent (ready_row p' q' d after_claims) (sorted_one (ready_row p' q' d after_claims) rows t) (parent_of p' t)) → OwnRows p' q' after_rows → AreSorted p q d after_claims after_rows
+sorted_after_at p q valid c d ok t below stepped claims rows after_rows h p' q' st p_is q_is st_is after_claims claims_are is own =
+    let F : Program → Tables → Status → List (Option Claim) → Rows = λ x y s o. sorted_all (ready_row x y d o) (children_at x s) (sorted_parent (ready_row x y d o) (sorted_one (ready_row x y d o) rows t) (parent_of x t)) in
+    subst (λ o. AreSorted p q d o after_rows) (sym claims_are)
+    (sorted_after p q valid c d ok t below stepped claims rows after_rows h
+    (is ∙ (ap (λ x. F x q' st after_claims) p_is ∙ (ap (λ y. F p y st after_claims) q_is ∙ (ap (λ z. F p q z after_claims) st_is ∙ ap (F p q (status_of c t)) claims_are))))
+    (subst (λ y. OwnRows p y after_rows) q_is (subst (λ x. OwnRows x q' after_rows) p_is own)))
 
 -- a step keeps what a configuration is
 pub stays_configuration : (p : Program) (q : Tables) → IsValid p q → (c d : Control) → IsConfiguration p c → (t : ℕ) → step p t c ≡ Some d → IsConfiguration p d
@@ -203,10 +209,10 @@ stays_configuration p q valid c d ok t stepped =
     subst (IsConfiguration p) found.2 (configuration_kept p (valid_formed p q valid) c t found.0 ok found.1)
 
 -- one more thread is sorted
-pub sorted_more : (p : Program) (q : Tables) (c : Control) (n : ℕ) (rows after_rows : Rows) → OwnRows p q rows → n < length p.threads → ((t : ℕ) → t < n → slice_get rows.classes t ≡ Some (step_priority p q c t)) →
-    after_rows ≡ sorted_one p q c rows n → (t : ℕ) → t < n + 1 → slice_get after_rows.classes t ≡ Some (step_priority p q c t)
-sorted_more p q c n rows after_rows own below each is t t_below = ap (λ (r : Rows). slice_get r.classes t) is ∙ go (same_or_not t n)
+pub sorted_more : (p : Program) (q : Tables) (row : ℕ → Option ℕ) (n : ℕ) (rows after_rows : Rows) → OwnRows p q rows → n < length p.threads → ((t : ℕ) → t < n → slice_get rows.classes t ≡ Some (row t)) →
+    after_rows ≡ sorted_one row rows n → (t : ℕ) → t < n + 1 → slice_get after_rows.classes t ≡ Some (row t)
+sorted_more p q row n rows after_rows own below each is t t_below = ap (λ (r : Rows). slice_get r.classes t) is ∙ go (same_or_not t n)
   where
-    go : (t ≡ n) ⊎ (t ≢ n) → slice_get (sorted_one p q c rows n).classes t ≡ Some (step_priority p q c t)
-    go (inl same) = one_at p q c rows n t (omega (arith, own.long)) same
-    go (inr other) = one_other p q c rows n t other ∙ each t (omega arith)
+    go : (t ≡ n) ⊎ (t ≢ n) → slice_get (sorted_one row rows n).classes t ≡ Some (row t)
+    go (inl same) = one_at row rows n t (omega (arith, own.long)) same
+    go (inr other) = one_other row rows n t other ∙ each t (omega arith)

@@ -1,9 +1,10 @@
 -- What a claim answers, in three cases, and what a commit and a giving back do.
-use Rattle.std.specs.Prelude.{ℕ, ◌≡◌, Option, Some, None, length, slice_get, slice_set}
+use Rattle.std.specs.Prelude.{ℕ, ◌≡◌, ◌≢◌, ◌<◌, Option, Some, None, List, Contains, length, slice_get, slice_set}
 use Rattle.sc_values.specs.Runs.{IsOver}
 use Rattle.sc_values.specs.Checked.{Checked, Checks}
 use Rattle.sc_graph.specs.Program.{kinds}
-use Rattle.sc_graph.specs.Control.{status_of}
+use Rattle.sc_graph.specs.Control.{status_of, IsEnabled}
+use Rattle.sc_graph.specs.Tables.{priority_of}
 use Rattle.sc_graph.specs.Machine.{machine}
 use Rattle.sc_graph.specs.Priority.{Leads}
 use Rattle.tick_core.specs.declared.state.Turn.{Turn}
@@ -19,6 +20,18 @@ claim_of s t = slice_get s.claims t
 -- this very claim is open
 abbrev pub IsOpen : InTick → Claim → Type 0
 IsOpen s a = claim_of s a.thread ≡ Some (Some a)
+
+-- thread t is enabled and has no open claim, and its node or join has this priority
+pub record IsReady (s : InTick) (priority t : ℕ) : Type 0 where
+  pub enabled : IsEnabled s.image.program s.present t
+  pub unclaimed : claim_of s t ≡ Some None
+  pub has : priority_of s.image.tables (status_of s.present t) ≡ priority
+
+-- exactly the ready threads of a priority, each once
+pub record AreReady (s : InTick) (priority : ℕ) (threads : List ℕ) : Type 0 where
+  pub each : (t : ℕ) → Contains threads t → IsReady s priority t
+  pub all : (t : ℕ) → IsReady s priority t → Contains threads t
+  pub once : (i j a b : ℕ) → i < j → slice_get threads i ≡ Some a → slice_get threads j ≡ Some b → a ≢ b
 
 -- somebody is enabled, and every enabled thread of the greatest priority has an open claim
 pub record AllClaimed (s : InTick) : Type 0 where

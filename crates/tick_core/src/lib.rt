@@ -14,7 +14,6 @@ mod sorting;
 mod starting;
 mod state;
 mod stepping;
-mod unclaimed;
 
 pub use claim::{Claim, Done, evaluate};
 pub use events::{all_ticks_end_alike, every_order_replays};

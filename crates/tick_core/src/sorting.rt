@@ -4,8 +4,9 @@ ghost use Rattle.sc_graph.specs.Program.{parent_of};
 ghost use Rattle.sc_graph.specs.Tick.{IsConfiguration};
 ghost use Rattle.sc_graph.specs.Valid.{IsValid};
 ghost use Rattle.tick_core.specs.Inside.Layout.{FindsForks};
-ghost use Rattle.tick_core.specs.Inside.Sorting.{OwnRows, AreSorted, step_priority, sorted_one, sorted_parent, sorted_all, children_at, NodePriorities};
+ghost use Rattle.tick_core.specs.Inside.Sorting.{OwnRows, AreSorted, step_priority, ready_row, sorted_one, sorted_parent, sorted_all, children_at, NodePriorities};
 
+use crate::claim::Claim;
 use crate::enabled::is_enabled;
 use crate::layout::Layout;
 use crate::leading::priority;
@@ -21,6 +22,7 @@ pub(crate) fn sort_after(
     program: &Program,
     tables: &Tables,
     control: &Control,
+    claims: &[Option<Claim<'_>>],
     rows: &mut Rows,
     thread: ThreadId,
     was: Status,
@@ -30,15 +32,15 @@ pub(crate) fn sort_after(
     requires configuration { IsConfiguration program.now control.now }
     requires place { thread < length program.now.threads }
     requires rows { OwnRows program.now tables.now rows.old }
-    ensures sorted { rows.new ≡ sorted_all program.now tables.now control.now (children_at program.now was) (sorted_parent program.now tables.now control.now (sorted_one program.now tables.now control.now rows.old thread) (parent_of program.now thread)) }
+    ensures sorted { rows.new ≡ sorted_all (ready_row program.now tables.now control.now claims.now) (children_at program.now was) (sorted_parent (ready_row program.now tables.now control.now claims.now) (sorted_one (ready_row program.now tables.now control.now claims.now) rows.old thread) (parent_of program.now thread)) }
     ensures rows { OwnRows program.now tables.now rows.new }
 {
-    sort(layout, program, tables, control, rows, thread);
+    sort(layout, program, tables, control, claims, rows, thread);
     if let Some(parent) = program.parent(thread) {
-        sort(layout, program, tables, control, rows, parent);
+        sort(layout, program, tables, control, claims, rows, parent);
     }
     let children = children_at(layout, program, was);
-    sort_all(layout, program, tables, control, rows, children);
+    sort_all(layout, program, tables, control, claims, rows, children);
     rows.settle();
 }
 
@@ -65,6 +67,7 @@ fn sort_all(
     program: &Program,
     tables: &Tables,
     control: &Control,
+    claims: &[Option<Claim<'_>>],
     rows: &mut Rows,
     threads: &[ThreadId],
 )
@@ -73,20 +76,22 @@ fn sort_all(
     requires configuration { IsConfiguration program.now control.now }
     requires places { All (λ t. t < length program.now.threads) threads.now }
     requires rows { OwnRows program.now tables.now rows.old }
-    ensures sorted { rows.new ≡ sorted_all program.now tables.now control.now threads.now rows.old }
+    ensures sorted { rows.new ≡ sorted_all (ready_row program.now tables.now control.now claims.now) threads.now rows.old }
     ensures rows { OwnRows program.now tables.now rows.new }
 {
     for thread in threads {
-        sort(layout, program, tables, control, rows, *thread);
+        sort(layout, program, tables, control, claims, rows, *thread);
     }
 }
 
-/// Puts a thread into the row of its priority where it is enabled, else into none.
+/// Puts a thread into the row of its priority where it is enabled and has no open claim, else into
+/// none.
 pub(crate) fn sort(
     layout: &Layout,
     program: &Program,
     tables: &Tables,
     control: &Control,
+    claims: &[Option<Claim<'_>>],
     rows: &mut Rows,
     thread: ThreadId,
 )
@@ -95,11 +100,29 @@ pub(crate) fn sort(
     requires configuration { IsConfiguration program.now control.now }
     requires place { thread < length program.now.threads }
     requires rows { OwnRows program.now tables.now rows.old }
-    ensures sorted { rows.new ≡ sorted_one program.now tables.now control.now rows.old thread }
+    ensures sorted { rows.new ≡ sorted_one (ready_row program.now tables.now control.now claims.now) rows.old thread }
     ensures rows { OwnRows program.now tables.now rows.new }
 {
-    let row = step_priority(layout, program, tables, control, thread);
+    let row = ready_row(layout, program, tables, control, claims, thread);
     rows.set(thread, row);
+}
+
+// The priority at which a thread is ready; None where it isn't enabled, or has an open claim.
+fn ready_row(
+    layout: &Layout,
+    program: &Program,
+    tables: &Tables,
+    control: &Control,
+    claims: &[Option<Claim<'_>>],
+    thread: ThreadId,
+) -> Option<u16>
+    requires { FindsForks program.now layout.now }
+    ensures { result ≡ ready_row program.now tables.now control.now claims.now thread }
+{
+    match claims.get(thread as usize) {
+        Some(None) => step_priority(layout, program, tables, control, thread),
+        _ => None,
+    }
 }
 
 // The priority at which a thread can step; None where it isn't enabled.
@@ -126,16 +149,17 @@ pub(crate) fn sort_every(
     program: &Program,
     tables: &Tables,
     control: &Control,
+    claims: &[Option<Claim<'_>>],
     rows: &mut Rows,
 )
     requires forks { FindsForks program.now layout.now }
     requires valid { IsValid program.now tables.now }
     requires configuration { IsConfiguration program.now control.now }
     requires rows { OwnRows program.now tables.now rows.old }
-    ensures { AreSorted program.now tables.now control.now rows.new }
+    ensures { AreSorted program.now tables.now control.now claims.now rows.new }
 {
     for thread in 0..program.thread_count() {
-        sort(layout, program, tables, control, rows, thread);
+        sort(layout, program, tables, control, claims, rows, thread);
     }
     rows.settle();
 }

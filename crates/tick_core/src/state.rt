@@ -10,6 +10,7 @@ ghost use Rattle.sc_graph.specs.Tick.{IsConfiguration, Rests, AreAccepted};
 ghost use Rattle.tick_core.specs.Claims.{Claim as OpenClaim};
 ghost use Rattle.tick_core.specs.Events.{begun};
 ghost use Rattle.tick_core.specs.State.{IsFresh, threads_of};
+ghost use Rattle.tick_core.specs.Turns.{AreReady};
 
 mod claiming;
 mod ending;
@@ -23,8 +24,9 @@ use crate::starting::started;
 use bytecode::Image;
 pub(crate) use ending::present_value;
 use ready_rows::Rows;
-use sc_graph::{Control, Program};
+use sc_graph::{Control, Program, ThreadId};
 use sc_values::{Kind, Value};
+use sqlite_items::Items;
 use std::alloc::{AllocError, AllocFailed, Global};
 use std::marker::Model;
 use verifier::Verified;
@@ -64,14 +66,17 @@ impl<T: Drop> From<AllocFailed<T>> for BeginFault {
 pub struct TickState<'a> {
     verified: &'a Verified,
     layout: Layout,
+    // the threads that can be claimed, by priority
     rows: Rows,
     variable_kinds: Vec<Kind>,
     begun: Control,
     present: Control,
     // with room for the budget
     history: Vec<Entry>,
-    // the open ones, by thread
+    // the open ones, by thread; how many they are, and the priority of their threads
     claims: Vec<Option<Claim<'a>>>,
+    claimed: usize,
+    level: u16,
 }
 
 impl<'a> Model for TickState<'a> {
@@ -80,28 +85,31 @@ impl<'a> Model for TickState<'a> {
     ghost use Rattle.tick_core.specs.State.{InTick, Holds};
     ghost use Rattle.tick_core.specs.Inside.Layout.{FindsForks};
     ghost use Rattle.tick_core.specs.Inside.Sorting.{AreSorted};
+    ghost use Rattle.tick_core.specs.Inside.Turns.{OpenAt};
 
     ghost Value = { InTick };
 
     ghost view = { λ s. record { image = s.verified.now; begun = s.begun; present = s.present; history = s.history.items; claims = s.claims.items } };
 
-    ghost invariant = { λ s. Holds (record { image = s.verified.now; begun = s.begun; present = s.present; history = s.history.items; claims = s.claims.items }) × (s.variable_kinds.items ≡ kinds s.verified.now.program) × (s.verified.now.tables.budget ≤ vec_capacity s.history) × FindsForks s.verified.now.program s.layout × AreSorted s.verified.now.program s.verified.now.tables s.present s.rows };
+    ghost invariant = { λ s. Holds (record { image = s.verified.now; begun = s.begun; present = s.present; history = s.history.items; claims = s.claims.items }) × (s.variable_kinds.items ≡ kinds s.verified.now.program) × (s.verified.now.tables.budget ≤ vec_capacity s.history) × FindsForks s.verified.now.program s.layout × AreSorted s.verified.now.program s.verified.now.tables s.present s.claims.items s.rows × OpenAt (record { image = s.verified.now; begun = s.begun; present = s.present; history = s.history.items; claims = s.claims.items }) s.claimed s.level };
 }
 
 /// What the ticks of one verified image take over from one another: the table of its joins, the kinds
-/// of its variables and the places of claims. Contracts see the image.
+/// of its variables, and room for the history and for claims. Contracts see the image.
 #[derive(Drop)]
 pub struct Room<'a> {
     verified: &'a Verified,
     layout: Layout,
     rows: Rows,
     variable_kinds: Vec<Kind>,
+    // with room for the budget
+    history: Vec<Entry>,
     // by thread, none of them open
     claims: Vec<Option<Claim<'a>>>,
 }
 
 impl<'a> Model for Room<'a> {
-    ghost use Rattle.std.specs.Prelude.{◌≡◌, map, None};
+    ghost use Rattle.std.specs.Prelude.{◌≡◌, ◌≤◌, map, None, vec_capacity};
     ghost use Rattle.sc_graph.specs.Program.{kinds};
     ghost use Rattle.bytecode.specs.Image.{Image};
     ghost use Rattle.tick_core.specs.Inside.Layout.{FindsForks};
@@ -111,7 +119,7 @@ impl<'a> Model for Room<'a> {
 
     ghost view = { λ r. r.verified.now };
 
-    ghost invariant = { λ r. (r.variable_kinds.items ≡ kinds r.verified.now.program) × (r.claims.items ≡ map (λ _. None) r.verified.now.program.threads) × FindsForks r.verified.now.program r.layout × OwnRows r.verified.now.program r.verified.now.tables r.rows };
+    ghost invariant = { λ r. (r.variable_kinds.items ≡ kinds r.verified.now.program) × (r.claims.items ≡ map (λ _. None) r.verified.now.program.threads) × FindsForks r.verified.now.program r.layout × OwnRows r.verified.now.program r.verified.now.tables r.rows × (r.verified.now.tables.budget ≤ vec_capacity r.history) };
 }
 
 /// What `claim` answers.
@@ -165,12 +173,14 @@ impl<'a> Room<'a> {
         let layout = Layout::of(alloc, verified)?;
         let rows = rows_of(alloc, verified)?;
         let variable_kinds = kinds_of(alloc, program)?;
+        let history = Vec::with_capacity(alloc, verified.image().tables().budget as usize)?;
         let claims = no_claims(alloc, program)?;
         Ok(Room {
             verified,
             layout,
             rows,
             variable_kinds,
+            history,
             claims,
         })
     }
@@ -209,15 +219,16 @@ impl<'a> Room<'a> {
             layout,
             mut rows,
             variable_kinds,
+            mut history,
             claims,
         } = self;
         let image = verified.image();
         let program = image.program();
         let begun = started(alloc, program, inputs.as_slice(), control)?;
-        let present = started(alloc, program, inputs.as_slice(), control)?;
+        let present = copied(alloc, &begun)?;
         let tables = image.tables();
-        let history = Vec::with_capacity(alloc, tables.budget as usize)?;
-        sort_every(&layout, program, tables, &present, &mut rows);
+        history.clear();
+        sort_every(&layout, program, tables, &present, &claims, &mut rows);
         Ok(TickState {
             verified,
             layout,
@@ -227,6 +238,8 @@ impl<'a> Room<'a> {
             present,
             history,
             claims,
+            claimed: 0,
+            level: 0,
         })
     }
 }
@@ -275,6 +288,26 @@ impl<'a> TickState<'a> {
     {
         self.claims.as_slice()
     }
+
+    /// The enabled threads without an open claim whose node or join has this priority, each once, in
+    /// any order.
+    pub fn ready(&self, priority: u16) -> &[ThreadId]
+        ensures { AreReady self.now priority result.now }
+    {
+        self.rows.row(priority)
+    }
+}
+
+// The same configuration again.
+fn copied(alloc: Global, control: &Control) -> Result<Control, AllocError>
+    ensures { IfOk result (λ c. c ≡ control.now) }
+{
+    let variables = Items::from_slice(alloc, control.variables.as_slice())?;
+    let statuses = Items::from_slice(alloc, control.statuses.as_slice())?;
+    Ok(Control {
+        variables,
+        statuses,
+    })
 }
 
 /// The kinds of all variables.

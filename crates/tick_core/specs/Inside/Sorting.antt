@@ -1,5 +1,5 @@
--- Threads in rows by the priority at which they can step.
-use Rattle.std.specs.Prelude.{ℕ, ◌≡◌, ◌<◌, Bool, true, false, Option, Some, None, List, [], ◌∷◌, length, slice_get, slice_index, slice_set, option_and_then}
+-- Threads in rows by the priority at which they can step, and be claimed.
+use Rattle.std.specs.Prelude.{ℕ, ◌≡◌, ◌<◌, Bool, true, false, Option, Some, None, List, [], ◌∷◌, length, slice_get, slice_index, slice_set}
 use Rattle.ready_rows.specs.Rows.{Rows, IsIn, HasRooms}
 use Rattle.sc_graph.specs.declared.program.Step.{Step}
 use Rattle.sc_graph.specs.declared.program.Step.TheVariants as step
@@ -10,6 +10,7 @@ use Rattle.sc_graph.specs.declared.tables.Tables.{Tables}
 use Rattle.sc_graph.specs.Program.{Program, step_at, owner_of}
 use Rattle.sc_graph.specs.Control.{status_of, is_enabled, joined_at}
 use Rattle.sc_graph.specs.Tables.{priority, priority_of}
+use Rattle.tick_core.specs.Claims.{Claim}
 
 abbrev pub row_at : Bool → ℕ → Option ℕ
 row_at true priority = Some priority
@@ -38,24 +39,32 @@ pub record OwnRows (p : Program) (q : Tables) (rows : Rows) : Type 0 where
   pub fits : FitsNodes p q rows.rooms
   pub own : (t prior : ℕ) → IsIn rows.classes t prior → OwnsNode p q t prior
 
--- each enabled thread stands in the row of its priority, and no other in any
-pub record AreSorted (p : Program) (q : Tables) (c : Control) (rows : Rows) : Type 0 where
+abbrev pub unless_claimed : Option (Option Claim) → Option ℕ → Option ℕ
+unless_claimed (Some None) row = row
+unless_claimed other row = None
+
+-- the priority at which thread t is ready; None where it isn't enabled, or has an open claim
+abbrev pub ready_row : Program → Tables → Control → List (Option Claim) → ℕ → Option ℕ
+ready_row p q c claims t = unless_claimed (slice_get claims t) (step_priority p q c t)
+
+-- each ready thread stands in the row of its priority, and no other in any
+pub record AreSorted (p : Program) (q : Tables) (c : Control) (claims : List (Option Claim)) (rows : Rows) : Type 0 where
   pub own_rows : OwnRows p q rows
-  pub each : (t : ℕ) → t < length p.threads → slice_get rows.classes t ≡ Some (step_priority p q c t)
+  pub each : (t : ℕ) → t < length p.threads → slice_get rows.classes t ≡ Some (ready_row p q c claims t)
 
--- with one thread sorted anew
-abbrev pub sorted_one : Program → Tables → Control → Rows → ℕ → Rows
-sorted_one p q c rows t = record rows { classes = slice_set rows.classes t (step_priority p q c t) }
+-- with one thread put into its row
+abbrev pub sorted_one : (ℕ → Option ℕ) → Rows → ℕ → Rows
+sorted_one row rows t = record rows { classes = slice_set rows.classes t (row t) }
 
--- with the parent of a thread sorted anew, where it has one
-abbrev pub sorted_parent : Program → Tables → Control → Rows → Option ℕ → Rows
-sorted_parent p q c rows None = rows
-sorted_parent p q c rows (Some parent) = sorted_one p q c rows parent
+-- with the parent of a thread put into its row, where it has one
+abbrev pub sorted_parent : (ℕ → Option ℕ) → Rows → Option ℕ → Rows
+sorted_parent row rows None = rows
+sorted_parent row rows (Some parent) = sorted_one row rows parent
 
--- with all these threads sorted anew
-abbrev pub sorted_all : Program → Tables → Control → List ℕ → Rows → Rows
-sorted_all p q c [] rows = rows
-sorted_all p q c (t ∷ threads) rows = sorted_all p q c threads (sorted_one p q c rows t)
+-- with all these threads put into their rows
+abbrev pub sorted_all : (ℕ → Option ℕ) → List ℕ → Rows → Rows
+sorted_all row [] rows = rows
+sorted_all row (t ∷ threads) rows = sorted_all row threads (sorted_one row rows t)
 
 abbrev pub children_of : Step → List ℕ
 children_of (step.Fork children join) = children

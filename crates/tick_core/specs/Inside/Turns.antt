@@ -1,27 +1,23 @@
 -- Who may be claimed next, and which claim may be committed.
-use Rattle.std.specs.Prelude.{ℕ, ◌≡◌, ◌≢◌, ◌<◌, ◌&&◌, Bool, true, false, nat_eq, Option, Some, None, List, length, slice_get}
-use Rattle.sc_graph.specs.declared.control.Control.{Control}
-use Rattle.sc_graph.specs.declared.tables.Tables.{Tables}
-use Rattle.sc_graph.specs.Program.{Program}
-use Rattle.sc_graph.specs.Control.{status_of, is_enabled}
+use Rattle.std.specs.Prelude.{ℕ, ◌≡◌, ◌≢◌, ◌⊎◌, Some, None, length, slice_get, count_by, is_some}
+use Rattle.sc_values.specs.Runs.{IsOver}
+use Rattle.sc_graph.specs.Control.{status_of}
+use Rattle.sc_graph.specs.Machine.{machine}
 use Rattle.sc_graph.specs.Tables.{priority_of}
 use Rattle.sc_graph.specs.Priority.{Leads}
 use Rattle.tick_core.specs.Claims.{Claim, value_by}
 use Rattle.tick_core.specs.Inside.Work.{value_at}
 use Rattle.tick_core.specs.State.{InTick, IsFresh}
-use Rattle.tick_core.specs.Turns.{claim_of, IsOpen}
+use Rattle.tick_core.specs.Turns.{claim_of, IsOpen, AllClaimed}
 
-abbrev pub is_none : Option (Option Claim) → Bool
-is_none (Some None) = true
-is_none other = false
+-- so many claims are open, each of a thread that stands at this priority
+pub record OpenAt (s : InTick) (count level : ℕ) : Type 0 where
+  pub counted : count ≡ count_by is_some s.claims
+  pub level_is : (t : ℕ) (a : Claim) → claim_of s t ≡ Some (Some a) → priority_of s.image.tables (status_of s.present t) ≡ level
 
--- whether thread t is enabled, has this priority and has no open claim
-abbrev pub is_unclaimed : Program → Tables → Control → List (Option Claim) → ℕ → ℕ → Bool
-is_unclaimed p q c claims priority t = is_enabled p c t && nat_eq (priority_of q (status_of c t)) priority && is_none (slice_get claims t)
-
--- no such thread is below n
-pub record NoneUnclaimed (p : Program) (q : Tables) (c : Control) (claims : List (Option Claim)) (priority n : ℕ) : Type 0 where
-  pub each : (t : ℕ) → t < n → is_unclaimed p q c claims priority t ≡ false
+-- nobody is enabled, or every leading thread has an open claim
+abbrev pub NothingToClaim : InTick → Type 0
+NothingToClaim s = IsOver (machine s.image.program) s.present ⊎ AllClaimed s
 
 -- thread t leads and has no open claim
 pub record IsUnclaimed (s : InTick) (t : ℕ) : Type 0 where

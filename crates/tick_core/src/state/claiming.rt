@@ -1,19 +1,21 @@
-ghost use Rattle.std.specs.Prelude.{◌≡◌, ◌↔◌, ◌<◌, ◌≤◌, IsTrue, IsSome, IfOk, OnOk, OnErr, MatchOption, Some, None, length, slice_get, slice_set};
+ghost use Rattle.std.specs.Prelude.{ℕ, ◌≡◌, ◌↔◌, ◌<◌, ◌≤◌, IsTrue, IsSome, IfOk, OnOk, OnErr, MatchOption, Some, None, length, slice_get, slice_set, count_by, is_some};
+ghost use Rattle.sc_graph.specs.Control.{status_of};
 ghost use Rattle.sc_graph.specs.Priority.{Leads};
+ghost use Rattle.sc_graph.specs.Tables.{priority_of};
 ghost use Rattle.sc_graph.specs.Program.{kinds as variable_kinds};
 ghost use Rattle.sc_graph.specs.Tick.{IsConfiguration};
 ghost use Rattle.tick_core.specs.Stepping.{node_of, code_at};
 ghost use Rattle.tick_core.specs.Inside.Work.{HasFormedCode, IsWork};
 ghost use Rattle.tick_core.specs.State.{IsFresh};
-ghost use Rattle.tick_core.specs.Turns.{Answers, AllClaimed, Commits, GivesBack, IsRefused, IsOpen};
+ghost use Rattle.tick_core.specs.Turns.{claim_of, Answers, Commits, GivesBack, IsRefused, IsOpen};
 ghost use Rattle.tick_core.specs.Events.{Happens, Asks, Brings, Returns};
-ghost use Rattle.tick_core.specs.Inside.Turns.{IsUnclaimed, IsNew, MayCommit};
+ghost use Rattle.tick_core.specs.Inside.Turns.{NothingToClaim, IsUnclaimed, IsNew, MayCommit};
 
 use crate::claim::{Claim, Done};
 use crate::leading::priority;
+use crate::sorting::sort;
 use crate::state::{Receipt, StaleClaim, TickState, Turn};
 use crate::stepping::code_at;
-use crate::unclaimed::unclaimed;
 use sc_graph::{Control, NodeId, Program, Status, ThreadId};
 use sc_values::{CheckedCode, Kind, Operands};
 
@@ -26,11 +28,8 @@ impl<'a> TickState<'a> {
         ensures answers { Answers self.old self.new worker result }
         ensures happens { Happens (Asks worker) self.old self.new }
     {
-        let Some(leader) = self.leader() else {
-            return Turn::Over;
-        };
-        let Some(thread) = self.unclaimed(leader) else {
-            return Turn::NoneNow;
+        let Some(thread) = self.unclaimed() else {
+            return self.unanswered();
         };
         let claim = self.new_claim(worker, thread);
         self.open(&claim);
@@ -64,21 +63,40 @@ impl<'a> TickState<'a> {
         Ok(())
     }
 
-    // A thread of the priority of this one, which is the greatest, that has no open claim.
-    fn unclaimed(&self, leader: ThreadId) -> Option<ThreadId>
-        requires { Leads self.now.image.program self.now.image.tables self.now.present leader }
-        ensures { MatchOption result (AllClaimed self.now) (IsUnclaimed self.now) }
+    // A leading thread that has no open claim.
+    pub(super) fn unclaimed(&self) -> Option<ThreadId>
+        ensures { MatchOption result (NothingToClaim self.now) (IsUnclaimed self.now) }
     {
-        let image = self.verified.image();
-        let greatest = priority(image.tables(), self.present.status(leader));
-        unclaimed(
-            &self.layout,
-            image.program(),
-            image.tables(),
-            &self.present,
-            &self.claims,
-            greatest,
-        )
+        let Some(thread) = self.rows.first() else {
+            return None;
+        };
+        if self.claimed == 0 {
+            return Some(thread);
+        }
+        if self.priority(thread) == self.level {
+            Some(thread)
+        } else {
+            None
+        }
+    }
+
+    // The answer where there is nothing to claim.
+    fn unanswered(&self) -> Turn<'a>
+        requires { NothingToClaim self.now }
+        ensures { (worker : ℕ) → Answers self.now self.now worker result }
+    {
+        if self.is_over() {
+            Turn::Over
+        } else {
+            Turn::NoneNow
+        }
+    }
+
+    // The priority of a thread as it stands.
+    fn priority(&self, thread: ThreadId) -> u16
+        ensures { result ≡ priority_of self.now.image.tables (status_of self.now.present thread) }
+    {
+        priority(self.verified.image().tables(), self.present.status(thread))
     }
 
     // A claim of a leading thread, as things stand.
@@ -100,12 +118,17 @@ impl<'a> TickState<'a> {
         )
     }
 
-    // Puts a claim at its thread's place.
+    // Puts a claim at the place of its thread, which had none.
     fn open(&mut self, claim: &Claim<'a>)
-        requires { IsFresh self.old.image.program self.old.image.tables self.old.present (length self.old.history) claim.now.thread claim.now }
+        requires fresh { IsFresh self.old.image.program self.old.image.tables self.old.present (length self.old.history) claim.now.thread claim.now }
+        requires unclaimed { claim_of self.old claim.now.thread ≡ Some None }
         ensures { self.new ≡ record self.old { claims = slice_set self.old.claims claim.now.thread (Some claim.now) } }
     {
-        self.claims[claim.thread() as usize] = Some(claim.copied());
+        let thread = claim.thread();
+        self.level = self.priority(thread);
+        self.claims[thread as usize] = Some(claim.copied());
+        self.claimed += 1;
+        self.rows.set(thread, None);
     }
 
     // Closes the claim of a thread.
@@ -113,7 +136,17 @@ impl<'a> TickState<'a> {
         requires { thread < length self.old.claims }
         ensures { self.new ≡ record self.old { claims = slice_set self.old.claims thread None } }
     {
-        self.claims[thread as usize] = None;
+        close_one(&mut self.claims, &mut self.claimed, thread);
+        let image = self.verified.image();
+        sort(
+            &self.layout,
+            image.program(),
+            image.tables(),
+            &self.present,
+            &self.claims,
+            &mut self.rows,
+            thread,
+        );
     }
 
     // Whether this very claim is open. `StaleClaim`: it isn't.
@@ -134,6 +167,19 @@ impl<'a> TickState<'a> {
     {
         self.history.len() as u32
     }
+}
+
+/// Closes the claim of a thread, where it has one. So many are open.
+pub(super) fn close_one(claims: &mut Vec<Option<Claim<'_>>>, claimed: &mut usize, thread: ThreadId)
+    requires place { thread < length claims.old.items }
+    requires counted { claimed.old ≡ count_by is_some claims.old.items }
+    ensures closed { claims.new.items ≡ slice_set claims.old.items thread None }
+    ensures counted { claimed.new ≡ count_by is_some claims.new.items }
+{
+    if claims[thread as usize].is_some() {
+        *claimed -= 1;
+    }
+    claims[thread as usize] = None;
 }
 
 // Whether this very claim stands among the open ones.

@@ -1,4 +1,4 @@
-ghost use Rattle.std.specs.Prelude.{◌≡◌, ◌↔◌, ◌<◌, ◌≤◌, ◌==◌, ◌≢◌, List, Some, ℕ, IsTrue, MatchOption, count_by, length, slice_get, slice_index};
+ghost use Rattle.std.specs.Prelude.{◌≡◌, ◌↔◌, ◌<◌, ◌≤◌, ◌==◌, ◌≢◌, List, Some, ℕ, IsTrue, count_by, length, slice_get, slice_index};
 ghost use Rattle.sc_values.specs.Runs.{IsOver};
 ghost use Rattle.sc_graph.specs.Machine.{machine};
 ghost use Rattle.sc_graph.specs.Priority.{Leads, PriorityRun};
@@ -14,7 +14,8 @@ ghost use Rattle.tick_core.specs.Inside.Turns.{DropsClaims};
 
 use crate::claim::Claim;
 use crate::history::{Entry, Report};
-use crate::sorting::sort_after;
+use crate::sorting::{sort_after, sort_every};
+use crate::state::claiming::close_one;
 use crate::state::{Room, TickState};
 use crate::stepping::{code_at, take_step};
 use sc_graph::{Control, ThreadId};
@@ -27,7 +28,7 @@ impl<'a> TickState<'a> {
     pub fn is_over(&self) -> bool
         ensures { IsTrue result ↔ (IsOver (machine self.now.image.program) self.now.present) }
     {
-        self.rows.is_empty()
+        self.claimed == 0 && self.rows.is_empty()
     }
 
     /// Drops all open claims, and then steps as worker 0 until nobody is enabled.
@@ -36,7 +37,7 @@ impl<'a> TickState<'a> {
         ensures alone { GoesAlone self.old self.new }
     {
         self.drop_claims();
-        while let Some(thread) = self.leader() {
+        while let Some(thread) = self.unclaimed() {
             self.step_alone(thread);
         }
     }
@@ -45,14 +46,19 @@ impl<'a> TickState<'a> {
     fn drop_claims(&mut self)
         ensures { DropsClaims self.old self.new }
     {
-        close_all(&mut self.claims);
-    }
-
-    // An enabled thread of the greatest priority.
-    pub(super) fn leader(&self) -> Option<ThreadId>
-        ensures { MatchOption result (IsOver (machine self.now.image.program) self.now.present) (Leads self.now.image.program self.now.image.tables self.now.present) }
-    {
-        self.rows.first()
+        if self.claimed > 0 {
+            close_all(&mut self.claims);
+            self.claimed = 0;
+            let image = self.verified.image();
+            sort_every(
+                &self.layout,
+                image.program(),
+                image.tables(),
+                &self.present,
+                &self.claims,
+                &mut self.rows,
+            );
+        }
     }
 
     // One step of worker 0.
@@ -76,17 +82,18 @@ impl<'a> TickState<'a> {
         let program = image.program();
         let was = self.present.status(thread);
         take_step(&self.layout, program, &mut self.present, thread, value);
+        close_one(&mut self.claims, &mut self.claimed, thread);
         sort_after(
             &self.layout,
             program,
             image.tables(),
             &self.present,
+            &self.claims,
             &mut self.rows,
             thread,
             was,
         );
         self.history.push_reserved(Entry { thread, worker });
-        self.claims[thread as usize] = None;
     }
 
     /// Of a tick that is over: the configuration in which it ended, which rests and is its only
@@ -100,20 +107,23 @@ impl<'a> TickState<'a> {
         ensures by_priority { PriorityRun self.entry.image.program self.entry.image.tables (threads_of result.1.history) self.entry.begun result.0 }
         ensures by { (w : ℕ) → w < 9 → slice_index result.1.by w ≡ count_by (λ e. e.worker == w) self.entry.history }
     {
-        let (control, report, _room) = self.hand_over();
-        (control, report)
+        let TickState {
+            present,
+            history,
+            ..
+        } = self;
+        (present, Report::of(Items::from_vec(history)))
     }
 
-    /// The same as `finish`, with the room for the next tick of the image.
-    pub fn hand_over(self) -> (Control, Report, Room<'a>)
+    /// Of a tick that is over: the configuration in which it ended, as of `finish`, and the room for the
+    /// next tick of the image. The room keeps that of the history, which is to be read before.
+    pub fn hand_over(self) -> (Control, Room<'a>)
         requires { IsOver (machine self.image.program) self.present }
         ensures present { result.0 ≡ self.entry.present }
         ensures rests { Rests self.entry.image.program result.0 }
-        ensures history { result.1.history ≡ self.entry.history }
-        ensures tick { WholeTick self.entry.image self.entry.begun (threads_of result.1.history) result.0 }
-        ensures by_priority { PriorityRun self.entry.image.program self.entry.image.tables (threads_of result.1.history) self.entry.begun result.0 }
-        ensures by { (w : ℕ) → w < 9 → slice_index result.1.by w ≡ count_by (λ e. e.worker == w) self.entry.history }
-        ensures room { result.2 ≡ self.entry.image }
+        ensures tick { WholeTick self.entry.image self.entry.begun (threads_of self.entry.history) result.0 }
+        ensures by_priority { PriorityRun self.entry.image.program self.entry.image.tables (threads_of self.entry.history) self.entry.begun result.0 }
+        ensures room { result.1 ≡ self.entry.image }
     {
         let TickState {
             verified,
@@ -124,15 +134,18 @@ impl<'a> TickState<'a> {
             present,
             history,
             claims,
+            claimed: _,
+            level: _,
         } = self;
         let room = Room {
             verified,
             layout,
             rows,
             variable_kinds,
+            history,
             claims,
         };
-        (present, Report::of(Items::from_vec(history)), room)
+        (present, room)
     }
 }
 

@@ -1,4 +1,4 @@
-use Rattle.std.proofs.Common.{◌≡◌, ◌∙◌, ap, subst, sym}
+use Rattle.std.proofs.Common.{◌≡◌, ◌∙◌, length, ap, subst, sym}
 use Rattle.std.proofs.lemmas.List.{length-map}
 use Rattle.sc_graph.specs.Tick.{start}
 use Rattle.tick_core.specs.State.{threads_of}
@@ -12,8 +12,7 @@ returns-clause-reacts c =
     let ensured = c.in_ok-state.ensures in
     let alone = c.run_alone.ensures.alone in
     let finish = c.hand_over-control.ensures in
-    let history = c.hand_over-control.result.1.history in
-    let run = threads_of history in
+    let run = threads_of state.history in
     let end = c.hand_over-control.result.0 in
     let same_image : state.image ≡ image = alone.image_is ∙ ap (λ s. s.image) ensured.start in
     let same_start : state.begun ≡ start image.program c.args.inputs.now c.args.control.now = alone.begun_is ∙ ap (λ s. s.begun) ensured.start in
@@ -21,5 +20,5 @@ returns-clause-reacts c =
       accepted = ensured.accepted;
       run = run;
       tick = subst (λ b. WholeTick image b run end) same_start (subst (λ i. WholeTick i state.begun run end) same_image finish.tick);
-      count = c.len.ensures ∙ sym (length-map history (λ e. e.thread));
+      count = ap length c.history.ensures.value ∙ sym (length-map state.history (λ e. e.thread));
     }

@@ -1,7 +1,7 @@
-use Rattle.std.proofs.Common.{◌≡◌, ◌∙◌, ℕ, List, None, ap, subst}
+use Rattle.std.proofs.Common.{◌∙◌, None, ap, subst}
 use Rattle.std.specs.Prelude.{replicate}
 use Rattle.ready_rows.specs.Rows.{HasRooms}
-use Rattle.tick_core.specs.Inside.Sorting.{OwnRows, NodePriorities}
+use Rattle.tick_core.specs.Inside.Sorting.{OwnRows}
 use Rattle.tick_core.proofs.Led.{own_none}
 use Rattle.tick_core.proofs.sorting.rows_of.Goals as goal
 

@@ -1,16 +1,16 @@
-use Rattle.std.proofs.Common.{◌≡◌, ◌∙◌, Option, ℕ, ap, sym, subst, slice_set}
-use Rattle.ready_rows.specs.Rows.{Rows, HasRoom}
+use Rattle.std.proofs.Common.{◌∙◌, Option, ℕ, ap, sym, subst, slice_set}
+use Rattle.ready_rows.specs.Rows.{HasRoom}
 use Rattle.tick_core.specs.Inside.Sorting.{OwnRows}
 use Rattle.tick_core.proofs.OwnRoom.{has_room, kept_one}
 use Rattle.tick_core.proofs.sorting.sort.Goals as goal
 
 pub set-requires : goal.set-requires
 set-requires c =
-    subst (λ (o : Option ℕ). HasRoom c.args.rows.now c.args.thread o) (sym c.step_priority-row.ensures)
-    (has_room c.args.program.now c.args.tables.now c.args.rows.now c.requires.rows c.args.thread c.requires.place c.args.control.now c.requires.valid c.requires.configuration)
+    subst (λ (o : Option ℕ). HasRoom c.args.rows.now c.args.thread o) (sym c.ready_row-row.ensures)
+    (has_room c.args.program.now c.args.tables.now c.args.rows.now c.requires.rows c.args.thread c.requires.place c.args.control.now c.requires.valid c.requires.configuration c.args.claims.now)
 
 pub returns-clause-rows : goal.returns-clause-rows
 returns-clause-rows c =
     subst (OwnRows c.args.program.now c.args.tables.now)
-    (sym (c.set.ensures ∙ ap (λ (o : Option ℕ). record c.args.rows.now { classes = slice_set c.args.rows.now.classes c.args.thread o }) c.step_priority-row.ensures))
-    (kept_one c.args.program.now c.args.tables.now c.args.rows.now c.requires.rows c.args.thread c.requires.place c.args.control.now c.requires.valid c.requires.configuration)
+    (sym (c.set.ensures ∙ ap (λ (o : Option ℕ). record c.args.rows.now { classes = slice_set c.args.rows.now.classes c.args.thread o }) c.ready_row-row.ensures))
+    (kept_one c.args.program.now c.args.tables.now c.args.rows.now c.requires.rows c.args.thread c.requires.place c.args.control.now c.requires.valid c.requires.configuration c.args.claims.now)

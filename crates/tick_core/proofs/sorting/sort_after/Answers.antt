@@ -1,4 +1,4 @@
-use Rattle.std.proofs.Common.{◌≡◌, ◌<◌, ◌∙◌, ap, sym, subst, All, List, length}
+use Rattle.std.proofs.Common.{◌<◌, ◌∙◌, sym, subst, All, length}
 use Rattle.tick_laws.proofs.Formed.{valid_formed, parent_in_range}
 use Rattle.tick_core.proofs.Unmoved.{children_in}
 use Rattle.tick_core.proofs.sorting.sort_after.Goals as goal

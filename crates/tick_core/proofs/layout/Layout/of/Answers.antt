@@ -1,4 +1,4 @@
-use Rattle.std.proofs.Common.{◌≡◌, ◌∙◌, ◌≤◌, ◌<◌, ◌+◌, sym, ap, subst, arith, length}
+use Rattle.std.proofs.Common.{◌∙◌, ◌+◌, sym, ap, subst, arith}
 use Rattle.sc_graph.specs.Valid.{IsValid}
 use Rattle.tick_core.specs.Inside.Layout.{FindsForks, FindsBelow}
 use Rattle.tick_core.proofs.Layouts.{noted_more, noted_all}

@@ -1,8 +1,9 @@
-use Rattle.std.proofs.Common.{refl, rules, ◌≡◌, ◌∙◌, ap, sym, subst}
+use Rattle.std.proofs.Common.{arith, refl, rules, ◌≡◌, ◌∙◌, ap, sym, subst}
 use Rattle.sc_graph.specs.Tick.{Rests, AreAccepted, IsConfiguration, start}
 use Rattle.sc_graph.specs.Valid.{IsValid}
-use Rattle.tick_core.specs.Inside.Sorting.{OwnRows, AreSorted}
-use Rattle.tick_core.proofs.Keeping.{holds_begun, begun_configuration}
+use Rattle.tick_core.specs.Inside.Sorting.{OwnRows}
+use Rattle.tick_core.proofs.Keeping.{holds_begun, begun_configuration, no_claims_at}
+use Rattle.tick_core.proofs.Counts.{sorted_every_at, none_open_at}
 use Rattle.tick_core.proofs.state.Room.start.Goals as goal
 
 pub sort_every-requires-clause-valid : goal.sort_every-requires-clause-valid
@@ -14,10 +15,10 @@ pub sort_every-requires-clause-configuration : goal.sort_every-requires-clause-c
 sort_every-requires-clause-configuration c =
     let image = c.image-image.ensures.value in
     let program = c.program-program.ensures in
-    let present = c.in_ok-present.ensures in
-    let present_is : c.in_ok-present.present ≡ start c.self.inside.verified.now.program c.args.inputs.now c.args.control.now = cc in
+    let begun = c.in_ok-begun.ensures in
+    let begun_is : c.in_ok-begun.begun ≡ start c.self.inside.verified.now.program c.args.inputs.now c.args.control.now = cc in
     subst (λ p. IsConfiguration p c.in_ok-present.present) (sym (c.program-program.ensures ∙ ap (λ i. i.program) c.image-image.ensures.value))
-    (subst (IsConfiguration c.self.inside.verified.now.program) (sym present_is)
+    (subst (IsConfiguration c.self.inside.verified.now.program) (sym (c.in_ok-present.ensures ∙ begun_is))
     (begun_configuration c.self.inside.verified.now c.args.control.now c.args.inputs.now (search rules)
     (subst (λ i. Rests i.program c.args.control.now) (sym c.self.view_is) c.requires.rests)
     (subst (λ i. AreAccepted i.program c.args.inputs.now) (sym c.self.view_is) c.requires.accepted)))
@@ -32,20 +33,21 @@ invariant_of-result c =
     let image = c.image-image.ensures.value in
     let program = c.program-program.ensures in
     let begun = c.in_ok-begun.ensures in
-    let present = c.in_ok-present.ensures in (
+    let begun_is : c.in_ok-begun.begun ≡ start c.self.inside.verified.now.program c.args.inputs.now c.args.control.now = cc in (
       holds_begun c.self.inside.verified.now c.args.control.now c.args.inputs.now _ (search rules)
           (subst (λ i. Rests i.program c.args.control.now) (sym c.self.view_is) c.requires.rests)
           (record {
             accepted = subst (λ i. AreAccepted i.program c.args.inputs.now) (sym c.self.view_is) c.requires.accepted;
             image_is = refl;
-            begun_is = cc;
-            present_is = cc;
-            no_step = c.in_ok-history.ensures.items;
+            begun_is = begun_is;
+            present_is = c.in_ok-present.ensures ∙ begun_is;
+            no_step = c.clear.ensures.items;
             claims_are = c.self.invariant.1;
           }),
       c.self.invariant.0,
-      search rules,
+      omega (arith, c.self.invariant.4, c.clear.ensures.capacity),
       c.self.invariant.2,
-      subst (λ p. AreSorted p c.self.inside.verified.now.tables c.in_ok-present.present c.sort_every.new.rows) (c.program-program.ensures ∙ ap (λ i. i.program) c.image-image.ensures.value)
-          (subst (λ q. AreSorted c.program-program.result.now q c.in_ok-present.present c.sort_every.new.rows) (c.tables-tables.ensures.value ∙ ap (λ i. i.tables) c.image-image.ensures.value) c.sort_every.ensures),
+      sorted_every_at c.self.inside.verified.now.program c.program-program.result.now c.self.inside.verified.now.tables c.tables-tables.result.now c.in_ok-present.present c.self.inside.claims.items c.deref.result.now c.sort_every.new.rows
+          (c.program-program.ensures ∙ ap (λ i. i.program) c.image-image.ensures.value) (c.tables-tables.ensures.value ∙ ap (λ i. i.tables) c.image-image.ensures.value) c.deref.ensures.value c.sort_every.ensures,
+      none_open_at _ 0 (no_claims_at c.self.inside.verified.now.program.threads c.self.inside.claims.items c.self.invariant.1),
     )

@@ -1,10 +1,11 @@
-use Rattle.std.proofs.Common.{◌≡◌, ◌∙◌, ◌<◌, refl, sym, ap, subst, arith, length, Some}
+use Rattle.std.proofs.Common.{◌∙◌, ◌<◌, refl, sym, ap, subst, arith, length}
 use Rattle.std.specs.Prelude.{IsSome}
 use Rattle.sc_graph.specs.Steps.{step}
 use Rattle.sc_graph.specs.Tick.{IsConfiguration}
 use Rattle.sc_graph.specs.Valid.{IsValid}
-use Rattle.tick_core.specs.Inside.Sorting.{OwnRows}
+use Rattle.tick_core.specs.Inside.Sorting.{OwnRows, AreSorted}
 use Rattle.tick_core.proofs.Keeping.{configuration, leads_at, step_is_defined, has_room, has_place, kept_advanced}
+use Rattle.tick_core.proofs.Counts.{open_advanced}
 use Rattle.tick_core.proofs.Unmoved.{sorted_after_at, stays_configuration}
 use Rattle.tick_core.proofs.state.TickState.advance.Goals as goal
 
@@ -39,9 +40,8 @@ pub push_reserved-requires : goal.push_reserved-requires
 push_reserved-requires c =
     omega (arith, has_room _ c.self.invariant.0 c.args.thread (leads_at _ _ c.args.thread c.self.view_is c.requires.leads), c.self.inside.history.ok.0, c.self.invariant.2)
 
-pub index_mut-requires : goal.index_mut-requires
-index_mut-requires c =
-    omega (arith, has_place _ c.self.invariant.0 c.args.thread (leads_at _ _ c.args.thread c.self.view_is c.requires.leads), c.self.inside.claims.ok.0)
+pub close_one-requires-clause-place : goal.close_one-requires-clause-place
+close_one-requires-clause-place c = has_place _ c.self.invariant.0 c.args.thread (leads_at _ _ c.args.thread c.self.view_is c.requires.leads)
 
 pub invariant_of-self : goal.invariant_of-self
 invariant_of-self c =
@@ -53,14 +53,24 @@ invariant_of-self c =
             begun_is = refl;
             stepped = ap (λ p. step p c.args.thread c.self.inside.present) (sym program_is) ∙ c.take_step.ensures;
             history_is = c.push_reserved.ensures.items;
-            claims_are = refl;
+            claims_are = c.close_one.ensures.closed;
           }),
       c.self.invariant.1,
       omega (arith, c.self.invariant.2, c.push_reserved.ensures.capacity),
       c.self.invariant.3,
-      sorted_after_at c.self.inside.verified.now.program c.self.inside.verified.now.tables c.self.invariant.0.valid c.self.inside.present c.take_step.new.control
+      subst (λ xs. AreSorted c.self.inside.verified.now.program c.self.inside.verified.now.tables c.take_step.new.control xs c.sort_after.new.rows) c.deref.ensures.value
+          (sorted_after_at c.self.inside.verified.now.program c.self.inside.verified.now.tables c.self.invariant.0.valid c.self.inside.present c.take_step.new.control
           (configuration _ c.self.invariant.0) c.args.thread (omega (arith, has_place _ c.self.invariant.0 c.args.thread leads, c.self.invariant.0.places))
-          (ap (λ p. step p c.args.thread c.self.inside.present) (sym program_is) ∙ c.take_step.ensures) c.self.inside.rows c.sort_after.new.rows c.self.invariant.4
+          (ap (λ p. step p c.args.thread c.self.inside.present) (sym program_is) ∙ c.take_step.ensures) c.self.inside.claims.items c.self.inside.rows c.sort_after.new.rows c.self.invariant.4
           c.program-program.result.now c.tables.result.now c.status-was.result program_is (c.tables.ensures.value ∙ ap (λ i. i.tables) c.image-image.ensures.value)
-          c.status-was.ensures c.sort_after.ensures.sorted c.sort_after.ensures.rows,
+          c.status-was.ensures c.deref.result.now (c.deref.ensures.value ∙ c.close_one.ensures.closed) c.sort_after.ensures.sorted c.sort_after.ensures.rows),
+      open_advanced _ c.self.invariant.0 c.self.inside.claimed c.self.inside.level c.self.invariant.5 _ c.args.thread c.args.worker c.close_one.new.claimed
+          (record {
+            image_is = refl;
+            begun_is = refl;
+            stepped = ap (λ p. step p c.args.thread c.self.inside.present) (sym program_is) ∙ c.take_step.ensures;
+            history_is = c.push_reserved.ensures.items;
+            claims_are = c.close_one.ensures.closed;
+          })
+          c.close_one.ensures.counted,
     )

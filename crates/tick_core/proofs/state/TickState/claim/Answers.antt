@@ -2,5 +2,8 @@ use Rattle.std.proofs.Common.{rules}
 use Rattle.tick_core.specs.declared.state.Turn.TheVariants as turn
 use Rattle.tick_core.proofs.state.TickState.claim.Goals as goal
 
+pub returns-in_default-clause-answers : goal.returns-in_default-clause-answers
+returns-in_default-clause-answers c = c.unanswered.ensures c.args.worker
+
 pub returns-clause-happens : goal.returns-clause-happens
 returns-clause-happens c = (c.requires, (turn.Claim c.new_claim-claim.result, search rules))

@@ -1,0 +1,33 @@
+use Rattle.std.proofs.Common.{◌∙◌, refl, sym, ap, subst, arith}
+use Rattle.sc_graph.specs.Tick.{IsConfiguration}
+use Rattle.tick_core.specs.Inside.Turns.{DropsClaims}
+use Rattle.tick_core.proofs.Keeping.{configuration, kept_dropped}
+use Rattle.tick_core.proofs.Counts.{sorted_every_at, none_open_at}
+use Rattle.tick_core.proofs.Led.{nobody_open}
+use Rattle.tick_core.proofs.state.TickState.drop_claims.Goals as goal
+
+pub sort_every-requires-clause-configuration : goal.sort_every-requires-clause-configuration
+sort_every-requires-clause-configuration c =
+    subst (λ p. IsConfiguration p c.self.inside.present) (sym (c.program.ensures ∙ ap (λ i. i.program) c.image-image.ensures.value)) (configuration _ c.self.invariant.0)
+
+pub invariant_of-self : goal.invariant_of-self
+invariant_of-self c = (
+  kept_dropped _ c.self.invariant.0 _ c.close_all.ensures.length (record { image_is = refl; begun_is = refl; present_is = refl; history_is = refl; no_claim = c.close_all.ensures.none }),
+  c.self.invariant.1,
+  c.self.invariant.2,
+  c.self.invariant.3,
+  sorted_every_at c.self.inside.verified.now.program c.program.result.now c.self.inside.verified.now.tables c.tables.result.now c.self.inside.present c.close_all.new.claims.items c.deref.result.now c.sort_every.new.rows
+      (c.program.ensures ∙ ap (λ i. i.program) c.image-image.ensures.value) (c.tables.ensures.value ∙ ap (λ i. i.tables) c.image-image.ensures.value) c.deref.ensures.value c.sort_every.ensures,
+  none_open_at _ c.self.inside.level c.close_all.ensures.none,
+)
+
+pub returns-else-self-gt0 : goal.returns-else-self-gt0
+returns-else-self-gt0 c =
+    subst (λ s. DropsClaims s s) c.self.view_is
+    (record {
+      image_is = refl;
+      begun_is = refl;
+      present_is = refl;
+      history_is = refl;
+      no_claim = nobody_open _ c.self.invariant.0 c.self.inside.rows c.self.invariant.4 c.self.inside.claimed c.self.inside.level c.self.invariant.5 (omega (arith, c.if-self-gt0.false));
+    })
