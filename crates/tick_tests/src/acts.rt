@@ -13,12 +13,16 @@ use verifier::Verified;
 pub(crate) enum Act {
     /// A worker asks for a claim, and evaluates it.
     Claim(u8),
+    /// A worker asks for a claim of this thread: of two that are ready, the other one is given back.
+    ClaimOf(u8, ThreadId),
     /// The claim of this number, counted from 0 as they were given, is committed,
     Commit(usize),
     /// or given back.
     GiveBack(usize),
     RunAlone,
     Look,
+    /// The row of a priority is looked at.
+    Ready(u16),
 }
 
 #[derive(Clone, Copy, PartialEq, Eq)]
@@ -34,6 +38,8 @@ pub(crate) enum Told {
     Done,
     /// The steps so far, the first variable, and whether the tick is over.
     Stands(usize, Value, bool),
+    /// How often each of the first three threads stands in a row, and how many stand there.
+    Row([usize; 3], usize),
 }
 
 /// The first tick of an image, without inputs.
@@ -58,10 +64,12 @@ pub(crate) fn perform<'a>(
 ) -> Result<Told, Fail> {
     match act {
         Act::Claim(worker) => claim(state, given, worker),
+        Act::ClaimOf(worker, thread) => claim_of(state, given, worker, thread),
         Act::Commit(number) => commit(state, given.get(number).ok_or("no such claim")?),
         Act::GiveBack(number) => give_back(state, given.get(number).ok_or("no such claim")?),
         Act::RunAlone => run_alone(state),
         Act::Look => look(state),
+        Act::Ready(priority) => Ok(row_of(state.ready(priority))),
     }
 }
 
@@ -82,6 +90,41 @@ fn claim<'a>(
         Turn::NoneNow => Ok(Told::NoneNow),
         Turn::Over => Ok(Told::Over),
     }
+}
+
+fn claim_of<'a>(
+    state: &mut TickState<'a>,
+    given: &mut Vec<Done<'a>>,
+    worker: u8,
+    thread: ThreadId,
+) -> Result<Told, Fail> {
+    match claim(state, given, worker)? {
+        Told::Given(other) if other != thread => {
+            let told = claim(state, given, worker)?;
+            give_back_the_last_but_one(state, given)?;
+            Ok(told)
+        }
+        told => Ok(told),
+    }
+}
+
+fn give_back_the_last_but_one<'a>(
+    state: &mut TickState<'a>,
+    given: &mut Vec<Done<'a>>,
+) -> Result<(), Fail> {
+    if given.len() < 2 {
+        return Err("no other claim")?;
+    }
+    let other = given.swap_remove(given.len() - 2);
+    match give_back(state, &other)? {
+        Told::GivenBack => Ok(()),
+        _ => Err("it was open")?,
+    }
+}
+
+fn row_of(row: &[ThreadId]) -> Told {
+    let times = |thread: ThreadId| row.iter().filter(|other| **other == thread).count();
+    Told::Row([times(0), times(1), times(2)], row.len())
 }
 
 fn commit(state: &mut TickState<'_>, done: &Done<'_>) -> Result<Told, Fail> {

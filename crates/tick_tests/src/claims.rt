@@ -110,8 +110,8 @@ fn commits_come_in_the_order_of_the_threads(rt: HostRuntime) -> Result<(), Fail>
         (Act::Claim(1), Told::Given(0)),
         (Act::Claim(2), Told::NoneNow),
         (Act::Commit(0), Told::At(0)),
-        (Act::Claim(1), Told::Given(1)),
-        (Act::Claim(2), Told::Given(2)),
+        (Act::ClaimOf(1, 1), Told::Given(1)),
+        (Act::ClaimOf(2, 2), Told::Given(2)),
         (Act::Claim(3), Told::NoneNow),
         (Act::Commit(1), Told::At(1)),
         (Act::Look, stands(2, 2147483647)),
@@ -134,8 +134,8 @@ fn commits_come_in_the_other_order(rt: HostRuntime) -> Result<(), Fail> {
     let acts = [
         (Act::Claim(1), Told::Given(0)),
         (Act::Commit(0), Told::At(0)),
-        (Act::Claim(1), Told::Given(1)),
-        (Act::Claim(2), Told::Given(2)),
+        (Act::ClaimOf(1, 1), Told::Given(1)),
+        (Act::ClaimOf(2, 2), Told::Given(2)),
         (Act::Commit(2), Told::At(1)),
         (Act::Look, stands(2, 1)),
         (Act::Commit(1), Told::At(2)),
@@ -160,8 +160,8 @@ fn one_commit_closes_a_claim(rt: HostRuntime) -> Result<(), Fail> {
         (Act::Commit(0), Told::At(0)),
         (Act::Commit(0), Told::Stale),
         (Act::GiveBack(0), Told::Stale),
-        (Act::Claim(1), Told::Given(1)),
-        (Act::Claim(2), Told::Given(2)),
+        (Act::ClaimOf(1, 1), Told::Given(1)),
+        (Act::ClaimOf(2, 2), Told::Given(2)),
         (Act::Commit(2), Told::At(1)),
         (Act::Commit(2), Told::Stale),
         (Act::Look, stands(2, 1)),
@@ -186,15 +186,15 @@ fn a_claim_that_was_given_back_is_stale(rt: HostRuntime) -> Result<(), Fail> {
     let acts = [
         (Act::Claim(1), Told::Given(0)),
         (Act::Commit(0), Told::At(0)),
-        (Act::Claim(1), Told::Given(1)),
-        (Act::Claim(2), Told::Given(2)),
+        (Act::ClaimOf(1, 1), Told::Given(1)),
+        (Act::ClaimOf(2, 2), Told::Given(2)),
         (Act::GiveBack(1), Told::GivenBack),
         (Act::GiveBack(1), Told::Stale),
         (Act::Commit(1), Told::Stale),
         (Act::Look, stands(1, 0)),
         (Act::Commit(2), Told::At(1)),
         // the claim of that thread can be had again, and the old one stays stale
-        (Act::Claim(3), Told::Given(1)),
+        (Act::ClaimOf(3, 1), Told::Given(1)),
         (Act::Commit(1), Told::Stale),
         (Act::Commit(3), Told::At(2)),
     ];
@@ -230,6 +230,39 @@ fn equal_claims_are_the_same(rt: HostRuntime) -> Result<(), Fail> {
         &acts,
         &first,
         [2, 2, 2],
+        WRAPPED,
+    )
+}
+
+#[test]
+fn rows_hold_who_is_ready(rt: HostRuntime) -> Result<(), Fail> {
+    let nobody = Told::Row([0, 0, 0], 0);
+    let both = Told::Row([0, 1, 1], 2);
+    let acts = [
+        (Act::Ready(0), Told::Row([1, 0, 0], 1)),
+        (Act::Claim(1), Told::Given(0)),
+        (Act::Ready(0), nobody),
+        (Act::Commit(0), Told::At(0)),
+        (Act::Ready(0), both),
+        (Act::Ready(1), nobody),
+        (Act::ClaimOf(1, 1), Told::Given(1)),
+        (Act::Ready(0), Told::Row([0, 0, 1], 1)),
+        (Act::GiveBack(1), Told::GivenBack),
+        (Act::Ready(0), both),
+        (Act::ClaimOf(1, 2), Told::Given(2)),
+        (Act::Commit(2), Told::At(1)),
+        // it goes on at its exit, of the same priority
+        (Act::Ready(0), both),
+        (Act::RunAlone, Told::Done),
+        (Act::Ready(0), nobody),
+    ];
+    let first = [(0, 1), (2, 1)];
+    expect_played(
+        rt.alloc(),
+        wrapping_sum(rt.alloc())?,
+        &acts,
+        &first,
+        [2, 2, 1],
         WRAPPED,
     )
 }
@@ -308,8 +341,8 @@ fn claims_bear_the_present(rt: HostRuntime) -> Result<(), Fail> {
         // the reader is enabled, but waits for the writer
         (Act::Claim(5), Told::NoneNow),
         (Act::Commit(1), Told::At(1)),
-        (Act::Claim(5), Told::Given(1)),
-        (Act::Claim(6), Told::Given(2)),
+        (Act::ClaimOf(5, 1), Told::Given(1)),
+        (Act::ClaimOf(6, 2), Told::Given(2)),
     ];
     let fork = Borne {
         worker: 3,

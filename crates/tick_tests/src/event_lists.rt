@@ -127,6 +127,10 @@ impl Account {
         self.open.get(bearer.0 as usize) == Some(&Some((bearer.1, bearer.2)))
     }
 
+    fn is_free(&self, thread: ThreadId) -> bool {
+        self.open.get(thread as usize) == Some(&None)
+    }
+
     // Closes the claim. False: it isn't open.
     fn closes(&mut self, bearer: Bearer) -> bool {
         let was_open = self.is_open(bearer);
@@ -151,7 +155,7 @@ impl Account {
 // Whether the worker that asks for a claim is the one that bears it.
 fn is_by(bearer: Bearer, act: Act) -> bool {
     match act {
-        Act::Claim(worker) => bearer.1 == worker,
+        Act::Claim(worker) | Act::ClaimOf(worker, _) => bearer.1 == worker,
         _ => true,
     }
 }
@@ -160,7 +164,7 @@ fn is_by(bearer: Bearer, act: Act) -> bool {
 fn answers(told: Told, act: Act) -> bool {
     match told {
         Told::Given(_) | Told::NoneNow | Told::Over => match act {
-            Act::Claim(_) => true,
+            Act::Claim(_) | Act::ClaimOf(..) => true,
             _ => false,
         },
         Told::At(_) => match act {
@@ -175,7 +179,7 @@ fn answers(told: Told, act: Act) -> bool {
             Act::Commit(_) | Act::GiveBack(_) => true,
             _ => false,
         },
-        Told::Done | Told::Stands(..) => false,
+        Told::Done | Told::Stands(..) | Told::Row(..) => false,
     }
 }
 
@@ -187,8 +191,40 @@ fn concerned(given: &[Done<'_>], act: Act) -> Option<Bearer> {
     }
 }
 
+// Whether each row holds whom the plain machine can step at its priority and who has no open claim,
+// each once.
+fn rows_agree(alloc: Global, state: &TickState<'_>, account: &Account) -> Result<bool, AllocError> {
+    let plain = Plain::at(alloc, state.image(), state.present())?;
+    for thread in 0..state.image().program().thread_count() {
+        let wanted = match plain.priority(thread) {
+            Some(priority) if account.is_free(thread) => Some(priority),
+            _ => None,
+        };
+        if !is_in_row(state, thread, wanted) {
+            return Ok(false);
+        }
+    }
+    Ok(true)
+}
+
+// Whether a thread stands once in the row of this priority and in no other, or in none.
+fn is_in_row(state: &TickState<'_>, thread: ThreadId, wanted: Option<u16>) -> bool {
+    for priority in 0..4 {
+        let times = state
+            .ready(priority)
+            .iter()
+            .filter(|other| **other == thread)
+            .count();
+        if times != usize::from(wanted == Some(priority)) {
+            return false;
+        }
+    }
+    true
+}
+
 // So many random events. Whether the account agrees with what is told of each.
 fn agree<'a>(
+    alloc: Global,
     state: &mut TickState<'a>,
     given: &mut Vec<Done<'a>>,
     account: &mut Account,
@@ -199,7 +235,9 @@ fn agree<'a>(
     for _ in 0..events {
         let act = chance.act(given.len());
         let told = perform(state, given, act)?;
-        if !account.agrees(act, concerned(given.as_slice(), act), told)? {
+        if !account.agrees(act, concerned(given.as_slice(), act), told)?
+            || !rows_agree(alloc, state, account)?
+        {
             return Ok(false);
         }
     }
@@ -216,7 +254,7 @@ fn events_agree(
     let mut account = Account::new(alloc, state.image().program().threads().len())?;
     let mut given = Vec::new(alloc);
     Ok(
-        agree(state, &mut given, &mut account, chance, events)?
+        agree(alloc, state, &mut given, &mut account, chance, events)?
             && state.history() == account.committed.as_slice(),
     )
 }

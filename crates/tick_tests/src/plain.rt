@@ -54,6 +54,12 @@ impl<'a> Plain<'a> {
         self.put(thread, status)
     }
 
+    /// The priority at which an enabled thread steps; None where it isn't.
+    pub(crate) fn priority(&self, thread: ThreadId) -> Option<u16> {
+        let (_, priority) = self.turn(thread)?;
+        Some(priority)
+    }
+
     // The node at which an enabled thread steps, with its priority.
     fn turn(&self, thread: ThreadId) -> Option<(NodeId, u16)> {
         let node = match self.statuses.get(thread as usize)? {
