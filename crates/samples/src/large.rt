@@ -2,16 +2,16 @@
 ghost use Rattle.std.specs.Prelude.{◌<◌, ◌≤◌};
 
 use crate::making::image_of;
-use crate::rows::{Small, X, ends, thread_of};
+use crate::rows::{Row, Small, X, ends, thread_of};
 use crate::small::{put, raise};
 use bytecode::Image;
-use sc_graph::NodeId;
+use sc_graph::{NodeId, ThreadId};
 use std::alloc::Global;
 use std::test::Fail;
 
 /// `x = 1;` so many times.
 pub fn assignments(alloc: Global, count: u16) -> Result<Image, Fail>
-    requires { count < 4096 }
+    requires { count < 16384 }
 {
     let mut rows = Vec::new(alloc);
     for node in 0..count {
@@ -76,4 +76,51 @@ pub fn inits(alloc: Global, count: u16, last: i32) -> Result<Image, Fail>
     requires { count ≤ 64 }
 {
     forked(alloc, count, Work::Put(last))
+}
+
+/// 1,024 threads: a fork of 31 threads, each of which forks 32 branches `x = x + 1;`.
+pub fn thousand_threads(alloc: Global) -> Result<Image, Fail> {
+    let mut branches = Vec::new(alloc);
+    let mut rows = Vec::new(alloc);
+    branches.push(thread_of(None, 0, 64))?;
+    push_forking(&mut rows, 0, 0, (1, 32), 2080)?;
+    for group in 0..31 {
+        let entry = 3 * group + 3;
+        branches.push(thread_of(Some(0), entry, 2))?;
+        push_forking(
+            &mut rows,
+            group + 1,
+            entry,
+            (32 * group + 32, 32 * group + 64),
+            67,
+        )?;
+    }
+    for branch in 0..992 {
+        let entry = 2 * branch + 96;
+        branches.push(thread_of(Some(branch / 32 + 1), entry, 0))?;
+        rows.push(ends(branch + 32, 0, 2, raise(0, 1, entry + 1)))?;
+        rows.push(ends(branch + 32, 0, 1, Small::Exit))?;
+    }
+    image_of(alloc, &[X], &branches, &rows, 2080)
+}
+
+// The nodes of a thread that forks the threads from one up to another, and then ends.
+fn push_forking(
+    rows: &mut Vec<Row>,
+    owner: ThreadId,
+    entry: NodeId,
+    children: (ThreadId, ThreadId),
+    weight: u16,
+) -> Result<(), Fail>
+    requires { entry < 16384 }
+{
+    rows.push(ends(
+        owner,
+        0,
+        weight,
+        Small::ForkEach(children.0, children.1, entry + 1),
+    ))?;
+    rows.push(ends(owner, 0, 2, Small::Join(entry + 2)))?;
+    rows.push(ends(owner, 0, 1, Small::Exit))?;
+    Ok(())
 }

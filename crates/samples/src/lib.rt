@@ -6,7 +6,7 @@ mod making;
 mod rows;
 mod small;
 
-pub use large::{assignments, branches, inits};
+pub use large::{assignments, branches, inits, thousand_threads};
 pub use making::{image_of, image_over, variables};
 pub use rows::{
     Branch, Declared, Gives, INPUT, Row, Small, TRUTH, Word, X, Y, ends, stays, thread_of,

@@ -3,8 +3,8 @@ use crate::acts::{ended, first_tick};
 use bytecode::Image;
 use samples::{
     assignments, branches, init_and_update, inits, inits_by_one_literal,
-    inits_by_one_literal_and_read, nested_forks, one_exit, two_pauses, wrapping_sum,
-    write_and_read,
+    inits_by_one_literal_and_read, nested_forks, one_exit, thousand_threads, two_pauses,
+    wrapping_sum, write_and_read,
 };
 use sc_values::Value;
 use sqlite_items::Items;
@@ -158,8 +158,8 @@ fn the_budget_of_two_pauses_is_8(rt: HostRuntime) -> Result<(), Fail> {
 fn long_ticks_end(rt: HostRuntime) -> Result<(), Fail> {
     expect_ticks(
         rt.alloc(),
-        assignments(rt.alloc(), 4095)?,
-        &[(4096, &[Value::Int(1)])],
+        assignments(rt.alloc(), 16383)?,
+        &[(16384, &[Value::Int(1)])],
     )
 }
 
@@ -169,6 +169,16 @@ fn wide_ticks_end(rt: HostRuntime) -> Result<(), Fail> {
         rt.alloc(),
         branches(rt.alloc(), 64)?,
         &[(131, &[Value::Int(64)])],
+    )
+}
+
+#[test]
+fn ticks_of_1024_threads_end(rt: HostRuntime) -> Result<(), Fail> {
+    let all = [Value::Int(992)];
+    expect_ticks(
+        rt.alloc(),
+        thousand_threads(rt.alloc())?,
+        &[(2080, &all), (0, &all)],
     )
 }
 
