@@ -3,28 +3,8 @@
 
 ghost use Rattle.std.specs.Prelude.{◌≡◌, ◌<◌, ◌≤◌};
 
-mod arguments;
-mod check;
-mod command;
-mod fault;
-mod fault_text;
-mod files;
-mod laws;
-mod line;
-mod lines;
-mod migrate;
-mod output;
-mod play;
-#[cfg(test)]
-mod play_tests;
-#[cfg(test)]
-mod stream_tests;
-#[cfg(test)]
-mod tests;
-
-use crate::command::{MISUSED, REFUSED, command};
-use crate::files::HostFiles;
 use sc_values::{Failures, OfRead, OfWrite};
+use sct_command::{HostFiles, MISUSED, REFUSED, command};
 use std::marker::Brand;
 use std::process::ExitCode;
 use std::sync::ledger::{Blank, Ledger};

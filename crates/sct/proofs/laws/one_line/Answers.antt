@@ -1,5 +1,0 @@
-use Rattle.sct.proofs.Naming.{one_line}
-use Rattle.sct.proofs.laws.one_line.Goals as goal
-
-pub returns : goal.returns
-returns c = one_line

@@ -1,0 +1,26 @@
+-- What is printed of a fault: its number, and where it lies.
+use Rattle.std.specs.Prelude.{ℕ, List, ◌++◌, codes, map, if◌then◌else◌, string_bytes}
+use Rattle.std.specs.Char.{is_ascii_control}
+use Rattle.bytecode.specs.FaultText as bytes
+use Rattle.verifier.specs.FaultText as rules
+use Rattle.sct_command.specs.declared.fault.Fault.{Fault}
+use Rattle.sct_command.specs.declared.fault.Fault.TheVariants as fault
+use Rattle.trace_player.specs.FaultText.{play_fault_text}
+
+abbrev pub question_mark : ℕ
+question_mark = 63
+
+-- a byte of a file's name as it is shown: control characters are shown as `?`
+abbrev pub shown_byte : ℕ → ℕ
+shown_byte byte = if is_ascii_control byte then question_mark else byte
+
+abbrev pub shown_name : List ℕ → List ℕ
+shown_name name = map shown_byte name
+
+abbrev pub fault_text : Fault → List ℕ
+fault_text fault.Memory = codes "E52"
+fault_text (fault.Image f) = bytes.fault_text f
+fault_text (fault.Rule f) = rules.refusal_text f
+fault_text (fault.Play f) = play_fault_text f
+fault_text fault.Write = codes "E63"
+fault_text (fault.File shown) = codes "E64 " ++ string_bytes shown

@@ -1,0 +1,5 @@
+pub mod Answer
+pub mod FaultText
+pub mod Files
+pub mod Request
+pub mod Summary

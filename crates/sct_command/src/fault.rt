@@ -1,0 +1,40 @@
+ghost use Rattle.std.specs.Prelude.{◌≡◌};
+ghost use Rattle.sct_command.specs.declared.fault.Fault.TheVariants.{Memory};
+
+use bytecode::DecodeFault;
+use std::alloc::{AllocError, AllocFailed};
+use trace_player::PlayFault;
+use verifier::Refusal;
+
+/// Why the program refuses. It prints as the fault line says it, after the program's name.
+#[derive(Debug, Drop)]
+pub enum Fault {
+    /// E52: memory was refused.
+    Memory,
+    /// The bytes spell no image, or memory was refused.
+    Image(DecodeFault),
+    /// The image breaks a rule, or memory was refused.
+    Rule(Refusal),
+    /// Standard input was not played to its end.
+    Play(PlayFault),
+    /// E63: standard output failed, or took no byte.
+    Write,
+    /// E64: the file cannot be read whose name is shown so.
+    File(String),
+}
+
+impl From<AllocError> for Fault {
+    ghost from_gives = { λ _ e. e ≡ Memory };
+
+    fn from(_error: AllocError) -> Fault {
+        Fault::Memory
+    }
+}
+
+impl<T: Drop> From<AllocFailed<T>> for Fault {
+    ghost from_gives = { λ _ e. e ≡ Memory };
+
+    fn from(_error: AllocFailed<T>) -> Fault {
+        Fault::Memory
+    }
+}

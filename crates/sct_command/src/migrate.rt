@@ -1,0 +1,52 @@
+ghost use Rattle.std.specs.Prelude.{◌≡◌, ◌+◌, IfErr, OnErr, OnOk};
+ghost use Rattle.sct_command.specs.Answer.{Migrates, RefusesMigration, IsNotStored, reads_failed, writes_failed};
+ghost use Rattle.sct_command.specs.Files.{Stores};
+
+use crate::check::{load_verified, summary_of};
+use crate::fault::Fault;
+use crate::fault_text::shown_name;
+use crate::files::{FileFault, Files};
+use bytecode::encode;
+use sc_values::{Sink, write_all};
+use std::alloc::Global;
+
+// Makes these bytes the file of this name.
+fn store<F: Files>(alloc: Global, files: &mut F, name: &str, bytes: &[u8]) -> Result<(), Fault>
+    ensures stored { OnOk result (Stores (F.contents files.old) (F.contents files.new) name.now bytes.now) }
+    ensures fault { IfErr result (IsNotStored name.now) }
+    ensures same { OnErr result (F.contents files.new ≡ F.contents files.old) }
+{
+    match files.store(alloc, name, bytes) {
+        Ok(()) => Ok(()),
+        Err(FileFault::Memory) => Err(Fault::Memory),
+        Err(FileFault::Named) => Err(Fault::File(shown_name(alloc, name)?)),
+    }
+}
+
+/// Writes the image in one file to another, in version 2 of the layout, once it is verified, and then
+/// its summary to the output. Err: there is no valid image in the first file or the second cannot be
+/// written, and then no file changed; or the output failed, after the file was written.
+pub fn migrate<F: Files, W: Sink>(
+    alloc: Global,
+    from: &str,
+    to: &str,
+    files: &mut F,
+    output: &mut W,
+) -> Result<(), Fault>
+    ensures done { OnOk result (Migrates (F.contents files.old) (F.contents files.new) from.now to.now
+        (W.taken output.old) (W.taken output.new)) }
+    ensures refused { IfErr result (RefusesMigration (F.contents files.old) (F.contents files.new) from.now to.now
+        (W.taken output.old) (W.taken output.new)) }
+    ensures none_failed { OnOk result (W.failures output.new ≡ W.failures output.old) }
+    ensures failed { IfErr result (λ fault. W.failures output.new ≡ W.failures output.old + writes_failed fault) }
+    ensures unread { IfErr result (λ fault. reads_failed fault ≡ 0) }
+{
+    let image = load_verified(alloc, files, from)?;
+    let bytes = encode(alloc, image.image())?;
+    let line = summary_of(alloc, image.image())?;
+    store(alloc, files, to, &bytes)?;
+    match write_all(output, line.as_bytes()) {
+        Ok(()) => Ok(()),
+        Err(_) => Err(Fault::Write),
+    }
+}

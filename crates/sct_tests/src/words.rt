@@ -1,0 +1,98 @@
+// Words that ask for help, and those that ask for nothing.
+use crate::images::TWO_THREADS;
+use crate::outcomes::{Wanted, leaves, outcome};
+use sc_values::{FromSlice, Plan};
+use std::alloc::{AllocError, Global};
+use std::process::Abort;
+use std::test::Fail;
+
+// Whether words ask for nothing: status 2, and what is wrong on the errors.
+fn is_misuse(alloc: Global, words: &[&str]) -> Result<bool, AllocError> {
+    let nothing = FromSlice {
+        rest: b"",
+        each: 3,
+        plan: Plan::Never,
+    };
+    let left = outcome(alloc, words, &TWO_THREADS, nothing, 10, Plan::Never)?;
+    Ok(left.status == 2 && left.output.is_empty() && !left.errors.is_empty())
+}
+
+#[test]
+fn tells_misuse(rt: HostRuntime) -> Result<(), Fail> {
+    let alloc = rt.alloc();
+    assert!(rt; is_misuse(alloc, &[])?);
+    assert!(rt; is_misuse(alloc, &["compile", "a", "b"])?);
+    assert!(rt; is_misuse(alloc, &["run"])?);
+    assert!(rt; is_misuse(alloc, &["check", "a", "b"])?);
+    assert!(rt; is_misuse(alloc, &["scl", "a"])?);
+    assert!(rt; is_misuse(alloc, &["run", "a", "--workers", "2"])?);
+    Ok(())
+}
+
+const NO_IMAGE: &str = "error: the following required arguments were not provided:
+  <IMAGE>
+
+Usage: sct run <IMAGE>
+
+For more information, try '--help'.
+";
+
+const HELP: &str = "Checks and runs images of SCCharts
+
+Usage: sct <COMMAND>
+
+Commands:
+  check    Decodes and verifies an image
+  run      Plays standard input to standard output, a tick for each line
+  migrate  Writes an image in version 2 of the layout
+
+Options:
+  -h, --help  Print help
+
+Example:
+  sct run examples/two_threads.image < examples/two_threads.ticks
+";
+
+const HELP_OF_RUN: &str = "Plays standard input to standard output, a tick for each line
+
+Usage: sct run <IMAGE>
+
+Arguments:
+  <IMAGE>  The file of the image
+
+Options:
+  -h, --help  Print help
+";
+
+#[test]
+fn tells_what_is_missing(rt: HostRuntime) -> Result<(), Fail> {
+    for (words, errors) in [
+        ([].as_slice(), HELP),
+        (["run"].as_slice(), NO_IMAGE),
+        (["--"].as_slice(), HELP),
+    ] {
+        let wanted = Wanted {
+            status: 2,
+            output: "",
+            errors,
+        };
+        assert!(rt; leaves(rt.alloc(), words, b"", b"", wanted)?);
+    }
+    Ok(())
+}
+
+#[test]
+fn shows_help(rt: HostRuntime) -> Result<(), Fail> {
+    for (words, output) in [
+        (["--help"].as_slice(), HELP),
+        (["run", "--help"].as_slice(), HELP_OF_RUN),
+    ] {
+        let wanted = Wanted {
+            status: 0,
+            output,
+            errors: "",
+        };
+        assert!(rt; leaves(rt.alloc(), words, b"", b"", wanted)?);
+    }
+    Ok(())
+}

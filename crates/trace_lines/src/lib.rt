@@ -1,0 +1,14 @@
+//! The lines of a trace: how an input is cut into lines, what a line gives to inputs, and what a line of
+//! output shows.
+#![tactic(auto)]
+
+mod inputs;
+mod interface;
+mod line;
+mod lines;
+mod output;
+mod outputs;
+
+pub use interface::Interface;
+pub use line::LineFault;
+pub use lines::{LINE_LIMIT, LineEnd, Lines, LinesFault};

@@ -1,0 +1,3 @@
+pub mod OneTrace
+pub mod Playing
+pub mod Splits
