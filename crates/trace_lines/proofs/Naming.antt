@@ -1,8 +1,7 @@
 -- How inputs are added by their names.
-use Rattle.std.proofs.Common.{◌≡◌, ℕ, zero, suc, Bool, true, false, List, [], ◌∷◌, drop, length, Option, Some, None, String, Global, BTreeMap, string_bytes, string_cmp, refl, ap, sym, ◌∙◌, arith, slice_get, cond, ◌&&◌, ◌+◌, is_some, bytes_eq}
+use Rattle.std.proofs.Common.{◌≡◌, ℕ, zero, suc, Bool, true, false, List, [], ◌∷◌, drop, Option, Some, None, String, Global, BTreeMap, refl, ap, sym, ◌∙◌, arith, slice_get, cond, ◌&&◌, ◌+◌, is_some, bytes_eq}
 use Rattle.std.proofs.lemmas.Slice.Eq.{bytes_eq-Decides}
 use Rattle.std.specs.BTreeMap.{get_by_text}
-use Rattle.std.proofs.Math.Seq.{drop-cons}
 use Rattle.sc_graph.specs.declared.program.Variable.{Variable}
 use Rattle.trace_lines.specs.Line.{is_input, input_of}
 use Rattle.trace_lines.specs.Inside.Named.{NamesInputs, NamesBefore, Adds, first_of}

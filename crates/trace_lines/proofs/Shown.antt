@@ -1,5 +1,5 @@
 -- The texts of rows and of a whole line.
-use Rattle.std.proofs.Common.{◌≡◌, ◌∙◌, ℕ, Bool, true, false, not, ◌==◌, List, [], ◌∷◌, ◌++◌, length, String, Global, string_bytes, codes, decimal, refl, ap, sym, arith, append_assoc, append-nil, Result, Ok, Err, OnOk}
+use Rattle.std.proofs.Common.{◌≡◌, ◌∙◌, ℕ, true, false, not, ◌==◌, List, [], ◌∷◌, ◌++◌, length, String, Global, string_bytes, codes, decimal, refl, ap, sym, arith, append_assoc, append-nil, Result, Ok, Err, OnOk}
 use Rattle.std.proofs.lemmas.Bool.Decides.{nat_tests}
 use Rattle.json.specs.Print.{quoted}
 use Rattle.serde_json.specs.Data.{Members}

@@ -1,8 +1,8 @@
-use Rattle.std.proofs.Common.{◌≡◌, ◌∙◌, true, false, Some, None, ap, sym, cond, is_some, bytes_eq, string_bytes, rules}
+use Rattle.std.proofs.Common.{◌≡◌, ◌∙◌, true, false, Some, ap, cond, is_some, bytes_eq, string_bytes, rules}
 use Rattle.std.specs.BTreeMap.{get_by_text}
 use Rattle.std.proofs.lemmas.Map.Text.{btree_map_updates_text}
 use Rattle.trace_lines.specs.Line.{is_input}
-use Rattle.trace_lines.proofs.Naming.{adds_new, keeps_old, none_of}
+use Rattle.trace_lines.proofs.Naming.{adds_new, none_of}
 use Rattle.trace_lines.proofs.inputs.add.Goals as goal
 
 pub returns-in_ok-insert : goal.returns-in_ok-insert

@@ -1,4 +1,4 @@
-use Rattle.std.proofs.Common.{◌≡◌, ◌∙◌, ◌++◌, ap, sym, length, not, vec_len, string_bytes, rules, refl}
+use Rattle.std.proofs.Common.{◌≡◌, ◌∙◌, ◌++◌, ap, sym, length, vec_len, string_bytes, rules, refl}
 use Rattle.serde_json.specs.Written.{members_text}
 use Rattle.trace_lines.specs.Inside.Rows.{placed, rows_text, has_rows, key_text}
 use Rattle.trace_lines.proofs.Shown.{one_row, has_rows-length}

@@ -1,4 +1,4 @@
-use Rattle.std.proofs.Common.{◌≡◌, ◌∷◌, [], ◌++◌, List, length, false}
+use Rattle.std.proofs.Common.{◌≡◌, ◌++◌, List, false}
 use Rattle.sc_values.specs.declared.value.Value.{Value}
 use Rattle.serde_json.specs.Written.{members_text}
 use Rattle.trace_lines.specs.Inside.Rows.{placed, rows_text, has_rows}
