@@ -1,7 +1,6 @@
 -- The inputs among variables, by their names.
 use Rattle.std.specs.Prelude.{◌≡◌, ℕ, Option, Some, None, List, ◌∷◌, drop, String}
-use Rattle.std.specs.BTreeMap.{BTreeMap}
-use Rattle.std.specs.BTreeMap.{get_by_text}
+use Rattle.std.specs.BTreeMap.{BTreeMap, get_by_text}
 use Rattle.std.specs.declared.alloc.Global.{Global}
 use Rattle.sc_graph.specs.declared.program.Variable.{Variable}
 use Rattle.trace_lines.specs.Line.{input_of}
