@@ -4,27 +4,34 @@ use bytecode::Image;
 use samples::{Branch, Declared, Row, image_of};
 use std::alloc::Global;
 use std::test::Fail;
-use verifier::verify;
+use verifier::{Refusal, verify};
 
-// `ok`, or the line of its fault.
-fn said(alloc: Global, image: Image) -> Result<String, Fail> {
-    let nodes = image.program().nodes().len();
+// Whether what was accepted has as many nodes as the image.
+fn is_accepted(alloc: Global, image: Image) -> Result<bool, Refusal> {
+    let nodes = image.program().node_count();
     match verify(alloc, image) {
-        Ok(verified) if verified.image().program().nodes().len() == nodes => {
-            Ok(String::from_str(alloc, "ok")?)
-        }
-        Ok(_verified) => Ok(String::from_str(alloc, "another image")?),
-        Err(refusal) => Ok(format!(in alloc; "{refusal}")?),
+        Ok(verified) => Ok(verified.image().program().node_count() == nodes),
+        Err(refusal) => Err(refusal),
     }
 }
 
-/// Fails unless this is said of an image.
-pub(crate) fn expect_said(alloc: Global, image: Image, wanted: &str) -> Result<(), Fail> {
-    let line = said(alloc, image)?;
-    if line.as_str() == wanted {
+fn expect_line(alloc: Global, line: &str, wanted: &str) -> Result<(), Fail> {
+    if line == wanted {
         Ok(())
     } else {
         Err(Fail::new(format!(in alloc; "{line}, and not {wanted}")?))
+    }
+}
+
+/// Fails unless this is said of an image: `ok`, or the line of its fault.
+pub(crate) fn expect_said(alloc: Global, image: Image, wanted: &str) -> Result<(), Fail> {
+    match is_accepted(alloc, image) {
+        Ok(true) => expect_line(alloc, "ok", wanted),
+        Ok(false) => expect_line(alloc, "another image", wanted),
+        Err(refusal) => {
+            let line = format!(in alloc; "{refusal}")?;
+            expect_line(alloc, line.as_str(), wanted)
+        }
     }
 }
 
@@ -37,9 +44,6 @@ pub(crate) fn expect(
     budget: u32,
     wanted: &str,
 ) -> Result<(), Fail> {
-    expect_said(
-        alloc,
-        image_of(alloc, declared, branches, rows, budget)?,
-        wanted,
-    )
+    let image = image_of(alloc, declared, branches, rows, budget)?;
+    expect_said(alloc, image, wanted)
 }
