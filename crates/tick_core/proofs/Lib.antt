@@ -5,6 +5,7 @@ mod Unmoved
 mod Led
 mod Opened
 mod Counts
+mod LivingChildren
 pub mod Reports
 pub mod Taken
 pub mod Fresh

@@ -191,15 +191,20 @@ children_in p formed status.Absent = λ k d lt. absurd (omega arith)
 children_in p formed (status.Paused n) = λ k d lt. absurd (omega arith)
 children_in p formed status.Ended = λ k d lt. absurd (omega arith)
 
+pub children_in_at : (p p' : Program) (q : Tables) → IsValid p q → p' ≡ p → (st : Status) (children : List ℕ) → children ≡ children_at p' st → All (λ k. k < length p'.threads) children
+children_in_at p p' q valid p_is st children are =
+    subst (All (λ k. k < length p'.threads)) (sym are) (subst (λ x. All (λ k. k < length x.threads) (children_at x st)) (sym p_is) (children_in p (valid_formed p q valid) st))
+
 -- the same, of a program, tables and status that are given twice
 pub sorted_after_at : (p : Program) (q : Tables) → IsValid p q → (c d : Control) → IsConfiguration p c → (t : ℕ) → t < length p.threads → step p t c ≡ Some d → (claims : List (Option Claim)) (rows after_rows : Rows) → AreSorted p q c claims rows →
-    (p' : Program) (q' : Tables) (st : Status) → p' ≡ p → q' ≡ q → st ≡ status_of c t → (after_claims : List (Option Claim)) → after_claims ≡ slice_set claims t None →
-    after_rows ≡ sorted_all (ready_row p' q' d after_claims) (children_at p' st) (sorted_parent (ready_row p' q' d after_claims) (sorted_one (ready_row p' q' d after_claims) rows t) (parent_of p' t)) → OwnRows p' q' after_rows → AreSorted p q d after_claims after_rows
-sorted_after_at p q valid c d ok t below stepped claims rows after_rows h p' q' st p_is q_is st_is after_claims claims_are is own =
-    let F : Program → Tables → Status → List (Option Claim) → Rows = λ x y s o. sorted_all (ready_row x y d o) (children_at x s) (sorted_parent (ready_row x y d o) (sorted_one (ready_row x y d o) rows t) (parent_of x t)) in
+    (p' : Program) (q' : Tables) (st : Status) (children : List ℕ) → p' ≡ p → q' ≡ q → st ≡ status_of c t → children ≡ children_at p' st → (after_claims : List (Option Claim)) → after_claims ≡ slice_set claims t None →
+    after_rows ≡ sorted_all (ready_row p' q' d after_claims) children (sorted_parent (ready_row p' q' d after_claims) (sorted_one (ready_row p' q' d after_claims) rows t) (parent_of p' t)) → OwnRows p' q' after_rows → AreSorted p q d after_claims after_rows
+sorted_after_at p q valid c d ok t below stepped claims rows after_rows h p' q' st children p_is q_is st_is children_are after_claims claims_are is own =
+    let F : Program → Tables → List ℕ → List (Option Claim) → Rows = λ x y ks o. sorted_all (ready_row x y d o) ks (sorted_parent (ready_row x y d o) (sorted_one (ready_row x y d o) rows t) (parent_of x t)) in
+    let own_children : children ≡ children_at p (status_of c t) = children_are ∙ (ap (λ x. children_at x st) p_is ∙ ap (children_at p) st_is) in
     subst (λ o. AreSorted p q d o after_rows) (sym claims_are)
     (sorted_after p q valid c d ok t below stepped claims rows after_rows h
-    (is ∙ (ap (λ x. F x q' st after_claims) p_is ∙ (ap (λ y. F p y st after_claims) q_is ∙ (ap (λ z. F p q z after_claims) st_is ∙ ap (F p q (status_of c t)) claims_are))))
+    (is ∙ (ap (λ x. F x q' children after_claims) p_is ∙ (ap (λ y. F p y children after_claims) q_is ∙ (ap (λ ks. F p q ks after_claims) own_children ∙ ap (F p q (children_at p (status_of c t))) claims_are))))
     (subst (λ y. OwnRows p y after_rows) q_is (subst (λ x. OwnRows x q' after_rows) p_is own)))
 
 -- a step keeps what a configuration is

@@ -1,6 +1,7 @@
 -- What private functions alone say of themselves. It is proved, and no public contract rests on what it means.
 pub mod Inputs
 pub mod Layout
+pub mod Living
 pub mod Sorting
 pub mod Leading
 pub mod Judging

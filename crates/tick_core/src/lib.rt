@@ -10,6 +10,7 @@ mod inputs;
 mod judging;
 mod layout;
 mod leading;
+mod living;
 mod sorting;
 mod starting;
 mod state;

@@ -1,51 +1,55 @@
 ghost use Rattle.std.specs.Prelude.{◌≡◌, ◌<◌, All, IfOk, length};
 ghost use Rattle.sc_graph.specs.Control.{status_of};
-ghost use Rattle.sc_graph.specs.Program.{parent_of};
+ghost use Rattle.sc_graph.specs.Program.{Program, parent_of};
 ghost use Rattle.sc_graph.specs.Tick.{IsConfiguration};
 ghost use Rattle.sc_graph.specs.Valid.{IsValid};
 ghost use Rattle.tick_core.specs.Inside.Layout.{FindsForks};
+ghost use Rattle.tick_core.specs.Inside.Living.{CountsLiving};
 ghost use Rattle.tick_core.specs.Inside.Sorting.{OwnRows, AreSorted, step_priority, ready_row, sorted_one, sorted_parent, sorted_all, children_at, NodePriorities};
 
 use crate::claim::Claim;
-use crate::enabled::is_enabled;
 use crate::layout::Layout;
-use crate::leading::priority;
+use crate::living::left;
 use ready_rows::Rows;
 use sc_graph::{Control, Program, Status, Step, Tables, ThreadId};
 use std::alloc::{AllocError, Global};
 use verifier::Verified;
 
-/// Sorts anew whom a step of a thread from this status can have made enabled or not: the thread, its
-/// parent, and the children whom the step forked or left.
+/// Sorts anew whom a step of a thread can have made enabled or not: the thread, its parent, and the
+/// children whom the step forked or left.
 pub(crate) fn sort_after(
-    layout: &Layout,
     program: &Program,
     tables: &Tables,
     control: &Control,
+    living: &[usize],
     claims: &[Option<Claim<'_>>],
     rows: &mut Rows,
     thread: ThreadId,
-    was: Status,
+    children: &[ThreadId],
 )
-    requires forks { FindsForks program.now layout.now }
+    requires counts { CountsLiving program.now control.now living.now }
     requires valid { IsValid program.now tables.now }
     requires configuration { IsConfiguration program.now control.now }
     requires place { thread < length program.now.threads }
+    requires places { All (λ t. t < length program.now.threads) children.now }
     requires rows { OwnRows program.now tables.now rows.old }
-    ensures sorted { rows.new ≡ sorted_all (ready_row program.now tables.now control.now claims.now) (children_at program.now was) (sorted_parent (ready_row program.now tables.now control.now claims.now) (sorted_one (ready_row program.now tables.now control.now claims.now) rows.old thread) (parent_of program.now thread)) }
+    ensures sorted { rows.new ≡ sorted_all (ready_row program.now tables.now control.now claims.now) children.now (sorted_parent (ready_row program.now tables.now control.now claims.now) (sorted_one (ready_row program.now tables.now control.now claims.now) rows.old thread) (parent_of program.now thread)) }
     ensures rows { OwnRows program.now tables.now rows.new }
 {
-    sort(layout, program, tables, control, claims, rows, thread);
+    sort(program, tables, control, living, claims, rows, thread);
     if let Some(parent) = program.parent(thread) {
-        sort(layout, program, tables, control, claims, rows, parent);
+        sort(program, tables, control, living, claims, rows, parent);
     }
-    let children = children_at(layout, program, was);
-    sort_all(layout, program, tables, control, claims, rows, children);
+    sort_all(program, tables, control, living, claims, rows, children);
     rows.settle();
 }
 
-// The children whom a step from this status forks or leaves behind.
-fn children_at<'p>(layout: &Layout, program: &'p Program, status: Status) -> &'p [ThreadId]
+/// The children whom a step from this status forks or leaves behind.
+pub(crate) fn children_at<'p>(
+    layout: &Layout,
+    program: &'p Program,
+    status: Status,
+) -> &'p [ThreadId]
     requires { FindsForks program.now layout.now }
     ensures { result.now ≡ children_at program.now status }
 {
@@ -63,15 +67,15 @@ fn children_at<'p>(layout: &Layout, program: &'p Program, status: Status) -> &'p
 }
 
 fn sort_all(
-    layout: &Layout,
     program: &Program,
     tables: &Tables,
     control: &Control,
+    living: &[usize],
     claims: &[Option<Claim<'_>>],
     rows: &mut Rows,
     threads: &[ThreadId],
 )
-    requires forks { FindsForks program.now layout.now }
+    requires counts { CountsLiving program.now control.now living.now }
     requires valid { IsValid program.now tables.now }
     requires configuration { IsConfiguration program.now control.now }
     requires places { All (λ t. t < length program.now.threads) threads.now }
@@ -80,22 +84,22 @@ fn sort_all(
     ensures rows { OwnRows program.now tables.now rows.new }
 {
     for thread in threads {
-        sort(layout, program, tables, control, claims, rows, *thread);
+        sort(program, tables, control, living, claims, rows, *thread);
     }
 }
 
 /// Puts a thread into the row of its priority where it is enabled and has no open claim, else into
 /// none.
 pub(crate) fn sort(
-    layout: &Layout,
     program: &Program,
     tables: &Tables,
     control: &Control,
+    living: &[usize],
     claims: &[Option<Claim<'_>>],
     rows: &mut Rows,
     thread: ThreadId,
 )
-    requires forks { FindsForks program.now layout.now }
+    requires counts { CountsLiving program.now control.now living.now }
     requires valid { IsValid program.now tables.now }
     requires configuration { IsConfiguration program.now control.now }
     requires place { thread < length program.now.threads }
@@ -103,63 +107,65 @@ pub(crate) fn sort(
     ensures sorted { rows.new ≡ sorted_one (ready_row program.now tables.now control.now claims.now) rows.old thread }
     ensures rows { OwnRows program.now tables.now rows.new }
 {
-    let row = ready_row(layout, program, tables, control, claims, thread);
+    let row = ready_row(tables, control, living, claims, thread);
     rows.set(thread, row);
 }
 
 // The priority at which a thread is ready; None where it isn't enabled, or has an open claim.
 fn ready_row(
-    layout: &Layout,
-    program: &Program,
     tables: &Tables,
     control: &Control,
+    living: &[usize],
     claims: &[Option<Claim<'_>>],
     thread: ThreadId,
 ) -> Option<u16>
-    requires { FindsForks program.now layout.now }
-    ensures { result ≡ ready_row program.now tables.now control.now claims.now thread }
+    ensures { (p : Program) → CountsLiving p control.now living.now → result ≡ ready_row p tables.now control.now claims.now thread }
 {
     match claims.get(thread as usize) {
-        Some(None) => step_priority(layout, program, tables, control, thread),
+        Some(None) => step_priority(tables, control, living, thread),
         _ => None,
     }
 }
 
 // The priority at which a thread can step; None where it isn't enabled.
 fn step_priority(
-    layout: &Layout,
-    program: &Program,
     tables: &Tables,
     control: &Control,
+    living: &[usize],
     thread: ThreadId,
 ) -> Option<u16>
-    requires { FindsForks program.now layout.now }
-    ensures { result ≡ step_priority program.now tables.now control.now thread }
+    ensures { (p : Program) → CountsLiving p control.now living.now → result ≡ step_priority p tables.now control.now thread }
 {
-    if is_enabled(layout, program, control, thread) {
-        Some(priority(tables, control.status(thread)))
-    } else {
-        None
+    match control.status(thread) {
+        Status::At(node) => Some(tables.priority(node)),
+        Status::Waiting(join) => {
+            if left(living, thread) == 0 {
+                Some(tables.priority(join))
+            } else {
+                None
+            }
+        }
+        Status::Absent | Status::Paused(_) | Status::Ended => None,
     }
 }
 
 /// Sorts all threads, as a tick begins.
 pub(crate) fn sort_every(
-    layout: &Layout,
     program: &Program,
     tables: &Tables,
     control: &Control,
+    living: &[usize],
     claims: &[Option<Claim<'_>>],
     rows: &mut Rows,
 )
-    requires forks { FindsForks program.now layout.now }
+    requires counts { CountsLiving program.now control.now living.now }
     requires valid { IsValid program.now tables.now }
     requires configuration { IsConfiguration program.now control.now }
     requires rows { OwnRows program.now tables.now rows.old }
     ensures { AreSorted program.now tables.now control.now claims.now rows.new }
 {
     for thread in 0..program.thread_count() {
-        sort(layout, program, tables, control, claims, rows, thread);
+        sort(program, tables, control, living, claims, rows, thread);
     }
     rows.settle();
 }

@@ -19,6 +19,7 @@ use crate::claim::Claim;
 use crate::history::Entry;
 use crate::inputs::{Inputs, are_accepted};
 use crate::layout::Layout;
+use crate::living::count_every;
 use crate::sorting::{rows_of, sort_every};
 use crate::starting::started;
 use bytecode::Image;
@@ -77,6 +78,8 @@ pub struct TickState<'a> {
     claims: Vec<Option<Claim<'a>>>,
     claimed: usize,
     level: u16,
+    // by thread that waits: how many of the children for whom it waits have not ended
+    living: Vec<usize>,
 }
 
 impl<'a> Model for TickState<'a> {
@@ -84,6 +87,7 @@ impl<'a> Model for TickState<'a> {
     ghost use Rattle.sc_graph.specs.Program.{kinds};
     ghost use Rattle.tick_core.specs.State.{InTick, Holds};
     ghost use Rattle.tick_core.specs.Inside.Layout.{FindsForks};
+    ghost use Rattle.tick_core.specs.Inside.Living.{CountsLiving};
     ghost use Rattle.tick_core.specs.Inside.Sorting.{AreSorted};
     ghost use Rattle.tick_core.specs.Inside.Turns.{OpenAt};
 
@@ -91,7 +95,7 @@ impl<'a> Model for TickState<'a> {
 
     ghost view = { λ s. record { image = s.verified.now; begun = s.begun; present = s.present; history = s.history.items; claims = s.claims.items } };
 
-    ghost invariant = { λ s. Holds (record { image = s.verified.now; begun = s.begun; present = s.present; history = s.history.items; claims = s.claims.items }) × (s.variable_kinds.items ≡ kinds s.verified.now.program) × (s.verified.now.tables.budget ≤ vec_capacity s.history) × FindsForks s.verified.now.program s.layout × AreSorted s.verified.now.program s.verified.now.tables s.present s.claims.items s.rows × OpenAt (record { image = s.verified.now; begun = s.begun; present = s.present; history = s.history.items; claims = s.claims.items }) s.claimed s.level };
+    ghost invariant = { λ s. Holds (record { image = s.verified.now; begun = s.begun; present = s.present; history = s.history.items; claims = s.claims.items }) × (s.variable_kinds.items ≡ kinds s.verified.now.program) × (s.verified.now.tables.budget ≤ vec_capacity s.history) × FindsForks s.verified.now.program s.layout × AreSorted s.verified.now.program s.verified.now.tables s.present s.claims.items s.rows × OpenAt (record { image = s.verified.now; begun = s.begun; present = s.present; history = s.history.items; claims = s.claims.items }) s.claimed s.level × CountsLiving s.verified.now.program s.present s.living.items };
 }
 
 /// What the ticks of one verified image take over from one another: the table of its joins, the kinds
@@ -106,10 +110,12 @@ pub struct Room<'a> {
     history: Vec<Entry>,
     // by thread, none of them open
     claims: Vec<Option<Claim<'a>>>,
+    // with a place for each thread
+    living: Vec<usize>,
 }
 
 impl<'a> Model for Room<'a> {
-    ghost use Rattle.std.specs.Prelude.{◌≡◌, ◌≤◌, map, None, vec_capacity};
+    ghost use Rattle.std.specs.Prelude.{◌≡◌, ◌≤◌, length, map, None, vec_capacity};
     ghost use Rattle.sc_graph.specs.Program.{kinds};
     ghost use Rattle.bytecode.specs.Image.{Image};
     ghost use Rattle.tick_core.specs.Inside.Layout.{FindsForks};
@@ -119,7 +125,7 @@ impl<'a> Model for Room<'a> {
 
     ghost view = { λ r. r.verified.now };
 
-    ghost invariant = { λ r. (r.variable_kinds.items ≡ kinds r.verified.now.program) × (r.claims.items ≡ map (λ _. None) r.verified.now.program.threads) × FindsForks r.verified.now.program r.layout × OwnRows r.verified.now.program r.verified.now.tables r.rows × (r.verified.now.tables.budget ≤ vec_capacity r.history) };
+    ghost invariant = { λ r. (r.variable_kinds.items ≡ kinds r.verified.now.program) × (r.claims.items ≡ map (λ _. None) r.verified.now.program.threads) × FindsForks r.verified.now.program r.layout × OwnRows r.verified.now.program r.verified.now.tables r.rows × (r.verified.now.tables.budget ≤ vec_capacity r.history) × (length r.living.items ≡ length r.verified.now.program.threads) };
 }
 
 /// What `claim` answers.
@@ -175,6 +181,7 @@ impl<'a> Room<'a> {
         let variable_kinds = kinds_of(alloc, program)?;
         let history = Vec::with_capacity(alloc, verified.image().tables().budget as usize)?;
         let claims = no_claims(alloc, program)?;
+        let living = vec![in alloc; 0; program.threads().len()]?;
         Ok(Room {
             verified,
             layout,
@@ -182,6 +189,7 @@ impl<'a> Room<'a> {
             variable_kinds,
             history,
             claims,
+            living,
         })
     }
 
@@ -221,6 +229,7 @@ impl<'a> Room<'a> {
             variable_kinds,
             mut history,
             claims,
+            mut living,
         } = self;
         let image = verified.image();
         let program = image.program();
@@ -228,7 +237,8 @@ impl<'a> Room<'a> {
         let present = copied(alloc, &begun)?;
         let tables = image.tables();
         history.clear();
-        sort_every(&layout, program, tables, &present, &claims, &mut rows);
+        count_every(&layout, program, &present, &mut living);
+        sort_every(program, tables, &present, &living, &claims, &mut rows);
         Ok(TickState {
             verified,
             layout,
@@ -240,6 +250,7 @@ impl<'a> Room<'a> {
             claims,
             claimed: 0,
             level: 0,
+            living,
         })
     }
 }

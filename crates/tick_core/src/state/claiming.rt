@@ -139,10 +139,10 @@ impl<'a> TickState<'a> {
         close_one(&mut self.claims, &mut self.claimed, thread);
         let image = self.verified.image();
         sort(
-            &self.layout,
             image.program(),
             image.tables(),
             &self.present,
+            &self.living,
             &self.claims,
             &mut self.rows,
             thread,

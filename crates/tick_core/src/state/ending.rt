@@ -14,7 +14,8 @@ ghost use Rattle.tick_core.specs.Inside.Turns.{DropsClaims};
 
 use crate::claim::Claim;
 use crate::history::{Entry, Report};
-use crate::sorting::{sort_after, sort_every};
+use crate::living::count_after;
+use crate::sorting::{children_at, sort_after, sort_every};
 use crate::state::claiming::close_one;
 use crate::state::{Room, TickState};
 use crate::stepping::{code_at, take_step};
@@ -51,10 +52,10 @@ impl<'a> TickState<'a> {
             self.claimed = 0;
             let image = self.verified.image();
             sort_every(
-                &self.layout,
                 image.program(),
                 image.tables(),
                 &self.present,
+                &self.living,
                 &self.claims,
                 &mut self.rows,
             );
@@ -80,18 +81,25 @@ impl<'a> TickState<'a> {
     {
         let image = self.verified.image();
         let program = image.program();
-        let was = self.present.status(thread);
+        let children = children_at(&self.layout, program, self.present.status(thread));
         take_step(&self.layout, program, &mut self.present, thread, value);
+        count_after(
+            &self.layout,
+            program,
+            &self.present,
+            &mut self.living,
+            thread,
+        );
         close_one(&mut self.claims, &mut self.claimed, thread);
         sort_after(
-            &self.layout,
             program,
             image.tables(),
             &self.present,
+            &self.living,
             &self.claims,
             &mut self.rows,
             thread,
-            was,
+            children,
         );
         self.history.push_reserved(Entry { thread, worker });
     }
@@ -136,6 +144,7 @@ impl<'a> TickState<'a> {
             claims,
             claimed: _,
             level: _,
+            living,
         } = self;
         let room = Room {
             verified,
@@ -144,6 +153,7 @@ impl<'a> TickState<'a> {
             variable_kinds,
             history,
             claims,
+            living,
         };
         (present, room)
     }

@@ -1,6 +1,7 @@
 use Rattle.std.proofs.Common.{arith, refl, rules, ◌≡◌, ◌∙◌, ap, sym, subst}
 use Rattle.sc_graph.specs.Tick.{Rests, AreAccepted, IsConfiguration, start}
 use Rattle.sc_graph.specs.Valid.{IsValid}
+use Rattle.tick_core.specs.Inside.Living.{CountsLiving}
 use Rattle.tick_core.specs.Inside.Sorting.{OwnRows}
 use Rattle.tick_core.proofs.Keeping.{holds_begun, begun_configuration, no_claims_at}
 use Rattle.tick_core.proofs.Counts.{sorted_every_at, none_open_at}
@@ -13,6 +14,18 @@ sort_every-requires-clause-valid c =
 
 pub sort_every-requires-clause-configuration : goal.sort_every-requires-clause-configuration
 sort_every-requires-clause-configuration c =
+    let image = c.image-image.ensures.value in
+    let program = c.program-program.ensures in
+    let begun = c.in_ok-begun.ensures in
+    let begun_is : c.in_ok-begun.begun ≡ start c.self.inside.verified.now.program c.args.inputs.now c.args.control.now = cc in
+    subst (λ p. IsConfiguration p c.in_ok-present.present) (sym (c.program-program.ensures ∙ ap (λ i. i.program) c.image-image.ensures.value))
+    (subst (IsConfiguration c.self.inside.verified.now.program) (sym (c.in_ok-present.ensures ∙ begun_is))
+    (begun_configuration c.self.inside.verified.now c.args.control.now c.args.inputs.now (search rules)
+    (subst (λ i. Rests i.program c.args.control.now) (sym c.self.view_is) c.requires.rests)
+    (subst (λ i. AreAccepted i.program c.args.inputs.now) (sym c.self.view_is) c.requires.accepted)))
+
+pub count_every-requires-clause-configuration : goal.count_every-requires-clause-configuration
+count_every-requires-clause-configuration c =
     let image = c.image-image.ensures.value in
     let program = c.program-program.ensures in
     let begun = c.in_ok-begun.ensures in
@@ -47,7 +60,8 @@ invariant_of-result c =
       c.self.invariant.0,
       omega (arith, c.self.invariant.4, c.clear.ensures.capacity),
       c.self.invariant.2,
-      sorted_every_at c.self.inside.verified.now.program c.program-program.result.now c.self.inside.verified.now.tables c.tables-tables.result.now c.in_ok-present.present c.self.inside.claims.items c.deref.result.now c.sort_every.new.rows
-          (c.program-program.ensures ∙ ap (λ i. i.program) c.image-image.ensures.value) (c.tables-tables.ensures.value ∙ ap (λ i. i.tables) c.image-image.ensures.value) c.deref.ensures.value c.sort_every.ensures,
+      sorted_every_at c.self.inside.verified.now.program c.program-program.result.now c.self.inside.verified.now.tables c.tables-tables.result.now c.in_ok-present.present c.self.inside.claims.items c.deref-2.result.now c.sort_every.new.rows
+          (c.program-program.ensures ∙ ap (λ i. i.program) c.image-image.ensures.value) (c.tables-tables.ensures.value ∙ ap (λ i. i.tables) c.image-image.ensures.value) c.deref-2.ensures.value c.sort_every.ensures,
       none_open_at _ 0 (no_claims_at c.self.inside.verified.now.program.threads c.self.inside.claims.items c.self.invariant.1),
+      subst (λ p. CountsLiving p c.in_ok-present.present c.count_every.new.counts.items) (c.program-program.ensures ∙ ap (λ i. i.program) c.image-image.ensures.value) c.count_every.ensures,
     )

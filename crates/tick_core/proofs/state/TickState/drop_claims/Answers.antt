@@ -1,5 +1,6 @@
 use Rattle.std.proofs.Common.{◌∙◌, refl, sym, ap, subst, arith}
 use Rattle.sc_graph.specs.Tick.{IsConfiguration}
+use Rattle.tick_core.specs.Inside.Living.{CountsLiving}
 use Rattle.tick_core.specs.Inside.Turns.{DropsClaims}
 use Rattle.tick_core.proofs.Keeping.{configuration, kept_dropped}
 use Rattle.tick_core.proofs.Counts.{sorted_every_at, none_open_at}
@@ -10,15 +11,21 @@ pub sort_every-requires-clause-configuration : goal.sort_every-requires-clause-c
 sort_every-requires-clause-configuration c =
     subst (λ p. IsConfiguration p c.self.inside.present) (sym (c.program.ensures ∙ ap (λ i. i.program) c.image-image.ensures.value)) (configuration _ c.self.invariant.0)
 
+pub sort_every-requires-clause-counts : goal.sort_every-requires-clause-counts
+sort_every-requires-clause-counts c =
+    subst (λ p. CountsLiving p c.self.inside.present c.deref.result.now) (sym (c.program.ensures ∙ ap (λ i. i.program) c.image-image.ensures.value))
+    (subst (CountsLiving c.self.inside.verified.now.program c.self.inside.present) (sym c.deref.ensures.value) c.self.invariant.6)
+
 pub invariant_of-self : goal.invariant_of-self
 invariant_of-self c = (
   kept_dropped _ c.self.invariant.0 _ c.close_all.ensures.length (record { image_is = refl; begun_is = refl; present_is = refl; history_is = refl; no_claim = c.close_all.ensures.none }),
   c.self.invariant.1,
   c.self.invariant.2,
   c.self.invariant.3,
-  sorted_every_at c.self.inside.verified.now.program c.program.result.now c.self.inside.verified.now.tables c.tables.result.now c.self.inside.present c.close_all.new.claims.items c.deref.result.now c.sort_every.new.rows
-      (c.program.ensures ∙ ap (λ i. i.program) c.image-image.ensures.value) (c.tables.ensures.value ∙ ap (λ i. i.tables) c.image-image.ensures.value) c.deref.ensures.value c.sort_every.ensures,
+  sorted_every_at c.self.inside.verified.now.program c.program.result.now c.self.inside.verified.now.tables c.tables.result.now c.self.inside.present c.close_all.new.claims.items c.deref-then-self-gt0.result.now c.sort_every.new.rows
+      (c.program.ensures ∙ ap (λ i. i.program) c.image-image.ensures.value) (c.tables.ensures.value ∙ ap (λ i. i.tables) c.image-image.ensures.value) c.deref-then-self-gt0.ensures.value c.sort_every.ensures,
   none_open_at _ c.self.inside.level c.close_all.ensures.none,
+  c.self.invariant.6,
 )
 
 pub returns-else-self-gt0 : goal.returns-else-self-gt0

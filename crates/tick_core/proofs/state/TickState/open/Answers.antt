@@ -22,4 +22,5 @@ invariant_of-self c =
           (c.self.inside.claimed + 1) c.priority-self-inside.result fresh.leads (ap (λ (s : InTick). slice_get s.claims c.args.claim.now.thread) c.self.view_is ∙ c.requires.unclaimed) refl
           c.thread-thread.ensures c.copied.ensures
           (c.priority-self-inside.ensures ∙ sym (ap (λ (s : InTick). priority_of s.image.tables (status_of s.present c.thread-thread.result)) c.self.view_is)),
+      c.self.invariant.6,
     )
