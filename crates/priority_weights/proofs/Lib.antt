@@ -7,3 +7,4 @@ pub mod Sums
 pub mod Chains
 pub mod Weighing
 pub mod Rooms
+pub mod Bounding

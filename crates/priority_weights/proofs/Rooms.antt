@@ -99,7 +99,7 @@ room_parts p formed rank n before ks xs lt later more under distinct =
       apart = apart_of ks distinct;
     }) (λ k y. nat_le (rank y) (xs k)) (length p.nodes) lt
 
-distinct_none : AreDistinct []
+pub distinct_none : AreDistinct []
 distinct_none i j a b lt at bt = absurd (cc)
 
 own_room : (p : Program) (formed : IsFormed p) (rank : ℕ → ℕ) (n : ℕ) → n < length p.nodes → 1 ≤ node_room p formed rank n

@@ -3,3 +3,4 @@ pub mod Entries
 pub mod Next
 pub mod Falling
 pub mod Instants
+pub mod Bounds
