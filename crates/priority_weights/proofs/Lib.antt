@@ -8,3 +8,6 @@ pub mod Chains
 pub mod Weighing
 pub mod Rooms
 pub mod Bounding
+pub mod Bridging
+pub mod Assembly
+pub mod Ticking

@@ -125,7 +125,7 @@ first_of_two false b h = absurd (cc)
 target_owned : (p : Program) (t n : ℕ) → is_target p t n ≡ true → owner_of p n ≡ Some t
 target_owned p t n h = owns_is (owner_of p n) t (first_of_two _ _ h)
 
-join_owned : (p : Program) (t n : ℕ) → is_join p t n ≡ true → owner_of p n ≡ Some t
+pub join_owned : (p : Program) (t n : ℕ) → is_join p t n ≡ true → owner_of p n ≡ Some t
 join_owned p t n h = owns_is (owner_of p n) t (first_of_two _ _ h)
 
 -- where a thread begins, it owns the node

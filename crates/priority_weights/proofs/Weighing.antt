@@ -8,7 +8,7 @@ use Rattle.least.specs.Least.{Keeps, IsNeeded}
 use Rattle.priority_weights.specs.Inside.Entries.{entry_bits, entry_number, entry_sum, join_weight, step_weight, WeightKept}
 use Rattle.priority_weights.proofs.Bits.{entries_more}
 
-number_more : (v w : ℕ → ℕ) → ((n : ℕ) → v n ≤ w n) → (o : Option ℕ) → entry_number v o ≤ entry_number w o
+pub number_more : (v w : ℕ → ℕ) → ((n : ℕ) → v n ≤ w n) → (o : Option ℕ) → entry_number v o ≤ entry_number w o
 number_more v w le None = omega arith
 number_more v w le (Some n) = le n
 

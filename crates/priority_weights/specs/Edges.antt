@@ -33,3 +33,8 @@ IsInstantLoop p walk = IsCycle (InTick p) walk
 -- a closed walk along instantaneous and protocol edges, with a protocol edge
 abbrev pub IsOrderCycle : Program → List ℕ → Type 0
 IsOrderCycle p walk = IsCycle (InOrder p) walk
+
+-- neither
+pub record HasNoWalk (p : Program) : Type 0 where
+  pub no_loop : (walk : List ℕ) → ¬ IsInstantLoop p walk
+  pub no_cycle : (walk : List ℕ) → ¬ IsOrderCycle p walk

@@ -4,3 +4,4 @@ pub mod Next
 pub mod Falling
 pub mod Instants
 pub mod Bounds
+pub mod Parts

@@ -1,3 +1,4 @@
 pub mod Edges
 pub mod LeastTables
+pub mod FaultText
 pub mod Inside

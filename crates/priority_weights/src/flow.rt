@@ -1,25 +1,44 @@
 //! Flow within one tick: along it ranks fall, or it closes in an instant loop.
 
-ghost use Rattle.std.specs.Prelude.{◌≡◌, ◌↔◌, ℕ, slice_index};
+ghost use Rattle.std.specs.Prelude.{◌≡◌, ◌↔◌, IfOk, ℕ, length, slice_index};
 ghost use Rattle.std.proofs.Common.{rules};
-ghost use Rattle.priority_weights.specs.Inside.Entries.{bits};
+ghost use Rattle.priority_weights.specs.Inside.Entries.{BitKept, bits};
+ghost use Rattle.least.specs.Least.{IsLeast};
 ghost use Rattle.least.specs.Walks.{Falls};
+ghost use Rattle.priority_weights.specs.Edges.{InTick};
+ghost use Rattle.priority_weights.specs.Inside.Falling.{IsFalling};
 ghost use Rattle.priority_weights.specs.Inside.Next.{FlowBy, FlowLeads, IsNext, join_at_once};
 
 use crate::ends::entry_bits;
+use crate::falling::{Falling, Hints, table_or_cycle};
 use crate::next::{NextNodes, asked_by_next, ranked_next, successors};
 use least::{Graph, Rule};
-use sc_graph::{NodeId, Program, Step, ThreadId};
+use sc_graph::{NodeId, Program, Step};
+use std::alloc::{AllocError, Global};
 
 // Above each rank.
 const ANY: u64 = 4294967296;
 
-/// The edges to where a thread goes on in the same tick, and over each fork whose children may all end at once,
-/// by end bits. Each has weight 1.
+/// Ranks that fall along flow within one tick, by the least end bits of a program; or a cycle. Err: memory was refused.
+pub(crate) fn flow_ranks(
+    alloc: Global,
+    program: &Program,
+    ends: &[u32],
+    hints: Hints,
+) -> Result<Falling, AllocError>
+    requires { IsLeast (BitKept program.now) (length program.now.nodes) ends.now }
+    ensures by_ends { IfOk result (IsFalling (FlowLeads program.now (slice_index ends.now)) (length program.now.nodes)) }
+    ensures in_tick { IfOk result (IsFalling (InTick program.now) (length program.now.nodes)) }
+{
+    table_or_cycle(alloc, &Flow { program, ends }, program.node_count(), hints)
+}
+
+// The edges to where a thread goes on in the same tick, and over each fork whose children may all end at once,
+// by end bits. Each has weight 1.
 #[derive(Clone, Copy)]
-pub(crate) struct Flow<'a> {
-    pub(crate) program: &'a Program,
-    pub(crate) ends: &'a [u32],
+struct Flow<'a> {
+    program: &'a Program,
+    ends: &'a [u32],
 }
 
 impl<'a> Flow<'a> {

@@ -52,7 +52,19 @@ pub(crate) fn ranked_instant(
     }
 }
 
-// Where a thread goes on from a node with this step, or the join behind, where it ends.
+/// Where a thread goes on from a node with this step, or the join behind, where it ends.
+pub(crate) fn next_hint(program: &Program, links: &Links, node: NodeId, step: &Step) -> NextNodes {
+    if is_exit(step) {
+        NextNodes {
+            first: join_behind(program, links, node),
+            second: None,
+        }
+    } else {
+        successors(step)
+    }
+}
+
+// The same, of a formed program.
 fn next_instants(program: &Program, links: &Links, node: NodeId, step: &Step) -> NextNodes
     requires formed { IsFormed program.now }
     requires told { Tells program.now links.now }

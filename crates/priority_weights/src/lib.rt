@@ -1,12 +1,19 @@
 //! The least tables of a program, or a closed walk that shows why it has none.
 #![tactic(auto)]
 
+mod assembling;
 mod bounds;
 mod ends;
 mod falling;
+mod fault;
 mod flow;
+mod hints;
 mod instants;
+mod least_tables;
 mod next;
 mod order;
 mod protocol;
 mod weights;
+
+pub use fault::TablesFault;
+pub use least_tables::tables;

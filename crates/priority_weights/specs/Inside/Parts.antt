@@ -1,0 +1,16 @@
+-- The parts of the least tables, each by the one before.
+use Rattle.std.specs.Prelude.{ℕ, List, length, slice_index}
+use Rattle.sc_graph.specs.Program.{Program}
+use Rattle.least.specs.Least.{IsLeast, IsWithin}
+use Rattle.least.specs.Walks.{Falls}
+use Rattle.priority_weights.specs.Edges.{InOrder}
+use Rattle.priority_weights.specs.Inside.Bounds.{AreLeastBounds}
+use Rattle.priority_weights.specs.Inside.Entries.{BitKept, WeightKept, bits}
+
+pub record AreParts (p : Program) (ends priorities weights bounds : List ℕ) : Type 0 where
+  pub end_bits : IsLeast (BitKept p) (length p.nodes) ends
+  pub order : IsLeast (Falls (InOrder p)) (length p.nodes) priorities
+  pub order_within : IsWithin (length p.nodes) (length p.nodes) (slice_index priorities)
+  pub flow : IsLeast (WeightKept p (bits (slice_index ends))) (length p.nodes) weights
+  pub flow_within : IsWithin (length p.nodes) (length p.nodes) (slice_index weights)
+  pub covering : AreLeastBounds p (slice_index weights) bounds

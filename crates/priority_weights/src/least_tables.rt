@@ -1,0 +1,56 @@
+//! The least tables of a program, table by table.
+
+ghost use Rattle.std.specs.Prelude.{◌≡◌, IfOk, ℕ, Err};
+ghost use Rattle.sc_graph.specs.Valid.{IsFormed};
+ghost use Rattle.priority_weights.specs.Edges.{IsInstantLoop, IsOrderCycle, HasNoWalk};
+ghost use Rattle.priority_weights.specs.LeastTables.{AreLeast};
+ghost use Rattle.priority_weights.specs.declared.fault.TablesFault.TheVariants.{Cyclic, InstantLoop};
+
+use crate::assembling::assembled;
+use crate::bounds::bounds;
+use crate::ends::end_bits;
+use crate::falling::Falling;
+use crate::fault::TablesFault;
+use crate::flow::flow_ranks;
+use crate::hints::Search;
+use crate::order::priorities;
+use crate::weights::weights;
+use conflict_edges::Edges;
+use sc_graph::{Program, Tables};
+use sqlite_items::Items;
+use std::alloc::Global;
+
+/// The least tables of a formed program, whose protocol edges are given. `InstantLoop`: flow within one tick
+/// closes. `Cyclic`: it does not, and instantaneous and protocol edges close, with a protocol edge. Each names such
+/// a walk: distinct nodes from the least one on, along edges that close from the last to the first. `Memory`: memory
+/// was refused.
+pub fn tables(alloc: Global, program: &Program, edges: &Edges) -> Result<Tables, TablesFault>
+    requires formed { IsFormed program.now }
+    requires edges { edges.now ≡ program.now }
+    ensures least { IfOk result (AreLeast program.now) }
+    ensures no_walk { IfOk result (λ _. HasNoWalk program.now) }
+    ensures instant_loop { (walk : _) → result ≡ Err (InstantLoop walk) → IsInstantLoop program.now walk }
+    ensures cyclic { (walk : _) → result ≡ Err (Cyclic walk) → IsOrderCycle program.now walk }
+    ensures no_loop { (walk other : _) → result ≡ Err (Cyclic walk) → ¬ IsInstantLoop program.now other }
+{
+    let search = Search::of(alloc, program, edges)?;
+    let ends = end_bits(alloc, program, search.order())?;
+    match flow_ranks(alloc, program, ends.as_slice(), search.loop_hints())? {
+        Falling::Cycle(walk) => return Err(TablesFault::InstantLoop(Items::from_vec(walk))),
+        Falling::Table(_ranks) => {}
+    }
+    let priorities = match priorities(alloc, program, edges, search.order_hints())? {
+        Falling::Cycle(walk) => return Err(TablesFault::Cyclic(Items::from_vec(walk))),
+        Falling::Table(priorities) => priorities,
+    };
+    let weights = weights(alloc, program, ends.as_slice(), search.order())?;
+    let bounds = bounds(alloc, program, weights.as_slice())?;
+    Ok(assembled(
+        alloc,
+        program,
+        ends.as_slice(),
+        priorities.as_slice(),
+        weights.as_slice(),
+        bounds,
+    )?)
+}
