@@ -1,1 +1,4 @@
+pub mod Outside
+pub mod Replaying
 pub mod Superstates
+pub mod Values

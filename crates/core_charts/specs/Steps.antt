@@ -7,7 +7,9 @@ use Rattle.sc_values.specs.Operator.{kind_of}
 use Rattle.sc_values.specs.Expr.{value as value_of}
 use Rattle.sc_values.specs.Access.{Access, Nothing, no_access}
 use Rattle.sc_values.specs.Assignment.{reads, assignment_of, access_of_assignment}
-use Rattle.sc_graph.specs.Steps.{Change, Keep, Put, changed, only_if, takes_kind}
+use Rattle.sc_graph.specs.Steps.{only_if, takes_kind}
+use Rattle.core_charts.specs.declared.deed.Deed.{Deed}
+use Rattle.core_charts.specs.declared.deed.Write.{Write}
 use Rattle.core_charts.specs.declared.region.Effect.{Effect}
 use Rattle.core_charts.specs.declared.region.Transition.{Transition}
 use Rattle.core_charts.specs.declared.standing.Standing.{Standing}
@@ -23,25 +25,26 @@ use Rattle.core_charts.specs.Turns.{standing_of, inside, is_enabled}
 abbrev pub to : ℕ → Standing → Move
 to r s = record { region = r; standing = s }
 
-pub record Deed : Type 0 where
-  pub change : Change
-  pub moves : List Move
-
 abbrev pub moved : List Move → List Standing → List Standing
 moved [] regions = regions
 moved (m ∷ moves) regions = moved moves (slice_set regions m.region m.standing)
 
+-- what a step writes, if anything
+abbrev pub written : Option Write → List Value → List Value
+written None variables = variables
+written (Some w) variables = slice_set variables w.variable w.value
+
 abbrev pub after : Deed → Configuration → Configuration
-after d c = record { variables = changed d.change c.variables; regions = moved d.moves c.regions }
+after d c = record { variables = written d.write c.variables; regions = moved d.moves c.regions }
+
+abbrev pub truth : Value → Option Bool
+truth (value.Bool b) = Some b
+truth (value.Int n) = None
 
 -- a missing trigger is true
 abbrev pub verdict : List Value → Option Expr → Option Bool
 verdict variables None = Some true
 verdict variables (Some e) = option_and_then truth (value_of e variables)
-  where
-    truth : Value → Option Bool
-    truth (value.Bool b) = Some b
-    truth (value.Int n) = None
 
 -- the state of this place among those of region r
 abbrev pub state_in : Table → ℕ → ℕ → ℕ
@@ -63,7 +66,7 @@ taken k r s t = dropped k s ++ acts k r s t.effects t.target
 -- a test: where it is true its transition is taken, else these moves are made
 abbrev pub tested : Table → Configuration → ℕ → ℕ → Transition → List Move → Option Deed
 tested k c r s t otherwise =
-    option_map (λ holds. record { change = Keep; moves = if holds then taken k r s t else otherwise })
+    option_map (λ holds. record { write = None; moves = if holds then taken k r s t else otherwise })
     (verdict c.variables t.trigger)
 
 -- the regions of a superstate are entered, when no strong abort was taken
@@ -79,7 +82,7 @@ guarding_on k r s (t ∷ tests) = to r (at.Guarding s (t ∷ tests)) ∷ []
 abbrev pub effected : Table → ℕ → ℕ → Effect → List Effect → ℕ → Value → Option Deed
 effected k r s e effects target v =
     only_if (takes_kind (option_map (λ x. x.kind) (slice_get k.variables e.variable)) (kind_of v))
-    (Some (record { change = Put e.variable v; moves = acts k r s effects target }))
+    (Some (record { write = Some (record { variable = e.variable; value = v }); moves = acts k r s effects target }))
 
 abbrev pub deed_of : Table → Configuration → ℕ → Standing → Option Deed
 deed_of k c r (at.Trying s (t ∷ tests)) = tested k c r s t (to r (at.Trying s tests) ∷ [])

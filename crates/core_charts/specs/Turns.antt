@@ -1,6 +1,6 @@
 -- Whose turn it is: who is guarded by a strong abort waits, weak aborts and terminations wait for the inside, a
 -- termination for the end of all regions.
-use Rattle.std.specs.Prelude.{ℕ, zero, suc, ◌≡◌, ◌≢◌, ◌<◌, Bool, true, false, not, ◌&&◌, ◌||◌, nat_eq, List, [], ◌∷◌, filter, length, slice_get, unwrap_or, Contains}
+use Rattle.std.specs.Prelude.{ℕ, zero, suc, ◌+◌, ◌≡◌, ◌≢◌, ◌<◌, Bool, true, false, Option, Some, None, if◌then◌else◌, not, ◌&&◌, ◌||◌, nat_eq, List, [], ◌∷◌, filter, length, slice_get, unwrap_or, Contains}
 use Rattle.std.specs.List.{list_all, list_any}
 use Rattle.core_charts.specs.declared.region.Transition.{Transition}
 use Rattle.core_charts.specs.declared.standing.Standing.{Standing}
@@ -45,7 +45,7 @@ is_guarded k c around = list_any (λ s. guards (standing_of c (state_at k s).hol
 
 abbrev pub numbered_from : ℕ → List RegionRow → List ℕ
 numbered_from n [] = []
-numbered_from n (r ∷ regions) = n ∷ numbered_from (suc n) regions
+numbered_from n (r ∷ regions) = n ∷ numbered_from (n + 1) regions
 
 -- the regions inside a superstate, however deep
 abbrev pub inside : Table → ℕ → List ℕ
@@ -59,6 +59,11 @@ inside_is_done k c other = true
 abbrev pub is_enabled : Table → Configuration → ℕ → Bool
 is_enabled k c r =
     has_work k c (standing_of c r) && (not (is_guarded k c (region_at k r).around) && inside_is_done k c (standing_of c r))
+
+-- the first of these regions whose turn it is
+abbrev pub first_enabled : Table → Configuration → List ℕ → Option ℕ
+first_enabled k c [] = None
+first_enabled k c (r ∷ order) = if is_enabled k c r then Some r else first_enabled k c order
 
 -- region r is region a, or lies inside it
 pub data LiesIn (k : Table) (r a : ℕ) : Type 0 where

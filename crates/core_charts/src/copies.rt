@@ -127,7 +127,10 @@ pub(crate) fn copied_moves(alloc: Global, moves: &[Move]) -> Result<Items<Move>,
     Ok(Items::from_vec(copy))
 }
 
-fn copied_standings(alloc: Global, standings: &[Standing]) -> Result<Items<Standing>, AllocError>
+pub(crate) fn copied_standings(
+    alloc: Global,
+    standings: &[Standing],
+) -> Result<Items<Standing>, AllocError>
     ensures { IfOk result (λ copy. copy ≡ standings.now) }
 {
     let mut copy = Vec::with_capacity(alloc, standings.len())?;

@@ -4,18 +4,28 @@
 mod chart;
 mod chosen;
 mod copies;
+mod deed;
+mod doing;
+mod evaluating;
 mod features;
 mod region;
 mod rules;
+mod running;
 mod sizes;
 mod standing;
+mod starting;
+mod stepping;
 mod table;
 mod table_fault;
 mod tabling;
+mod turns;
 
 pub use chart::{Chart, CoreChart};
+pub use deed::{Deed, Write};
+pub use evaluating::value_of;
 pub use features::{DEPTH_LIMIT, Features};
 pub use region::{Effect, Region, State, Transition, TransitionKind};
+pub use running::Ran;
 pub use standing::{Configuration, Move, Standing};
 pub use table::{Inner, Parts, RegionRow, Scene, StateRow, Table};
 pub use table_fault::TableFault;

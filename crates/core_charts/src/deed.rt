@@ -1,0 +1,20 @@
+//! What one step of a region does.
+
+use crate::standing::Move;
+use sc_graph::VariableId;
+use sc_values::Value;
+use sqlite_items::Items;
+
+/// A variable becomes a value.
+#[derive(Debug, Drop)]
+pub struct Write {
+    pub variable: VariableId,
+    pub value: Value,
+}
+
+/// What a step does: it writes a variable or none, and regions come to stand elsewhere, from left to right.
+#[derive(Debug, Drop)]
+pub struct Deed {
+    pub write: Option<Write>,
+    pub moves: Items<Move>,
+}
