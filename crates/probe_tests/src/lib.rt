@@ -4,8 +4,12 @@
 #[cfg(test)]
 mod looks;
 #[cfg(test)]
+mod outputs;
+#[cfg(test)]
 mod seats;
 #[cfg(test)]
 mod shows;
 #[cfg(test)]
 mod threads;
+#[cfg(test)]
+mod trials;

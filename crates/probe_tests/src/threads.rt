@@ -1,5 +1,6 @@
 // An observer in a thread of its own, while ticks are published.
-use crate::shows::{end_with, shows, two_threads};
+use crate::shows::shows;
+use crate::trials::{Trial, tries};
 use probe::{Observer, Publisher, TickEnd};
 use std::sync::Wait;
 use std::test::Fail;
@@ -30,8 +31,8 @@ fn watch(observer: &mut Observer) -> bool {
     rises
 }
 
-// Whether an observer that looks while ticks are published never goes back, and ends at the last.
-fn watched<R: Threads + Wait + Sync>(
+/// Whether an observer that looks while ticks are published never goes back, and ends at the last.
+pub(crate) fn watched<R: Threads + Wait + Sync>(
     rt: &R,
     publisher: &mut Publisher,
     end: &TickEnd,
@@ -47,11 +48,5 @@ fn watched<R: Threads + Wait + Sync>(
 
 #[test]
 fn an_observer_in_a_thread_never_goes_back(rt: HostRuntime) -> Result<(), Fail> {
-    let image = two_threads(rt.alloc())?;
-    let end = end_with(rt.alloc(), &image, &[1, 1])?;
-    let mut publisher = Publisher::open(&rt, rt.alloc(), &image)?;
-    let shown = watched(&rt, &mut publisher, &end);
-    publisher.close(&rt);
-    assert!(rt; shown?);
-    Ok(())
+    tries(&rt, rt.alloc(), Trial::Thread)
 }
