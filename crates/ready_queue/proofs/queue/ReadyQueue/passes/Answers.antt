@@ -1,0 +1,5 @@
+use Rattle.ready_queue.proofs.Keeping.{forks}
+use Rattle.ready_queue.proofs.queue.ReadyQueue.passes.Goals as goal
+
+pub another-requires-clause-rule : goal.another-requires-clause-rule
+another-requires-clause-rule c = forks _ _
