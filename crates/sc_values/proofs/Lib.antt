@@ -15,3 +15,4 @@ pub mod Writing
 pub mod Ending
 pub mod Order
 pub mod Literals
+mod Reading

@@ -64,6 +64,19 @@ impl Code {
         }
     }
 
+    /// The operations of an expression, each behind its operands. None: they are more than 64.
+    pub fn postorder(expression: &Expr) -> Option<Code>
+        ensures { SomeIff result (length (postorder expression.now) ≤ operation_limit) (postorder expression.now) }
+    {
+        let mut code = Code::new();
+        if expression.write(&mut code) {
+            prove!(code.operations().len() <= OPERATION_LIMIT);
+            Some(code)
+        } else {
+            None
+        }
+    }
+
     /// A code of these operations. None: they are more than 64.
     pub fn from_operations(operations: &[Operation]) -> Option<Code>
         ensures { SomeIff result (length operations.now ≤ operation_limit) operations.now }

@@ -1,6 +1,8 @@
 ghost use Rattle.std.specs.Prelude.{◌≡◌, ◌+◌, ◌<◌, ◌++◌, ◌∷◌, [], length, slice_get, IfOk, MatchBool};
 ghost use Rattle.sc_values.specs.Limits.{operation_limit};
+ghost use Rattle.sc_values.specs.Assignment.{is_read};
 ghost use Rattle.sc_values.specs.Expr.{kind, postorder};
+ghost use Rattle.sc_values.specs.Inside.Reading.{names};
 
 use crate::code::Code;
 use crate::operation::Operation;
@@ -57,6 +59,27 @@ impl Expr {
             }
         };
         Ok(copy)
+    }
+
+    /// Whether it reads a variable.
+    pub fn reads(&self, variable: u16) -> bool
+        ensures { result ≡ is_read variable self.now }
+    {
+        self.names(variable)
+    }
+
+    // Whether a variable stands in it.
+    fn names(&self, variable: u16) -> bool
+        ensures { result ≡ names variable self.now }
+    {
+        match self {
+            Expr::Literal(_) => false,
+            Expr::Load(x) => *x == variable,
+            Expr::Unary(_, operand) => operand.get().names(variable),
+            Expr::Binary(_, left, right) => {
+                left.get().names(variable) || right.get().names(variable)
+            }
+        }
     }
 
     // Puts its operations behind a code's. False: they are more than 64 together, and the code ends

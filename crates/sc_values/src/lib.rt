@@ -2,6 +2,7 @@
 //! sinks of bytes.
 #![tactic(auto)]
 
+mod assignment;
 mod checked;
 mod code;
 mod code_fault;
@@ -23,6 +24,7 @@ mod streams;
 mod value;
 mod well_formed;
 
+pub use assignment::CodedAssignment;
 pub use checked::CheckedCode;
 pub use code::Code;
 pub use code_fault::CodeFault;
@@ -40,6 +42,8 @@ pub use operator::{BinaryOperator, Combination, UnaryOperator};
 pub use streams::{Failed, Sink, Source, write_all};
 pub use value::{Kind, Value};
 
+#[cfg(test)]
+mod assignment_tests;
 #[cfg(test)]
 mod stream_tests;
 #[cfg(test)]
