@@ -1,0 +1,4 @@
+mod Pieces
+mod Before
+mod Laid
+mod Example

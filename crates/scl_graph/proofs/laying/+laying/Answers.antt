@@ -1,0 +1,107 @@
+use Rattle.std.proofs.Common.{◌≡◌, ℕ, suc, ◌+◌, List, [], ◌∷◌, ◌++◌, drop, ap, sym, subst, ◌∙◌}
+use Rattle.std.proofs.lemmas.List.{drop_all, take_rest}
+use Rattle.sc_values.specs.Expr.{postorder}
+use Rattle.sc_graph.specs.declared.program.Node.{Node}
+use Rattle.sc_graph.specs.declared.program.Step.TheVariants as step
+use Rattle.scl.specs.declared.statement.Statement.{Statement}
+use Rattle.scl_graph.specs.declared.numbers.Numbers.{Numbers}
+use Rattle.scl_graph.specs.declared.way.Way.{Way}
+use Rattle.scl_graph.specs.Graph.{node}
+use Rattle.scl_graph.specs.Inside.Laying.{HasRoom, IsLaid, after, children, past, way_in}
+use Rattle.scl_graph.specs.Counting.{counts_of, counts_of_all}
+use Rattle.scl_graph.proofs.Laid.{laid_none, laid_more, laid_if, laid_fork, ok_then, room_more, split_at}
+use Rattle.scl_graph.proofs.laying.+laying.Goals as goal
+
+pub lay-loop-i-init : goal.lay-loop-i-init
+lay-loop-i-init g t c = record { room = c.requires; laid = λ new h. h }
+
+pub lay-loop-i-preserved : goal.lay-loop-i-preserved
+lay-loop-i-preserved g t c =
+    let target : Way → ℕ = g.T.Targets.target c.args.targets.now in
+    let xs : List Statement = c.args.statements.now in
+    let s : Statement = c.index-statements-i.result in
+    let rest : List Statement = drop (c.loop-i.i + 1) xs in
+    let here : Numbers = c.loop-i.here in
+    let behind : Way = c.args.behind.now in
+    let before : List Node = c.loop-i.nodes.items in
+    let middle : List Node = c.lay_statement.new.nodes.items in
+    let split : drop c.loop-i.i xs ≡ s ∷ rest = split_at xs c.loop-i.i s c.loop-i-test.true c.index-statements-i.is in
+    let next : c.past-next.result ≡ past here (counts_of s) = c.past-next.ensures ∙ ap (past here) c.known_statement_counts.ensures in
+    let leads : c.way_of-leads.result ≡ way_in rest (past here (counts_of s)).node behind =
+    c.way_of-leads.ensures
+    ∙ ap (λ zs. way_in zs c.past-next.result.node behind) (take_rest xs (c.loop-i.i + 1))
+    ∙ ap (λ m. way_in rest m.node behind) next in
+    let Room : Numbers → Type 0 = λ m. HasRoom m (counts_of_all rest) in
+    let Fits : List Statement → Type 0 = λ zs. HasRoom here (counts_of_all zs) in
+    let One : Way → Type 0 = λ w. IsLaid target c.args.owner (s ∷ []) here w before middle in
+    record {
+      room = subst Room (sym next) (room_more here s rest (subst Fits split c.loop-i.invariant.room));
+      laid = λ new h.
+          let Whole : List Statement → Type 0 = λ zs. IsLaid target c.args.owner zs here behind before new in
+          let Others : Numbers → Type 0 = λ m. IsLaid target c.args.owner rest m behind middle new in
+          c.loop-i.invariant.laid new (subst Whole (sym split) (laid_more target c.args.owner s rest here behind before middle new (subst One leads c.in_ok-lay_statement.ensures) (subst Others next h)));
+    }
+
+pub lay-returns : goal.lay-returns
+lay-returns g t c =
+    let target : Way → ℕ = g.T.Targets.target c.args.targets.now in
+    let nodes : List Node = c.loop-i.nodes.items in
+    let Left : List Statement → Type 0 = λ zs. IsLaid target c.args.owner zs c.loop-i.here c.args.behind.now nodes nodes in
+    c.loop-i.invariant.laid nodes (subst Left (sym (drop_all c.loop-i.i c.args.statements.now c.loop-i-test.false)) (laid_none target c.args.owner c.loop-i.here c.args.behind.now nodes))
+
+pub lay_statement-returns-in_ok-lay-in-If : goal.lay_statement-returns-in_ok-lay-in-If
+lay_statement-returns-in_ok-lay-in-If g t c =
+    let target : Way → ℕ = g.T.Targets.target c.args.targets.now in
+    let o : ℕ = c.args.owner in
+    let s : Statement = c.args.statement.now in
+    let at : Numbers = c.args.at in
+    let behind : Way = c.args.behind.now in
+    let a : List Statement = c.in-If.first in
+    let b : List Statement = c.in-If.second in
+    let old : List Node = c.args.nodes.now.items in
+    let tested : List Node = c.lay_test.new.nodes.items in
+    let middle : List Node = c.lay.new.nodes.items in
+    let inside : c.after_a_node-inside.result ≡ after 1 at = c.after_a_node-inside.ensures in
+    let further : c.past-further.result ≡ past (after 1 at) (counts_of_all a) =
+    c.past-further.ensures
+    ∙ ap (λ m. past m c.known_counts.result) inside
+    ∙ ap (past (after 1 at)) (c.known_counts.ensures ∙ ap counts_of_all c.as_slice.ensures) in
+    let to_first : c.target-then.result ≡ target (way_in a (1 + at.node) behind) =
+    c.target-then.ensures
+    ∙ ap target (c.way_of.ensures ∙ ap (λ zs. way_in zs c.after_a_node-inside.result.node behind) c.as_slice-in-If.ensures ∙ ap (λ m. way_in a m.node behind) inside) in
+    let to_second : c.target-other.result ≡ target (way_in b (1 + at.node + (counts_of_all a).nodes) behind) =
+    c.target-other.ensures
+    ∙ ap target (c.way_of-in-If.ensures ∙ ap (λ zs. way_in zs c.past-further.result.node behind) c.as_slice-in-If-2.ensures ∙ ap (λ m. way_in b m.node behind) further) in
+    let test : ℕ → ℕ → List Node = λ m n. old ++ node o (step.Cond (postorder c.in-If.test) m n) ∷ [] in
+    let put : tested ≡ test (target (way_in a (1 + at.node) behind)) (target (way_in b (1 + at.node + (counts_of_all a).nodes) behind)) =
+    c.in_ok-lay_test-in-If.ensures
+    ∙ ap (λ m. test m c.target-other.result) to_first
+    ∙ ap (test (target (way_in a (1 + at.node) behind))) to_second in
+    let FirstAt : Numbers → Type 0 = λ m. IsLaid target o a m behind tested middle in
+    let FirstOf : List Statement → Type 0 = λ zs. IsLaid target o zs c.after_a_node-inside.result behind tested middle in
+    let first : IsLaid target o a (after 1 at) behind tested middle = subst FirstAt inside (subst FirstOf c.as_slice-in-If-3.ensures c.in_ok-lay-in-If.ensures) in
+    let new : List Node = c.lay-in-If.new.nodes.items in
+    let SecondAt : Numbers → Type 0 = λ m. IsLaid target o b m behind middle new in
+    let SecondOf : List Statement → Type 0 = λ zs. IsLaid target o zs c.past-further.result behind middle new in
+    ok_then c.lay-in-If.result
+    (λ v. IsLaid target o c.as_slice-in-If-4.result.now c.past-further.result behind middle new)
+    (λ v. IsLaid target o (s ∷ []) at behind old new)
+    (λ v h. laid_if target o s at behind old tested middle new c.in-If.test a b c.in-If.is put first (subst SecondAt further (subst SecondOf c.as_slice-in-If-4.ensures h)))
+    c.lay-in-If.ensures
+
+pub lay_statement-returns-in_ok-forked-in-Fork : goal.lay_statement-returns-in_ok-forked-in-Fork
+lay_statement-returns-in_ok-forked-in-Fork g t c =
+    let target : Way → ℕ = g.T.Targets.target c.args.targets.now in
+    let o : ℕ = c.args.owner in
+    let at : Numbers = c.args.at in
+    let behind : Way = c.args.behind.now in
+    let old : List Node = c.args.nodes.now.items in
+    let new : List Node = c.lay_fork.new.nodes.items in
+    let ks : List ℕ = c.in_ok-forked-in-Fork.forked in
+    let forked : ks ≡ children c.in-Fork.branches at.thread = c.in_ok-forked-in-Fork.ensures ∙ ap (λ bs. children bs at.thread) c.as_slice-in-Fork.ensures in
+    let put : List ℕ → ℕ → List Node = λ cs n. old ++ node o (step.Fork cs (suc at.node)) ∷ node o (step.Join n) ∷ [] in
+    ok_then c.lay_fork.result
+    (λ v. new ≡ put ks c.target-in-Fork.result)
+    (λ v. IsLaid target o (c.args.statement.now ∷ []) at behind old new)
+    (λ v h. laid_fork target o c.args.statement.now at behind old new c.in-Fork.branches c.in-Fork.is (h ∙ ap (λ cs. put cs c.target-in-Fork.result) forked ∙ ap (put (children c.in-Fork.branches at.thread)) c.target-in-Fork.ensures))
+    c.lay_fork.ensures

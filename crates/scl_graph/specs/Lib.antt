@@ -1,0 +1,3 @@
+pub mod Graph
+pub mod Counting
+pub mod Inside

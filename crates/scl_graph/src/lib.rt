@@ -1,0 +1,14 @@
+//! The graph of an SCL program: its threads and nodes, numbered in the order of the text.
+#![tactic(auto)]
+
+mod counting;
+mod fault;
+mod laying;
+mod numbers;
+mod steps;
+mod way;
+
+pub use counting::counts;
+pub use fault::GraphFault;
+pub use numbers::{Counts, Numbers};
+pub use way::Way;

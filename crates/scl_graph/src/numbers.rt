@@ -1,0 +1,111 @@
+ghost use Rattle.std.specs.Prelude.{◌≡◌, ◌+◌, ◌≤◌};
+ghost use Rattle.sc_graph.specs.Limits.{count_limit};
+ghost use Rattle.scl_graph.specs.Inside.Laying.{HasRoom, after, past};
+ghost use Rattle.std.specs.Option.{SomeIff};
+ghost use Rattle.scl_graph.specs.Counting.{AreSmall, as_branch, sum};
+
+use sc_graph::{NODE_LIMIT, NodeId, ThreadId};
+
+/// How many nodes of its own thread a text has, how many threads it forks, and how many nodes these have.
+#[derive(Clone, Copy, Debug)]
+pub struct Counts {
+    pub nodes: u16,
+    pub threads: u16,
+    pub lower: u16,
+}
+
+/// The numbers that come next: of a node of the thread, of a thread, and of that thread's first node.
+#[derive(Clone, Copy, Debug)]
+pub struct Numbers {
+    pub node: NodeId,
+    pub thread: ThreadId,
+    pub base: NodeId,
+}
+
+impl Counts {
+    // Those of nothing.
+    pub(crate) fn none() -> Counts
+        ensures { result ≡ record { nodes = 0; threads = 0; lower = 0 } }
+    {
+        Counts {
+            nodes: 0,
+            threads: 0,
+            lower: 0,
+        }
+    }
+
+    // Those of so many nodes.
+    pub(crate) fn nodes(nodes: u16) -> Counts
+        ensures { result ≡ record { nodes = nodes; threads = 0; lower = 0 } }
+    {
+        Counts {
+            nodes,
+            threads: 0,
+            lower: 0,
+        }
+    }
+
+    // What a branch counts whose text counts this: one thread more, and the node of its end.
+    pub(crate) fn as_branch(self) -> Option<Counts>
+        requires { AreSmall self }
+        ensures { SomeIff result (AreSmall (as_branch self)) (as_branch self) }
+    {
+        let branch = Counts {
+            nodes: 0,
+            threads: self.threads + 1,
+            lower: self.nodes + 1 + self.lower,
+        };
+        branch.if_small()
+    }
+
+    // Those of two texts together. None: one of them is above the limit of nodes.
+    pub(crate) fn plus(self, other: Counts) -> Option<Counts>
+        requires { AreSmall self × AreSmall other }
+        ensures { SomeIff result (AreSmall (sum self other)) (sum self other) }
+    {
+        let both = Counts {
+            nodes: self.nodes + other.nodes,
+            threads: self.threads + other.threads,
+            lower: self.lower + other.lower,
+        };
+        both.if_small()
+    }
+
+    // These counts. None: one of them is above the limit of nodes.
+    fn if_small(self) -> Option<Counts>
+        ensures { SomeIff result (AreSmall self) self }
+    {
+        let most = NODE_LIMIT as u16;
+        if self.nodes <= most && self.threads <= most && self.lower <= most {
+            Some(self)
+        } else {
+            None
+        }
+    }
+}
+
+impl Numbers {
+    // The numbers behind what counts this.
+    pub(crate) fn past(self, counts: Counts) -> Numbers
+        requires { HasRoom self counts }
+        ensures { result ≡ past self counts }
+    {
+        Numbers {
+            node: self.node + counts.nodes,
+            thread: self.thread + counts.threads,
+            base: self.base + counts.lower,
+        }
+    }
+
+    // The numbers behind one node of the thread.
+    pub(crate) fn after_a_node(self) -> Numbers
+        requires { self.node + 1 ≤ count_limit }
+        ensures { result ≡ after 1 self }
+    {
+        Numbers {
+            node: self.node + 1,
+            thread: self.thread,
+            base: self.base,
+        }
+    }
+}

@@ -1,0 +1,39 @@
+ghost use Rattle.std.specs.Prelude.{◌≡◌, ℕ};
+ghost use Rattle.scl_graph.specs.Inside.Laying.{way_in};
+
+use sc_graph::NodeId;
+use sc_values::Name;
+use scl::Statement;
+
+/// Where a thread goes on, past labels.
+#[derive(Clone, Copy, Debug)]
+pub enum Way {
+    /// At this node.
+    At(NodeId),
+    /// Behind the label of this name.
+    Jumps(Name),
+}
+
+/// Tells to which node a way leads.
+pub(crate) trait Targets {
+    ghost use Rattle.scl_graph.specs.declared.way.Way.{Way};
+
+    ghost target: { Self → Way → ℕ };
+
+    fn target(&self, way: &Way) -> NodeId
+        ensures { result ≡ target self.now way.now };
+}
+
+/// Where a thread goes on at these statements, whose first node has the number `next`, and behind them.
+pub(crate) fn way_of(statements: &[Statement], next: NodeId, behind: &Way) -> Way
+    ensures { result ≡ way_in statements.now next behind.now }
+{
+    for statement in statements {
+        match statement {
+            Statement::Label(_) => {}
+            Statement::Goto(name) => return Way::Jumps(*name),
+            _ => return Way::At(next),
+        }
+    }
+    *behind
+}
