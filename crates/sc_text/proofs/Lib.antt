@@ -1,4 +1,7 @@
 pub mod Table
+pub mod Shapes
+pub mod Steps
+pub mod Deepens
 pub mod Faces
 pub mod Rows
 pub mod Cutting

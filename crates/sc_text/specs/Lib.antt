@@ -3,4 +3,9 @@ pub mod Pieces
 pub mod Tokens
 pub mod Parts
 pub mod FaultText
+pub mod Classes
+pub mod Phrases
+pub mod Expression
+pub mod Reading
+pub mod Levels
 pub mod Inside

@@ -1,8 +1,12 @@
 //! The tokens of chart text and of SCL text, with their places, and the faults of readers.
 #![tactic(auto)]
 
+mod ahead;
 mod language;
 mod parts;
+mod leaf;
+mod level;
+mod operation;
 mod piece;
 mod read_fault;
 mod scan;
@@ -12,6 +16,7 @@ mod word;
 
 pub use language::Language;
 pub use parts::{are_distinct, is_expression, is_writable};
+pub use operation::TextOperation;
 pub use read_fault::{Broken, ReadFault};
 pub use scan::tokens;
 pub use sign::Sign;
