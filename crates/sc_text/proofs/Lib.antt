@@ -1,6 +1,8 @@
 pub mod Table
 pub mod Shapes
 pub mod Steps
+pub mod Chains
+pub mod Nesting
 pub mod Deepens
 pub mod Faces
 pub mod Rows

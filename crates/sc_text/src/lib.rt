@@ -2,6 +2,7 @@
 #![tactic(auto)]
 
 mod ahead;
+mod expressions;
 mod language;
 mod parts;
 mod leaf;
@@ -14,6 +15,7 @@ mod sign;
 mod token;
 mod word;
 
+pub use expressions::{OPEN_LIMIT, expression};
 pub use language::Language;
 pub use parts::{are_distinct, is_expression, is_writable};
 pub use operation::TextOperation;

@@ -1,0 +1,229 @@
+//! Reading expressions: a function for each rule of their grammar.
+
+ghost use Rattle.std.specs.Prelude.{◌≡◌, [], ◌∷◌, MatchResult};
+ghost use Rattle.grammar.specs.Read.{read};
+ghost use Rattle.sc_text.specs.Classes.{TheSign};
+ghost use Rattle.sc_text.specs.Expression.{text_tokens, within, expression, before, call, atom, unary, negation, comparison, disjunction};
+ghost use Rattle.sc_text.specs.Reading.{Stops, Reads};
+ghost use Rattle.sc_text.specs.Levels.{whole, operand, behind_operand};
+
+use crate::ahead::{behind, past_sign, sign_follows, too_deep, word_follows};
+use crate::leaf::{calls, comparator, encloses, function, leaf, operator, quotient};
+use crate::level::{Level, compares};
+use crate::operation::TextOperation;
+use crate::read_fault::ReadFault;
+use crate::sign::Sign;
+use crate::token::Token;
+use crate::word::Word;
+use sc_values::UnaryOperator;
+use sqlite_items::Items;
+
+/// The parentheses and prefix operators that may be open at once.
+pub const OPEN_LIMIT: u8 = 64;
+
+/// Reads an expression from the front of the tokens, and puts its operations behind the others. The tokens
+/// are of a text of `end` bytes. Gives the tokens behind it. Err: the fault at the first token that can't
+/// go on, or memory was refused.
+#[tactic(auto, using(crate::proofs::Nesting::expression_stops, crate::proofs::Nesting::expression_reads))]
+pub fn expression<'a>(
+    tokens: &'a [Token],
+    end: usize,
+    code: &mut Items<TextOperation>,
+) -> Result<&'a [Token], ReadFault>
+    ensures { MatchResult result (λ rest. Reads (read (expression 0) tokens.now) code.old code.new rest.now) (λ fault. Stops end (read (expression 0) tokens.now) fault) }
+{
+    let rest = chain(Level::Disjunction, OPEN_LIMIT, tokens, end, code)?;
+    Ok(rest)
+}
+
+// All operands of a level.
+#[cycle(expression)]
+#[tactic(auto, using(crate::proofs::Chains::going_first, crate::proofs::Chains::going_first_stops, crate::proofs::Chains::going_ends, crate::proofs::Chains::going_over, crate::proofs::Chains::going_stops, crate::proofs::Chains::going_on))]
+fn chain<'a>(
+    level: Level,
+    depth: u8,
+    tokens: &'a [Token],
+    end: usize,
+    code: &mut Items<TextOperation>,
+) -> Result<&'a [Token], ReadFault>
+    ensures { MatchResult result (λ rest. Reads (read (whole level (within depth)) tokens.now) code.old code.new rest.now) (λ fault. Stops end (read (whole level (within depth)) tokens.now) fault) }
+{
+    let mut rest = operand(level, depth, tokens, end, code)?;
+    let most = rest.len();
+    for used in 0..most {
+        if !level.goes_on(rest) {
+            return Ok(rest);
+        }
+        rest = right(level, depth, rest, end, code)?;
+    }
+    Ok(rest)
+}
+
+#[cycle(expression)]
+fn operand<'a>(
+    level: Level,
+    depth: u8,
+    tokens: &'a [Token],
+    end: usize,
+    code: &mut Items<TextOperation>,
+) -> Result<&'a [Token], ReadFault>
+    ensures { MatchResult result (λ rest. Reads (read (operand level (within depth)) tokens.now) code.old code.new rest.now) (λ fault. Stops end (read (operand level (within depth)) tokens.now) fault) }
+{
+    let rest = match level {
+        Level::Disjunction => chain(Level::Conjunction, depth, tokens, end, code)?,
+        Level::Conjunction => negation(depth, tokens, end, code)?,
+        Level::Sum => chain(Level::Product, depth, tokens, end, code)?,
+        Level::Product => unary(depth, tokens, end, code)?,
+    };
+    Ok(rest)
+}
+
+// An operator of the level and its right operand, or a division.
+#[cycle(expression)]
+#[tactic(auto, using(crate::proofs::Chains::divided_stops, crate::proofs::Chains::divided_reads, crate::proofs::Chains::operator_stops, crate::proofs::Chains::right_stops, crate::proofs::Chains::right_reads))]
+fn right<'a>(
+    level: Level,
+    depth: u8,
+    tokens: &'a [Token],
+    end: usize,
+    code: &mut Items<TextOperation>,
+) -> Result<&'a [Token], ReadFault>
+    ensures { MatchResult result (λ rest. Reads (read (behind_operand level (within depth)) tokens.now) code.old code.new rest.now) (λ fault. Stops end (read (behind_operand level (within depth)) tokens.now) fault) }
+{
+    if level.divides(tokens) {
+        let rest = quotient(tokens, end, code)?;
+        return Ok(rest);
+    }
+    let (operator, rest) = operator(level, tokens, end)?;
+    let after = operand(level, depth, rest, end, code)?;
+    code.push(TextOperation::Binary(operator))?;
+    Ok(after)
+}
+
+#[cycle(expression)]
+#[tactic(auto, using(crate::proofs::Chains::first_sum_stops, crate::proofs::Chains::lone_sum_reads, crate::proofs::Chains::comparator_stops, crate::proofs::Chains::second_sum_stops, crate::proofs::Chains::compared_reads))]
+fn comparison<'a>(
+    depth: u8,
+    tokens: &'a [Token],
+    end: usize,
+    code: &mut Items<TextOperation>,
+) -> Result<&'a [Token], ReadFault>
+    ensures { MatchResult result (λ rest. Reads (read (comparison (within depth)) tokens.now) code.old code.new rest.now) (λ fault. Stops end (read (comparison (within depth)) tokens.now) fault) }
+{
+    let rest = chain(Level::Sum, depth, tokens, end, code)?;
+    if !compares(rest) {
+        return Ok(rest);
+    }
+    let (operator, second) = comparator(rest, end)?;
+    let after = chain(Level::Sum, depth, second, end, code)?;
+    code.push(TextOperation::Binary(operator))?;
+    Ok(after)
+}
+
+#[cycle(expression)]
+#[tactic(auto, using(crate::proofs::Nesting::no_not_stops, crate::proofs::Nesting::no_not_reads, crate::proofs::Nesting::not_deep, crate::proofs::Nesting::not_stops, crate::proofs::Nesting::not_reads))]
+fn negation<'a>(
+    depth: u8,
+    tokens: &'a [Token],
+    end: usize,
+    code: &mut Items<TextOperation>,
+) -> Result<&'a [Token], ReadFault>
+    ensures { MatchResult result (λ rest. Reads (read (negation (within depth)) tokens.now) code.old code.new rest.now) (λ fault. Stops end (read (negation (within depth)) tokens.now) fault) }
+{
+    if !word_follows(tokens, Word::Not) {
+        let rest = comparison(depth, tokens, end, code)?;
+        return Ok(rest);
+    }
+    if depth == 0 {
+        return Err(too_deep(tokens, end));
+    }
+    let rest = negation(depth - 1, behind(tokens), end, code)?;
+    code.push(TextOperation::Unary(UnaryOperator::Not))?;
+    Ok(rest)
+}
+
+#[cycle(expression)]
+#[tactic(auto, using(crate::proofs::Nesting::no_minus_stops, crate::proofs::Nesting::no_minus_reads, crate::proofs::Nesting::minus_deep, crate::proofs::Nesting::negated_stops, crate::proofs::Nesting::negated_reads))]
+fn unary<'a>(
+    depth: u8,
+    tokens: &'a [Token],
+    end: usize,
+    code: &mut Items<TextOperation>,
+) -> Result<&'a [Token], ReadFault>
+    ensures { MatchResult result (λ rest. Reads (read (unary (within depth)) tokens.now) code.old code.new rest.now) (λ fault. Stops end (read (unary (within depth)) tokens.now) fault) }
+{
+    if !sign_follows(tokens, Sign::Minus) {
+        let rest = atom(depth, tokens, end, code)?;
+        return Ok(rest);
+    }
+    if depth == 0 {
+        return Err(too_deep(tokens, end));
+    }
+    let rest = unary(depth - 1, behind(tokens), end, code)?;
+    code.push(TextOperation::Unary(UnaryOperator::Negate))?;
+    Ok(rest)
+}
+
+#[cycle(expression)]
+#[tactic(auto, using(crate::proofs::Nesting::atom_deep, crate::proofs::Nesting::flat_leaf_stops, crate::proofs::Nesting::flat_leaf_reads, crate::proofs::Nesting::inside_stops, crate::proofs::Nesting::inside_reads, crate::proofs::Nesting::call_stops, crate::proofs::Nesting::call_reads, crate::proofs::Nesting::leaf_stops, crate::proofs::Nesting::leaf_reads))]
+fn atom<'a>(
+    depth: u8,
+    tokens: &'a [Token],
+    end: usize,
+    code: &mut Items<TextOperation>,
+) -> Result<&'a [Token], ReadFault>
+    ensures { MatchResult result (λ rest. Reads (read (atom (within depth)) tokens.now) code.old code.new rest.now) (λ fault. Stops end (read (atom (within depth)) tokens.now) fault) }
+{
+    if depth == 0 {
+        if encloses(tokens) {
+            return Err(too_deep(tokens, end));
+        }
+        let rest = leaf(tokens, end, code)?;
+        return Ok(rest);
+    }
+    if sign_follows(tokens, Sign::OpenParenthesis) {
+        let rest = closed(depth - 1, Sign::CloseParenthesis, behind(tokens), end, code)?;
+        return Ok(rest);
+    }
+    if calls(tokens) {
+        let rest = call(depth - 1, tokens, end, code)?;
+        return Ok(rest);
+    }
+    let rest = leaf(tokens, end, code)?;
+    Ok(rest)
+}
+
+// An expression and the sign that closes it.
+#[cycle(expression)]
+#[tactic(auto, using(crate::proofs::Nesting::closed_stops, crate::proofs::Nesting::unclosed_stops, crate::proofs::Nesting::closed_reads))]
+fn closed<'a>(
+    depth: u8,
+    closing: Sign,
+    tokens: &'a [Token],
+    end: usize,
+    code: &mut Items<TextOperation>,
+) -> Result<&'a [Token], ReadFault>
+    ensures { MatchResult result (λ rest. Reads (read (before (disjunction (within depth)) (TheSign closing ∷ [])) tokens.now) code.old code.new rest.now) (λ fault. Stops end (read (before (disjunction (within depth)) (TheSign closing ∷ [])) tokens.now) fault) }
+{
+    let rest = chain(Level::Disjunction, depth, tokens, end, code)?;
+    let after = past_sign(rest, end, closing)?;
+    Ok(after)
+}
+
+#[cycle(expression)]
+#[tactic(auto, using(crate::proofs::Nesting::function_stops, crate::proofs::Nesting::opening_stops, crate::proofs::Nesting::first_stops, crate::proofs::Nesting::second_stops, crate::proofs::Nesting::called_reads))]
+fn call<'a>(
+    depth: u8,
+    tokens: &'a [Token],
+    end: usize,
+    code: &mut Items<TextOperation>,
+) -> Result<&'a [Token], ReadFault>
+    ensures { MatchResult result (λ rest. Reads (read (call (disjunction (within depth))) tokens.now) code.old code.new rest.now) (λ fault. Stops end (read (call (disjunction (within depth))) tokens.now) fault) }
+{
+    let (operator, rest) = function(tokens, end)?;
+    let inside = past_sign(rest, end, Sign::OpenParenthesis)?;
+    let second = closed(depth, Sign::Comma, inside, end, code)?;
+    let after = closed(depth, Sign::CloseParenthesis, second, end, code)?;
+    code.push(TextOperation::Binary(operator))?;
+    Ok(after)
+}
