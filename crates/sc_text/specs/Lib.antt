@@ -8,4 +8,5 @@ pub mod Phrases
 pub mod Expression
 pub mod Reading
 pub mod Levels
+pub mod Laws
 pub mod Inside

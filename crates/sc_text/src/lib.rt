@@ -5,6 +5,7 @@ mod ahead;
 mod expressions;
 mod language;
 mod parts;
+mod laws;
 mod leaf;
 mod level;
 mod operation;
@@ -18,6 +19,7 @@ mod word;
 pub use expressions::{OPEN_LIMIT, expression};
 pub use language::Language;
 pub use parts::{are_distinct, is_expression, is_writable};
+pub use laws::expressions_are_told;
 pub use operation::TextOperation;
 pub use read_fault::{Broken, ReadFault};
 pub use scan::tokens;
@@ -25,5 +27,7 @@ pub use sign::Sign;
 pub use token::{Token, TokenKind};
 pub use word::Word;
 
+#[cfg(test)]
+mod expression_tests;
 #[cfg(test)]
 mod tests;

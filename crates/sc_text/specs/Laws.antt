@@ -1,0 +1,15 @@
+-- What holds of the grammar of expressions as a whole.
+use Rattle.std.specs.Prelude.{◌≡◌, List, []}
+use Rattle.grammar.specs.Grammar.{spells}
+use Rattle.grammar.specs.Read.{Flaw, Got, Failed, read_all}
+use Rattle.grammar.specs.Fault.{Fault, Told}
+use Rattle.sc_text.specs.declared.token.Token.{Token}
+use Rattle.sc_text.specs.Phrases.{Phrase}
+use Rattle.sc_text.specs.Expression.{expression}
+
+-- each list of tokens is told: the one expression that it spells, or its one fault. Within an expression that begins a
+-- longer text the same holds up to its end
+pub record ExpressionsAreTold : Type 0 where
+  pub told : (text : List Token) → Told expression text (read_all (expression 0) text)
+  pub spelled : (text : List Token) (p : Phrase) → spells (expression 0) text p → read_all (expression 0) text ≡ Got p []
+  pub faulty : (text rest : List Token) (flaw : Flaw) → Fault expression text flaw rest → read_all (expression 0) text ≡ Failed flaw rest

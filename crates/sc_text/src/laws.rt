@@ -1,0 +1,11 @@
+//! Laws that no single function says.
+
+ghost use Rattle.sc_text.specs.Laws.{ExpressionsAreTold};
+
+/// Reading the tokens of a text by the grammar of expressions tells the one expression that they spell,
+/// exactly where they spell one, and else their one fault: a token after which no expression can go on,
+/// the end where none may end, or a token with which only expressions go on that are nested too deep.
+/// This function does nothing; its contract is the law.
+pub fn expressions_are_told()
+    ensures { ExpressionsAreTold }
+{}
