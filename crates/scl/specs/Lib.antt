@@ -1,3 +1,4 @@
+pub mod Rules
 pub mod Block
 pub mod Numbering
 pub mod Labels

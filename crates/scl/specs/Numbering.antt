@@ -3,7 +3,7 @@
 -- thread in the order of its statements, its end last.
 use Rattle.std.specs.Prelude.{ℕ, suc, ◌+◌, List, [], ◌∷◌}
 use Rattle.sc_graph.specs.declared.program.Variable.{Variable}
-use Rattle.scl.specs.declared.statement.Scl.{Scl}
+use Rattle.scl.specs.declared.program.Scl.{Scl}
 use Rattle.scl.specs.declared.statement.Statement.{Statement}
 use Rattle.scl.specs.declared.statement.Statement.TheOpen.{Statement-F}
 use Rattle.scl.specs.declared.statement.Statement.TheOpen as text

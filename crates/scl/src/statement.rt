@@ -1,4 +1,4 @@
-use sc_graph::{Variable, VariableId};
+use sc_graph::VariableId;
 use sc_values::{Expr, Name};
 use sqlite_items::Items;
 
@@ -26,12 +26,4 @@ pub enum Statement {
     Fork {
         branches: Items<Items<Statement>>,
     },
-}
-
-/// A program: its variables, named by their numbers, and the statements of its first thread.
-#[derive(Debug, Drop)]
-pub struct Scl {
-    pub name: Name,
-    pub variables: Items<Variable>,
-    pub body: Items<Statement>,
 }
