@@ -94,11 +94,11 @@ unfolding disjunction
 disjunction_wider i j o = chain_wider _ _ _ _ (conjunction_wider i j o) (right_wider _ _ _ (conjunction_wider i j o))
 
 -- n levels, and more than n
-data Above : ℕ → ℕ → Type 0 where
+pub data Above : ℕ → ℕ → Type 0 where
   above_none : (m : ℕ) → Above zero (suc m)
   above_more : (n m : ℕ) → Above n m → Above (suc n) (suc m)
 
-above_by : (n k : ℕ) → Above n (n + suc k)
+pub above_by : (n k : ℕ) → Above n (n + suc k)
 above_by zero k = subst (Above zero) (omega arith) (above_none k)
 above_by (suc n) k = subst (Above (suc n)) (omega arith) (above_more n (n + suc k) (above_by n k))
 
