@@ -1,1 +1,2 @@
 mod Example
+pub mod RulesRows
