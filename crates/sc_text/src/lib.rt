@@ -4,11 +4,11 @@
 mod ahead;
 mod expressions;
 mod language;
-mod parts;
 mod laws;
 mod leaf;
 mod level;
 mod operation;
+mod parts;
 mod piece;
 mod read_fault;
 mod scan;
@@ -18,9 +18,9 @@ mod word;
 
 pub use expressions::{OPEN_LIMIT, expression};
 pub use language::Language;
-pub use parts::{are_distinct, is_expression, is_writable};
 pub use laws::expressions_are_told;
 pub use operation::TextOperation;
+pub use parts::{are_distinct, is_expression, is_writable};
 pub use read_fault::{Broken, ReadFault};
 pub use scan::tokens;
 pub use sign::Sign;
