@@ -1,7 +1,6 @@
 // Random lists of events, beside a plain account of them.
-ghost use Rattle.std.specs.Prelude.{◌<◌};
-
 use crate::acts::{Act, Told, ended, perform};
+use crate::chance::Chance;
 use crate::inputs::inputs_of;
 use crate::plain::Plain;
 use crate::ticks::{tick, verified};
@@ -15,50 +14,6 @@ use std::alloc::{AllocError, Global};
 use std::test::Fail;
 use tick_core::{Control, Done, Entry, Inputs, TickState, begin};
 use verifier::Verified;
-
-// Numbers of a linear congruential generator.
-#[derive(Drop)]
-struct Chance {
-    state: u64,
-}
-
-impl Chance {
-    fn of(seed: u8) -> Chance {
-        Chance {
-            state: u64::from(seed),
-        }
-    }
-
-    // The next number below this one.
-    fn below(&mut self, limit: usize) -> usize
-        requires { 0 < limit }
-        ensures { result < limit }
-    {
-        self.state = self
-            .state
-            .wrapping_mul(6364136223846793005)
-            .wrapping_add(1442695040888963407);
-        (self.state >> 33) as usize % limit
-    }
-
-    // Any event, where so many claims were given.
-    fn act(&mut self, given: usize) -> Act {
-        let event = self.below(8);
-        if given == 0 || event < 4 {
-            return Act::Claim(self.below(9) as u8);
-        }
-        // often the last claim, else any
-        let number = match self.below(2) {
-            0 => given - 1,
-            _ => self.below(given),
-        };
-        if event < 7 {
-            Act::Commit(number)
-        } else {
-            Act::GiveBack(number)
-        }
-    }
-}
 
 // The open claims by thread, each as its worker and the commits before it, and what was committed.
 #[derive(Drop)]

@@ -4,6 +4,8 @@
 #[cfg(test)]
 mod acts;
 #[cfg(test)]
+mod chance;
+#[cfg(test)]
 mod claims;
 #[cfg(test)]
 mod event_lists;
