@@ -1,5 +1,5 @@
 -- Tables of least parts are the least tables.
-use Rattle.std.proofs.Common.{ℕ, zero, suc, ◌≡◌, ◌≢◌, ◌<◌, ◌≤◌, ◌+◌, ◌⊎◌, inl, inr, max, Bool, true, false, Option, Some, None, List, [], ◌∷◌, length, map, slice_get, option_map, refl, sym, ◌∙◌, subst, ap, arith}
+use Rattle.std.proofs.Common.{ℕ, zero, suc, ◌≡◌, ◌<◌, ◌≤◌, ◌+◌, ◌⊎◌, inl, inr, max, Option, Some, None, List, [], ◌∷◌, length, map, slice_get, option_map, refl, sym, ◌∙◌, subst, ap, arith}
 use Rattle.std.specs.Prelude.{slice_index, nat_lt}
 use Rattle.std.proofs.lemmas.List.{length-map}
 use Rattle.std.proofs.lemmas.Option.{slice_get_cases, slice_get_within}
@@ -11,19 +11,18 @@ use Rattle.sc_graph.specs.declared.tables.Tables.{Tables}
 use Rattle.sc_graph.specs.declared.place.Place.{Place}
 use Rattle.sc_graph.specs.declared.place.Place.TheVariants as place
 use Rattle.sc_graph.specs.Program.{Program, step_at, owner_of, entry_of}
-use Rattle.sc_graph.specs.Protocol.{FlowAt, ProtocolAt, Instant, by_successor, by_entry, by_exit, ProtocolEdge}
-use Rattle.sc_graph.specs.Tables.{priority, weight, end_bit, bound}
-use Rattle.sc_graph.specs.Costs.{EndBitAt, WeightAt, BoundAt, BoundHolds, BudgetHolds, entry_weight, child_bounds}
-use Rattle.sc_graph.specs.Size.{StepFits}
+use Rattle.sc_graph.specs.Protocol.{FlowAt, ProtocolAt, Instant, by_successor, by_entry, by_exit}
+use Rattle.sc_graph.specs.Tables.{priority, weight, bound}
+use Rattle.sc_graph.specs.Costs.{BoundAt, BoundHolds, BudgetHolds, entry_weight}
 use Rattle.sc_graph.specs.Structure.{StepStays}
 use Rattle.sc_graph.specs.Valid.{IsFormed}
 use Rattle.sc_graph.proofs.Nodes.{step_within}
 use Rattle.least.specs.Least.{Keeps, IsLeast, IsWithin}
 use Rattle.least.specs.Walks.{Falls}
 use Rattle.priority_weights.specs.Edges.{InOrder}
-use Rattle.priority_weights.specs.LeastTables.{KeepRules, HaveLengths, AreNowhereGreater, AreLeast}
-use Rattle.priority_weights.specs.Inside.Bounds.{bound_sum, step_cost, IsCovered, AreCovering}
-use Rattle.priority_weights.specs.Inside.Entries.{bits, entry_number}
+use Rattle.priority_weights.specs.LeastTables.{AreLeast}
+use Rattle.priority_weights.specs.Inside.Bounds.{step_cost, AreCovering}
+use Rattle.priority_weights.specs.Inside.Entries.{entry_number}
 use Rattle.priority_weights.specs.Inside.Parts.{AreParts}
 use Rattle.priority_weights.proofs.Bridging.{bits_below, bits_kept, end_bit_is, weights_keep, weights_kept, bound_sum_is, entry_number_is}
 use Rattle.priority_weights.proofs.Bounding.{bounds_more}

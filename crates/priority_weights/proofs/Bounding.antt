@@ -1,5 +1,5 @@
 -- Bounds that rise to the least ones that cover all nodes, and bounds within a number that do cover them.
-use Rattle.std.proofs.Common.{ℕ, zero, suc, ◌≡◌, ◌≢◌, ◌<◌, ◌≤◌, ◌+◌, ◌*◌, ◌-◌, ◌⊎◌, inl, inr, Bool, true, false, cond, Option, Some, None, List, [], ◌∷◌, length, get_or, sum, refl, sym, ◌∙◌, subst, ap, arith, get_or-set_other, get_or-set_same}
+use Rattle.std.proofs.Common.{ℕ, ◌≡◌, ◌<◌, ◌≤◌, ◌+◌, ◌*◌, ◌-◌, inl, inr, Bool, true, false, cond, Some, List, [], ◌∷◌, length, get_or, sum, refl, sym, ◌∙◌, subst, ap, arith, get_or-set_other, get_or-set_same}
 use Rattle.std.specs.Prelude.{slice_index, nat_lt, All}
 use Rattle.std.proofs.Math.ListN.{set}
 use Rattle.std.proofs.Math.Nat.{mul-le-mul_left, mul-add}
@@ -15,11 +15,11 @@ use Rattle.sc_graph.specs.Size.{StepFits, AreDistinct}
 use Rattle.sc_graph.specs.Valid.{IsFormed}
 use Rattle.sc_graph.proofs.Formed.{parent_is_owner, falls_upwards}
 use Rattle.least.specs.Least.{IsWithin}
-use Rattle.priority_weights.specs.Inside.Bounds.{bound_sum, step_cost, IsCovered, AreCovering, AreUnder, AreLeastBounds, IsRaised}
+use Rattle.priority_weights.specs.Inside.Bounds.{bound_sum, step_cost, IsCovered, AreCovering, AreUnder, IsRaised}
 use Rattle.priority_weights.proofs.Instantly.{owner_within}
 use Rattle.priority_weights.proofs.Rooms.{step_placed, distinct_none}
 use Rattle.priority_weights.proofs.Sums.{sum_over, total, AllOf, all_of, all_map, apart_of, total_small, same_or_not}
-use Rattle.priority_weights.proofs.Chains.{IsTree, IsBelow, reach, reach_small, parts}
+use Rattle.priority_weights.proofs.Chains.{IsTree, reach, reach_small, parts}
 
 pub bounds_more : (b c : ℕ → ℕ) → ((t : ℕ) → b t ≤ c t) → (ks : List ℕ) → bound_sum b ks ≤ bound_sum c ks
 bounds_more b c le [] = omega arith

@@ -1,19 +1,19 @@
 -- The rules of tables, said of one table at a time, and of all tables together.
-use Rattle.std.proofs.Common.{ℕ, zero, suc, ◌≡◌, ◌<◌, ◌≤◌, ◌+◌, ◌⊎◌, inl, inr, max, Bool, true, false, ◌&&◌, Option, Some, None, List, [], ◌∷◌, length, map, get_or, slice_get, refl, sym, ◌∙◌, subst, ap, arith}
-use Rattle.std.specs.Prelude.{slice_index, nat_lt, unwrap_or, Contains, if◌then◌else◌}
+use Rattle.std.proofs.Common.{ℕ, zero, suc, ◌≡◌, ◌<◌, Bool, true, false, ◌&&◌, Option, Some, None, List, [], ◌∷◌, length, map, get_or, slice_get, refl, sym, ◌∙◌, ap, arith}
+use Rattle.std.specs.Prelude.{slice_index, nat_lt, unwrap_or, if◌then◌else◌}
 use Rattle.sc_graph.specs.declared.program.Step.{Step}
 use Rattle.sc_graph.specs.declared.program.Step.TheVariants as step
 use Rattle.sc_graph.specs.declared.tables.Tables.{Tables}
 use Rattle.sc_graph.specs.declared.place.Place.{Place}
 use Rattle.sc_graph.specs.declared.place.Place.TheVariants as place
-use Rattle.sc_graph.specs.Program.{Program, step_at, owner_of, entry_of}
-use Rattle.sc_graph.specs.Tables.{priority, weight, end_bit, bound}
+use Rattle.sc_graph.specs.Program.{Program, entry_of}
+use Rattle.sc_graph.specs.Tables.{weight, end_bit, bound}
 use Rattle.sc_graph.specs.Costs.{entry_end_bit, entries_end, may_end, EndBitAt, entry_weight, entry_weights, needed_weight, WeightAt, child_bounds}
 use Rattle.sc_graph.proofs.Nodes.{step_within}
 use Rattle.least.specs.Least.{Keeps, IsLeast}
 use Rattle.priority_weights.specs.Inside.Entries.{bits, entry_bit, entry_bits, step_bit, BitKept, entry_number, entry_sum, join_weight, step_weight, WeightKept}
 use Rattle.priority_weights.specs.Inside.Bounds.{bound_sum}
-use Rattle.priority_weights.proofs.Bits.{entries_more, step_more}
+use Rattle.priority_weights.proofs.Bits.{step_more}
 use Rattle.priority_weights.proofs.Sums.{mark}
 use Rattle.priority_weights.proofs.Weighing.{weight_more}
 

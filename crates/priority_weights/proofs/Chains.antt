@@ -1,6 +1,6 @@
 -- Items of threads, each thread but the root below one item of a smaller thread. From each item a chain leads upwards,
 -- which has one item at most of each thread; what is counted below different children of one item is apart.
-use Rattle.std.proofs.Common.{ℕ, zero, suc, ◌≡◌, ◌≢◌, ◌<◌, ◌≤◌, ◌+◌, ◌⊎◌, inl, inr, Bool, true, false, cond, Option, Some, None, List, [], ◌∷◌, refl, sym, ◌∙◌, subst, ap, arith, nat_eq, eq-eqb}
+use Rattle.std.proofs.Common.{ℕ, zero, suc, ◌≡◌, ◌≢◌, ◌<◌, ◌≤◌, ◌+◌, inl, inr, Bool, true, false, cond, Option, Some, None, List, refl, sym, ◌∙◌, subst, ap, arith, nat_eq, eq-eqb}
 use Rattle.priority_weights.proofs.Sums.{mark, sum_over, total, AllOf, Apart, same_or_not, eq_false, all_map, over_le, over_zero, apart_once, total_le, total_add, total_once, total_over}
 
 -- of is the thread of an item, and up the item above a thread

@@ -1,5 +1,5 @@
 -- Flow within one tick: where it leads from a node.
-use Rattle.std.proofs.Common.{ℕ, ◌≡◌, ◌<◌, ◌≤◌, ◌+◌, ◌⊎◌, inl, inr, Bool, true, false, Option, Some, None, MatchOption, List, [], length, refl, sym, ◌∙◌, subst, arith}
+use Rattle.std.proofs.Common.{ℕ, ◌≡◌, ◌<◌, ◌⊎◌, inl, inr, Bool, true, false, Option, Some, None, MatchOption, List, [], length, refl, sym, subst, arith}
 use Rattle.std.specs.Prelude.{slice_index, Contains, ◌↔◌, if◌then◌else◌}
 use Rattle.sc_graph.specs.declared.program.Step.{Step}
 use Rattle.sc_graph.specs.declared.program.Step.TheVariants as step

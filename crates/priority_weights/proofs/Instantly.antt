@@ -6,8 +6,8 @@ use Rattle.sc_graph.specs.declared.program.Node.{Node}
 use Rattle.sc_graph.specs.declared.program.Step.{Step}
 use Rattle.sc_graph.specs.declared.program.Step.TheVariants as step
 use Rattle.sc_graph.specs.declared.place.Place.TheVariants as place
-use Rattle.sc_graph.specs.Links.{only_at, Tells, IsSole}
-use Rattle.sc_graph.specs.Program.{Program, step_at, owner_of, parent_of, entry_of}
+use Rattle.sc_graph.specs.Links.{only_at, Tells}
+use Rattle.sc_graph.specs.Program.{Program, step_at, owner_of, parent_of}
 use Rattle.sc_graph.specs.Protocol.{Instant, by_successor, by_entry, by_exit, successors}
 use Rattle.sc_graph.specs.Structure.{ForksChild, ExactlyOne}
 use Rattle.sc_graph.specs.Threads.{IsFork}

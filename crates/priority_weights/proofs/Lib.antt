@@ -11,3 +11,4 @@ pub mod Bounding
 pub mod Bridging
 pub mod Assembly
 pub mod Ticking
+pub mod Validity

@@ -1,5 +1,5 @@
 -- The order of priorities: its edges, and what they ask.
-use Rattle.std.proofs.Common.{ℕ, ◌≡◌, ◌<◌, ◌≤◌, ◌+◌, ◌⊎◌, inl, inr, max, Option, Some, None, MatchOption, List, length, refl, subst, arith}
+use Rattle.std.proofs.Common.{ℕ, ◌≡◌, ◌<◌, ◌≤◌, ◌⊎◌, inl, inr, max, Option, MatchOption, List, length, refl, arith}
 use Rattle.std.specs.Prelude.{slice_index, ◌↔◌}
 use Rattle.sc_graph.specs.Program.{Program}
 use Rattle.sc_graph.specs.Protocol.{Instant, ProtocolEdge}

@@ -1,25 +1,23 @@
 -- Where ranks fall along flow, a table within the number of nodes keeps the step-weight rule: for each node, how many
 -- nodes have in their chain a node of its thread of no greater rank.
-use Rattle.std.proofs.Common.{ℕ, zero, suc, ◌≡◌, ◌≢◌, ◌<◌, ◌≤◌, ◌+◌, ◌⊎◌, inl, inr, max, Bool, true, false, ◌&&◌, Option, Some, None, List, [], ◌∷◌, length, slice_get, option_map, option_and_then, refl, sym, ◌∙◌, subst, ap, arith, nat_eq, eqb-true}
-use Rattle.std.specs.Prelude.{slice_index, nat_le, unwrap_or, Contains, if◌then◌else◌}
-use Rattle.sc_graph.specs.declared.program.Node.{Node}
+use Rattle.std.proofs.Common.{ℕ, zero, suc, ◌≡◌, ◌<◌, ◌≤◌, ◌+◌, Bool, true, false, ◌&&◌, Option, Some, None, List, [], ◌∷◌, length, slice_get, option_map, option_and_then, refl, sym, ◌∙◌, subst, ap, arith, eqb-true}
+use Rattle.std.specs.Prelude.{nat_le, unwrap_or, if◌then◌else◌}
 use Rattle.sc_graph.specs.declared.program.Thread.{Thread}
 use Rattle.sc_graph.specs.declared.program.Step.{Step}
 use Rattle.sc_graph.specs.declared.program.Step.TheVariants as step
 use Rattle.sc_graph.specs.declared.place.Place.TheVariants as place
 use Rattle.sc_graph.specs.Program.{Program, step_at, owner_of, parent_of, entry_of, is_some_number, is_target, is_join}
-use Rattle.sc_graph.specs.Protocol.{successors}
 use Rattle.sc_graph.specs.Size.{StepFits, AreDistinct}
-use Rattle.sc_graph.specs.Structure.{StepStays, ForksChild, ExactlyOne}
+use Rattle.sc_graph.specs.Structure.{StepStays, ForksChild}
 use Rattle.sc_graph.specs.Valid.{IsFormed}
 use Rattle.sc_graph.proofs.Formed.{node_at, owner_at, parent_is_owner, forked_once, falls_upwards}
-use Rattle.least.specs.Least.{Keeps, IsWithin, Exceeds}
-use Rattle.least.specs.Walks.{Falls, HasRanks}
+use Rattle.least.specs.Least.{Exceeds}
+use Rattle.least.specs.Walks.{HasRanks}
 use Rattle.priority_weights.specs.Inside.Entries.{bits, entry_bits, entry_number, entry_sum, join_weight, step_weight, WeightKept}
 use Rattle.priority_weights.specs.Inside.Next.{FlowBy, FlowLeads, successor, over}
 use Rattle.priority_weights.proofs.Instantly.{owner_within, fork_owned}
-use Rattle.priority_weights.proofs.Sums.{sum_over, total, AllOf, all_of, all_map, apart_of, total_small}
-use Rattle.priority_weights.proofs.Chains.{IsTree, IsBelow, reach, reach_small, parts}
+use Rattle.priority_weights.proofs.Sums.{sum_over, total, AllOf, all_of, apart_of, total_small}
+use Rattle.priority_weights.proofs.Chains.{IsTree, reach, reach_small, parts}
 
 -- the fork above a thread
 abbrev above_from : (p : Program) → IsFormed p → (k : ℕ) (o : Option ℕ) → parent_of p k ≡ o → Option ℕ

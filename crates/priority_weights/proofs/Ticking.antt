@@ -1,14 +1,13 @@
 -- Flow by the least end bits is flow within one tick; where tables fall along edges, no walk closes.
-use Rattle.std.proofs.Common.{ℕ, ◌≡◌, ◌<◌, ◌≤◌, ◌+◌, Bool, true, false, Result, Ok, Err, List, [], ◌∷◌, length, map, refl, sym, ◌∙◌, subst, arith}
+use Rattle.std.proofs.Common.{ℕ, ◌≡◌, ◌<◌, true, Result, Ok, Err, List, [], ◌∷◌, length, map, refl, sym, ◌∙◌}
 use Rattle.std.specs.Prelude.{slice_index, nat_lt, ◌↔◌, IfOk}
-use Rattle.sc_graph.specs.declared.program.Step.{Step}
 use Rattle.sc_graph.specs.declared.program.Step.TheVariants as step
 use Rattle.sc_graph.specs.declared.tables.Tables.{Tables}
-use Rattle.sc_graph.specs.Program.{Program, step_at}
+use Rattle.sc_graph.specs.Program.{Program}
 use Rattle.sc_graph.specs.Tables.{end_bit}
 use Rattle.sc_graph.proofs.Nodes.{step_within}
-use Rattle.least.specs.Least.{Keeps, IsLeast}
-use Rattle.least.specs.Walks.{Walk, Closes, IsCycle, Falls}
+use Rattle.least.specs.Least.{IsLeast}
+use Rattle.least.specs.Walks.{Walk, Closes, Falls}
 use Rattle.least.proofs.Closing.{no_cycle}
 use Rattle.priority_weights.specs.declared.falling.Falling.{Falling}
 use Rattle.priority_weights.specs.declared.falling.Falling.TheVariants as falling

@@ -1,11 +1,11 @@
 -- What the step-weight rule asks grows with the weights and with the end bits.
-use Rattle.std.proofs.Common.{ℕ, ◌≡◌, ◌<◌, ◌≤◌, ◌+◌, ◌⊎◌, inl, inr, max, Bool, true, false, Option, Some, None, List, [], ◌∷◌, length, refl, sym, subst, ap, arith}
+use Rattle.std.proofs.Common.{ℕ, ◌≡◌, ◌<◌, ◌≤◌, Bool, true, false, Option, Some, None, List, [], ◌∷◌, length, refl, subst, arith}
 use Rattle.std.specs.Prelude.{slice_index, if◌then◌else◌}
 use Rattle.sc_graph.specs.declared.program.Step.{Step}
 use Rattle.sc_graph.specs.declared.program.Step.TheVariants as step
 use Rattle.sc_graph.specs.Program.{Program, step_at, entry_of}
-use Rattle.least.specs.Least.{Keeps, IsNeeded}
-use Rattle.priority_weights.specs.Inside.Entries.{entry_bits, entry_number, entry_sum, join_weight, step_weight, WeightKept}
+use Rattle.least.specs.Least.{IsNeeded}
+use Rattle.priority_weights.specs.Inside.Entries.{entry_bits, entry_number, entry_sum, step_weight, WeightKept}
 use Rattle.priority_weights.proofs.Bits.{entries_more}
 
 pub number_more : (v w : ℕ → ℕ) → ((n : ℕ) → v n ≤ w n) → (o : Option ℕ) → entry_number v o ≤ entry_number w o

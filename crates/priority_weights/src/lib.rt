@@ -9,6 +9,7 @@ mod fault;
 mod flow;
 mod hints;
 mod instants;
+mod laws;
 mod least_tables;
 mod next;
 mod order;
@@ -16,4 +17,5 @@ mod protocol;
 mod weights;
 
 pub use fault::TablesFault;
+pub use laws::law_of_least_tables;
 pub use least_tables::tables;

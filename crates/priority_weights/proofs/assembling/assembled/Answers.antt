@@ -1,4 +1,4 @@
-use Rattle.std.proofs.Common.{ℕ, ◌≡◌, ◌∙◌, ap, arith}
+use Rattle.std.proofs.Common.{◌≡◌, ◌∙◌, ap, arith}
 use Rattle.std.specs.Prelude.{slice_index}
 use Rattle.priority_weights.proofs.Assembly.{assembled_least, small_entries}
 use Rattle.priority_weights.proofs.assembling.assembled.Goals as goal

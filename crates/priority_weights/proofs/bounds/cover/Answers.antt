@@ -1,10 +1,9 @@
-use Rattle.std.proofs.Common.{ℕ, ◌≡◌, ◌<◌, ◌≤◌, Some, length, sym, subst, refl, arith}
+use Rattle.std.proofs.Common.{sym, arith}
 use Rattle.std.specs.Prelude.{slice_index}
-use Rattle.sc_graph.specs.Program.{owner_of, step_at}
 use Rattle.sc_graph.proofs.Nodes.{step_within}
 use Rattle.priority_weights.proofs.Instantly.{owner_within}
 use Rattle.priority_weights.proofs.Rooms.{step_placed}
-use Rattle.priority_weights.proofs.Bounding.{cost_small, bound_raised, covered_at}
+use Rattle.priority_weights.proofs.Bounding.{cost_small, bound_raised}
 use Rattle.priority_weights.proofs.bounds.cover.Goals as goal
 
 pub step_cost-cost-requires : goal.step_cost-cost-requires

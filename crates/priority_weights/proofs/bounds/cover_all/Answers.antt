@@ -1,4 +1,4 @@
-use Rattle.std.proofs.Common.{ℕ, ◌≡◌, ◌<◌, ◌+◌, List, inl, inr, true, false, length, sum, sym, ◌∙◌, subst, arith}
+use Rattle.std.proofs.Common.{ℕ, ◌<◌, List, inl, inr, sum, sym, ◌∙◌, subst}
 use Rattle.std.specs.Prelude.{slice_index}
 use Rattle.sc_graph.proofs.Each.{below_or_at}
 use Rattle.priority_weights.specs.Inside.Bounds.{AreUnder, IsCovered}

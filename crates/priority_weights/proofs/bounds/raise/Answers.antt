@@ -1,4 +1,4 @@
-use Rattle.std.proofs.Common.{ℕ, length, arith}
+use Rattle.std.proofs.Common.{length, arith}
 use Rattle.std.specs.Prelude.{slice_index}
 use Rattle.priority_weights.proofs.Bounding.{ample, ample_covers, ample_small, sum_left}
 use Rattle.priority_weights.proofs.bounds.raise.Goals as goal

@@ -1,4 +1,4 @@
-use Rattle.std.proofs.Common.{ℕ, ◌≡◌, List, length, sym, subst}
+use Rattle.std.proofs.Common.{ℕ, subst}
 use Rattle.least.specs.Least.{IsLeast}
 use Rattle.priority_weights.specs.Inside.Entries.{BitKept}
 use Rattle.priority_weights.proofs.Bits.{ones_kept}

@@ -1,4 +1,4 @@
-use Rattle.std.proofs.Common.{ℕ, length, subst}
+use Rattle.std.proofs.Common.{ℕ, subst}
 use Rattle.std.specs.Prelude.{slice_index, IfOk}
 use Rattle.priority_weights.specs.Edges.{InTick}
 use Rattle.priority_weights.specs.Inside.Falling.{IsFalling}

@@ -1,4 +1,4 @@
-use Rattle.std.proofs.Common.{ℕ, ◌≡◌, Some, get_or}
+use Rattle.std.proofs.Common.{◌≡◌, Some, get_or}
 use Rattle.sc_graph.specs.Program.{entry_of}
 use Rattle.priority_weights.specs.Inside.Next.{IsAsked}
 use Rattle.priority_weights.proofs.Asking.{Before}

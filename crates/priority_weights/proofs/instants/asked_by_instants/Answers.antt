@@ -1,4 +1,4 @@
-use Rattle.std.proofs.Common.{ℕ, List, ◌≡◌, ◌⊎◌, subst, sym}
+use Rattle.std.proofs.Common.{ℕ, List, ◌⊎◌, subst, sym}
 use Rattle.sc_graph.specs.Protocol.{Instant}
 use Rattle.priority_weights.specs.Inside.Instants.{IsOn, IsEntry, children_of}
 use Rattle.priority_weights.specs.Inside.Next.{IsAsked, IsNext}

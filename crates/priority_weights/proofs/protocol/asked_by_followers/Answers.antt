@@ -1,4 +1,4 @@
-use Rattle.std.proofs.Common.{ℕ, ◌≡◌, ◌<◌, ◌≤◌, ◌+◌, true, false, get_or, refl, sym, subst, arith}
+use Rattle.std.proofs.Common.{ℕ, ◌≡◌, ◌≤◌, ◌+◌, true, get_or, refl, sym, subst, arith}
 use Rattle.std.specs.Prelude.{slice_index}
 use Rattle.sc_graph.specs.Threads.{ConcurrentNodes}
 use Rattle.priority_weights.specs.Inside.Instants.{IsFollower}

@@ -1,4 +1,4 @@
-use Rattle.std.proofs.Common.{ℕ, ◌≡◌, get_or}
+use Rattle.std.proofs.Common.{◌≡◌, get_or}
 use Rattle.sc_graph.specs.Threads.{ConcurrentNodes}
 use Rattle.priority_weights.specs.Inside.Next.{IsAsked}
 use Rattle.priority_weights.proofs.Asking.{Before}

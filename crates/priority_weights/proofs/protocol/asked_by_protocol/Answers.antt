@@ -1,4 +1,4 @@
-use Rattle.std.proofs.Common.{ℕ, ◌≡◌, subst, sym, ◌⊎◌}
+use Rattle.std.proofs.Common.{ℕ, subst, sym, ◌⊎◌}
 use Rattle.sc_graph.specs.Protocol.{ProtocolEdge}
 use Rattle.priority_weights.specs.Inside.Instants.{IsFollower}
 use Rattle.priority_weights.specs.Inside.Next.{IsAsked}

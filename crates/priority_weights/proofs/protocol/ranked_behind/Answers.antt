@@ -1,4 +1,4 @@
-use Rattle.std.proofs.Common.{ℕ, inl, inr}
+use Rattle.std.proofs.Common.{inl, inr}
 use Rattle.priority_weights.proofs.Asking.{answer_turned}
 use Rattle.priority_weights.proofs.Ordering.{protocol_edges}
 use Rattle.priority_weights.proofs.protocol.ranked_behind.Goals as goal

@@ -1,7 +1,6 @@
 use Rattle.std.proofs.Common.{ℕ, ◌≡◌, ◌+◌, List, sym, subst, arith}
 use Rattle.std.specs.Prelude.{slice_index}
 use Rattle.sc_graph.specs.declared.program.Step.{Step}
-use Rattle.sc_graph.specs.declared.program.Step.TheVariants as step
 use Rattle.priority_weights.specs.Inside.Entries.{bits, entry_sum, join_weight, step_weight}
 use Rattle.priority_weights.proofs.weights.step_weight.Goals as goal
 

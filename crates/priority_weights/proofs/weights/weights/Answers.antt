@@ -1,5 +1,5 @@
-use Rattle.std.proofs.Common.{ℕ, sym, subst}
-use Rattle.std.specs.Prelude.{slice_index, length}
+use Rattle.std.proofs.Common.{ℕ, subst}
+use Rattle.std.specs.Prelude.{slice_index}
 use Rattle.least.specs.Least.{Exceeds}
 use Rattle.priority_weights.specs.Inside.Entries.{bits, WeightKept}
 use Rattle.priority_weights.proofs.Rooms.{weights_within}

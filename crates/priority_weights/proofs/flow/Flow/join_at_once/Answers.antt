@@ -1,6 +1,5 @@
-use Rattle.std.proofs.Common.{◌≡◌, List, ℕ, true, false, sym, ◌∙◌, subst, ap}
+use Rattle.std.proofs.Common.{◌≡◌, List, ℕ, sym, ◌∙◌, subst}
 use Rattle.std.specs.Prelude.{slice_index}
-use Rattle.sc_graph.specs.declared.program.Step.{Step}
 use Rattle.priority_weights.specs.Inside.Entries.{bits, entry_bits}
 use Rattle.priority_weights.proofs.Flowing.{join_told, no_join_told}
 use Rattle.priority_weights.proofs.flow.Flow.join_at_once.Goals as goal
