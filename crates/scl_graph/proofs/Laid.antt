@@ -60,9 +60,9 @@ pub ok_then : {T E : Type 0} (r : Result T E) (P Q : T → Type 0) → ((v : T) 
 ok_then (Ok v) P Q f h = f v h
 ok_then (Err e) P Q f h = h
 
--- the statements from an index on begin with the one that stands there
-pub split_at : (statements : List Statement) (i : ℕ) (s : Statement) → i < length statements → s ≡ get_or statements i s → drop i statements ≡ s ∷ drop (i + 1) statements
-split_at statements i s lt is = rw add-one (drop-cons statements i s lt ∙ ap (λ y. y ∷ drop (suc i) statements) (sym is))
+-- a list from an index on begins with what stands there
+pub split_at : {A : Type 0} (xs : List A) (i : ℕ) (x : A) → i < length xs → x ≡ get_or xs i x → drop i xs ≡ x ∷ drop (i + 1) xs
+split_at xs i x lt is = rw add-one (drop-cons xs i x lt ∙ ap (λ y. y ∷ drop (suc i) xs) (sym is))
 
 -- nothing is laid
 pub laid_none : (target : Way → ℕ) (t : ℕ) (at : Numbers) (behind : Way) (nodes : List Node) → IsLaid target t [] at behind nodes nodes

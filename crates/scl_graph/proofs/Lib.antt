@@ -1,4 +1,5 @@
 mod Pieces
 mod Before
 mod Laid
+mod Branching
 mod Example

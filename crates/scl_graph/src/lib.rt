@@ -3,6 +3,7 @@
 
 mod counting;
 mod fault;
+mod forking;
 mod laying;
 mod numbers;
 mod steps;

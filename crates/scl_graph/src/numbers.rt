@@ -1,6 +1,7 @@
 ghost use Rattle.std.specs.Prelude.{◌≡◌, ◌+◌, ◌≤◌};
 ghost use Rattle.sc_graph.specs.Limits.{count_limit};
 ghost use Rattle.scl_graph.specs.Inside.Laying.{HasRoom, after, past};
+ghost use Rattle.scl_graph.specs.Inside.Forking.{HasBranchRoom, inside, past_branch};
 ghost use Rattle.std.specs.Option.{SomeIff};
 ghost use Rattle.scl_graph.specs.Counting.{AreSmall, as_branch, sum};
 
@@ -106,6 +107,30 @@ impl Numbers {
             node: self.node + 1,
             thread: self.thread,
             base: self.base,
+        }
+    }
+
+    // The numbers within a branch whose text counts this, of which the thread is the next one.
+    pub(crate) fn inside(self, counts: Counts) -> Numbers
+        requires { HasBranchRoom self counts }
+        ensures { result ≡ inside self counts }
+    {
+        Numbers {
+            node: self.base,
+            thread: self.thread + 1,
+            base: self.base + counts.nodes + 1,
+        }
+    }
+
+    // The numbers behind such a branch.
+    pub(crate) fn past_branch(self, counts: Counts) -> Numbers
+        requires { HasBranchRoom self counts }
+        ensures { result ≡ past_branch self counts }
+    {
+        Numbers {
+            node: self.node,
+            thread: self.thread + counts.threads + 1,
+            base: self.base + counts.nodes + 1 + counts.lower,
         }
     }
 }
