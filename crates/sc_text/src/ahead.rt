@@ -81,7 +81,9 @@ pub fn word_follows(tokens: &[Token], word: Word) -> bool
 /// The tokens behind the next one, which has to be this sign. Err: it is not.
 #[tactic(auto, using(crate::proofs::Steps::one_fails, crate::proofs::Steps::one_taken))]
 pub fn past_sign<'a>(tokens: &'a [Token], end: usize, sign: Sign) -> Result<&'a [Token], ReadFault>
-    ensures { MatchResult result (λ rest. Takes (read (one {L = text_tokens} (TheSign sign ∷ [])) tokens.now) rest.now) (λ fault. Stops end (read (one {L = text_tokens} (TheSign sign ∷ [])) tokens.now) fault) }
+    ensures { MatchResult result
+        (λ rest. Takes (read (one {L = text_tokens} (TheSign sign ∷ [])) tokens.now) rest.now)
+        (λ fault. Stops end (read (one {L = text_tokens} (TheSign sign ∷ [])) tokens.now) fault) }
 {
     if !sign_follows(tokens, sign) {
         return Err(wrong(tokens, end));

@@ -30,7 +30,9 @@ pub fn expression<'a>(
     end: usize,
     code: &mut Items<TextOperation>,
 ) -> Result<&'a [Token], ReadFault>
-    ensures { MatchResult result (λ rest. Reads (read (expression 0) tokens.now) code.old code.new rest.now) (λ fault. Stops end (read (expression 0) tokens.now) fault) }
+    ensures { MatchResult result
+        (λ rest. Reads (read (expression 0) tokens.now) code.old code.new rest.now)
+        (λ fault. Stops end (read (expression 0) tokens.now) fault) }
 {
     let rest = chain(Level::Disjunction, OPEN_LIMIT, tokens, end, code)?;
     Ok(rest)
@@ -46,7 +48,9 @@ fn chain<'a>(
     end: usize,
     code: &mut Items<TextOperation>,
 ) -> Result<&'a [Token], ReadFault>
-    ensures { MatchResult result (λ rest. Reads (read (whole level (within depth)) tokens.now) code.old code.new rest.now) (λ fault. Stops end (read (whole level (within depth)) tokens.now) fault) }
+    ensures { MatchResult result
+        (λ rest. Reads (read (whole level (within depth)) tokens.now) code.old code.new rest.now)
+        (λ fault. Stops end (read (whole level (within depth)) tokens.now) fault) }
 {
     let mut rest = operand(level, depth, tokens, end, code)?;
     let most = rest.len();
@@ -67,7 +71,9 @@ fn operand<'a>(
     end: usize,
     code: &mut Items<TextOperation>,
 ) -> Result<&'a [Token], ReadFault>
-    ensures { MatchResult result (λ rest. Reads (read (operand level (within depth)) tokens.now) code.old code.new rest.now) (λ fault. Stops end (read (operand level (within depth)) tokens.now) fault) }
+    ensures { MatchResult result
+        (λ rest. Reads (read (operand level (within depth)) tokens.now) code.old code.new rest.now)
+        (λ fault. Stops end (read (operand level (within depth)) tokens.now) fault) }
 {
     let rest = match level {
         Level::Disjunction => chain(Level::Conjunction, depth, tokens, end, code)?,
@@ -88,7 +94,9 @@ fn right<'a>(
     end: usize,
     code: &mut Items<TextOperation>,
 ) -> Result<&'a [Token], ReadFault>
-    ensures { MatchResult result (λ rest. Reads (read (behind_operand level (within depth)) tokens.now) code.old code.new rest.now) (λ fault. Stops end (read (behind_operand level (within depth)) tokens.now) fault) }
+    ensures { MatchResult result
+        (λ rest. Reads (read (behind_operand level (within depth)) tokens.now) code.old code.new rest.now)
+        (λ fault. Stops end (read (behind_operand level (within depth)) tokens.now) fault) }
 {
     if level.divides(tokens) {
         let rest = quotient(tokens, end, code)?;
@@ -108,7 +116,9 @@ fn comparison<'a>(
     end: usize,
     code: &mut Items<TextOperation>,
 ) -> Result<&'a [Token], ReadFault>
-    ensures { MatchResult result (λ rest. Reads (read (comparison (within depth)) tokens.now) code.old code.new rest.now) (λ fault. Stops end (read (comparison (within depth)) tokens.now) fault) }
+    ensures { MatchResult result
+        (λ rest. Reads (read (comparison (within depth)) tokens.now) code.old code.new rest.now)
+        (λ fault. Stops end (read (comparison (within depth)) tokens.now) fault) }
 {
     let rest = chain(Level::Sum, depth, tokens, end, code)?;
     if !compares(rest) {
@@ -128,7 +138,9 @@ fn negation<'a>(
     end: usize,
     code: &mut Items<TextOperation>,
 ) -> Result<&'a [Token], ReadFault>
-    ensures { MatchResult result (λ rest. Reads (read (negation (within depth)) tokens.now) code.old code.new rest.now) (λ fault. Stops end (read (negation (within depth)) tokens.now) fault) }
+    ensures { MatchResult result
+        (λ rest. Reads (read (negation (within depth)) tokens.now) code.old code.new rest.now)
+        (λ fault. Stops end (read (negation (within depth)) tokens.now) fault) }
 {
     if !word_follows(tokens, Word::Not) {
         let rest = comparison(depth, tokens, end, code)?;
@@ -150,7 +162,9 @@ fn unary<'a>(
     end: usize,
     code: &mut Items<TextOperation>,
 ) -> Result<&'a [Token], ReadFault>
-    ensures { MatchResult result (λ rest. Reads (read (unary (within depth)) tokens.now) code.old code.new rest.now) (λ fault. Stops end (read (unary (within depth)) tokens.now) fault) }
+    ensures { MatchResult result
+        (λ rest. Reads (read (unary (within depth)) tokens.now) code.old code.new rest.now)
+        (λ fault. Stops end (read (unary (within depth)) tokens.now) fault) }
 {
     if !sign_follows(tokens, Sign::Minus) {
         let rest = atom(depth, tokens, end, code)?;
@@ -172,7 +186,9 @@ fn atom<'a>(
     end: usize,
     code: &mut Items<TextOperation>,
 ) -> Result<&'a [Token], ReadFault>
-    ensures { MatchResult result (λ rest. Reads (read (atom (within depth)) tokens.now) code.old code.new rest.now) (λ fault. Stops end (read (atom (within depth)) tokens.now) fault) }
+    ensures { MatchResult result
+        (λ rest. Reads (read (atom (within depth)) tokens.now) code.old code.new rest.now)
+        (λ fault. Stops end (read (atom (within depth)) tokens.now) fault) }
 {
     if depth == 0 {
         if encloses(tokens) {
@@ -203,7 +219,9 @@ fn closed<'a>(
     end: usize,
     code: &mut Items<TextOperation>,
 ) -> Result<&'a [Token], ReadFault>
-    ensures { MatchResult result (λ rest. Reads (read (before (disjunction (within depth)) (TheSign closing ∷ [])) tokens.now) code.old code.new rest.now) (λ fault. Stops end (read (before (disjunction (within depth)) (TheSign closing ∷ [])) tokens.now) fault) }
+    ensures { MatchResult result
+        (λ rest. Reads (read (before (disjunction (within depth)) (TheSign closing ∷ [])) tokens.now) code.old code.new rest.now)
+        (λ fault. Stops end (read (before (disjunction (within depth)) (TheSign closing ∷ [])) tokens.now) fault) }
 {
     let rest = chain(Level::Disjunction, depth, tokens, end, code)?;
     let after = past_sign(rest, end, closing)?;
@@ -218,7 +236,9 @@ fn call<'a>(
     end: usize,
     code: &mut Items<TextOperation>,
 ) -> Result<&'a [Token], ReadFault>
-    ensures { MatchResult result (λ rest. Reads (read (call (disjunction (within depth))) tokens.now) code.old code.new rest.now) (λ fault. Stops end (read (call (disjunction (within depth))) tokens.now) fault) }
+    ensures { MatchResult result
+        (λ rest. Reads (read (call (disjunction (within depth))) tokens.now) code.old code.new rest.now)
+        (λ fault. Stops end (read (call (disjunction (within depth))) tokens.now) fault) }
 {
     let (operator, rest) = function(tokens, end)?;
     let inside = past_sign(rest, end, Sign::OpenParenthesis)?;

@@ -41,7 +41,9 @@ pub fn operator(
     tokens: &[Token],
     end: usize,
 ) -> Result<(BinaryOperator, &[Token]), ReadFault>
-    ensures { MatchResult result (λ p. TakesOperator (read (one {L = text_tokens} (operators level)) tokens.now) p.0 p.1.now) (λ fault. Stops end (read (one {L = text_tokens} (operators level)) tokens.now) fault) }
+    ensures { MatchResult result
+        (λ p. TakesOperator (read (one {L = text_tokens} (operators level)) tokens.now) p.0 p.1.now)
+        (λ fault. Stops end (read (one {L = text_tokens} (operators level)) tokens.now) fault) }
 {
     if !level.has_next(tokens) {
         return Err(wrong(tokens, end));
@@ -55,7 +57,9 @@ pub fn operator(
 /// The comparison that is next, and the tokens behind it. Err: none is next.
 #[tactic(auto, using(crate::proofs::Steps::one_fails))]
 pub fn comparator(tokens: &[Token], end: usize) -> Result<(BinaryOperator, &[Token]), ReadFault>
-    ensures { MatchResult result (λ p. TakesOperator (read (one {L = text_tokens} comparisons) tokens.now) p.0 p.1.now) (λ fault. Stops end (read (one {L = text_tokens} comparisons) tokens.now) fault) }
+    ensures { MatchResult result
+        (λ p. TakesOperator (read (one {L = text_tokens} comparisons) tokens.now) p.0 p.1.now)
+        (λ fault. Stops end (read (one {L = text_tokens} comparisons) tokens.now) fault) }
 {
     if !compares(tokens) {
         return Err(wrong(tokens, end));
@@ -69,7 +73,9 @@ pub fn comparator(tokens: &[Token], end: usize) -> Result<(BinaryOperator, &[Tok
 /// The function that is called next, and the tokens behind it. Err: none is next.
 #[tactic(auto, using(crate::proofs::Steps::one_fails))]
 pub fn function(tokens: &[Token], end: usize) -> Result<(BinaryOperator, &[Token]), ReadFault>
-    ensures { MatchResult result (λ p. TakesOperator (read (one {L = text_tokens} calls) tokens.now) p.0 p.1.now) (λ fault. Stops end (read (one {L = text_tokens} calls) tokens.now) fault) }
+    ensures { MatchResult result
+        (λ p. TakesOperator (read (one {L = text_tokens} calls) tokens.now) p.0 p.1.now)
+        (λ fault. Stops end (read (one {L = text_tokens} calls) tokens.now) fault) }
 {
     if !calls(tokens) {
         return Err(wrong(tokens, end));
@@ -87,7 +93,9 @@ pub fn leaf<'a>(
     end: usize,
     code: &mut Items<TextOperation>,
 ) -> Result<&'a [Token], ReadFault>
-    ensures { MatchResult result (λ rest. Reads (read leaf tokens.now) code.old code.new rest.now) (λ fault. Stops end (read leaf tokens.now) fault) }
+    ensures { MatchResult result
+        (λ rest. Reads (read leaf tokens.now) code.old code.new rest.now)
+        (λ fault. Stops end (read leaf tokens.now) fault) }
 {
     if !leaf_follows(tokens) {
         return Err(wrong(tokens, end));
@@ -149,7 +157,9 @@ pub fn quotient<'a>(
     end: usize,
     code: &mut Items<TextOperation>,
 ) -> Result<&'a [Token], ReadFault>
-    ensures { MatchResult result (λ rest. Reads (read quotient tokens.now) code.old code.new rest.now) (λ fault. Stops end (read quotient tokens.now) fault) }
+    ensures { MatchResult result
+        (λ rest. Reads (read quotient tokens.now) code.old code.new rest.now)
+        (λ fault. Stops end (read quotient tokens.now) fault) }
 {
     if !divides(tokens) {
         return Err(wrong(tokens, end));
@@ -166,7 +176,9 @@ pub fn quotient<'a>(
 
 #[tactic(auto, using(crate::proofs::Steps::minus_stops, crate::proofs::Steps::minus_takes, crate::proofs::Steps::plain_stops, crate::proofs::Steps::plain_takes))]
 fn divisor(tokens: &[Token], end: usize) -> Result<(Divisor, &[Token]), ReadFault>
-    ensures { MatchResult result (λ p. TakesDivisor (read divisor tokens.now) p.0 p.1.now) (λ fault. Stops end (read divisor tokens.now) fault) }
+    ensures { MatchResult result
+        (λ p. TakesDivisor (read divisor tokens.now) p.0 p.1.now)
+        (λ fault. Stops end (read divisor tokens.now) fault) }
 {
     if sign_follows(tokens, Sign::Minus) {
         let (divisor, rest) = number_above_zero(behind(tokens), end, true)?;
@@ -183,7 +195,9 @@ fn number_above_zero(
     end: usize,
     negative: bool,
 ) -> Result<(Divisor, &[Token]), ReadFault>
-    ensures { MatchResult result (λ p. TakesNumber (read (one {L = text_tokens} (Number ∷ [])) tokens.now) negative p.0 p.1.now) (λ fault. Stops end (read (one {L = text_tokens} (Number ∷ [])) tokens.now) fault) }
+    ensures { MatchResult result
+        (λ p. TakesNumber (read (one {L = text_tokens} (Number ∷ [])) tokens.now) negative p.0 p.1.now)
+        (λ fault. Stops end (read (one {L = text_tokens} (Number ∷ [])) tokens.now) fault) }
 {
     match tokens {
         [] => Err(wrong(tokens, end)),
