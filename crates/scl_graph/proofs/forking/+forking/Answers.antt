@@ -1,4 +1,4 @@
-use Rattle.std.proofs.Common.{◌≡◌, ℕ, suc, ◌+◌, Some, List, [], ◌∷◌, drop, refl, ap, sym, subst, ◌∙◌}
+use Rattle.std.proofs.Common.{◌≡◌, ℕ, ◌+◌, Some, List, [], ◌∷◌, drop, ap, sym, subst, ◌∙◌}
 use Rattle.std.proofs.lemmas.List.{drop_all}
 use Rattle.sc_graph.specs.declared.program.Node.{Node}
 use Rattle.sc_graph.specs.declared.program.Thread.{Thread}
@@ -9,7 +9,7 @@ use Rattle.scl_graph.specs.Counting.{counts_of, counts_of_all}
 use Rattle.scl_graph.specs.Inside.Laying.{HasRoom, after, past}
 use Rattle.scl_graph.specs.Inside.Forking.{AreBranchesLaid, AreForkedLaid, HasBranchesRoom, IsThreadLaid, inside, past_branch}
 use Rattle.scl_graph.proofs.Laid.{ok_then, room_more, split_at}
-use Rattle.scl_graph.proofs.Branching.{branches_more, branches_none, fork_room, further_room, forked_fork, forked_if, forked_more, forked_none}
+use Rattle.scl_graph.proofs.Branching.{branches_more, fork_room, further_room, forked_fork, forked_if, forked_more, forked_none}
 use Rattle.scl_graph.proofs.forking.+forking.Goals as goal
 
 pub lay_forked-loop-statement-init : goal.lay_forked-loop-statement-init
