@@ -1,21 +1,14 @@
 -- The rules of SCL and its limits: what a program keeps beside its grammar.
-use Rattle.std.specs.Prelude.{ℕ, suc, ◌≡◌, ◌≢◌, ◌≤◌, Bool, false, not, ◌||◌, Some, negsuc, List, [], ◌∷◌, ◌++◌, length, map, max, slice_get, count_by}
-use Rattle.std.specs.List.{IsDistinct, filter}
+use Rattle.std.specs.Prelude.{ℕ, suc, ◌≡◌, ◌≢◌, ◌≤◌, Bool, false, not, ◌||◌, IsTrue, Some, List, [], ◌∷◌, ◌++◌, length, map, max, slice_get}
+use Rattle.std.specs.List.{filter}
 use Rattle.std.specs.Str.{bytes_eq}
 use Rattle.sc_values.specs.declared.expression.Expr.{Expr}
-use Rattle.sc_values.specs.declared.operation.Operation.{Operation}
-use Rattle.sc_values.specs.declared.operation.Operation.TheVariants as op
-use Rattle.sc_values.specs.declared.operator.UnaryOperator.TheVariants as unary
-use Rattle.sc_values.specs.declared.value.Value.TheVariants as value
-use Rattle.sc_values.specs.declared.value.Kind.{Kind}
 use Rattle.sc_values.specs.declared.value.Kind.TheVariants as kind_is
-use Rattle.sc_values.specs.Expr.{kind, postorder}
-use Rattle.sc_values.specs.Code.{IsWithinLimits}
 use Rattle.sc_graph.specs.declared.program.Variable.{Variable}
 use Rattle.sc_graph.specs.declared.program.Role.TheVariants as role
-use Rattle.sc_graph.specs.Limits.{variable_limit, output_limit, child_limit, ancestor_limit}
-use Rattle.sc_graph.specs.Size.{is_output}
-use Rattle.sc_text.specs.Tokens.{IsReserved}
+use Rattle.sc_graph.specs.Limits.{child_limit, ancestor_limit}
+use Rattle.sc_text.specs.declared.language.Language.TheVariants as language
+use Rattle.sc_text.specs.Parts.{IsNameIn, IsExpression, AreVariables, are_distinct}
 use Rattle.scl.specs.declared.statement.Statement.{Statement}
 use Rattle.scl.specs.declared.statement.Statement.TheOpen.{Statement-F}
 use Rattle.scl.specs.declared.statement.Statement.TheOpen as text
@@ -29,25 +22,12 @@ fork_limit = ancestor_limit
 abbrev pub if_limit : ℕ
 if_limit = 32
 
--- what a text writes: a number has no sign, and that of a divisor is at most 2147483647
-abbrev pub IsWritten : Operation → Type 0
-IsWritten (op.Literal (value.Int (negsuc n))) = ⊥
-IsWritten (op.Unary (unary.Divide d)) = d.number ≢ negsuc 2147483647
-IsWritten (op.Unary (unary.Remainder d)) = d.number ≢ negsuc 2147483647
-IsWritten o = Unit {0}
-
--- an expression of this kind
-pub record IsExpression (variables : List Variable) (k : Kind) (e : Expr) : Type 0 where
-  pub kinded : kind e (map (λ x. x.kind) variables) ≡ Some k
-  pub within : IsWithinLimits (postorder e)
-  pub written : (n : ℕ) (o : Operation) → slice_get (postorder e) n ≡ Some o → IsWritten o
-
 -- the variable is there and no input, and becomes a value of its kind
 pub record IsAssignment (variables : List Variable) (x : ℕ) (e : Expr) : Type 0 where
   pub variable : Variable
   pub is_there : slice_get variables x ≡ Some variable
   pub no_input : variable.role ≢ role.Input
-  pub becomes : IsExpression variables variable.kind e
+  pub becomes : IsExpression (map (λ v. v.kind) variables) variable.kind e
 
 -- what a piece of a thread's text holds
 pub record Part : Type 0 where
@@ -137,25 +117,18 @@ parts_of (s ∷ statements) = part_of s ∷ parts_of statements
 abbrev pub root : List Statement → Part
 root body = thread (in_row (parts_of body))
 
--- variables that a text may declare
-pub record AreDeclared (variables : List Variable) : Type 0 where
-  pub count : length variables ≤ variable_limit
-  pub outputs : count_by (λ x. is_output x.role) variables ≤ output_limit
-  pub free : (n : ℕ) (x : Variable) → slice_get variables n ≡ Some x → ¬ IsReserved x.name
-  pub distinct : IsDistinct bytes_eq (map (λ x. x.name) variables)
-
 pub record KeepsBody (variables : List Variable) (all : Part) : Type 0 where
   pub assignments : (n x : ℕ) (e : Expr) → slice_get all.assigned n ≡ Some (x, e) → IsAssignment variables x e
-  pub tests : (n : ℕ) (e : Expr) → slice_get all.tests n ≡ Some e → IsExpression variables kind_is.Bool e
+  pub tests : (n : ℕ) (e : Expr) → slice_get all.tests n ≡ Some e → IsExpression (map (λ v. v.kind) variables) kind_is.Bool e
   -- no label stands twice, and each goto names one of its own thread
-  pub distinct : IsDistinct bytes_eq all.lower
-  pub free : (n : ℕ) (name : List ℕ) → slice_get all.lower n ≡ Some name → ¬ IsReserved name
+  pub distinct : IsTrue (are_distinct all.lower)
+  pub named : (n : ℕ) (name : List ℕ) → slice_get all.lower n ≡ Some name → IsNameIn language.Scl name
   pub found : all.lost ≡ []
   pub branches : (n count : ℕ) → slice_get all.forks n ≡ Some count → (1 ≤ count) × (count ≤ child_limit)
   pub forks : all.depth ≤ fork_limit
   pub ifs : all.lower_ifs ≤ if_limit
 
 pub record KeepsRules (name : List ℕ) (variables : List Variable) (body : List Statement) : Type 0 where
-  pub free : ¬ IsReserved name
-  pub declared : AreDeclared variables
+  pub named : IsNameIn language.Scl name
+  pub declared : AreVariables language.Scl variables
   pub text : KeepsBody variables (root body)
