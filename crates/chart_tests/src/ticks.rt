@@ -241,7 +241,7 @@ fn weak_abort_waits_for_the_inside(rt: HostRuntime) -> Result<(), Fail> {
     let chart = aborted(alloc, TransitionKind::Weak)?;
     let other = other_tick(alloc, &chart, &[1, 2], 2, &WEAK)?;
     let ended = other_tick(alloc, &chart, &[1, 2], 2, &ENDED)?;
-    assert_eq!(rt; other + ended, 0);
+    assert_eq!(rt; (other, ended), (0, 0));
     Ok(())
 }
 
