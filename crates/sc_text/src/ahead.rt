@@ -1,4 +1,4 @@
-//! The tokens that are still to be read.
+//! The tokens that are still to be read, for the readers of both languages. The tokens are of a text of `end` bytes.
 
 ghost use Rattle.std.specs.Prelude.{◌≡◌, [], ◌∷◌, MatchResult, drop};
 ghost use Rattle.grammar.specs.Grammar.{one};
@@ -86,6 +86,19 @@ pub fn past_sign<'a>(tokens: &'a [Token], end: usize, sign: Sign) -> Result<&'a 
         (λ fault. Stops end (read (one {L = text_tokens} (TheSign sign ∷ [])) tokens.now) fault) }
 {
     if !sign_follows(tokens, sign) {
+        return Err(wrong(tokens, end));
+    }
+    Ok(behind(tokens))
+}
+
+/// The tokens behind the next one, which has to be this word. Err: it is not.
+#[tactic(auto, using(crate::proofs::Steps::one_fails, crate::proofs::Steps::one_taken))]
+pub fn past_word<'a>(tokens: &'a [Token], end: usize, word: Word) -> Result<&'a [Token], ReadFault>
+    ensures { MatchResult result
+        (λ rest. Takes (read (one {L = text_tokens} (TheWord word ∷ [])) tokens.now) rest.now)
+        (λ fault. Stops end (read (one {L = text_tokens} (TheWord word ∷ [])) tokens.now) fault) }
+{
+    if !word_follows(tokens, word) {
         return Err(wrong(tokens, end));
     }
     Ok(behind(tokens))

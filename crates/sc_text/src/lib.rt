@@ -1,7 +1,7 @@
 //! The tokens of chart text and of SCL text, with their places, and the faults of readers.
 #![tactic(auto)]
 
-mod ahead;
+pub mod ahead;
 mod expressions;
 mod language;
 mod laws;
