@@ -98,10 +98,11 @@ pub fn past_word<'a>(tokens: &'a [Token], end: usize, word: Word) -> Result<&'a 
         (λ rest. Takes (read (one {L = text_tokens} (TheWord word ∷ [])) tokens.now) rest.now)
         (λ fault. Stops end (read (one {L = text_tokens} (TheWord word ∷ [])) tokens.now) fault) }
 {
-    if !word_follows(tokens, word) {
-        return Err(wrong(tokens, end));
+    if word_follows(tokens, word) {
+        Ok(behind(tokens))
+    } else {
+        Err(wrong(tokens, end))
     }
-    Ok(behind(tokens))
 }
 
 /// The tokens behind the next one.
