@@ -1,12 +1,14 @@
 -- Where the candidates do not conflict, no two nodes do.
 use Rattle.std.proofs.Common.{ℕ, zero, suc, ◌≡◌, ◌≢◌, ◌<◌, ◌≤◌, ◌+◌, ◌⊎◌, inl, inr, Bool, true, false, Option, Some, None, List, [], ◌∷◌, ◌++◌, length, slice_index, refl, sym, ◌∙◌, subst, ap, arith, ⊎_elim}
 use Rattle.std.specs.Prelude.{Contains}
+use Rattle.std.proofs.lemmas.Bool.{cases_Bool}
 use Rattle.std.proofs.lemmas.List.Elements.{Contains-append_left, Contains-push, Contains-push_cases, Contains-get_or}
 use Rattle.sc_values.specs.declared.value.Value.{Value}
 use Rattle.sc_values.specs.declared.operator.Combination.{Combination}
 use Rattle.sc_values.specs.declared.operator.Combination.TheVariants as combine
 use Rattle.sc_values.specs.Access.{Access, Writing, Init, Inits, Clash, two_inits, two_updates, same_value, same_literal, one_literal}
-use Rattle.sc_values.proofs.Literals.{value_from_same, one_literal_turned}
+use Rattle.sc_values.proofs.Literals.{value_from_same, clash_turned}
+use Rattle.sc_values.proofs.Merge.{one_combination}
 use Rattle.sc_graph.specs.Program.{Program, owner_of}
 use Rattle.sc_graph.specs.Threads.{ConcurrentNodes, AreConcurrent}
 use Rattle.sc_graph.specs.Accesses.{accesses}
@@ -15,11 +17,6 @@ use Rattle.sc_graph.proofs.Formed.{concurrent_swapped, never_own}
 use Rattle.variable_users.specs.Users.{InitsAt, UpdatesAt, Lists, NoneConflict}
 use Rattle.conflict_edges.specs.Inside.Candidates.{AreAlike, SameThread, IsCovered, by_one, by_two, IsKept, added, left_out, Disagree, IsStoodFor, StandFor}
 use Rattle.variable_users.proofs.Variables.{of_each}
-
--- a clash is one the other way round
-clash_turned : (a b : Access) → Clash a b → Clash b a
-clash_turned a b (two_inits x i j apart) = two_inits x j i (one_literal_turned b.writes a.writes ∙ apart)
-clash_turned a b (two_updates x f g u v ne) = two_updates x g f v u (λ e. ne (sym e))
 
 concurrent_turned : (p : Program) (m n : ℕ) → ConcurrentNodes p m n → ConcurrentNodes p n m
 concurrent_turned p m n c = record { first = c.second; second = c.first; first_owner = c.second_owner; second_owner = c.first_owner; concurrent = concurrent_swapped p c.first c.second c.concurrent }
@@ -38,15 +35,11 @@ same_through (Some v) (Some u) None a b = b
 same_through (Some v) None w a b = absurd (cc)
 same_through None u w a b = absurd (cc)
 
-true_or_false : (b : Bool) → (b ≡ true) ⊎ (b ≡ false)
-true_or_false true = inl refl
-true_or_false false = inr refl
-
 -- of two literals that are not one, one is not one with a third
 unlike_third : (v u w : Option Value) → same_literal v w ≡ false → (same_literal v u ≡ false) ⊎ (same_literal u w ≡ false)
-unlike_third v u w apart = elim (true_or_false (same_literal v u)) [
+unlike_third v u w apart = elim (cases_Bool (same_literal v u)) [
   | inr no_first ↦ inl no_first
-  | inl first ↦ elim (true_or_false (same_literal u w)) [
+  | inl first ↦ elim (cases_Bool (same_literal u w)) [
     | inr no_second ↦ inr no_second
     | inl second ↦ absurd (let e = same_through v u w first second in cc)
   ]
@@ -73,39 +66,6 @@ inits_alike p x nodes l = record { apart = λ k m n ck cm cn clash. third k m n 
     third : (k m n : ℕ) → InitsAt p x k → InitsAt p x m → InitsAt p x n → Clash (accesses p k) (accesses p n) → Clash (accesses p k) (accesses p m) ⊎ Clash (accesses p m) (accesses p n)
     third k m n ik im in' (two_inits y i j apart) = init_third (accesses p k) (accesses p m) (accesses p n) x ik im in' apart
     third k m n ik im in' (two_updates y f g u v ne) = absurd (let e = ik.1 in cc)
-
-same_or_not : (a b : ℕ) → (a ≡ b) ⊎ (a ≢ b)
-same_or_not a b = grind arith
-
-number_of : Combination → ℕ
-number_of combine.Add = 0
-number_of combine.Multiply = 1
-number_of combine.Min = 2
-number_of combine.Max = 3
-number_of combine.And = 4
-number_of combine.Or = 5
-
-of_number : ℕ → Combination
-of_number zero = combine.Add
-of_number (suc zero) = combine.Multiply
-of_number (suc (suc zero)) = combine.Min
-of_number (suc (suc (suc zero))) = combine.Max
-of_number (suc (suc (suc (suc zero)))) = combine.And
-of_number other = combine.Or
-
-number_back : (f : Combination) → of_number (number_of f) ≡ f
-unfolding of_number number_of
-number_back combine.Add = refl
-number_back combine.Multiply = refl
-number_back combine.Min = refl
-number_back combine.Max = refl
-number_back combine.And = refl
-number_back combine.Or = refl
-
-one_combination : (f g : Combination) → (f ≡ g) ⊎ (f ≢ g)
-one_combination f g =
-    ⊎_elim (λ same. inl (sym (number_back f) ∙ (ap of_number same ∙ number_back g))) (λ differ. inr (λ e. differ (ap number_of e)))
-    (same_or_not (number_of f) (number_of g))
 
 pub updates_alike : (p : Program) (x : ℕ) (nodes : List ℕ) → Lists nodes (UpdatesAt p x) → AreAlike p nodes
 updates_alike p x nodes l = record { apart = λ k m n ck cm cn clash. third k m n (l.only k ck) (l.only m cm) (l.only n cn) clash }

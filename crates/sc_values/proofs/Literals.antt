@@ -6,7 +6,7 @@ use Rattle.sc_values.specs.declared.value.Value.{Value}
 use Rattle.sc_values.specs.declared.value.Value.TheVariants as value
 use Rattle.sc_values.specs.declared.operation.Operation.{Operation}
 use Rattle.sc_values.specs.declared.operation.Operation.TheVariants as op
-use Rattle.sc_values.specs.Access.{Writing, Nothing, Init, Update, same_value, same_literal, one_literal}
+use Rattle.sc_values.specs.Access.{Access, Clash, two_inits, two_updates, Writing, Nothing, Init, Update, same_value, same_literal, one_literal}
 use Rattle.sc_values.specs.Code.{literal_of, code_value}
 use Rattle.sc_values.specs.Operator.{same}
 use Rattle.sc_values.proofs.Induction.{value-literal}
@@ -86,3 +86,8 @@ literal_value [] v variables h = absurd (none-some v h)
 -- a value that a code has is its literal, if it carries one
 pub literal_is_value : (code : List Operation) (v w : Value) (variables : List Value) → code_value code variables ≡ Some v → literal_of code ≡ Some w → v ≡ w
 literal_is_value code v w variables gives is = same_Some v w (sym gives ∙ literal_value code w variables is)
+
+-- a clash is one the other way round
+pub clash_turned : (a b : Access) → Clash a b → Clash b a
+clash_turned a b (two_inits x i j apart) = two_inits x j i (one_literal_turned b.writes a.writes ∙ apart)
+clash_turned a b (two_updates x f g i j apart) = two_updates x g f j i (λ e. apart (sym e))

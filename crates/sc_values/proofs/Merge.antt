@@ -1,5 +1,6 @@
 -- An update may change places with another one by the same function, whatever the values.
-use Rattle.std.proofs.Common.{◌≡◌, ℕ, ◌+◌, ◌*◌, Some, Bool, true, false, ◌&&◌, ◌||◌, ℤ, ◌+ℤ◌, ◌*ℤ◌, refl, sym, ap, ◌∙◌, arith}
+use Rattle.std.proofs.Common.{◌≡◌, ◌≢◌, ℕ, zero, suc, ◌+◌, ◌*◌, ◌⊎◌, inl, inr, ⊎_elim, Some, Bool, true, false, ◌&&◌, ◌||◌, ℤ, ◌+ℤ◌, ◌*ℤ◌, refl, sym, ap, ◌∙◌, arith}
+use Rattle.std.proofs.lemmas.Bool.{cases_eq}
 use Rattle.std.specs.Int.{int_wrap, int_min, int_max, w32}
 use Rattle.std.proofs.lemmas.Int.{ints, int_wrap-add_left, int_wrap-mul_left}
 use Rattle.std.proofs.Math.IntN.{*ℤ_comm}
@@ -125,3 +126,34 @@ combined_kind combine.Min (value.Int v) (value.Bool a) first second = absurd cc
 combined_kind combine.Max (value.Int v) (value.Bool a) first second = absurd cc
 combined_kind combine.And (value.Bool v) (value.Int a) first second = absurd cc
 combined_kind combine.Or (value.Bool v) (value.Int a) first second = absurd cc
+
+number_of : Combination → ℕ
+number_of combine.Add = 0
+number_of combine.Multiply = 1
+number_of combine.Min = 2
+number_of combine.Max = 3
+number_of combine.And = 4
+number_of combine.Or = 5
+
+of_number : ℕ → Combination
+of_number zero = combine.Add
+of_number (suc zero) = combine.Multiply
+of_number (suc (suc zero)) = combine.Min
+of_number (suc (suc (suc zero))) = combine.Max
+of_number (suc (suc (suc (suc zero)))) = combine.And
+of_number other = combine.Or
+
+number_back : (f : Combination) → of_number (number_of f) ≡ f
+unfolding of_number number_of
+number_back combine.Add = refl
+number_back combine.Multiply = refl
+number_back combine.Min = refl
+number_back combine.Max = refl
+number_back combine.And = refl
+number_back combine.Or = refl
+
+-- two combinations are one or not
+pub one_combination : (f g : Combination) → (f ≡ g) ⊎ (f ≢ g)
+one_combination f g =
+    ⊎_elim (λ same. inl (sym (number_back f) ∙ (ap of_number same ∙ number_back g))) (λ differ. inr (λ e. differ (ap number_of e)))
+    (cases_eq (number_of f) (number_of g))

@@ -1,6 +1,7 @@
 -- Two enabled threads whose steps stand in no order and in no conflict: each step keeps the other's effect,
 -- and both orders lead to the same configuration.
 use Rattle.std.proofs.Common.{◌≡◌, ◌≢◌, ℕ, zero, suc, ◌⊎◌, Bool, true, false, List, set, Option, Some, None, slice_get, unwrap_or, option_map, option_and_then, Contains, refl, sym, ap, ap₂, subst, subst₂, ◌∙◌, inl, inr, ⊎_elim, set-set}
+use Rattle.std.proofs.lemmas.Bool.{cases_Bool}
 use Rattle.std.proofs.lemmas.List.{set_comm}
 use Rattle.std.proofs.lemmas.Option.{slice_get_within}
 use Rattle.sc_values.specs.declared.value.Value.{Value}
@@ -8,9 +9,9 @@ use Rattle.sc_values.specs.declared.operator.Combination.{Combination}
 use Rattle.sc_values.specs.declared.operator.Combination.TheVariants as combine
 use Rattle.sc_values.specs.Operator.{combined}
 use Rattle.sc_values.specs.Access.{Access, no_access, Reads, Inits, Updates, Precedes, init_update, init_read, update_read, Clash, two_inits, two_updates, one_literal}
-use Rattle.sc_values.proofs.Merge.{combined_turn}
+use Rattle.sc_values.proofs.Merge.{combined_turn, one_combination}
 use Rattle.sc_values.proofs.Loading.{code_value_same}
-use Rattle.sc_values.proofs.Literals.{one_literal_turned, literal_from_same}
+use Rattle.sc_values.proofs.Literals.{clash_turned, literal_from_same}
 use Rattle.sc_graph.specs.declared.control.Control.{Control}
 use Rattle.sc_graph.specs.declared.control.Status.TheVariants as status
 use Rattle.sc_graph.specs.declared.program.Step.{Step}
@@ -31,10 +32,6 @@ pub record Free (a b : Access) : Type 0 where
   pub not_before : ¬ Precedes a b
   pub not_after : ¬ Precedes b a
   pub no_clash : ¬ Clash a b
-
-pub clash_turned : (a b : Access) → Clash a b → Clash b a
-clash_turned a b (two_inits x h i differ) = two_inits x i h (one_literal_turned b.writes a.writes ∙ differ)
-clash_turned a b (two_updates x f g h i differ) = two_updates x g f i h (λ e. differ (sym e))
 
 pub free_turned : (a b : Access) → Free a b → Free b a
 free_turned a b free = record { not_before = free.not_after; not_after = free.not_before; no_clash = λ h. free.no_clash (clash_turned b a h) }
@@ -63,36 +60,6 @@ pub changed_other : (change : Change) (values : List Value) (k : ℕ) → ¬ IsO
 changed_other Keep values k ne = refl
 changed_other (Put x v) values k ne = get_set_other values x k v ne
 changed_other (Combine x f v) values k ne = combined_other values x f v (slice_get values x) k ne
-
-number_of : Combination → ℕ
-number_of combine.Add = 0
-number_of combine.Multiply = 1
-number_of combine.Min = 2
-number_of combine.Max = 3
-number_of combine.And = 4
-number_of combine.Or = 5
-
-of_number : ℕ → Combination
-of_number zero = combine.Add
-of_number (suc zero) = combine.Multiply
-of_number (suc (suc zero)) = combine.Min
-of_number (suc (suc (suc zero))) = combine.Max
-of_number (suc (suc (suc (suc zero)))) = combine.And
-of_number other = combine.Or
-
-number_back : (f : Combination) → of_number (number_of f) ≡ f
-unfolding of_number number_of
-number_back combine.Add = refl
-number_back combine.Multiply = refl
-number_back combine.Min = refl
-number_back combine.Max = refl
-number_back combine.And = refl
-number_back combine.Or = refl
-
-one_combination : (f g : Combination) → (f ≡ g) ⊎ (f ≢ g)
-one_combination f g =
-    ⊎_elim (λ same. inl (sym (number_back f) ∙ (ap of_number same ∙ number_back g))) (λ differ. inr (λ e. differ (ap number_of e)))
-    (same_or_not (number_of f) (number_of g))
 
 put_combined : (values : List Value) (x : ℕ) (v : Value) (y : ℕ) (f : Combination) (w : Value) (o : Option Value) → x ≢ y →
     set (combined_at values y f w o) x v ≡ combined_at (set values x v) y f w o
@@ -137,10 +104,6 @@ one_combined values x f v w =
     combined_twice values x f v w (slice_get values x) refl
     ∙ (either_first values x f v w (slice_get values x) ∙ sym (combined_twice values x f w v (slice_get values x) refl))
 
-true_or_false : (b : Bool) → (b ≡ true) ⊎ (b ≡ false)
-true_or_false true = inl refl
-true_or_false false = inr refl
-
 -- inits by one literal write one value
 one_value : (a b : Access) (x : ℕ) (v : Value) (y : ℕ) (w : Value) → InitsBy a x v → InitsBy b y w → one_literal a.writes b.writes ≡ true → v ≡ w
 one_value a b x v y w by_a by_b one =
@@ -158,7 +121,7 @@ module _ (a b : Access) (free : Free a b) (values : List Value) where
       at_one same =
           ⊎_elim (λ one. by_one same (one_value a b x v y w by_a by_b one))
           (λ other. absurd (free.no_clash (two_inits x (inits by_a) (subst (Inits b) (sym same) (inits by_b)) other)))
-          (true_or_false (one_literal a.writes b.writes))
+          (cases_Bool (one_literal a.writes b.writes))
 
   put_combine : (x : ℕ) (v : Value) (y : ℕ) (g : Combination) (w : Value) → InitsBy a x v → Updates b y g →
       changed (Put x v) (changed (Combine y g w) values) ≡ changed (Combine y g w) (changed (Put x v) values)

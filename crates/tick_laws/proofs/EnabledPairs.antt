@@ -17,7 +17,7 @@ use Rattle.sc_graph.specs.Valid.{IsValid}
 use Rattle.tick_laws.proofs.Formed.{valid_formed}
 use Rattle.tick_laws.proofs.Kin.{apart_turned, enabled_meet}
 use Rattle.tick_laws.proofs.Tree.{not_self_apart}
-use Rattle.tick_laws.proofs.Diamond.{clash_turned}
+use Rattle.sc_values.proofs.Literals.{clash_turned}
 use Rattle.tick_laws.proofs.Views.{Enabled, stands, completes}
 use Rattle.tick_laws.proofs.Sound.{node_owned, waits_owned}
 
