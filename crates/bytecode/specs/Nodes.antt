@@ -32,4 +32,5 @@ step_bytes (step.Depth next) = 7 ∷ u16_bytes next
 -- a node: its owner, its priority, its weight, its end bit and its step
 unfoldable pub node_bytes : NodeRow → List ℕ
 node_bytes n =
-    u16_bytes n.node.owner ++ u16_bytes n.priority ++ u16_bytes n.weight ++ flag_number n.end_bit ∷ step_bytes n.node.step
+    u16_bytes n.node.owner ++ u16_bytes n.priority ++ u16_bytes n.weight
+        ++ flag_number n.end_bit ∷ step_bytes n.node.step

@@ -26,7 +26,8 @@ pub(crate) fn find_conflict(
     requires formed { IsFormed program.now }
     requires threads { threads.now ≡ program.now }
     requires users { UsersOf program.now users.now }
-    ensures { IfOk result (λ found. MatchOption found (HasNoConflict program.now) (λ s. WriteConflict program.now s.0 s.1)) }
+    ensures { IfOk result (λ found. MatchOption found (HasNoConflict program.now)
+        (λ s. WriteConflict program.now s.0 s.1)) }
 {
     for x in 0..program.variable_count() {
         let inits = users.inits.of(x);
@@ -52,7 +53,8 @@ fn conflict_over(
     requires threads { threads.now ≡ program.now }
     requires inits { Lists inits.now (InitsAt program.now x) }
     requires updates { Lists updates.now (UpdatesAt program.now x) }
-    ensures { IfOk result (λ found. MatchOption found (NoConflictOn program.now x) (λ s. WriteConflict program.now s.0 s.1)) }
+    ensures { IfOk result (λ found. MatchOption found (NoConflictOn program.now x)
+        (λ s. WriteConflict program.now s.0 s.1)) }
 {
     match conflict_in(alloc, program, threads, inits)? {
         Some(pair) => return Ok(Some(pair)),
@@ -74,7 +76,8 @@ fn conflict_in(
     requires formed { IsFormed program.now }
     requires threads { threads.now ≡ program.now }
     requires alike { AreAlike program.now nodes.now }
-    ensures { IfOk result (λ found. MatchOption found (NoneConflict program.now nodes.now) (λ s. WriteConflict program.now s.0 s.1)) }
+    ensures { IfOk result (λ found. MatchOption found (NoneConflict program.now nodes.now)
+        (λ s. WriteConflict program.now s.0 s.1)) }
 {
     let few = candidates(alloc, program, nodes)?;
     match conflict_among(program, threads, few.as_slice()) {
@@ -108,7 +111,8 @@ fn conflict_with(
     nodes: &[NodeId],
 ) -> Option<NodeId>
     requires { threads.now ≡ program.now }
-    ensures { MatchOption result ((n : ℕ) → Contains nodes.now n → ¬ WriteConflict program.now m n) (WriteConflict program.now m) }
+    ensures { MatchOption result ((n : ℕ) → Contains nodes.now n → ¬ WriteConflict program.now m n)
+        (WriteConflict program.now m) }
 {
     for n in nodes {
         if is_conflict(program, threads, m, *n) {

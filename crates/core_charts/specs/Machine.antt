@@ -41,7 +41,8 @@ guarded_first s (t ∷ strong) closing = at.Guarding s (t ∷ strong)
 -- a simple state tests all its transitions, a superstate all its aborts
 abbrev pub woken : Table → Standing → Standing
 woken k (at.Trying s tests) = at.Trying s (state_at k s).transitions
-woken k (at.Within s tests) = guarded_first s (strong_aborts (state_at k s).transitions) (closing_tests (state_at k s).transitions)
+woken k (at.Within s tests) = guarded_first s (strong_aborts (state_at k s).transitions)
+    (closing_tests (state_at k s).transitions)
 woken k other = other
 
 abbrev pub is_outside : Standing → Bool

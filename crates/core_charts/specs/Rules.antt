@@ -76,7 +76,8 @@ fits_state is_superstate other = is_superstate
 
 -- a transition of a state, simple or not, of a region with this many states. A termination is tested with nothing
 -- but the end of all regions
-pub record IsTransition (f : Features) (variables : List Variable) (states : ℕ) (is_superstate : Bool) (t : Transition) : Type 0 where
+pub record IsTransition (f : Features) (variables : List Variable) (states : ℕ) (is_superstate : Bool)
+    (t : Transition) : Type 0 where
   pub allowed : IsTrue (allows f t.kind)
   pub fits : IsTrue (fits_state is_superstate t.kind)
   pub plain_join : t.kind ≡ kind.Join → (t.immediate ≡ false) × (t.trigger ≡ None)
@@ -94,7 +95,8 @@ abbrev pub IsBareIfFinal : State → Type 0
 IsBareIfFinal s = (out-State s).is_final ≡ true → ((out-State s).regions ≡ []) × ((out-State s).transitions ≡ [])
 
 -- a state of a region with this many states, whose own regions keep their rules
-pub record IsState (f : Features) (variables : List Variable) (AreInside : List Region → Type 0) (states : ℕ) (s : State) : Type 0 where
+pub record IsState (f : Features) (variables : List Variable) (AreInside : List Region → Type 0) (states : ℕ)
+    (s : State) : Type 0 where
   pub named : IsNameIn (language f) (out-State s).name
   pub bare : IsBareIfFinal s
   pub regions : AreInside (out-State s).regions
@@ -104,7 +106,8 @@ pub record IsState (f : Features) (variables : List Variable) (AreInside : List 
       IsTransition f variables states (has_regions (out-State s).regions) t
 
 -- a region, of whose states the own regions keep their rules: exactly one of its states is initial
-pub record IsRegion (f : Features) (variables : List Variable) (AreInside : List Region → Type 0) (r : Region) : Type 0 where
+pub record IsRegion (f : Features) (variables : List Variable) (AreInside : List Region → Type 0)
+    (r : Region) : Type 0 where
   pub named : IsNameIn (language f) (out-Region r).name
   pub state_count : IsWithin (state_limit f) (length (out-Region r).states)
   pub one_initial : count_by (λ s. (out-State s).is_initial) (out-Region r).states ≡ 1
@@ -113,7 +116,8 @@ pub record IsRegion (f : Features) (variables : List Variable) (AreInside : List
       IsState f variables AreInside (length (out-Region r).states) s
 
 -- the regions of one superstate
-pub record AreSideBySide (f : Features) (variables : List Variable) (AreInside : List Region → Type 0) (regions : List Region) : Type 0 where
+pub record AreSideBySide (f : Features) (variables : List Variable) (AreInside : List Region → Type 0)
+    (regions : List Region) : Type 0 where
   pub count : length regions ≤ region_limit f
   pub distinct : IsTrue (are_distinct (map (λ r. (out-Region r).name) regions))
   pub each : (i : ℕ) (r : Region) → slice_get regions i ≡ Some r → IsRegion f variables AreInside r

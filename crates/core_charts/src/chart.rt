@@ -44,7 +44,9 @@ impl Chart {
         variables: Items<Variable>,
         regions: Items<Region>,
     ) -> Result<Option<Chart>, AllocError>
-        ensures { IfOk result (λ chart. SomeIff chart (IsChart features.Extended (record { name = name; variables = variables; regions = regions })) (record { name = name; variables = variables; regions = regions })) }
+        ensures { IfOk result (λ chart. SomeIff chart (IsChart features.Extended
+            (record { name = name; variables = variables; regions = regions }))
+            (record { name = name; variables = variables; regions = regions })) }
     {
         if is_chart(
             alloc,

@@ -21,7 +21,8 @@ use std::alloc::{AllocError, Global};
 impl Table {
     // Whether the variable is there and of the value's kind.
     fn takes(&self, variable: VariableId, value: Value) -> bool
-        ensures { result ≡ takes_kind (option_map (λ x. x.kind) (slice_get self.now.variables variable)) (kind_of value) }
+        ensures { result ≡ takes_kind (option_map (λ x. x.kind) (slice_get self.now.variables variable))
+            (kind_of value) }
     {
         match self.variables.get(variable as usize) {
             Some(found) => found.kind == value.kind(),

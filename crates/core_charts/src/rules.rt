@@ -37,7 +37,8 @@ pub(crate) fn is_chart(
     variables: &[Variable],
     regions: &[Region],
 ) -> Result<bool, AllocError>
-    ensures { IfOk result (λ yes. IsTrue yes ↔ IsChart features (record { name = name.now; variables = variables.now; regions = regions.now })) }
+    ensures { IfOk result (λ yes. IsTrue yes ↔ IsChart features
+        (record { name = name.now; variables = variables.now; regions = regions.now })) }
 {
     let kinds = kinds_of(alloc, variables)?;
     let language = features.language();
@@ -68,7 +69,8 @@ impl<'a> Frame<'a> {
     // Whether these are regions of one superstate that nest this many levels deep at most.
     #[cycle(regions)]
     fn are_regions(self, alloc: Global, levels: u8, regions: &[Region]) -> Result<bool, AllocError>
-        ensures { IfOk result (λ yes. IsTrue yes ↔ AreRegions self.entry.features self.entry.variables.now levels regions.now) }
+        ensures { IfOk result (λ yes. IsTrue yes
+            ↔ AreRegions self.entry.features self.entry.variables.now levels regions.now) }
     {
         if levels == 0 {
             return Ok(regions.is_empty());
@@ -90,7 +92,8 @@ impl<'a> Frame<'a> {
     // Whether this is a region with this many levels inside at most.
     #[cycle(regions)]
     fn is_region(self, alloc: Global, levels: u8, region: &Region) -> Result<bool, AllocError>
-        ensures { IfOk result (λ yes. IsTrue yes ↔ IsRegion self.entry.features self.entry.variables.now (AreRegions self.entry.features self.entry.variables.now levels) region.now) }
+        ensures { IfOk result (λ yes. IsTrue yes ↔ IsRegion self.entry.features self.entry.variables.now
+            (AreRegions self.entry.features self.entry.variables.now levels) region.now) }
     {
         let states = region.states.as_slice();
         if !self.features.language().takes_name(&region.name) {
@@ -109,7 +112,9 @@ impl<'a> Frame<'a> {
     // Whether these are the states of a region with this many levels inside at most.
     #[cycle(regions)]
     fn are_states(self, alloc: Global, levels: u8, states: &[State]) -> Result<bool, AllocError>
-        ensures { IfOk result (λ yes. IsTrue yes ↔ ((i : ℕ) (s : State) → slice_get states.now i ≡ Some s → IsState self.entry.features self.entry.variables.now (AreRegions self.entry.features self.entry.variables.now levels) (length states.now) s)) }
+        ensures { IfOk result (λ yes. IsTrue yes ↔ ((i : ℕ) (s : State) → slice_get states.now i ≡ Some s
+            → IsState self.entry.features self.entry.variables.now
+            (AreRegions self.entry.features self.entry.variables.now levels) (length states.now) s)) }
     {
         for state in states {
             if !self.is_state(alloc, levels, states.len(), state)? {
@@ -128,7 +133,8 @@ impl<'a> Frame<'a> {
         states: usize,
         state: &State,
     ) -> Result<bool, AllocError>
-        ensures { IfOk result (λ yes. IsTrue yes ↔ IsState self.entry.features self.entry.variables.now (AreRegions self.entry.features self.entry.variables.now levels) states state.now) }
+        ensures { IfOk result (λ yes. IsTrue yes ↔ IsState self.entry.features self.entry.variables.now
+            (AreRegions self.entry.features self.entry.variables.now levels) states state.now) }
     {
         let transitions = state.transitions.as_slice();
         if !self.features.language().takes_name(&state.name) {
@@ -151,7 +157,8 @@ impl<'a> Frame<'a> {
     }
 
     fn are_transitions(self, states: usize, is_superstate: bool, transitions: &[Transition]) -> bool
-        ensures { IsTrue result ↔ ((i : ℕ) (t : Transition) → slice_get transitions.now i ≡ Some t → IsTransition self.entry.features self.entry.variables.now states is_superstate t) }
+        ensures { IsTrue result ↔ ((i : ℕ) (t : Transition) → slice_get transitions.now i ≡ Some t
+            → IsTransition self.entry.features self.entry.variables.now states is_superstate t) }
     {
         for transition in transitions {
             if !self.is_transition(states, is_superstate, transition) {
@@ -174,7 +181,8 @@ impl<'a> Frame<'a> {
     }
 
     fn is_trigger(self, trigger: &Option<Expr>) -> bool
-        ensures { IsTrue result ↔ ((e : Expr) → trigger.now ≡ Some e → IsExpression (kinds_of self.entry.variables.now) of_kind.Bool e) }
+        ensures { IsTrue result ↔ ((e : Expr) → trigger.now ≡ Some e
+            → IsExpression (kinds_of self.entry.variables.now) of_kind.Bool e) }
     {
         match trigger {
             Some(condition) => is_expression(condition, self.kinds, Kind::Bool),
@@ -183,7 +191,8 @@ impl<'a> Frame<'a> {
     }
 
     fn are_effects(self, effects: &[Effect]) -> bool
-        ensures { IsTrue result ↔ ((i : ℕ) (e : Effect) → slice_get effects.now i ≡ Some e → IsEffect self.entry.variables.now e) }
+        ensures { IsTrue result ↔ ((i : ℕ) (e : Effect) → slice_get effects.now i ≡ Some e
+            → IsEffect self.entry.variables.now e) }
     {
         for effect in effects {
             if !self.is_effect(effect) {
@@ -278,7 +287,8 @@ fn fits_state(is_superstate: bool, kind: TransitionKind) -> bool
 
 // Whether it is no termination, or one that is tested with nothing but the end of all regions.
 fn is_plain_join(transition: &Transition) -> bool
-    ensures { IsTrue result ↔ (transition.now.kind ≡ kind.Join → (transition.now.immediate ≡ false) × (transition.now.trigger ≡ None)) }
+    ensures { IsTrue result ↔ (transition.now.kind ≡ kind.Join → (transition.now.immediate ≡ false)
+        × (transition.now.trigger ≡ None)) }
 {
     !transition.kind.is_join() || (!transition.immediate && transition.trigger.is_none())
 }

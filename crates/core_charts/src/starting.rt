@@ -56,7 +56,8 @@ impl Table {
         alloc: Global,
         regions: &[Standing],
     ) -> Result<Items<Standing>, AllocError>
-        ensures { IfOk result (λ started. started ≡ regions_at_start self.now (list_all is_outside regions.now) regions.now) }
+        ensures { IfOk result (λ started. started ≡ regions_at_start self.now
+            (list_all is_outside regions.now) regions.now) }
     {
         if are_outside(regions) {
             let mut started = copied_standings(alloc, regions)?;

@@ -372,7 +372,9 @@ fn entered_state(
     at: &Scene,
     opened: &[Move],
 ) -> Result<Items<Move>, AllocError>
-    ensures { IfOk result (λ moves. moves ≡ entered_state (out-State state.now).is_final (is_superstate (map piece_of_region (out-State state.now).regions)) at.now (out-State state.now).transitions opened.now) }
+    ensures { IfOk result (λ moves. moves ≡ entered_state (out-State state.now).is_final
+        (is_superstate (map piece_of_region (out-State state.now).regions)) at.now
+        (out-State state.now).transitions opened.now) }
 {
     let transitions = state.transitions.as_slice();
     if state.is_final {

@@ -19,7 +19,8 @@ IsFlaw g Deep front (t ∷ rest) =
     (k : ℕ) × Begins (spells (g k)) (front ++ t ∷ []) × (¬ Begins (spells (g 0)) (front ++ t ∷ []))
 
 -- the text is no phrase: up to `rest` it begins one, and there it goes wrong
-pub record Fault {L : Tokens} {A : Type 0} (g : ℕ → Grammar L A) (text : List L.Token) (flaw : Flaw) (rest : List L.Token) : Type 0 where
+pub record Fault {L : Tokens} {A : Type 0} (g : ℕ → Grammar L A) (text : List L.Token) (flaw : Flaw)
+    (rest : List L.Token) : Type 0 where
   pub front : List L.Token
   pub parts : text ≡ front ++ rest
   pub begins : Begins (spells (g 0)) front

@@ -39,7 +39,8 @@ unit = made (λ t. 1) (one (one_word ∷ []))
 abbrev pub operand : ℕ → Grammar numbers ℕ
 operand zero = barred (opening ∷ []) unit
 operand (suc n) =
-    either (made (λ x. x.1) (seq (one (opening ∷ [])) (made (λ x. x.0) (seq (sum_of (operand n)) (one (closing ∷ [])))))) unit
+    either (made (λ x. x.1) (seq (one (opening ∷ [])) (made (λ x. x.0)
+        (seq (sum_of (operand n)) (one (closing ∷ [])))))) unit
 
 abbrev pub sums : ℕ → Grammar numbers ℕ
 sums k = sum_of (operand (suc (suc k)))
@@ -48,4 +49,5 @@ sums k = sum_of (operand (suc (suc k)))
 pub record SumsAreTold : Type 0 where
   pub told : (text : List ℕ) → Told sums text (read_all (sums 0) text)
   pub spelled : (text : List ℕ) (n : ℕ) → spells (sums 0) text n → read_all (sums 0) text ≡ Got n []
-  pub faulty : (text rest : List ℕ) (flaw : Flaw) → Fault sums text flaw rest → read_all (sums 0) text ≡ Failed flaw rest
+  pub faulty : (text rest : List ℕ) (flaw : Flaw) → Fault sums text flaw rest
+      → read_all (sums 0) text ≡ Failed flaw rest

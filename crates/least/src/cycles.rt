@@ -20,7 +20,8 @@ pub fn cycle<G: Graph>(
     suspects: &[u16],
     order: &[u16],
 ) -> Result<Option<Vec<u16>>, AllocError>
-    ensures { IfOk result (λ found. MatchOption found (HasRanks (G.leads graph.now) count) (λ walk. IsCycle (G.leads graph.now) walk.items)) }
+    ensures { IfOk result (λ found. MatchOption found (HasRanks (G.leads graph.now) count)
+        (λ walk. IsCycle (G.leads graph.now) walk.items)) }
 {
     for node in suspects {
         if *node < count {
@@ -48,7 +49,8 @@ pub fn cycle_through<G: Graph>(
     order: &[u16],
 ) -> Result<Option<Vec<u16>>, AllocError>
     requires { node < count }
-    ensures { IfOk result (λ found. MatchOption found (IsCut (G.leads graph.now) count node) (λ walk. IsCycle (G.leads graph.now) walk.items)) }
+    ensures { IfOk result (λ found. MatchOption found (IsCut (G.leads graph.now) count node)
+        (λ walk. IsCycle (G.leads graph.now) walk.items)) }
 {
     let ranks = ranks(alloc, graph, count, node, order)?;
     match graph.strictly_towards(ranks.as_slice(), node) {

@@ -17,8 +17,10 @@ pub fn least<R: Rule>(
     top: u32,
     order: &[u16],
 ) -> Result<Option<Vec<u32>>, AllocError>
-    ensures least { IfOk result (λ found. MatchOption found (Exceeds (R.keeps rule.now) count top) (λ table. IsLeast (R.keeps rule.now) count table.items)) }
-    ensures within { IfOk result (λ found. (table : _) → found ≡ Some table → IsWithin count top (slice_index table.items)) }
+    ensures least { IfOk result (λ found. MatchOption found (Exceeds (R.keeps rule.now) count top)
+        (λ table. IsLeast (R.keeps rule.now) count table.items)) }
+    ensures within { IfOk result (λ found. (table : _) → found ≡ Some table
+        → IsWithin count top (slice_index table.items)) }
 {
     let mut table = vec![in alloc; 0; count as usize]?;
     if rises(rule, table.as_mut_slice(), count, top, order) {
@@ -43,7 +45,8 @@ enum Raise {
 fn rises<R: Rule>(rule: &R, table: &mut [u32], count: u16, top: u32, order: &[u16]) -> bool
     requires count { length table.old ≡ count }
     requires under { IsUnder (R.keeps rule.now) top table.old }
-    ensures { MatchBool result (IsLeast (R.keeps rule.now) (length table.old) table.new × IsUnder (R.keeps rule.now) top table.new) (Exceeds (R.keeps rule.now) (length table.old) top) }
+    ensures { MatchBool result (IsLeast (R.keeps rule.now) (length table.old) table.new
+        × IsUnder (R.keeps rule.now) top table.new) (Exceeds (R.keeps rule.now) (length table.old) top) }
 {
     loop {
         if !raise_along(rule, table, top, order) {
@@ -60,7 +63,8 @@ fn rises<R: Rule>(rule: &R, table: &mut [u32], count: u16, top: u32, order: &[u1
 // Raises a table at these places in turn. False: no table within the top keeps the rule.
 fn raise_along<R: Rule>(rule: &R, table: &mut [u32], top: u32, order: &[u16]) -> bool
     requires { IsUnder (R.keeps rule.now) top table.old }
-    ensures { MatchBool result (IsUnder (R.keeps rule.now) top table.new × (sum table.old ≤ sum table.new)) (Exceeds (R.keeps rule.now) (length table.old) top) }
+    ensures { MatchBool result (IsUnder (R.keeps rule.now) top table.new × (sum table.old ≤ sum table.new))
+        (Exceeds (R.keeps rule.now) (length table.old) top) }
 {
     for place in order {
         match raise_at(rule, table, *place, top) {

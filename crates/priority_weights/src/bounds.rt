@@ -45,7 +45,8 @@ fn cover_all(program: &Program, weights: &[u32], bounds: &mut [u32]) -> bool
     requires formed { IsFormed program.now }
     requires within { IsWithin (length program.now.nodes) (length program.now.nodes) (slice_index weights.now) }
     requires under { AreUnder program.now (slice_index weights.now) bounds.old }
-    ensures { CoverBecame program.now (slice_index weights.now) (λ n. n < length program.now.nodes) bounds.old bounds.new result }
+    ensures { CoverBecame program.now (slice_index weights.now)
+        (λ n. n < length program.now.nodes) bounds.old bounds.new result }
 {
     let mut raised = false;
     for node in 0..program.node_count() {

@@ -27,7 +27,8 @@ pub(crate) fn flow_ranks(
     hints: Hints,
 ) -> Result<Falling, AllocError>
     requires { IsLeast (BitKept program.now) (length program.now.nodes) ends.now }
-    ensures by_ends { IfOk result (IsFalling (FlowLeads program.now (slice_index ends.now)) (length program.now.nodes)) }
+    ensures by_ends { IfOk result (IsFalling (FlowLeads program.now (slice_index ends.now))
+        (length program.now.nodes)) }
     ensures in_tick { IfOk result (IsFalling (InTick program.now) (length program.now.nodes)) }
 {
     table_or_cycle(alloc, &Flow { program, ends }, program.node_count(), hints)

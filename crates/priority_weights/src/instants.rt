@@ -41,7 +41,8 @@ pub(crate) fn ranked_instant(
 ) -> Option<NodeId>
     requires formed { IsFormed program.now }
     requires told { Tells program.now links.now }
-    ensures { MatchOption result ((n : ℕ) → Instant program.now node n → ¬ IsRanked ranks.now below n) (λ n. Instant program.now node n × IsRanked ranks.now below n) }
+    ensures { MatchOption result ((n : ℕ) → Instant program.now node n → ¬ IsRanked ranks.now below n)
+        (λ n. Instant program.now node n × IsRanked ranks.now below n) }
 {
     match program.step(node) {
         Some(step) => match ranked_next(ranks, next_instants(program, links, node, step), below) {
@@ -154,7 +155,8 @@ fn ranked_entry(
     children: &[ThreadId],
     below: u64,
 ) -> Option<NodeId>
-    ensures { MatchOption result ((n : ℕ) → IsEntry program.now children.now n → ¬ IsRanked ranks.now below n) (λ n. IsEntry program.now children.now n × IsRanked ranks.now below n) }
+    ensures { MatchOption result ((n : ℕ) → IsEntry program.now children.now n → ¬ IsRanked ranks.now below n)
+        (λ n. IsEntry program.now children.now n × IsRanked ranks.now below n) }
 {
     for child in children {
         match ranked(ranks, program.entry(*child), below) {

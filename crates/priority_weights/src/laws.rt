@@ -12,5 +12,7 @@ ghost use Rattle.priority_weights.specs.LeastTables.{AreLeast};
 /// rules, is valid with its least tables, but for the limit of the budget. The function does nothing: its contract
 /// is the law.
 pub fn law_of_least_tables()
-    ensures { (p : Program) (q : Tables) → IsFormed p → ((at : Place) → CodeAt p at) → ((at : Place) → AssignmentAt p at) → HasNoConflict p → AreLeast p q → q.budget ≤ budget_limit → IsValid p q }
+    ensures { (p : Program) (q : Tables) → IsFormed p → ((at : Place) → CodeAt p at)
+        → ((at : Place) → AssignmentAt p at) → HasNoConflict p → AreLeast p q → q.budget ≤ budget_limit
+        → IsValid p q }
 {}

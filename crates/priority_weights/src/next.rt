@@ -67,7 +67,8 @@ pub(crate) fn entry(table: &[u32], node: NodeId) -> u32
 
 /// One of these nodes of a rank above 0 and below a number.
 pub(crate) fn ranked_next(ranks: &[u32], nodes: NextNodes, below: u64) -> Option<NodeId>
-    ensures { MatchOption result ((n : ℕ) → IsNext nodes n → ¬ IsRanked ranks.now below n) (λ n. IsNext nodes n × IsRanked ranks.now below n) }
+    ensures { MatchOption result ((n : ℕ) → IsNext nodes n → ¬ IsRanked ranks.now below n)
+        (λ n. IsNext nodes n × IsRanked ranks.now below n) }
 {
     match ranked(ranks, nodes.first, below) {
         Some(node) => Some(node),
@@ -77,7 +78,8 @@ pub(crate) fn ranked_next(ranks: &[u32], nodes: NextNodes, below: u64) -> Option
 
 /// The node, if there is one and it has a rank above 0 and below a number.
 pub(crate) fn ranked(ranks: &[u32], node: Option<NodeId>, below: u64) -> Option<NodeId>
-    ensures { MatchOption result ((n : ℕ) → node ≡ Some n → ¬ IsRanked ranks.now below n) (λ n. (node ≡ Some n) × IsRanked ranks.now below n) }
+    ensures { MatchOption result ((n : ℕ) → node ≡ Some n → ¬ IsRanked ranks.now below n)
+        (λ n. (node ≡ Some n) × IsRanked ranks.now below n) }
 {
     match node {
         Some(n) if is_ranked(ranks, n, below) => Some(n),

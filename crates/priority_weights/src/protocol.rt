@@ -29,7 +29,8 @@ pub(crate) fn ranked_behind(
     node: NodeId,
     below: u64,
 ) -> Option<NodeId>
-    ensures { MatchOption result ((n : ℕ) → ProtocolEdge edges.now node n → ¬ IsRanked ranks.now below n) (λ n. ProtocolEdge edges.now node n × IsRanked ranks.now below n) }
+    ensures { MatchOption result ((n : ℕ) → ProtocolEdge edges.now node n → ¬ IsRanked ranks.now below n)
+        (λ n. ProtocolEdge edges.now node n × IsRanked ranks.now below n) }
 {
     let followers = edges.followers(node);
     match ranked_follower(edges, ranks, node, followers.updates, below) {
@@ -60,7 +61,8 @@ fn ranked_follower(
     followers: &[NodeId],
     below: u64,
 ) -> Option<NodeId>
-    ensures { MatchOption result ((n : ℕ) → IsFollower edges.now node followers.now n → ¬ IsRanked ranks.now below n) (λ n. IsFollower edges.now node followers.now n × IsRanked ranks.now below n) }
+    ensures { MatchOption result ((n : ℕ) → IsFollower edges.now node followers.now n → ¬ IsRanked ranks.now below n)
+        (λ n. IsFollower edges.now node followers.now n × IsRanked ranks.now below n) }
 {
     for follower in followers {
         if is_ranked(ranks, *follower, below) && edges.are_concurrent(node, *follower) {

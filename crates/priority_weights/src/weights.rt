@@ -27,8 +27,10 @@ pub(crate) fn weights(
 ) -> Result<Vec<u32>, AllocError>
     requires formed { IsFormed program.now }
     requires ranks { HasRanks (FlowLeads program.now (slice_index ends.now)) (length program.now.nodes) }
-    ensures least { IfOk result (λ weights. IsLeast (WeightKept program.now (bits (slice_index ends.now))) (length program.now.nodes) weights.items) }
-    ensures within { IfOk result (λ weights. IsWithin (length program.now.nodes) (length program.now.nodes) (slice_index weights.items)) }
+    ensures least { IfOk result (λ weights. IsLeast (WeightKept program.now (bits (slice_index ends.now)))
+        (length program.now.nodes) weights.items) }
+    ensures within { IfOk result (λ weights. IsWithin (length program.now.nodes) (length program.now.nodes)
+        (slice_index weights.items)) }
 {
     let count = program.node_count();
     let rule = WeightRule { program, ends };
@@ -97,7 +99,8 @@ fn join_weight(
     children: &[ThreadId],
     join: NodeId,
 ) -> u64
-    ensures value { result ≡ join_weight program.now (bits (slice_index ends.now)) (slice_index table.now) children.now join }
+    ensures value { result ≡ join_weight program.now (bits (slice_index ends.now))
+        (slice_index table.now) children.now join }
     ensures small { result ≤ 4294967295 }
 {
     if entry_bits(program, ends, children) {

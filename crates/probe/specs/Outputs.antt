@@ -16,7 +16,9 @@ abbrev pub outputs_among : List Variable → List Value → Outputs
 outputs_among [] values = []
 outputs_among (a ∷ variables) [] = []
 outputs_among (a ∷ variables) (v ∷ values) =
-    if is_output a.role then record { name = a.name; value = v } ∷ outputs_among variables values else outputs_among variables values
+    if is_output a.role
+    then record { name = a.name; value = v } ∷ outputs_among variables values
+    else outputs_among variables values
 
 -- the row of the outputs among variables: each with its value, in byte order of their names
 pub record IsRowOf (variables : List Variable) (values : List Value) (row : Outputs) : Type 0 where

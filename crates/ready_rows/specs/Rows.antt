@@ -22,7 +22,8 @@ members classes class = count_by (is_of class) classes
 abbrev pub HasRoom : Rows → ℕ → Option ℕ → Type 0
 HasRoom rows t None = t < length rows.classes
 HasRoom rows t (Some class) =
-    (t < length rows.classes) × (class < length rows.rooms) × (members (slice_set rows.classes t (Some class)) class ≤ slice_index rows.rooms class)
+    (t < length rows.classes) × (class < length rows.rooms)
+        × (members (slice_set rows.classes t (Some class)) class ≤ slice_index rows.rooms class)
 
 -- each place is of a class that has a row, and a row has room for as many items as there are places of its class
 pub record HasRooms (rooms places : List ℕ) : Type 0 where

@@ -20,7 +20,8 @@ pub(crate) fn rooms_of(alloc: Global, places: &[u16]) -> Result<Vec<usize>, Allo
 pub(crate) fn starts_of(alloc: Global, rooms: &[usize]) -> Result<Vec<usize>, AllocError>
     requires { sum_by (λ x. x) rooms.now < 2 ^ 63 }
     ensures length { IfOk result (λ starts. length starts.items ≡ length rooms.now) }
-    ensures starts { IfOk result (λ starts. (class : ℕ) → class < length rooms.now → slice_index starts.items class ≡ sum_by (λ x. x) (take class rooms.now)) }
+    ensures starts { IfOk result (λ starts. (class : ℕ) → class < length rooms.now
+        → slice_index starts.items class ≡ sum_by (λ x. x) (take class rooms.now)) }
 {
     let mut starts = Vec::with_capacity(alloc, rooms.len())?;
     let mut next = 0;

@@ -28,8 +28,10 @@ pub record RunAlike (a b : Certified) : Type 0 where
   pub accesses : (s : Status) → access_at a.program s ≡ access_at b.program s
   pub apart : (t u forking : ℕ) → ForkedApart a.program t u forking ↔ ForkedApart b.program t u forking
   pub runs : (run : List ℕ) (c : Control) → replay (machine a.program) run c ≡ replay (machine b.program) run c
-  pub complete : (run : List ℕ) (c d : Control) → Completes (machine a.program) run c d ↔ Completes (machine b.program) run c d
-  pub admissible : (run : List ℕ) (c : Control) → IsAdmissible (machine a.program) run c ↔ IsAdmissible (machine b.program) run c
+  pub complete : (run : List ℕ) (c d : Control) → Completes (machine a.program) run c d
+      ↔ Completes (machine b.program) run c d
+  pub admissible : (run : List ℕ) (c : Control) → IsAdmissible (machine a.program) run c
+      ↔ IsAdmissible (machine b.program) run c
   pub ends : (c d : Control) → Ends (machine a.program) c d ↔ Ends (machine b.program) c d
 
 -- the tables have a priority for each node of the program, and all of them are the same

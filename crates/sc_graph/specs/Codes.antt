@@ -15,7 +15,8 @@ use Rattle.sc_graph.specs.Program.{Program, step_at, kind_at, role_at, kinds}
 abbrev pub StepIsWellFormed : Program → Step → Type 0
 StepIsWellFormed p (step.Assign x code next) = IsWellFormed (kinds p) code
 StepIsWellFormed p (step.Update x f code next) = IsWellFormed (kinds p) code
-StepIsWellFormed p (step.Cond code on_true on_false) = IsWellFormed (kinds p) code × (code_kind code (kinds p) ≡ Some kind_is.Bool)
+StepIsWellFormed p (step.Cond code on_true on_false) = IsWellFormed (kinds p) code
+    × (code_kind code (kinds p) ≡ Some kind_is.Bool)
 StepIsWellFormed p other = Unit {0}
 
 -- the well-formed code rule at a place

@@ -23,8 +23,10 @@ successors other = []
 -- an instantaneous edge: to a successor, from a fork to a child's entry, from a child's exit to the join
 pub data Instant (p : Program) (m n : ℕ) : Type 0 where
   by_successor : (s : Step) → step_at p m ≡ Some s → Contains (successors s) n → Instant p m n
-  by_entry : (t : ℕ) (children : List ℕ) (j k : ℕ) → IsFork p m t children j → Contains children k → entry_of p k ≡ Some n → Instant p m n
-  by_exit : (f t : ℕ) (children : List ℕ) (k : ℕ) → IsFork p f t children n → Contains children k → owner_of p m ≡ Some k → step_at p m ≡ Some step.Exit → Instant p m n
+  by_entry : (t : ℕ) (children : List ℕ) (j k : ℕ) → IsFork p m t children j → Contains children k
+      → entry_of p k ≡ Some n → Instant p m n
+  by_exit : (f t : ℕ) (children : List ℕ) (k : ℕ) → IsFork p f t children n → Contains children k
+      → owner_of p m ≡ Some k → step_at p m ≡ Some step.Exit → Instant p m n
 
 -- a protocol edge: of two concurrent nodes the first must come before the second
 pub record ProtocolEdge (p : Program) (m n : ℕ) : Type 0 where

@@ -95,7 +95,8 @@ paused p t d = only_if (is_depth p t d) (Some (record { change = Keep; moves = (
 abbrev pub node_effect : Program → Control → ℕ → Step → Option Effect
 node_effect p c t (steps.Assign x code next) = option_and_then (assigned p t x next) (code_value code c.variables)
 node_effect p c t (steps.Update x f code next) = option_and_then (updated p t x f next) (code_value code c.variables)
-node_effect p c t (steps.Cond code on_true on_false) = option_and_then (branched p t on_true on_false) (code_value code c.variables)
+node_effect p c t (steps.Cond code on_true on_false) = option_and_then (branched p t on_true on_false)
+    (code_value code c.variables)
 node_effect p c t (steps.Fork children join) = forked p t children join
 node_effect p c t (steps.Join next) = None
 node_effect p c t (steps.Surf depth) = paused p t depth
@@ -115,7 +116,8 @@ join_effect p t children other = None
 -- the step of thread t from its status; None where it isn't enabled or its step is undefined
 abbrev pub status_effect : Program → Control → ℕ → Status → Option Effect
 status_effect p c t (status.At n) = option_and_then (node_effect p c t) (step_at p n)
-status_effect p c t (status.Waiting j) = only_if (all_ended c (joined_at p j)) (join_effect p t (joined_at p j) (step_at p j))
+status_effect p c t (status.Waiting j) = only_if (all_ended c (joined_at p j))
+    (join_effect p t (joined_at p j) (step_at p j))
 status_effect p c t other = None
 
 abbrev pub effect : Program → Control → ℕ → Option Effect

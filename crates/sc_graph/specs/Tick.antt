@@ -51,8 +51,10 @@ given (i ∷ inputs) name = if bytes_eq i.0 name then Some i.1 else given inputs
 -- each input names an input variable and has its kind, and no name comes twice
 pub record AreAccepted (p : Program) (inputs : Inputs) : Type 0 where
   pub named : (i : ℕ) (name : List ℕ) (v : Value) → slice_get inputs i ≡ Some (name, v) →
-      (x : ℕ) × (a : Variable) × (slice_get p.variables x ≡ Some a) × (a.name ≡ name) × (a.role ≡ role.Input) × (a.kind ≡ kind_of v)
-  pub once : (i j : ℕ) (a b : List ℕ × Value) → i < j → slice_get inputs i ≡ Some a → slice_get inputs j ≡ Some b → a.0 ≢ b.0
+      (x : ℕ) × (a : Variable) × (slice_get p.variables x ≡ Some a) × (a.name ≡ name) × (a.role ≡ role.Input)
+          × (a.kind ≡ kind_of v)
+  pub once : (i j : ℕ) (a b : List ℕ × Value) → i < j → slice_get inputs i ≡ Some a → slice_get inputs j ≡ Some b
+      → a.0 ≢ b.0
 
 -- the value of a variable as a tick starts: of an input the given one, or `false` or 0
 abbrev pub value_at_start : Inputs → Variable → Role → Value → Value
@@ -62,7 +64,8 @@ value_at_start inputs x other present = present
 abbrev pub values_at_start : Inputs → List Variable → List Value → List Value
 values_at_start inputs [] values = []
 values_at_start inputs (x ∷ variables) [] = []
-values_at_start inputs (x ∷ variables) (v ∷ values) = value_at_start inputs x x.role v ∷ values_at_start inputs variables values
+values_at_start inputs (x ∷ variables) (v ∷ values) =
+    value_at_start inputs x x.role v ∷ values_at_start inputs variables values
 
 -- a paused thread comes to stand at its depth
 abbrev pub woken : Status → Status

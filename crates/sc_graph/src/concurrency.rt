@@ -76,7 +76,8 @@ fn have_one_fork(program: &Program, left: ThreadId, right: ThreadId) -> bool
 // The two different children of one thread from which two threads descend.
 fn parting(program: &Program, first: ThreadId, second: ThreadId) -> Option<(ThreadId, ThreadId)>
     requires { IsFormed program.now }
-    ensures { MatchOption result ((l r a : ℕ) → ¬ PartAt program.now first second l r a) (λ s. (a : ℕ) × PartAt program.now first second s.0 s.1 a) }
+    ensures { MatchOption result ((l r a : ℕ) → ¬ PartAt program.now first second l r a)
+        (λ s. (a : ℕ) × PartAt program.now first second s.0 s.1 a) }
 {
     let mut left = first;
     let mut right = second;

@@ -18,7 +18,8 @@ pub fn laws_of_concurrency()
     ensures symmetric { (p : Program) (t u : ℕ) → AreConcurrent p t u → AreConcurrent p u t }
     ensures irreflexive { (p : Program) → IsFormed p → (t : ℕ) → ¬ AreConcurrent p t t }
     ensures not_above { (p : Program) → IsFormed p → (t u : ℕ) → Below p t u → ¬ AreConcurrent p t u }
-    ensures one_forking_thread { (p : Program) → IsFormed p → (t u a b : ℕ) → ForkedApart p t u a → ForkedApart p t u b → a ≡ b }
+    ensures one_forking_thread { (p : Program) → IsFormed p → (t u a b : ℕ) → ForkedApart p t u a
+        → ForkedApart p t u b → a ≡ b }
 {}
 
 /// What tables are to a program: they choose among its runs, and nothing else depends on them.
@@ -28,6 +29,8 @@ pub fn laws_of_concurrency()
 pub fn laws_of_tables()
     ensures alike { (a b : Certified) → a.program ≡ b.program → RunAlike a b }
     ensures enabled { (p : Program) (t : ℕ) (c d : Control) → step p t c ≡ Some d → IsEnabled p c t }
-    ensures chosen { (p : Program) (q : Tables) (run : List ℕ) (c d : Control) → PriorityRun p q run c d → replay (machine p) run c ≡ Some d }
-    ensures all_chosen { (p : Program) (q : Tables) → HaveOnePriority p q → (run : List ℕ) (c d : Control) → replay (machine p) run c ≡ Some d → PriorityRun p q run c d }
+    ensures chosen { (p : Program) (q : Tables) (run : List ℕ) (c d : Control) → PriorityRun p q run c d
+        → replay (machine p) run c ≡ Some d }
+    ensures all_chosen { (p : Program) (q : Tables) → HaveOnePriority p q → (run : List ℕ) (c d : Control)
+        → replay (machine p) run c ≡ Some d → PriorityRun p q run c d }
 {}

@@ -146,7 +146,8 @@ impl Program {
         threads: Items<Thread>,
         nodes: Items<Node>,
     ) -> Result<Program, ProgramFault>
-        ensures { OkIff result (FitsLayout variables threads nodes) (record { variables = variables; threads = threads; nodes = nodes }) }
+        ensures { OkIff result (FitsLayout variables threads nodes)
+            (record { variables = variables; threads = threads; nodes = nodes }) }
     {
         let counts_fit = variables.len() <= COUNT_LIMIT
             && threads.len() <= COUNT_LIMIT

@@ -125,7 +125,8 @@ fn children_stand(control: &Control, node: &Node) -> bool
 }
 
 fn are_present(control: &Control, children: &[ThreadId], wanted: bool) -> bool
-    ensures { IsTrue result ↔ ((k : ℕ) → Contains children.now k → (IsPresent (status_of control.now k)) ↔ IsTrue wanted) }
+    ensures { IsTrue result ↔ ((k : ℕ) → Contains children.now k → (IsPresent (status_of control.now k))
+        ↔ IsTrue wanted) }
 {
     for child in children {
         if control.status(*child).is_present() != wanted {

@@ -49,7 +49,8 @@ impl Program {
     }
 
     fn unfit_variable(&self) -> Option<VariableId>
-        ensures { MatchOption result ((x : ℕ) → ProgramFitsAt self.now (Place.Variable x)) (λ x. ¬ ProgramFitsAt self.now (Place.Variable x)) }
+        ensures { MatchOption result ((x : ℕ) → ProgramFitsAt self.now (Place.Variable x))
+            (λ x. ¬ ProgramFitsAt self.now (Place.Variable x)) }
     {
         for variable in 0..self.variable_count() {
             if !self.variable_fits(variable) {
@@ -60,7 +61,8 @@ impl Program {
     }
 
     fn unfit_thread(&self) -> Option<ThreadId>
-        ensures { MatchOption result ((t : ℕ) → ProgramFitsAt self.now (Place.Thread t)) (λ t. ¬ ProgramFitsAt self.now (Place.Thread t)) }
+        ensures { MatchOption result ((t : ℕ) → ProgramFitsAt self.now (Place.Thread t))
+            (λ t. ¬ ProgramFitsAt self.now (Place.Thread t)) }
     {
         for thread in 0..self.thread_count() {
             if !self.thread_fits(thread) {
@@ -71,7 +73,8 @@ impl Program {
     }
 
     fn unfit_node(&self) -> Option<NodeId>
-        ensures { MatchOption result ((n : ℕ) → ProgramFitsAt self.now (Place.Node n)) (λ n. ¬ ProgramFitsAt self.now (Place.Node n)) }
+        ensures { MatchOption result ((n : ℕ) → ProgramFitsAt self.now (Place.Node n))
+            (λ n. ¬ ProgramFitsAt self.now (Place.Node n)) }
     {
         for node in 0..self.node_count() {
             if !self.node_fits(node) {
@@ -100,14 +103,16 @@ impl Program {
     // Whether a variable of this role is no output past the limit.
     fn has_room_for(&self, variable: VariableId, role: Role) -> bool
         requires { variable < length self.now.variables }
-        ensures { IsTrue result ↔ (role ≡ Role.Output → count_by (λ b. is_output b.role) (take (variable + 1) self.now.variables) ≤ output_limit) }
+        ensures { IsTrue result ↔ (role ≡ Role.Output → count_by (λ b. is_output b.role)
+            (take (variable + 1) self.now.variables) ≤ output_limit) }
     {
         !role.is_output() || self.outputs_up_to(variable) <= OUTPUT_LIMIT
     }
 
     // Whether no variable of smaller number has the name.
     fn is_new_name(&self, variable: VariableId, name: &Name) -> bool
-        ensures { IsTrue result ↔ ((y : ℕ) (b : Variable) → y < variable → slice_get self.now.variables y ≡ Some b → b.name ≢ name.now) }
+        ensures { IsTrue result ↔ ((y : ℕ) (b : Variable) → y < variable → slice_get self.now.variables y ≡ Some b
+            → b.name ≢ name.now) }
     {
         for earlier in 0..variable {
             if self.has_name(earlier, name) {
@@ -168,7 +173,8 @@ impl Program {
 
     // The thread so many generations above a thread.
     fn ancestor(&self, generations: u16, thread: ThreadId) -> Option<ThreadId>
-        ensures { MatchOption result (HasNoAncestor self.now generations thread) (λ u. Descends self.now generations thread u) }
+        ensures { MatchOption result (HasNoAncestor self.now generations thread)
+            (λ u. Descends self.now generations thread u) }
     {
         let mut at = thread;
         for _ in 0..generations {

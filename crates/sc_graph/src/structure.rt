@@ -49,7 +49,8 @@ impl Program {
 
     fn misplaced_thread(&self, links: Option<&Links>) -> Option<ThreadId>
         requires { IfSome (option_copied links) (Tells self.now) }
-        ensures { MatchOption result ((t : ℕ) → StructureAt self.now (Place.Thread t)) (λ t. ¬ StructureAt self.now (Place.Thread t)) }
+        ensures { MatchOption result ((t : ℕ) → StructureAt self.now (Place.Thread t))
+            (λ t. ¬ StructureAt self.now (Place.Thread t)) }
     {
         for thread in 0..self.thread_count() {
             if !self.thread_stands(thread, links) {
@@ -61,7 +62,8 @@ impl Program {
 
     fn misplaced_node(&self, links: Option<&Links>) -> Option<NodeId>
         requires { IfSome (option_copied links) (Tells self.now) }
-        ensures { MatchOption result ((n : ℕ) → StructureAt self.now (Place.Node n)) (λ n. ¬ StructureAt self.now (Place.Node n)) }
+        ensures { MatchOption result ((n : ℕ) → StructureAt self.now (Place.Node n))
+            (λ n. ¬ StructureAt self.now (Place.Node n)) }
     {
         for node in 0..self.node_count() {
             if !self.node_stands(node, links) {

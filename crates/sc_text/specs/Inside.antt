@@ -32,8 +32,10 @@ pub record Cuts (bytes : List ℕ) (n : ℕ) : Type 0 where
 
 -- what the bytes of a piece are
 pub data IsMadeOf : Piece → List ℕ → Type 0 where
-  a_word : (first : ℕ) (rest : List ℕ) → IsTrue (is_letter first) → IsTrue (list_all is_word_byte rest) → IsMadeOf piece.Word (first ∷ rest)
-  digits : (first : ℕ) (rest : List ℕ) → IsTrue (is_digit first) → IsTrue (list_all is_digit rest) → IsMadeOf piece.Digits (first ∷ rest)
+  a_word : (first : ℕ) (rest : List ℕ) → IsTrue (is_letter first) → IsTrue (list_all is_word_byte rest)
+      → IsMadeOf piece.Word (first ∷ rest)
+  digits : (first : ℕ) (rest : List ℕ) → IsTrue (is_digit first) → IsTrue (list_all is_digit rest)
+      → IsMadeOf piece.Digits (first ∷ rest)
   a_sign : (s : Sign) → IsMadeOf (piece.Sign s) (sign_text s)
   blank : (byte : ℕ) → IsTrue (is_blank byte) → IsMadeOf piece.Blank (byte ∷ [])
   comment : (rest : List ℕ) → IsTrue (list_all stays_in_line rest) → IsMadeOf piece.Comment (slash ∷ slash ∷ rest)

@@ -11,5 +11,7 @@ use Rattle.sc_text.specs.Expression.{expression}
 -- longer text the same holds up to its end
 pub record ExpressionsAreTold : Type 0 where
   pub told : (text : List Token) → Told expression text (read_all (expression 0) text)
-  pub spelled : (text : List Token) (p : Phrase) → spells (expression 0) text p → read_all (expression 0) text ≡ Got p []
-  pub faulty : (text rest : List Token) (flaw : Flaw) → Fault expression text flaw rest → read_all (expression 0) text ≡ Failed flaw rest
+  pub spelled : (text : List Token) (p : Phrase) → spells (expression 0) text p
+      → read_all (expression 0) text ≡ Got p []
+  pub faulty : (text rest : List Token) (flaw : Flaw) → Fault expression text flaw rest
+      → read_all (expression 0) text ≡ Failed flaw rest

@@ -91,8 +91,10 @@ pub record IsAbove (kind : TokenKind) (n : ℤ) : Type 0 where
   pub above : pos 0 <ℤ n
 
 -- some operands of the level were read, and their operations stand behind the old ones; so many more may follow
-pub record IsGoing (o : Outcome Token Phrase) (old new : List TextOperation) (l : Level) (inner : Inner) (left : ℕ) (rest : List Token) : Type 0 where
+pub record IsGoing (o : Outcome Token Phrase) (old new : List TextOperation) (l : Level) (inner : Inner) (left : ℕ)
+    (rest : List Token) : Type 0 where
   pub done : Phrase
-  pub is : o ≡ next (read_each (starts text_tokens (first (behind_operand l inner))) (read (behind_operand l inner)) left rest)
+  pub is : o ≡ next (read_each (starts text_tokens (first (behind_operand l inner)))
+      (read (behind_operand l inner)) left rest)
       (λ xs end. Got (done ++ all_of xs) end)
   pub behind : new ≡ old ++ done

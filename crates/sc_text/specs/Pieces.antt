@@ -25,8 +25,10 @@ stays_in_line byte = not (byte == line_feed)
 -- what tokens are, and what stands between them
 pub data IsPiece : List ℕ → Type 0 where
   -- a letter or `_`, then letters, digits and `_`
-  a_word : (first : ℕ) (rest : List ℕ) → IsTrue (is_letter first) → IsTrue (list_all is_word_byte rest) → IsPiece (first ∷ rest)
-  digits : (first : ℕ) (rest : List ℕ) → IsTrue (is_digit first) → IsTrue (list_all is_digit rest) → IsPiece (first ∷ rest)
+  a_word : (first : ℕ) (rest : List ℕ) → IsTrue (is_letter first) → IsTrue (list_all is_word_byte rest)
+      → IsPiece (first ∷ rest)
+  digits : (first : ℕ) (rest : List ℕ) → IsTrue (is_digit first) → IsTrue (list_all is_digit rest)
+      → IsPiece (first ∷ rest)
   a_sign : (sign : Sign) → IsPiece (sign_text sign)
   blank : (byte : ℕ) → IsTrue (is_blank byte) → IsPiece (byte ∷ [])
   -- two slashes, and what stands behind them in the line

@@ -47,8 +47,10 @@ IsReserved bytes = (w : Word) × (bytes ≡ word_text w)
 pub data Spells (l : Language) : List ℕ → TokenKind → Type 0 where
   a_sign : (s : Sign) → Spells l (sign_text s) (kind.Sign s)
   a_word : (w : Word) → Spells l (word_text w) (kind.Word w)
-  a_name : (first : ℕ) (rest : List ℕ) → IsTrue (is_name (first ∷ rest)) → IsTrue (allows l first) → ¬ IsReserved (first ∷ rest) → Spells l (first ∷ rest) (kind.Name (first ∷ rest))
-  a_number : (digits : List ℕ) → IsTrue (list_all is_digit digits) → IsFalse (has_idle_zero digits) → written digits ≤ number_limit → Spells l digits (kind.Number (pos (written digits)))
+  a_name : (first : ℕ) (rest : List ℕ) → IsTrue (is_name (first ∷ rest)) → IsTrue (allows l first)
+      → ¬ IsReserved (first ∷ rest) → Spells l (first ∷ rest) (kind.Name (first ∷ rest))
+  a_number : (digits : List ℕ) → IsTrue (list_all is_digit digits) → IsFalse (has_idle_zero digits)
+      → written digits ≤ number_limit → Spells l digits (kind.Number (pos (written digits)))
 
 -- white space and comments are no tokens
 pub data IsPassed : List ℕ → Type 0 where
@@ -57,26 +59,35 @@ pub data IsPassed : List ℕ → Type 0 where
 
 -- why a piece that looks like a name or a number is none
 pub data IsRefused (l : Language) : List ℕ → Broken → Type 0 where
-  under_bar : (first : ℕ) (rest : List ℕ) → IsTrue (is_letter first) → IsFalse (allows l first) → IsRefused l (first ∷ rest) broken.Token
-  long_name : (first : ℕ) (rest : List ℕ) → IsTrue (is_letter first) → IsTrue (allows l first) → name_limit < length (first ∷ rest) → IsRefused l (first ∷ rest) broken.Limit
-  idle_zero : (digits : List ℕ) → IsTrue (list_all is_digit digits) → IsTrue (has_idle_zero digits) → IsRefused l digits broken.Token
-  large_number : (digits : List ℕ) → IsTrue (list_all is_digit digits) → IsFalse (has_idle_zero digits) → number_limit < written digits → IsRefused l digits broken.Limit
+  under_bar : (first : ℕ) (rest : List ℕ) → IsTrue (is_letter first) → IsFalse (allows l first)
+      → IsRefused l (first ∷ rest) broken.Token
+  long_name : (first : ℕ) (rest : List ℕ) → IsTrue (is_letter first) → IsTrue (allows l first)
+      → name_limit < length (first ∷ rest) → IsRefused l (first ∷ rest) broken.Limit
+  idle_zero : (digits : List ℕ) → IsTrue (list_all is_digit digits) → IsTrue (has_idle_zero digits)
+      → IsRefused l digits broken.Token
+  large_number : (digits : List ℕ) → IsTrue (list_all is_digit digits) → IsFalse (has_idle_zero digits)
+      → number_limit < written digits → IsRefused l digits broken.Limit
 
 -- the tokens of the text that stands from this place on
 pub data AreTokens (l : Language) : (at : ℕ) → List ℕ → List Token → Type 0 where
   no_more : (at : ℕ) → AreTokens l at [] []
   passes : (at : ℕ) (piece rest : List ℕ) (tokens : List Token) → IsLongest piece rest → IsPassed piece →
       AreTokens l (at + length piece) rest tokens → AreTokens l at (piece ++ rest) tokens
-  token : (at : ℕ) (piece rest : List ℕ) (k : TokenKind) (tokens : List Token) → IsLongest piece rest → Spells l piece k →
-      AreTokens l (at + length piece) rest tokens → AreTokens l at (piece ++ rest) (record { kind = k; at = at } ∷ tokens)
+  token : (at : ℕ) (piece rest : List ℕ) (k : TokenKind) (tokens : List Token) → IsLongest piece rest
+      → Spells l piece k →
+      AreTokens l (at + length piece) rest tokens → AreTokens l at (piece ++ rest)
+          (record { kind = k; at = at } ∷ tokens)
 
 -- the first place of the text at which no token stands, and what is broken there
 pub data IsFirstFault (l : Language) : (at : ℕ) → List ℕ → Broken → (place : ℕ) → Type 0 where
-  no_piece : (at first : ℕ) (rest : List ℕ) → BeginsNone (first ∷ rest) → IsFirstFault l at (first ∷ rest) broken.Token at
-  refused : (at : ℕ) (piece rest : List ℕ) (b : Broken) → IsLongest piece rest → IsRefused l piece b → IsFirstFault l at (piece ++ rest) b at
+  no_piece : (at first : ℕ) (rest : List ℕ) → BeginsNone (first ∷ rest)
+      → IsFirstFault l at (first ∷ rest) broken.Token at
+  refused : (at : ℕ) (piece rest : List ℕ) (b : Broken) → IsLongest piece rest → IsRefused l piece b
+      → IsFirstFault l at (piece ++ rest) b at
   behind_passed : (at : ℕ) (piece rest : List ℕ) (b : Broken) (place : ℕ) → IsLongest piece rest → IsPassed piece →
       IsFirstFault l (at + length piece) rest b place → IsFirstFault l at (piece ++ rest) b place
-  behind_token : (at : ℕ) (piece rest : List ℕ) (k : TokenKind) (b : Broken) (place : ℕ) → IsLongest piece rest → Spells l piece k →
+  behind_token : (at : ℕ) (piece rest : List ℕ) (k : TokenKind) (b : Broken) (place : ℕ) → IsLongest piece rest
+      → Spells l piece k →
       IsFirstFault l (at + length piece) rest b place → IsFirstFault l at (piece ++ rest) b place
 
 -- what a fault of this pass says of the text. That memory was refused says nothing of it

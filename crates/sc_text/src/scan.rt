@@ -73,7 +73,8 @@ fn next_step(language: Language, text: &[u8]) -> Result<Step, Broken>
 // The token that a piece is. None: it is passed over.
 fn kind_of(language: Language, piece: Piece, bytes: &[u8]) -> Result<Option<TokenKind>, Broken>
     requires { IsMadeOf piece bytes.now }
-    ensures { MatchResult result (λ kind. MatchOption kind (IsPassed bytes.now) (λ k. Spells language bytes.now k)) (λ broken. IsRefused language bytes.now broken) }
+    ensures { MatchResult result (λ kind. MatchOption kind (IsPassed bytes.now) (λ k. Spells language bytes.now k))
+        (λ broken. IsRefused language bytes.now broken) }
 {
     match piece {
         Piece::Word => Ok(Some(word_or_name(language, bytes)?)),
@@ -86,7 +87,8 @@ fn kind_of(language: Language, piece: Piece, bytes: &[u8]) -> Result<Option<Toke
 
 fn word_or_name(language: Language, bytes: &[u8]) -> Result<TokenKind, Broken>
     requires { IsMadeOf piece.Word bytes.now }
-    ensures { MatchResult result (λ kind. Spells language bytes.now kind) (λ broken. IsRefused language bytes.now broken) }
+    ensures { MatchResult result (λ kind. Spells language bytes.now kind)
+        (λ broken. IsRefused language bytes.now broken) }
 {
     match Word::of(bytes) {
         Some(word) => Ok(TokenKind::Word(word)),
@@ -97,7 +99,8 @@ fn word_or_name(language: Language, bytes: &[u8]) -> Result<TokenKind, Broken>
 fn name(language: Language, bytes: &[u8]) -> Result<TokenKind, Broken>
     requires made_of { IsMadeOf piece.Word bytes.now }
     requires free { IsFree bytes.now }
-    ensures { MatchResult result (λ kind. Spells language bytes.now kind) (λ broken. IsRefused language bytes.now broken) }
+    ensures { MatchResult result (λ kind. Spells language bytes.now kind)
+        (λ broken. IsRefused language bytes.now broken) }
 {
     if language.allows(bytes[0]) {
         match Name::from_bytes(bytes) {

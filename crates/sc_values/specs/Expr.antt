@@ -16,7 +16,8 @@ abbrev pub value_step : Expr-F (List Value → Option Value) → List Value → 
 value_step (tree.Literal v) variables = Some v
 value_step (tree.Load x) variables = slice_get variables x
 value_step (tree.Unary f a) variables = option_and_then (unary_value f) (a variables)
-value_step (tree.Binary f a b) variables = option_and_then (λ m. option_and_then (binary_value f m) (b variables)) (a variables)
+value_step (tree.Binary f a b) variables = option_and_then (λ m. option_and_then (binary_value f m) (b variables))
+    (a variables)
 
 abbrev pub value : Expr → List Value → Option Value
 value = fold-Expr (List Value → Option Value) value_step

@@ -14,7 +14,8 @@ is_digit byte = nat_le 48 byte && nat_le byte 57
 abbrev pub is_name : List ℕ → Bool
 is_name [] = false
 is_name (first ∷ rest) =
-    is_letter first && list_all (λ byte. is_letter byte || is_digit byte) rest && nat_le (length (first ∷ rest)) name_limit
+    is_letter first && list_all (λ byte. is_letter byte || is_digit byte) rest
+        && nat_le (length (first ∷ rest)) name_limit
 
 -- the bytes, and behind them zeros up to the limit
 abbrev pub padded : List ℕ → List ℕ

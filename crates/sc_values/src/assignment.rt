@@ -28,7 +28,8 @@ impl CodedAssignment {
     /// A difference is a sum with the negated right operand. None: the code that it needs would have
     /// more than 64 operations.
     pub fn of(variable: u16, value: &Expr) -> Option<CodedAssignment>
-        ensures { SomeIff result (length (postorder (operand (assignment_of variable value.now))) ≤ operation_limit) (in_code (assignment_of variable value.now)) }
+        ensures { SomeIff result (length (postorder (operand (assignment_of variable value.now))) ≤ operation_limit)
+            (in_code (assignment_of variable value.now)) }
     {
         match value {
             Expr::Binary(operator, left, right) => {
@@ -56,7 +57,9 @@ fn is_variable(expression: &Expr, variable: u16) -> bool
 // The assignment by an operator with the variable on its left and this operand on its right; the whole
 // is the two together.
 fn combined(operator: BinaryOperator, right: &Expr, whole: &Expr) -> Option<CodedAssignment>
-    ensures { SomeIff result (length (postorder (operand (unwrap_or (combination_of operator right.now) (Inits whole.now)))) ≤ operation_limit) (in_code (unwrap_or (combination_of operator right.now) (Inits whole.now))) }
+    ensures { SomeIff result (length (postorder (operand
+        (unwrap_or (combination_of operator right.now) (Inits whole.now)))) ≤ operation_limit)
+        (in_code (unwrap_or (combination_of operator right.now) (Inits whole.now))) }
 {
     match operator {
         BinaryOperator::Add => update(Combination::Add, right),
@@ -86,7 +89,8 @@ fn update(combine: Combination, by: &Expr) -> Option<CodedAssignment>
 
 // The value of an expression is taken off the variable.
 fn decrease(by: &Expr) -> Option<CodedAssignment>
-    ensures { SomeIff result (length (postorder (operand (decreased by.now))) ≤ operation_limit) (in_code (decreased by.now)) }
+    ensures { SomeIff result (length (postorder (operand (decreased by.now))) ≤ operation_limit)
+        (in_code (decreased by.now)) }
 {
     let mut code = Code::postorder(by)?;
     if code.push_within(Operation::Unary(UnaryOperator::Negate)) {

@@ -76,7 +76,8 @@ impl<'a> CheckedCode<'a> {
 
     /// The kind of its value, under the kinds of the variables by which it was checked.
     pub fn kind(&self) -> Kind
-        ensures { (kinds : List Kind) (checks : Checks kinds self.now.operations self.now) → result ≡ checks.formed.gives }
+        ensures { (kinds : List Kind) (checks : Checks kinds self.now.operations self.now)
+            → result ≡ checks.formed.gives }
     {
         match last_left(self.code().operations(), self.loads()) {
             Some(kind) => kind,
@@ -115,7 +116,8 @@ impl<'a> PartialEq for CheckedCode<'a> {
     ghost laws = { partial_equiv_from_equiv (and_equiv (on_equiv (λ c. c.operations) (lists_equiv operations.laws-law)) (on_equiv (λ c. c.loads) (lists_equiv kinds.laws-law))) };
 
     fn eq(&self, other: &CheckedCode<'a>) -> bool
-        ensures value { result ≡ eq_of_both (on (λ c. c.operations) (pointwise operation.eq-value.it)) (on (λ c. c.loads) (pointwise kind.eq-value.it)) self.now other.now }
+        ensures value { result ≡ eq_of_both (on (λ c. c.operations) (pointwise operation.eq-value.it))
+            (on (λ c. c.loads) (pointwise kind.eq-value.it)) self.now other.now }
         ensures same { IsTrue result ↔ (self.now ≡ other.now) }
     {
         self.code == other.code && self.loads() == other.loads()

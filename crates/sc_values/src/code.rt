@@ -51,7 +51,8 @@ impl Code {
         ensures one_tree { IfOk result (λ code. (other : Expr) → Spells code other → other ≡ expression.now) }
         ensures formed { IfOk result (IsWellFormed kinds.now) }
         ensures kind { IsErrOf result CodeFault.Kind ↔ (kind expression.now kinds.now ≡ None) }
-        ensures limit { IsErrOf result CodeFault.Limit ↔ (IsSome (kind expression.now kinds.now) × ¬ (IsWithinLimits (postorder expression.now))) }
+        ensures limit { IsErrOf result CodeFault.Limit ↔ (IsSome (kind expression.now kinds.now)
+            × ¬ (IsWithinLimits (postorder expression.now))) }
     {
         if expression.kind(kinds).is_none() {
             return Err(CodeFault::Kind);
@@ -101,7 +102,8 @@ impl Code {
 
     // Puts an operation behind the others. False: there are 64 already.
     pub(crate) fn push_within(&mut self, operation: Operation) -> bool
-        ensures { MatchBool result (self.new ≡ self.old ++ operation ∷ []) (operation_limit < length (self.old ++ operation ∷ [])) }
+        ensures { MatchBool result (self.new ≡ self.old ++ operation ∷ [])
+            (operation_limit < length (self.old ++ operation ∷ [])) }
     {
         if self.operations.is_full() {
             return false;

@@ -85,7 +85,8 @@ impl Expr {
     // Puts its operations behind a code's. False: they are more than 64 together, and the code ends
     // somewhere in between.
     pub(crate) fn write(&self, code: &mut Code) -> bool
-        ensures { MatchBool result (code.new ≡ code.old ++ postorder self.now) (operation_limit < length (code.old ++ postorder self.now)) }
+        ensures { MatchBool result (code.new ≡ code.old ++ postorder self.now)
+            (operation_limit < length (code.old ++ postorder self.now)) }
     {
         match self {
             Expr::Literal(value) => code.push_within(Operation::Literal(*value)),

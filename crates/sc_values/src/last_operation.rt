@@ -8,7 +8,8 @@ use crate::value::Kind;
 
 /// The kind of what the last operation leaves, where the loads are of these kinds.
 pub(crate) fn last_left(operations: &[Operation], loads: &[Kind]) -> Option<Kind>
-    ensures { result ≡ option_and_then (last_kind (slice_get loads.now 0)) (slice_get operations.now (length operations.now - 1)) }
+    ensures { result ≡ option_and_then (last_kind (slice_get loads.now 0))
+        (slice_get operations.now (length operations.now - 1)) }
 {
     match operations.last() {
         Some(operation) => kind_after(operation, loads.first().copied()),

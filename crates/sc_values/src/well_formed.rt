@@ -37,7 +37,8 @@ fn kind_of_code(operations: &[Operation], kinds: &[Kind]) -> Option<Kind>
 
 // The kind that an operation leaves for those of its operands, which it takes off the stack.
 fn kind_left(stack: &mut Stack<Kind>, operation: &Operation, variable: Option<Kind>) -> Option<Kind>
-    ensures { MatchOption result (kind_acted variable operation.now stack.old ≡ None) (λ k. kind_acted variable operation.now stack.old ≡ Some (k ∷ stack.new)) }
+    ensures { MatchOption result (kind_acted variable operation.now stack.old ≡ None)
+        (λ k. kind_acted variable operation.now stack.old ≡ Some (k ∷ stack.new)) }
 {
     match operation {
         Operation::Literal(value) => Some(value.kind()),

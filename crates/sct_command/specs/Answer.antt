@@ -58,7 +58,8 @@ pub record WritesText (old new : Option (List ℕ)) : Type 0 where
   pub written : Appends old new text
 
 -- what was done for a request: a summary, a whole trace, an image in version 2, or for none the help
-abbrev pub Does : Option Contents → Option Contents → Option Request → Option (List ℕ) → Option (List ℕ) → Option (List ℕ) → Type 0
+abbrev pub Does : Option Contents → Option Contents → Option Request → Option (List ℕ) → Option (List ℕ)
+    → Option (List ℕ) → Type 0
 Does files files' (Some (Check name)) input old new = SumsUp files name old new
 Does files files' (Some (Run name)) input old new = PlaysWhole files name input old new
 Does files files' (Some (Migrate from to)) input old new = Migrates files files' from to old new
@@ -90,7 +91,8 @@ pub record SumsUpPart (files : Option Contents) (name : List ℕ) (old new : Opt
   pub in_part : GrowsInto old new (summary_of image)
 
 -- what the player leaves that refuses the input of the image in this file
-pub record StopsPlaying (files : Option Contents) (name : List ℕ) (input old new : Option (List ℕ)) (f : PlayFault) : Type 0 where
+pub record StopsPlaying (files : Option Contents) (name : List ℕ) (input old new : Option (List ℕ))
+    (f : PlayFault) : Type 0 where
   pub image : Image
   pub loaded : IsLoaded files name image
   pub leaves : Leaves image input old new f
@@ -130,7 +132,8 @@ pub record MigratesPart (files files' : Option Contents) (from to : List ℕ) (o
   pub in_part : GrowsInto old new (summary_of image)
 
 -- what a migration leaves that is refused: no file was written and nothing else, but where the output failed
-abbrev pub RefusesMigration : Option Contents → Option Contents → List ℕ → List ℕ → Option (List ℕ) → Option (List ℕ) → Fault → Type 0
+abbrev pub RefusesMigration : Option Contents → Option Contents → List ℕ → List ℕ → Option (List ℕ) → Option (List ℕ)
+    → Fault → Type 0
 RefusesMigration files files' from to old new fault.Write = MigratesPart files files' from to old new
 RefusesMigration files files' from to old new other = IsNotMigrated files from to other × (files' ≡ files) × (new ≡ old)
 
@@ -141,7 +144,8 @@ RefusesHelp old new fault.Write = WritesPart old new
 RefusesHelp old new other = ⊥
 
 -- what a request leaves that is refused for this fault
-abbrev pub Refuses : Option Contents → Option Contents → Option Request → Option (List ℕ) → Option (List ℕ) → Option (List ℕ) → Fault → Type 0
+abbrev pub Refuses : Option Contents → Option Contents → Option Request → Option (List ℕ) → Option (List ℕ)
+    → Option (List ℕ) → Fault → Type 0
 Refuses files files' (Some (Check name)) input old new f = RefusesCheck files name old new f
 Refuses files files' (Some (Run name)) input old new f = RefusesRun files name input old new f
 Refuses files files' (Some (Migrate from to)) input old new f = RefusesMigration files files' from to old new f
@@ -171,7 +175,8 @@ pub record TellsFault (f : Fault) (old new : Option (List ℕ)) (failures failur
 
 -- a request was refused for one fault, of which all that is left tells: the output, how often the input and the
 -- output failed, and the line of the fault
-pub record IsRefused (files files' : Option Contents) (request : Option Request) (input old new : Option (List ℕ)) (reads reads' writes writes' : ℕ)
+pub record IsRefused (files files' : Option Contents) (request : Option Request) (input old new : Option (List ℕ))
+    (reads reads' writes writes' : ℕ)
     (told told' : Option (List ℕ)) (failures failures' : ℕ) : Type 0 where
   pub fault : Fault
   pub why : Refuses files files' request input old new fault

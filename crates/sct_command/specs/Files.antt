@@ -19,4 +19,5 @@ LacksFile (Some files) name = files name ≡ None
 abbrev pub Stores : Option Contents → Option Contents → List ℕ → List ℕ → Type 0
 Stores None new name bytes = Unit {0}
 Stores (Some old) None name bytes = ⊥
-Stores (Some old) (Some new) name bytes = (new name ≡ Some bytes) × ((other : List ℕ) → other ≢ name → new other ≡ old other)
+Stores (Some old) (Some new) name bytes = (new name ≡ Some bytes)
+    × ((other : List ℕ) → other ≢ name → new other ≡ old other)

@@ -30,12 +30,16 @@ is_option word = false
 abbrev pub operands : List (List ℕ) → Option (List (List ℕ))
 operands [] = Some []
 operands (word ∷ words) =
-    if bytes_eq word (codes "--") then Some words else if list_any is_option (word ∷ words) then None else Some (word ∷ words)
+    if bytes_eq word (codes "--") then Some words
+    else if list_any is_option (word ∷ words) then None
+    else Some (word ∷ words)
 
 -- what a verb asks for with these operands
 abbrev pub asked : List ℕ → List (List ℕ) → Option Request
 asked verb (name ∷ []) =
-    if bytes_eq verb (codes "check") then Some (Check name) else if bytes_eq verb (codes "run") then Some (Run name) else None
+    if bytes_eq verb (codes "check") then Some (Check name)
+    else if bytes_eq verb (codes "run") then Some (Run name)
+    else None
 asked verb (from ∷ to ∷ []) = if bytes_eq verb (codes "migrate") then Some (Migrate from to) else None
 asked verb operands = None
 

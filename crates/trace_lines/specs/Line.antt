@@ -39,9 +39,11 @@ IsObjectOf line members = IsUtf8 line × (read line ≡ Some (object members))
 
 -- what a member gives: a value to the input that it names
 abbrev pub given : List Variable → List ℕ → Data → Option (List ℕ × Value)
-given variables name d = option_and_then (λ a. option_map (λ v. (a.name, v)) (value_of a.kind d)) (input_of variables name)
+given variables name d = option_and_then (λ a. option_map (λ v. (a.name, v)) (value_of a.kind d))
+    (input_of variables name)
 
 -- what all members give; None where one gives nothing
 abbrev pub inputs_of : List Variable → Members → Option (List (List ℕ × Value))
 inputs_of variables no_members = Some []
-inputs_of variables (member name d rest) = option_and_then (λ g. option_map (λ gs. g ∷ gs) (inputs_of variables rest)) (given variables name d)
+inputs_of variables (member name d rest) = option_and_then (λ g. option_map (λ gs. g ∷ gs) (inputs_of variables rest))
+    (given variables name d)

@@ -36,7 +36,8 @@ outputs_of variables values = with_outputs variables values no_members
 -- a tick of this number and so many steps, with what it shows
 abbrev pub tick_data : ℕ → ℕ → Members → Data
 tick_data tick steps shown =
-    object (member (codes "out") (object shown) (member (codes "steps") (number (unsigned steps)) (member (codes "tick") (number (unsigned tick)) no_members)))
+    object (member (codes "out") (object shown) (member (codes "steps") (number (unsigned steps))
+        (member (codes "tick") (number (unsigned tick)) no_members)))
 
 abbrev pub tick_line : ℕ → ℕ → Members → List ℕ
 tick_line tick steps shown = compact_text (tick_data tick steps shown) ++ line_feed ∷ []

@@ -67,7 +67,8 @@ fn is_updated(
 ) -> bool
     requires known { known.now ≡ kinds program.now }
     requires formed { IsWellFormed (kinds program.now) code.now }
-    ensures { IsTrue result ↔ (IsWritten program.now variable code.now × (kind_at program.now variable ≡ Some (kind_combined combine)) × ¬ Contains (loads code.now) variable) }
+    ensures { IsTrue result ↔ (IsWritten program.now variable code.now
+        × (kind_at program.now variable ≡ Some (kind_combined combine)) × ¬ Contains (loads code.now) variable) }
 {
     if !is_written(program, known, variable, code) {
         return false;

@@ -41,7 +41,8 @@ fn budget_holds(program: &Program, tables: &Tables) -> bool
 // The thread whose bound does not cover a node, where there is one.
 fn uncovered(program: &Program, tables: &Tables, n: NodeId) -> Option<ThreadId>
     requires { (at : Place) → SizeAt program.now tables.now at }
-    ensures { MatchOption result (IsCovered program.now tables.now n) (λ t. ¬ BoundAt program.now tables.now (place.Thread t)) }
+    ensures { MatchOption result (IsCovered program.now tables.now n)
+        (λ t. ¬ BoundAt program.now tables.now (place.Thread t)) }
 {
     match program.step(n) {
         Some(Step::Depth { .. }) => {
@@ -57,7 +58,8 @@ fn uncovered(program: &Program, tables: &Tables, n: NodeId) -> Option<ThreadId>
 
 // The thread, where its bound is less than what is needed.
 fn exceeded(tables: &Tables, thread: Option<ThreadId>, needed: u64) -> Option<ThreadId>
-    ensures { MatchOption result ((t : ℕ) → thread ≡ Some t → needed ≤ bound tables.now t) (λ t. (thread ≡ Some t) × (bound tables.now t < needed)) }
+    ensures { MatchOption result ((t : ℕ) → thread ≡ Some t → needed ≤ bound tables.now t)
+        (λ t. (thread ≡ Some t) × (bound tables.now t < needed)) }
 {
     match thread {
         Some(t) if u64::from(tables.bound(t)) < needed => Some(t),

@@ -54,7 +54,8 @@ fn step_is_well_formed(program: &Program, known: &[Kind], step: &Step) -> bool
 // Whether a code is well formed and gives a truth value.
 fn is_condition(program: &Program, known: &[Kind], code: &Code) -> bool
     requires { known.now ≡ kinds program.now }
-    ensures { IsTrue result ↔ (IsWellFormed (kinds program.now) code.now × (code_kind code.now (kinds program.now) ≡ Some Bool)) }
+    ensures { IsTrue result ↔ (IsWellFormed (kinds program.now) code.now
+        × (code_kind code.now (kinds program.now) ≡ Some Bool)) }
 {
     match kind_given(program, known, code) {
         Some(Kind::Bool) => true,

@@ -94,7 +94,8 @@ fn conflict_among(program: &Program, links: &Links, nodes: &[NodeId]) -> Option<
 // A node and one of these that conflict.
 fn conflict_with(program: &Program, links: &Links, m: NodeId, nodes: &[NodeId]) -> Option<Place>
     requires { IsLinked program.now links.now }
-    ensures { MatchOption result ((n : ℕ) → Contains nodes.now n → ¬ WriteConflict program.now m n) (λ at. ¬ NoConflictAt program.now at) }
+    ensures { MatchOption result ((n : ℕ) → Contains nodes.now n → ¬ WriteConflict program.now m n)
+        (λ at. ¬ NoConflictAt program.now at) }
 {
     for n in nodes {
         if is_conflict(program, links, m, *n) {

@@ -62,7 +62,8 @@ fn rise_to_successor(tables: &Tables, n: NodeId, step: &Step) -> Option<Place>
 
 // The two nodes, where priority rises from the first to the second.
 fn rise_along(tables: &Tables, from: NodeId, to: NodeId) -> Option<Place>
-    ensures { MatchOption result (priority tables.now to ≤ priority tables.now from) (λ at. (at ≡ place.Pair from to) × (priority tables.now from < priority tables.now to)) }
+    ensures { MatchOption result (priority tables.now to ≤ priority tables.now from)
+        (λ at. (at ≡ place.Pair from to) × (priority tables.now from < priority tables.now to)) }
 {
     if tables.priority(from) < tables.priority(to) {
         Some(Place::Pair(from, to))
@@ -131,7 +132,8 @@ fn rise_at_child(
     requires formed { IsFormed program.now }
     requires exits { ListsEach (length program.now.threads) (IsExitOf program.now) exits.now }
     requires way { ForksTo program.now n child join }
-    ensures { MatchOption result (EntryFlows program.now tables.now n child × ExitsFlow program.now tables.now child join) (λ at. ¬ FlowAt program.now tables.now at) }
+    ensures { MatchOption result (EntryFlows program.now tables.now n child
+        × ExitsFlow program.now tables.now child join) (λ at. ¬ FlowAt program.now tables.now at) }
 {
     match rise_to_entry(program, tables, n, child) {
         Some(rising) => Some(rising),
@@ -141,7 +143,8 @@ fn rise_at_child(
 
 // The edge to the entry of a thread, where priority rises along it.
 fn rise_to_entry(program: &Program, tables: &Tables, n: NodeId, child: ThreadId) -> Option<Place>
-    ensures { MatchOption result (EntryFlows program.now tables.now n child) (RisesToEntry program.now tables.now n child) }
+    ensures { MatchOption result (EntryFlows program.now tables.now n child)
+        (RisesToEntry program.now tables.now n child) }
 {
     match program.entry(child) {
         Some(entry) => rise_along(tables, n, entry),

@@ -29,7 +29,8 @@ fn collected_kinds(alloc: Global, program: &Program) -> Result<Vec<Kind>, AllocE
 /// The kind of what a code gives, over the kinds of the variables. None: it is not well formed.
 pub(crate) fn kind_given(program: &Program, known: &[Kind], code: &Code) -> Option<Kind>
     requires { known.now ≡ kinds program.now }
-    ensures { MatchOption result (¬ IsWellFormed (kinds program.now) code.now) (λ k. IsWellFormed (kinds program.now) code.now × (code_kind code.now (kinds program.now) ≡ Some k)) }
+    ensures { MatchOption result (¬ IsWellFormed (kinds program.now) code.now)
+        (λ k. IsWellFormed (kinds program.now) code.now × (code_kind code.now (kinds program.now) ≡ Some k)) }
 {
     match CheckedCode::test(code, known) {
         Some(checked) => Some(checked.kind()),

@@ -117,7 +117,8 @@ fn no_fall_by(
     requires links { IsLinked program.now links.now }
     requires least { StandFor program.now tables.now Least firsts.now least.now }
     requires greatest { StandFor program.now tables.now Greatest seconds.now greatest.now }
-    ensures { MatchOption result (AllFall program.now tables.now firsts.now seconds.now) (NoFallBetween program.now tables.now firsts.now seconds.now) }
+    ensures { MatchOption result (AllFall program.now tables.now firsts.now seconds.now)
+        (NoFallBetween program.now tables.now firsts.now seconds.now) }
 {
     match no_fall_between(program, tables, links, least, greatest) {
         Some(_place) => no_fall_between(program, tables, links, firsts, seconds),
@@ -134,7 +135,8 @@ fn no_fall_between(
     seconds: &[NodeId],
 ) -> Option<Place>
     requires { IsLinked program.now links.now }
-    ensures { MatchOption result (AllFall program.now tables.now firsts.now seconds.now) (NoFallBetween program.now tables.now firsts.now seconds.now) }
+    ensures { MatchOption result (AllFall program.now tables.now firsts.now seconds.now)
+        (NoFallBetween program.now tables.now firsts.now seconds.now) }
 {
     for m in firsts {
         if let Some(n) = no_fall_after(program, tables, links, *m, seconds) {
@@ -153,7 +155,8 @@ fn no_fall_after(
     seconds: &[NodeId],
 ) -> Option<NodeId>
     requires { IsLinked program.now links.now }
-    ensures { MatchOption result ((n : ℕ) → Contains seconds.now n → ¬ DoesNotFall program.now tables.now m n) (λ n. Contains seconds.now n × DoesNotFall program.now tables.now m n) }
+    ensures { MatchOption result ((n : ℕ) → Contains seconds.now n → ¬ DoesNotFall program.now tables.now m n)
+        (λ n. Contains seconds.now n × DoesNotFall program.now tables.now m n) }
 {
     for n in seconds {
         if does_not_fall(program, tables, links, m, *n) {

@@ -89,7 +89,8 @@ fn are_alike(program: &Program, nodes: &[NodeId]) -> bool
 }
 
 fn is_like_all(program: &Program, first: NodeId, nodes: &[NodeId]) -> bool
-    ensures { IsTrue result → ((n : ℕ) → Contains nodes.now n → ¬ Clash (accesses program.now first) (accesses program.now n)) }
+    ensures { IsTrue result → ((n : ℕ) → Contains nodes.now n
+        → ¬ Clash (accesses program.now first) (accesses program.now n)) }
 {
     for n in nodes {
         if nodes_clash(program, first, *n) {

@@ -31,7 +31,8 @@ use std::alloc::Global;
 pub fn verify(alloc: Global, image: Image) -> Result<Verified, Refusal>
     ensures verified { IfOk result (λ v. v ≡ image) }
     ensures valid { IfOk result (λ v. IsValid v.program v.tables) }
-    ensures broken { (broken : Broken) → result ≡ Err (refusal.Broken broken) → IsLowestBroken image.program image.tables broken }
+    ensures broken { (broken : Broken) → result ≡ Err (refusal.Broken broken)
+        → IsLowestBroken image.program image.tables broken }
     // The first two rules are decided without memory.
     ensures memory { result ≡ Err refusal.Memory → KeepsBelow image.program image.tables (fault_number named.Code) }
     ensures accepted { IsValid image.program image.tables → (broken : Broken) → result ≢ Err (refusal.Broken broken) }
@@ -47,7 +48,8 @@ fn verify_by(image: Image, known: Known) -> Result<Verified, Refusal>
     requires { KnownOf image.program image.tables known }
     ensures verified { IfOk result (λ v. v ≡ image) }
     ensures valid { IfOk result (λ v. IsValid v.program v.tables) }
-    ensures broken { (broken : Broken) → result ≡ Err (refusal.Broken broken) → IsLowestBroken image.program image.tables broken }
+    ensures broken { (broken : Broken) → result ≡ Err (refusal.Broken broken)
+        → IsLowestBroken image.program image.tables broken }
     ensures memory { result ≢ Err refusal.Memory }
     ensures accepted { IsValid image.program image.tables → (broken : Broken) → result ≢ Err (refusal.Broken broken) }
 {

@@ -61,7 +61,8 @@ fn needed_weight(program: &Program, tables: &Tables, step: &Step) -> u64
 // same tick.
 fn fork_weight(program: &Program, tables: &Tables, children: &[ThreadId], join: NodeId) -> u64
     requires { length children.now ≤ child_limit }
-    ensures value { result ≡ entry_weights program.now tables.now children.now + (if entries_end program.now tables.now children.now then weight tables.now join else 0) }
+    ensures value { result ≡ entry_weights program.now tables.now children.now +
+        (if entries_end program.now tables.now children.now then weight tables.now join else 0) }
     ensures small { result ≤ 4259775 }
 {
     let entries = entry_weights(program, tables, children);

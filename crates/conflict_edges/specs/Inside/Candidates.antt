@@ -7,7 +7,8 @@ use Rattle.sc_graph.specs.Accesses.{accesses}
 
 -- where two of these nodes clash, one of them clashes with each third
 pub record AreAlike (p : Program) (nodes : List ℕ) : Type 0 where
-  pub apart : (k m n : ℕ) → Contains nodes k → Contains nodes m → Contains nodes n → Clash (accesses p k) (accesses p n) →
+  pub apart : (k m n : ℕ) → Contains nodes k → Contains nodes m → Contains nodes n
+      → Clash (accesses p k) (accesses p n) →
       Clash (accesses p k) (accesses p m) ⊎ Clash (accesses p m) (accesses p n)
 
 abbrev pub SameThread : Program → ℕ → ℕ → Type 0
@@ -16,7 +17,8 @@ SameThread p m n = owner_of p m ≡ owner_of p n
 -- one of the nodes, of the same thread, does not clash with node n, or two of them, of the same thread, clash
 pub data IsCovered (p : Program) (kept : List ℕ) (n : ℕ) : Type 0 where
   by_one : (b : ℕ) → Contains kept b → SameThread p b n → ¬ Clash (accesses p b) (accesses p n) → IsCovered p kept n
-  by_two : (a b : ℕ) → Contains kept a → Contains kept b → SameThread p a n → SameThread p b n → Clash (accesses p a) (accesses p b) → IsCovered p kept n
+  by_two : (a b : ℕ) → Contains kept a → Contains kept b → SameThread p a n → SameThread p b n
+      → Clash (accesses p a) (accesses p b) → IsCovered p kept n
 
 -- node n was put to the kept ones, or is covered by them
 pub data IsKept (p : Program) (old new : List ℕ) (n : ℕ) : Type 0 where

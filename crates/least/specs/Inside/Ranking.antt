@@ -25,7 +25,8 @@ pub record RanksMore (leads : ℕ → ℕ → ℕ → Type 0) (target : ℕ) (ol
 -- what became of ranks that were looked over at some places
 abbrev pub RanksBecame : (ℕ → ℕ → ℕ → Type 0) → ℕ → (ℕ → Type 0) → List ℕ → List ℕ → Bool → Type 0
 RanksBecame leads target At old new true = RanksMore leads target old new
-RanksBecame leads target At old new false = (new ≡ old) × ((m n w : ℕ) → At m → m < length old → leads m n w → 0 < slice_index old n → 0 < slice_index old m)
+RanksBecame leads target At old new false = (new ≡ old)
+    × ((m n w : ℕ) → At m → m < length old → leads m n w → 0 < slice_index old n → 0 < slice_index old m)
 
 -- a table of zeros and ones that rises along no edge, and falls along each edge of weight above 0 from the target
 pub record IsCut (leads : ℕ → ℕ → ℕ → Type 0) (count target : ℕ) : Type 0 where

@@ -40,4 +40,5 @@ pub record IsRaised (p : Program) (w : ℕ → ℕ) (old new : List ℕ) : Type 
 -- what became of bounds: some were raised, or all nodes of which this holds are covered
 abbrev pub CoverBecame : Program → (ℕ → ℕ) → (ℕ → Type 0) → List ℕ → List ℕ → Bool → Type 0
 CoverBecame p w At old new true = IsRaised p w old new
-CoverBecame p w At old new false = (new ≡ old) × ((n : ℕ) → At n → n < length p.nodes → IsCovered p w (slice_index old) n)
+CoverBecame p w At old new false = (new ≡ old) × ((n : ℕ) → At n → n < length p.nodes
+    → IsCovered p w (slice_index old) n)

@@ -29,7 +29,8 @@ join_at_once p e other = None
 -- flow within one tick, by a table of end bits
 pub data FlowBy (p : Program) (q : ℕ → ℕ) (m n : ℕ) : Type 0 where
   successor : (s : Step) → step_at p m ≡ Some s → Contains (successors s) n → FlowBy p q m n
-  over : (children : List ℕ) → step_at p m ≡ Some (step.Fork children n) → entry_bits p (bits q) children ≡ true → FlowBy p q m n
+  over : (children : List ℕ) → step_at p m ≡ Some (step.Fork children n) → entry_bits p (bits q) children ≡ true
+      → FlowBy p q m n
 
 abbrev pub FlowLeads : Program → (ℕ → ℕ) → ℕ → ℕ → ℕ → Type 0
 FlowLeads p q m n w = FlowBy p q m n × (w ≡ 1)

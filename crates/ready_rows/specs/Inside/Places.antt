@@ -20,10 +20,12 @@ pub record Holds (classes : List (Option ℕ)) (row places : List ℕ) (class i 
 -- the row of each class begins at its start and has its room to itself
 pub record LieApart (rooms starts row : List ℕ) : Type 0 where
   pub starts_long : length starts ≡ length rooms
-  pub apart : (low high : ℕ) → low < high → high < length rooms → slice_index starts low + slice_index rooms low ≤ slice_index starts high
+  pub apart : (low high : ℕ) → low < high → high < length rooms
+      → slice_index starts low + slice_index rooms low ≤ slice_index starts high
   pub within : (class : ℕ) → class < length rooms → slice_index starts class + slice_index rooms class ≤ length row
 
-pub record Stand (rooms : List ℕ) (classes : List (Option ℕ)) (starts counts row places : List ℕ) (top len : ℕ) : Type 0 where
+pub record Stand (rooms : List ℕ) (classes : List (Option ℕ)) (starts counts row places : List ℕ)
+    (top len : ℕ) : Type 0 where
   pub lie : LieApart rooms starts row
   pub counts_long : length counts ≡ length rooms
   pub places_long : length places ≡ length classes
@@ -31,6 +33,7 @@ pub record Stand (rooms : List ℕ) (classes : List (Option ℕ)) (starts counts
   pub fits : (class : ℕ) → class < length rooms → slice_index counts class ≤ slice_index rooms class
   pub known : (t class : ℕ) → IsIn classes t class → class < length rooms
   pub placed : (t class : ℕ) → IsIn classes t class → HasPlace starts counts row places t class
-  pub held : (class i : ℕ) → class < length rooms → slice_index starts class ≤ i → i < slice_index starts class + slice_index counts class → Holds classes row places class i
+  pub held : (class i : ℕ) → class < length rooms → slice_index starts class ≤ i
+      → i < slice_index starts class + slice_index counts class → Holds classes row places class i
   pub below : (t class : ℕ) → IsIn classes t class → class ≤ top
   pub len_is : len ≡ count_by is_in classes

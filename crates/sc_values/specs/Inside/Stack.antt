@@ -54,7 +54,8 @@ within_limit stack = if nat_le (length stack) operand_limit then Some stack else
 -- a code over a stack of kinds; None where an operand is missing, of another kind or one too many
 abbrev pub tested : List Kind → List Operation → List Kind → Option (List Kind)
 tested kinds [] stack = Some stack
-tested kinds (o ∷ code) stack = option_and_then (tested kinds code) (option_and_then within_limit (kind_acted (option_and_then (slice_get kinds) (loaded o)) o stack))
+tested kinds (o ∷ code) stack = option_and_then (tested kinds code)
+    (option_and_then within_limit (kind_acted (option_and_then (slice_get kinds) (loaded o)) o stack))
 
 abbrev pub alone : List Kind → Option Kind
 alone (k ∷ []) = Some k

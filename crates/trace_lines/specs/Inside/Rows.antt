@@ -33,17 +33,20 @@ key_text later name = comma_if later ++ (quoted name ++ 58 ∷ [])
 -- what rows show of values
 abbrev pub rows_text : List Row → List Value → List ℕ
 rows_text [] values = []
-rows_text (row ∷ rows) values = string_bytes row.before ++ (compact_text (data_at values row.place) ++ rows_text rows values)
+rows_text (row ∷ rows) values = string_bytes row.before
+    ++ (compact_text (data_at values row.place) ++ rows_text rows values)
 
 -- rows show the outputs among variables
 abbrev pub ShowsOutputs : List Variable → List Row → Type 0
 ShowsOutputs variables rows =
-    (values : List Value) → length values ≡ length variables → rows_text rows values ++ 125 ∷ [] ≡ members_text false (outputs_of variables values)
+    (values : List Value) → length values ≡ length variables
+        → rows_text rows values ++ 125 ∷ [] ≡ members_text false (outputs_of variables values)
 
 -- the output line of a tick of this number and so many steps, with the text of its rows
 abbrev pub line_by : ℕ → ℕ → List ℕ → List ℕ
 line_by tick steps rows =
-    codes "{\"out\":{" ++ (rows ++ (codes "},\"steps\":" ++ (decimal steps ++ (codes ",\"tick\":" ++ (decimal tick ++ codes "}\n")))))
+    codes "{\"out\":{" ++ (rows ++ (codes "},\"steps\":"
+        ++ (decimal steps ++ (codes ",\"tick\":" ++ (decimal tick ++ codes "}\n")))))
 
 -- whether there is a row
 abbrev pub has_rows : List Row → Bool
