@@ -1,2 +1,3 @@
 mod Example
+mod LabelRows
 pub mod RulesRows

@@ -27,22 +27,40 @@ abbrev pub or_else : Option Block → Option Block → Option Block
 or_else (Some k) other = Some k
 or_else None other = other
 
+-- what is to be done from behind the label of this name, which stands in the thread itself, up to the thread's end.
+-- What follows an if is behind the labels in it too
+abbrev pub behind_own_label : Block → List ℕ → Option Block
+behind_own_label (End n) name = None
+behind_own_label (Assign n x e rest) name = behind_own_label rest name
+behind_own_label (Label l rest) name = if bytes_eq l name then Some rest else behind_own_label rest name
+behind_own_label (Goto g l rest) name = behind_own_label rest name
+behind_own_label (Pause n rest) name = behind_own_label rest name
+behind_own_label (If n e first second rest) name =
+    or_else (option_map (λ k. before k rest) (behind_own_label first name))
+    (or_else (option_map (λ k. before k rest) (behind_own_label second name)) (behind_own_label rest name))
+behind_own_label (Fork n branches rest) name = behind_own_label rest name
+
 abbrev mutual
-  -- what is to be done from behind the label of this name, up to the end of its thread; None where there is none
-  pub behind_label : Block → List ℕ → Option Block
-  behind_label (End n) name = None
-  behind_label (Assign n x e rest) name = behind_label rest name
-  behind_label (Label l rest) name = if bytes_eq l name then Some rest else behind_label rest name
-  behind_label (Goto g l rest) name = behind_label rest name
-  behind_label (Pause n rest) name = behind_label rest name
-  behind_label (If n e first second rest) name =
-      or_else (option_map (λ k. before k rest) (behind_label first name))
-      (or_else (option_map (λ k. before k rest) (behind_label second name)) (behind_label rest name))
-  behind_label (Fork n branches rest) name = or_else (behind_label_among branches name) (behind_label rest name)
+  -- the same for a label in one of the threads that are forked in a text. It ends with its own thread: nothing of the
+  -- thread that forks follows
+  pub behind_lower_label : Block → List ℕ → Option Block
+  behind_lower_label (End n) name = None
+  behind_lower_label (Assign n x e rest) name = behind_lower_label rest name
+  behind_lower_label (Label l rest) name = behind_lower_label rest name
+  behind_lower_label (Goto g l rest) name = behind_lower_label rest name
+  behind_lower_label (Pause n rest) name = behind_lower_label rest name
+  behind_lower_label (If n e first second rest) name =
+      or_else (behind_lower_label first name) (or_else (behind_lower_label second name) (behind_lower_label rest name))
+  behind_lower_label (Fork n branches rest) name = or_else (behind_label_among branches name) (behind_lower_label rest name)
 
   pub behind_label_among : Branches → List ℕ → Option Block
   behind_label_among NoMore name = None
-  behind_label_among (Branch t body more) name = or_else (behind_label body name) (behind_label_among more name)
+  behind_label_among (Branch t body more) name =
+      or_else (or_else (behind_own_label body name) (behind_lower_label body name)) (behind_label_among more name)
+
+-- the same for a label in a thread or in one that it forks; None where there is none
+abbrev pub behind_label : Block → List ℕ → Option Block
+behind_label thread name = or_else (behind_own_label thread name) (behind_lower_label thread name)
 
 abbrev mutual
   -- how many labels there are
