@@ -1,0 +1,15 @@
+mod Alike
+mod Moving
+mod Agreeing
+mod Assigning
+mod Targets
+mod Forking
+mod Stepping
+mod Going
+mod Inputs
+mod Beginning
+mod Graphs
+mod Numbers
+mod Segments
+mod Ways
+mod Laying

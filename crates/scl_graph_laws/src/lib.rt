@@ -1,0 +1,12 @@
+//! The graph of an SCL program keeps its runs: the laws, over the definitions alone.
+#![tactic(auto)]
+
+ghost use Rattle.scl_graph_laws.specs.Laws.{GraphsKeepRuns};
+
+/// A program of nodes that is the graph of a text keeps its runs, before the first tick and over every
+/// list of input ticks, if each place of the text leads to a statement: configurations of the two
+/// correspond, and from two that do a list of threads is an admissible run of the one exactly where it
+/// is one of the other. This function does nothing; its contract is the law.
+pub fn graphs_keep_runs()
+    ensures { GraphsKeepRuns }
+{}
