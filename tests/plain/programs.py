@@ -118,34 +118,35 @@ def random_program(seed, size):
     return [("fork", [generator.body(3) for _ in range(generator.random.choice([2, 3, 4]))]), *generator.body(4)]
 
 
-def text_of_expression(e):
+def text_of_expression(e, variables=VARIABLES):
     def operand(a):
-        return text_of_expression(a) if a[0] in ("value", "load", "min", "max") else f"({text_of_expression(a)})"
+        text = text_of_expression(a, variables)
+        return text if a[0] in ("value", "load", "min", "max") else f"({text})"
     name = e[0]
     if name == "value":
         return str(e[1]).lower() if isinstance(e[1], bool) else str(e[1])
     if name == "load":
-        return VARIABLES[e[1]].name
+        return variables[e[1]].name
     if name == "negate":
         return "-" + operand(e[1])
     if name == "not":
         return "not " + operand(e[1])
     if name in ("min", "max"):
-        return f"{name}({text_of_expression(e[1])}, {text_of_expression(e[2])})"
+        return f"{name}({operand(e[1])}, {operand(e[2])})"
     if name in ("divide", "remainder"):
         return f"{operand(e[1])} {SIGNS[name]} {e[2]}"
     return f"{operand(e[1])} {SIGNS[name]} {operand(e[2])}"
 
 
-def text_of(body, name="P"):
+def text_of(body, name="P", variables=VARIABLES):
     """The text as `sct scl` prints it: one declaration or statement a line, two spaces for each level."""
-    lines = [f"scl {name} {{"] + [f"  {v.role} {v.kind} {v.name};" for v in VARIABLES]
+    lines = [f"scl {name} {{"] + [f"  {v.role} {v.kind} {v.name};" for v in variables]
 
     def write(statements, level):
         space = "  " * level
         for s in statements:
             if s[0] == "set":
-                lines.append(f"{space}{VARIABLES[s[1]].name} = {text_of_expression(s[2])};")
+                lines.append(f"{space}{variables[s[1]].name} = {text_of_expression(s[2], variables)};")
             elif s[0] == "label":
                 lines.append(f"{space}{s[1]}:")
             elif s[0] == "goto":
@@ -153,7 +154,7 @@ def text_of(body, name="P"):
             elif s[0] == "pause":
                 lines.append(f"{space}pause;")
             elif s[0] == "if":
-                lines.append(f"{space}if ({text_of_expression(s[1])}) {{")
+                lines.append(f"{space}if ({text_of_expression(s[1], variables)}) {{")
                 write(s[2], level + 1)
                 if s[3]:
                     lines.append(f"{space}}} else {{")
