@@ -1,0 +1,4 @@
+mod Written
+mod Shown
+mod Nested
+mod Rows

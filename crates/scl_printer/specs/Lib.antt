@@ -1,0 +1,3 @@
+pub mod Expressions
+pub mod Layout
+pub mod Inside

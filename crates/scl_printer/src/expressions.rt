@@ -1,0 +1,180 @@
+//! Writing an expression.
+
+ghost use Rattle.std.specs.Prelude.{◌≡◌, List};
+ghost use Rattle.std.specs.Fmt.{signed_decimal};
+ghost use Rattle.sc_graph.specs.declared.program.Variable.{Variable};
+ghost use Rattle.scl_printer.specs.Expressions.{value_text, variable_text, prefix_text, divisor_text, opening_text};
+ghost use Rattle.scl_printer.specs.Expressions.{infix_text, closing_text, is_infix, shown, expression_text};
+ghost use Rattle.scl_printer.specs.Inside.Writing.{Writes, page};
+
+use crate::pen::Pen;
+use itoa::Buffer;
+use sc_graph::{Variable, VariableId};
+use sc_values::{BinaryOperator, Expr, Sink, UnaryOperator, Value};
+use sqlite_items::at;
+
+/// Writes an expression over these variables.
+pub(crate) fn write_expression<W: Sink>(
+    pen: &mut Pen,
+    sink: &mut W,
+    variables: &[Variable],
+    expression: &Expr,
+)
+    ensures { Writes (page (W.taken sink.old) (W.failures sink.old) pen.old)
+        (page (W.taken sink.new) (W.failures sink.new) pen.new) (expression_text variables.now expression.now) }
+{
+    match expression {
+        Expr::Literal(value) => write_value(pen, sink, *value),
+        Expr::Load(variable) => write_variable(pen, sink, variables, *variable),
+        Expr::Unary(operator, operand) => {
+            let operand = operand.get();
+            let is_inner = is_operation(operand);
+            pen.put_text(sink, prefix_text(*operator));
+            pen.put_if(sink, is_inner, "(");
+            write_expression(pen, sink, variables, operand);
+            pen.put_if(sink, is_inner, ")");
+            write_divisor(pen, sink, *operator);
+        }
+        Expr::Binary(operator, left, right) => {
+            let left = left.get();
+            let is_left = is_operation(left);
+            let right = right.get();
+            let is_right = is_operation(right);
+            pen.put_text(sink, opening_text(*operator));
+            pen.put_if(sink, is_left, "(");
+            write_expression(pen, sink, variables, left);
+            pen.put_if(sink, is_left, ")");
+            pen.put_text(sink, infix_text(*operator));
+            pen.put_if(sink, is_right, "(");
+            write_expression(pen, sink, variables, right);
+            pen.put_if(sink, is_right, ")");
+            pen.put_text(sink, closing_text(*operator));
+        }
+    }
+}
+
+/// Writes the name of the variable of this number.
+pub(crate) fn write_variable<W: Sink>(
+    pen: &mut Pen,
+    sink: &mut W,
+    variables: &[Variable],
+    variable: VariableId,
+)
+    ensures { Writes (page (W.taken sink.old) (W.failures sink.old) pen.old)
+        (page (W.taken sink.new) (W.failures sink.new) pen.new) (variable_text variables.now variable) }
+{
+    match at(variables, variable as usize) {
+        Some(variable) => pen.put(sink, variable.name.as_bytes()),
+        None => {}
+    }
+}
+
+fn write_value<W: Sink>(pen: &mut Pen, sink: &mut W, value: Value)
+    ensures { Writes (page (W.taken sink.old) (W.failures sink.old) pen.old)
+        (page (W.taken sink.new) (W.failures sink.new) pen.new) (value_text value) }
+{
+    match value {
+        Value::Bool(true) => pen.put_text(sink, "true"),
+        Value::Bool(false) => pen.put_text(sink, "false"),
+        Value::Int(number) => write_number(pen, sink, number),
+    }
+}
+
+fn write_number<W: Sink>(pen: &mut Pen, sink: &mut W, number: i32)
+    ensures { Writes (page (W.taken sink.old) (W.failures sink.old) pen.old)
+        (page (W.taken sink.new) (W.failures sink.new) pen.new) (signed_decimal number) }
+{
+    let mut buffer = Buffer::new();
+    pen.put_text(sink, buffer.format(number));
+}
+
+// Writes what stands behind the operand of an operator: where it divides, its sign and the divisor.
+fn write_divisor<W: Sink>(pen: &mut Pen, sink: &mut W, operator: UnaryOperator)
+    ensures { Writes (page (W.taken sink.old) (W.failures sink.old) pen.old)
+        (page (W.taken sink.new) (W.failures sink.new) pen.new) (divisor_text operator) }
+{
+    match operator {
+        UnaryOperator::Divide(divisor) => {
+            pen.put_text(sink, " / ");
+            write_number(pen, sink, divisor.number());
+        }
+        UnaryOperator::Remainder(divisor) => {
+            pen.put_text(sink, " % ");
+            write_number(pen, sink, divisor.number());
+        }
+        UnaryOperator::Negate | UnaryOperator::Not => {}
+    }
+}
+
+// Whether an operator stands before its operand or between its operands, at the root of an expression.
+fn is_operation(expression: &Expr) -> bool
+    ensures { (variables : List Variable) → result ≡ (shown variables expression.now).operation }
+{
+    match expression {
+        Expr::Literal(_) => false,
+        Expr::Load(_) => false,
+        Expr::Unary(_, _) => true,
+        Expr::Binary(operator, _, _) => is_infix(*operator),
+    }
+}
+
+fn is_infix(operator: BinaryOperator) -> bool
+    ensures { result ≡ is_infix operator }
+{
+    match operator {
+        BinaryOperator::Min => false,
+        BinaryOperator::Max => false,
+        _ => true,
+    }
+}
+
+fn prefix_text(operator: UnaryOperator) -> &'static str
+    ensures { result.now ≡ prefix_text operator }
+{
+    match operator {
+        UnaryOperator::Negate => "-",
+        UnaryOperator::Not => "not ",
+        UnaryOperator::Divide(_) => "",
+        UnaryOperator::Remainder(_) => "",
+    }
+}
+
+fn opening_text(operator: BinaryOperator) -> &'static str
+    ensures { result.now ≡ opening_text operator }
+{
+    match operator {
+        BinaryOperator::Min => "min(",
+        BinaryOperator::Max => "max(",
+        _ => "",
+    }
+}
+
+fn infix_text(operator: BinaryOperator) -> &'static str
+    ensures { result.now ≡ infix_text operator }
+{
+    match operator {
+        BinaryOperator::Add => " + ",
+        BinaryOperator::Subtract => " - ",
+        BinaryOperator::Multiply => " * ",
+        BinaryOperator::Min => ", ",
+        BinaryOperator::Max => ", ",
+        BinaryOperator::And => " and ",
+        BinaryOperator::Or => " or ",
+        BinaryOperator::Equal => " == ",
+        BinaryOperator::NotEqual => " != ",
+        BinaryOperator::Less => " < ",
+        BinaryOperator::LessOrEqual => " <= ",
+        BinaryOperator::Greater => " > ",
+        BinaryOperator::GreaterOrEqual => " >= ",
+    }
+}
+
+fn closing_text(operator: BinaryOperator) -> &'static str
+    ensures { result.now ≡ closing_text operator }
+{
+    match operator {
+        BinaryOperator::Min => ")",
+        BinaryOperator::Max => ")",
+        _ => "",
+    }
+}
