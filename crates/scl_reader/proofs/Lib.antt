@@ -1,2 +1,13 @@
 pub mod Shapes
 pub mod Deepens
+pub mod Taking
+pub mod Names
+pub mod Values
+pub mod Single
+pub mod Choosing
+pub mod Blocks
+pub mod Forks
+pub mod Loops
+pub mod Declaring
+pub mod Programs
+pub mod Drafting

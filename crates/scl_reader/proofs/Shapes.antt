@@ -127,7 +127,7 @@ unfolding forking
 forking_is e NoMore h nothing = shaped_barred _ _ _ _ _ (simple_is e h) refl
 forking_is e (Nested a) h (nested s i) = shaped_either _ _ _ _ _ _ _ (fork_is s i) (simple_is e h) refl
 
-statement_is : (e : Grows Phrase) (forks ifs : Inner) → IsExpression e → Fits forks → Fits ifs → IsStatement (statement e forks ifs)
+pub statement_is : (e : Grows Phrase) (forks ifs : Inner) → IsExpression e → Fits forks → Fits ifs → IsStatement (statement e forks ifs)
 unfolding statement
 statement_is e forks NoMore h f nothing =
     record { tails = []; ends = with_none; shape = shaped_barred _ _ _ _ _ (forking_is e forks h f) refl }
@@ -139,12 +139,12 @@ statement_is e forks (Nested a) h f (nested s i) =
     }
 
 module _ (e : Grows Phrase) (h : IsExpression e) where
-  ifs_fit : (forks : Inner) → Fits forks → (n : ℕ) → Fits (ifs_within e forks n)
+  pub ifs_fit : (forks : Inner) → Fits forks → (n : ℕ) → Fits (ifs_within e forks n)
   unfolding ifs_within
   ifs_fit forks f zero = nothing
   ifs_fit forks f (suc n) = nested _ (statement_is e forks (ifs_within e forks n) h f (ifs_fit forks f n))
 
-  forks_fit : (ifs n : ℕ) → Fits (forks_within e ifs n)
+  pub forks_fit : (ifs n : ℕ) → Fits (forks_within e ifs n)
   unfolding forks_within
   forks_fit ifs zero = nothing
   forks_fit ifs (suc n) =

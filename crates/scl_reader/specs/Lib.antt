@@ -1,3 +1,5 @@
 pub mod Lines
 pub mod Program
 pub mod Laws
+pub mod Draft
+pub mod Inside

@@ -1,8 +1,17 @@
 //! Reading SCL text.
 #![tactic(auto)]
 
+mod declarations;
+mod draft;
 mod laws;
 mod line;
+mod name;
+mod program;
+mod simple;
+mod statements;
+mod value;
 
+pub use draft::{Declaration, Draft};
 pub use laws::scl_texts_are_told;
 pub use line::Line;
+pub use program::read_draft;
