@@ -1,0 +1,11 @@
+mod Parts
+mod Names
+mod Once
+mod Pieces
+mod Inside
+mod Bodies
+mod Distinct
+mod RegionBodies
+mod Keeping
+pub mod Ruled
+mod LoweringRows

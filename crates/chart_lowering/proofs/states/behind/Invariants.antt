@@ -1,0 +1,6 @@
+use Rattle.std.proofs.Common.{◌≡◌, drop}
+use Rattle.core_charts.specs.Standing.{terminations}
+use Rattle.chart_lowering.proofs.states.behind.Given as goal
+
+abbrev pub invariant-loop-transition : goal.invariant-loop-transition
+invariant-loop-transition l = terminations (drop l.transition-index l.transitions) ≡ terminations l.transitions
