@@ -1,0 +1,5 @@
+pub mod Draft
+pub mod ChartText
+pub mod Inside
+pub mod Laws
+pub mod Reading

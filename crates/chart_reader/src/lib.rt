@@ -1,0 +1,17 @@
+//! Reading chart text.
+#![tactic(auto)]
+
+mod ahead;
+mod draft;
+mod laws;
+mod regions;
+mod transitions;
+mod whole;
+mod words;
+
+pub use draft::{
+    Declaration, DraftChart, DraftEffect, DraftExpression, DraftRegion, DraftState,
+    DraftTransition, Named,
+};
+pub use laws::chart_texts_are_told;
+pub use whole::read_draft;
