@@ -67,7 +67,7 @@ fn shown_rows(alloc: Global, places: &BTreeMap<String, usize>) -> Result<Vec<Row
     ensures { IfOk result (λ rows. (values : List ValueOf)
         → rows_text rows.items values ++ 125 ∷ [] ≡ members_text false (placed places.now.entries values)) }
 {
-    let mut rows = Vec::new(alloc);
+    let mut rows = Vec::with_capacity(alloc, places.len())?;
     for (name, place) in places {
         let before = key_of(alloc, !rows.is_empty(), name.as_str())?;
         rows.push(Row {
