@@ -4,6 +4,9 @@ mod OwnRoom
 mod Unmoved
 mod Led
 mod Opened
+mod Giving
+mod Going
+mod Starts
 mod Counts
 mod LivingChildren
 pub mod Reports

@@ -1,7 +1,7 @@
-ghost use Rattle.std.specs.Prelude.{◌≡◌, ◌≢◌, ◌↔◌, ◌<◌, ℕ, List, IsTrue, Some, length, slice_get};
+ghost use Rattle.std.specs.Prelude.{◌≡◌, ◌≢◌, ◌↔◌, ◌<◌, ℕ, List, IsTrue, MatchOption, Some, length, slice_get};
 ghost use Rattle.sc_values.specs.declared.value.Value.{Value};
 ghost use Rattle.sc_graph.specs.Tick.{AreAccepted};
-ghost use Rattle.tick_core.specs.Inside.Inputs.{IsFor, NamesInput, IsAcceptedAt};
+ghost use Rattle.tick_core.specs.Inside.Inputs.{IsFor, IsForAt, NamesInput, IsAcceptedAt};
 
 use sc_graph::{Program, Role, Variable};
 use sc_values::{Name, Value};
@@ -11,7 +11,8 @@ use sqlite_items::Items;
 /// each with a value of its kind, and no name twice.
 pub type Inputs = Items<(Name, Value)>;
 
-/// Whether each input names an input variable and has its kind, and no name comes twice.
+/// Whether each input names an input variable and has its kind, and no name comes twice. It takes no
+/// memory, and compares each input with all variables and all earlier inputs.
 pub(crate) fn are_accepted(program: &Program, inputs: &[(Name, Value)]) -> bool
     ensures { IsTrue result ↔ (AreAccepted program.now inputs.now) }
 {
@@ -36,12 +37,43 @@ fn is_accepted_at(program: &Program, inputs: &[(Name, Value)], at: usize) -> boo
 fn names_input(variables: &[Variable], input: &(Name, Value)) -> bool
     ensures { IsTrue result ↔ (NamesInput variables.now input.now) }
 {
-    for variable in variables {
-        if is_for(variable, input) {
-            return true;
+    place_among(variables, input).is_some()
+}
+
+/// The variable that this input is for, looked for at this place first; None where it is for none.
+pub(crate) fn place_of(
+    variables: &[Variable],
+    input: &(Name, Value),
+    guess: Option<usize>,
+) -> Option<usize>
+    ensures { MatchOption result (¬ NamesInput variables.now input.now) (IsForAt variables.now input.now) }
+{
+    match guess {
+        Some(place) if is_for_at(variables, input, place) => Some(place),
+        _ => place_among(variables, input),
+    }
+}
+
+// The variable that this input is for, looked for among all.
+fn place_among(variables: &[Variable], input: &(Name, Value)) -> Option<usize>
+    ensures { MatchOption result (¬ NamesInput variables.now input.now) (IsForAt variables.now input.now) }
+{
+    for place in 0..variables.len() {
+        if is_for(&variables[place], input) {
+            return Some(place);
         }
     }
-    false
+    None
+}
+
+// Whether this input is for the variable at this place.
+fn is_for_at(variables: &[Variable], input: &(Name, Value), place: usize) -> bool
+    ensures { IsTrue result ↔ (IsForAt variables.now input.now place) }
+{
+    match variables.get(place) {
+        Some(variable) => is_for(variable, input),
+        None => false,
+    }
 }
 
 // Whether this input is for this variable.

@@ -2,9 +2,12 @@
 #![tactic(auto)]
 
 mod claim;
+mod copying;
 mod enabled;
 mod events;
 mod fault_text;
+mod given;
+mod guesses;
 mod history;
 mod inputs;
 mod judging;

@@ -1,56 +1,62 @@
-ghost use Rattle.std.specs.Prelude.{◌≡◌, ◌++◌, IfOk, OnOk, length, map};
-ghost use Rattle.sc_graph.specs.Tick.{given, value_at_start, values_at_start, woken, root_started, statuses_at_start, start};
+ghost use Rattle.std.specs.Prelude.{◌≡◌, IfOk, length, map};
+ghost use Rattle.sc_graph.specs.Tick.{Inputs, AreAccepted, given, value_at_start, values_at_start, woken, root_started, statuses_at_start, start};
+ghost use Rattle.tick_core.specs.Inside.Given.{HasOwnNames, Gives};
 
+use crate::copying::copied;
+use crate::given::Given;
 use sc_graph::{Control, NodeId, Program, Role, Status, Variable};
 use sc_values::{Name, Value};
 use sqlite_items::Items;
 use std::alloc::{AllocError, Global};
 
-/// The start of a tick from this configuration: inputs are written, paused threads come to stand at
-/// their depths, and an absent root at its entry.
+/// The start of a tick from this configuration, under inputs that are accepted.
 pub(crate) fn started(
     alloc: Global,
     program: &Program,
     inputs: &[(Name, Value)],
     control: &Control,
 ) -> Result<Control, AllocError>
-    requires { length control.now.variables ≡ length program.now.variables }
+    requires names { HasOwnNames program.now.variables }
+    requires accepted { AreAccepted program.now inputs.now }
+    requires values { length control.now.variables ≡ length program.now.variables }
     ensures { IfOk result (λ c. c ≡ start program.now inputs.now control.now) }
 {
-    let variables = started_values(
-        alloc,
-        program.variables(),
-        inputs,
-        control.variables.as_slice(),
-    )?;
-    let statuses = started_statuses(alloc, program, control.statuses.as_slice())?;
-    Ok(Control {
-        variables,
-        statuses,
-    })
-}
-
-fn started_values(
-    alloc: Global,
-    variables: &[Variable],
-    inputs: &[(Name, Value)],
-    values: &[Value],
-) -> Result<Items<Value>, AllocError>
-    requires { length values.now ≡ length variables.now }
-    ensures { IfOk result (λ started. started ≡ values_at_start inputs.now variables.now values.now) }
-{
-    let mut started = Vec::with_capacity(alloc, variables.len())?;
-    for (x, variable) in variables.iter().enumerate() {
-        started.push(started_value(inputs, variable, values[x]))?;
+    let mut given = Given::of(alloc, program)?;
+    let mut control = copied(alloc, control)?;
+    if given.take(program, inputs) {
+        start(program, given.values(), &mut control);
     }
-    Ok(Items::from_vec(started))
+    Ok(control)
 }
 
-fn started_value(inputs: &[(Name, Value)], variable: &Variable, present: Value) -> Value
-    ensures { result ≡ value_at_start inputs.now variable.now variable.now.role present }
+/// Makes of a configuration the start of a tick from it, under what is given: inputs are written, paused
+/// threads come to stand at their depths, and an absent root at its entry.
+pub(crate) fn start(program: &Program, given: &[Option<Value>], control: &mut Control)
+    requires values { length control.old.variables ≡ length program.now.variables }
+    requires given { length given.now ≡ length program.now.variables }
+    ensures { (inputs : Inputs) → Gives program.now.variables inputs given.now → control.new ≡ start program.now inputs control.old }
+{
+    start_values(program.variables(), given, &mut control.variables);
+    start_statuses(program, &mut control.statuses);
+}
+
+fn start_values(variables: &[Variable], given: &[Option<Value>], values: &mut Items<Value>)
+    requires values { length values.old ≡ length variables.now }
+    requires given { length given.now ≡ length variables.now }
+    ensures { (inputs : Inputs) → Gives variables.now inputs given.now → values.new ≡ values_at_start inputs variables.now values.old }
+{
+    for x in 0..variables.len() {
+        let present = values.as_slice()[x];
+        let given = given[x];
+        values.set(x, started_value(&variables[x], given, present));
+    }
+}
+
+fn started_value(variable: &Variable, value: Option<Value>, present: Value) -> Value
+    ensures { (inputs : Inputs) → value ≡ given inputs variable.now.name → result ≡ value_at_start inputs variable.now variable.now.role present }
 {
     match variable.role {
-        Role::Input => match given(inputs, &variable.name) {
+        Role::Input => match value {
             Some(value) => value,
             None => variable.kind.initial(),
         },
@@ -58,40 +64,23 @@ fn started_value(inputs: &[(Name, Value)], variable: &Variable, present: Value) 
     }
 }
 
-// The value that is given for a name.
-fn given(inputs: &[(Name, Value)], name: &Name) -> Option<Value>
-    ensures { result ≡ given inputs.now name.now }
+fn start_statuses(program: &Program, statuses: &mut Items<Status>)
+    ensures { statuses.new ≡ statuses_at_start program.now statuses.old }
 {
-    for input in inputs {
-        if input.0 == *name {
-            return Some(input.1);
-        }
+    let root = statuses.get(0).copied();
+    wake_all(statuses);
+    if let Some(root) = root {
+        statuses.set(0, started_root(program.entry(0), root));
     }
-    None
 }
 
-fn started_statuses(
-    alloc: Global,
-    program: &Program,
-    statuses: &[Status],
-) -> Result<Items<Status>, AllocError>
-    ensures { IfOk result (λ started. started ≡ statuses_at_start program.now statuses.now) }
+fn wake_all(statuses: &mut Items<Status>)
+    ensures { statuses.new ≡ map woken statuses.old }
 {
-    let mut started = Vec::with_capacity(alloc, statuses.len())?;
-    if let Some((root, others)) = statuses.split_first() {
-        started.push(started_root(program.entry(0), *root))?;
-        push_woken(&mut started, others)?;
+    for t in 0..statuses.len() {
+        let status = statuses.as_slice()[t];
+        statuses.set(t, woken(status));
     }
-    Ok(Items::from_vec(started))
-}
-
-fn push_woken(started: &mut Vec<Status>, others: &[Status]) -> Result<(), AllocError>
-    ensures { OnOk result (started.new.items ≡ started.old.items ++ map woken others.now) }
-{
-    for status in others {
-        started.push(woken(*status))?;
-    }
-    Ok(())
 }
 
 fn started_root(entry: Option<NodeId>, root: Status) -> Status

@@ -1,4 +1,4 @@
-ghost use Rattle.std.specs.Prelude.{◌≡◌, ◌≤◌, ◌↔◌, ℕ, IfOk, IsSome, length, map, slice_get, Some, None};
+ghost use Rattle.std.specs.Prelude.{◌≡◌, ◌≢◌, ◌≤◌, ◌↔◌, ℕ, IfOk, OnErr, IsSome, length, map, slice_get, Some, None};
 ghost use Rattle.std.specs.Result.{IsErrOf};
 ghost use Rattle.sc_values.specs.Runs.{IsAdmissible};
 ghost use Rattle.sc_graph.specs.Machine.{machine};
@@ -16,17 +16,19 @@ mod claiming;
 mod ending;
 
 use crate::claim::Claim;
+use crate::copying::{copied, copy_into};
+use crate::given::Given;
 use crate::history::Entry;
 use crate::inputs::{Inputs, are_accepted};
 use crate::layout::Layout;
 use crate::living::count_every;
 use crate::sorting::{rows_of, sort_every};
-use crate::starting::started;
+use crate::starting::start;
 use bytecode::Image;
 pub(crate) use ending::present_value;
 use ready_rows::Rows;
 use sc_graph::{Control, Program, ThreadId};
-use sc_values::{Kind, Value};
+use sc_values::{Kind, Name, Value};
 use sqlite_items::Items;
 use std::alloc::{AllocError, AllocFailed, Global};
 use std::marker::Model;
@@ -80,10 +82,12 @@ pub struct TickState<'a> {
     level: u16,
     // by thread that waits: how many of the children for whom it waits have not ended
     living: Vec<usize>,
+    // what was given to the variables
+    given: Given,
 }
 
 impl<'a> Model for TickState<'a> {
-    ghost use Rattle.std.specs.Prelude.{◌≡◌, ◌≤◌, vec_capacity};
+    ghost use Rattle.std.specs.Prelude.{◌≡◌, ◌≤◌, length, vec_capacity};
     ghost use Rattle.sc_graph.specs.Program.{kinds};
     ghost use Rattle.tick_core.specs.State.{InTick, Holds};
     ghost use Rattle.tick_core.specs.Inside.Layout.{FindsForks};
@@ -95,11 +99,12 @@ impl<'a> Model for TickState<'a> {
 
     ghost view = { λ s. record { image = s.verified.now; begun = s.begun; present = s.present; history = s.history.items; claims = s.claims.items } };
 
-    ghost invariant = { λ s. Holds (record { image = s.verified.now; begun = s.begun; present = s.present; history = s.history.items; claims = s.claims.items }) × (s.variable_kinds.items ≡ kinds s.verified.now.program) × (s.verified.now.tables.budget ≤ vec_capacity s.history) × FindsForks s.verified.now.program s.layout × AreSorted s.verified.now.program s.verified.now.tables s.present s.claims.items s.rows × OpenAt (record { image = s.verified.now; begun = s.begun; present = s.present; history = s.history.items; claims = s.claims.items }) s.claimed s.level × CountsLiving s.verified.now.program s.present s.living.items };
+    ghost invariant = { λ s. Holds (record { image = s.verified.now; begun = s.begun; present = s.present; history = s.history.items; claims = s.claims.items }) × (s.variable_kinds.items ≡ kinds s.verified.now.program) × (s.verified.now.tables.budget ≤ vec_capacity s.history) × FindsForks s.verified.now.program s.layout × AreSorted s.verified.now.program s.verified.now.tables s.present s.claims.items s.rows × OpenAt (record { image = s.verified.now; begun = s.begun; present = s.present; history = s.history.items; claims = s.claims.items }) s.claimed s.level × CountsLiving s.verified.now.program s.present s.living.items × (length s.given ≡ length s.verified.now.program.variables) };
 }
 
 /// What the ticks of one verified image take over from one another: the table of its joins, the kinds
-/// of its variables, and room for the history and for claims. Contracts see the image.
+/// of its variables and where its inputs stand, and room for the history, for claims and for a
+/// configuration. Contracts see the image.
 #[derive(Drop)]
 pub struct Room<'a> {
     verified: &'a Verified,
@@ -112,6 +117,9 @@ pub struct Room<'a> {
     claims: Vec<Option<Claim<'a>>>,
     // with a place for each thread
     living: Vec<usize>,
+    given: Given,
+    // a configuration of the program, or like one, in which nothing is read
+    spare: Control,
 }
 
 impl<'a> Model for Room<'a> {
@@ -120,12 +128,13 @@ impl<'a> Model for Room<'a> {
     ghost use Rattle.bytecode.specs.Image.{Image};
     ghost use Rattle.tick_core.specs.Inside.Layout.{FindsForks};
     ghost use Rattle.tick_core.specs.Inside.Sorting.{OwnRows};
+    ghost use Rattle.tick_core.specs.Inside.Given.{HasPlaces};
 
     ghost Value = { Image };
 
     ghost view = { λ r. r.verified.now };
 
-    ghost invariant = { λ r. (r.variable_kinds.items ≡ kinds r.verified.now.program) × (r.claims.items ≡ map (λ _. None) r.verified.now.program.threads) × FindsForks r.verified.now.program r.layout × OwnRows r.verified.now.program r.verified.now.tables r.rows × (r.verified.now.tables.budget ≤ vec_capacity r.history) × (length r.living.items ≡ length r.verified.now.program.threads) };
+    ghost invariant = { λ r. (r.variable_kinds.items ≡ kinds r.verified.now.program) × (r.claims.items ≡ map (λ _. None) r.verified.now.program.threads) × FindsForks r.verified.now.program r.layout × OwnRows r.verified.now.program r.verified.now.tables r.rows × (r.verified.now.tables.budget ≤ vec_capacity r.history) × (length r.living.items ≡ length r.verified.now.program.threads) × (length r.given ≡ length r.verified.now.program.variables) × HasPlaces r.verified.now.program r.spare };
 }
 
 /// What `claim` answers.
@@ -163,11 +172,21 @@ pub fn begin<'a>(
     ensures start { IfOk result (λ s. s ≡ begun verified.now inputs.now control.now) }
     ensures refused { IsErrOf result BeginFault.Input ↔ ¬ (AreAccepted verified.now.program inputs.now) }
 {
-    if !are_accepted(verified.image().program(), inputs.as_slice()) {
-        return Err(BeginFault::Input);
+    match Room::of(alloc, verified) {
+        Ok(room) => room.begin(alloc, control, inputs),
+        Err(_) => Err(refused(verified.image().program(), inputs.as_slice())),
     }
-    let room = Room::of(alloc, verified)?;
-    Ok(room.start(alloc, control, inputs)?)
+}
+
+// Why a tick is not begun for which there is no memory.
+fn refused(program: &Program, inputs: &[(Name, Value)]) -> BeginFault
+    ensures { result ≡ BeginFault.Input ↔ ¬ (AreAccepted program.now inputs.now) }
+{
+    if are_accepted(program, inputs) {
+        BeginFault::Memory
+    } else {
+        BeginFault::Input
+    }
 }
 
 impl<'a> Room<'a> {
@@ -182,6 +201,8 @@ impl<'a> Room<'a> {
         let history = Vec::with_capacity(alloc, verified.image().tables().budget as usize)?;
         let claims = no_claims(alloc, program)?;
         let living = vec![in alloc; 0; program.threads().len()]?;
+        let given = Given::of(alloc, program)?;
+        let spare = Control::initial(alloc, program)?;
         Ok(Room {
             verified,
             layout,
@@ -190,6 +211,8 @@ impl<'a> Room<'a> {
             history,
             claims,
             living,
+            given,
+            spare,
         })
     }
 
@@ -205,22 +228,20 @@ impl<'a> Room<'a> {
         ensures start { IfOk result (λ s. s ≡ begun self.entry inputs.now control.now) }
         ensures refused { IsErrOf result BeginFault.Input ↔ ¬ (AreAccepted self.entry.program inputs.now) }
     {
-        if !are_accepted(self.verified.image().program(), inputs.as_slice()) {
-            return Err(BeginFault::Input);
+        match copied(alloc, control) {
+            Ok(control) => self.go_on(control, inputs),
+            Err(_) => Err(refused(self.verified.image().program(), inputs.as_slice())),
         }
-        Ok(self.start(alloc, control, inputs)?)
     }
 
-    // Begins a tick under inputs that are accepted.
-    fn start(
-        self,
-        alloc: Global,
-        control: &Control,
-        inputs: &Inputs,
-    ) -> Result<TickState<'a>, AllocError>
-        requires rests { Rests self.program control.now }
-        requires accepted { AreAccepted self.program inputs.now }
-        ensures { IfOk result (λ s. s ≡ begun self.entry inputs.now control.now) }
+    /// Begins a tick of the image as `begin` does, from a configuration that is given up: the tick takes
+    /// its place, and no memory.
+    pub fn go_on(self, control: Control, inputs: &Inputs) -> Result<TickState<'a>, BeginFault>
+        requires { Rests self.program control }
+        ensures accepted { IfOk result (λ _. AreAccepted self.entry.program inputs.now) }
+        ensures start { IfOk result (λ s. s ≡ begun self.entry inputs.now control) }
+        ensures refused { OnErr result (¬ (AreAccepted self.entry.program inputs.now)) }
+        ensures why { result ≢ Err BeginFault.Memory }
     {
         let Room {
             verified,
@@ -230,15 +251,27 @@ impl<'a> Room<'a> {
             mut history,
             claims,
             mut living,
+            mut given,
+            spare: mut present,
         } = self;
         let image = verified.image();
         let program = image.program();
-        let begun = started(alloc, program, inputs.as_slice(), control)?;
-        let present = copied(alloc, &begun)?;
-        let tables = image.tables();
+        if !given.take(program, inputs.as_slice()) {
+            return Err(BeginFault::Input);
+        }
+        let mut begun = control;
+        start(program, given.values(), &mut begun);
+        copy_into(&begun, &mut present);
         history.clear();
         count_every(&layout, program, &present, &mut living);
-        sort_every(program, tables, &present, &living, &claims, &mut rows);
+        sort_every(
+            program,
+            image.tables(),
+            &present,
+            &living,
+            &claims,
+            &mut rows,
+        );
         Ok(TickState {
             verified,
             layout,
@@ -251,6 +284,7 @@ impl<'a> Room<'a> {
             claimed: 0,
             level: 0,
             living,
+            given,
         })
     }
 }
@@ -307,18 +341,6 @@ impl<'a> TickState<'a> {
     {
         self.rows.row(priority)
     }
-}
-
-// The same configuration again.
-fn copied(alloc: Global, control: &Control) -> Result<Control, AllocError>
-    ensures { IfOk result (λ c. c ≡ control.now) }
-{
-    let variables = Items::from_slice(alloc, control.variables.as_slice())?;
-    let statuses = Items::from_slice(alloc, control.statuses.as_slice())?;
-    Ok(Control {
-        variables,
-        statuses,
-    })
 }
 
 /// The kinds of all variables.

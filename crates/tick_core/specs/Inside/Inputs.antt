@@ -11,6 +11,12 @@ pub record IsFor (variable : Variable) (input : List ℕ × Value) : Type 0 wher
   pub role : variable.role ≡ role.Input
   pub kind : variable.kind ≡ kind_of input.1
 
+-- the input is for the variable at this place
+pub record IsForAt (variables : List Variable) (input : List ℕ × Value) (place : ℕ) : Type 0 where
+  pub variable : Variable
+  pub is : slice_get variables place ≡ Some variable
+  pub fits : IsFor variable input
+
 -- the input is for one of these variables
 pub record NamesInput (variables : List Variable) (input : List ℕ × Value) : Type 0 where
   pub number : ℕ

@@ -46,7 +46,7 @@ pub(crate) fn replay(
     ensures { IfOk result (ReplaysTo verified.now.program control.old run.now control.new) }
 {
     let kinds = kinds_of(alloc, verified.image().program())?;
-    let mut steps = Vec::new(alloc);
+    let mut steps = Vec::with_capacity(alloc, run.len())?;
     for (at, thread) in run.iter().enumerate() {
         match step_if_enabled(layout, verified, &kinds, control, *thread) {
             Some(node) => steps.push(Taken {

@@ -138,13 +138,14 @@ impl<'a> TickState<'a> {
             layout,
             rows,
             variable_kinds,
-            begun: _,
+            begun,
             present,
             history,
             claims,
             claimed: _,
             level: _,
             living,
+            given,
         } = self;
         let room = Room {
             verified,
@@ -154,6 +155,8 @@ impl<'a> TickState<'a> {
             history,
             claims,
             living,
+            given,
+            spare: begun,
         };
         (present, room)
     }

@@ -1,14 +1,21 @@
-use Rattle.std.proofs.Common.{◌≡◌, subst, rules}
+use Rattle.std.proofs.Common.{◌≡◌, ◌∙◌, ap, subst, sym, rules}
 use Rattle.sc_graph.specs.Tick.{start}
 use Rattle.tick_core.specs.State.{BeginsTick}
 use Rattle.sc_graph.specs.declared.control.Control.{Control}
 use Rattle.tick_core.specs.declared.judging.Judged.TheVariants as judged
 use Rattle.tick_core.specs.Judging.{IsNotRun}
 use Rattle.tick_core.specs.Inside.Judging.{ReplaysTo, RunsBy}
+use Rattle.tick_core.specs.Inside.Given.{HasOwnNames}
+use Rattle.tick_core.proofs.Giving.{own_names}
 use Rattle.tick_core.proofs.OneJudgement.{one_judgement}
 use Rattle.tick_core.proofs.Replaying.{reached_by}
 use Rattle.tick_core.proofs.JudgedBySteps.{judged_run}
 use Rattle.tick_core.proofs.judging.judge.Goals as goal
+
+pub started-requires-clause-names : goal.started-requires-clause-names
+started-requires-clause-names c =
+    subst (λ p. HasOwnNames p.variables) (sym (c.program-program.ensures ∙ ap (λ i. i.program) c.image.ensures.value))
+    (own_names c.args.verified.now.program c.args.verified.now.tables c.image.ensures.valid)
 
 pub judge_steps-requires-clause-configuration : goal.judge_steps-requires-clause-configuration
 judge_steps-requires-clause-configuration c =

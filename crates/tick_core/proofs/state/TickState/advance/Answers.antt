@@ -93,4 +93,5 @@ invariant_of-self c =
       counts_after c.self.inside.verified.now.program c.self.inside.verified.now.tables c.self.invariant.0.valid c.self.inside.present c.take_step.new.control (configuration _ c.self.invariant.0) c.args.thread
           (omega (arith, has_place _ c.self.invariant.0 c.args.thread leads, c.self.invariant.0.places)) (ap (λ p. step p c.args.thread c.self.inside.present) (sym program_is) ∙ c.take_step.ensures) leads.enabled
           c.self.inside.living.items c.count_after.new.counts.items c.self.invariant.6 c.program-program.result.now _ program_is refl c.count_after.ensures,
+      c.self.invariant.7,
     )

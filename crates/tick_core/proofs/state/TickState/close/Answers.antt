@@ -27,4 +27,5 @@ invariant_of-self c = (
   open_closed _ c.self.invariant.0 c.self.inside.claimed c.self.inside.level c.self.invariant.5 c.args.thread c.close_one.new.claimed c.close_one.new.claims.items
       c.close_one.ensures.closed c.close_one.ensures.counted,
   c.self.invariant.6,
+  c.self.invariant.7,
 )

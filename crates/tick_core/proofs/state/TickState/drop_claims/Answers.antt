@@ -26,6 +26,7 @@ invariant_of-self c = (
       (c.program.ensures ∙ ap (λ i. i.program) c.image-image.ensures.value) (c.tables.ensures.value ∙ ap (λ i. i.tables) c.image-image.ensures.value) c.deref-then-self-gt0.ensures.value c.sort_every.ensures,
   none_open_at _ c.self.inside.level c.close_all.ensures.none,
   c.self.invariant.6,
+  c.self.invariant.7,
 )
 
 pub returns-else-self-gt0 : goal.returns-else-self-gt0
