@@ -21,7 +21,7 @@ use Rattle.scl.specs.Meaning.{Doing, State, Away, Todo, Forked, Resting, Resumin
 use Rattle.scl_graph.specs.Graph.{number}
 use Rattle.scl_graph_laws.specs.Standing.{standing, IsOfText}
 use Rattle.scl_graph_laws.specs.Settling.{Settled, Settling}
-use Rattle.scl_graph_laws.specs.IsGraph.{IsGraph}
+use Rattle.scl_graph_laws.specs.Mirrors.{Mirrors}
 use Rattle.scl_graph_laws.specs.Keeps.{Corresponds}
 use Rattle.scl_graph_laws.proofs.Moving.{doing_in, AreOfText}
 use Rattle.scl_graph_laws.proofs.Stepping.{corresponds_is}
@@ -47,7 +47,7 @@ kinds_initial : (variables : List Variable) → map kind_of (map (λ x. initial_
 kinds_initial [] = refl
 kinds_initial (x ∷ variables) = ap (λ k. k ∷ map kind_of (map (λ x. initial_value x.kind) variables)) (kind_initial x.kind) ∙ ap (λ r. x.kind ∷ r) (kinds_initial variables)
 
-pub begins : (p : Numbered) (q : Program) → IsGraph p q → Corresponds p (initial p) (initial_of_nodes q)
+pub begins : (p : Numbered) (q : Program) → Mirrors p q → Corresponds p (initial p) (initial_of_nodes q)
 begins p q graph = record {
   variables = ap (map (λ x. initial_value x.kind)) graph.variables;
   statuses = all_away q.threads ∙ ap (λ n. map standing (replicate n Away)) graph.threads;
@@ -144,7 +144,7 @@ kinds_at_start inputs (x ∷ variables) (w ∷ values) fit h =
     ap (λ k. k ∷ map kind_of (values_at_start inputs variables values)) (kind_at_start inputs x x.role w (λ v e. fit 0 x v refl e) (head_is _ _ _ _ h))
     ∙ ap (λ r. x.kind ∷ r) (kinds_at_start inputs variables values (λ i y v e. fit (suc i) y v e) (tail_is _ _ _ _ h))
 
-pub starts : (p : Numbered) (q : Program) → IsGraph p q → Settling p.root → (inputs : Inputs) (s : State) (c : Control) → Fit inputs p.variables → Corresponds p s c → Corresponds p (start p inputs s) (start_of_nodes q inputs c)
+pub starts : (p : Numbered) (q : Program) → Mirrors p q → Settling p.root → (inputs : Inputs) (s : State) (c : Control) → Fit inputs p.variables → Corresponds p s c → Corresponds p (start p inputs s) (start_of_nodes q inputs c)
 starts p q graph settling inputs s c fit h =
     let to : Settled p.root 0 p.root = settling 0 p.root whole in
     subst (λ c. Corresponds p (start p inputs s) (start_of_nodes q inputs c)) (corresponds_is p s c h)

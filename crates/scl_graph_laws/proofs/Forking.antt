@@ -11,7 +11,7 @@ use Rattle.scl.specs.Places.{IsBranch, here, later, threads_of}
 use Rattle.scl.specs.Meaning.{Doing, State, Away, Todo, Forked, Resting, Resuming, Finished, doing, has_finished, entered, all_entered}
 use Rattle.scl_graph.specs.Graph.{number}
 use Rattle.scl_graph_laws.specs.Standing.{standing}
-use Rattle.scl_graph_laws.specs.IsGraph.{leads}
+use Rattle.scl_graph_laws.specs.Mirrors.{leads}
 use Rattle.scl_graph_laws.proofs.Moving.{stands, MoveWithin}
 use Rattle.scl_graph_laws.proofs.Agreeing.{GoesTo}
 

@@ -21,7 +21,7 @@ use Rattle.scl_graph.specs.Graph.{assigns, number}
 use Rattle.scl_graph_laws.specs.Alike.{IsAlike, RunsAlike}
 use Rattle.scl_graph_laws.specs.Standing.{standing, IsStep, IsOfText}
 use Rattle.scl_graph_laws.specs.Settling.{Settling}
-use Rattle.scl_graph_laws.specs.IsGraph.{IsGraph, HasNode, HasNodes, HasFork, ForkPlace, leads}
+use Rattle.scl_graph_laws.specs.Mirrors.{Mirrors, HasNode, HasNodes, HasFork, ForkPlace, leads}
 use Rattle.scl_graph_laws.specs.Keeps.{Corresponds}
 use Rattle.scl_graph_laws.proofs.Alike.{runs_alike}
 use Rattle.scl_graph_laws.proofs.Targets.{step_is}
@@ -31,7 +31,7 @@ access_of_assigns : (x : ℕ) (a : Assignment) (next : ℕ) → access_of_assign
 access_of_assigns x (Inits e) next = refl
 access_of_assigns x (Combines f e) next = refl
 
-module _ (p : Numbered) (q : Program) (graph : IsGraph p q) where
+module _ (p : Numbered) (q : Program) (graph : Mirrors p q) where
   node_access : (n t : ℕ) (s : Step) → HasNode q n t s → access_of_node s ≡ accesses q n
   node_access n t s h = ap (λ o. unwrap_or (option_map access_of_node o) no_access) (sym (step_is q n t s h))
 

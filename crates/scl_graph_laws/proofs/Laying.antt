@@ -12,7 +12,7 @@ use Rattle.scl.specs.Places.{threads_of}
 use Rattle.scl_graph.specs.declared.way.Way.{Way}
 use Rattle.scl_graph.specs.declared.way.Way.TheVariants as goes
 use Rattle.scl_graph.specs.Graph.{way, node, assigns, own, end, of_thread, below, among, forked, forked_among, target}
-use Rattle.scl_graph_laws.specs.IsGraph.{leads, HasNode, HasNodes}
+use Rattle.scl_graph_laws.specs.Mirrors.{leads, HasNode, HasNodes}
 use Rattle.scl_graph_laws.proofs.Numbers.{own_count, thread_count, threads_among, lower_count, lower_among, IsNumbered, AreNumbered}
 use Rattle.scl_graph_laws.proofs.Segments.{StandAt, stand_from, stand_first, stand_second}
 use Rattle.scl_graph_laws.proofs.Ways.{way_leads, body_leads}
@@ -35,7 +35,7 @@ module _ (to : Way → ℕ) where
       omega (arith, i, j, own_length t first (way rest behind), own_length t second (way rest behind), own_length t rest behind)
   own_length t (Fork n branches rest) behind = ap (λ m. suc (suc m)) (own_length t rest behind)
 
-  thread_length : (t : ℕ) (b : Block) → length (of_thread to t b) ≡ suc (own_count b)
+  pub thread_length : (t : ℕ) (b : Block) → length (of_thread to t b) ≡ suc (own_count b)
   thread_length t b =
       let i : length (own to t b (goes.At (end b)) ++ node t step.Exit ∷ []) ≡ length (own to t b (goes.At (end b))) + 1 = length-append (own to t b (goes.At (end b))) (node t step.Exit ∷ []) in
       omega (arith, i, own_length t b (goes.At (end b)))

@@ -1,4 +1,4 @@
-mod Alike
+pub mod Alike
 mod Moving
 mod Agreeing
 mod Assigning
@@ -8,8 +8,19 @@ mod Stepping
 mod Going
 mod Inputs
 mod Beginning
-mod Graphs
+pub mod Graphs
+mod Members
 mod Numbers
 mod Segments
 mod Ways
 mod Laying
+mod Reaching
+mod Coming
+mod Whole
+mod Jumping
+mod Searching
+mod Scopes
+mod Texts
+mod Gathering
+pub mod Keeping
+mod Rows

@@ -83,7 +83,7 @@ pub record RunsOn (p : Piece) : Type 0 where
   pub ends : (at : Numbers) (k : Block) → end (p.made at k) ≡ end k
   pub numbered : (at : Numbers) (k : Block) → IsNumbered k (at.node + p.counts.nodes) (at.thread + p.counts.threads) (at.base + p.counts.lower) → IsNumbered (p.made at k) at.node at.thread at.base
 
-abbrev AllRunOn : List Piece → Type 0
+abbrev pub AllRunOn : List Piece → Type 0
 AllRunOn [] = Unit {0}
 AllRunOn (p ∷ pieces) = RunsOn p × AllRunOn pieces
 

@@ -27,7 +27,7 @@ use Rattle.scl_graph.specs.Graph.{assigns, number}
 use Rattle.scl_graph_laws.specs.Alike.{Both}
 use Rattle.scl_graph_laws.specs.Standing.{standing, IsStep, IsOfText}
 use Rattle.scl_graph_laws.specs.Settling.{Settling}
-use Rattle.scl_graph_laws.specs.IsGraph.{IsGraph, HasNode, HasNodes, HasFork, leads}
+use Rattle.scl_graph_laws.specs.Mirrors.{Mirrors, HasNode, HasNodes, HasFork, leads}
 use Rattle.scl_graph_laws.specs.Keeps.{Corresponds}
 use Rattle.scl_graph_laws.proofs.Moving.{standing_in, moved_alike, moved_length, moved_within}
 use Rattle.scl_graph_laws.proofs.Agreeing.{SameDeed, Agree, agree_if, GoesTo, agree_onward}
@@ -42,7 +42,7 @@ control_of s = record { variables = s.variables; statuses = map standing s.threa
 pub status_is : (s : State) (t : ℕ) → status_of (control_of s) t ≡ standing (doing s t)
 status_is s t = standing_in s.threads t
 
-module _ (p : Numbered) (q : Program) (graph : IsGraph p q) (settling : Settling p.root) (s : State)
+module _ (p : Numbered) (q : Program) (graph : Mirrors p q) (settling : Settling p.root) (s : State)
     (kinds : map kind_of s.variables ≡ map (λ x. x.kind) p.variables) (t : ℕ) where
   abbrev Alike : Option Deed → Option Effect → Type 0
   Alike d e = Agree p.root s.variables d e
@@ -178,7 +178,7 @@ module _ (p : Numbered) (s : State) (h : Corresponds p s (control_of s)) where
   after_both None (Some e) same = absurd same
   after_both (Some d) None same = absurd same
 
-pub steps_alike : (p : Numbered) (q : Program) → IsGraph p q → Settling p.root → (s : State) (c : Control) (t : ℕ) → Corresponds p s c → Both (Corresponds p) (step p t s) (step_of_nodes q t c)
+pub steps_alike : (p : Numbered) (q : Program) → Mirrors p q → Settling p.root → (s : State) (c : Control) (t : ℕ) → Corresponds p s c → Both (Corresponds p) (step p t s) (step_of_nodes q t c)
 steps_alike p q graph settling s c t h =
     let is : control_of s ≡ c = corresponds_is p s c h in
     let here : Corresponds p s (control_of s) = subst (λ c. Corresponds p s c) (sym is) h in

@@ -12,7 +12,7 @@ use Rattle.scl.specs.Numbering.{Numbered}
 use Rattle.scl_graph.specs.Graph.{assigns, number}
 use Rattle.scl_graph_laws.specs.Standing.{IsStep}
 use Rattle.scl_graph_laws.specs.Settling.{Settled, Settling}
-use Rattle.scl_graph_laws.specs.IsGraph.{leads, HasNode, HasFirst, IsGraph}
+use Rattle.scl_graph_laws.specs.Mirrors.{leads, HasNode, HasFirst, Mirrors}
 use Rattle.scl_graph_laws.proofs.Agreeing.{GoesTo}
 
 same_number : (t : ℕ) → nat_eq t t ≡ true
@@ -55,7 +55,7 @@ target_at q root t (If n e a b rest) is h = is_a_target q n t (step.Cond (postor
 target_at q root t (Fork n branches rest) is h = is_a_target q n t (step.Fork (threads_of branches) (suc n)) h.nodes.first refl
 
 -- a thread may go on at each place of its text
-pub goes_to : (p : Numbered) (q : Program) → IsGraph p q → Settling p.root → (t : ℕ) (todo : Block) → Place p.root t todo → GoesTo q p.root t todo
+pub goes_to : (p : Numbered) (q : Program) → Mirrors p q → Settling p.root → (t : ℕ) (todo : Block) → Place p.root t todo → GoesTo q p.root t todo
 goes_to p q graph settling t todo place =
     let to : Settled p.root t todo = settling t todo place in
     record { to = to; target = target_at q p.root t to.first to.is_step (graph.nodes t to.first to.place) }

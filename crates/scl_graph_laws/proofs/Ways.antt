@@ -5,7 +5,7 @@ use Rattle.scl.specs.Labels.{before, Jumps, label_count, reached_by}
 use Rattle.scl_graph.specs.declared.way.Way.{Way}
 use Rattle.scl_graph.specs.declared.way.Way.TheVariants as goes
 use Rattle.scl_graph.specs.Graph.{way, end, number, target}
-use Rattle.scl_graph_laws.specs.IsGraph.{leads}
+use Rattle.scl_graph_laws.specs.Mirrors.{leads}
 
 -- which goto it is counts for nothing
 same_jump : (root : Block) (most g h : ℕ) (name : List ℕ) → reached_by root most (Jumps g name) ≡ reached_by root most (Jumps h name)

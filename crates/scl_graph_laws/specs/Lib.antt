@@ -1,6 +1,6 @@
 pub mod Alike
 pub mod Standing
 pub mod Settling
-pub mod IsGraph
+pub mod Mirrors
 pub mod Keeps
 pub mod Laws

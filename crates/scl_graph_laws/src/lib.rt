@@ -1,12 +1,18 @@
 //! The graph of an SCL program keeps its runs: the laws, over the definitions alone.
 #![tactic(auto)]
 
-ghost use Rattle.scl_graph_laws.specs.Laws.{GraphsKeepRuns};
+ghost use Rattle.scl_graph_laws.specs.Laws.{GraphsKeepRuns, ProgramsKeepRuns};
 
-/// A program of nodes that is the graph of a text keeps its runs, before the first tick and over every
-/// list of input ticks, if each place of the text leads to a statement: configurations of the two
-/// correspond, and from two that do a list of threads is an admissible run of the one exactly where it
-/// is one of the other. This function does nothing; its contract is the law.
+/// A program of nodes that mirrors a text keeps its runs, before the first tick and over every list of
+/// input ticks, if each place of the text leads to a statement: configurations of the two correspond,
+/// and from two that do a list of threads is an admissible run of the one exactly where it is one of
+/// the other. This function does nothing; its contract is the law.
 pub fn graphs_keep_runs()
     ensures { GraphsKeepRuns }
+{}
+
+/// The program of an SCL program mirrors it, and keeps its runs if each place of the text leads to a
+/// statement. This function does nothing; its contract is the law.
+pub fn programs_keep_runs()
+    ensures { ProgramsKeepRuns }
 {}

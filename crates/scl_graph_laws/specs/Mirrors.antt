@@ -49,7 +49,7 @@ pub record ForkPlace (root : Block) (t : ℕ) (children : List ℕ) : Type 0 whe
   pub place : Place root t (Fork fork branches rest)
   pub children_are : threads_of branches ≡ children
 
-pub record IsGraph (p : Numbered) (q : Program) : Type 0 where
+pub record Mirrors (p : Numbered) (q : Program) : Type 0 where
   pub variables : q.variables ≡ p.variables
   pub threads : length q.threads ≡ p.threads
   pub root : entry_of q 0 ≡ Some (leads p.root p.root)
