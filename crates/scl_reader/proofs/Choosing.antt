@@ -9,9 +9,9 @@ use Rattle.sc_text.specs.Expression.{text_tokens, expression}
 use Rattle.sc_text.specs.Reading.{Stops}
 use Rattle.sc_text.proofs.Steps.{stops_as}
 use Rattle.sc_text.proofs.Nesting.{deep_at}
-use Rattle.scl_reader.specs.Lines.{Lines}
-use Rattle.scl_reader.specs.Program.{simple, choice, fork, forking, statement, ifs_within, forks_within}
-use Rattle.scl_reader.specs.Inside.{Adds, itself, inner_forks, inner_ifs, within, no_if}
+use Rattle.scl_reader.specs.Statements.{Statements}
+use Rattle.scl_reader.specs.Program.{simple, choice, branch, fork, forking, statement, ifs_within, forks_within}
+use Rattle.scl_reader.specs.Inside.{Adds, alone, inner_forks, inner_ifs, within, no_if}
 use Rattle.scl_reader.proofs.Taking.{deep_stops, adds_as}
 
 abbrev if_word : List Class
@@ -47,8 +47,8 @@ module _ (forks : ℕ) (text : List Token) where
     pub no_if_stops : (end : ℕ) (f : ReadFault) → starts text_tokens if_word text ≡ false → Stops end (read (no_if forks) text) f → Stops end (read (within forks ifs) text) f
     no_if_stops end f e s = stops_as end _ _ f (no_if_read ifs e) s
 
-    pub no_if_reads : (rest : List Token) (old new : Lines) → starts text_tokens if_word text ≡ false → Adds itself (read (no_if forks) text) old new rest → Adds itself (read (within forks ifs) text) old new rest
-    no_if_reads rest old new e a = adds_as itself _ _ old new rest (no_if_read ifs e) a
+    pub no_if_reads : (rest : List Token) (old new : Statements) → starts text_tokens if_word text ≡ false → Adds alone (read (no_if forks) text) old new rest → Adds alone (read (within forks ifs) text) old new rest
+    no_if_reads rest old new e a = adds_as alone _ _ old new rest (no_if_read ifs e) a
 
     pub if_deep : (end : ℕ) (f : ReadFault) → ifs ≡ 0 → starts text_tokens if_word text ≡ true → f ≡ deep_at end text → Stops end (read (within forks ifs) text) f
     if_deep end f z e w =
@@ -57,14 +57,14 @@ module _ (forks : ℕ) (text : List Token) where
     pub if_stops : (end : ℕ) (f : ReadFault) → (ifs ≡ 0 → ⊥) → starts text_tokens if_word text ≡ true → Stops end (read (choice (expression 0) (within forks (ifs - 1))) text) f → Stops end (read (within forks ifs) text) f
     if_stops end f z e s = stops_as end _ _ f (if_read ifs z e) s
 
-    pub if_reads : (rest : List Token) (old new : Lines) → (ifs ≡ 0 → ⊥) → starts text_tokens if_word text ≡ true → Adds itself (read (choice (expression 0) (within forks (ifs - 1))) text) old new rest → Adds itself (read (within forks ifs) text) old new rest
-    if_reads rest old new z e a = adds_as itself _ _ old new rest (if_read ifs z e) a
+    pub if_reads : (rest : List Token) (old new : Statements) → (ifs ≡ 0 → ⊥) → starts text_tokens if_word text ≡ true → Adds alone (read (choice (expression 0) (within forks (ifs - 1))) text) old new rest → Adds alone (read (within forks ifs) text) old new rest
+    if_reads rest old new z e a = adds_as alone _ _ old new rest (if_read ifs z e) a
 
 -- ---- forks
 
 module _ (text : List Token) where
   no_fork_read : (forks : ℕ) → starts text_tokens fork_word text ≡ false → read (no_if forks) text ≡ read (simple (expression 0)) text
-  unfolding no_if inner_forks forks_within forking fork within inner_ifs
+  unfolding no_if inner_forks forks_within forking fork branch within inner_ifs
   no_fork_read zero e = ap (λ b. choose b (Failed Deep text) (read (simple (expression 0)) text)) e
   no_fork_read (suc n) e = ap (λ b. choose b (read (fork (within n 32)) text) (read (simple (expression 0)) text)) e
 
@@ -73,7 +73,7 @@ module _ (text : List Token) where
   deep_fork_read e = ap (λ b. choose b (Failed Deep text) (read (simple (expression 0)) text)) e
 
   inner_fork_read : (n : ℕ) → starts text_tokens fork_word text ≡ true → read (no_if (suc n)) text ≡ read (fork (within n 32)) text
-  unfolding no_if inner_forks forks_within forking fork within inner_ifs
+  unfolding no_if inner_forks forks_within forking fork branch within inner_ifs
   inner_fork_read n e = ap (λ b. choose b (read (fork (within n 32)) text) (read (simple (expression 0)) text)) e
 
   fork_read : (forks : ℕ) → (forks ≡ 0 → ⊥) → starts text_tokens fork_word text ≡ true → read (no_if forks) text ≡ read (fork (within (forks - 1) 32)) text
@@ -83,8 +83,8 @@ module _ (text : List Token) where
     pub simple_stops : (end : ℕ) (f : ReadFault) → starts text_tokens fork_word text ≡ false → Stops end (read (simple (expression 0)) text) f → Stops end (read (no_if forks) text) f
     simple_stops end f e s = stops_as end _ _ f (no_fork_read forks e) s
 
-    pub simple_reads : (rest : List Token) (old new : Lines) → starts text_tokens fork_word text ≡ false → Adds itself (read (simple (expression 0)) text) old new rest → Adds itself (read (no_if forks) text) old new rest
-    simple_reads rest old new e a = adds_as itself _ _ old new rest (no_fork_read forks e) a
+    pub simple_reads : (rest : List Token) (old new : Statements) → starts text_tokens fork_word text ≡ false → Adds alone (read (simple (expression 0)) text) old new rest → Adds alone (read (no_if forks) text) old new rest
+    simple_reads rest old new e a = adds_as alone _ _ old new rest (no_fork_read forks e) a
 
     pub fork_deep : (end : ℕ) (f : ReadFault) → forks ≡ 0 → starts text_tokens fork_word text ≡ true → f ≡ deep_at end text → Stops end (read (no_if forks) text) f
     fork_deep end f z e w =
@@ -93,5 +93,5 @@ module _ (text : List Token) where
     pub fork_stops : (end : ℕ) (f : ReadFault) → (forks ≡ 0 → ⊥) → starts text_tokens fork_word text ≡ true → Stops end (read (fork (within (forks - 1) 32)) text) f → Stops end (read (no_if forks) text) f
     fork_stops end f z e s = stops_as end _ _ f (fork_read forks z e) s
 
-    pub fork_reads : (rest : List Token) (old new : Lines) → (forks ≡ 0 → ⊥) → starts text_tokens fork_word text ≡ true → Adds itself (read (fork (within (forks - 1) 32)) text) old new rest → Adds itself (read (no_if forks) text) old new rest
-    fork_reads rest old new z e a = adds_as itself _ _ old new rest (fork_read forks z e) a
+    pub fork_reads : (rest : List Token) (old new : Statements) → (forks ≡ 0 → ⊥) → starts text_tokens fork_word text ≡ true → Adds alone (read (fork (within (forks - 1) 32)) text) old new rest → Adds alone (read (no_if forks) text) old new rest
+    fork_reads rest old new z e a = adds_as alone _ _ old new rest (fork_read forks z e) a

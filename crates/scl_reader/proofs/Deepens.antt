@@ -4,16 +4,20 @@ use Rattle.grammar.specs.Deeper.{Deeper, IsLanguage, same_one, deeper_seq, deepe
 use Rattle.sc_text.specs.Phrases.{Phrase}
 use Rattle.sc_text.specs.Expression.{expression}
 use Rattle.sc_text.proofs.Deepens.{Above, above_none, above_more, above_by, expression_wider}
-use Rattle.scl_reader.specs.Lines.{Lines}
+use Rattle.sc_text.specs.declared.token.Token.{Token}
+use Rattle.sc_text.specs.declared.word.Word.{Word}
+use Rattle.sc_text.specs.declared.word.Word.TheVariants as word
+use Rattle.scl_reader.specs.declared.statement.TextStatement.{TextStatement}
+use Rattle.scl_reader.specs.Statements.{Statements}
 use Rattle.scl_reader.specs.Program.{Grows, Text, assigned, labelled, named, goto, pause, simple, block, test, choice, branch, fork, Inner, NoMore, Nested, forking, statement, ifs_within, forks_within, thread, declaration, program, scl}
 use Rattle.scl_reader.proofs.Shapes.{scl_is}
 
-abbrev Wider : Grows Lines → Grows Lines → Type 1
-Wider g h = Deeper Lines g h
+abbrev Wider : Grows TextStatement → Grows TextStatement → Type 1
+Wider g h = Deeper TextStatement g h
 
 data Opened : Inner → Inner → Type 1 where
-  from_none : (s : Grows Lines) → Opened NoMore (Nested s)
-  in_each : (s s' : Grows Lines) → Wider s s' → Opened (Nested s) (Nested s')
+  from_none : (s : Grows TextStatement) → Opened NoMore (Nested s)
+  in_each : (s s' : Grows TextStatement) → Wider s s' → Opened (Nested s) (Nested s')
 
 goto_same : Wider goto goto
 unfolding goto
@@ -25,27 +29,25 @@ pause_same : Wider pause pause
 unfolding pause
 pause_same = deeper_made _ _ _ _ _ (deeper_made _ _ _ _ _ (deeper_seq _ _ _ _ _ _ (same_one _) (same_one _)))
 
-block_wider : (s s' : Grows Lines) → Wider s s' → Wider (block s) (block s')
+block_wider : (s s' : Grows TextStatement) → Wider s s' → Deeper Statements (block s) (block s')
 unfolding block
 block_wider s s' d =
     deeper_made _ _ _ _ _
-    (deeper_seq _ _ _ _ _ _ (same_one _)
-    (deeper_made _ _ _ _ _ (deeper_seq _ _ _ _ _ _ (deeper_made _ _ _ _ _ (deeper_many _ _ _ d)) (same_one _))))
+    (deeper_seq _ _ _ _ _ _ (same_one _) (deeper_made _ _ _ _ _ (deeper_seq _ _ _ _ _ _ (deeper_many _ _ _ d) (same_one _))))
 
-branch_wider : (s s' : Grows Lines) → Wider s s' → Wider (branch s) (branch s')
+branch_wider : (w : Word) (s s' : Grows TextStatement) → Wider s s' → Deeper (Token × Statements) (branch w s) (branch w s')
 unfolding branch
-branch_wider s s' d = deeper_made _ _ _ _ _ (deeper_seq _ _ _ _ _ _ (same_one _) (block_wider s s' d))
+branch_wider w s s' d = deeper_seq _ _ _ _ _ _ (same_one _) (block_wider s s' d)
 
-fork_wider : (s s' : Grows Lines) → Wider s s' → Wider (fork s) (fork s')
+fork_wider : (s s' : Grows TextStatement) → Wider s s' → Wider (fork s) (fork s')
 unfolding fork
 fork_wider s s' d =
     deeper_made _ _ _ _ _
-    (deeper_seq _ _ _ _ _ _ (same_one _)
-    (deeper_seq _ _ _ _ _ _ (block_wider s s' d)
+    (deeper_seq _ _ _ _ _ _ (branch_wider word.Fork s s' d)
     (deeper_made _ _ _ _ _
     (deeper_seq _ _ _ _ _ _
-    (deeper_made _ _ _ _ _ (deeper_seq _ _ _ _ _ _ (deeper_many _ _ _ (branch_wider s s' d)) (same_one _)))
-    (same_one _)))))
+    (deeper_made _ _ _ _ _ (deeper_seq _ _ _ _ _ _ (deeper_many _ _ _ (branch_wider word.Par s s' d)) (same_one _)))
+    (same_one _))))
 
 module _ (e e' : Grows Phrase) (w : Deeper Phrase e e') where
   simple_wider : Wider (simple e) (simple e')
@@ -62,7 +64,7 @@ module _ (e e' : Grows Phrase) (w : Deeper Phrase e e') where
       (deeper_made _ _ _ _ _ (same_one _)))))
       (deeper_either _ _ _ _ _ goto_same pause_same)
 
-  choice_wider : (s s' : Grows Lines) → Wider s s' → Wider (choice e s) (choice e' s')
+  choice_wider : (s s' : Grows TextStatement) → Wider s s' → Wider (choice e s) (choice e' s')
   unfolding choice test
   choice_wider s s' d =
       deeper_made _ _ _ _ _
@@ -76,9 +78,9 @@ module _ (e e' : Grows Phrase) (w : Deeper Phrase e e') where
       (deeper_maybe _ _ _ (deeper_made _ _ _ _ _ (deeper_seq _ _ _ _ _ _ (same_one _) (block_wider s s' d))))))))
 
   forking_wider : (i j : Inner) → Opened i j → Wider (forking e i) (forking e' j)
-  unfolding forking fork
+  unfolding forking fork branch
   forking_wider i j (from_none s) =
-      opened _ _ _ _ _ (with_made _ _ _ _ _ (with_seq _ _ _ _ _ (with_one _))) simple_wider
+      opened _ _ _ _ _ (with_made _ _ _ _ _ (with_seq _ _ _ _ _ (with_seq _ _ _ _ _ (with_one _)))) simple_wider
   forking_wider i j (in_each s s' d) = deeper_either _ _ _ _ _ (fork_wider s s' d) simple_wider
 
   statement_wider : (f g i j : Inner) → Opened f g → Opened i j → Wider (statement e f i) (statement e' g j)
@@ -105,7 +107,7 @@ module _ (e e' : Grows Phrase) (w : Deeper Phrase e e') where
   thread_wider p q b =
       statement_wider (forks_within e p p) (forks_within e' q q) (ifs_within e (forks_within e p p) p) (ifs_within e' (forks_within e' q q) q) (forks_opened p q b p q b) (ifs_opened (forks_within e p p) (forks_within e' q q) (forks_opened p q b p q b) p q b)
 
-program_wider : (s s' : Grows Lines) → Wider s s' → Deeper Text (program s) (program s')
+program_wider : (s s' : Grows TextStatement) → Wider s s' → Deeper Text (program s) (program s')
 unfolding program declaration
 program_wider s s' d =
     deeper_made _ _ _ _ _
@@ -119,7 +121,7 @@ program_wider s s' d =
     (deeper_many _ _ _
     (deeper_seq _ _ _ _ _ _ (same_one _)
     (deeper_seq _ _ _ _ _ _ (same_one _) (deeper_made _ _ _ _ _ (deeper_seq _ _ _ _ _ _ (same_one _) (same_one _))))))
-    (deeper_made _ _ _ _ _ (deeper_many _ _ _ d)))
+    (deeper_many _ _ _ d))
     (same_one _)))))))
 
 scl_wider : (k : ℕ) → Deeper Text (scl 0) (scl (suc k))

@@ -12,9 +12,10 @@ use Rattle.sc_text.specs.Expression.{text_tokens, expression}
 use Rattle.sc_text.specs.Reading.{Stops}
 use Rattle.sc_text.proofs.Shapes.{expression_is}
 use Rattle.sc_text.proofs.Steps.{next_stops, stops_as}
-use Rattle.scl_reader.specs.Lines.{Lines}
+use Rattle.scl_reader.specs.declared.statement.TextStatement.{TextStatement}
+use Rattle.scl_reader.specs.Statements.{Statements}
 use Rattle.scl_reader.specs.Program.{Grows, branch}
-use Rattle.scl_reader.specs.Inside.{Adds, IsGoing, each_of, itself, statement_classes, inner_forks, inner_ifs, within}
+use Rattle.scl_reader.specs.Inside.{Adds, IsGoing, each_of, alone, one_branch, statement_classes, inner_forks, inner_ifs, within}
 use Rattle.scl_reader.proofs.Shapes.{statement_is, forks_fit, ifs_fit}
 
 each_append : {A X : Type 0} (gives : A → List X) (xs ys : List A) → each_of gives (xs ++ ys) ≡ each_of gives xs ++ each_of gives ys
@@ -98,23 +99,23 @@ within_starts : (forks ifs : ℕ) (text : List Token) (b : Bool) → starts text
 within_starts forks ifs text b e = ap (λ ks. starts text_tokens ks text) (within_first forks ifs) ∙ e
 
 module _ (forks ifs : ℕ) where
-  pub within_begins : (text : List Token) (left : ℕ) (lines : Lines) → left ≡ length text → IsGoing (within forks ifs) itself (read (many (within forks ifs)) text) lines lines left text
-  within_begins text left lines e = going_first (within forks ifs) itself text left lines e
+  pub within_begins : (text : List Token) (left : ℕ) (lines : Statements) → left ≡ length text → IsGoing (within forks ifs) alone (read (many (within forks ifs)) text) lines lines left text
+  within_begins text left lines e = going_first (within forks ifs) alone text left lines e
 
-  module _ (o : Outcome Token (List Lines)) (old mid : Lines) where
-    pub within_ends : (left : ℕ) (rest : List Token) → IsGoing (within forks ifs) itself o old mid left rest → starts text_tokens statement_classes rest ≡ false → Adds (each_of itself) o old mid rest
-    within_ends left rest h e = going_ends (within forks ifs) itself o old mid left rest h (within_starts forks ifs rest false e)
+  module _ (o : Outcome Token (List TextStatement)) (old mid : Statements) where
+    pub within_ends : (left : ℕ) (rest : List Token) → IsGoing (within forks ifs) alone o old mid left rest → starts text_tokens statement_classes rest ≡ false → Adds (each_of alone) o old mid rest
+    within_ends left rest h e = going_ends (within forks ifs) alone o old mid left rest h (within_starts forks ifs rest false e)
 
-    pub within_over : (left : ℕ) (rest : List Token) → left ≡ 0 → IsGoing (within forks ifs) itself o old mid left rest → Adds (each_of itself) o old mid rest
-    within_over left rest z h = going_over (within forks ifs) itself o old mid left rest z h
+    pub within_over : (left : ℕ) (rest : List Token) → left ≡ 0 → IsGoing (within forks ifs) alone o old mid left rest → Adds (each_of alone) o old mid rest
+    within_over left rest z h = going_over (within forks ifs) alone o old mid left rest z h
 
-    pub within_stops : (left : ℕ) (rest : List Token) (end : ℕ) (f : ReadFault) → 0 < left → IsGoing (within forks ifs) itself o old mid left rest → starts text_tokens statement_classes rest ≡ true → Stops end (read (within forks ifs) rest) f → Stops end o f
+    pub within_stops : (left : ℕ) (rest : List Token) (end : ℕ) (f : ReadFault) → 0 < left → IsGoing (within forks ifs) alone o old mid left rest → starts text_tokens statement_classes rest ≡ true → Stops end (read (within forks ifs) rest) f → Stops end o f
     within_stops left rest end f m h e s =
-        going_stops (within forks ifs) itself o old mid left rest end f m h (within_starts forks ifs rest true e) s
+        going_stops (within forks ifs) alone o old mid left rest end f m h (within_starts forks ifs rest true e) s
 
-    pub within_goes_on : (left less : ℕ) (rest after : List Token) (new : Lines) → left ≡ suc less → IsGoing (within forks ifs) itself o old mid left rest → starts text_tokens statement_classes rest ≡ true → Adds itself (read (within forks ifs) rest) mid new after → IsGoing (within forks ifs) itself o old new less after
+    pub within_goes_on : (left less : ℕ) (rest after : List Token) (new : Statements) → left ≡ suc less → IsGoing (within forks ifs) alone o old mid left rest → starts text_tokens statement_classes rest ≡ true → Adds alone (read (within forks ifs) rest) mid new after → IsGoing (within forks ifs) alone o old new less after
     within_goes_on left less rest after new m h e a =
-        going_on (within forks ifs) itself o old mid left less rest after new m h (within_starts forks ifs rest true e) a
+        going_on (within forks ifs) alone o old mid left less rest after new m h (within_starts forks ifs rest true e) a
 
 -- ---- branches
 
@@ -122,24 +123,24 @@ abbrev par_word : List Class
 par_word = TheWord word.Par ∷ []
 
 module _ (forks : ℕ) where
-  branch_starts : (text : List Token) (b : Bool) → starts text_tokens par_word text ≡ b → starts text_tokens (first (branch (within forks 32))) text ≡ b
+  branch_starts : (text : List Token) (b : Bool) → starts text_tokens par_word text ≡ b → starts text_tokens (first (branch word.Par (within forks 32))) text ≡ b
   unfolding branch
   branch_starts text b e = e
 
-  pub branches_begin : (text : List Token) (left : ℕ) (lines : Lines) → left ≡ length text → IsGoing (branch (within forks 32)) itself (read (many (branch (within forks 32))) text) lines lines left text
-  branches_begin text left lines e = going_first (branch (within forks 32)) itself text left lines e
+  pub branches_begin : (text : List Token) (left : ℕ) (lines : List (ℕ × Statements)) → left ≡ length text → IsGoing (branch word.Par (within forks 32)) one_branch (read (many (branch word.Par (within forks 32))) text) lines lines left text
+  branches_begin text left lines e = going_first (branch word.Par (within forks 32)) one_branch text left lines e
 
-  module _ (o : Outcome Token (List Lines)) (old mid : Lines) where
-    pub branches_end : (left : ℕ) (rest : List Token) → IsGoing (branch (within forks 32)) itself o old mid left rest → starts text_tokens par_word rest ≡ false → Adds (each_of itself) o old mid rest
-    branches_end left rest h e = going_ends (branch (within forks 32)) itself o old mid left rest h (branch_starts rest false e)
+  module _ (o : Outcome Token (List (Token × Statements))) (old mid : List (ℕ × Statements)) where
+    pub branches_end : (left : ℕ) (rest : List Token) → IsGoing (branch word.Par (within forks 32)) one_branch o old mid left rest → starts text_tokens par_word rest ≡ false → Adds (each_of one_branch) o old mid rest
+    branches_end left rest h e = going_ends (branch word.Par (within forks 32)) one_branch o old mid left rest h (branch_starts rest false e)
 
-    pub branches_over : (left : ℕ) (rest : List Token) → left ≡ 0 → IsGoing (branch (within forks 32)) itself o old mid left rest → Adds (each_of itself) o old mid rest
-    branches_over left rest z h = going_over (branch (within forks 32)) itself o old mid left rest z h
+    pub branches_over : (left : ℕ) (rest : List Token) → left ≡ 0 → IsGoing (branch word.Par (within forks 32)) one_branch o old mid left rest → Adds (each_of one_branch) o old mid rest
+    branches_over left rest z h = going_over (branch word.Par (within forks 32)) one_branch o old mid left rest z h
 
-    pub branch_stops : (left : ℕ) (rest : List Token) (end : ℕ) (f : ReadFault) → 0 < left → IsGoing (branch (within forks 32)) itself o old mid left rest → starts text_tokens par_word rest ≡ true → Stops end (read (branch (within forks 32)) rest) f → Stops end o f
+    pub branch_stops : (left : ℕ) (rest : List Token) (end : ℕ) (f : ReadFault) → 0 < left → IsGoing (branch word.Par (within forks 32)) one_branch o old mid left rest → starts text_tokens par_word rest ≡ true → Stops end (read (branch word.Par (within forks 32)) rest) f → Stops end o f
     branch_stops left rest end f m h e s =
-        going_stops (branch (within forks 32)) itself o old mid left rest end f m h (branch_starts rest true e) s
+        going_stops (branch word.Par (within forks 32)) one_branch o old mid left rest end f m h (branch_starts rest true e) s
 
-    pub branches_go_on : (left less : ℕ) (rest after : List Token) (new : Lines) → left ≡ suc less → IsGoing (branch (within forks 32)) itself o old mid left rest → starts text_tokens par_word rest ≡ true → Adds itself (read (branch (within forks 32)) rest) mid new after → IsGoing (branch (within forks 32)) itself o old new less after
+    pub branches_go_on : (left less : ℕ) (rest after : List Token) (new : List (ℕ × Statements)) → left ≡ suc less → IsGoing (branch word.Par (within forks 32)) one_branch o old mid left rest → starts text_tokens par_word rest ≡ true → Adds one_branch (read (branch word.Par (within forks 32)) rest) mid new after → IsGoing (branch word.Par (within forks 32)) one_branch o old new less after
     branches_go_on left less rest after new m h e a =
-        going_on (branch (within forks 32)) itself o old mid left less rest after new m h (branch_starts rest true e) a
+        going_on (branch word.Par (within forks 32)) one_branch o old mid left less rest after new m h (branch_starts rest true e) a

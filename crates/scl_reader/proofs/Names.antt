@@ -8,7 +8,7 @@ use Rattle.sc_text.specs.Classes.{AName, class_of, same_class}
 use Rattle.sc_text.specs.Expression.{text_tokens}
 use Rattle.sc_text.specs.Reading.{Stops}
 use Rattle.sc_text.proofs.Steps.{wrong_at, one_fails, one_got}
-use Rattle.scl_reader.specs.Lines.{name_of}
+use Rattle.scl_reader.specs.Statements.{name_of}
 use Rattle.scl_reader.specs.Program.{name}
 use Rattle.scl_reader.specs.Inside.{TakesName}
 

@@ -12,11 +12,11 @@ use Rattle.sc_text.specs.Reading.{Stops, Takes}
 use Rattle.sc_text.proofs.Steps.{wrong_at, next_stops, stops_as}
 use Rattle.scl_reader.specs.declared.draft.Declaration.{Declaration}
 use Rattle.scl_reader.specs.declared.draft.Draft.{Draft}
-use Rattle.scl_reader.specs.Lines.{Lines, all_of}
+use Rattle.scl_reader.specs.Statements.{Statements}
 use Rattle.scl_reader.specs.Draft.{declared}
-use Rattle.scl_reader.specs.Program.{Grows, Text, name, statements, declaration, program, thread, scl}
-use Rattle.scl_reader.specs.Inside.{TakesName, Adds, AddsBody, Drafts, in_braces, each_of, itself, one_declared, inner_forks, inner_ifs, within}
-use Rattle.scl_reader.proofs.Blocks.{all_each}
+use Rattle.scl_reader.specs.Program.{Grows, Text, name, declaration, program, thread, scl}
+use Rattle.scl_reader.specs.Inside.{TakesName, Adds, AddsBody, Drafts, in_braces, each_of, alone, one_declared, inner_forks, inner_ifs, within}
+use Rattle.scl_reader.proofs.Blocks.{each_alone}
 use Rattle.scl_reader.proofs.Declaring.{each_declared}
 use Rattle.scl_reader.proofs.Names.{name_got}
 use Rattle.scl_reader.proofs.Taking.{after_got, after_stops_before, after_stops, before_got, before_stops, before_stops_behind, pair_got, pair_stops_first, pair_stops_second}
@@ -32,8 +32,8 @@ scl_word = TheWord word.Scl ∷ []
 
 -- ---- what stands in the braces
 
-abbrev inner : Grows (List (Token × (Token × Token)) × Lines)
-inner = seq (many declaration) (statements (within 32 32))
+abbrev inner : Grows (List (Token × (Token × Token)) × Statements)
+inner = seq (many declaration) (many (within 32 32))
 
 module _ (text : List Token) where
   pub open_stops : (end : ℕ) (f : ReadFault) → Stops end (read (one {L = text_tokens} opening) text) f → Stops end (read in_braces text) f
@@ -45,32 +45,31 @@ module _ (text : List Token) where
 
     pub declarations_stop : (end : ℕ) (f : ReadFault) → Stops end (read (many declaration) inside) f → Stops end (read in_braces text) f
     declarations_stop end f s =
-        in_body end f (before_stops closing inner end inside f (pair_stops_first (many declaration) (statements (within 32 32)) end inside f s))
+        in_body end f (before_stops closing inner end inside f (pair_stops_first (many declaration) (many (within 32 32)) end inside f s))
 
     module _ (old_variables variables : List Declaration) (start : List Token) (a : Adds (each_of one_declared) (read (many declaration) inside) old_variables variables start) where
       pub statements_stop : (end : ℕ) (f : ReadFault) → Stops end (read (many (within 32 32)) start) f → Stops end (read in_braces text) f
       statements_stop end f s =
           in_body end f
           (before_stops closing inner end inside f
-          (pair_stops_second (many declaration) (statements (within 32 32)) end inside start a.meaning f a.is (next_stops end (read (many (within 32 32)) start) _ f s)))
+          (pair_stops_second (many declaration) (many (within 32 32)) end inside start a.meaning f a.is s))
 
-      module _ (old_lines lines : Lines) (rest : List Token) (c : Adds (each_of itself) (read (many (within 32 32)) start) old_lines lines rest) where
-        inner_got : read inner inside ≡ Got (a.meaning, all_of c.meaning) rest
+      module _ (old_statements statements : Statements) (rest : List Token) (c : Adds (each_of alone) (read (many (within 32 32)) start) old_statements statements rest) where
+        inner_got : read inner inside ≡ Got (a.meaning, c.meaning) rest
         inner_got =
-            pair_got (many declaration) (statements (within 32 32)) inside start rest a.meaning (all_of c.meaning) a.is
-            (ap (λ o. next o (λ x r. Got (all_of x) r)) c.is)
+            pair_got (many declaration) (many (within 32 32)) inside start rest a.meaning c.meaning a.is c.is
 
         pub close_stops : (end : ℕ) (f : ReadFault) → Stops end (read (one {L = text_tokens} closing) rest) f → Stops end (read in_braces text) f
-        close_stops end f s = in_body end f (before_stops_behind closing inner end inside rest (a.meaning, all_of c.meaning) f inner_got s)
+        close_stops end f s = in_body end f (before_stops_behind closing inner end inside rest (a.meaning, c.meaning) f inner_got s)
 
-        pub body_reads : (end : List Token) → Takes (read (one {L = text_tokens} closing) rest) end → AddsBody (read in_braces text) old_variables variables old_lines lines end
+        pub body_reads : (end : List Token) → Takes (read (one {L = text_tokens} closing) rest) end → AddsBody (read in_braces text) old_variables variables old_statements statements end
         body_reads end t =
             record {
               variables_read = a.meaning;
-              lines_read = all_of c.meaning;
-              is = after_got opening (before inner closing) text inside end (a.meaning, all_of c.meaning) o (before_got closing inner inside rest end (a.meaning, all_of c.meaning) inner_got t);
+              statements_read = c.meaning;
+              is = after_got opening (before inner closing) text inside end (a.meaning, c.meaning) o (before_got closing inner inside rest end (a.meaning, c.meaning) inner_got t);
               variables_behind = a.behind ∙ ap (λ l. old_variables ++ l) (each_declared a.meaning);
-              lines_behind = c.behind ∙ ap (λ l. old_lines ++ l) (sym (all_each c.meaning));
+              statements_behind = c.behind ∙ ap (λ l. old_statements ++ l) (each_alone c.meaning);
             }
 
 -- ---- a program up to the end of the text
@@ -100,15 +99,15 @@ module _ (text : List Token) where
       pub body_stops : (end : ℕ) (f : ReadFault) → Stops end (read in_braces opened) f → Stops end (read_all (scl 0) text) f
       body_stops end f s = behind_word end f (pair_stops_second name in_braces end named opened n.token f got s)
 
-      module _ (old_variables variables : List Declaration) (old_lines lines : Lines) (rest : List Token) (b : AddsBody (read in_braces opened) old_variables variables old_lines lines rest) where
+      module _ (old_variables variables : List Declaration) (old_statements statements : Statements) (rest : List Token) (b : AddsBody (read in_braces opened) old_variables variables old_statements statements rest) where
         abbrev spelled : Text
-        spelled = (n.token, (b.variables_read, b.lines_read))
+        spelled = (n.token, (b.variables_read, b.statements_read))
 
         program_got : read (scl 0) text ≡ Got spelled rest
         program_got =
             program_is text
             ∙ after_got scl_word (seq name in_braces) text named rest spelled w
-            (pair_got name in_braces named opened rest n.token (b.variables_read, b.lines_read) got b.is)
+            (pair_got name in_braces named opened rest n.token (b.variables_read, b.statements_read) got b.is)
 
         more_wrong : (more : List Token) → more ≡ rest → ¬ (more ≡ []) → read_all (scl 0) text ≡ Failed Wrong more
         more_wrong [] e n = absurd (n refl)
@@ -118,9 +117,9 @@ module _ (text : List Token) where
         more_stops end f n w =
             subst (Stops end (read_all (scl 0) text)) (sym w) (record { flaw = Wrong; rest = rest; is = more_wrong rest refl n; breaks = refl; place = refl })
 
-        pub whole_drafts : (draft : Draft) → old_variables ≡ [] → old_lines ≡ [] → rest ≡ [] → draft ≡ record { name = called; declarations = variables; lines = lines } → Drafts (read_all (scl 0) text) draft
-        whole_drafts draft no_variables no_lines e d =
+        pub whole_drafts : (draft : Draft) → old_variables ≡ [] → old_statements ≡ [] → rest ≡ [] → draft ≡ record { name = called; declarations = variables; statements = statements } → Drafts (read_all (scl 0) text) draft
+        whole_drafts draft no_variables no_statements e d =
             let named_so = n.named in
             let vs : variables ≡ map declared b.variables_read = b.variables_behind ∙ ap (λ o. o ++ map declared b.variables_read) no_variables in
-            let ls : lines ≡ b.lines_read = b.lines_behind ∙ ap (λ o. o ++ b.lines_read) no_lines in
+            let ls : statements ≡ b.statements_read = b.statements_behind ∙ ap (λ o. o ++ b.statements_read) no_statements in
             record { program = spelled; is = ap (λ o. next o ended) (program_got ∙ ap (λ r. Got spelled r) e); drafted = cc }

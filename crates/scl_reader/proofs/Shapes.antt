@@ -1,13 +1,14 @@
 -- At each choice of the grammar of SCL the next token decides.
 use Rattle.std.proofs.Common.{ℕ, zero, suc, ◌+◌, false, List, [], ◌∷◌, refl}
 use Rattle.grammar.proofs.Shaped.{Shaped, shaped_one, shaped_seq, shaped_either, shaped_maybe, shaped_many, shaped_made, shaped_headed, shaped_barred}
+use Rattle.sc_text.specs.declared.word.Word.{Word}
 use Rattle.sc_text.specs.declared.word.Word.TheVariants as word
 use Rattle.sc_text.specs.declared.sign.Sign.TheVariants as sign
 use Rattle.sc_text.specs.Classes.{Class, AName, TheWord, TheSign}
 use Rattle.sc_text.specs.Phrases.{Phrase}
 use Rattle.sc_text.specs.Expression.{expression}
 use Rattle.sc_text.proofs.Shapes.{Is, expression_first, expression_tails, expression_is}
-use Rattle.scl_reader.specs.Lines.{Lines}
+use Rattle.scl_reader.specs.declared.statement.TextStatement.{TextStatement}
 use Rattle.scl_reader.specs.Program.{Grows, assigned, labelled, named, goto, pause, simple, block, test, choice, branch, fork, Inner, NoMore, Nested, forking, statement, ifs_within, forks_within, thread, declaration, program, scl}
 
 abbrev IsExpression : Grows Phrase → Type 0
@@ -24,14 +25,14 @@ pub data Ends : List Class → Type 0 where
   with_none : Ends []
   with_else : Ends (TheWord word.Else ∷ [])
 
-pub record IsStatement (s : Grows Lines) : Type 0 where
+pub record IsStatement (s : Grows TextStatement) : Type 0 where
   pub tails : List Class
   pub ends : Ends tails
   pub shape : Shaped s false statement_first tails
 
 pub data Fits : Inner → Type 1 where
   nothing : Fits NoMore
-  nested : (s : Grows Lines) → IsStatement s → Fits (Nested s)
+  nested : (s : Grows TextStatement) → IsStatement s → Fits (Nested s)
 
 named_is : (e : Grows Phrase) → IsExpression e → Shaped (named e) false (AName ∷ []) []
 unfolding named assigned labelled
@@ -66,22 +67,22 @@ simple_is : (e : Grows Phrase) → IsExpression e → Shaped (simple e) false si
 unfolding simple
 simple_is e h = shaped_either _ _ _ _ _ _ _ (named_is e h) (shaped_either _ _ _ _ _ _ _ goto_is pause_is refl) refl
 
-block_as : (s : Grows Lines) (t : List Class) → Ends t → Shaped s false statement_first t → Shaped (block s) false (TheSign sign.OpenBrace ∷ []) []
+block_as : (s : Grows TextStatement) (t : List Class) → Ends t → Shaped s false statement_first t → Shaped (block s) false (TheSign sign.OpenBrace ∷ []) []
 unfolding block
 block_as s t with_none h =
     shaped_made _ _ _ _ _ _ _
     (shaped_seq _ _ _ _ _ _ _ _ _ _ (shaped_one _ refl)
     (shaped_made _ _ _ _ _ _ _
-    (shaped_seq _ _ _ _ _ _ _ _ _ _ (shaped_made _ _ _ _ _ _ _ (shaped_many _ _ _ _ h refl)) (shaped_one _ refl) refl))
+    (shaped_seq _ _ _ _ _ _ _ _ _ _ (shaped_many _ _ _ _ h refl) (shaped_one _ refl) refl))
     refl)
 block_as s t with_else h =
     shaped_made _ _ _ _ _ _ _
     (shaped_seq _ _ _ _ _ _ _ _ _ _ (shaped_one _ refl)
     (shaped_made _ _ _ _ _ _ _
-    (shaped_seq _ _ _ _ _ _ _ _ _ _ (shaped_made _ _ _ _ _ _ _ (shaped_many _ _ _ _ h refl)) (shaped_one _ refl) refl))
+    (shaped_seq _ _ _ _ _ _ _ _ _ _ (shaped_many _ _ _ _ h refl) (shaped_one _ refl) refl))
     refl)
 
-block_is : (s : Grows Lines) → IsStatement s → Shaped (block s) false (TheSign sign.OpenBrace ∷ []) []
+block_is : (s : Grows TextStatement) → IsStatement s → Shaped (block s) false (TheSign sign.OpenBrace ∷ []) []
 block_is s h = block_as s h.tails h.ends h.shape
 
 test_is : (e : Grows Phrase) → IsExpression e → Shaped (test e) false (TheSign sign.OpenParenthesis ∷ []) []
@@ -92,7 +93,7 @@ test_is e h =
     (shaped_made _ _ _ _ _ _ _ (shaped_seq _ _ _ _ _ _ _ _ _ _ (shaped_headed _ _ _ _ h) (shaped_one _ refl) refl))
     refl)
 
-choice_is : (e : Grows Phrase) (s : Grows Lines) → IsExpression e → IsStatement s → Shaped (choice e s) false (TheWord word.If ∷ []) (TheWord word.Else ∷ [])
+choice_is : (e : Grows Phrase) (s : Grows TextStatement) → IsExpression e → IsStatement s → Shaped (choice e s) false (TheWord word.If ∷ []) (TheWord word.Else ∷ [])
 unfolding choice
 choice_is e s h i =
     shaped_made _ _ _ _ _ _ _
@@ -105,21 +106,19 @@ choice_is e s h i =
     refl))
     refl)
 
-branch_is : (s : Grows Lines) → IsStatement s → Shaped (branch s) false (TheWord word.Par ∷ []) []
+branch_is : (w : Word) (s : Grows TextStatement) → IsStatement s → Shaped (branch w s) false (TheWord w ∷ []) []
 unfolding branch
-branch_is s i = shaped_made _ _ _ _ _ _ _ (shaped_seq _ _ _ _ _ _ _ _ _ _ (shaped_one _ refl) (block_is s i) refl)
+branch_is w s i = shaped_seq _ _ _ _ _ _ _ _ _ _ (shaped_one _ refl) (block_is s i) refl
 
-fork_is : (s : Grows Lines) → IsStatement s → Shaped (fork s) false (TheWord word.Fork ∷ []) []
+fork_is : (s : Grows TextStatement) → IsStatement s → Shaped (fork s) false (TheWord word.Fork ∷ []) []
 unfolding fork
 fork_is s i =
     shaped_made _ _ _ _ _ _ _
-    (shaped_seq _ _ _ _ _ _ _ _ _ _ (shaped_one _ refl)
-    (shaped_seq _ _ _ _ _ _ _ _ _ _ (block_is s i)
+    (shaped_seq _ _ _ _ _ _ _ _ _ _ (branch_is word.Fork s i)
     (shaped_made _ _ _ _ _ _ _
     (shaped_seq _ _ _ _ _ _ _ _ _ _
-    (shaped_made _ _ _ _ _ _ _ (shaped_seq _ _ _ _ _ _ _ _ _ _ (shaped_many _ _ _ _ (branch_is s i) refl) (shaped_one _ refl) refl))
+    (shaped_made _ _ _ _ _ _ _ (shaped_seq _ _ _ _ _ _ _ _ _ _ (shaped_many _ _ _ _ (branch_is word.Par s i) refl) (shaped_one _ refl) refl))
     (shaped_one _ refl) refl))
-    refl)
     refl)
 
 forking_is : (e : Grows Phrase) (forks : Inner) → IsExpression e → Fits forks → Shaped (forking e forks) false (TheWord word.Fork ∷ simple_first) []
@@ -168,7 +167,7 @@ declaration_is =
     refl)
     refl
 
-program_as : (s : Grows Lines) (t : List Class) → Ends t → Shaped s false statement_first t → Shaped (program s) false (TheWord word.Scl ∷ []) []
+program_as : (s : Grows TextStatement) (t : List Class) → Ends t → Shaped s false statement_first t → Shaped (program s) false (TheWord word.Scl ∷ []) []
 unfolding program
 program_as s t with_none h =
     shaped_made _ _ _ _ _ _ _
@@ -178,7 +177,7 @@ program_as s t with_none h =
     (shaped_seq _ _ _ _ _ _ _ _ _ _ (shaped_one _ refl)
     (shaped_made _ _ _ _ _ _ _
     (shaped_seq _ _ _ _ _ _ _ _ _ _
-    (shaped_seq _ _ _ _ _ _ _ _ _ _ (shaped_many _ _ _ _ declaration_is refl) (shaped_made _ _ _ _ _ _ _ (shaped_many _ _ _ _ h refl)) refl)
+    (shaped_seq _ _ _ _ _ _ _ _ _ _ (shaped_many _ _ _ _ declaration_is refl) (shaped_many _ _ _ _ h refl) refl)
     (shaped_one _ refl) refl))
     refl))
     refl)
@@ -191,7 +190,7 @@ program_as s t with_else h =
     (shaped_seq _ _ _ _ _ _ _ _ _ _ (shaped_one _ refl)
     (shaped_made _ _ _ _ _ _ _
     (shaped_seq _ _ _ _ _ _ _ _ _ _
-    (shaped_seq _ _ _ _ _ _ _ _ _ _ (shaped_many _ _ _ _ declaration_is refl) (shaped_made _ _ _ _ _ _ _ (shaped_many _ _ _ _ h refl)) refl)
+    (shaped_seq _ _ _ _ _ _ _ _ _ _ (shaped_many _ _ _ _ declaration_is refl) (shaped_many _ _ _ _ h refl) refl)
     (shaped_one _ refl) refl))
     refl))
     refl)

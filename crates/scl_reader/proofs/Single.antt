@@ -7,14 +7,14 @@ use Rattle.sc_text.specs.declared.word.Word.TheVariants as word
 use Rattle.sc_text.specs.declared.sign.Sign.TheVariants as sign
 use Rattle.sc_text.specs.declared.read_fault.ReadFault.{ReadFault}
 use Rattle.sc_text.specs.Classes.{Class, AName, TheWord, TheSign}
-use Rattle.sc_text.specs.Phrases.{Phrase}
 use Rattle.sc_text.specs.Expression.{text_tokens, before, expression}
 use Rattle.sc_text.specs.Reading.{Stops, Takes}
 use Rattle.sc_text.proofs.Steps.{one_taken, next_stops, stops_as, seq_got, seq_stops_first, seq_stops_second}
-use Rattle.scl_reader.specs.declared.line.Line.TheVariants as line
-use Rattle.scl_reader.specs.Lines.{Lines, Becomes, IsLabel, name_of, named_line, goto_line}
+use Rattle.scl_reader.specs.declared.statement.TextExpression.{TextExpression}
+use Rattle.scl_reader.specs.declared.statement.TextStatement.TheVariants as open_text
+use Rattle.scl_reader.specs.Statements.{Statements, Becomes, IsLabel, name_of, expression_of, named_statement, goto_statement, pause_statement}
 use Rattle.scl_reader.specs.Program.{name, semicolon, assigned, labelled, named, goto, pause, simple}
-use Rattle.scl_reader.specs.Inside.{TakesName, TakesValue, Adds, itself}
+use Rattle.scl_reader.specs.Inside.{TakesName, TakesValue, Adds, alone}
 use Rattle.scl_reader.proofs.Names.{name_got}
 use Rattle.scl_reader.proofs.Taking.{after_got, after_stops_before, after_stops, before_got, before_stops, before_stops_behind, adds_as}
 
@@ -47,18 +47,18 @@ module _ (text : List Token) where
         (stops_as end _ _ f (assigned_read rest e)
         (next_stops end _ _ f (after_stops becomes (before (headed (expression 0)) semicolon) end rest more f (one_taken becomes rest more e d) s)))
 
-    pub assigned_reads : (more end : List Token) (value : Phrase) (start : ℕ) (old new : Lines) → starts text_tokens becomes rest ≡ true → more ≡ drop 1 rest → TakesValue (read (before (headed (expression 0)) semicolon) more) value start end → new ≡ old ++ line.Assign called at start value ∷ [] → Adds itself (read (named (expression 0)) text) old new end
+    pub assigned_reads : (more end : List Token) (value : TextExpression) (old new : Statements) → starts text_tokens becomes rest ≡ true → more ≡ drop 1 rest → TakesValue (read (before (headed (expression 0)) semicolon) more) value end → new ≡ old ++ open_text.Assign called at value ∷ [] → Adds alone (read (named (expression 0)) text) old new end
     unfolding named assigned
-    assigned_reads more end value start old new e d v b =
+    assigned_reads more end value old new e d v b =
         let n = t.named in
         let p = t.placed in
-        let s = v.begins in
-        let same : line.Assign called at start value ≡ line.Assign (name_of t.token.kind) t.token.at v.head.at value = cc in
+        let s = v.means in
+        let same : open_text.Assign called at value ≡ open_text.Assign (name_of t.token.kind) t.token.at (expression_of v.head v.phrase) = cc in
         record {
-          meaning = named_line t.token (Becomes v.head value);
+          meaning = named_statement t.token (Becomes v.head v.phrase);
           is =
-              seq_got _ name (either (assigned (expression 0)) labelled) text rest end t.token (Becomes v.head value) got
-              (assigned_read rest e ∙ ap (λ o. next o (λ x r. Got (Becomes x.0 x.1) r)) (after_got becomes (before (headed (expression 0)) semicolon) rest more end (v.head, value) (one_taken becomes rest more e d) v.is));
+              seq_got _ name (either (assigned (expression 0)) labelled) text rest end t.token (Becomes v.head v.phrase) got
+              (assigned_read rest e ∙ ap (λ o. next o (λ x r. Got (Becomes x.0 x.1) r)) (after_got becomes (before (headed (expression 0)) semicolon) rest more end (v.head, v.phrase) (one_taken becomes rest more e d) v.is));
           behind = b ∙ ap (λ l. old ++ l ∷ []) same;
         }
 
@@ -68,14 +68,14 @@ module _ (text : List Token) where
         seq_stops_second _ name (either (assigned (expression 0)) labelled) end text rest t.token f got
         (stops_as end _ _ f (labelled_read rest e) (next_stops end _ _ f s))
 
-    pub labelled_reads : (end : List Token) (old new : Lines) → starts text_tokens becomes rest ≡ false → Takes (read (one {L = text_tokens} (TheSign sign.Colon ∷ [])) rest) end → new ≡ old ++ line.Label called at ∷ [] → Adds itself (read (named (expression 0)) text) old new end
+    pub labelled_reads : (end : List Token) (old new : Statements) → starts text_tokens becomes rest ≡ false → Takes (read (one {L = text_tokens} (TheSign sign.Colon ∷ [])) rest) end → new ≡ old ++ open_text.Label called at ∷ [] → Adds alone (read (named (expression 0)) text) old new end
     unfolding named labelled
     labelled_reads end old new e c b =
         let n = t.named in
         let p = t.placed in
-        let same : line.Label called at ≡ line.Label (name_of t.token.kind) t.token.at = cc in
+        let same : open_text.Label called at ≡ open_text.Label (name_of t.token.kind) t.token.at = cc in
         record {
-          meaning = named_line t.token IsLabel;
+          meaning = named_statement t.token IsLabel;
           is =
               seq_got _ name (either (assigned (expression 0)) labelled) text rest end t.token IsLabel got
               (labelled_read rest e ∙ ap (λ o. next o (λ x r. Got IsLabel r)) c.is);
@@ -107,15 +107,15 @@ module _ (text : List Token) where
       goto_end_stops end f s =
           next_stops end _ _ f (after_stops goto_word (before name semicolon) end text target f w (before_stops_behind semicolon name end target rest t.token f got_target s))
 
-      pub goto_reads : (end : List Token) (old new : Lines) → Takes (read (one {L = text_tokens} semicolon) rest) end → new ≡ old ++ line.Goto called at ∷ [] → Adds itself (read goto text) old new end
+      pub goto_reads : (end : List Token) (old new : Statements) → Takes (read (one {L = text_tokens} semicolon) rest) end → new ≡ old ++ open_text.Goto called at ∷ [] → Adds alone (read goto text) old new end
       unfolding goto
       goto_reads end old new c b =
           let n = t.named in
           let p = t.placed in
-          let same : line.Goto called at ≡ line.Goto (name_of t.token.kind) t.token.at = cc in
+          let same : open_text.Goto called at ≡ open_text.Goto (name_of t.token.kind) t.token.at = cc in
           record {
-            meaning = goto_line t.token;
-            is = ap (λ o. next o (λ x r. Got (goto_line x) r)) (after_got goto_word (before name semicolon) text target end t.token w (before_got semicolon name target rest end t.token got_target c));
+            meaning = goto_statement t.token;
+            is = ap (λ o. next o (λ x r. Got (goto_statement x) r)) (after_got goto_word (before name semicolon) text target end t.token w (before_got semicolon name target rest end t.token got_target c));
             behind = b ∙ ap (λ l. old ++ l ∷ []) same;
           }
 
@@ -133,12 +133,12 @@ module _ (text : List Token) where
   unfolding pause
   pause_end_stops rest end f t s = next_stops end _ _ f (before_stops_behind semicolon (one pause_word) end text rest t.token f t.is s)
 
-  pub pause_reads : (rest end : List Token) (old new : Lines) → Takes (read (one {L = text_tokens} pause_word) text) rest → Takes (read (one {L = text_tokens} semicolon) rest) end → new ≡ old ++ line.Pause ∷ [] → Adds itself (read pause text) old new end
+  pub pause_reads : (rest end : List Token) (old new : Statements) → Takes (read (one {L = text_tokens} pause_word) text) rest → Takes (read (one {L = text_tokens} semicolon) rest) end → new ≡ old ++ pause_statement ∷ [] → Adds alone (read pause text) old new end
   unfolding pause
   pause_reads rest end old new t c b =
       record {
-        meaning = line.Pause ∷ [];
-        is = ap (λ o. next o (λ x r. Got (line.Pause ∷ []) r)) (before_got semicolon (one pause_word) text rest end t.token t.is c);
+        meaning = pause_statement;
+        is = ap (λ o. next o (λ x r. Got pause_statement r)) (before_got semicolon (one pause_word) text rest end t.token t.is c);
         behind = b;
       }
 
@@ -164,17 +164,17 @@ module _ (text : List Token) where
   pub simple_named_stops : (end : ℕ) (f : ReadFault) → starts text_tokens (AName ∷ []) text ≡ true → Stops end (read (named (expression 0)) text) f → Stops end (read (simple (expression 0)) text) f
   simple_named_stops end f e s = stops_as end _ _ f (named_read e) s
 
-  pub simple_named_reads : (rest : List Token) (old new : Lines) → starts text_tokens (AName ∷ []) text ≡ true → Adds itself (read (named (expression 0)) text) old new rest → Adds itself (read (simple (expression 0)) text) old new rest
-  simple_named_reads rest old new e a = adds_as itself _ _ old new rest (named_read e) a
+  pub simple_named_reads : (rest : List Token) (old new : Statements) → starts text_tokens (AName ∷ []) text ≡ true → Adds alone (read (named (expression 0)) text) old new rest → Adds alone (read (simple (expression 0)) text) old new rest
+  simple_named_reads rest old new e a = adds_as alone _ _ old new rest (named_read e) a
 
   pub simple_goto_stops : (end : ℕ) (f : ReadFault) → starts text_tokens (AName ∷ []) text ≡ false → starts text_tokens goto_word text ≡ true → Stops end (read goto text) f → Stops end (read (simple (expression 0)) text) f
   simple_goto_stops end f e g s = stops_as end _ _ f (goto_read e g) s
 
-  pub simple_goto_reads : (rest : List Token) (old new : Lines) → starts text_tokens (AName ∷ []) text ≡ false → starts text_tokens goto_word text ≡ true → Adds itself (read goto text) old new rest → Adds itself (read (simple (expression 0)) text) old new rest
-  simple_goto_reads rest old new e g a = adds_as itself _ _ old new rest (goto_read e g) a
+  pub simple_goto_reads : (rest : List Token) (old new : Statements) → starts text_tokens (AName ∷ []) text ≡ false → starts text_tokens goto_word text ≡ true → Adds alone (read goto text) old new rest → Adds alone (read (simple (expression 0)) text) old new rest
+  simple_goto_reads rest old new e g a = adds_as alone _ _ old new rest (goto_read e g) a
 
   pub simple_pause_stops : (end : ℕ) (f : ReadFault) → starts text_tokens (AName ∷ []) text ≡ false → starts text_tokens goto_word text ≡ false → Stops end (read pause text) f → Stops end (read (simple (expression 0)) text) f
   simple_pause_stops end f e g s = stops_as end _ _ f (pause_read e g) s
 
-  pub simple_pause_reads : (rest : List Token) (old new : Lines) → starts text_tokens (AName ∷ []) text ≡ false → starts text_tokens goto_word text ≡ false → Adds itself (read pause text) old new rest → Adds itself (read (simple (expression 0)) text) old new rest
-  simple_pause_reads rest old new e g a = adds_as itself _ _ old new rest (pause_read e g) a
+  pub simple_pause_reads : (rest : List Token) (old new : Statements) → starts text_tokens (AName ∷ []) text ≡ false → starts text_tokens goto_word text ≡ false → Adds alone (read pause text) old new rest → Adds alone (read (simple (expression 0)) text) old new rest
+  simple_pause_reads rest old new e g a = adds_as alone _ _ old new rest (pause_read e g) a

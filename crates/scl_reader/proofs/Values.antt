@@ -1,5 +1,5 @@
 -- An expression with its first token, up to the sign that closes it.
-use Rattle.std.proofs.Common.{◌≡◌, ℕ, true, false, List, [], ◌∷◌, refl, sym, ◌∙◌, ap}
+use Rattle.std.proofs.Common.{◌≡◌, ℕ, true, false, List, [], ◌∷◌, refl, ap}
 use Rattle.grammar.specs.Grammar.{one, headed, spells}
 use Rattle.grammar.specs.Predictive.{empties, first, Predictive}
 use Rattle.grammar.specs.Read.{Got, Failed, starts, next, with_head, read}
@@ -14,6 +14,7 @@ use Rattle.sc_text.specs.Expression.{text_tokens, before, expression}
 use Rattle.sc_text.specs.Reading.{Stops, Reads, Takes, place_of}
 use Rattle.sc_text.proofs.Shapes.{expression_is}
 use Rattle.sc_text.proofs.Steps.{next_stops}
+use Rattle.scl_reader.specs.declared.statement.TextExpression.{TextExpression}
 use Rattle.scl_reader.specs.Program.{Grows}
 use Rattle.scl_reader.specs.Inside.{TakesValue}
 use Rattle.scl_reader.proofs.Taking.{before_got, before_stops, before_stops_behind}
@@ -46,11 +47,14 @@ module _ (closing : Sign) (text : List Token) (end : ℕ) where
       let h = headed_got end text rest r.phrase r.is in
       before_stops_behind (TheSign closing ∷ []) (headed (expression 0)) end text rest (h.0, r.phrase) f h.2 s
 
-  pub value_taken : (rest more : List Token) (code : Phrase) (start : ℕ) → start ≡ place_of end text → Reads (read (expression 0) text) [] code rest → Takes (read (one {L = text_tokens} (TheSign closing ∷ [])) rest) more → TakesValue (read (before (headed (expression 0)) (TheSign closing ∷ [])) text) code start more
-  value_taken rest more code start p r t =
+  pub value_taken : (rest more : List Token) (code : Phrase) (value : TextExpression) → value ≡ record { start = place_of end text; code = code } → Reads (read (expression 0) text) [] code rest → Takes (read (one {L = text_tokens} (TheSign closing ∷ [])) rest) more → TakesValue (read (before (headed (expression 0)) (TheSign closing ∷ [])) text) value more
+  value_taken rest more code value v r t =
       let h = headed_got end text rest r.phrase r.is in
+      let begins = h.1 in
+      let gained = r.behind in
       record {
         head = h.0;
-        is = before_got (TheSign closing ∷ []) (headed (expression 0)) text rest more (h.0, r.phrase) h.2 t ∙ ap (λ c. Got (h.0, c) more) (sym r.behind);
-        begins = p ∙ h.1;
+        phrase = r.phrase;
+        is = before_got (TheSign closing ∷ []) (headed (expression 0)) text rest more (h.0, r.phrase) h.2 t;
+        means = cc;
       }

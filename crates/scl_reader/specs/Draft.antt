@@ -1,4 +1,4 @@
--- What a text is read into: its name, its declarations and its lines. Names are not yet resolved.
+-- What a text is read into: its name, its declarations and its statements. Names are not yet resolved.
 use Rattle.std.specs.Prelude.{ℕ, ◌≡◌, ◌⊎◌, List, map, length}
 use Rattle.grammar.specs.Grammar.{spells}
 use Rattle.grammar.specs.Read.{Flaw}
@@ -19,7 +19,7 @@ use Rattle.sc_text.specs.Tokens.{AreTokens, IsFirstFault}
 use Rattle.sc_text.specs.Reading.{broken_by, place_of}
 use Rattle.scl_reader.specs.declared.draft.Declaration.{Declaration}
 use Rattle.scl_reader.specs.declared.draft.Draft.{Draft}
-use Rattle.scl_reader.specs.Lines.{name_of}
+use Rattle.scl_reader.specs.Statements.{name_of}
 use Rattle.scl_reader.specs.Program.{Text, scl}
 
 abbrev pub role_of : TokenKind → Role
@@ -36,7 +36,7 @@ abbrev pub declared : Token × (Token × Token) → Declaration
 declared d = record { role = role_of d.0.kind; kind = kind_of d.1.0.kind; name = name_of d.1.1.kind; at = d.1.1.at }
 
 abbrev pub draft_of : Text → Draft
-draft_of t = record { name = name_of t.0.kind; declarations = map declared t.1.0; lines = t.1.1 }
+draft_of t = record { name = name_of t.0.kind; declarations = map declared t.1.0; statements = t.1.1 }
 
 -- the text spells a program, and this is its draft
 pub record IsDraft (text : List ℕ) (draft : Draft) : Type 0 where

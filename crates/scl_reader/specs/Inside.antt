@@ -9,13 +9,14 @@ use Rattle.sc_text.specs.declared.token.Token.{Token}
 use Rattle.sc_text.specs.Classes.{Class, AName, TheWord, TheSign}
 use Rattle.sc_text.specs.Phrases.{Phrase}
 use Rattle.sc_text.specs.Expression.{text_tokens, after, before, expression}
-use Rattle.scl_reader.specs.declared.line.Line.TheVariants as line
-use Rattle.scl_reader.specs.Lines.{Lines, name_of}
+use Rattle.scl_reader.specs.declared.statement.TextExpression.{TextExpression}
+use Rattle.scl_reader.specs.declared.statement.TextStatement.{TextStatement}
+use Rattle.scl_reader.specs.Statements.{Statements, name_of, expression_of, branch_of}
 use Rattle.sc_values.specs.declared.value.Kind.{Kind}
 use Rattle.sc_graph.specs.declared.program.Role.{Role}
 use Rattle.scl_reader.specs.declared.draft.Declaration.{Declaration}
 use Rattle.scl_reader.specs.declared.draft.Draft.{Draft}
-use Rattle.scl_reader.specs.Program.{Grows, name, statements, declaration, Inner, Text, forking, statement, ifs_within, forks_within}
+use Rattle.scl_reader.specs.Program.{Grows, name, declaration, Inner, Text, forking, statement, ifs_within, forks_within}
 use Rattle.scl_reader.specs.Draft.{role_of, kind_of, declared, draft_of}
 
 -- a name is next, which stands at this place
@@ -25,11 +26,12 @@ pub record TakesName (text : List Token) (called : List ℕ) (at : ℕ) : Type 0
   pub named : called ≡ name_of token.kind
   pub placed : at ≡ token.at
 
--- an expression was read, whose first byte stands at this place
-pub record TakesValue (o : Outcome Token (Token × Phrase)) (value : Phrase) (start : ℕ) (rest : List Token) : Type 0 where
+-- an expression was read, with its first token
+pub record TakesValue (o : Outcome Token (Token × Phrase)) (value : TextExpression) (rest : List Token) : Type 0 where
   pub head : Token
-  pub is : o ≡ Got (head, value) rest
-  pub begins : start ≡ head.at
+  pub phrase : Phrase
+  pub is : o ≡ Got (head, phrase) rest
+  pub means : value ≡ expression_of head phrase
 
 -- a phrase was read, and what it gives stands behind the old items
 pub record Adds {A X : Type 0} (gives : A → List X) (o : Outcome Token A) (old new : List X) (rest : List Token) : Type 0 where
@@ -50,6 +52,9 @@ pub record IsGoing {A X : Type 0} (g : Grows A) (gives : A → List X) (o : Outc
 abbrev pub itself : {A : Type 0} → A → A
 itself x = x
 
+abbrev pub alone : {A : Type 0} → A → List A
+alone x = x ∷ []
+
 -- the tokens that begin a statement
 abbrev pub statement_classes : List Class
 statement_classes = TheWord word.If ∷ TheWord word.Fork ∷ AName ∷ TheWord word.Goto ∷ TheWord word.Pause ∷ []
@@ -62,16 +67,16 @@ unfoldable pub inner_ifs : (forks ifs : ℕ) → Inner
 inner_ifs forks ifs = ifs_within (expression 0) (inner_forks forks) ifs
 
 -- a statement, where so many forks and so many ifs may still stand in one another
-unfoldable pub within : (forks ifs : ℕ) → Grows Lines
+unfoldable pub within : (forks ifs : ℕ) → Grows TextStatement
 within forks ifs = statement (expression 0) (inner_forks forks) (inner_ifs forks ifs)
 
 -- a statement that is no if
-unfoldable pub no_if : (forks : ℕ) → Grows Lines
+unfoldable pub no_if : (forks : ℕ) → Grows TextStatement
 no_if forks = forking (expression 0) (inner_forks forks)
 
--- the line that opens an if
-abbrev pub test_line : Token × Phrase → Lines
-test_line x = line.If x.0.at x.1 ∷ []
+-- a branch, by the word that opens it
+abbrev pub one_branch : Token × Statements → List (ℕ × Statements)
+one_branch b = branch_of b ∷ []
 
 -- a word that gives a role, or a kind, was read
 pub record TakesRole (o : Outcome Token Token) (role : Role) (rest : List Token) : Type 0 where
@@ -94,18 +99,18 @@ abbrev pub one_declared : Token × (Token × Token) → List Declaration
 one_declared d = declared d ∷ []
 
 -- what stands in the braces of a program
-abbrev pub in_braces : Grows (List (Token × (Token × Token)) × Lines)
+abbrev pub in_braces : Grows (List (Token × (Token × Token)) × Statements)
 in_braces =
     after (TheSign sign.OpenBrace ∷ [])
-    (before (seq (many declaration) (statements (within 32 32))) (TheSign sign.CloseBrace ∷ []))
+    (before (seq (many declaration) (many (within 32 32))) (TheSign sign.CloseBrace ∷ []))
 
 -- it was read
-pub record AddsBody (o : Outcome Token (List (Token × (Token × Token)) × Lines)) (old_variables variables : List Declaration) (old_lines lines : Lines) (rest : List Token) : Type 0 where
+pub record AddsBody (o : Outcome Token (List (Token × (Token × Token)) × Statements)) (old_variables variables : List Declaration) (old_statements statements : Statements) (rest : List Token) : Type 0 where
   pub variables_read : List (Token × (Token × Token))
-  pub lines_read : Lines
-  pub is : o ≡ Got (variables_read, lines_read) rest
+  pub statements_read : Statements
+  pub is : o ≡ Got (variables_read, statements_read) rest
   pub variables_behind : variables ≡ old_variables ++ map declared variables_read
-  pub lines_behind : lines ≡ old_lines ++ lines_read
+  pub statements_behind : statements ≡ old_statements ++ statements_read
 
 -- a text was read to its end, and this is its draft
 pub record Drafts (o : Outcome Token Text) (draft : Draft) : Type 0 where

@@ -1,4 +1,4 @@
-pub mod Lines
+pub mod Statements
 pub mod Program
 pub mod Laws
 pub mod Draft

@@ -1,6 +1,6 @@
 //! What a text is read into before its rules are looked at.
 
-use crate::line::Line;
+use crate::statement::TextStatement;
 use sc_graph::Role;
 use sc_values::{Kind, Name};
 use sqlite_items::Items;
@@ -19,5 +19,5 @@ pub struct Declaration {
 pub struct Draft {
     pub name: Name,
     pub declarations: Items<Declaration>,
-    pub lines: Items<Line>,
+    pub statements: Items<TextStatement>,
 }

@@ -4,14 +4,14 @@
 mod declarations;
 mod draft;
 mod laws;
-mod line;
 mod name;
 mod program;
 mod simple;
+mod statement;
 mod statements;
 mod value;
 
 pub use draft::{Declaration, Draft};
 pub use laws::scl_texts_are_told;
-pub use line::Line;
 pub use program::read_draft;
+pub use statement::{TextExpression, TextStatement};

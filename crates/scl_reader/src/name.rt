@@ -5,7 +5,7 @@ ghost use Rattle.grammar.specs.Read.{read, starts};
 ghost use Rattle.sc_text.specs.Classes.{AName, class_of, same_class};
 ghost use Rattle.sc_text.specs.Expression.{text_tokens};
 ghost use Rattle.sc_text.specs.Reading.{Stops};
-ghost use Rattle.scl_reader.specs.Lines.{name_of};
+ghost use Rattle.scl_reader.specs.Statements.{name_of};
 ghost use Rattle.scl_reader.specs.Program.{name};
 ghost use Rattle.scl_reader.specs.Inside.{TakesName};
 

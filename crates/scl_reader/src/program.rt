@@ -9,8 +9,8 @@ ghost use Rattle.scl_reader.specs.Inside.{Drafts, AddsBody, in_braces};
 
 use crate::declarations::declarations;
 use crate::draft::{Declaration, Draft};
-use crate::line::Line;
 use crate::name::name;
+use crate::statement::TextStatement;
 use crate::statements::{FORK_LIMIT, IF_LIMIT, statements};
 use sc_text::ahead::{behind, past_sign, past_word, wrong};
 use sc_text::{Language, ReadFault, Sign, Token, Word, tokens};
@@ -40,15 +40,15 @@ fn whole(alloc: Global, tokens: &[Token], end: usize) -> Result<Draft, ReadFault
     let named = past_word(tokens, end, Word::Scl)?;
     let (name, _) = name(named, end)?;
     let mut variables = Items::new(alloc);
-    let mut lines = Items::new(alloc);
-    let rest = body(alloc, behind(named), end, &mut variables, &mut lines)?;
+    let mut statements = Items::new(alloc);
+    let rest = body(alloc, behind(named), end, &mut variables, &mut statements)?;
     if !is_over(rest) {
         return Err(wrong(rest, end));
     }
     Ok(Draft {
         name,
         declarations: variables,
-        lines,
+        statements,
     })
 }
 
@@ -66,15 +66,15 @@ fn body<'a>(
     tokens: &'a [Token],
     end: usize,
     variables: &mut Items<Declaration>,
-    lines: &mut Items<Line>,
+    into: &mut Items<TextStatement>,
 ) -> Result<&'a [Token], ReadFault>
     ensures { MatchResult result
-        (λ rest. AddsBody (read in_braces tokens.now) variables.old variables.new lines.old lines.new rest.now)
+        (λ rest. AddsBody (read in_braces tokens.now) variables.old variables.new into.old into.new rest.now)
         (λ fault. Stops end (read in_braces tokens.now) fault) }
 {
     let inside = past_sign(tokens, end, Sign::OpenBrace)?;
     let start = declarations(inside, end, variables)?;
-    let rest = statements(alloc, FORK_LIMIT, IF_LIMIT, start, end, lines)?;
+    let rest = statements(alloc, FORK_LIMIT, IF_LIMIT, start, end, into)?;
     let after = past_sign(rest, end, Sign::CloseBrace)?;
     Ok(after)
 }

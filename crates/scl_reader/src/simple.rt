@@ -5,38 +5,38 @@ ghost use Rattle.grammar.specs.Read.{read};
 ghost use Rattle.sc_text.specs.Expression.{expression};
 ghost use Rattle.sc_text.specs.Reading.{Stops};
 ghost use Rattle.scl_reader.specs.Program.{named, goto, pause, simple};
-ghost use Rattle.scl_reader.specs.Inside.{Adds, itself};
+ghost use Rattle.scl_reader.specs.Inside.{Adds, alone};
 
-use crate::line::Line;
 use crate::name::{name, name_follows};
+use crate::statement::TextStatement;
 use crate::value::value;
 use sc_text::ahead::{behind, past_sign, past_word, sign_follows, word_follows};
 use sc_text::{ReadFault, Sign, Token, Word};
 use sqlite_items::Items;
 use std::alloc::Global;
 
-/// Reads a statement that is no if and no fork, and puts its line behind the others. Gives the tokens behind
+/// Reads a statement that is no if and no fork, and puts it behind the others. Gives the tokens behind
 /// it. Err: the fault at the first token that can't go on, or memory was refused.
 #[tactic(auto, using(crate::proofs::Single::simple_named_stops, crate::proofs::Single::simple_named_reads, crate::proofs::Single::simple_goto_stops, crate::proofs::Single::simple_goto_reads, crate::proofs::Single::simple_pause_stops, crate::proofs::Single::simple_pause_reads))]
 pub fn simple<'a>(
     alloc: Global,
     tokens: &'a [Token],
     end: usize,
-    lines: &mut Items<Line>,
+    statements: &mut Items<TextStatement>,
 ) -> Result<&'a [Token], ReadFault>
     ensures { MatchResult result
-        (λ rest. Adds itself (read (simple (expression 0)) tokens.now) lines.old lines.new rest.now)
+        (λ rest. Adds alone (read (simple (expression 0)) tokens.now) statements.old statements.new rest.now)
         (λ fault. Stops end (read (simple (expression 0)) tokens.now) fault) }
 {
     if name_follows(tokens) {
-        let rest = named(alloc, tokens, end, lines)?;
+        let rest = named(alloc, tokens, end, statements)?;
         return Ok(rest);
     }
     if word_follows(tokens, Word::Goto) {
-        let rest = goto(tokens, end, lines)?;
+        let rest = goto(tokens, end, statements)?;
         return Ok(rest);
     }
-    let rest = pause(tokens, end, lines)?;
+    let rest = pause(tokens, end, statements)?;
     Ok(rest)
 }
 
@@ -46,26 +46,21 @@ fn named<'a>(
     alloc: Global,
     tokens: &'a [Token],
     end: usize,
-    lines: &mut Items<Line>,
+    statements: &mut Items<TextStatement>,
 ) -> Result<&'a [Token], ReadFault>
     ensures { MatchResult result
-        (λ rest. Adds itself (read (named (expression 0)) tokens.now) lines.old lines.new rest.now)
+        (λ rest. Adds alone (read (named (expression 0)) tokens.now) statements.old statements.new rest.now)
         (λ fault. Stops end (read (named (expression 0)) tokens.now) fault) }
 {
     let (name, at) = name(tokens, end)?;
     let rest = behind(tokens);
     if sign_follows(rest, Sign::Becomes) {
-        let (value, start, after) = value(alloc, Sign::Semicolon, behind(rest), end)?;
-        lines.push(Line::Assign {
-            name,
-            at,
-            start,
-            value,
-        })?;
+        let (value, after) = value(alloc, Sign::Semicolon, behind(rest), end)?;
+        statements.push(TextStatement::Assign { name, at, value })?;
         return Ok(after);
     }
     let after = past_sign(rest, end, Sign::Colon)?;
-    lines.push(Line::Label(name, at))?;
+    statements.push(TextStatement::Label(name, at))?;
     Ok(after)
 }
 
@@ -73,17 +68,17 @@ fn named<'a>(
 fn goto<'a>(
     tokens: &'a [Token],
     end: usize,
-    lines: &mut Items<Line>,
+    statements: &mut Items<TextStatement>,
 ) -> Result<&'a [Token], ReadFault>
     ensures { MatchResult result
-        (λ rest. Adds itself (read goto tokens.now) lines.old lines.new rest.now)
+        (λ rest. Adds alone (read goto tokens.now) statements.old statements.new rest.now)
         (λ fault. Stops end (read goto tokens.now) fault) }
 {
     let target = past_word(tokens, end, Word::Goto)?;
     let (name, at) = name(target, end)?;
     let rest = behind(target);
     let after = past_sign(rest, end, Sign::Semicolon)?;
-    lines.push(Line::Goto(name, at))?;
+    statements.push(TextStatement::Goto(name, at))?;
     Ok(after)
 }
 
@@ -91,14 +86,14 @@ fn goto<'a>(
 fn pause<'a>(
     tokens: &'a [Token],
     end: usize,
-    lines: &mut Items<Line>,
+    statements: &mut Items<TextStatement>,
 ) -> Result<&'a [Token], ReadFault>
     ensures { MatchResult result
-        (λ rest. Adds itself (read pause tokens.now) lines.old lines.new rest.now)
+        (λ rest. Adds alone (read pause tokens.now) statements.old statements.new rest.now)
         (λ fault. Stops end (read pause tokens.now) fault) }
 {
     let rest = past_word(tokens, end, Word::Pause)?;
     let after = past_sign(rest, end, Sign::Semicolon)?;
-    lines.push(Line::Pause)?;
+    statements.push(TextStatement::Pause)?;
     Ok(after)
 }

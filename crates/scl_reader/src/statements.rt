@@ -6,13 +6,13 @@ ghost use Rattle.grammar.specs.Read.{read, starts};
 ghost use Rattle.sc_text.specs.Classes.{TheWord};
 ghost use Rattle.sc_text.specs.Expression.{text_tokens, after, expression};
 ghost use Rattle.sc_text.specs.Reading.{Stops};
-ghost use Rattle.scl_reader.specs.Lines.{else_lines};
+ghost use Rattle.scl_reader.specs.Statements.{none_or_them};
 ghost use Rattle.scl_reader.specs.Program.{block, test, choice, branch, fork};
-ghost use Rattle.scl_reader.specs.Inside.{Adds, itself, each_of, test_line, statement_classes, within, no_if};
+ghost use Rattle.scl_reader.specs.Inside.{Adds, TakesValue, itself, alone, each_of, one_branch, statement_classes, within, no_if};
 
-use crate::line::Line;
 use crate::name::name_follows;
 use crate::simple::simple;
+use crate::statement::{TextExpression, TextStatement};
 use crate::value::value;
 use sc_text::ahead::{behind, past_sign, past_word, place, too_deep, word_follows};
 use sc_text::{ReadFault, Sign, Token, Word};
@@ -36,9 +36,9 @@ fn statement_follows(tokens: &[Token]) -> bool
         || word_follows(tokens, Word::Pause)
 }
 
-/// Reads the statements at the front of the tokens, and puts their lines behind the others. So many forks and
-/// ifs may still stand in one another. Gives the tokens behind them. Err: the fault at the first token that
-/// can't go on, or memory was refused.
+/// Reads the statements at the front of the tokens, and puts them behind the others. So many forks and ifs may
+/// still stand in one another. Gives the tokens behind them. Err: the fault at the first token that can't go
+/// on, or memory was refused.
 #[cycle(statement)]
 #[tactic(auto, using(crate::proofs::Loops::within_begins, crate::proofs::Loops::within_ends, crate::proofs::Loops::within_over, crate::proofs::Loops::within_stops, crate::proofs::Loops::within_goes_on))]
 pub fn statements<'a>(
@@ -47,10 +47,10 @@ pub fn statements<'a>(
     ifs: u8,
     tokens: &'a [Token],
     end: usize,
-    lines: &mut Items<Line>,
+    into: &mut Items<TextStatement>,
 ) -> Result<&'a [Token], ReadFault>
     ensures { MatchResult result
-        (λ rest. Adds (each_of itself) (read (many (within forks ifs)) tokens.now) lines.old lines.new rest.now)
+        (λ rest. Adds (each_of alone) (read (many (within forks ifs)) tokens.now) into.old into.new rest.now)
         (λ fault. Stops end (read (many (within forks ifs)) tokens.now) fault) }
 {
     let mut rest = tokens;
@@ -59,7 +59,7 @@ pub fn statements<'a>(
         if !statement_follows(rest) {
             return Ok(rest);
         }
-        rest = statement(alloc, forks, ifs, rest, end, lines)?;
+        rest = statement(alloc, forks, ifs, rest, end, into)?;
     }
     Ok(rest)
 }
@@ -72,20 +72,20 @@ fn statement<'a>(
     ifs: u8,
     tokens: &'a [Token],
     end: usize,
-    lines: &mut Items<Line>,
+    into: &mut Items<TextStatement>,
 ) -> Result<&'a [Token], ReadFault>
     ensures { MatchResult result
-        (λ rest. Adds itself (read (within forks ifs) tokens.now) lines.old lines.new rest.now)
+        (λ rest. Adds alone (read (within forks ifs) tokens.now) into.old into.new rest.now)
         (λ fault. Stops end (read (within forks ifs) tokens.now) fault) }
 {
     if !word_follows(tokens, Word::If) {
-        let rest = no_if(alloc, forks, tokens, end, lines)?;
+        let rest = no_if(alloc, forks, tokens, end, into)?;
         return Ok(rest);
     }
     if ifs == 0 {
         return Err(too_deep(tokens, end));
     }
-    let rest = choice(alloc, forks, ifs - 1, tokens, end, lines)?;
+    let rest = choice(alloc, forks, ifs - 1, tokens, end, into)?;
     Ok(rest)
 }
 
@@ -96,20 +96,20 @@ fn no_if<'a>(
     forks: u8,
     tokens: &'a [Token],
     end: usize,
-    lines: &mut Items<Line>,
+    into: &mut Items<TextStatement>,
 ) -> Result<&'a [Token], ReadFault>
     ensures { MatchResult result
-        (λ rest. Adds itself (read (no_if forks) tokens.now) lines.old lines.new rest.now)
+        (λ rest. Adds alone (read (no_if forks) tokens.now) into.old into.new rest.now)
         (λ fault. Stops end (read (no_if forks) tokens.now) fault) }
 {
     if !word_follows(tokens, Word::Fork) {
-        let rest = simple(alloc, tokens, end, lines)?;
+        let rest = simple(alloc, tokens, end, into)?;
         return Ok(rest);
     }
     if forks == 0 {
         return Err(too_deep(tokens, end));
     }
-    let rest = fork(alloc, forks - 1, tokens, end, lines)?;
+    let rest = fork(alloc, forks - 1, tokens, end, into)?;
     Ok(rest)
 }
 
@@ -122,14 +122,14 @@ fn block<'a>(
     ifs: u8,
     tokens: &'a [Token],
     end: usize,
-    lines: &mut Items<Line>,
+    into: &mut Items<TextStatement>,
 ) -> Result<&'a [Token], ReadFault>
     ensures { MatchResult result
-        (λ rest. Adds itself (read (block (within forks ifs)) tokens.now) lines.old lines.new rest.now)
+        (λ rest. Adds itself (read (block (within forks ifs)) tokens.now) into.old into.new rest.now)
         (λ fault. Stops end (read (block (within forks ifs)) tokens.now) fault) }
 {
     let body = past_sign(tokens, end, Sign::OpenBrace)?;
-    let rest = statements(alloc, forks, ifs, body, end, lines)?;
+    let rest = statements(alloc, forks, ifs, body, end, into)?;
     let after = past_sign(rest, end, Sign::CloseBrace)?;
     Ok(after)
 }
@@ -142,82 +142,83 @@ fn choice<'a>(
     ifs: u8,
     tokens: &'a [Token],
     end: usize,
-    lines: &mut Items<Line>,
+    into: &mut Items<TextStatement>,
 ) -> Result<&'a [Token], ReadFault>
     ensures { MatchResult result
-        (λ rest. Adds itself (read (choice (expression 0) (within forks ifs)) tokens.now) lines.old lines.new rest.now)
+        (λ rest. Adds alone (read (choice (expression 0) (within forks ifs)) tokens.now) into.old into.new rest.now)
         (λ fault. Stops end (read (choice (expression 0) (within forks ifs)) tokens.now) fault) }
 {
     let opened = past_word(tokens, end, Word::If)?;
-    let first = test(alloc, opened, end, lines)?;
-    let rest = block(alloc, forks, ifs, first, end, lines)?;
-    let after = second(alloc, forks, ifs, rest, end, lines)?;
-    lines.push(Line::EndIf)?;
+    let (test, listed) = test(alloc, opened, end)?;
+    let mut first = Items::new(alloc);
+    let rest = block(alloc, forks, ifs, listed, end, &mut first)?;
+    let mut second = Items::new(alloc);
+    let after = otherwise(alloc, forks, ifs, rest, end, &mut second)?;
+    into.push(TextStatement::If {
+        test,
+        first,
+        second,
+    })?;
     Ok(after)
 }
 
 // What is tested, in parentheses.
-#[tactic(auto, using(crate::proofs::Blocks::parenthesis_stops, crate::proofs::Blocks::tested_stops, crate::proofs::Blocks::tested_reads))]
-fn test<'a>(
+#[tactic(auto, using(crate::proofs::Blocks::parenthesis_stops, crate::proofs::Blocks::tested_stops, crate::proofs::Blocks::tested_taken))]
+fn test(
     alloc: Global,
-    tokens: &'a [Token],
+    tokens: &[Token],
     end: usize,
-    lines: &mut Items<Line>,
-) -> Result<&'a [Token], ReadFault>
+) -> Result<(TextExpression, &[Token]), ReadFault>
     ensures { MatchResult result
-        (λ rest. Adds test_line (read (test (expression 0)) tokens.now) lines.old lines.new rest.now)
+        (λ p. TakesValue (read (test (expression 0)) tokens.now) p.0 p.1.now)
         (λ fault. Stops end (read (test (expression 0)) tokens.now) fault) }
 {
     let inside = past_sign(tokens, end, Sign::OpenParenthesis)?;
-    let (test, start, rest) = value(alloc, Sign::CloseParenthesis, inside, end)?;
-    lines.push(Line::If { start, test })?;
-    Ok(rest)
+    let (test, rest) = value(alloc, Sign::CloseParenthesis, inside, end)?;
+    Ok((test, rest))
 }
 
 // The second list of an if, where there is one.
 #[cycle(statement)]
 #[tactic(auto, using(crate::proofs::Blocks::no_else_reads, crate::proofs::Blocks::else_stops, crate::proofs::Blocks::else_reads))]
-fn second<'a>(
+fn otherwise<'a>(
     alloc: Global,
     forks: u8,
     ifs: u8,
     tokens: &'a [Token],
     end: usize,
-    lines: &mut Items<Line>,
+    into: &mut Items<TextStatement>,
 ) -> Result<&'a [Token], ReadFault>
     ensures { MatchResult result
-        (λ rest. Adds else_lines (read (maybe (after (TheWord Word.Else ∷ []) (block (within forks ifs)))) tokens.now) lines.old lines.new rest.now)
+        (λ rest. Adds none_or_them (read (maybe (after (TheWord Word.Else ∷ []) (block (within forks ifs)))) tokens.now) into.old into.new rest.now)
         (λ fault. Stops end (read (maybe (after (TheWord Word.Else ∷ []) (block (within forks ifs)))) tokens.now) fault) }
 {
     if !word_follows(tokens, Word::Else) {
         return Ok(tokens);
     }
-    lines.push(Line::Else)?;
-    let rest = block(alloc, forks, ifs, behind(tokens), end, lines)?;
+    let rest = block(alloc, forks, ifs, behind(tokens), end, into)?;
     Ok(rest)
 }
 
 #[cycle(statement)]
-#[tactic(auto, using(crate::proofs::Forks::fork_word_stops, crate::proofs::Forks::first_branch_stops, crate::proofs::Forks::branches_stop, crate::proofs::Forks::join_stops, crate::proofs::Forks::join_end_stops, crate::proofs::Forks::fork_reads))]
+#[tactic(auto, using(crate::proofs::Forks::first_branch_stops, crate::proofs::Forks::branches_stop, crate::proofs::Forks::join_stops, crate::proofs::Forks::join_end_stops, crate::proofs::Forks::fork_reads))]
 fn fork<'a>(
     alloc: Global,
     forks: u8,
     tokens: &'a [Token],
     end: usize,
-    lines: &mut Items<Line>,
+    into: &mut Items<TextStatement>,
 ) -> Result<&'a [Token], ReadFault>
     ensures { MatchResult result
-        (λ rest. Adds itself (read (fork (within forks 32)) tokens.now) lines.old lines.new rest.now)
+        (λ rest. Adds alone (read (fork (within forks 32)) tokens.now) into.old into.new rest.now)
         (λ fault. Stops end (read (fork (within forks 32)) tokens.now) fault) }
 {
-    let at = place(tokens, end);
-    let first = past_word(tokens, end, Word::Fork)?;
-    lines.push(Line::Fork(at))?;
-    let more = block(alloc, forks, IF_LIMIT, first, end, lines)?;
-    let rest = branches(alloc, forks, more, end, lines)?;
+    let mut all = Items::new(alloc);
+    let more = branch(alloc, forks, Word::Fork, tokens, end, &mut all)?;
+    let rest = branches(alloc, forks, more, end, &mut all)?;
     let join = past_word(rest, end, Word::Join)?;
     let after = past_sign(join, end, Sign::Semicolon)?;
-    lines.push(Line::Join)?;
+    into.push(TextStatement::Fork { branches: all })?;
     Ok(after)
 }
 
@@ -229,11 +230,11 @@ fn branches<'a>(
     forks: u8,
     tokens: &'a [Token],
     end: usize,
-    lines: &mut Items<Line>,
+    into: &mut Items<(usize, Items<TextStatement>)>,
 ) -> Result<&'a [Token], ReadFault>
     ensures { MatchResult result
-        (λ rest. Adds (each_of itself) (read (many (branch (within forks 32))) tokens.now) lines.old lines.new rest.now)
-        (λ fault. Stops end (read (many (branch (within forks 32))) tokens.now) fault) }
+        (λ rest. Adds (each_of one_branch) (read (many (branch Word.Par (within forks 32))) tokens.now) into.old into.new rest.now)
+        (λ fault. Stops end (read (many (branch Word.Par (within forks 32))) tokens.now) fault) }
 {
     let mut rest = tokens;
     let most = rest.len();
@@ -241,27 +242,30 @@ fn branches<'a>(
         if !word_follows(rest, Word::Par) {
             return Ok(rest);
         }
-        rest = branch(alloc, forks, rest, end, lines)?;
+        rest = branch(alloc, forks, Word::Par, rest, end, into)?;
     }
     Ok(rest)
 }
 
+// The branch that is opened by this word.
 #[cycle(statement)]
-#[tactic(auto, using(crate::proofs::Forks::par_stops, crate::proofs::Forks::branch_body_stops, crate::proofs::Forks::branch_reads))]
+#[tactic(auto, using(crate::proofs::Forks::opening_stops, crate::proofs::Forks::branch_body_stops, crate::proofs::Forks::branch_reads))]
 fn branch<'a>(
     alloc: Global,
     forks: u8,
+    opening: Word,
     tokens: &'a [Token],
     end: usize,
-    lines: &mut Items<Line>,
+    into: &mut Items<(usize, Items<TextStatement>)>,
 ) -> Result<&'a [Token], ReadFault>
     ensures { MatchResult result
-        (λ rest. Adds itself (read (branch (within forks 32)) tokens.now) lines.old lines.new rest.now)
-        (λ fault. Stops end (read (branch (within forks 32)) tokens.now) fault) }
+        (λ rest. Adds one_branch (read (branch opening (within forks 32)) tokens.now) into.old into.new rest.now)
+        (λ fault. Stops end (read (branch opening (within forks 32)) tokens.now) fault) }
 {
     let at = place(tokens, end);
-    let body = past_word(tokens, end, Word::Par)?;
-    lines.push(Line::Par(at))?;
-    let rest = block(alloc, forks, IF_LIMIT, body, end, lines)?;
+    let body = past_word(tokens, end, opening)?;
+    let mut statements = Items::new(alloc);
+    let rest = block(alloc, forks, IF_LIMIT, body, end, &mut statements)?;
+    into.push((at, statements))?;
     Ok(rest)
 }

@@ -8,12 +8,13 @@ ghost use Rattle.sc_text.specs.Expression.{before, expression};
 ghost use Rattle.sc_text.specs.Reading.{Stops};
 ghost use Rattle.scl_reader.specs.Inside.{TakesValue};
 
+use crate::statement::TextExpression;
 use sc_text::ahead::{past_sign, place};
-use sc_text::{ReadFault, Sign, TextOperation, Token, expression};
+use sc_text::{ReadFault, Sign, Token, expression};
 use sqlite_items::Items;
 use std::alloc::Global;
 
-/// An expression up to the sign that closes it, the place of its first byte, and the tokens behind the sign.
+/// An expression up to the sign that closes it, and the tokens behind the sign.
 /// Err: the fault at the first token that can't go on, or memory was refused.
 #[tactic(auto, using(crate::proofs::Values::value_stops, crate::proofs::Values::closing_stops, crate::proofs::Values::value_taken))]
 pub fn value(
@@ -21,14 +22,14 @@ pub fn value(
     closing: Sign,
     tokens: &[Token],
     end: usize,
-) -> Result<(Items<TextOperation>, usize, &[Token]), ReadFault>
+) -> Result<(TextExpression, &[Token]), ReadFault>
     ensures { MatchResult result
-        (λ p. TakesValue (read (before (headed (expression 0)) (TheSign closing ∷ [])) tokens.now) p.0 p.1 p.2.now)
+        (λ p. TakesValue (read (before (headed (expression 0)) (TheSign closing ∷ [])) tokens.now) p.0 p.1.now)
         (λ fault. Stops end (read (before (headed (expression 0)) (TheSign closing ∷ [])) tokens.now) fault) }
 {
     let start = place(tokens, end);
     let mut code = Items::new(alloc);
     let rest = expression(tokens, end, &mut code)?;
     let after = past_sign(rest, end, closing)?;
-    Ok((code, start, after))
+    Ok((TextExpression { start, code }, after))
 }

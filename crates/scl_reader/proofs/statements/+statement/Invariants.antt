@@ -1,8 +1,9 @@
 use Rattle.std.proofs.Common.{◌+◌, ◌-◌, ◌*◌}
 use Rattle.grammar.specs.Grammar.{many}
 use Rattle.grammar.specs.Read.{read}
+use Rattle.sc_text.specs.declared.word.Word.TheVariants as word
 use Rattle.scl_reader.specs.Program.{branch}
-use Rattle.scl_reader.specs.Inside.{IsGoing, itself, within}
+use Rattle.scl_reader.specs.Inside.{IsGoing, alone, one_branch, within}
 use Rattle.scl_reader.proofs.statements.+statement.Given as goal
 
 -- a fork has any number of ifs in each branch
@@ -21,8 +22,8 @@ decreases-block l = 16 * (256 * l.forks + l.ifs) + 9
 abbrev pub decreases-choice : goal.decreases-choice
 decreases-choice l = 16 * (256 * l.forks + l.ifs) + 12
 
-abbrev pub decreases-second : goal.decreases-second
-decreases-second l = 16 * (256 * l.forks + l.ifs) + 10
+abbrev pub decreases-otherwise : goal.decreases-otherwise
+decreases-otherwise l = 16 * (256 * l.forks + l.ifs) + 10
 
 abbrev pub decreases-fork : goal.decreases-fork
 decreases-fork l = 16 * (256 * l.forks + 32) + 12
@@ -35,8 +36,8 @@ decreases-branch l = 16 * (256 * l.forks + 32) + 10
 
 abbrev pub invariant-statements-loop-used : goal.invariant-statements-loop-used
 invariant-statements-loop-used l =
-    IsGoing (within l.fn.forks l.fn.ifs) itself (read (many (within l.fn.forks l.fn.ifs)) l.fn.tokens) l.fn.lines l.lines (l.most - l.used) l.rest
+    IsGoing (within l.fn.forks l.fn.ifs) alone (read (many (within l.fn.forks l.fn.ifs)) l.fn.tokens) l.fn.into l.into (l.most - l.used) l.rest
 
 abbrev pub invariant-branches-loop-used : goal.invariant-branches-loop-used
 invariant-branches-loop-used l =
-    IsGoing (branch (within l.fn.forks 32)) itself (read (many (branch (within l.fn.forks 32))) l.fn.tokens) l.fn.lines l.lines (l.most - l.used) l.rest
+    IsGoing (branch word.Par (within l.fn.forks 32)) one_branch (read (many (branch word.Par (within l.fn.forks 32))) l.fn.tokens) l.fn.into l.into (l.most - l.used) l.rest
