@@ -5,13 +5,14 @@ use Rattle.std.specs.Prelude.{filter}
 use Rattle.sc_graph.specs.declared.program.Variable.{Variable}
 use Rattle.sc_graph.specs.Limits.{child_limit}
 use Rattle.scl.specs.declared.statement.Statement.TheVariants as statement
+use Rattle.core_charts.specs.declared.features.Features.{Features}
 use Rattle.core_charts.specs.declared.features.Features.TheVariants as features
 use Rattle.core_charts.specs.declared.region.Region.{Region}
 use Rattle.core_charts.specs.declared.region.State.{State}
 use Rattle.core_charts.specs.declared.region.Transition.{Transition}
 use Rattle.core_charts.specs.declared.region.Region.TheViews.{out-Region, out-State}
 use Rattle.core_charts.specs.declared.region.Region.TheFolds.{fold_out-Region, fold_out-State}
-use Rattle.core_charts.specs.Rules.{IsEffect, IsTransition, IsState, IsRegion, AreRegions, has_regions}
+use Rattle.core_charts.specs.Rules.{IsEffect, IsTransition, IsState, IsRegion, AreRegions, has_regions, region_limit}
 use Rattle.core_charts.specs.Standing.{at_once, is_join, terminations}
 use Rattle.chart_lowering.specs.Lowering.{branches, transitions, depth, behind, labels_in, RegionPiece, StatePiece, text_of, labels_of, region_piece, state_piece, piece_of_region, piece_of_state}
 use Rattle.chart_lowering.proofs.Pieces.{Each, each_of}
@@ -30,8 +31,8 @@ each_chosen : {A : Type 0} (P : A → Type 0) (p : A → Bool) (xs : List A) →
 each_chosen P p [] h = tt
 each_chosen P p (x ∷ xs) h = one_chosen P (p x) x (filter p xs) h.0 (each_chosen P p xs h.1)
 
-taken_of : (variables : List Variable) (n : ℕ) (super : Bool) (t : Transition) → IsTransition features.Core variables n super t → IsTaken variables t
-taken_of variables n super t h = record { trigger = h.trigger; effects = each_of (λ e. IsEffect variables e) t.effects h.effects }
+taken_of : (f : Features) (variables : List Variable) (n : ℕ) (super : Bool) (t : Transition) → IsTransition f variables n super t → IsTaken variables t
+taken_of f variables n super t h = record { trigger = h.trigger; effects = each_of (λ e. IsEffect variables e) t.effects h.effects }
 
 -- the regions in a state that nest this many levels deep at most
 abbrev pub AreInner : List Variable → ℕ → List Region → Type 0
@@ -75,14 +76,14 @@ state_text variables (suc levels) is_initial false (r ∷ regions) all inner h =
     }
 
 -- a state whose regions keep their rules
-state_is_text : (variables : List Variable) (levels : ℕ) → ((regions : List Region) → AreRegions features.Core variables levels regions → AreInner variables levels regions)
-    → (n : ℕ) (s : State) → IsState features.Core variables (AreRegions features.Core variables levels) n s → IsText variables levels (piece_of_state s)
-state_is_text variables levels inner n s h =
+state_is_text : (f : Features) (variables : List Variable) (levels : ℕ) → ((regions : List Region) → AreRegions f variables levels regions → AreInner variables levels regions)
+    → (n : ℕ) (s : State) → IsState f variables (AreRegions f variables levels) n s → IsText variables levels (piece_of_state s)
+state_is_text f variables levels inner n s h =
     subst (IsText variables levels) (sym (fold_out-State RegionPiece StatePiece region_piece state_piece s))
     (state_text variables levels (out-State s).is_initial (out-State s).is_final (out-State s).regions (out-State s).transitions
     (inner (out-State s).regions h.regions)
     (each_of (IsTaken variables) (out-State s).transitions
-    (λ i t at. taken_of variables n (has_regions (out-State s).regions) t (h.transitions i t at))))
+    (λ i t at. taken_of f variables n (has_regions (out-State s).regions) t (h.transitions i t at))))
 
 -- ---- regions
 
@@ -98,22 +99,26 @@ one_initial states one =
     is_count_by (λ xs. initial_count (map piece_of_state xs)) (λ s. (out-State s).is_initial) refl initial_step states ∙ one
 
 -- a region whose states keep their rules
-region_is_body : (variables : List Variable) (levels : ℕ) → ((regions : List Region) → AreRegions features.Core variables levels regions → AreInner variables levels regions)
-    → (r : Region) → IsRegion features.Core variables (AreRegions features.Core variables levels) r → IsBody variables levels (piece_of_region r)
-region_is_body variables levels inner r h =
+region_is_body : (f : Features) (variables : List Variable) (levels : ℕ) → ((regions : List Region) → AreRegions f variables levels regions → AreInner variables levels regions)
+    → (r : Region) → IsRegion f variables (AreRegions f variables levels) r → IsBody variables levels (piece_of_region r)
+region_is_body f variables levels inner r h =
     let states : List State = (out-Region r).states in
     subst (IsBody variables levels) (sym (fold_out-Region RegionPiece StatePiece region_piece state_piece r))
     (record {
       piece = λ targets n.
           body_is_piece variables levels (map piece_of_state states)
           (each_mapped (IsText variables levels) piece_of_state states
-          (each_of (λ s. IsText variables levels (piece_of_state s)) states (λ i s at. state_is_text variables levels inner (length states) s (h.states i s at))))
+          (each_of (λ s. IsText variables levels (piece_of_state s)) states (λ i s at. state_is_text f variables levels inner (length states) s (h.states i s at))))
           (one_initial states h.one_initial) targets n;
     })
 
-pub inner : (variables : List Variable) (levels : ℕ) (regions : List Region) → AreRegions features.Core variables levels regions → AreInner variables levels regions
-inner variables zero regions h = h
-inner variables (suc levels) regions h = (
-  h.count,
-  each_of (λ r. IsBody variables levels (piece_of_region r)) regions (λ i r at. region_is_body variables levels (inner variables levels) r (h.each i r at)),
+few_regions : (f : Features) (n : ℕ) → n ≤ region_limit f → n ≤ child_limit
+few_regions features.Extended n h = omega (arith, h)
+few_regions features.Core n h = h
+
+pub inner : (f : Features) (variables : List Variable) (levels : ℕ) (regions : List Region) → AreRegions f variables levels regions → AreInner variables levels regions
+inner f variables zero regions h = h
+inner f variables (suc levels) regions h = (
+  few_regions f (length regions) h.count,
+  each_of (λ r. IsBody variables levels (piece_of_region r)) regions (λ i r at. region_is_body f variables levels (inner f variables levels) r (h.each i r at)),
 )

@@ -1,14 +1,15 @@
--- The lowering of a core chart keeps the rules and limits of SCL, where its labels can be counted.
+-- The lowering of a chart keeps the rules and limits of SCL, where its labels can be counted.
 use Rattle.std.proofs.Common.{◌≡◌, ◌≢◌, ℕ, ◌+◌, ◌<◌, ◌≤◌, ◌^◌, IsTrue, List, [], ◌∷◌, map, length, refl, sym, subst, arith}
 use Rattle.sc_values.specs.declared.value.Kind.TheVariants as kind_is
 use Rattle.sc_graph.specs.declared.program.Variable.{Variable}
 use Rattle.sc_graph.specs.Limits.{child_limit}
+use Rattle.sc_text.specs.declared.language.Language.{Language}
 use Rattle.sc_text.specs.declared.language.Language.TheVariants as language
-use Rattle.sc_text.specs.Parts.{IsNameIn, IsExpression, are_distinct}
+use Rattle.sc_text.specs.Parts.{IsNameIn, AreVariables, IsExpression, are_distinct}
 use Rattle.scl.specs.Rules.{Part, in_row, thread, fork_limit, IsAssignment, KeepsBody, KeepsRules}
-use Rattle.core_charts.specs.declared.features.Features.TheVariants as features
+use Rattle.core_charts.specs.declared.features.Features.{Features}
 use Rattle.core_charts.specs.Chart.{Chart}
-use Rattle.core_charts.specs.Rules.{IsChart}
+use Rattle.core_charts.specs.Rules.{IsChart, language as features_language}
 use Rattle.chart_lowering.specs.Lowering.{label_name, RegionPiece, labels_in, piece_of_region, lowered}
 use Rattle.chart_lowering.proofs.Names.{IsCountable, label_in_scl}
 use Rattle.chart_lowering.proofs.Once.{count}
@@ -43,10 +44,21 @@ some_regions : {A : Type 0} (xs : List A) → xs ≢ [] → 1 ≤ length xs
 some_regions [] h = absurd (h refl)
 some_regions (x ∷ xs) h = omega arith
 
-pub keeps_rules : (c : Chart) → IsChart features.Core c → 1 + labels_in (map piece_of_region c.regions) ≤ 2 ^ 64 → KeepsRules c.name c.variables (lowered c)
-keeps_rules c h small =
+name_in_scl : (l : Language) (name : List ℕ) → IsNameIn l name → IsNameIn language.Scl name
+name_in_scl l name h = record { free = h.free; begins = λ first at. refl }
+
+variables_in_scl : (l : Language) (variables : List Variable) → AreVariables l variables → AreVariables language.Scl variables
+variables_in_scl l variables h = record {
+  count = h.count;
+  outputs = h.outputs;
+  named = λ i x at. name_in_scl l x.name (h.named i x at);
+  distinct = h.distinct;
+}
+
+pub keeps_rules : (f : Features) (c : Chart) → IsChart f c → 1 + labels_in (map piece_of_region c.regions) ≤ 2 ^ 64 → KeepsRules c.name c.variables (lowered c)
+keeps_rules f c h small =
     let pieces : List RegionPiece = map piece_of_region c.regions in
-    let inside : (length c.regions ≤ child_limit) × Each (λ r. IsBody c.variables 31 (piece_of_region r)) c.regions = inner c.variables 32 c.regions h.regions in
+    let inside : (length c.regions ≤ child_limit) × Each (λ r. IsBody c.variables 31 (piece_of_region r)) c.regions = inner f c.variables 32 c.regions h.regions in
     let same : length pieces ≡ length c.regions = same_length c.regions in
     let some : 1 ≤ length c.regions = some_regions c.regions h.some_region in
     let size : ℕ = labels_in pieces in
@@ -54,8 +66,8 @@ keeps_rules c h small =
     fork_row c.variables [] 31 1 0 (1 + size) size pieces [] refl (omega arith) (omega (arith, same, some)) (omega (arith, same, inside.0))
     (each_mapped (IsBody c.variables 31) piece_of_region c.regions inside.1) (empty_piece c.variables [] fork_limit 1 (1 + size)) in
     record {
-      named = h.named;
-      declared = h.variables;
+      named = name_in_scl (features_language f) c.name h.named;
+      declared = variables_in_scl (features_language f) c.variables h.variables;
       text =
           subst (λ ps. KeepsBody c.variables (thread (in_row ps))) (sym (parts_are (lowered c)))
           (keeps_body c.variables 1 size (thread (row (lowered c))) small

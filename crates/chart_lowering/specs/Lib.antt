@@ -1,1 +1,3 @@
 pub mod Lowering
+pub mod Aborts
+pub mod Inside

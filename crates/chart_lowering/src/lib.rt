@@ -1,6 +1,7 @@
-//! The lowering of core charts to SCL.
+//! The lowering of charts without aborts to SCL.
 #![tactic(auto)]
 
+mod aborts;
 mod counting;
 mod labels;
 mod lowering;
@@ -9,5 +10,5 @@ mod states;
 mod targets;
 mod transitions;
 
-pub use lowering::lower;
+pub use lowering::{lower, lower_without_aborts};
 pub use targets::Targets;

@@ -1,11 +1,15 @@
-//! The SCL of a core chart.
+//! The SCL of a chart.
 
-ghost use Rattle.std.specs.Prelude.{◌≡◌, IfOk};
-ghost use Rattle.chart_lowering.specs.Lowering.{lowered};
+ghost use Rattle.std.specs.Prelude.{◌≡◌, not, is_some, IfOk, IfSome, map};
+ghost use Rattle.chart_lowering.specs.Aborts.{has_aborts};
+ghost use Rattle.chart_lowering.specs.Inside.SomeChart.{IsSomeChart};
+ghost use Rattle.chart_lowering.specs.Lowering.{piece_of_region, root, lowered};
 
+use crate::aborts::are_aborts_in;
 use crate::regions::branches_of;
-use core_charts::CoreChart;
+use core_charts::{Chart, CoreChart, Region};
 use sc_graph::Variable;
+use sc_values::Name;
 use scl::{Scl, Statement};
 use sqlite_items::Items;
 use std::alloc::{AllocError, Global};
@@ -17,13 +21,43 @@ pub fn lower(alloc: Global, chart: &CoreChart) -> Result<Scl, AllocError>
     ensures variables { IfOk result (λ text. text.variables ≡ chart.now.variables) }
     ensures body { IfOk result (λ text. text.body ≡ lowered chart.now) }
 {
-    let root = branches_of(alloc, chart.regions(), 1)?;
+    program(alloc, chart.name(), chart.variables(), chart.regions())
+}
+
+/// The SCL program of a chart without strong and weak aborts, which is a core chart as it stands. None: it
+/// has some. Err: memory was refused, or the text would have more labels than any memory holds.
+pub fn lower_without_aborts(alloc: Global, chart: &Chart) -> Result<Option<Scl>, AllocError>
+    ensures variant { IfOk result (λ made. is_some made ≡ not (has_aborts chart.now)) }
+    ensures name { IfOk result (λ made. IfSome made (λ text. text.name ≡ chart.now.name)) }
+    ensures variables { IfOk result (λ made. IfSome made (λ text. text.variables ≡ chart.now.variables)) }
+    ensures body { IfOk result (λ made. IfSome made (λ text. text.body ≡ lowered chart.now)) }
+{
+    if are_aborts_in(chart.regions()) {
+        return Ok(None);
+    }
+    let text = program(alloc, chart.name(), chart.variables(), chart.regions())?;
+    Ok(Some(text))
+}
+
+// The program of a chart of these parts.
+fn program(
+    alloc: Global,
+    name: Name,
+    variables: &[Variable],
+    regions: &[Region],
+) -> Result<Scl, AllocError>
+    requires { IsSomeChart (record { name = name; variables = variables.now; regions = regions.now }) }
+    ensures name { IfOk result (λ text. text.name ≡ name) }
+    ensures variables { IfOk result (λ text. text.variables ≡ variables.now) }
+    ensures body { IfOk result (λ text. text.body ≡ root (map piece_of_region regions.now)) }
+{
+    let forked = branches_of(alloc, regions, 1)?;
     let mut body = Items::new(alloc);
     body.push(Statement::Fork {
-        branches: root.bodies,
+        branches: forked.bodies,
     })?;
-    let variables = copied_variables(alloc, chart.variables())?;
-    Ok(Scl::known(chart.name(), variables, body))
+    let declared = copied_variables(alloc, variables)?;
+    Ok(Scl::known(name, declared, body))
 }
 
 fn copied_variables(alloc: Global, variables: &[Variable]) -> Result<Items<Variable>, AllocError>
