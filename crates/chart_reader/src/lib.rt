@@ -15,3 +15,6 @@ pub use draft::{
 };
 pub use laws::chart_texts_are_told;
 pub use whole::read_draft;
+
+#[cfg(test)]
+mod tests;
