@@ -1,0 +1,15 @@
+use sc_graph::ThreadId;
+
+/// A hook at each step of a tick, between its evaluation and its commit. No lock is held there.
+pub trait Gate {
+    /// A step passes, with the worker and the thread that its claim bears.
+    fn passing(&self, worker: u8, thread: ThreadId);
+}
+
+/// It does nothing.
+#[derive(Clone, Copy, Debug)]
+pub struct NoGate;
+
+impl Gate for NoGate {
+    fn passing(&self, _worker: u8, _thread: ThreadId) {}
+}

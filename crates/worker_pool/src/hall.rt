@@ -1,0 +1,103 @@
+ghost use Rattle.std.specs.Prelude.{◌≡◌, All, IfOk};
+ghost use Rattle.ready_queue.specs.Rule.{IsPassOf};
+
+use crate::desk::Desk;
+use crate::gate::Gate;
+use crate::picture::Picture;
+use crate::seat::Next;
+use crate::table::{Calls, Table};
+use ready_queue::{Pass, ReadyQueue};
+use std::alloc::{AllocError, Global};
+use std::sync::{Condvar, Mutex, Wait};
+use verifier::Verified;
+
+/// What the workers of one image share: the tick under way, under a lock, and the queue of its claims.
+#[derive(Drop)]
+pub struct Hall<'x, J: Picture, G: Gate> {
+    pub(crate) verified: &'x Verified,
+    pub(crate) table: Mutex<Table<'x, J>>,
+    // claims were put, or the hall was closed
+    pub(crate) others: Condvar,
+    // claims were put, or the tick is over
+    pub(crate) first: Condvar,
+    pub(crate) queue: ReadyQueue<'x>,
+    pub(crate) gate: &'x G,
+    ghost of_image: { verified.now ≡ J.image },
+}
+
+impl<'x, J: Picture, G: Gate> Hall<'x, J, G> {
+    /// A hall for ticks of an image, and a pass for each who works there. Err: memory was refused.
+    pub fn open(
+        alloc: Global,
+        verified: &'x Verified,
+        gate: &'x G,
+    ) -> Result<(Hall<'x, J, G>, Vec<Pass<'x>>), AllocError>
+        requires { verified.now ≡ J.image }
+        ensures { IfOk result (λ r. All (λ p. IsPassOf r.0.queue p) r.1.items) }
+    {
+        let (queue, passes) = ReadyQueue::open(alloc, verified)?;
+        let hall = Hall {
+            verified,
+            table: Mutex::new(Table::new()),
+            others: Condvar::new(),
+            first: Condvar::new(),
+            queue,
+            gate,
+        };
+        Ok((hall, passes))
+    }
+
+    /// Wakes those who are to be woken.
+    pub(crate) fn wake(&self, calls: Calls) {
+        if calls.first {
+            self.first.notify_one();
+        }
+        for _ in 0..calls.others {
+            self.others.notify_one();
+        }
+    }
+
+    /// Another worker waits for claims that are put later. None: the hall is closed.
+    pub(crate) fn rest<R: Wait>(&self, rt: &R, seen: u64) -> Option<Next<'x>> {
+        let mut guard = self.table.lock(rt);
+        let before = guard.resting;
+        guard.resting = before.saturating_add(1);
+        let mut guard = self
+            .others
+            .wait_while(rt, guard, |table| table.puts == seen && !table.closed);
+        let after = guard.resting;
+        guard.resting = after.saturating_sub(1);
+        if guard.closed {
+            None
+        } else {
+            Some(guard.next(None, false))
+        }
+    }
+
+    /// The first worker waits for claims that are put later, or for the end of the tick.
+    pub(crate) fn rest_first<R: Wait>(&self, rt: &R, seen: u64) -> Next<'x> {
+        let mut guard = self.table.lock(rt);
+        guard.first_rests = true;
+        let mut guard = self
+            .first
+            .wait_while(rt, guard, |table| table.puts == seen && !table.over);
+        guard.first_rests = false;
+        let over = guard.over;
+        guard.next(None, over)
+    }
+
+    /// Takes the tick away, which is over.
+    pub(crate) fn clear<R: Wait>(&self, rt: &R) -> Option<Desk<'x, J>> {
+        let mut guard = self.table.lock(rt);
+        guard.over = false;
+        guard.desk.take()
+    }
+
+    /// No tick will be shared any more: the other workers leave.
+    pub fn close<R: Wait>(&self, rt: &R) {
+        let mut guard = self.table.lock(rt);
+        guard.closed = true;
+        drop(guard);
+        self.others.notify_all();
+    }
+}
