@@ -34,7 +34,7 @@ before_before (If n e first second rest) k l = ap (If n e first second) (before_
 before_before (Fork n branches rest) k l = ap (Fork n branches) (before_before rest k l)
 
 -- statements stand before what follows them
-all_before : (statements : List Statement) (at : numbering.Numbers) (k : Block) → (in_row (map piece_of statements)).made at k ≡ before ((in_row (map piece_of statements)).made at (End 0)) k
+pub all_before : (statements : List Statement) (at : numbering.Numbers) (k : Block) → (in_row (map piece_of statements)).made at k ≡ before ((in_row (map piece_of statements)).made at (End 0)) k
 all_before [] at k = refl
 all_before (s ∷ rest) at k =
     let next : numbering.Numbers = beyond at (piece_of s).counts in
@@ -45,7 +45,7 @@ all_before (s ∷ rest) at k =
     ∙ sym (before_before first (others (End 0)) k)
     ∙ ap (λ b. before b k) (sym (made_before s at (others (End 0))))
 
-end_before : (b : Block) (n : ℕ) → end (before b (End n)) ≡ n
+pub end_before : (b : Block) (n : ℕ) → end (before b (End n)) ≡ n
 end_before (End m) n = refl
 end_before (Assign m x e rest) n = end_before rest n
 end_before (Label name rest) n = end_before rest n

@@ -2,4 +2,8 @@ mod Pieces
 mod Before
 mod Laid
 mod Branching
+mod Gathered
+mod Circling
+mod Fronts
+mod Leading
 mod Example

@@ -1,3 +1,5 @@
--- What private functions alone say of themselves. It is proved, and no public contract rests on what it means.
 pub mod Laying
 pub mod Forking
+pub mod Totals
+pub mod Gathering
+pub mod Settling

@@ -4,9 +4,15 @@
 mod counting;
 mod fault;
 mod forking;
+mod gathering;
+mod hops;
+mod labels;
+mod landing;
 mod laying;
 mod numbers;
+mod spots;
 mod steps;
+mod totals;
 mod way;
 
 pub use counting::counts;

@@ -1,0 +1,157 @@
+-- Which labels were gathered of a text, and what stands behind each of them, past other labels.
+use Rattle.std.specs.Prelude.{ℕ, zero, suc, ◌+◌, ◌≡◌, ◌≤◌, Option, Some, None, List, [], ◌∷◌, map, length, position, if◌then◌else◌}
+use Rattle.std.specs.Option.{option_or}
+use Rattle.std.specs.Map.{lookup, keys_of}
+use Rattle.std.specs.Str.{bytes_eq}
+use Rattle.scl.specs.declared.statement.Statement.{Statement}
+use Rattle.scl.specs.declared.statement.Statement.TheOpen.{Statement-F}
+use Rattle.scl.specs.declared.statement.Statement.TheOpen as tree
+use Rattle.scl.specs.declared.statement.Statement.TheViews.{out-Statement}
+use Rattle.scl.specs.Block.{Block, End, Assign, Label, Goto, Pause, If, Fork, Branches, NoMore, Branch}
+use Rattle.scl.specs.Numbering.{Numbers, in_row, piece_of, branches_from, thread_body}
+use Rattle.scl_graph.specs.Graph.{end}
+use Rattle.scl_graph.specs.declared.spots.Spot.{Spot}
+use Rattle.scl_graph.specs.Inside.Totals.{branches_totals, numbers, totals_of_all}
+use Rattle.scl_graph.specs.declared.landing.Landing.{Landing}
+use Rattle.scl_graph.specs.declared.landing.Landing.TheVariants as lands
+
+-- what stands where this begins, behind which that stands
+abbrev pub landing : Block → Landing → Landing
+landing (End n) behind = behind
+landing (Assign n x e rest) behind = lands.Node n
+landing (Label name rest) behind = landing rest behind
+landing (Goto g name rest) behind = lands.Goto g name
+landing (Pause n rest) behind = lands.Node n
+landing (If n e first second rest) behind = lands.Node n
+landing (Fork n branches rest) behind = lands.Node n
+
+-- what stands at a statement whose node, or goto, has this number
+abbrev pub landing_at : Statement-F Statement → ℕ → ℕ → Landing → Landing
+landing_at (tree.Label name) n g behind = behind
+landing_at (tree.Goto name) n g behind = lands.Goto g name
+landing_at other n g behind = lands.Node n
+
+abbrev pub landing_in : List Statement → ℕ → ℕ → Landing → Landing
+landing_in [] n g behind = behind
+landing_in (s ∷ rest) n g behind = landing_at (out-Statement s) n g (landing_in rest n g behind)
+
+-- what stands behind a statement, at which `ahead` stands: at the rest, whose first numbers are these
+abbrev pub landing_behind : Statement-F Statement → List Statement → Spot → Landing → Landing → Landing
+landing_behind (tree.Label name) rest next ahead behind = ahead
+landing_behind other rest next ahead behind = landing_in rest next.node next.goto behind
+
+abbrev pub Noted : Type 0
+Noted = List (List ℕ × Landing)
+
+abbrev pub find : Noted → List ℕ → Option Landing
+find labels name = lookup (bytes_eq name) labels
+
+abbrev pub place_of : Noted → List ℕ → Option ℕ
+place_of labels name = position (bytes_eq name) (keys_of labels)
+
+-- this label was noted, if it was not yet there
+pub record Notes (name : List ℕ) (w : Landing) (old new : Noted) : Type 0 where
+  pub each : (other : List ℕ) → find new other ≡ option_or (find old other) (if bytes_eq name other then Some w else None)
+  pub count : length new ≤ suc (length old)
+
+-- the label of this name in a thread itself, behind whose text that stands: what stands behind the label
+abbrev pub own_label : Block → Landing → List ℕ → Option Landing
+own_label (End n) behind name = None
+own_label (Assign n x e rest) behind name = own_label rest behind name
+own_label (Label l rest) behind name = if bytes_eq l name then Some (landing rest behind) else own_label rest behind name
+own_label (Goto g l rest) behind name = own_label rest behind name
+own_label (Pause n rest) behind name = own_label rest behind name
+own_label (If n e first second rest) behind name =
+    option_or (own_label first (landing rest behind) name)
+    (option_or (own_label second (landing rest behind) name) (own_label rest behind name))
+own_label (Fork n branches rest) behind name = own_label rest behind name
+
+abbrev mutual
+  -- the same in the threads that are forked in a text
+  pub lower_label : Block → List ℕ → Option Landing
+  lower_label (End n) name = None
+  lower_label (Assign n x e rest) name = lower_label rest name
+  lower_label (Label l rest) name = lower_label rest name
+  lower_label (Goto g l rest) name = lower_label rest name
+  lower_label (Pause n rest) name = lower_label rest name
+  lower_label (If n e first second rest) name =
+      option_or (lower_label first name) (option_or (lower_label second name) (lower_label rest name))
+  lower_label (Fork n branches rest) name = option_or (label_among branches name) (lower_label rest name)
+
+  pub label_among : Branches → List ℕ → Option Landing
+  label_among NoMore name = None
+  label_among (Branch t body more) name =
+      option_or (option_or (own_label body (lands.Node (end body)) name) (lower_label body name)) (label_among more name)
+
+-- in a thread and in those below it
+abbrev pub thread_label : Block → List ℕ → Option Landing
+thread_label body name = option_or (own_label body (lands.Node (end body)) name) (lower_label body name)
+
+-- how many labels stand in a thread itself
+abbrev pub own_count : Block → ℕ
+own_count (End n) = 0
+own_count (Assign n x e rest) = own_count rest
+own_count (Label name rest) = suc (own_count rest)
+own_count (Goto g name rest) = own_count rest
+own_count (Pause n rest) = own_count rest
+own_count (If n e first second rest) = own_count first + (own_count second + own_count rest)
+own_count (Fork n branches rest) = own_count rest
+
+abbrev mutual
+  -- how many stand in the threads that are forked in a text
+  pub lower_count : Block → ℕ
+  lower_count (End n) = 0
+  lower_count (Assign n x e rest) = lower_count rest
+  lower_count (Label name rest) = lower_count rest
+  lower_count (Goto g name rest) = lower_count rest
+  lower_count (Pause n rest) = lower_count rest
+  lower_count (If n e first second rest) = lower_count first + (lower_count second + lower_count rest)
+  lower_count (Fork n branches rest) = count_among branches + lower_count rest
+
+  pub count_among : Branches → ℕ
+  count_among NoMore = 0
+  count_among (Branch t body more) = (own_count body + lower_count body) + count_among more
+
+-- no number of a node is above this
+abbrev pub IsWithin : ℕ → Landing → Type 0
+IsWithin most w = (n : ℕ) → w ≡ lands.Node n → n ≤ most
+
+abbrev pub AreWithin : ℕ → Noted → Type 0
+AreWithin most labels = (name : List ℕ) (w : Landing) → find labels name ≡ Some w → IsWithin most w
+
+-- to the old ones these labels were added, of which there are so many; the numbers of nodes are at most the last one,
+-- or that of what follows
+pub record Gathers (found : List ℕ → Option Landing) (count last : ℕ) (behind : Landing) (old new : Noted) : Type 0 where
+  pub each : (name : List ℕ) → find new name ≡ option_or (find old name) (found name)
+  pub most : length new ≤ length old + count
+  pub within : (most : ℕ) → last ≤ most → IsWithin most behind → AreWithin most old → AreWithin most new
+
+abbrev pub text : List Statement → Spot → Block
+text statements at = (in_row (map piece_of statements)).made (numbers at) (End 0)
+
+-- the labels of a thread itself in these statements, behind which that stands
+abbrev pub IsGathered : List Statement → Spot → Landing → Noted → Noted → Type 0
+IsGathered statements at behind old new =
+    Gathers (own_label (text statements at) behind) (own_count (text statements at)) (at.node + (totals_of_all statements).nodes) behind old new
+
+-- the labels of the threads that are forked in these statements
+abbrev pub AreForkedGathered : List Statement → Spot → Noted → Noted → Type 0
+AreForkedGathered statements at old new =
+    Gathers (lower_label (text statements at)) (lower_count (text statements at)) (at.base + (totals_of_all statements).lower) (lands.Node 0) old new
+
+-- the labels of these branches and of the threads below them
+abbrev pub branches : List (List Statement) → Spot → Branches
+branches bodies at = branches_from (map (map piece_of) bodies) (numbers at)
+
+abbrev pub AreBranchesGathered : List (List Statement) → Spot → Noted → Noted → Type 0
+AreBranchesGathered bodies at old new =
+    Gathers (label_among (branches bodies at)) (count_among (branches bodies at)) (at.base + (branches_totals bodies).lower) (lands.Node 0) old new
+
+-- what a thread has to do whose text begins at this place
+abbrev pub body : List Statement → Spot → Block
+body statements at = thread_body (in_row (map piece_of statements)) at.node (numbers at)
+
+-- the labels of this thread and of those below it
+abbrev pub IsThreadGathered : List Statement → Spot → Noted → Noted → Type 0
+IsThreadGathered statements at old new =
+    Gathers (thread_label (body statements at)) (own_count (body statements at) + lower_count (body statements at)) (at.base + (totals_of_all statements).lower) (lands.Node 0) old new
