@@ -33,4 +33,4 @@ step_bytes (step.Depth next) = 7 ∷ u16_bytes next
 unfoldable pub node_bytes : NodeRow → List ℕ
 node_bytes n =
     u16_bytes n.node.owner ++ u16_bytes n.priority ++ u16_bytes n.weight
-        ++ flag_number n.end_bit ∷ step_bytes n.node.step
+    ++ flag_number n.end_bit ∷ step_bytes n.node.step

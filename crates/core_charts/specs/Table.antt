@@ -108,8 +108,12 @@ state_piece s =
     }
 
 abbrev pub joined : Inner → Inner → Inner
-joined a b = record { states = a.states ++ b.states; first = a.first ++ b.first; others = a.others ++ b.others;
-    entered = a.entered ++ b.entered }
+joined a b = record {
+  states = a.states ++ b.states;
+  first = a.first ++ b.first;
+  others = a.others ++ b.others;
+  entered = a.entered ++ b.entered;
+}
 
 -- a scene with this number for the next region
 abbrev pub with_region : ℕ → Scene → Scene
@@ -124,8 +128,12 @@ abbrev pub alone_with : Bool → (Scene → Parts) → ℕ → Scene → Inner
 alone_with true parts next at =
     record { states = (parts at).states; first = (parts at).regions; others = []; entered = (parts at).entered }
 alone_with false parts next at =
-    record { states = (parts (with_region next at)).states; first = [];
-        others = (parts (with_region next at)).regions; entered = [] }
+    record {
+      states = (parts (with_region next at)).states;
+      first = [];
+      others = (parts (with_region next at)).regions;
+      entered = [];
+    }
 
 abbrev pub alone : Piece → ℕ → Scene → Inner
 alone p = alone_with p.is_initial p.parts
@@ -182,8 +190,12 @@ abbrev pub whole : Scene
 whole = record { state = 0; region = 1; holder = 0; around = [] }
 
 abbrev pub table_over : List Variable → Parts → Table
-table_over variables parts = record { variables = variables; states = parts.states; regions = parts.regions;
-    opened = parts.entered }
+table_over variables parts = record {
+  variables = variables;
+  states = parts.states;
+  regions = parts.regions;
+  opened = parts.entered;
+}
 
 abbrev pub table_of : List Variable → List Region → Table
 table_of variables regions = table_over variables (side_by_side (map piece_of_region regions) whole)
@@ -193,8 +205,13 @@ table c = table_of c.variables c.regions
 
 -- a number without a state or region has an empty row
 abbrev pub state_at : Table → ℕ → StateRow
-state_at k s = unwrap_or (slice_get k.states s) (record { holder = 0; regions = []; transitions = []; entered = [];
-    opened = [] })
+state_at k s = unwrap_or (slice_get k.states s) (record {
+  holder = 0;
+  regions = [];
+  transitions = [];
+  entered = [];
+  opened = [];
+})
 
 abbrev pub region_at : Table → ℕ → RegionRow
 region_at k zero = record { around = []; states = [] }

@@ -59,7 +59,7 @@ inside_is_done k c other = true
 abbrev pub is_enabled : Table → Configuration → ℕ → Bool
 is_enabled k c r =
     has_work k c (standing_of c r) && (not (is_guarded k c (region_at k r).around)
-        && inside_is_done k c (standing_of c r))
+    && inside_is_done k c (standing_of c r))
 
 -- the first of these regions whose turn it is
 abbrev pub first_enabled : Table → Configuration → List ℕ → Option ℕ

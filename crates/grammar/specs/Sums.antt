@@ -40,7 +40,7 @@ abbrev pub operand : ℕ → Grammar numbers ℕ
 operand zero = barred (opening ∷ []) unit
 operand (suc n) =
     either (made (λ x. x.1) (seq (one (opening ∷ [])) (made (λ x. x.0)
-        (seq (sum_of (operand n)) (one (closing ∷ [])))))) unit
+    (seq (sum_of (operand n)) (one (closing ∷ [])))))) unit
 
 abbrev pub sums : ℕ → Grammar numbers ℕ
 sums k = sum_of (operand (suc (suc k)))

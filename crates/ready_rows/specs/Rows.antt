@@ -23,7 +23,7 @@ abbrev pub HasRoom : Rows → ℕ → Option ℕ → Type 0
 HasRoom rows t None = t < length rows.classes
 HasRoom rows t (Some class) =
     (t < length rows.classes) × (class < length rows.rooms)
-        × (members (slice_set rows.classes t (Some class)) class ≤ slice_index rows.rooms class)
+    × (members (slice_set rows.classes t (Some class)) class ≤ slice_index rows.rooms class)
 
 -- each place is of a class that has a row, and a row has room for as many items as there are places of its class
 pub record HasRooms (rooms places : List ℕ) : Type 0 where

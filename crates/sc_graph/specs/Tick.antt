@@ -52,7 +52,7 @@ given (i ∷ inputs) name = if bytes_eq i.0 name then Some i.1 else given inputs
 pub record AreAccepted (p : Program) (inputs : Inputs) : Type 0 where
   pub named : (i : ℕ) (name : List ℕ) (v : Value) → slice_get inputs i ≡ Some (name, v) →
       (x : ℕ) × (a : Variable) × (slice_get p.variables x ≡ Some a) × (a.name ≡ name) × (a.role ≡ role.Input)
-          × (a.kind ≡ kind_of v)
+      × (a.kind ≡ kind_of v)
   pub once : (i j : ℕ) (a b : List ℕ × Value) → i < j → slice_get inputs i ≡ Some a → slice_get inputs j ≡ Some b
       → a.0 ≢ b.0
 

@@ -76,7 +76,7 @@ pub data AreTokens (l : Language) : (at : ℕ) → List ℕ → List Token → T
   token : (at : ℕ) (piece rest : List ℕ) (k : TokenKind) (tokens : List Token) → IsLongest piece rest
       → Spells l piece k →
       AreTokens l (at + length piece) rest tokens → AreTokens l at (piece ++ rest)
-          (record { kind = k; at = at } ∷ tokens)
+      (record { kind = k; at = at } ∷ tokens)
 
 -- the first place of the text at which no token stands, and what is broken there
 pub data IsFirstFault (l : Language) : (at : ℕ) → List ℕ → Broken → (place : ℕ) → Type 0 where

@@ -15,7 +15,7 @@ abbrev pub is_name : List ℕ → Bool
 is_name [] = false
 is_name (first ∷ rest) =
     is_letter first && list_all (λ byte. is_letter byte || is_digit byte) rest
-        && nat_le (length (first ∷ rest)) name_limit
+    && nat_le (length (first ∷ rest)) name_limit
 
 -- the bytes, and behind them zeros up to the limit
 abbrev pub padded : List ℕ → List ℕ

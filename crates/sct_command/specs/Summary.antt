@@ -6,7 +6,7 @@ use Rattle.bytecode.specs.Image.{Image}
 abbrev pub summary_line : ℕ → ℕ → ℕ → List ℕ
 summary_line nodes threads budget =
     codes "ok nodes=" ++ (decimal nodes ++ (codes " threads="
-        ++ (decimal threads ++ (codes " budget=" ++ (decimal budget ++ codes "\n")))))
+    ++ (decimal threads ++ (codes " budget=" ++ (decimal budget ++ codes "\n")))))
 
 abbrev pub summary_of : Image → List ℕ
 summary_of i = summary_line (length i.program.nodes) (length i.program.threads) i.tables.budget

@@ -37,7 +37,7 @@ outputs_of variables values = with_outputs variables values no_members
 abbrev pub tick_data : ℕ → ℕ → Members → Data
 tick_data tick steps shown =
     object (member (codes "out") (object shown) (member (codes "steps") (number (unsigned steps))
-        (member (codes "tick") (number (unsigned tick)) no_members)))
+    (member (codes "tick") (number (unsigned tick)) no_members)))
 
 abbrev pub tick_line : ℕ → ℕ → Members → List ℕ
 tick_line tick steps shown = compact_text (tick_data tick steps shown) ++ line_feed ∷ []

@@ -80,5 +80,12 @@ node_at version bytes = do
   weight ← number_at w16 priority.1
   end_bit ← choice_at flags weight.1
   step ← tagged_step_at version end_bit.1
-  Ok (record { node = record { owner = owner.0; step = step.0 }; priority = priority.0; weight = weight.0;
-      end_bit = end_bit.0 }, step.1)
+  Ok (
+    record {
+      node = record { owner = owner.0; step = step.0 };
+      priority = priority.0;
+      weight = weight.0;
+      end_bit = end_bit.0;
+    },
+    step.1,
+  )

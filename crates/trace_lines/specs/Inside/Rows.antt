@@ -40,13 +40,13 @@ rows_text (row ∷ rows) values = string_bytes row.before
 abbrev pub ShowsOutputs : List Variable → List Row → Type 0
 ShowsOutputs variables rows =
     (values : List Value) → length values ≡ length variables
-        → rows_text rows values ++ 125 ∷ [] ≡ members_text false (outputs_of variables values)
+    → rows_text rows values ++ 125 ∷ [] ≡ members_text false (outputs_of variables values)
 
 -- the output line of a tick of this number and so many steps, with the text of its rows
 abbrev pub line_by : ℕ → ℕ → List ℕ → List ℕ
 line_by tick steps rows =
     codes "{\"out\":{" ++ (rows ++ (codes "},\"steps\":"
-        ++ (decimal steps ++ (codes ",\"tick\":" ++ (decimal tick ++ codes "}\n")))))
+    ++ (decimal steps ++ (codes ",\"tick\":" ++ (decimal tick ++ codes "}\n")))))
 
 -- whether there is a row
 abbrev pub has_rows : List Row → Bool

@@ -14,7 +14,7 @@ AreAlike p nodes = (m n : ℕ) → Contains nodes m → Contains nodes n → ¬ 
 pub record ClashThrough (p : Program) (nodes : List ℕ) : Type 0 where
   pub through : (a b c : ℕ) → Contains nodes a → Contains nodes b → Contains nodes c →
       ¬ Clash (accesses p a) (accesses p b) → ¬ Clash (accesses p b) (accesses p c)
-          → ¬ Clash (accesses p a) (accesses p c)
+      → ¬ Clash (accesses p a) (accesses p c)
 
 -- where no two of the samples conflict, no two of these nodes do
 pub record IsSample (p : Program) (nodes samples : List ℕ) : Type 0 where
