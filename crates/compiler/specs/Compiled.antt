@@ -1,0 +1,47 @@
+-- What compiling a program gives: its image with the least tables, or why it has none.
+use Rattle.std.specs.Prelude.{ℕ, ◌≡◌, List}
+use Rattle.sc_graph.specs.Program.{Program}
+use Rattle.sc_graph.specs.Protocol.{WriteConflict}
+use Rattle.sc_graph.specs.Valid.{IsValid}
+use Rattle.sc_graph.specs.declared.tables.Tables.{Tables}
+use Rattle.bytecode.specs.Image.{Image}
+use Rattle.verifier.specs.Verdict.{IsLowestBroken}
+use Rattle.verifier.specs.declared.rule.Refusal.{Refusal}
+use Rattle.verifier.specs.declared.rule.Refusal.TheVariants as refusal
+use Rattle.conflict_edges.specs.Conflicts.{HasNoConflict}
+use Rattle.conflict_edges.specs.declared.fault.ConflictFault.{ConflictFault}
+use Rattle.conflict_edges.specs.declared.fault.ConflictFault.TheVariants as conflict
+use Rattle.priority_weights.specs.Edges.{IsInstantLoop, IsOrderCycle, HasNoWalk}
+use Rattle.priority_weights.specs.LeastTables.{AreLeast}
+use Rattle.priority_weights.specs.declared.fault.TablesFault.{TablesFault}
+use Rattle.priority_weights.specs.declared.fault.TablesFault.TheVariants as no_tables
+use Rattle.compiler.specs.declared.fault.CompileFault.{CompileFault}
+use Rattle.compiler.specs.declared.fault.CompileFault.TheVariants as fault
+
+-- the image is that of the program with its least tables, and valid
+pub record IsCompiled (p : Program) (image : Image) : Type 0 where
+  pub program : image.program ≡ p
+  pub least : AreLeast p image.tables
+  pub valid : IsValid p image.tables
+
+-- two nodes write in conflict
+abbrev pub Conflicts : Program → ConflictFault → Type 0
+Conflicts p (conflict.WriteWrite m n) = WriteConflict p m n
+Conflicts p conflict.Memory = Unit {0}
+
+-- flow within one tick closes; or it does not, and instantaneous and protocol edges close
+abbrev pub HasAWalk : Program → TablesFault → Type 0
+HasAWalk p (no_tables.InstantLoop walk) = IsInstantLoop p walk
+HasAWalk p (no_tables.Cyclic walk) = ((other : List ℕ) → ¬ IsInstantLoop p other) × IsOrderCycle p walk
+HasAWalk p no_tables.Memory = Unit {0}
+
+-- a rule is broken, since the least tables pass a limit
+abbrev pub BreaksARule : Program → Refusal → Type 0
+BreaksARule p (refusal.Broken broken) = (q : Tables) × AreLeast p q × IsLowestBroken p q broken
+BreaksARule p refusal.Memory = Unit {0}
+
+-- why a program has no image: conflicts come before walks, and these before rules
+abbrev pub IsRefused : Program → CompileFault → Type 0
+IsRefused p (fault.Conflict f) = Conflicts p f
+IsRefused p (fault.Tables f) = HasNoConflict p × HasAWalk p f
+IsRefused p (fault.Rule r) = HasNoConflict p × HasNoWalk p × BreaksARule p r

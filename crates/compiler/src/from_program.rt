@@ -1,0 +1,53 @@
+//! From a program to its image.
+
+ghost use Rattle.std.specs.Prelude.{IfErr, IfOk};
+ghost use Rattle.conflict_edges.specs.Conflicts.{HasNoConflict};
+ghost use Rattle.compiler.specs.Compiled.{IsCompiled, IsRefused};
+ghost use Rattle.priority_weights.specs.Edges.{HasNoWalk};
+ghost use Rattle.priority_weights.specs.LeastTables.{AreLeast};
+ghost use Rattle.sc_graph.specs.Valid.{IsFormed};
+
+use crate::fault::CompileFault;
+use bytecode::Image;
+use conflict_edges::conflicts;
+use priority_weights::tables;
+use sc_graph::{Program, Tables};
+use std::alloc::Global;
+use verifier::{Verified, verify};
+
+/// The valid image of a formed program, with its least tables. Err: the first that holds of these: two of its
+/// nodes conflict (E11), flow within one tick closes (E13), instantaneous and protocol edges close (E12), the
+/// image with the least tables breaks a rule; or memory was refused.
+pub fn compile_program(alloc: Global, program: Program) -> Result<Verified, CompileFault>
+    requires { IsFormed program }
+    ensures compiled { IfOk result (IsCompiled program) }
+    ensures refused { IfErr result (IsRefused program) }
+{
+    let tables = least_tables(alloc, &program)?;
+    let image = match Image::of(program, tables) {
+        Some(image) => image,
+        None => unreachable!(),
+    };
+    match verify(alloc, image) {
+        Ok(verified) => Ok(verified),
+        Err(refusal) => Err(CompileFault::Rule(refusal)),
+    }
+}
+
+// The least tables of a program without conflicts and without closed walks.
+fn least_tables(alloc: Global, program: &Program) -> Result<Tables, CompileFault>
+    requires { IsFormed program.now }
+    ensures least { IfOk result (AreLeast program.now) }
+    ensures none { IfOk result (λ _. HasNoConflict program.now) }
+    ensures no_walk { IfOk result (λ _. HasNoWalk program.now) }
+    ensures refused { IfErr result (IsRefused program.now) }
+{
+    let edges = match conflicts(alloc, program) {
+        Ok(edges) => edges,
+        Err(fault) => return Err(CompileFault::Conflict(fault)),
+    };
+    match tables(alloc, program, &edges) {
+        Ok(tables) => Ok(tables),
+        Err(fault) => Err(CompileFault::Tables(fault)),
+    }
+}
