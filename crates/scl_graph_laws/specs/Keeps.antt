@@ -9,7 +9,8 @@ use Rattle.sc_graph.specs.Machine.{machine as machine_of_nodes}
 use Rattle.sc_graph.specs.Tick.{Inputs, AreAccepted, start as start_of_nodes, initial as initial_of_nodes}
 use Rattle.scl.specs.Numbering.{Numbered}
 use Rattle.scl.specs.Meaning.{State, doing, machine, initial, start}
-use Rattle.scl_graph_laws.specs.Alike.{RunsAlike}
+use Rattle.scl_graph_laws.specs.Alike.{Both, RunsAlike}
+use Rattle.scl_graph_laws.specs.Ticks.{after_ticks}
 use Rattle.scl_graph_laws.specs.Standing.{standing, IsOfText}
 
 -- the variables are equal, and each thread stands at the node of the statement at which it is
@@ -32,3 +33,6 @@ pub record Keeps (p : Numbered) (q : Program) : Type 0 where
   pub starts : (inputs : Inputs) (s : State) (c : Control) → AreAccepted q inputs → Corresponds p s c → Corresponds p (start p inputs s) (start_of_nodes q inputs c)
   -- within a tick
   pub goes_on : RunsAlike (machine p) (machine_of_nodes q) (Corresponds p)
+  -- over every list of ticks by accepted inputs
+  pub over_ticks : (ticks : List (Inputs × List ℕ)) → ((i : ℕ) (inputs : Inputs) (run : List ℕ) → slice_get ticks i ≡ Some (inputs, run) → AreAccepted q inputs) →
+      Both (Corresponds p) (after_ticks (machine p) (start p) ticks (initial p)) (after_ticks (machine_of_nodes q) (start_of_nodes q) ticks (initial_of_nodes q))
