@@ -142,6 +142,11 @@ PRINTED = [
 ]
 
 
+# a chain of 40 minus signs: it is read, and printed with parentheses around each, which opens more than 64
+MINUS_SIGNS = HEAD + "x = " + "-" * 40 + "1; }"
+MINUS_SIGNS_LINE = "  x = " + "-(" * 39 + "-1" + ")" * 39 + ";\n"
+
+
 # ---- random texts
 
 class Writer:
@@ -337,6 +342,12 @@ def check_rows():
         count += 1
         if got != wanted and not (wanted is None and got.startswith("scl ")):
             wrong.append(f"{text[:200]!r}: {got[:60]!r} and not {wanted}")
+    printed = told(MINUS_SIGNS.encode())
+    # each of 32 pairs of a minus sign and a parenthesis opens two
+    deep_at = printed.find("-(") + 64
+    count += 1
+    if MINUS_SIGNS_LINE not in printed or told(printed.encode()) != f"E07 at {deep_at}":
+        wrong.append(f"40 minus signs: {printed!r}, {told(printed.encode())!r}")
     for text, wanted in PRINTED:
         count += 1
         if told(text.encode()) != wanted:
@@ -348,6 +359,7 @@ def check_random(seed):
     """Returns what is wrong of the texts of this number."""
     writer, wrong = Writer(seed), []
     printed = writer.printed()
+    # what is printed reads back, and prints itself
     for text in (printed, writer.laid_out()):
         got = told(text.encode())
         # only an expression can be too large
