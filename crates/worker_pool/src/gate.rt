@@ -4,6 +4,12 @@ use sc_graph::ThreadId;
 pub trait Gate {
     /// A step passes, with the worker and the thread that its claim bears.
     fn passing(&self, worker: u8, thread: ThreadId);
+
+    /// Whether a step that passes may wait for another one to pass. Where none does, a round of little work is not
+    /// shared, since waking a worker for it costs more than the work.
+    fn waits(&self) -> bool {
+        true
+    }
 }
 
 /// It does nothing.
@@ -12,4 +18,8 @@ pub struct NoGate;
 
 impl Gate for NoGate {
     fn passing(&self, _worker: u8, _thread: ThreadId) {}
+
+    fn waits(&self) -> bool {
+        false
+    }
 }

@@ -5,7 +5,7 @@ use crate::desk::Desk;
 use crate::gate::Gate;
 use crate::hall::Hall;
 use crate::picture::Picture;
-use crate::serving::pass_gate;
+use crate::serving::{operations_of, pass_gate};
 use ready_queue::Pass;
 use std::sync::Wait;
 use tick_core::{Claim, Done, Turn, evaluate};
@@ -36,8 +36,9 @@ pub(crate) struct Next<'x> {
 pub(crate) struct Round<'x> {
     // one claim that it keeps
     pub kept: Option<Claim<'x>>,
-    // how many it put
+    // how many it put, and how many operations they have
     pub put: u64,
+    pub work: u64,
     // nobody was enabled
     pub over: bool,
 }
@@ -58,14 +59,16 @@ impl<'x> Round<'x> {
         Round {
             kept: None,
             put: 0,
+            work: 0,
             over,
         }
     }
 
-    fn of(kept: Option<Claim<'x>>, put: u64) -> Round<'x> {
+    fn of(kept: Option<Claim<'x>>, put: u64, work: u64) -> Round<'x> {
         Round {
             kept,
             put,
+            work,
             over: false,
         }
     }
@@ -101,7 +104,7 @@ impl<'r, 'x, J: Picture, G: Gate> Seat<'r, 'x, J, G> {
         let table = &mut *guard;
         let round = self.put_all(rt, &mut desk, first, second);
         table.desk = Some(desk);
-        let (next, calls) = table.note(round);
+        let (next, calls) = table.note(round, hall.gate.waits());
         drop(guard);
         hall.wake(calls);
         next
@@ -117,7 +120,7 @@ impl<'r, 'x, J: Picture, G: Gate> Seat<'r, 'x, J, G> {
         };
         desk.commit(done);
         let round = self.claim_all(rt, desk);
-        let (next, calls) = table.note(round);
+        let (next, calls) = table.note(round, hall.gate.waits());
         drop(guard);
         hall.wake(calls);
         next
@@ -132,7 +135,7 @@ impl<'r, 'x, J: Picture, G: Gate> Seat<'r, 'x, J, G> {
         };
         match desk.claim(self.worker) {
             Turn::Claim(second) => self.put_all(rt, desk, first, second),
-            Turn::NoneNow | Turn::Over => Round::of(Some(first), 0),
+            Turn::NoneNow | Turn::Over => Round::of(Some(first), 0, 0),
         }
     }
 
@@ -144,29 +147,34 @@ impl<'r, 'x, J: Picture, G: Gate> Seat<'r, 'x, J, G> {
         first: Claim<'x>,
         second: Claim<'x>,
     ) -> Round<'x> {
+        let work = operations_of(&first);
+        let both = work.saturating_add(operations_of(&second));
         if let Err(first) = self.put(rt, first) {
             desk.give_back(&second);
-            return Round::of(Some(first), 0);
+            return Round::of(Some(first), 0, 0);
         }
         if let Err(second) = self.put(rt, second) {
-            return Round::of(Some(second), 1);
+            return Round::of(Some(second), 1, work);
         }
-        self.put_others(rt, desk)
+        self.put_others(rt, desk, both)
     }
 
-    // Claims and puts all that can be claimed, behind two that were put.
-    fn put_others<R: Wait>(&mut self, rt: &R, desk: &mut Desk<'x, J>) -> Round<'x> {
+    // Claims and puts all that can be claimed, behind two that were put and have so many operations.
+    fn put_others<R: Wait>(&mut self, rt: &R, desk: &mut Desk<'x, J>, both: u64) -> Round<'x> {
         let mut put: u64 = 2;
+        let mut work = both;
         for _ in 0..u64::MAX {
             let Turn::Claim(claim) = desk.claim(self.worker) else {
                 break;
             };
+            let more = operations_of(&claim);
             if let Err(claim) = self.put(rt, claim) {
-                return Round::of(Some(claim), put);
+                return Round::of(Some(claim), put, work);
             }
             put = put.saturating_add(1);
+            work = work.saturating_add(more);
         }
-        Round::of(None, put)
+        Round::of(None, put, work)
     }
 
     fn put<R: Wait>(&mut self, rt: &R, claim: Claim<'x>) -> Result<(), Claim<'x>> {

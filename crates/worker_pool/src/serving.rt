@@ -6,8 +6,11 @@ ghost use Rattle.worker_pool.specs.Inside.Stretches.{SameTick, EndsTick};
 use crate::gate::Gate;
 use tick_core::{Claim, Done, TickState, Turn, evaluate};
 
-/// The steps of a tick that the first worker takes before it shares the tick with others: as long as one thread alone
-/// can step, or all of them where there are no others. Then the claims of two threads. None: nobody is enabled.
+/// How many operations are worth a worker that has to be woken, where no step waits for another.
+pub(crate) const SHARE: u64 = 256;
+
+/// The steps of a tick that the first worker takes before it shares the tick with others: all of them where there are
+/// no others, else as long as there is nothing to share. Then the claims of two threads. None: nobody is enabled.
 pub(crate) fn stretch<'x, G: Gate>(
     state: &mut TickState<'x>,
     workers: u8,
@@ -26,7 +29,8 @@ pub(crate) fn stretch<'x, G: Gate>(
     None
 }
 
-// Takes steps of a tick as long as one thread alone can step. Then the claims of two threads.
+// Takes steps of a tick as long as one thread alone can step, or several have little work. Then the claims of two
+// threads.
 fn lead<'x, G: Gate>(state: &mut TickState<'x>, gate: &G) -> Option<(Claim<'x>, Claim<'x>)>
     ensures { SameTick state.old state.new }
 {
@@ -34,12 +38,34 @@ fn lead<'x, G: Gate>(state: &mut TickState<'x>, gate: &G) -> Option<(Claim<'x>, 
         let Turn::Claim(first) = state.claim(1) else {
             break;
         };
-        if let Turn::Claim(second) = state.claim(1) {
-            return Some((first, second));
+        match state.claim(1) {
+            Turn::Claim(second) if gate.waits() || is_much(state, &first, &second) => {
+                return Some((first, second));
+            }
+            Turn::Claim(second) => {
+                step(state, first, gate);
+                step(state, second, gate);
+            }
+            Turn::NoneNow | Turn::Over => step(state, first, gate),
         }
-        step(state, first, gate);
     }
     None
+}
+
+// Whether the round in which these two claims stand has work for a second worker, as far as they show.
+fn is_much(state: &TickState<'_>, first: &Claim<'_>, second: &Claim<'_>) -> bool {
+    let priority = state.image().tables().priority(first.node());
+    let pairs = state.ready(priority).len() / 2 + 1;
+    let work = operations_of(first).saturating_add(operations_of(second));
+    work.saturating_mul(pairs as u64) >= 2 * SHARE
+}
+
+/// The operations that are evaluated for a claim, and one for its step.
+pub(crate) fn operations_of(claim: &Claim<'_>) -> u64 {
+    match claim.code() {
+        Some(code) => code.code().operations().len() as u64 + 1,
+        None => 1,
+    }
 }
 
 // Takes all steps that are left of a tick.

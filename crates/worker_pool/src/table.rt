@@ -1,6 +1,7 @@
 use crate::desk::Desk;
 use crate::picture::Picture;
 use crate::seat::{Next, Round};
+use crate::serving::SHARE;
 use tick_core::Claim;
 
 /// What lies under the lock of a hall: the tick that the workers share, and who waits. Whenever the lock is taken, the
@@ -41,10 +42,17 @@ impl<'x, J: Picture> Table<'x, J> {
         }
     }
 
-    /// Notes what a turn came to: what its worker does next, and who is to be woken.
-    pub(crate) fn note(&mut self, round: Round<'x>) -> (Next<'x>, Calls) {
-        let Round { kept, put, over } = round;
-        let calls = self.calls(put, over);
+    /// Notes what a turn came to: what its worker does next, and who is to be woken. Where a step may wait for another,
+    /// each claim is worth a worker.
+    pub(crate) fn note(&mut self, round: Round<'x>, waits: bool) -> (Next<'x>, Calls) {
+        let Round {
+            kept,
+            put,
+            work,
+            over,
+        } = round;
+        let wanted = wanted(put, work, waits);
+        let calls = self.calls(wanted, over);
         (self.next(kept, over), calls)
     }
 
@@ -57,8 +65,8 @@ impl<'x, J: Picture> Table<'x, J> {
         }
     }
 
-    // Who is to be woken after a turn, in which so many claims were put or the tick came to its end.
-    fn calls(&mut self, put: u64, over: bool) -> Calls {
+    // Who is to be woken after a turn, in which there was work for so many others or the tick came to its end.
+    fn calls(&mut self, wanted: u64, over: bool) -> Calls {
         if over {
             self.over = true;
             return Calls {
@@ -66,16 +74,16 @@ impl<'x, J: Picture> Table<'x, J> {
                 others: 0,
             };
         }
-        if put < 2 {
+        if wanted == 0 {
             return Calls {
                 first: false,
                 others: 0,
             };
         }
-        self.call(put - 1)
+        self.call(wanted)
     }
 
-    // So many claims were put for others.
+    // There is work for so many others.
     fn call(&mut self, wanted: u64) -> Calls {
         self.puts = self.puts.wrapping_add(1);
         let first = self.first_rests;
@@ -90,5 +98,17 @@ impl<'x, J: Picture> Table<'x, J> {
             self.resting
         };
         Calls { first, others }
+    }
+}
+
+// How many others there is work for where so many claims were put, which have so many operations. Who put them takes
+// one itself.
+fn wanted(put: u64, work: u64, waits: bool) -> u64 {
+    let others = put.saturating_sub(1);
+    let shares = work / SHARE;
+    if waits || others < shares {
+        others
+    } else {
+        shares
     }
 }
