@@ -163,3 +163,14 @@ stopped_reacting image start now now' k c old new line (play_fault.NotJson n) a 
 stopped_reacting image start now now' k c old new line play_fault.Memory a takes tells = stopped image start now k c old new a
 stopped_reacting image start now now' k c old new line play_fault.Read a takes tells = absurd tells
 stopped_reacting image start now now' k c old new line play_fault.Write a takes tells = absurd tells
+
+-- a line that could not be had tells of a failed source where the source failed, and never of the sink
+pub unread_read : (f : LinesFault) (k : ℕ) → unread f k ≡ play_fault.Read → f ≡ lines_fault.Read
+unread_read lines_fault.Memory k told = absurd cc
+unread_read lines_fault.Read k told = refl
+unread_read lines_fault.TooLong k told = absurd cc
+
+pub unread_no_write : (f : LinesFault) (k : ℕ) → ¬ (unread f k ≡ play_fault.Write)
+unread_no_write lines_fault.Memory k told = cc
+unread_no_write lines_fault.Read k told = cc
+unread_no_write lines_fault.TooLong k told = cc

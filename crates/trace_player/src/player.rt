@@ -1,5 +1,5 @@
 ghost use Rattle.std.specs.Prelude.{◌≡◌, ◌≢◌, ◌+◌, ◌≤◌, ◌↔◌, min, ℕ, List, [], true, false, length};
-ghost use Rattle.std.specs.Prelude.{IsTrue, IfOk, IfErr, IsErrOf};
+ghost use Rattle.std.specs.Prelude.{IsTrue, IfOk, IfErr, OnErr, IsErrOf};
 ghost use Rattle.std.specs.Io.KnownBytes.{Appends};
 ghost use Rattle.sc_values.specs.Streams.{GrowsInto};
 ghost use Rattle.sc_graph.specs.Tick.{Rests, AreAccepted, initial};
@@ -50,21 +50,19 @@ fn unread_line(fault: LinesFault, line: u64) -> PlayFault
 }
 
 // One tick from a configuration: the one after it, the number of steps, and the room for the next
-// tick.
+// tick. It takes no memory.
 fn tick<'a>(
-    alloc: Global,
     room: Room<'a>,
-    control: &Control,
+    control: Control,
     inputs: &Inputs,
 ) -> Result<(Control, u64, Room<'a>), BeginFault>
-    requires { Rests room.program control.now }
+    requires { Rests room.program control }
     ensures rests { IfOk result (λ r. Rests room.entry.program r.0) }
-    ensures reacts { IfOk result (λ r. Reacts room.entry inputs.now control.now r.0 r.1) }
+    ensures reacts { IfOk result (λ r. Reacts room.entry inputs.now control r.0 r.1) }
     ensures room { IfOk result (λ r. r.2 ≡ room.entry) }
-    ensures refused { IsErrOf result BeginFault.Input
-        → ¬ AreAccepted room.entry.program inputs.now }
+    ensures refused { OnErr result (¬ AreAccepted room.entry.program inputs.now) }
 {
-    let mut state = room.begin(alloc, control, inputs)?;
+    let mut state = room.go_on(control, inputs)?;
     state.run_alone();
     let steps = state.history().len() as u64;
     let (control, room) = state.hand_over();
@@ -77,16 +75,16 @@ fn react<'a>(
     alloc: Global,
     interface: &Interface<'_>,
     room: Room<'a>,
-    control: &Control,
+    control: Control,
     number: u64,
     line: &[u8],
     shown: &mut Vec<u8>,
 ) -> Result<(Control, Room<'a>), PlayFault>
     requires interface { interface.now ≡ room.program.variables }
-    requires rests { Rests room.program control.now }
+    requires rests { Rests room.program control }
     requires short { length line.now ≤ line_limit }
     ensures rests { IfOk result (λ r. Rests room.entry.program r.0) }
-    ensures shows { IfOk result (λ r. Shows room.entry number control.now line.now r.0 shown.new.items) }
+    ensures shows { IfOk result (λ r. Shows room.entry number control line.now r.0 shown.new.items) }
     ensures room { IfOk result (λ r. r.1 ≡ room.entry) }
     ensures fault { IfErr result (Tells room.entry.program number line.now) }
 {
@@ -96,10 +94,8 @@ fn react<'a>(
         Err(LineFault::NotJson) => return Err(PlayFault::NotJson(number)),
         Err(LineFault::Input) => return Err(PlayFault::Input(number)),
     };
-    let (control, steps, room) = match tick(alloc, room, control, &inputs) {
-        Ok(done) => done,
-        Err(BeginFault::Memory) => return Err(PlayFault::Memory),
-        Err(BeginFault::Input) => return Err(PlayFault::Input(number)),
+    let Ok((control, steps, room)) = tick(room, control, &inputs) else {
+        return Err(PlayFault::Input(number));
     };
     interface.write_line(shown, number, steps, control.variables.as_slice())?;
     Ok((control, room))
@@ -164,7 +160,7 @@ fn play_lines<R: Source, W: Sink>(
             Ok(None) => return Ok(number),
             Err(fault) => return Err(unread_line(fault, next)),
         };
-        let (after, left) = react(alloc, interface, room, &control, next, &line, &mut shown)?;
+        let (after, left) = react(alloc, interface, room, control, next, &line, &mut shown)?;
         if !is_written(sink, shown.as_slice()) {
             return Err(PlayFault::Write);
         }

@@ -7,9 +7,10 @@ use Rattle.bytecode.specs.Image.{Image}
 use Rattle.trace_lines.specs.Lines.{ahead, TakesLine, IsTooLong}
 use Rattle.trace_lines.specs.declared.lines.LinesFault.TheVariants as lines_fault
 use Rattle.trace_lines.specs.declared.lines.LineEnd.TheVariants as line_end
+use Rattle.trace_player.specs.declared.player.PlayFault.TheVariants as play_fault
 use Rattle.trace_player.specs.Trace.{Leaves, Shows, next_number}
 use Rattle.trace_player.specs.Inside.Faults.{Tells, unread}
-use Rattle.trace_player.proofs.Playing.{Played, not_begun, none_played, one_played, all_played, stopped, stopped_reading, stopped_reacting, stopped_writing}
+use Rattle.trace_player.proofs.Playing.{Played, not_begun, none_played, one_played, all_played, stopped, stopped_reading, stopped_reacting, stopped_writing, unread_read, unread_no_write}
 use Rattle.trace_player.proofs.player.play_lines.Goals as goal
 
 pub returns-in_err-room-clause-fault : goal.returns-in_err-room-clause-fault
@@ -168,3 +169,14 @@ returns-in-Err-clause-not_read g c = λ differs.
     let read : c.in-Err.fault ≡ lines_fault.Read = cc in
     differs (ap Err (c.unread_line.ensures ∙ ap (λ f. unread f c.next_number-next.result) read)))
     ∙ c.loop-turn.invariant.none_read
+
+pub returns-in-Err-clause-read : goal.returns-in-Err-clause-read
+returns-in-Err-clause-read g c = λ is.
+    let told : c.unread_line.result ≡ play_fault.Read = cc in
+    let read = unread_read c.in-Err.fault _ (sym c.unread_line.ensures ∙ told) in
+    c.in-Err.ensures.failed (ap Err read) ∙ ap (λ n. n + 1) c.loop-turn.invariant.none_read
+
+pub returns-in-Err-clause-write : goal.returns-in-Err-clause-write
+returns-in-Err-clause-write g c = λ is.
+    let told : c.unread_line.result ≡ play_fault.Write = cc in
+    absurd (unread_no_write c.in-Err.fault _ (sym c.unread_line.ensures ∙ told))

@@ -15,7 +15,7 @@ returns-clause-reacts c =
     let run = threads_of state.history in
     let end = c.hand_over-control.result.0 in
     let same_image : state.image ≡ image = alone.image_is ∙ ap (λ s. s.image) ensured.start in
-    let same_start : state.begun ≡ start image.program c.args.inputs.now c.args.control.now = alone.begun_is ∙ ap (λ s. s.begun) ensured.start in
+    let same_start : state.begun ≡ start image.program c.args.inputs.now c.args.control = alone.begun_is ∙ ap (λ s. s.begun) ensured.start in
     record {
       accepted = ensured.accepted;
       run = run;
