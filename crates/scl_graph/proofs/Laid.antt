@@ -20,7 +20,7 @@ use Rattle.scl_graph.specs.declared.numbers.Numbers.{Numbers}
 use Rattle.scl_graph.specs.declared.way.Way.{Way}
 use Rattle.scl_graph.specs.Graph.{way, own, node, assigns}
 use Rattle.scl_graph.specs.Counting.{counts_of, counts_of_all}
-use Rattle.scl_graph.specs.Inside.Laying.{HasRoom, IsLaid, with_goto, after, past, text, way_at, way_in, children}
+use Rattle.scl_graph.specs.Inside.Laying.{HasRoom, IsLaid, with_goto, after, past, text, way_at, way_behind, way_in, children}
 use Rattle.scl_graph.proofs.Pieces.{piece_of_assign, piece_of_label, piece_of_goto, piece_of_pause, piece_of_if, piece_of_fork}
 use Rattle.scl_graph.proofs.Before.{own_before, made_before}
 
@@ -42,6 +42,25 @@ leads_in (s ∷ rest) at g behind n e =
     let Leads : Piece → Type 0 = λ p. way (p.made (with_goto at g) ((in_row (map piece_of rest)).made (beyond (with_goto at g) p.counts) (End 0))) behind ≡ way_at (out-Statement s) at.node (way_in rest at.node behind) in
     subst Leads (sym (fold_out-Statement Piece piece s)) (leads_at (out-Statement s) rest at g behind (λ m h. leads_in rest m h behind at.node))
     ∙ ap (λ m. way_at (out-Statement s) m (way_in rest m behind)) e
+
+-- where a thread goes on behind a statement
+behind_at : (y : Statement-F Statement) (rest : List Statement) (here : Numbers) (ahead behind : Way) → ahead ≡ way_at y here.node (way_in rest here.node behind)
+    → way_behind y rest (here.node + (piece (map-Statement Statement Piece piece_of y)).counts.nodes) ahead behind
+    ≡ way_in rest (here.node + (piece (map-Statement Statement Piece piece_of y)).counts.nodes) behind
+behind_at (tree.Assign x e) rest here ahead behind is = refl
+behind_at (tree.Label name) rest here ahead behind is =
+    let node : here.node ≡ here.node + 0 = omega arith in
+    is ∙ ap (λ m. way_in rest m behind) node
+behind_at (tree.Goto name) rest here ahead behind is = refl
+behind_at tree.Pause rest here ahead behind is = refl
+behind_at (tree.If e a b) rest here ahead behind is = refl
+behind_at (tree.Fork branches) rest here ahead behind is = refl
+
+pub leads_behind : (s : Statement) (rest : List Statement) (here : Numbers) (ahead behind : Way) → ahead ≡ way_in (s ∷ rest) here.node behind
+    → way_behind (out-Statement s) rest (past here (counts_of s)).node ahead behind ≡ way_in rest (past here (counts_of s)).node behind
+leads_behind s rest here ahead behind is =
+    let Leads : Piece → Type 0 = λ p. way_behind (out-Statement s) rest (here.node + p.counts.nodes) ahead behind ≡ way_in rest (here.node + p.counts.nodes) behind in
+    subst Leads (sym (fold_out-Statement Piece piece s)) (behind_at (out-Statement s) rest here ahead behind is)
 
 -- what has room for statements has room behind the first of them
 pub room_more : (at : Numbers) (s : Statement) (rest : List Statement) → HasRoom at (counts_of_all (s ∷ rest)) → HasRoom (past at (counts_of s)) (counts_of_all rest)

@@ -6,4 +6,7 @@ mod Gathered
 mod Circling
 mod Fronts
 mod Leading
+mod Resolved
 mod Example
+mod AbroRows
+mod LoopRows

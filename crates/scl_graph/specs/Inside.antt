@@ -3,3 +3,4 @@ pub mod Forking
 pub mod Totals
 pub mod Gathering
 pub mod Settling
+pub mod Resolving

@@ -9,14 +9,14 @@ use crate::counting::{known_counts, known_statement_counts};
 use crate::fault::GraphFault;
 use crate::numbers::Numbers;
 use crate::steps::{lay_assignment, lay_fork, lay_pause, lay_test};
-use crate::way::{Targets, Way, way_of};
+use crate::way::{Targets, Way, way_behind, way_of};
 use sc_graph::{Node, ThreadId};
 use scl::Statement;
 use sqlite_items::Items;
 use std::alloc::{AllocError, Global};
 
 /// Puts the nodes of a thread for these statements behind the others. Behind them it goes on the way
-/// `behind`. Err: memory was refused, or an expression has more than 64 operations.
+/// `behind`. A row of labels is looked past once. Err: memory was refused, or an expression has more than 64 operations.
 #[cycle(laying)]
 pub(crate) fn lay<T: Targets>(
     alloc: Global,
@@ -31,10 +31,12 @@ pub(crate) fn lay<T: Targets>(
     ensures { IfOk result (λ _. IsLaid (T.target targets.now) owner statements.now at behind.now nodes.old.items nodes.new.items) }
 {
     let mut here = at;
+    let mut ahead = way_of(statements, at.node, behind);
     for (i, statement) in statements.iter().enumerate() {
         let next = here.past(known_statement_counts(statement));
-        let leads = way_of(&statements[i + 1..], next.node, behind);
+        let leads = way_behind(statement, &statements[i + 1..], next.node, &ahead, behind);
         lay_statement(alloc, statement, owner, here, &leads, targets, nodes)?;
+        ahead = leads;
         here = next;
     }
     Ok(())

@@ -1,9 +1,11 @@
 //! What a text counts, however long it is.
 
-ghost use Rattle.std.specs.Prelude.{◌≡◌};
+ghost use Rattle.std.specs.Prelude.{◌≡◌, ◌↔◌, IsTrue};
 ghost use Rattle.std.specs.Option.{SomeIff};
+ghost use Rattle.scl_graph.specs.Inside.Resolving.{FitsTotals};
 ghost use Rattle.scl_graph.specs.Inside.Totals.{AreCounted, as_branch, branches_totals, sum, totals_of, totals_of_all};
 
+use sc_graph::{NODE_LIMIT, THREAD_LIMIT};
 use scl::Statement;
 use sqlite_items::Items;
 
@@ -83,6 +85,15 @@ impl Totals {
             jumps: self.jumps + other.jumps,
         };
         both.if_counted()
+    }
+
+    /// Whether a graph of this size has no more nodes and threads than an image may: beside those of the text
+    /// there are the end of the first thread, and that thread.
+    pub(crate) fn fit_an_image(self) -> bool
+        requires { AreCounted self }
+        ensures { IsTrue result ↔ FitsTotals self }
+    {
+        self.nodes + 1 + self.lower <= NODE_LIMIT as u64 && self.threads + 1 <= THREAD_LIMIT as u64
     }
 
     // These totals. None: one of them is above the limit.

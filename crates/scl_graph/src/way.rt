@@ -1,5 +1,6 @@
 ghost use Rattle.std.specs.Prelude.{◌≡◌, ℕ};
-ghost use Rattle.scl_graph.specs.Inside.Laying.{way_in};
+ghost use Rattle.scl.specs.declared.statement.Statement.TheViews.{out-Statement};
+ghost use Rattle.scl_graph.specs.Inside.Laying.{way_behind, way_in};
 
 use sc_graph::NodeId;
 use sc_values::Name;
@@ -36,4 +37,21 @@ pub(crate) fn way_of(statements: &[Statement], next: NodeId, behind: &Way) -> Wa
         }
     }
     *behind
+}
+
+/// Where a thread goes on behind a statement, at which it goes on the way `ahead`: at the rest, whose first
+/// node has the number `next`, and behind that.
+pub(crate) fn way_behind(
+    statement: &Statement,
+    rest: &[Statement],
+    next: NodeId,
+    ahead: &Way,
+    behind: &Way,
+) -> Way
+    ensures { result ≡ way_behind (out-Statement statement.now) rest.now next ahead.now behind.now }
+{
+    match statement {
+        Statement::Label(_) => *ahead,
+        _ => way_of(rest, next, behind),
+    }
 }

@@ -53,6 +53,11 @@ abbrev pub way_in : List Statement → ℕ → Way → Way
 way_in [] n behind = behind
 way_in (s ∷ rest) n behind = way_at (out-Statement s) n (way_in rest n behind)
 
+-- where a thread goes on behind a statement, at which it goes on the way `ahead`
+abbrev pub way_behind : Statement-F Statement → List Statement → ℕ → Way → Way → Way
+way_behind (tree.Label name) rest n ahead behind = ahead
+way_behind other rest n ahead behind = way_in rest n behind
+
 -- the threads of a fork's branches, of which the first has number n
 abbrev pub children : List (List Statement) → ℕ → List ℕ
 children [] n = []

@@ -4,16 +4,17 @@ use Rattle.sc_values.specs.Expr.{postorder}
 use Rattle.sc_graph.specs.declared.program.Node.{Node}
 use Rattle.sc_graph.specs.declared.program.Step.TheVariants as step
 use Rattle.scl.specs.declared.statement.Statement.{Statement}
+use Rattle.scl.specs.declared.statement.Statement.TheViews.{out-Statement}
 use Rattle.scl_graph.specs.declared.numbers.Numbers.{Numbers}
 use Rattle.scl_graph.specs.declared.way.Way.{Way}
 use Rattle.scl_graph.specs.Graph.{node}
-use Rattle.scl_graph.specs.Inside.Laying.{HasRoom, IsLaid, after, children, past, way_in}
+use Rattle.scl_graph.specs.Inside.Laying.{HasRoom, IsLaid, after, children, past, way_behind, way_in}
 use Rattle.scl_graph.specs.Counting.{counts_of, counts_of_all}
-use Rattle.scl_graph.proofs.Laid.{laid_none, laid_more, laid_if, laid_fork, ok_then, room_more, split_at}
+use Rattle.scl_graph.proofs.Laid.{laid_none, laid_more, leads_behind, laid_if, laid_fork, ok_then, room_more, split_at}
 use Rattle.scl_graph.proofs.laying.+laying.Goals as goal
 
 pub lay-loop-i-init : goal.lay-loop-i-init
-lay-loop-i-init g t c = record { room = c.requires; laid = λ new h. h }
+lay-loop-i-init g t c = record { room = c.requires; ahead = c.way_of-ahead.ensures; laid = λ new h. h }
 
 pub lay-loop-i-preserved : goal.lay-loop-i-preserved
 lay-loop-i-preserved g t c =
@@ -27,15 +28,18 @@ lay-loop-i-preserved g t c =
     let middle : List Node = c.lay_statement.new.nodes.items in
     let split : drop c.loop-i.i xs ≡ s ∷ rest = split_at xs c.loop-i.i s c.loop-i-test.true c.index-statements-i.is in
     let next : c.past-next.result ≡ past here (counts_of s) = c.past-next.ensures ∙ ap (past here) c.known_statement_counts.ensures in
-    let leads : c.way_of-leads.result ≡ way_in rest (past here (counts_of s)).node behind =
-    c.way_of-leads.ensures
-    ∙ ap (λ zs. way_in zs c.past-next.result.node behind) (take_rest xs (c.loop-i.i + 1))
-    ∙ ap (λ m. way_in rest m.node behind) next in
+    let ahead : c.loop-i.ahead ≡ way_in (s ∷ rest) here.node behind = c.loop-i.invariant.ahead ∙ ap (λ zs. way_in zs here.node behind) split in
+    let leads : c.way_behind-leads.result ≡ way_in rest (past here (counts_of s)).node behind =
+    c.way_behind-leads.ensures
+    ∙ ap (λ zs. way_behind (out-Statement s) zs c.past-next.result.node c.loop-i.ahead behind) (take_rest xs (c.loop-i.i + 1))
+    ∙ ap (λ m. way_behind (out-Statement s) rest m.node c.loop-i.ahead behind) next
+    ∙ leads_behind s rest here c.loop-i.ahead behind ahead in
     let Room : Numbers → Type 0 = λ m. HasRoom m (counts_of_all rest) in
     let Fits : List Statement → Type 0 = λ zs. HasRoom here (counts_of_all zs) in
     let One : Way → Type 0 = λ w. IsLaid target c.args.owner (s ∷ []) here w before middle in
     record {
       room = subst Room (sym next) (room_more here s rest (subst Fits split c.loop-i.invariant.room));
+      ahead = leads ∙ ap (λ m. way_in rest m.node behind) (sym next);
       laid = λ new h.
           let Whole : List Statement → Type 0 = λ zs. IsLaid target c.args.owner zs here behind before new in
           let Others : Numbers → Type 0 = λ m. IsLaid target c.args.owner rest m behind middle new in

@@ -1,0 +1,80 @@
+ghost use Rattle.std.specs.Prelude.{◌≡◌, IfOk, MatchResult};
+ghost use Rattle.scl_graph.specs.Answers.{IsGraph, IsReason};
+ghost use Rattle.scl_graph.specs.Counting.{counts_of_all};
+ghost use Rattle.scl_graph.specs.Graph.{program_by};
+ghost use Rattle.scl_graph.specs.Inside.Laying.{HasRoom};
+ghost use Rattle.scl_graph.specs.Inside.Resolving.{numbered_of, small_start};
+
+use crate::counting::known_counts;
+use crate::fault::GraphFault;
+use crate::forking::{lay_forked, lay_thread};
+use crate::numbers::Numbers;
+use crate::resolving::resolve;
+use crate::totals::totals_of;
+use crate::way::Targets;
+use sc_graph::{Program, Variable};
+use scl::{Scl, Statement};
+use sqlite_items::Items;
+use std::alloc::{AllocError, Global};
+
+/// The graph of a program. Err: E14 with the label of the first goto that leads through labels and gotos alone
+/// back to itself; else E07, where the graph has more nodes or threads than an image may; E52.
+#[tactic(auto, using(crate::proofs::Resolved::graph_is, crate::proofs::Resolved::limit_is, crate::proofs::Resolved::empty_loop_is, crate::proofs::Resolved::image_room))]
+pub fn graph_of(alloc: Global, scl: &Scl) -> Result<Program, GraphFault>
+    ensures { MatchResult result (IsGraph scl.now) (IsReason scl.now) }
+{
+    let body = scl.body.as_slice();
+    let Some(totals) = totals_of(body) else {
+        return Err(GraphFault::Memory);
+    };
+    let targets = resolve(alloc, body, totals)?;
+    if !totals.fit_an_image() {
+        return Err(GraphFault::Limit);
+    }
+    match lay_program(alloc, scl.variables.as_slice(), body, &targets) {
+        Ok(program) => Ok(program),
+        Err(_) => Err(GraphFault::Memory),
+    }
+}
+
+// The program of these variables and statements, by the targets of its ways.
+#[tactic(auto, using(crate::proofs::Resolved::program_laid))]
+fn lay_program<T: Targets>(
+    alloc: Global,
+    variables: &[Variable],
+    body: &[Statement],
+    targets: &T,
+) -> Result<Program, GraphFault>
+    requires { HasRoom (small_start (counts_of_all body.now)) (counts_of_all body.now) }
+    ensures { IfOk result (λ p. p ≡ program_by (T.target targets.now) (numbered_of variables.now body.now)) }
+{
+    let at = Numbers {
+        node: 0,
+        thread: 1,
+        base: known_counts(body).nodes + 1,
+    };
+    let mut threads = Vec::new(alloc);
+    let mut nodes = Vec::new(alloc);
+    lay_thread(alloc, body, None, 0, at, targets, &mut threads, &mut nodes)?;
+    lay_forked(alloc, body, 0, at, targets, &mut threads, &mut nodes)?;
+    let variables = copied(alloc, variables)?;
+    match Program::of(variables, Items::from_vec(threads), Items::from_vec(nodes)) {
+        Ok(program) => Ok(program),
+        Err(_) => Err(GraphFault::Limit),
+    }
+}
+
+// The same variables.
+fn copied(alloc: Global, variables: &[Variable]) -> Result<Items<Variable>, AllocError>
+    ensures { IfOk result (λ copies. copies ≡ variables.now) }
+{
+    let mut copies = Items::new(alloc);
+    for variable in variables {
+        copies.push(Variable {
+            name: variable.name,
+            kind: variable.kind,
+            role: variable.role,
+        })?;
+    }
+    Ok(copies)
+}
