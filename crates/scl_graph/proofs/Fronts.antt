@@ -42,7 +42,7 @@ abbrev block_of : Block → Option Block → Block
 block_of other None = other
 block_of other (Some k) = k
 
-same_block : (a k : Block) → Some a ≡ Some k → a ≡ k
+pub same_block : (a k : Block) → Some a ≡ Some k → a ≡ k
 same_block a k is = ap (block_of a) is
 
 own_end : (b : Block) (name : List ℕ) (k : Block) → behind_own_label b name ≡ Some k → end k ≡ end b
