@@ -1,0 +1,2 @@
+mod ExpansionRows
+mod NestedRows

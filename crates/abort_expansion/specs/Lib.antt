@@ -1,0 +1,4 @@
+pub mod Flags
+pub mod Transitions
+pub mod Expansion
+pub mod StateMap
