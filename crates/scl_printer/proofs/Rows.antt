@@ -1,9 +1,10 @@
 -- Rows of what is printed.
-use Rattle.std.proofs.Common.{◌≡◌, pos, negsuc, true, List, [], ◌∷◌, ◌++◌, ℕ, codes, refl}
+use Rattle.std.proofs.Common.{◌≡◌, pos, negsuc, true, List, [], ◌∷◌, ◌++◌, ℕ, codes, refl, ap, ◌∙◌}
 use Rattle.std.specs.Fmt.{digits}
 use Rattle.sc_values.specs.declared.value.Value.TheVariants as value
 use Rattle.sc_values.specs.declared.value.Kind.TheVariants as kind
 use Rattle.sc_values.specs.declared.divisor.Divisor.{Divisor}
+use Rattle.sc_values.specs.declared.operator.UnaryOperator.{UnaryOperator}
 use Rattle.sc_values.specs.declared.operator.UnaryOperator.TheVariants as unary
 use Rattle.sc_values.specs.declared.operator.BinaryOperator.{BinaryOperator}
 use Rattle.sc_values.specs.declared.operator.BinaryOperator.TheVariants as binary
@@ -11,9 +12,15 @@ use Rattle.sc_values.specs.declared.expression.Expr.{Expr}
 use Rattle.sc_values.specs.declared.expression.Expr.TheOpen as tree
 use Rattle.sc_graph.specs.declared.program.Variable.{Variable}
 use Rattle.sc_graph.specs.declared.program.Role.TheVariants as role
+use Rattle.sc_values.specs.declared.expression.Expr.TheVariants as expr
+use Rattle.scl.specs.declared.program.Scl.{Scl}
+use Rattle.scl.specs.declared.statement.Statement.{Statement}
 use Rattle.scl.specs.declared.statement.Statement.TheOpen as text
-use Rattle.scl_printer.specs.Expressions.{Shown, shown_step, expression_text}
-use Rattle.scl_printer.specs.Layout.{Piece, declarations_text, statement_step, in_row}
+use Rattle.scl.specs.declared.statement.Statement.TheVariants as statement
+use Rattle.scl.specs.Rules.{KeepsRules}
+use Rattle.scl_printer.proofs.Shown.{shown_unary, shown_binary, shown_load, shown_literal, text_of_assign, text_of_if, text_of_pause}
+use Rattle.scl_printer.specs.Expressions.{Shown, shown, shown_step, expression_text}
+use Rattle.scl_printer.specs.Layout.{Piece, line, declarations_text, statement_step, statement_text, statements_text, in_row, text_of}
 
 abbrev variables : List Variable
 variables =
@@ -49,7 +56,8 @@ one_text : one.text ≡ codes "1"
 unfolding digits
 one_text = refl
 
-product : (by (minus (by a binary.Add x)) binary.Multiply x).text ≡ codes "(-(a + x)) * x"
+product : (by (minus (by a binary.Add one)) binary.Multiply x).text ≡ codes "(-(a + 1)) * x"
+unfolding digits
 product = refl
 
 conjunction : (by (by x binary.Less a) binary.And (no (shown_step variables (tree.Literal (value.Bool true))))).text ≡ codes "(x < a) and (not true)"
@@ -100,3 +108,83 @@ two_lists e = refl
 forked : in_row (statement_step variables (text.Fork ((pause ∷ []) ∷ [] ∷ (statement_step variables (text.Fork ([] ∷ [])) ∷ []) ∷ [])) ∷ pause ∷ []) 1
     ≡ codes "  fork {\n    pause;\n  } par {\n  } par {\n    fork {\n    } join;\n  } join;\n  pause;\n"
 forked = refl
+
+-- ---- a program
+
+abbrev two : List Variable
+two =
+    record { name = codes "a"; kind = kind.Int; role = role.Local }
+    ∷ record { name = codes "x"; kind = kind.Int; role = role.Output }
+    ∷ []
+
+binary_is : (f : BinaryOperator) (e g : Expr) (s t : Shown) → shown two e ≡ s → shown two g ≡ t → shown two (expr.Binary f e g) ≡ shown_step two (tree.Binary f s t)
+binary_is f e g s t left right =
+    shown_binary two f e g
+    ∙ ap (λ l. shown_step two (tree.Binary f l (shown two g))) left
+    ∙ ap (λ r. shown_step two (tree.Binary f s r)) right
+
+unary_is : (f : UnaryOperator) (e : Expr) (s : Shown) → shown two e ≡ s → shown two (expr.Unary f e) ≡ shown_step two (tree.Unary f s)
+unary_is f e s inner = shown_unary two f e ∙ ap (λ i. shown_step two (tree.Unary f i)) inner
+
+abbrev sum : Expr
+sum = expr.Binary binary.Add (expr.Load 0) (expr.Literal (value.Int (pos 1)))
+
+abbrev product_of_sum : Expr
+product_of_sum = expr.Binary binary.Multiply (expr.Unary unary.Negate sum) (expr.Load 1)
+
+abbrev test : Expr
+test = expr.Binary binary.And (expr.Binary binary.Less (expr.Load 1) (expr.Load 0)) (expr.Unary unary.Not (expr.Literal (value.Bool true)))
+
+abbrev least_of_both : Expr
+least_of_both = expr.Binary binary.Min (expr.Load 0) (expr.Load 1)
+
+product_text : expression_text two product_of_sum ≡ codes "(-(a + 1)) * x"
+unfolding digits
+product_text =
+    ap (λ s. s.text)
+    (binary_is binary.Multiply (expr.Unary unary.Negate sum) (expr.Load 1) _ _
+    (unary_is unary.Negate sum _
+    (binary_is binary.Add (expr.Load 0) (expr.Literal (value.Int (pos 1))) _ _ (shown_load two 0) (shown_literal two (value.Int (pos 1)))))
+    (shown_load two 1))
+
+test_text : expression_text two test ≡ codes "(x < a) and (not true)"
+test_text =
+    ap (λ s. s.text)
+    (binary_is binary.And (expr.Binary binary.Less (expr.Load 1) (expr.Load 0)) (expr.Unary unary.Not (expr.Literal (value.Bool true))) _ _
+    (binary_is binary.Less (expr.Load 1) (expr.Load 0) _ _ (shown_load two 1) (shown_load two 0))
+    (unary_is unary.Not (expr.Literal (value.Bool true)) _ (shown_literal two (value.Bool true))))
+
+least_text : expression_text two least_of_both ≡ codes "min(a, x)"
+least_text = ap (λ s. s.text) (binary_is binary.Min (expr.Load 0) (expr.Load 1) _ _ (shown_load two 0) (shown_load two 1))
+
+abbrev inner : Statement
+inner = statement.Assign 1 least_of_both
+
+abbrev body : List Statement
+body = statement.Assign 0 product_of_sum ∷ statement.If test (inner ∷ []) [] ∷ statement.Pause ∷ []
+
+product_line : statement_text two (statement.Assign 0 product_of_sum) 1 ≡ codes "  a = (-(a + 1)) * x;\n"
+product_line =
+    ap (λ f. f 1) (text_of_assign two 0 product_of_sum)
+    ∙ ap (λ t. line (codes "a = " ++ (t ++ codes ";")) 1) product_text
+
+inner_line : statement_text two inner 2 ≡ codes "    x = min(a, x);\n"
+inner_line = ap (λ f. f 2) (text_of_assign two 1 least_of_both) ∙ ap (λ t. line (codes "x = " ++ (t ++ codes ";")) 2) least_text
+
+test_lines : statement_text two (statement.If test (inner ∷ []) []) 1 ≡ codes "  if ((x < a) and (not true)) {\n    x = min(a, x);\n  }\n"
+test_lines =
+    ap (λ f. f 1) (text_of_if two test (inner ∷ []) [])
+    ∙ ap (λ t. line (codes "if (" ++ (t ++ codes ") {")) 1 ++ ((statement_text two inner 2 ++ []) ++ codes "  }\n")) test_text
+    ∙ ap (λ t. codes "  if ((x < a) and (not true)) {\n" ++ ((t ++ []) ++ codes "  }\n")) inner_line
+
+body_text : statements_text two body 1
+    ≡ codes "  a = (-(a + 1)) * x;\n  if ((x < a) and (not true)) {\n    x = min(a, x);\n  }\n  pause;\n"
+body_text =
+    ap (λ t. t ++ (statement_text two (statement.If test (inner ∷ []) []) 1 ++ (statement_text two statement.Pause 1 ++ []))) product_line
+    ∙ ap (λ t. codes "  a = (-(a + 1)) * x;\n" ++ (t ++ (statement_text two statement.Pause 1 ++ []))) test_lines
+    ∙ ap (λ f. codes "  a = (-(a + 1)) * x;\n  if ((x < a) and (not true)) {\n    x = min(a, x);\n  }\n" ++ (f 1 ++ [])) (text_of_pause two)
+
+printed : (kept : ∥ KeepsRules (codes "P") two body ∥₁)
+    → text_of (record { name = codes "P"; variables = two; body = body; kept = kept })
+    ≡ codes "scl P {\n  local int a;\n  output int x;\n  a = (-(a + 1)) * x;\n  if ((x < a) and (not true)) {\n    x = min(a, x);\n  }\n  pause;\n}\n"
+printed kept = ap (λ t. codes "scl P {\n  local int a;\n  output int x;\n" ++ (t ++ codes "}\n")) body_text

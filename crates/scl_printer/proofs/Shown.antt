@@ -1,23 +1,30 @@
 -- What is shown of each expression and of each statement.
 use Rattle.std.proofs.Common.{◌≡◌, ℕ, zero, suc, ◌+◌, Bool, true, false, if◌then◌else◌, List, [], ◌∷◌, ◌++◌, map, codes, refl, ap, sym, subst, ◌∙◌, arith}
 use Rattle.std.proofs.lemmas.List.{append-nil}
+use Rattle.sc_values.specs.declared.value.Value.{Value}
 use Rattle.sc_values.specs.declared.operator.UnaryOperator.{UnaryOperator}
 use Rattle.sc_values.specs.declared.operator.BinaryOperator.{BinaryOperator}
 use Rattle.sc_values.specs.declared.expression.Expr.{Expr}
 use Rattle.sc_values.specs.declared.expression.Expr.TheOpen as tree
 use Rattle.sc_values.specs.declared.expression.Expr.TheVariants as expr
-use Rattle.sc_values.specs.declared.expression.Expr.TheVariants.{rolls-Unary, rolls-Binary}
+use Rattle.sc_values.specs.declared.expression.Expr.TheVariants.{rolls-Literal, rolls-Load, rolls-Unary, rolls-Binary}
 use Rattle.sc_values.specs.declared.expression.Expr.TheFolds.{fold-roll-Expr}
 use Rattle.sc_graph.specs.declared.program.Variable.{Variable}
 use Rattle.scl_printer.specs.Expressions.{Shown, shown, shown_step, operand}
 use Rattle.scl.specs.declared.statement.Statement.{Statement}
 use Rattle.scl.specs.declared.statement.Statement.TheOpen as text
 use Rattle.scl.specs.declared.statement.Statement.TheVariants as statement
-use Rattle.scl.specs.declared.statement.Statement.TheVariants.{rolls-If, rolls-Fork}
+use Rattle.scl.specs.declared.statement.Statement.TheVariants.{rolls-Assign, rolls-Pause, rolls-If, rolls-Fork}
 use Rattle.scl.specs.declared.statement.Statement.TheFolds.{fold-roll-Statement}
 use Rattle.scl_printer.specs.Layout.{Piece, indentation, line, in_row, else_text, statement_step, statement_text, statements_text}
 use Rattle.scl_printer.specs.Inside.Writing.{Page, Writes, when, has_any}
 use Rattle.scl_printer.proofs.Written.{follows}
+
+pub shown_literal : (variables : List Variable) (v : Value) → shown variables (expr.Literal v) ≡ shown_step variables (tree.Literal v)
+shown_literal variables v = ap (shown variables) (sym (rolls-Literal v)) ∙ fold-roll-Expr Shown (shown_step variables) (tree.Literal v)
+
+pub shown_load : (variables : List Variable) (x : ℕ) → shown variables (expr.Load x) ≡ shown_step variables (tree.Load x)
+shown_load variables x = ap (shown variables) (sym (rolls-Load x)) ∙ fold-roll-Expr Shown (shown_step variables) (tree.Load x)
 
 pub shown_unary : (variables : List Variable) (f : UnaryOperator) (a : Expr) → shown variables (expr.Unary f a) ≡ shown_step variables (tree.Unary f (shown variables a))
 shown_unary variables f a =
@@ -51,6 +58,13 @@ pub deeper : (n : ℕ) → indentation n ++ codes "  " ≡ indentation (n + 1)
 deeper n = deeper_suc n ∙ ap indentation (let e : suc n ≡ n + 1 = omega arith in e)
 
 -- ---- statements
+
+pub text_of_assign : (variables : List Variable) (x : ℕ) (e : Expr) → statement_text variables (statement.Assign x e) ≡ statement_step variables (text.Assign x e)
+text_of_assign variables x e =
+    ap (statement_text variables) (sym (rolls-Assign x e)) ∙ fold-roll-Statement Piece (statement_step variables) (text.Assign x e)
+
+pub text_of_pause : (variables : List Variable) → statement_text variables statement.Pause ≡ statement_step variables text.Pause
+text_of_pause variables = ap (statement_text variables) (sym rolls-Pause) ∙ fold-roll-Statement Piece (statement_step variables) text.Pause
 
 pub text_of_if : (variables : List Variable) (e : Expr) (a b : List Statement)
     → statement_text variables (statement.If e a b) ≡ statement_step variables (text.If e (map (statement_text variables) a) (map (statement_text variables) b))
