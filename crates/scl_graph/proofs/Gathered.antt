@@ -1,5 +1,5 @@
 -- The labels of a text are gathered statement by statement, and branch by branch.
-use Rattle.std.proofs.Common.{◌≡◌, ℕ, suc, ◌+◌, ◌≤◌, ◌<◌, drop, get_or, Bool, true, false, Option, Some, None, List, [], ◌∷◌, map, length, if◌then◌else◌, refl, ap, sym, subst, ◌∙◌, arith}
+use Rattle.std.proofs.Common.{◌≡◌, ℕ, suc, ◌+◌, ◌≤◌, Bool, true, false, Option, Some, None, List, [], ◌∷◌, map, length, if◌then◌else◌, refl, ap, sym, subst, ◌∙◌, arith}
 use Rattle.std.proofs.lemmas.Option.{none-some}
 use Rattle.std.specs.Option.{option_or}
 use Rattle.std.specs.Str.{bytes_eq}
@@ -18,11 +18,10 @@ use Rattle.scl_graph.specs.declared.landing.Landing.{Landing}
 use Rattle.scl_graph.specs.declared.landing.Landing.TheVariants as lands
 use Rattle.scl_graph.specs.declared.spots.Spot.{Spot}
 use Rattle.scl_graph.specs.declared.totals.Totals.{Totals}
-use Rattle.scl_graph.specs.Inside.Totals.{AreCounted, HasBranchRoom, HasBranchesRoom, HasRoom, after, branches_totals, inside, numbers, past, past_branch, totals, totals_of, totals_of_all}
+use Rattle.scl_graph.specs.Inside.Totals.{after, branches_totals, inside, numbers, past, past_branch, totals, totals_of, totals_of_all}
 use Rattle.scl_graph.specs.Inside.Gathering.{AreBranchesGathered, AreForkedGathered, AreWithin, Gathers, IsGathered, IsThreadGathered, IsWithin, Noted, Notes, body, branches, count_among, find, label_among, landing, landing_at, landing_behind, landing_in, lower_count, lower_label, own_count, own_label, text, thread_label}
 use Rattle.scl_graph.proofs.Before.{made_before}
 use Rattle.scl_graph.proofs.Branching.{all_before, end_before}
-use Rattle.scl_graph.proofs.Laid.{split_at}
 use Rattle.scl_graph.proofs.Pieces.{piece_of_assign, piece_of_label, piece_of_goto, piece_of_pause, piece_of_if, piece_of_fork}
 
 or_assoc : {T : Type 0} (a b c : Option T) → option_or (option_or a b) c ≡ option_or a (option_or b c)
@@ -390,71 +389,3 @@ branches_gathered_more b bodies at w x y z own lower others =
     let none : Landing = lands.Node 0 in
     in_turn (label_among (branches (b ∷ bodies) at)) (thread_label t) (label_among more) (count_among (branches (b ∷ bodies) at)) (own_count t + lower_count t) (count_among more) (at.base + (suc c.nodes + c.lower + rest)) (at.base + suc c.nodes + c.lower) (at.base + (suc c.nodes + c.lower) + rest) none none none w y z
     (λ name. refl) refl (omega arith) (omega arith) (λ most low h. h) (λ most h. h) one others
-
--- what has room for statements has room for the first of them
-pub spot_room_first : (at : Spot) (s : Statement) (rest : List Statement) → HasRoom at (totals_of_all (s ∷ rest)) → HasRoom at (totals_of s)
-spot_room_first at s rest h =
-    let small : _ = h.counted in
-    record {
-      counted = record { nodes = omega (arith, small.nodes); threads = omega (arith, small.threads); lower = omega (arith, small.lower); gotos = omega (arith, small.gotos) };
-      node = omega (arith, h.node);
-      thread = omega (arith, h.thread);
-      base = omega (arith, h.base);
-      goto = omega (arith, h.goto);
-    }
-
-pub spot_room_at : (at : Spot) (xs : List Statement) (i : ℕ) (s : Statement) → HasRoom at (totals_of_all (drop i xs)) → i < length xs → s ≡ get_or xs i s → HasRoom at (totals_of s)
-spot_room_at at xs i s room lt is =
-    let Fits : List Statement → Type 0 = λ zs. HasRoom at (totals_of_all zs) in
-    spot_room_first at s (drop (i + 1) xs) (subst Fits (split_at xs i s lt is) room)
-
--- and behind it
-pub spot_room_more : (at : Spot) (s : Statement) (rest : List Statement) → HasRoom at (totals_of_all (s ∷ rest)) → HasRoom (past at (totals_of s)) (totals_of_all rest)
-spot_room_more at s rest h =
-    let nodes : _ = h.node in
-    let threads : _ = h.thread in
-    let base : _ = h.base in
-    let gotos : _ = h.goto in
-    let small : _ = h.counted in
-    record {
-      counted = record { nodes = omega (arith, small.nodes); threads = omega (arith, small.threads); lower = omega (arith, small.lower); gotos = omega (arith, small.gotos) };
-      node = omega (arith, nodes);
-      thread = omega (arith, threads);
-      base = omega (arith, base);
-      goto = omega (arith, gotos);
-    }
-
--- a branch and what follows it have room where all have
-pub spot_branch_room : (at : Spot) (b : List Statement) (bodies : List (List Statement)) → HasBranchesRoom at (b ∷ bodies) → HasBranchRoom at (totals_of_all b)
-spot_branch_room at b bodies h = record { thread = omega (arith, h.thread); base = omega (arith, h.base); goto = omega (arith, h.goto) }
-
-pub spot_inner_room : (at : Spot) (b : List Statement) (bodies : List (List Statement)) → HasBranchesRoom at (b ∷ bodies) → HasRoom (inside at (totals_of_all b)) (totals_of_all b)
-spot_inner_room at b bodies h =
-    record {
-      counted = record { nodes = omega (arith, h.counted.lower); threads = omega (arith, h.counted.threads); lower = omega (arith, h.counted.lower); gotos = omega (arith, h.counted.gotos) };
-      node = omega (arith, h.base);
-      thread = omega (arith, h.thread);
-      base = omega (arith, h.base);
-      goto = omega (arith, h.goto);
-    }
-
-pub spot_further_room : (at : Spot) (b : List Statement) (bodies : List (List Statement)) → HasBranchesRoom at (b ∷ bodies) → HasBranchesRoom (past_branch at (totals_of_all b)) bodies
-spot_further_room at b bodies h =
-    record {
-      counted = record { nodes = omega (arith, h.counted.nodes); threads = omega (arith, h.counted.threads); lower = omega (arith, h.counted.lower); gotos = omega (arith, h.counted.gotos) };
-      thread = omega (arith, h.thread);
-      base = omega (arith, h.base);
-      goto = omega (arith, h.goto);
-    }
-
--- the branches of a fork have room where the fork has
-pub spot_fork_room : (at : Spot) (s : Statement) (bodies : List (List Statement)) → s ≡ variant.Fork bodies → HasRoom at (totals_of s) → HasBranchesRoom at bodies
-spot_fork_room at s bodies is room =
-    let Fits : Totals → Type 0 = λ c. HasRoom at c in
-    let h : HasRoom at (totals (piece (tree.Fork (map (map piece_of) bodies))).counts) = subst Fits (ap totals_of is ∙ ap (λ p. totals p.counts) (piece_of_fork bodies)) room in
-    record {
-      counted = record { nodes = omega (arith, h.counted.nodes); threads = omega (arith, h.counted.threads); lower = omega (arith, h.counted.lower); gotos = omega (arith, h.counted.gotos) };
-      thread = omega (arith, h.thread);
-      base = omega (arith, h.base);
-      goto = omega (arith, h.goto);
-    }

@@ -1,11 +1,10 @@
 -- Where a program's gotos lead is what the table of its labels says: a goto in it is one that leads back to itself.
-use Rattle.std.proofs.Common.{◌≡◌, ℕ, zero, suc, ◌+◌, ◌≤◌, ◌<◌, Bool, true, false, Option, Some, None, List, [], ◌∷◌, map, length, get_or, slice_get, unwrap_or, drop, drop-cons, add-one, append_assoc, ◌++◌, if◌then◌else◌, ◌⊎◌, inl, inr, refl, ap, sym, subst, ◌∙◌, arith}
-use Rattle.std.specs.Prelude.{option_map, option_and_then, nat_lt}
+use Rattle.std.proofs.Common.{◌≡◌, ℕ, zero, suc, ◌+◌, ◌≤◌, ◌<◌, Bool, true, false, Option, Some, None, List, [], ◌∷◌, map, length, get_or, slice_get, unwrap_or, drop, drop-cons, add-one, append_assoc, ◌++◌, ◌⊎◌, inl, inr, refl, ap, sym, subst, ◌∙◌, arith}
+use Rattle.std.specs.Prelude.{option_map, option_and_then}
 use Rattle.std.specs.Map.{keys_of, values_of}
 use Rattle.std.specs.Str.{bytes_eq}
 use Rattle.std.specs.Cmp.Lexicographic.{same_text}
 use Rattle.std.proofs.Math.ListN.{get_or-map}
-use Rattle.std.proofs.lemmas.Bool.Decides.{nat_tests}
 use Rattle.std.proofs.lemmas.List.{length-map}
 use Rattle.std.proofs.lemmas.Map.Made.{lookup_key_passes}
 use Rattle.std.proofs.lemmas.Map.Entries.{length-keys_of}
@@ -21,9 +20,10 @@ use Rattle.scl_graph.specs.declared.way.Way.TheVariants as leads
 use Rattle.scl_graph.specs.declared.hops.Hop.{Hop}
 use Rattle.scl_graph.specs.declared.hops.Hop.TheVariants as hop
 use Rattle.scl_graph.specs.Inside.Gathering.{Noted, find, place_of}
-use Rattle.scl_graph.specs.Inside.Settling.{Best, IsSettled, at_place, better, better_of, further, hop_of, hop_to, hops_of, least, least_name, name_at, node_at, node_behind, onward}
+use Rattle.scl_graph.specs.Inside.Settling.{Best, IsSettled, at_place, further, hop_of, hop_to, hops_of, least, least_name, name_at, node_at, node_behind, onward}
 use Rattle.scl_graph.proofs.Circling.{AreBelow, Circles, at_some_place, circle_reached, circles, one_node, onward_further, onward_node, table_at}
 use Rattle.scl_graph.proofs.Fronts.{lands_of, stands, stands_front}
+use Rattle.scl_graph.proofs.LeastGoto.{least_new, least_stands, nobody, pair_of}
 
 -- the place of a label is that of its name, and there stands what was found of it
 pub place_below : (labels : Noted) (name : List ℕ) (p : ℕ) → place_of labels name ≡ Some p → p < length labels
@@ -130,84 +130,6 @@ pub hops_below : (labels : Noted) → AreBelow (hops_of labels)
 hops_below labels p g q is =
     let l : _ = led_to labels p g q is in
     subst (λ n. q < n) (sym (length-map labels (λ e. hop_of labels e.1))) (place_below labels l.0 q l.1)
-
-abbrev nobody : Best
-nobody = None
-
--- the goto with the least number of a table stands in it, and none in it has a lesser one
-abbrev pair_of : ℕ × ℕ → Best → ℕ × ℕ
-pair_of other None = other
-pair_of other (Some b) = b
-
-same_pair : (b c : ℕ × ℕ) → Some b ≡ Some c → b ≡ c
-same_pair b c e = ap (pair_of b) e
-
-goto_of : (b c : ℕ × ℕ) → Some b ≡ Some c → hop.Goto b.0 b.1 ≡ hop.Goto c.0 c.1
-goto_of b c e = ap (λ x. hop.Goto x.0 x.1) (same_pair b c e)
-
-picked : (test : Bool) (f r : ℕ) (b c : ℕ × ℕ) → (if test then Some (f, r) else Some b) ≡ Some c → (Some b ≡ Some c) ⊎ (hop.Goto f r ≡ hop.Goto c.0 c.1)
-picked true f r b c e = inr (goto_of (f, r) c e)
-picked false f r b c e = inl e
-
-better_stands : (best : Best) (f r : ℕ) (c : ℕ × ℕ) → better best f r ≡ Some c → (best ≡ Some c) ⊎ (hop.Goto f r ≡ hop.Goto c.0 c.1)
-better_stands None f r c e = inr (goto_of (f, r) c e)
-better_stands (Some b) f r c e = picked (nat_lt f b.0) f r b c e
-
-better_of_stands : (best : Best) (h : Hop) (c : ℕ × ℕ) → better_of best h ≡ Some c → (best ≡ Some c) ⊎ (h ≡ hop.Goto c.0 c.1)
-better_of_stands best (hop.Node n) c e = inl e
-better_of_stands best (hop.Goto f r) c e = better_stands best f r c e
-
-at_first : (best : Best) (h : Hop) (hops : List Hop) (c : ℕ × ℕ) → (best ≡ Some c) ⊎ (h ≡ hop.Goto c.0 c.1) → (best ≡ Some c) ⊎ ((p : ℕ) × (at_place (h ∷ hops) p ≡ hop.Goto c.0 c.1))
-at_first best h hops c (inl e) = inl e
-at_first best h hops c (inr e) = inr (0, e)
-
-further_on : (best : Best) (h : Hop) (hops : List Hop) (c : ℕ × ℕ) → (better_of best h ≡ Some c) ⊎ ((p : ℕ) × (at_place hops p ≡ hop.Goto c.0 c.1)) → (best ≡ Some c) ⊎ ((p : ℕ) × (at_place (h ∷ hops) p ≡ hop.Goto c.0 c.1))
-further_on best h hops c (inl e) = at_first best h hops c (better_of_stands best h c e)
-further_on best h hops c (inr e) = inr (suc e.0, e.1)
-
-least_stands : (best : Best) (hops : List Hop) (c : ℕ × ℕ) → least best hops ≡ Some c → (best ≡ Some c) ⊎ ((p : ℕ) × (at_place hops p ≡ hop.Goto c.0 c.1))
-least_stands best [] c is = inl is
-least_stands best (h ∷ hops) c is = further_on best h hops c (least_stands (better_of best h) hops c is)
-
--- the best one of those seen is no greater than this
-pub record IsNoGreater (best : Best) (f : ℕ) : Type 0 where
-  pub goto : ℕ × ℕ
-  pub known : best ≡ Some goto
-  pub le : goto.0 ≤ f
-
-no_greater_of : (test : Bool) (f r : ℕ) (b : ℕ × ℕ) → (test ≡ false → b.0 ≤ f) → IsNoGreater (if test then Some (f, r) else Some b) f
-no_greater_of true f r b le = record { goto = (f, r); known = refl; le = omega arith }
-no_greater_of false f r b le = record { goto = b; known = refl; le = le refl }
-
-better_new : (best : Best) (f r : ℕ) → IsNoGreater (better best f r) f
-better_new None f r = record { goto = (f, r); known = refl; le = omega arith }
-better_new (Some b) f r = no_greater_of (nat_lt f b.0) f r b (λ e. grind (arith, nat_tests, e))
-
-no_less : (test : Bool) (f r : ℕ) (b : ℕ × ℕ) (g : ℕ) → (test ≡ true → f < b.0) → b.0 ≤ g → IsNoGreater (if test then Some (f, r) else Some b) g
-no_less true f r b g lt le = let less : _ = lt refl in record { goto = (f, r); known = refl; le = omega (arith, less, le) }
-no_less false f r b g lt le = record { goto = b; known = refl; le = le }
-
-better_old : (best : Best) (f r g : ℕ) → IsNoGreater best g → IsNoGreater (better best f r) g
-better_old None f r g h = absurd (none-some h.goto h.known)
-better_old (Some b) f r g h =
-    let same : b ≡ h.goto = same_pair b h.goto h.known in
-    let first : b.0 ≡ h.goto.0 = ap (λ x. x.0) same in
-    let le : b.0 ≤ g = omega (arith, first, h.le) in
-    no_less (nat_lt f b.0) f r b g (λ e. grind (arith, nat_tests, e)) le
-
-better_of_old : (best : Best) (h : Hop) (g : ℕ) → IsNoGreater best g → IsNoGreater (better_of best h) g
-better_of_old best (hop.Node n) g old = old
-better_of_old best (hop.Goto f r) g old = better_old best f r g old
-
-least_old : (best : Best) (hops : List Hop) (g : ℕ) → IsNoGreater best g → IsNoGreater (least best hops) g
-least_old best [] g h = h
-least_old best (k ∷ hops) g h = least_old (better_of best k) hops g (better_of_old best k g h)
-
-least_new : (best : Best) (hops : List Hop) (p f r : ℕ) → at_place hops p ≡ hop.Goto f r → IsNoGreater (least best hops) f
-least_new best [] p f r is = absurd (no_goto f r 0 is)
-least_new best (h ∷ hops) zero f r is =
-    least_old (better_of best h) hops f (subst (λ k. IsNoGreater (better_of best k) f) (sym is) (better_new best f r))
-least_new best (h ∷ hops) (suc p) f r is = least_new (better_of best h) hops p f r is
 
 abbrev landing_in : Landing → Option Landing → Landing
 landing_in other None = other

@@ -3,8 +3,10 @@ mod Before
 mod Laid
 mod Branching
 mod Gathered
+mod SpotRooms
 mod Circling
 mod Fronts
+mod LeastGoto
 mod Leading
 mod Resolved
 mod Example

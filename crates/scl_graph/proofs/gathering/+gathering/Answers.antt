@@ -7,7 +7,8 @@ use Rattle.scl_graph.specs.declared.spots.Spot.{Spot}
 use Rattle.scl_graph.specs.Inside.Totals.{HasRoom, after, past, totals_of, totals_of_all}
 use Rattle.scl_graph.specs.Inside.Gathering.{IsGathered, Noted, landing_behind, landing_in}
 use Rattle.scl_graph.proofs.Laid.{ok_then, split_at}
-use Rattle.scl_graph.proofs.Gathered.{gathered_if, gathered_more, gathered_none, lands_behind, spot_room_more}
+use Rattle.scl_graph.proofs.Gathered.{gathered_if, gathered_more, gathered_none, lands_behind}
+use Rattle.scl_graph.proofs.SpotRooms.{spot_room_more}
 use Rattle.scl_graph.proofs.gathering.+gathering.Goals as goal
 
 pub gather-loop-i-init : goal.gather-loop-i-init

@@ -8,7 +8,8 @@ use Rattle.scl_graph.specs.declared.totals.Totals.{Totals}
 use Rattle.scl_graph.specs.Inside.Totals.{HasBranchesRoom, HasRoom, after, inside, past, past_branch, totals_of, totals_of_all}
 use Rattle.scl_graph.specs.Inside.Gathering.{AreBranchesGathered, AreForkedGathered, IsGathered, Noted}
 use Rattle.scl_graph.proofs.Laid.{ok_then, split_at}
-use Rattle.scl_graph.proofs.Gathered.{branches_gathered_more, branches_gathered_none, lower_fork, lower_if, lower_more, lower_none, spot_fork_room, spot_further_room, spot_room_more}
+use Rattle.scl_graph.proofs.Gathered.{branches_gathered_more, branches_gathered_none, lower_fork, lower_if, lower_more, lower_none}
+use Rattle.scl_graph.proofs.SpotRooms.{spot_fork_room, spot_further_room, spot_room_more}
 use Rattle.scl_graph.proofs.gathering.+gathering_forked.Goals as goal
 
 pub gather_forked-loop-statement-init : goal.gather_forked-loop-statement-init
