@@ -15,12 +15,20 @@ mod Segments
 mod Ways
 mod Laying
 mod Reaching
+mod Spreading
 mod Coming
 mod Whole
 mod Jumping
 mod Searching
 mod Scopes
 mod Texts
+mod Contents
 mod Gathering
 pub mod Keeping
+mod Looping
+mod Forkers
+mod Sources
+mod Operands
+mod Fitting
+pub mod Forming
 mod Rows

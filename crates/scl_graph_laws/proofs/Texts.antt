@@ -14,7 +14,7 @@ use Rattle.scl_graph_laws.proofs.Whole.{IsWhole, mirrors}
 abbrev pub at_first : Piece → Numbers
 at_first p = record { node = 0; thread = 1; base = suc p.counts.nodes; goto = 0 }
 
-text_is_whole : (variables : List Variable) (p : Piece) → RunsOn p → IsWhole (numbered_body variables p)
+pub text_is_whole : (variables : List Variable) (p : Piece) → RunsOn p → IsWhole (numbered_body variables p)
 text_is_whole variables p h =
     let last : Block = End (0 + p.counts.nodes) in
     let own : own_count (p.made (at_first p) last) ≡ p.counts.nodes + 0 = h.own (at_first p) last in
@@ -25,7 +25,7 @@ text_is_whole variables p h =
       numbers = numbered_at (p.made (at_first p) last) 0 1 (suc p.counts.nodes) 0 1 (suc (own_count (p.made (at_first p) last))) refl refl (omega (arith, own)) (h.numbered (at_first p) last tt);
     }
 
-all_run_on : (statements : List Statement) → AllRunOn (pieces_of statements)
+pub all_run_on : (statements : List Statement) → AllRunOn (pieces_of statements)
 all_run_on [] = tt
 all_run_on (s ∷ statements) = (statement_runs_on s, all_run_on statements)
 

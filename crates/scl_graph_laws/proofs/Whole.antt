@@ -12,7 +12,7 @@ use Rattle.scl.specs.Places.{Place, whole, IsBranch, here, later, IsChild, threa
 use Rattle.scl.specs.Numbering.{Numbered}
 use Rattle.scl_graph.specs.declared.way.Way.{Way}
 use Rattle.scl_graph.specs.declared.way.Way.TheVariants as goes
-use Rattle.scl_graph.specs.Graph.{node, own, end, of_thread, below, target, program_of}
+use Rattle.scl_graph.specs.Graph.{node, thread, own, end, of_thread, below, target, program_of}
 use Rattle.scl_graph_laws.specs.Mirrors.{HasNode, HasFirst, ForkPlace, Mirrors}
 use Rattle.scl_graph_laws.proofs.Members.{contains_none, contains_cons}
 use Rattle.scl_graph_laws.proofs.Numbers.{own_count, thread_count, IsNumbered}
@@ -20,7 +20,8 @@ use Rattle.scl_graph_laws.proofs.Segments.{StandAt, stand_first, stand_second, s
 use Rattle.scl_graph_laws.proofs.Laying.{own_length, thread_length, forked_length, HasThread, LaidIn, laid_in}
 use Rattle.scl_graph_laws.proofs.Ways.{before_end, body_leads}
 use Rattle.scl_graph_laws.proofs.Reaching.{HasBranch, Laid, body_goes, laid_at}
-use Rattle.scl_graph_laws.proofs.Coming.{ComesFromFork, Comes, HasParent, thread_comes, below_come, forked_come}
+use Rattle.scl_graph_laws.proofs.Spreading.{OfNodes, OfThreads, thread_each, below_each, forked_each}
+use Rattle.scl_graph_laws.proofs.Coming.{ComesFromFork, Comes, HasParent, nodes_come, threads_come}
 
 -- ---- the fork of a join
 
@@ -118,24 +119,31 @@ module _ (p : Numbered) (is_whole : IsWhole p) where
 
   -- ---- back from nodes and threads to places
 
-  nodes_come : EachAt (Comes root) 0 q.nodes
-  nodes_come =
-      each_append (Comes root) 0 (of_thread to 0 root) (below to root)
-      (thread_comes to root 0 root 0 1 (suc (own_count root)) is_whole.numbers whole)
-      (each_from (Comes root) (suc (own_count root)) (0 + length (of_thread to 0 root)) (below to root) (plus (thread_length to 0 root))
-      (below_come to root 0 root (End (end root)) 0 1 (suc (own_count root)) is_whole.numbers (subst (Place root 0) (sym (before_end root)) whole)))
+  pub each_node : (P : ℕ → Node → Type 0) → OfNodes root P → EachAt P 0 q.nodes
+  each_node P of =
+      each_append P 0 (of_thread to 0 root) (below to root)
+      (thread_each to root P of 0 root 0 1 (suc (own_count root)) (begins is_whole.end) is_whole.numbers whole)
+      (each_from P (suc (own_count root)) (0 + length (of_thread to 0 root)) (below to root) (plus (thread_length to 0 root))
+      (below_each to root P of 0 root (End (end root)) 0 1 (suc (own_count root)) is_whole.numbers (subst (Place root 0) (sym (before_end root)) whole)))
     where
+      begins : end root ≡ own_count root → end root ≡ 0 + own_count root
+      begins e = omega (arith, e)
+
       plus : length (of_thread to 0 root) ≡ suc (own_count root) → suc (own_count root) ≡ 0 + length (of_thread to 0 root)
       plus e = omega (arith, e)
 
-  threads_come : EachAt (HasParent root) 0 q.threads
-  threads_come = (
-    λ t h. absurd (none-some t h),
-    forked_come to root 0 root (End (end root)) 0 1 (suc (own_count root)) is_whole.numbers (subst (Place root 0) (sym (before_end root)) whole),
-  )
+  pub each_thread : (Q : ℕ → Thread → Type 0) → OfThreads root Q → Q 0 (thread to None root) → EachAt Q 0 q.threads
+  each_thread Q of first =
+      (first, forked_each to root Q of 0 root (End (end root)) 0 1 (suc (own_count root)) (omega arith) is_whole.numbers (subst (Place root 0) (sym (before_end root)) whole))
+
+  forks_come : EachAt (Comes root) 0 q.nodes
+  forks_come = each_node (Comes root) (nodes_come root)
+
+  parents_come : EachAt (HasParent root) 0 q.threads
+  parents_come = each_thread (HasParent root) (threads_come root) (λ t h. absurd (none-some t h))
 
   joined : (n t : ℕ) (children : List ℕ) → HasNode q n t (step.Fork children (suc n)) → joined_at q (suc n) ≡ Some children
-  joined n t children h = find_join root q.nodes 0 n (suc n) t children nodes_come (ap suc (plus n)) h.is
+  joined n t children h = find_join root q.nodes 0 n (suc n) t children forks_come (ap suc (plus n)) h.is
     where
       plus : (n : ℕ) → n ≡ 0 + n
       plus n = omega arith
@@ -159,7 +167,7 @@ module _ (p : Numbered) (is_whole : IsWhole p) where
 
   child_at : (u t : ℕ) (o : Option Thread) → slice_get q.threads u ≡ o → option_and_then (λ x. x.parent) o ≡ Some t → IsChild root u t
   child_at u t None there h = absurd (none-some t h)
-  child_at u t (Some x) there h = subst (λ u. IsChild root u t) (plus u) (each_at (HasParent root) 0 q.threads u x threads_come there t h)
+  child_at u t (Some x) there h = subst (λ u. IsChild root u t) (plus u) (each_at (HasParent root) 0 q.threads u x parents_come there t h).child
     where
       plus : (u : ℕ) → 0 + u ≡ u
       plus u = omega arith
@@ -167,7 +175,7 @@ module _ (p : Numbered) (is_whole : IsWhole p) where
   fork_at : (n t : ℕ) (children : List ℕ) (join : ℕ) (o : Option Node) → slice_get q.nodes n ≡ o → option_map (λ x. x.owner) o ≡ Some t → option_map (λ x. x.step) o ≡ Some (step.Fork children join) → ForkPlace root t children
   fork_at n t children join None there owner forks = absurd (none-some t owner)
   fork_at n t children join (Some x) there owner forks =
-      let from : ComesFromFork root (0 + n) x children join = each_at (Comes root) 0 q.nodes n x nodes_come there children join (same_Some x.step (step.Fork children join) forks) in
+      let from : ComesFromFork root (0 + n) x children join = each_at (Comes root) 0 q.nodes n x forks_come there children join (same_Some x.step (step.Fork children join) forks) in
       subst (λ t. ForkPlace root t children) (same_Some x.owner t owner) from.place
 
   pub mirrors : Mirrors p q

@@ -1,7 +1,7 @@
 //! The graph of an SCL program keeps its runs: the laws, over the definitions alone.
 #![tactic(auto)]
 
-ghost use Rattle.scl_graph_laws.specs.Laws.{GraphsKeepRuns, ProgramsKeepRuns};
+ghost use Rattle.scl_graph_laws.specs.Laws.{GraphsKeepRuns, ProgramsKeepRuns, ProgramsAreFormed};
 
 /// A program of nodes that mirrors a text keeps its runs, before the first tick and over every list of
 /// input ticks, if each place of the text leads to a statement: configurations of the two correspond,
@@ -11,8 +11,14 @@ pub fn graphs_keep_runs()
     ensures { GraphsKeepRuns }
 {}
 
-/// The program of an SCL program mirrors it, and keeps its runs if each place of the text leads to a
-/// statement. This function does nothing; its contract is the law.
+/// The program of an SCL program mirrors it, and keeps its runs if no labels and gotos alone lead back
+/// to themselves. This function does nothing; its contract is the law.
 pub fn programs_keep_runs()
     ensures { ProgramsKeepRuns }
+{}
+
+/// The program of an SCL program is formed, if no labels and gotos alone lead back to themselves and it
+/// has no more nodes and threads than an image may. This function does nothing; its contract is the law.
+pub fn programs_are_formed()
+    ensures { ProgramsAreFormed }
 {}
