@@ -1,7 +1,7 @@
 -- The program of an SCL program keeps the size rule, the budget aside, and the structure rule.
 use Rattle.std.proofs.Common.{◌≡◌, ℕ, zero, suc, ◌+◌, ◌<◌, ◌≤◌, true, Some, None, List, [], ◌∷◌, ◌++◌, map, length, take, slice_get, option_map, count_by, Contains, All, refl, sym, ap, subst, ◌∙◌, length-append, arith}
 use Rattle.std.proofs.lemmas.List.Elements.{All-contains_itself}
-use Rattle.std.proofs.lemmas.Option.{none-some, same_Some, slice_get_within}
+use Rattle.std.proofs.lemmas.Option.{same_Some, slice_get_within}
 use Rattle.std.proofs.lemmas.List.{append-nil}
 use Rattle.sc_values.specs.declared.value.Kind.TheVariants as kind_is
 use Rattle.sc_values.specs.declared.expression.Expr.{Expr}
@@ -14,7 +14,6 @@ use Rattle.sc_graph.specs.declared.program.Step.{Step}
 use Rattle.sc_graph.specs.declared.program.Step.TheVariants as step
 use Rattle.sc_graph.specs.Limits.{ancestor_limit, child_limit, output_limit, node_limit, thread_limit}
 use Rattle.sc_graph.specs.Program.{Program, step_at, parent_of, entry_of, is_target}
-use Rattle.sc_graph.specs.Threads.{Descends}
 use Rattle.sc_graph.specs.Size.{is_output, CountsFit, VariableFits, ParentFits, ThreadFits, InNodes, AreDistinct, StepFits, NodeFits}
 use Rattle.sc_graph.specs.Structure.{StepStays, JoinsAt, ForksChild, BelongsToOne, NodeStands, IsForkedOnce, ThreadStands}
 use Rattle.sc_graph.specs.Valid.{IsFormed}
@@ -23,7 +22,7 @@ use Rattle.sc_graph.proofs.Places.{fits_everywhere, stands_everywhere}
 use Rattle.scl.specs.declared.program.Scl.{Scl}
 use Rattle.scl.specs.Block.{Block, End, Assign, Label, Goto, Pause, If, Fork, Branches}
 use Rattle.scl.specs.Labels.{before}
-use Rattle.scl.specs.Places.{Place, whole, after_assign, after_label, after_goto, after_pause, in_first, in_second, after_if, after_fork, in_branch, IsBranch, threads_of}
+use Rattle.scl.specs.Places.{Place, whole, after_assign, after_label, after_goto, after_pause, in_first, in_second, after_if, after_fork, in_branch, threads_of}
 use Rattle.scl.specs.Numbering.{Piece, in_row, pieces_of, numbered}
 use Rattle.scl.specs.Rules.{Part, KeepsRules, IsAssignment, parts_of}
 use Rattle.scl.specs.Rules.{in_row as parts_in_row}
@@ -45,12 +44,13 @@ use Rattle.scl_graph_laws.proofs.Spreading.{OfNodes, OfThreads}
 use Rattle.scl_graph_laws.proofs.Coming.{ComesFromFork, Comes, nodes_come, branch_thread}
 use Rattle.scl_graph_laws.proofs.Whole.{IsWhole, each_node, each_thread}
 use Rattle.scl_graph_laws.proofs.Texts.{at_first, text_is_whole, all_run_on, program_mirrors}
-use Rattle.scl_graph_laws.proofs.Contents.{Gathered, content, content_among, content_at, assigned_in, tests_in, forks_in, Shallow, Inside, shallow_before, shallow_branch}
+use Rattle.scl_graph_laws.proofs.Contents.{Gathered, content, content_among, content_at, assigned_in, tests_in, forks_in, Shallow}
 use Rattle.scl_graph_laws.proofs.Gathering.{Gathers, text_gathers, distinct_names}
 use Rattle.scl_graph_laws.proofs.Scopes.{stay_within}
 use Rattle.scl_graph_laws.proofs.Jumping.{places_settle}
 use Rattle.scl_graph_laws.proofs.Looping.{no_loop_settles}
 use Rattle.scl_graph_laws.proofs.Keeping.{keeps_scopes}
+use Rattle.scl_graph_laws.proofs.Levels.{branch_parent, few_ancestors}
 use Rattle.scl_graph_laws.proofs.Forkers.{forkers, forked_in, forker_of}
 use Rattle.scl_graph_laws.proofs.Sources.{NodeFrom, at_statement, at_depth, at_join, node_sources, Pauses, nodes_pause}
 use Rattle.scl_graph_laws.proofs.Operands.{HasKind, operand_kinded, loads_within}
@@ -116,9 +116,6 @@ module _ (p : Scl) (kept : KeepsRules p.name p.variables p.body) (no_loop : HasN
 
   -- ---- threads
 
-  branch_parent : (t n u : ℕ) (branches : Branches) (body rest : Block) → Place root t (Fork n branches rest) → IsBranch branches u body → parent_of q u ≡ Some t
-  branch_parent t n u branches body rest place at = mirror.parents u t (record { node = n; branches = branches; is_fork = record { rest = rest; place = place }; branch = branch_thread branches u body at })
-
   thread_at_place : (t : ℕ) (todo : Block) → Place root t todo → t < length q.threads
   thread_at_place t todo whole = let threads_are : length q.threads ≡ suc made.counts.threads = mirror.threads in omega (arith, threads_are)
   thread_at_place t todo (after_assign s n x e rest place) = thread_at_place s (Assign n x e rest) place
@@ -129,45 +126,7 @@ module _ (p : Scl) (kept : KeepsRules p.name p.variables p.body) (no_loop : HasN
   thread_at_place t todo (in_second s n e a b rest place) = thread_at_place s (If n e a b rest) place
   thread_at_place t todo (after_if s n e a b rest place) = thread_at_place s (If n e a b rest) place
   thread_at_place t todo (after_fork s n branches rest place) = thread_at_place s (Fork n branches rest) place
-  thread_at_place t todo (in_branch s n u branches body rest place at) = within_threads q u s (branch_parent s n u branches body rest place at)
-
-  -- a thread with so many ancestors stands in a text where so many forks less stand in one another
-  record Level (n : ℕ) (todo : Block) : Type 0 where
-    less : ℕ
-    within : n + less ≤ ancestor_limit
-    shallow : Shallow less todo
-
-  level : (t : ℕ) (todo : Block) → Place root t todo → (n a : ℕ) → Descends q n t a → Level n todo
-  level t todo whole zero a h = record { less = ancestor_limit; within = omega arith; shallow = shallow_root }
-  level t todo whole (suc n) a h = absurd (none-some h.0 h.1)
-  level t todo (after_assign s m x e rest place) n a h = let l : Level n (Assign m x e rest) = level s (Assign m x e rest) place n a h in record { less = l.less; within = l.within; shallow = l.shallow }
-  level t todo (after_label s name rest place) n a h = let l : Level n (Label name rest) = level s (Label name rest) place n a h in record { less = l.less; within = l.within; shallow = l.shallow }
-  level t todo (after_goto s g name rest place) n a h = let l : Level n (Goto g name rest) = level s (Goto g name rest) place n a h in record { less = l.less; within = l.within; shallow = l.shallow }
-  level t todo (after_pause s m rest place) n a h = let l : Level n (Pause m rest) = level s (Pause m rest) place n a h in record { less = l.less; within = l.within; shallow = l.shallow }
-  level t todo (in_first s m e b c rest place) n a h =
-      let l : Level n (If m e b c rest) = level s (If m e b c rest) place n a h in
-      record { less = l.less; within = l.within; shallow = shallow_before l.less b rest l.shallow.0 l.shallow.2 }
-  level t todo (in_second s m e b c rest place) n a h =
-      let l : Level n (If m e b c rest) = level s (If m e b c rest) place n a h in
-      record { less = l.less; within = l.within; shallow = shallow_before l.less c rest l.shallow.1 l.shallow.2 }
-  level t todo (after_if s m e b c rest place) n a h = let l : Level n (If m e b c rest) = level s (If m e b c rest) place n a h in record { less = l.less; within = l.within; shallow = l.shallow.2 }
-  level t todo (after_fork s m branches rest place) n a h = let l : Level n (Fork m branches rest) = level s (Fork m branches rest) place n a h in record { less = l.less; within = l.within; shallow = l.shallow.1 }
-  level t todo (in_branch s m u branches body rest place at) zero a h =
-      let l : Level 0 (Fork m branches rest) = level s (Fork m branches rest) place 0 s refl in
-      let inner : Inside l.less body = shallow_branch l.less branches u body at l.shallow.0 in
-      let is : l.less ≡ suc inner.less = inner.is in
-      let within : 0 + l.less ≤ ancestor_limit = l.within in
-      record { less = inner.less; within = omega (arith, is, within); shallow = inner.shallow }
-  level t todo (in_branch s m u branches body rest place at) (suc n) a h =
-      let same : h.0 ≡ s = same_Some h.0 s (sym h.1 ∙ branch_parent s m u branches body rest place at) in
-      let l : Level n (Fork m branches rest) = level s (Fork m branches rest) place n a (subst (λ t. Descends q n t a) same h.2) in
-      let inner : Inside l.less body = shallow_branch l.less branches u body at l.shallow.0 in
-      let is : l.less ≡ suc inner.less = inner.is in
-      let within : n + l.less ≤ ancestor_limit = l.within in
-      record { less = inner.less; within = omega (arith, is, within); shallow = inner.shallow }
-
-  few_ancestors : (t : ℕ) (todo : Block) → Place root t todo → (u : ℕ) → ¬ Descends q (ancestor_limit + 1) t u
-  few_ancestors t todo place u h = let l : Level (ancestor_limit + 1) todo = level t todo place (ancestor_limit + 1) u h in let within : (ancestor_limit + 1) + l.less ≤ ancestor_limit = l.within in absurd (omega (arith, within))
+  thread_at_place t todo (in_branch s n u branches body rest place at) = within_threads q u s (branch_parent (numbered p) q mirror s n u branches body rest place at)
 
   -- ---- targets
 
@@ -379,7 +338,7 @@ module _ (p : Scl) (kept : KeepsRules p.name p.variables p.body) (no_loop : HasN
       let is_entry : is_target q t x.entry ≡ true = subst (λ n. is_target q t n ≡ true) entry (leads_target t at.body at.place) in (
         record {
           parent = thread_fact (λ u x. ParentFits u x.parent) (thread_parents root) refl t x there;
-          ancestors = few_ancestors t at.body at.place;
+          ancestors = few_ancestors (numbered p) q mirror refl ancestor_limit shallow_root t at.body at.place (ancestor_limit + 1) (omega arith);
           entry = (target_within q t x.entry is_entry).0;
         },
         record { entry = is_entry; forked = forked_by_one t from },

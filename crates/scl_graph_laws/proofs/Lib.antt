@@ -29,6 +29,7 @@ mod Looping
 mod Forkers
 mod Sources
 mod Operands
+mod Levels
 mod Fitting
 pub mod Forming
 mod Rows
