@@ -1,0 +1,9 @@
+//! Tests of the workers of a tick: whoever takes which step, its end is the same, and they work at once.
+#![tactic(auto)]
+
+#[cfg(test)]
+mod abro;
+#[cfg(test)]
+mod gates;
+#[cfg(test)]
+mod ticks;
