@@ -5,3 +5,6 @@ pub mod Going
 pub mod Pieces
 pub mod Nesting
 pub mod Drafting
+pub mod Firsts
+pub mod Indexed
+pub mod Flawed

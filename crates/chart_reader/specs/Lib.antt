@@ -1,5 +1,7 @@
 pub mod Draft
 pub mod ChartText
+pub mod First
+pub mod Flaws
 pub mod Inside
 pub mod Laws
 pub mod Reading

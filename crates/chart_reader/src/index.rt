@@ -1,0 +1,42 @@
+//! Names, looked up in a table that is made once.
+
+ghost use Rattle.std.specs.Prelude.{◌≡◌, ℕ, List, OnOk};
+ghost use Rattle.std.specs.BTreeMap.{get};
+ghost use Rattle.std.specs.Cmp.Lexicographic.{slice_cmp};
+ghost use Rattle.std.specs.Ordering.{nat_cmp};
+ghost use Rattle.chart_reader.specs.Flaws.{place_among};
+ghost use Rattle.chart_reader.specs.Inside.{IsIndex, with_name};
+
+use sc_values::Name;
+use std::alloc::AllocError;
+use std::collections::BTreeMap;
+
+/// Some names, each with its place among them.
+#[derive(Drop)]
+pub(crate) struct Index {
+    places: BTreeMap<Name, usize>,
+}
+
+impl Index {
+    /// Which of the names this is: the first of them that is equal. None: it is none of them.
+    pub(crate) fn place(&self, name: Name) -> Option<usize>
+        ensures { (names : List (List ℕ)) → IsIndex names self.now → result ≡ place_among names name }
+    {
+        match self.places.get(&name) {
+            Some(at) => Some(*at),
+            None => None,
+        }
+    }
+}
+
+// Puts a name at this place, where it has none yet.
+#[tactic(auto, using(crate::proofs::Indexed::noted, crate::proofs::Indexed::kept))]
+fn note(places: &mut BTreeMap<Name, usize>, name: Name, at: usize) -> Result<(), AllocError>
+    ensures { OnOk result ((q : List ℕ) → get (slice_cmp nat_cmp) places.new q ≡ with_name name at (get (slice_cmp nat_cmp) places.old q) q) }
+{
+    if places.contains_key(&name) {
+        return Ok(());
+    }
+    places.insert(name, at)?;
+    Ok(())
+}
