@@ -13,7 +13,6 @@ use Rattle.sc_values.specs.declared.expression.Expr.TheOpen as tree
 use Rattle.sc_graph.specs.declared.program.Variable.{Variable}
 use Rattle.sc_graph.specs.declared.program.Role.TheVariants as role
 use Rattle.sc_values.specs.declared.expression.Expr.TheVariants as expr
-use Rattle.scl.specs.declared.program.Scl.{Scl}
 use Rattle.scl.specs.declared.statement.Statement.{Statement}
 use Rattle.scl.specs.declared.statement.Statement.TheOpen as text
 use Rattle.scl.specs.declared.statement.Statement.TheVariants as statement
