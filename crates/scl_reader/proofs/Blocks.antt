@@ -1,6 +1,7 @@
 -- Reading statements in braces, and ifs.
 use Rattle.std.proofs.Common.{◌≡◌, ℕ, true, false, Some, None, Option, List, [], ◌∷◌, ◌++◌, drop, refl, sym, ◌∙◌, ap}
 use Rattle.std.proofs.lemmas.List.{append-nil}
+use Rattle.std.specs.List.{flat_map}
 use Rattle.grammar.specs.Grammar.{one, seq, maybe, many, made, headed}
 use Rattle.grammar.specs.Read.{Got, starts, next, choose, read}
 use Rattle.sc_text.specs.declared.token.Token.{Token}
@@ -17,7 +18,7 @@ use Rattle.scl_reader.specs.declared.statement.TextStatement.{TextStatement}
 use Rattle.scl_reader.specs.declared.statement.TextStatement.TheVariants as open_text
 use Rattle.scl_reader.specs.Statements.{Statements, none_or_them, if_statement}
 use Rattle.scl_reader.specs.Program.{Grows, block, test, choice}
-use Rattle.scl_reader.specs.Inside.{TakesValue, Adds, each_of, itself, alone}
+use Rattle.scl_reader.specs.Inside.{TakesValue, Adds, itself, alone}
 use Rattle.scl_reader.proofs.Taking.{after_got, after_stops_before, after_stops, before_got, before_stops, before_stops_behind, pair_got, pair_stops_first, pair_stops_second}
 
 abbrev opening : List Class
@@ -35,7 +36,7 @@ if_word = TheWord word.If ∷ []
 abbrev else_word : List Class
 else_word = TheWord word.Else ∷ []
 
-pub each_alone : {A : Type 0} (xs : List A) → each_of alone xs ≡ xs
+pub each_alone : {A : Type 0} (xs : List A) → flat_map alone xs ≡ xs
 each_alone [] = refl
 each_alone (x ∷ xs) = ap (λ l. x ∷ l) (each_alone xs)
 
@@ -51,7 +52,7 @@ module _ (s : Grows TextStatement) (text : List Token) where
     unfolding block
     body_stops end f h = after_stops opening (before (many s) closing) end text mid f t (before_stops closing (many s) end mid f h)
 
-    module _ (old new : Statements) (rest : List Token) (a : Adds (each_of alone) (read (many s) mid) old new rest) where
+    module _ (old new : Statements) (rest : List Token) (a : Adds (flat_map alone) (read (many s) mid) old new rest) where
       pub close_stops : (end : ℕ) (f : ReadFault) → Stops end (read (one {L = text_tokens} closing) rest) f → Stops end (read (block s) text) f
       unfolding block
       close_stops end f h =

@@ -1,5 +1,7 @@
 -- Reading declarations.
 use Rattle.std.proofs.Common.{◌≡◌, ℕ, suc, ◌<◌, true, false, List, [], ◌∷◌, ◌++◌, length, map, drop, refl, ◌∙◌, ap}
+use Rattle.std.proofs.lemmas.List.Concat.{flat_map_single}
+use Rattle.std.specs.List.{flat_map}
 use Rattle.grammar.specs.Grammar.{one, seq, many}
 use Rattle.grammar.specs.Read.{Outcome, Got, starts, read}
 use Rattle.sc_values.specs.declared.value.Kind.{Kind}
@@ -11,14 +13,13 @@ use Rattle.sc_text.specs.Reading.{Stops, Takes}
 use Rattle.scl_reader.specs.declared.draft.Declaration.{Declaration}
 use Rattle.scl_reader.specs.Draft.{declared}
 use Rattle.scl_reader.specs.Program.{Grows, name, semicolon, declaration}
-use Rattle.scl_reader.specs.Inside.{TakesName, TakesRole, TakesKind, Adds, IsGoing, each_of, roles, kinds, one_declared}
+use Rattle.scl_reader.specs.Inside.{TakesName, TakesRole, TakesKind, Adds, IsGoing, roles, kinds, one_declared}
 use Rattle.scl_reader.proofs.Names.{name_got}
 use Rattle.scl_reader.proofs.Taking.{before_got, before_stops, before_stops_behind, pair_got, pair_stops_first, pair_stops_second}
 use Rattle.scl_reader.proofs.Loops.{going_first, going_ends, going_over, going_stops, going_on}
 
-pub each_declared : (ds : List (Token × (Token × Token))) → each_of one_declared ds ≡ map declared ds
-each_declared [] = refl
-each_declared (d ∷ ds) = ap (λ l. declared d ∷ l) (each_declared ds)
+pub each_declared : (ds : List (Token × (Token × Token))) → flat_map one_declared ds ≡ map declared ds
+each_declared ds = flat_map_single declared ds
 
 -- ---- one declaration
 
@@ -75,11 +76,11 @@ module _ (text : List Token) where
 -- ---- all of them
 
 module _ (o : Outcome Token (List (Token × (Token × Token)))) (old mid : List Declaration) where
-  pub declarations_end : (left : ℕ) (rest : List Token) → IsGoing declaration one_declared o old mid left rest → starts text_tokens roles rest ≡ false → Adds (each_of one_declared) o old mid rest
+  pub declarations_end : (left : ℕ) (rest : List Token) → IsGoing declaration one_declared o old mid left rest → starts text_tokens roles rest ≡ false → Adds (flat_map one_declared) o old mid rest
   unfolding declaration
   declarations_end left rest h e = going_ends declaration one_declared o old mid left rest h e
 
-  pub declarations_over : (left : ℕ) (rest : List Token) → left ≡ 0 → IsGoing declaration one_declared o old mid left rest → Adds (each_of one_declared) o old mid rest
+  pub declarations_over : (left : ℕ) (rest : List Token) → left ≡ 0 → IsGoing declaration one_declared o old mid left rest → Adds (flat_map one_declared) o old mid rest
   declarations_over left rest z h = going_over declaration one_declared o old mid left rest z h
 
   pub declarations_stop : (left : ℕ) (rest : List Token) (end : ℕ) (f : ReadFault) → 0 < left → IsGoing declaration one_declared o old mid left rest → starts text_tokens roles rest ≡ true → Stops end (read declaration rest) f → Stops end o f

@@ -1,5 +1,7 @@
 -- Reading forks and their branches.
 use Rattle.std.proofs.Common.{◌≡◌, ℕ, List, [], ◌∷◌, ◌++◌, map, refl, ◌∙◌, ap}
+use Rattle.std.proofs.lemmas.List.Concat.{flat_map_single}
+use Rattle.std.specs.List.{flat_map}
 use Rattle.grammar.specs.Grammar.{one, many}
 use Rattle.grammar.specs.Read.{read}
 use Rattle.sc_text.specs.declared.token.Token.{Token}
@@ -14,15 +16,14 @@ use Rattle.scl_reader.specs.declared.statement.TextStatement.{TextStatement}
 use Rattle.scl_reader.specs.declared.statement.TextStatement.TheVariants as open_text
 use Rattle.scl_reader.specs.Statements.{Statements, branch_of, fork_statement}
 use Rattle.scl_reader.specs.Program.{Grows, semicolon, block, branch, fork}
-use Rattle.scl_reader.specs.Inside.{Adds, each_of, itself, alone, one_branch}
+use Rattle.scl_reader.specs.Inside.{Adds, itself, alone, one_branch}
 use Rattle.scl_reader.proofs.Taking.{before_got, before_stops, before_stops_behind, pair_got, pair_stops_first, pair_stops_second, taken_place}
 
 abbrev join_word : List Class
 join_word = TheWord word.Join ∷ []
 
-each_branch : (bs : List (Token × Statements)) → each_of one_branch bs ≡ map branch_of bs
-each_branch [] = refl
-each_branch (b ∷ bs) = ap (λ l. branch_of b ∷ l) (each_branch bs)
+each_branch : (bs : List (Token × Statements)) → flat_map one_branch bs ≡ map branch_of bs
+each_branch bs = flat_map_single branch_of bs
 
 -- ---- a branch
 
@@ -69,7 +70,7 @@ module _ (s : Grows TextStatement) (text : List Token) where
     branches_stop end f h =
         further_stops end f (before_stops semicolon (before (many (branch word.Par s)) join_word) end more f (before_stops join_word (many (branch word.Par s)) end more f h))
 
-    module _ (all : List (ℕ × Statements)) (rest : List Token) (c : Adds (each_of one_branch) (read (many (branch word.Par s)) more) one_there all rest) where
+    module _ (all : List (ℕ × Statements)) (rest : List Token) (c : Adds (flat_map one_branch) (read (many (branch word.Par s)) more) one_there all rest) where
       pub join_stops : (end : ℕ) (f : ReadFault) → Stops end (read (one {L = text_tokens} join_word) rest) f → Stops end (read (fork s) text) f
       join_stops end f h =
           further_stops end f
@@ -85,7 +86,7 @@ module _ (s : Grows TextStatement) (text : List Token) where
         unfolding fork
         fork_reads after old new e z b =
             let first : one_there ≡ branch_of a.meaning ∷ [] = a.behind ∙ ap (λ o. o ++ branch_of a.meaning ∷ []) z in
-            let whole : all ≡ branch_of a.meaning ∷ map branch_of c.meaning = c.behind ∙ ap (λ o. o ++ each_of one_branch c.meaning) first ∙ ap (λ l. branch_of a.meaning ∷ l) (each_branch c.meaning) in
+            let whole : all ≡ branch_of a.meaning ∷ map branch_of c.meaning = c.behind ∙ ap (λ o. o ++ flat_map one_branch c.meaning) first ∙ ap (λ l. branch_of a.meaning ∷ l) (each_branch c.meaning) in
             record {
               meaning = fork_statement a.meaning c.meaning;
               is =

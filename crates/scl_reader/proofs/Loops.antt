@@ -1,6 +1,8 @@
 -- Reading many phrases: what one round of the loop over them adds, and where it stops.
 use Rattle.std.proofs.Common.{◌≡◌, ℕ, zero, suc, ◌<◌, Bool, true, false, List, [], ◌∷◌, ◌++◌, length, refl, sym, ◌∙◌, ap, subst, arith}
 use Rattle.std.proofs.lemmas.List.{append_assoc, append-nil}
+use Rattle.std.proofs.lemmas.Grind.{flat_map-append}
+use Rattle.std.specs.List.{flat_map}
 use Rattle.grammar.specs.Grammar.{many}
 use Rattle.grammar.specs.Predictive.{first}
 use Rattle.grammar.specs.Read.{Outcome, Got, Failed, starts, next, choose, read_each, read}
@@ -15,13 +17,8 @@ use Rattle.sc_text.proofs.Steps.{next_stops, stops_as}
 use Rattle.scl_reader.specs.declared.statement.TextStatement.{TextStatement}
 use Rattle.scl_reader.specs.Statements.{Statements}
 use Rattle.scl_reader.specs.Program.{Grows, branch}
-use Rattle.scl_reader.specs.Inside.{Adds, IsGoing, each_of, alone, one_branch, statement_classes, inner_forks, inner_ifs, within}
+use Rattle.scl_reader.specs.Inside.{Adds, IsGoing, alone, one_branch, statement_classes, inner_forks, inner_ifs, within}
 use Rattle.scl_reader.proofs.Shapes.{statement_is, forks_fit, ifs_fit}
-
-each_append : {A X : Type 0} (gives : A → List X) (xs ys : List A) → each_of gives (xs ++ ys) ≡ each_of gives xs ++ each_of gives ys
-each_append gives [] ys = refl
-each_append gives (x ∷ xs) ys =
-    ap (λ l. gives x ++ l) (each_append gives xs ys) ∙ sym (append_assoc (gives x) (each_of gives xs) (each_of gives ys))
 
 none_done : {A : Type 0} (o : Outcome Token (List A)) → o ≡ next o (λ xs end. Got ([] ++ xs) end)
 none_done (Got xs rest) = refl
@@ -49,7 +46,7 @@ module _ {A X : Type 0} (g : Grows A) (gives : A → List X) where
       }
 
   module _ (o : Outcome Token (List A)) (old mid : List X) where
-    ended : (left : ℕ) (rest : List Token) → IsGoing g gives o old mid left rest → read_each begins (read g) left rest ≡ Got [] rest → Adds (each_of gives) o old mid rest
+    ended : (left : ℕ) (rest : List Token) → IsGoing g gives o old mid left rest → read_each begins (read g) left rest ≡ Got [] rest → Adds (flat_map gives) o old mid rest
     ended left rest h e =
         record {
           meaning = h.done;
@@ -57,10 +54,10 @@ module _ {A X : Type 0} (g : Grows A) (gives : A → List X) where
           behind = h.behind;
         }
 
-    pub going_ends : (left : ℕ) (rest : List Token) → IsGoing g gives o old mid left rest → begins rest ≡ false → Adds (each_of gives) o old mid rest
+    pub going_ends : (left : ℕ) (rest : List Token) → IsGoing g gives o old mid left rest → begins rest ≡ false → Adds (flat_map gives) o old mid rest
     going_ends left rest h e = ended left rest h (ends_each left rest e)
 
-    pub going_over : (left : ℕ) (rest : List Token) → left ≡ 0 → IsGoing g gives o old mid left rest → Adds (each_of gives) o old mid rest
+    pub going_over : (left : ℕ) (rest : List Token) → left ≡ 0 → IsGoing g gives o old mid left rest → Adds (flat_map gives) o old mid rest
     going_over left rest z h = ended left rest h (ap (λ n. read_each begins (read g) n rest) z)
 
     one_round : (n : ℕ) (rest : List Token) → (h : IsGoing g gives o old mid (suc n) rest) → begins rest ≡ true → o ≡ next (next (read g rest) (λ x r. next (read_each begins (read g) n r) (λ xs end. Got (x ∷ xs) end))) (λ xs end. Got (h.done ++ xs) end)
@@ -84,8 +81,8 @@ module _ {A X : Type 0} (g : Grows A) (gives : A → List X) where
           behind =
               a.behind
               ∙ ap (λ m. m ++ gives a.meaning) k.behind
-              ∙ append_assoc old (each_of gives k.done) (gives a.meaning)
-              ∙ ap (λ l. old ++ l) (ap (λ l. each_of gives k.done ++ l) (sym (append-nil (gives a.meaning))) ∙ sym (each_append gives k.done (a.meaning ∷ [])));
+              ∙ append_assoc old (flat_map gives k.done) (gives a.meaning)
+              ∙ ap (λ l. old ++ l) (ap (λ l. flat_map gives k.done ++ l) (sym (append-nil (gives a.meaning))) ∙ sym (flat_map-append gives k.done (a.meaning ∷ [])));
         }
 
 -- ---- statements
@@ -103,10 +100,10 @@ module _ (forks ifs : ℕ) where
   within_begins text left lines e = going_first (within forks ifs) alone text left lines e
 
   module _ (o : Outcome Token (List TextStatement)) (old mid : Statements) where
-    pub within_ends : (left : ℕ) (rest : List Token) → IsGoing (within forks ifs) alone o old mid left rest → starts text_tokens statement_classes rest ≡ false → Adds (each_of alone) o old mid rest
+    pub within_ends : (left : ℕ) (rest : List Token) → IsGoing (within forks ifs) alone o old mid left rest → starts text_tokens statement_classes rest ≡ false → Adds (flat_map alone) o old mid rest
     within_ends left rest h e = going_ends (within forks ifs) alone o old mid left rest h (within_starts forks ifs rest false e)
 
-    pub within_over : (left : ℕ) (rest : List Token) → left ≡ 0 → IsGoing (within forks ifs) alone o old mid left rest → Adds (each_of alone) o old mid rest
+    pub within_over : (left : ℕ) (rest : List Token) → left ≡ 0 → IsGoing (within forks ifs) alone o old mid left rest → Adds (flat_map alone) o old mid rest
     within_over left rest z h = going_over (within forks ifs) alone o old mid left rest z h
 
     pub within_stops : (left : ℕ) (rest : List Token) (end : ℕ) (f : ReadFault) → 0 < left → IsGoing (within forks ifs) alone o old mid left rest → starts text_tokens statement_classes rest ≡ true → Stops end (read (within forks ifs) rest) f → Stops end o f
@@ -131,10 +128,10 @@ module _ (forks : ℕ) where
   branches_begin text left lines e = going_first (branch word.Par (within forks 32)) one_branch text left lines e
 
   module _ (o : Outcome Token (List (Token × Statements))) (old mid : List (ℕ × Statements)) where
-    pub branches_end : (left : ℕ) (rest : List Token) → IsGoing (branch word.Par (within forks 32)) one_branch o old mid left rest → starts text_tokens par_word rest ≡ false → Adds (each_of one_branch) o old mid rest
+    pub branches_end : (left : ℕ) (rest : List Token) → IsGoing (branch word.Par (within forks 32)) one_branch o old mid left rest → starts text_tokens par_word rest ≡ false → Adds (flat_map one_branch) o old mid rest
     branches_end left rest h e = going_ends (branch word.Par (within forks 32)) one_branch o old mid left rest h (branch_starts rest false e)
 
-    pub branches_over : (left : ℕ) (rest : List Token) → left ≡ 0 → IsGoing (branch word.Par (within forks 32)) one_branch o old mid left rest → Adds (each_of one_branch) o old mid rest
+    pub branches_over : (left : ℕ) (rest : List Token) → left ≡ 0 → IsGoing (branch word.Par (within forks 32)) one_branch o old mid left rest → Adds (flat_map one_branch) o old mid rest
     branches_over left rest z h = going_over (branch word.Par (within forks 32)) one_branch o old mid left rest z h
 
     pub branch_stops : (left : ℕ) (rest : List Token) (end : ℕ) (f : ReadFault) → 0 < left → IsGoing (branch word.Par (within forks 32)) one_branch o old mid left rest → starts text_tokens par_word rest ≡ true → Stops end (read (branch word.Par (within forks 32)) rest) f → Stops end o f

@@ -1,5 +1,6 @@
 -- Reading a whole program.
 use Rattle.std.proofs.Common.{◌≡◌, ℕ, List, [], ◌∷◌, ◌++◌, map, drop, refl, sym, ◌∙◌, ap, subst}
+use Rattle.std.specs.List.{flat_map}
 use Rattle.grammar.specs.Grammar.{one, seq, many}
 use Rattle.grammar.specs.Read.{Wrong, Got, Failed, next, ended, read, read_all}
 use Rattle.sc_text.specs.declared.token.Token.{Token}
@@ -15,7 +16,7 @@ use Rattle.scl_reader.specs.declared.draft.Draft.{Draft}
 use Rattle.scl_reader.specs.Statements.{Statements}
 use Rattle.scl_reader.specs.Draft.{declared}
 use Rattle.scl_reader.specs.Program.{Grows, Text, name, declaration, program, thread, scl}
-use Rattle.scl_reader.specs.Inside.{TakesName, Adds, AddsBody, Drafts, in_braces, each_of, alone, one_declared, inner_forks, inner_ifs, within}
+use Rattle.scl_reader.specs.Inside.{TakesName, Adds, AddsBody, Drafts, in_braces, alone, one_declared, inner_forks, inner_ifs, within}
 use Rattle.scl_reader.proofs.Blocks.{each_alone}
 use Rattle.scl_reader.proofs.Declaring.{each_declared}
 use Rattle.scl_reader.proofs.Names.{name_got}
@@ -47,14 +48,14 @@ module _ (text : List Token) where
     declarations_stop end f s =
         in_body end f (before_stops closing inner end inside f (pair_stops_first (many declaration) (many (within 32 32)) end inside f s))
 
-    module _ (old_variables variables : List Declaration) (start : List Token) (a : Adds (each_of one_declared) (read (many declaration) inside) old_variables variables start) where
+    module _ (old_variables variables : List Declaration) (start : List Token) (a : Adds (flat_map one_declared) (read (many declaration) inside) old_variables variables start) where
       pub statements_stop : (end : ℕ) (f : ReadFault) → Stops end (read (many (within 32 32)) start) f → Stops end (read in_braces text) f
       statements_stop end f s =
           in_body end f
           (before_stops closing inner end inside f
           (pair_stops_second (many declaration) (many (within 32 32)) end inside start a.meaning f a.is s))
 
-      module _ (old_statements statements : Statements) (rest : List Token) (c : Adds (each_of alone) (read (many (within 32 32)) start) old_statements statements rest) where
+      module _ (old_statements statements : Statements) (rest : List Token) (c : Adds (flat_map alone) (read (many (within 32 32)) start) old_statements statements rest) where
         inner_got : read inner inside ≡ Got (a.meaning, c.meaning) rest
         inner_got =
             pair_got (many declaration) (many (within 32 32)) inside start rest a.meaning c.meaning a.is c.is

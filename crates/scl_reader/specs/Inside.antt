@@ -1,5 +1,6 @@
 -- What private functions that read the parts of a program say. It is proved, and no public contract rests on what it means.
 use Rattle.std.specs.Prelude.{ℕ, ◌≡◌, List, [], ◌∷◌, ◌++◌, drop, map}
+use Rattle.std.specs.List.{flat_map}
 use Rattle.grammar.specs.Grammar.{seq, many}
 use Rattle.grammar.specs.Predictive.{first}
 use Rattle.grammar.specs.Read.{Outcome, Got, next, starts, read, read_each}
@@ -39,15 +40,11 @@ pub record Adds {A X : Type 0} (gives : A → List X) (o : Outcome Token A) (old
   pub is : o ≡ Got meaning rest
   pub behind : new ≡ old ++ gives meaning
 
-abbrev pub each_of : {A X : Type 0} → (A → List X) → List A → List X
-each_of gives [] = []
-each_of gives (x ∷ xs) = gives x ++ each_of gives xs
-
 -- some of many phrases were read, and what they give stands behind the old items; so many more may follow
 pub record IsGoing {A X : Type 0} (g : Grows A) (gives : A → List X) (o : Outcome Token (List A)) (old new : List X) (left : ℕ) (rest : List Token) : Type 0 where
   pub done : List A
   pub is : o ≡ next (read_each (starts text_tokens (first g)) (read g) left rest) (λ xs end. Got (done ++ xs) end)
-  pub behind : new ≡ old ++ each_of gives done
+  pub behind : new ≡ old ++ flat_map gives done
 
 abbrev pub itself : {A : Type 0} → A → A
 itself x = x

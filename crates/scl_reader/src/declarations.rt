@@ -1,13 +1,14 @@
 //! Reading the declarations of variables.
 
 ghost use Rattle.std.specs.Prelude.{◌≡◌, [], ◌∷◌, MatchResult};
+ghost use Rattle.std.specs.List.{flat_map};
 ghost use Rattle.grammar.specs.Grammar.{one, many};
 ghost use Rattle.grammar.specs.Read.{read, starts};
 ghost use Rattle.sc_text.specs.Expression.{text_tokens};
 ghost use Rattle.sc_text.specs.Reading.{Stops};
 ghost use Rattle.scl_reader.specs.Draft.{role_of, kind_of};
 ghost use Rattle.scl_reader.specs.Program.{declaration};
-ghost use Rattle.scl_reader.specs.Inside.{Adds, each_of, TakesRole, TakesKind, roles, kinds, one_declared};
+ghost use Rattle.scl_reader.specs.Inside.{Adds, TakesRole, TakesKind, roles, kinds, one_declared};
 
 use crate::draft::Declaration;
 use crate::name::name;
@@ -26,7 +27,8 @@ pub fn declarations<'a>(
     declarations: &mut Items<Declaration>,
 ) -> Result<&'a [Token], ReadFault>
     ensures { MatchResult result
-        (λ rest. Adds (each_of one_declared) (read (many declaration) tokens.now) declarations.old declarations.new rest.now)
+        (λ rest. Adds (flat_map one_declared) (read (many declaration) tokens.now)
+        declarations.old declarations.new rest.now)
         (λ fault. Stops end (read (many declaration) tokens.now) fault) }
 {
     let mut rest = tokens;

@@ -1,6 +1,7 @@
 //! Reading statements: a function for each rule of their grammar.
 
 ghost use Rattle.std.specs.Prelude.{◌≡◌, [], ◌∷◌, MatchResult};
+ghost use Rattle.std.specs.List.{flat_map};
 ghost use Rattle.grammar.specs.Grammar.{maybe, many};
 ghost use Rattle.grammar.specs.Read.{read, starts};
 ghost use Rattle.sc_text.specs.Classes.{TheWord};
@@ -8,7 +9,7 @@ ghost use Rattle.sc_text.specs.Expression.{text_tokens, after, expression};
 ghost use Rattle.sc_text.specs.Reading.{Stops};
 ghost use Rattle.scl_reader.specs.Statements.{none_or_them};
 ghost use Rattle.scl_reader.specs.Program.{block, test, choice, branch, fork};
-ghost use Rattle.scl_reader.specs.Inside.{Adds, TakesValue, itself, alone, each_of, one_branch, statement_classes, within, no_if};
+ghost use Rattle.scl_reader.specs.Inside.{Adds, TakesValue, itself, alone, one_branch, statement_classes, within, no_if};
 
 use crate::name::name_follows;
 use crate::simple::simple;
@@ -50,7 +51,7 @@ pub fn statements<'a>(
     into: &mut Items<TextStatement>,
 ) -> Result<&'a [Token], ReadFault>
     ensures { MatchResult result
-        (λ rest. Adds (each_of alone) (read (many (within forks ifs)) tokens.now) into.old into.new rest.now)
+        (λ rest. Adds (flat_map alone) (read (many (within forks ifs)) tokens.now) into.old into.new rest.now)
         (λ fault. Stops end (read (many (within forks ifs)) tokens.now) fault) }
 {
     let mut rest = tokens;
@@ -190,8 +191,10 @@ fn otherwise<'a>(
     into: &mut Items<TextStatement>,
 ) -> Result<&'a [Token], ReadFault>
     ensures { MatchResult result
-        (λ rest. Adds none_or_them (read (maybe (after (TheWord Word.Else ∷ []) (block (within forks ifs)))) tokens.now) into.old into.new rest.now)
-        (λ fault. Stops end (read (maybe (after (TheWord Word.Else ∷ []) (block (within forks ifs)))) tokens.now) fault) }
+        (λ rest. Adds none_or_them (read (maybe (after (TheWord Word.Else ∷ []) (block (within forks ifs)))) tokens.now)
+        into.old into.new rest.now)
+        (λ fault. Stops end
+        (read (maybe (after (TheWord Word.Else ∷ []) (block (within forks ifs)))) tokens.now) fault) }
 {
     if !word_follows(tokens, Word::Else) {
         return Ok(tokens);
@@ -233,7 +236,8 @@ fn branches<'a>(
     into: &mut Items<(usize, Items<TextStatement>)>,
 ) -> Result<&'a [Token], ReadFault>
     ensures { MatchResult result
-        (λ rest. Adds (each_of one_branch) (read (many (branch Word.Par (within forks 32))) tokens.now) into.old into.new rest.now)
+        (λ rest. Adds (flat_map one_branch) (read (many (branch Word.Par (within forks 32))) tokens.now)
+        into.old into.new rest.now)
         (λ fault. Stops end (read (many (branch Word.Par (within forks 32))) tokens.now) fault) }
 {
     let mut rest = tokens;
