@@ -1,6 +1,6 @@
 //! Names, looked up in a table that is made once.
 
-ghost use Rattle.std.specs.Prelude.{◌≡◌, ℕ, List, OnOk};
+ghost use Rattle.std.specs.Prelude.{◌≡◌, ℕ, List, IfOk, OnOk};
 ghost use Rattle.std.specs.BTreeMap.{get};
 ghost use Rattle.std.specs.Cmp.Lexicographic.{slice_cmp};
 ghost use Rattle.std.specs.Ordering.{nat_cmp};
@@ -8,7 +8,7 @@ ghost use Rattle.chart_reader.specs.Flaws.{place_among};
 ghost use Rattle.chart_reader.specs.Inside.{IsIndex, with_name};
 
 use sc_values::Name;
-use std::alloc::AllocError;
+use std::alloc::{AllocError, Global};
 use std::collections::BTreeMap;
 
 /// Some names, each with its place among them.
@@ -18,6 +18,18 @@ pub(crate) struct Index {
 }
 
 impl Index {
+    /// The table of these names. Err: memory was refused.
+    #[tactic(auto, using(crate::proofs::Indexed::place_in_more))]
+    pub(crate) fn of(alloc: Global, names: &[Name]) -> Result<Index, AllocError>
+        ensures { IfOk result (λ index. IsIndex names.now index) }
+    {
+        let mut places = BTreeMap::new(alloc);
+        for at in 0..names.len() {
+            note(&mut places, names[at], at)?;
+        }
+        Ok(Index { places })
+    }
+
     /// Which of the names this is: the first of them that is equal. None: it is none of them.
     pub(crate) fn place(&self, name: Name) -> Option<usize>
         ensures { (names : List (List ℕ)) → IsIndex names self.now → result ≡ place_among names name }
