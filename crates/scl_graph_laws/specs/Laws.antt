@@ -6,7 +6,7 @@ use Rattle.scl.specs.Numbering.{Numbered, numbered}
 use Rattle.scl.specs.Rules.{KeepsRules}
 use Rattle.scl_graph.specs.Graph.{program_of}
 use Rattle.scl_graph.specs.Loops.{HasNoEmptyLoop}
-use Rattle.scl_graph.specs.Answers.{FitsImage, counts_in}
+use Rattle.scl_graph.specs.Answers.{FitsImage, counts_in, IsGraph}
 use Rattle.scl_graph_laws.specs.Settling.{Settling}
 use Rattle.scl_graph_laws.specs.Mirrors.{Mirrors}
 use Rattle.scl_graph_laws.specs.Keeps.{HaveOwnNames, Keeps}
@@ -25,3 +25,7 @@ pub record ProgramsKeepRuns : Type 0 where
 -- the structure rule
 abbrev pub ProgramsAreFormed : Type 0
 ProgramsAreFormed = (p : Scl) → KeepsRules p.name p.variables p.body → HasNoEmptyLoop (numbered p).root → FitsImage (counts_in p) → IsFormed (program_of (numbered p))
+
+-- so what is answered as the graph of an SCL program keeps its runs, and is formed
+abbrev pub AnsweredGraphs : Type 0
+AnsweredGraphs = (p : Scl) (q : Program) → KeepsRules p.name p.variables p.body → IsGraph p q → Keeps (numbered p) q × IsFormed q
