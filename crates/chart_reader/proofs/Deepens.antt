@@ -5,15 +5,15 @@ use Rattle.sc_text.specs.declared.word.Word.{Word}
 use Rattle.sc_text.specs.Phrases.{Phrase}
 use Rattle.sc_text.specs.Expression.{expression}
 use Rattle.sc_text.proofs.Deepens.{Above, above_none, above_more, above_by, expression_wider}
-use Rattle.chart_reader.specs.declared.draft.Named.{Named}
+use Rattle.draft_parts.specs.declared.parts.Named.{Named}
 use Rattle.chart_reader.specs.declared.draft.DraftEffect.{DraftEffect}
-use Rattle.chart_reader.specs.declared.draft.DraftExpression.{DraftExpression}
+use Rattle.draft_parts.specs.declared.parts.TextExpression.{TextExpression}
 use Rattle.chart_reader.specs.declared.draft.DraftTransition.{DraftTransition}
 use Rattle.chart_reader.specs.declared.draft.DraftRegion.{DraftRegion}
 use Rattle.chart_reader.specs.declared.draft.DraftState.{DraftState}
 use Rattle.chart_reader.specs.declared.draft.DraftChart.{DraftChart}
-use Rattle.chart_reader.specs.declared.draft.Declaration.{Declaration}
-use Rattle.chart_reader.specs.ChartText.{Grows, name, last_name, declared_role, declared_kind, declaration, flag, placed, effect, next_effect, some_effects, effects, target, trigger, deed, termination, tested, transition, leaving, Inner, NoMore, Nested, bare, inside, simple, body, state, states, region, within, chart, chart_text}
+use Rattle.draft_parts.specs.declared.parts.Declaration.{Declaration}
+use Rattle.chart_reader.specs.ChartText.{Grows, name, last_name, declaration, flag, placed, effect, next_effect, some_effects, effects, target, trigger, deed, termination, tested, transition, leaving, Inner, NoMore, Nested, bare, inside, body, state, states, region, within, chart, chart_text}
 use Rattle.chart_reader.proofs.Shapes.{chart_text_is}
 
 data Opened : Inner → Inner → Type 1 where
@@ -43,7 +43,7 @@ unfolding target
 target_same = deeper_made _ _ _ _ _ (deeper_seq _ _ _ _ _ _ (same_one _) last_name_same)
 
 module _ (e e' : Grows Phrase) (w : Deeper Phrase e e') where
-  placed_wider : Deeper DraftExpression (placed e) (placed e')
+  placed_wider : Deeper TextExpression (placed e) (placed e')
   unfolding placed
   placed_wider = deeper_made _ _ _ _ _ (deeper_headed _ _ _ w)
 

@@ -5,6 +5,4 @@ pub mod Going
 pub mod Pieces
 pub mod Nesting
 pub mod Drafting
-pub mod Firsts
-pub mod Indexed
 pub mod Flawed

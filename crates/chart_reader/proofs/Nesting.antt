@@ -1,9 +1,8 @@
 -- What reading gives for states and regions, which stand in one another.
 use Rattle.std.proofs.Common.{◌≡◌, ℕ, zero, suc, ◌-◌, Bool, true, false, List, [], ◌∷◌, ◌++◌, length, drop, refl, sym, ◌∙◌, ap, subst, arith}
-use Rattle.grammar.specs.Grammar.{Grammar, one, seq, many}
+use Rattle.grammar.specs.Grammar.{one, seq, many}
 use Rattle.grammar.specs.Predictive.{first}
-use Rattle.grammar.specs.Read.{Deep, Outcome, Failed, starts, choose, read}
-use Rattle.grammar.proofs.Shaped.{Shaped}
+use Rattle.grammar.specs.Read.{Deep, Failed, starts, choose, read}
 use Rattle.sc_text.specs.declared.word.Word.TheVariants as word
 use Rattle.sc_text.specs.declared.sign.Sign.TheVariants as sign
 use Rattle.sc_text.specs.declared.token.Token.{Token}
@@ -14,17 +13,17 @@ use Rattle.sc_text.specs.Reading.{Stops, Takes}
 use Rattle.sc_text.proofs.Shapes.{expression_is}
 use Rattle.sc_text.proofs.Steps.{one_taken, stops_as}
 use Rattle.sc_text.proofs.Nesting.{deep_at}
-use Rattle.chart_reader.specs.declared.draft.Named.{Named}
-use Rattle.chart_reader.specs.declared.draft.Declaration.{Declaration}
+use Rattle.draft_parts.specs.declared.parts.Named.{Named}
+use Rattle.draft_parts.specs.declared.parts.Declaration.{Declaration}
 use Rattle.chart_reader.specs.declared.draft.DraftTransition.{DraftTransition}
 use Rattle.chart_reader.specs.declared.draft.DraftRegion.{DraftRegion}
 use Rattle.chart_reader.specs.declared.draft.DraftState.{DraftState}
 use Rattle.chart_reader.specs.declared.draft.DraftChart.{DraftChart}
 use Rattle.chart_reader.specs.Draft.{state_of, region_of, chart_of}
-use Rattle.chart_reader.specs.ChartText.{Grows, the_word, the_sign, name, declaration, flag, leaving, listed, NoMore, Nested, bare, inside, simple, body, state_first, state, braced, states, region, within, chart, chart_text}
+use Rattle.chart_reader.specs.ChartText.{Grows, the_word, the_sign, name, declaration, flag, leaving, listed, bare, inside, simple, body, state_first, state, braced, states, region, within, chart, chart_text}
 use Rattle.chart_reader.specs.Inside.{Gives, IsGoing}
 use Rattle.chart_reader.proofs.Shapes.{nested_is, region_is, state_is, within_fits}
-use Rattle.chart_reader.proofs.Parts.{seq_gives, seq_stops_first, seq_stops_second, made_gives, made_stops, after_gives, after_stops_first, after_stops_second, before_gives, before_stops_first, before_stops_second, token_gives, left_read, right_read, gives_as}
+use Rattle.chart_reader.proofs.Parts.{seq_gives, seq_stops_first, seq_stops_second, made_gives, made_stops, after_gives, after_stops_first, after_stops_second, before_gives, before_stops_first, before_stops_second, left_read, right_read, gives_as}
 use Rattle.chart_reader.proofs.Going.{listed_goes, listed_stops}
 
 abbrev e0 : Grows Phrase

@@ -1,8 +1,8 @@
 -- Reading phrases one behind the other: what is got, and where it stops.
-use Rattle.std.proofs.Common.{◌≡◌, ℕ, true, false, Option, Some, None, List, [], ◌∷◌, refl, sym, ◌∙◌, ap, subst}
-use Rattle.grammar.specs.Grammar.{one, seq, either, maybe, made, headed}
+use Rattle.std.proofs.Common.{◌≡◌, ℕ, true, false, Some, None, List, ◌∷◌, ◌∙◌, ap}
+use Rattle.grammar.specs.Grammar.{one, seq, either, maybe, made}
 use Rattle.grammar.specs.Predictive.{first}
-use Rattle.grammar.specs.Read.{Wrong, Outcome, Got, Failed, starts, next, choose, read}
+use Rattle.grammar.specs.Read.{Outcome, Got, starts, next, choose, read}
 use Rattle.sc_text.specs.declared.token.Token.{Token}
 use Rattle.sc_text.specs.declared.read_fault.ReadFault.{ReadFault}
 use Rattle.sc_text.specs.Classes.{Class}

@@ -2,9 +2,8 @@
 use Rattle.std.proofs.Common.{◌≡◌, ℕ, ◌-◌, Bool, true, false, Option, Some, None, List, [], ◌∷◌, ◌++◌, length, drop, refl, sym, ◌∙◌, ap, subst}
 use Rattle.sc_values.specs.declared.value.Kind.{Kind}
 use Rattle.sc_graph.specs.declared.program.Role.{Role}
-use Rattle.grammar.specs.Grammar.{Grammar, one, seq, maybe, many, headed, spells}
-use Rattle.grammar.specs.Predictive.{first}
-use Rattle.grammar.specs.Read.{Outcome, Got, Failed, starts, next, read, with_head}
+use Rattle.grammar.specs.Grammar.{one, seq, maybe, many, spells}
+use Rattle.grammar.specs.Read.{Got, starts, next, read, with_head}
 use Rattle.grammar.proofs.Shaped.{Shaped}
 use Rattle.grammar.proofs.Reading.{Verdict, good, bad, begins_some}
 use Rattle.grammar.proofs.Every.{reads}
@@ -20,13 +19,14 @@ use Rattle.sc_text.specs.Reading.{Stops, Reads, place_of}
 use Rattle.sc_text.proofs.Shapes.{expression_is}
 use Rattle.sc_text.proofs.Steps.{one_taken, next_stops, stops_as}
 use Rattle.core_charts.specs.declared.region.TransitionKind.{TransitionKind}
-use Rattle.chart_reader.specs.declared.draft.Named.{Named}
-use Rattle.chart_reader.specs.declared.draft.DraftExpression.{DraftExpression}
-use Rattle.chart_reader.specs.declared.draft.Declaration.{Declaration}
+use Rattle.draft_parts.specs.declared.parts.Named.{Named}
+use Rattle.draft_parts.specs.declared.parts.TextExpression.{TextExpression}
+use Rattle.draft_parts.specs.declared.parts.Declaration.{Declaration}
 use Rattle.chart_reader.specs.declared.draft.DraftEffect.{DraftEffect}
 use Rattle.chart_reader.specs.declared.draft.DraftTransition.{DraftTransition}
-use Rattle.chart_reader.specs.Draft.{is_there, or_none, expressed, declared_as, effect_of, transition_of}
-use Rattle.chart_reader.specs.ChartText.{Grows, the_word, the_sign, roles, declared_role, declared_kind, last_name, name, declaration, flag, placed, effect, next_effect, some_effects, effects, target, trigger, deed, moment, termination, tested_words, tested, transition_first, transition}
+use Rattle.chart_reader.specs.Draft.{is_there, effect_of, transition_of}
+use Rattle.draft_parts.specs.Parts.{or_none, expressed, declared_as}
+use Rattle.chart_reader.specs.ChartText.{Grows, the_word, the_sign, roles, declared_role, declared_kind, last_name, name, declaration, flag, placed, effect, next_effect, some_effects, effects, trigger, deed, moment, termination, tested_words, tested, transition_first, transition}
 use Rattle.chart_reader.specs.Inside.{Gives, IsGoing}
 use Rattle.chart_reader.proofs.Shapes.{declaration_is, next_effect_is, termination_is, transition_is}
 use Rattle.chart_reader.proofs.Parts.{seq_gives, made_gives, made_stops, after_gives, after_stops_second, maybe_none, maybe_some, maybe_stops, left_read, right_read, gives_as}
@@ -103,10 +103,10 @@ declarations_go text left found e f = many_goes declaration roles declaration_is
 
 -- ---- effects
 
-abbrev becomes : Grows DraftExpression
+abbrev becomes : Grows TextExpression
 becomes = after (the_sign sign.Becomes) (placed e0)
 
-pub effect_gives : (text a rest : List Token) (n : Named) (e : DraftExpression) → Gives (read name text) n a → Gives (read (after (the_sign sign.Becomes) (placed e0)) a) e rest → Gives (read (effect e0) text) (effect_of n e) rest
+pub effect_gives : (text a rest : List Token) (n : Named) (e : TextExpression) → Gives (read name text) n a → Gives (read (after (the_sign sign.Becomes) (placed e0)) a) e rest → Gives (read (effect e0) text) (effect_of n e) rest
 unfolding effect
 effect_gives text a rest n e x y =
     made_gives (λ x. effect_of x.0 x.1) (seq name becomes) text (n, e) rest (seq_gives name becomes text a rest n e x y)
@@ -141,7 +141,7 @@ pub trigger_missing : (text : List Token) → starts text_tokens (the_word word.
 unfolding trigger
 trigger_missing text e = maybe_none (after (the_word word.If) (placed e0)) (the_word word.If) refl text e
 
-pub trigger_there : (text more rest : List Token) (x : DraftExpression) → starts text_tokens (the_word word.If) text ≡ true → more ≡ drop 1 text → Gives (read (placed e0) more) x rest → Gives (read (trigger e0) text) (Some x) rest
+pub trigger_there : (text more rest : List Token) (x : TextExpression) → starts text_tokens (the_word word.If) text ≡ true → more ≡ drop 1 text → Gives (read (placed e0) more) x rest → Gives (read (trigger e0) text) (Some x) rest
 unfolding trigger
 trigger_there text more rest x e d r = behind_gives (the_word word.If) (placed e0) text more e d x rest r
 
@@ -157,7 +157,7 @@ termination_made text a rest m d x y =
     made_gives (λ x. transition_of x.0 false None x.1.0 x.1.1) (seq (moment (the_word word.Join)) (deed e0)) text (m, d) rest
     (seq_gives (moment (the_word word.Join)) (deed e0) text a rest m d x y)
 
-pub tested_made : (text a b c rest : List Token) (m : TransitionKind × ℕ) (i : Bool) (t : Option DraftExpression) (d : List DraftEffect × Named) → Gives (read (moment tested_words) text) m a → Gives (read (flag word.Immediate) a) i b → Gives (read (trigger e0) b) t c → Gives (read (deed e0) c) d rest → Gives (read (tested e0) text) (transition_of m i t d.0 d.1) rest
+pub tested_made : (text a b c rest : List Token) (m : TransitionKind × ℕ) (i : Bool) (t : Option TextExpression) (d : List DraftEffect × Named) → Gives (read (moment tested_words) text) m a → Gives (read (flag word.Immediate) a) i b → Gives (read (trigger e0) b) t c → Gives (read (deed e0) c) d rest → Gives (read (tested e0) text) (transition_of m i t d.0 d.1) rest
 unfolding tested
 tested_made text a b c rest m i t d w x y z =
     made_gives (λ x. transition_of x.0 x.1.0 x.1.1.0 x.1.1.1.0 x.1.1.1.1) (seq (moment tested_words) (seq (flag word.Immediate) (seq (trigger e0) (deed e0)))) text (m, (i, (t, d))) rest

@@ -18,19 +18,19 @@ use Rattle.sc_text.specs.declared.word.Word.{Word}
 use Rattle.sc_text.specs.declared.word.Word.TheVariants as word
 use Rattle.sc_text.specs.declared.sign.Sign.{Sign}
 use Rattle.sc_text.specs.declared.sign.Sign.TheVariants as sign
-use Rattle.sc_text.specs.declared.token.Token.{Token}
 use Rattle.sc_text.specs.Classes.{Class, AName, TheWord, TheSign}
 use Rattle.sc_text.specs.Phrases.{Phrase}
 use Rattle.sc_text.specs.Expression.{text_tokens, after, before, expression}
-use Rattle.chart_reader.specs.declared.draft.Named.{Named}
-use Rattle.chart_reader.specs.declared.draft.DraftExpression.{DraftExpression}
-use Rattle.chart_reader.specs.declared.draft.Declaration.{Declaration}
+use Rattle.draft_parts.specs.declared.parts.Named.{Named}
+use Rattle.draft_parts.specs.declared.parts.TextExpression.{TextExpression}
+use Rattle.draft_parts.specs.declared.parts.Declaration.{Declaration}
 use Rattle.chart_reader.specs.declared.draft.DraftEffect.{DraftEffect}
 use Rattle.chart_reader.specs.declared.draft.DraftTransition.{DraftTransition}
 use Rattle.chart_reader.specs.declared.draft.DraftRegion.{DraftRegion}
 use Rattle.chart_reader.specs.declared.draft.DraftState.{DraftState}
 use Rattle.chart_reader.specs.declared.draft.DraftChart.{DraftChart}
-use Rattle.chart_reader.specs.Draft.{named, role_of, kind_of, tested_by, is_there, or_none, expressed, declared_as, effect_of, transition_of, state_of, region_of, chart_of}
+use Rattle.chart_reader.specs.Draft.{tested_by, is_there, effect_of, transition_of, state_of, region_of, chart_of}
+use Rattle.draft_parts.specs.Parts.{named, role_of, kind_of, or_none, expressed, declared_as}
 
 abbrev pub Grows : Type 0 → Type 1
 Grows A = Grammar text_tokens A
@@ -64,7 +64,7 @@ unfoldable pub declaration : Grows Declaration
 declaration = made (λ x. declared_as x.0 x.1.0 x.1.1) (seq declared_role (seq declared_kind last_name))
 
 -- an expression with the place of its first byte
-unfoldable pub placed : Grows Phrase → Grows DraftExpression
+unfoldable pub placed : Grows Phrase → Grows TextExpression
 placed e = made expressed (headed e)
 
 unfoldable pub effect : Grows Phrase → Grows DraftEffect
@@ -86,7 +86,7 @@ effects e = made or_none (maybe (after (the_word word.Do) (some_effects e)))
 unfoldable pub target : Grows Named
 target = after (the_sign sign.Arrow) last_name
 
-unfoldable pub trigger : Grows Phrase → Grows (Option DraftExpression)
+unfoldable pub trigger : Grows Phrase → Grows (Option TextExpression)
 trigger e = maybe (after (the_word word.If) (placed e))
 
 -- what is done, and where a transition leads

@@ -1,6 +1,5 @@
 pub mod Draft
 pub mod ChartText
-pub mod First
 pub mod Flaws
 pub mod Inside
 pub mod Laws

@@ -9,11 +9,12 @@ ghost use Rattle.chart_reader.specs.ChartText.{the_sign, declaration, placed, ef
 ghost use Rattle.chart_reader.specs.Inside.{Gives};
 
 use crate::ahead::{Ahead, skip_sign};
-use crate::draft::{Declaration, DraftEffect, DraftExpression, DraftTransition, Named};
+use crate::draft::{DraftEffect, DraftTransition};
 use crate::words::{
     declared_kind, declared_role, flag, join_word, last_name, name, role_follows, tested_word,
     tested_word_follows,
 };
+use draft_parts::{Declaration, Named, TextExpression};
 use sc_text::ahead::{behind, place, sign_follows, word_follows};
 use sc_text::{ReadFault, Sign, Token, Word, expression};
 use sqlite_items::Items;
@@ -56,7 +57,7 @@ fn declaration(ahead: &mut Ahead, end: usize) -> Result<Declaration, ReadFault>
 
 // An expression with its place.
 #[tactic(auto, using(crate::proofs::Pieces::placed_stops, crate::proofs::Pieces::placed_gives))]
-fn placed(alloc: Global, ahead: &mut Ahead, end: usize) -> Result<DraftExpression, ReadFault>
+fn placed(alloc: Global, ahead: &mut Ahead, end: usize) -> Result<TextExpression, ReadFault>
     ensures { MatchResult result
         (λ x. Gives (read (placed (expression 0)) ahead.old.tokens.now) x ahead.new.tokens.now)
         (λ fault. Stops end (read (placed (expression 0)) ahead.old.tokens.now) fault) }
@@ -64,12 +65,12 @@ fn placed(alloc: Global, ahead: &mut Ahead, end: usize) -> Result<DraftExpressio
     let start = place(ahead.tokens, end);
     let mut operations = Items::new(alloc);
     ahead.tokens = expression(ahead.tokens, end, &mut operations)?;
-    Ok(DraftExpression { start, operations })
+    Ok(TextExpression { start, operations })
 }
 
 // What a variable becomes.
 #[tactic(auto, using(crate::proofs::Parts::after_stops_first, crate::proofs::Parts::after_stops_second, crate::proofs::Parts::after_gives))]
-fn value(alloc: Global, ahead: &mut Ahead, end: usize) -> Result<DraftExpression, ReadFault>
+fn value(alloc: Global, ahead: &mut Ahead, end: usize) -> Result<TextExpression, ReadFault>
     ensures { MatchResult result
         (λ x. Gives (read (after (the_sign Sign.Becomes) (placed (expression 0))) ahead.old.tokens.now) x ahead.new.tokens.now)
         (λ fault. Stops end (read (after (the_sign Sign.Becomes) (placed (expression 0))) ahead.old.tokens.now) fault) }
@@ -155,7 +156,7 @@ fn trigger(
     alloc: Global,
     ahead: &mut Ahead,
     end: usize,
-) -> Result<Option<DraftExpression>, ReadFault>
+) -> Result<Option<TextExpression>, ReadFault>
     ensures { MatchResult result
         (λ x. Gives (read (trigger (expression 0)) ahead.old.tokens.now) x ahead.new.tokens.now)
         (λ fault. Stops end (read (trigger (expression 0)) ahead.old.tokens.now) fault) }

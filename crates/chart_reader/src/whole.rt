@@ -10,10 +10,11 @@ ghost use Rattle.chart_reader.specs.Reading.{IsDraft, IsDraftFault};
 ghost use Rattle.chart_reader.specs.Inside.{Gives};
 
 use crate::ahead::{Ahead, skip_sign};
-use crate::draft::{Declaration, DraftChart, DraftRegion};
+use crate::draft::{DraftChart, DraftRegion};
 use crate::regions::regions;
 use crate::transitions::declarations;
 use crate::words::title;
+use draft_parts::Declaration;
 use sc_text::ahead::wrong;
 use sc_text::{Language, ReadFault, Sign, Token, Word, tokens};
 use sqlite_items::Items;

@@ -5,13 +5,14 @@ ghost use Rattle.grammar.specs.Read.{read, starts};
 ghost use Rattle.sc_text.specs.Classes.{AName, class_of, same_class};
 ghost use Rattle.sc_text.specs.Expression.{text_tokens, after};
 ghost use Rattle.sc_text.specs.Reading.{Stops};
-ghost use Rattle.chart_reader.specs.Draft.{role_of, kind_of, tested_by};
+ghost use Rattle.chart_reader.specs.Draft.{tested_by};
+ghost use Rattle.draft_parts.specs.Parts.{role_of, kind_of};
 ghost use Rattle.chart_reader.specs.ChartText.{the_word, roles, kinds, tested_words, name, last_name, declared_role, declared_kind, moment, flag};
 ghost use Rattle.chart_reader.specs.Inside.{Gives, IsNameOf};
 
 use crate::ahead::{Ahead, skip_sign, skip_word};
-use crate::draft::Named;
 use core_charts::TransitionKind;
+use draft_parts::Named;
 use sc_graph::Role;
 use sc_text::ahead::{behind, word_follows, wrong};
 use sc_text::{ReadFault, Sign, Token, TokenKind, Word};

@@ -1,4 +1,4 @@
-use Rattle.std.proofs.Common.{ℕ, ◌+◌, ◌-◌, ◌*◌}
+use Rattle.std.proofs.Common.{◌+◌, ◌-◌, ◌*◌}
 use Rattle.grammar.specs.Read.{read}
 use Rattle.sc_text.specs.declared.word.Word.TheVariants as word
 use Rattle.sc_text.specs.Expression.{expression}

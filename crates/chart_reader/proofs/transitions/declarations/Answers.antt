@@ -2,9 +2,7 @@ use Rattle.std.proofs.Common.{rules, ◌≡◌, true, refl}
 use Rattle.grammar.specs.Grammar.{many}
 use Rattle.grammar.specs.Read.{read, starts}
 use Rattle.sc_text.specs.declared.read_fault.ReadFault.{ReadFault}
-use Rattle.sc_text.specs.declared.word.Word.TheVariants as word
-use Rattle.sc_text.specs.declared.sign.Sign.TheVariants as sign
-use Rattle.sc_text.specs.Expression.{text_tokens, expression}
+use Rattle.sc_text.specs.Expression.{text_tokens}
 use Rattle.sc_text.specs.Reading.{Stops}
 use Rattle.chart_reader.specs.ChartText.{roles, declaration}
 use Rattle.chart_reader.proofs.Pieces.{declarations_go}

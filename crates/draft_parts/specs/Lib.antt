@@ -1,0 +1,4 @@
+pub mod Parts
+pub mod First
+pub mod Flaws
+pub mod Inside

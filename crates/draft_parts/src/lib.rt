@@ -1,0 +1,16 @@
+//! What the drafts of both languages share: names, variables and expressions with their places, and what is wrong
+//! with them. A draft is what a text is read into before its names are looked up. `specs/Parts` says what the
+//! parts of a text mean, `specs/Flaws` which flaws they have, and `specs/First` which flaw of a draft is told.
+#![tactic(auto)]
+
+mod flaw;
+mod heights;
+mod index;
+mod kinds;
+mod parts;
+mod scope;
+
+pub use flaw::{Flaw, note_if};
+pub use index::Index;
+pub use parts::{Declaration, Named, TextExpression};
+pub use scope::Scope;
