@@ -26,8 +26,3 @@ pub use scan::tokens;
 pub use sign::Sign;
 pub use token::{Token, TokenKind};
 pub use word::Word;
-
-#[cfg(test)]
-mod expression_tests;
-#[cfg(test)]
-mod tests;

@@ -41,10 +41,3 @@ pub use operation::Operation;
 pub use operator::{BinaryOperator, Combination, UnaryOperator};
 pub use streams::{Failed, Sink, Source, write_all};
 pub use value::{Kind, Value};
-
-#[cfg(test)]
-mod assignment_tests;
-#[cfg(test)]
-mod stream_tests;
-#[cfg(test)]
-mod tests;

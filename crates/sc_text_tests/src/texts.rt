@@ -1,6 +1,6 @@
 //! Worked texts: what no clause says, and each public function once.
 
-use crate::{Language, ReadFault, tokens};
+use sc_text::{Language, ReadFault, tokens};
 use std::alloc::{AllocError, Global};
 use std::test::Fail;
 

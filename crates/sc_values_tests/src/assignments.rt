@@ -1,6 +1,9 @@
 //! Which assignments are updates.
 
-use crate::{BinaryOperator, CodedAssignment, Combination, Divisor, Expr, UnaryOperator, Value};
+use crate::trees::binary;
+use sc_values::{
+    BinaryOperator, CodedAssignment, Combination, Divisor, Expr, UnaryOperator, Value,
+};
 use sqlite_items::Boxed;
 use std::alloc::{AllocError, Global};
 use std::test::Fail;
@@ -12,17 +15,6 @@ fn leaf(name: char) -> Expr {
         'y' => Expr::Load(1),
         _ => Expr::Literal(Value::Int(1)),
     }
-}
-
-fn binary(
-    alloc: Global,
-    operator: BinaryOperator,
-    left: Expr,
-    right: Expr,
-) -> Result<Expr, AllocError> {
-    let left = Boxed::new(alloc, left)?;
-    let right = Boxed::new(alloc, right)?;
-    Ok(Expr::Binary(operator, left, right))
 }
 
 // By what an assignment to x combines, and how many operations its code has.

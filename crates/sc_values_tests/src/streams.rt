@@ -2,8 +2,9 @@
 
 ghost use Rattle.std.specs.Prelude.{◌≡◌, ◌<◌, ◌≤◌, IfOk};
 
-use crate::name::write_front;
-use crate::{Failed, Failures, FromSlice, OfRead, OfWrite, Plan, Sink, Source, ToVec, write_all};
+use sc_values::{
+    Failed, Failures, FromSlice, OfRead, OfWrite, Plan, Sink, Source, ToVec, write_all,
+};
 use std::alloc::Global;
 use std::io::{self, Read, Write};
 use std::marker::Brand;
@@ -59,10 +60,7 @@ struct Reader<'a> {
 impl Read for Reader<'_> {
     fn read(&mut self, buf: &mut [u8]) -> io::Result<usize> {
         let count = self.turns.next().count(self.rest.len().min(buf.len()))?;
-        let (front, rest) = self.rest.split_at(count);
-        write_front(buf, front);
-        self.rest = rest;
-        Ok(count)
+        self.rest.read(&mut buf[..count])
     }
 }
 

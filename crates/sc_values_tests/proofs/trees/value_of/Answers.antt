@@ -1,5 +1,5 @@
 use Rattle.sc_values.proofs.Evaluating.{kinds_are, present_kinds}
-use Rattle.sc_values.proofs.tests.value_of.Goals as goal
+use Rattle.sc_values_tests.proofs.trees.value_of.Goals as goal
 
 pub eval-requires : goal.eval-requires
 eval-requires c =

@@ -1,6 +1,6 @@
 //! Worked expressions: how operators group, and the faults of texts that are none.
 
-use crate::{Language, ReadFault, TextOperation, expression, tokens};
+use sc_text::{Language, ReadFault, TextOperation, expression, tokens};
 use sqlite_items::Items;
 use std::alloc::{AllocError, Global};
 use std::test::Fail;
