@@ -4,6 +4,7 @@ pub mod Parts
 pub mod Joined
 pub mod Repeated
 pub mod Every
+pub mod Each
 pub mod Shorter
 pub mod Levels
 pub mod Told
