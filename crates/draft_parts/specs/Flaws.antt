@@ -18,6 +18,7 @@ use Rattle.sc_text.specs.declared.read_fault.Broken.{Broken}
 use Rattle.sc_text.specs.declared.read_fault.Broken.TheVariants as broken
 use Rattle.sc_text.specs.Phrases.{Phrase}
 use Rattle.draft_parts.specs.declared.flaw.Flaw.{Flaw}
+use Rattle.draft_parts.specs.declared.parts.Named.{Named}
 use Rattle.draft_parts.specs.declared.parts.TextExpression.{TextExpression}
 use Rattle.draft_parts.specs.declared.parts.Declaration.{Declaration}
 
@@ -150,3 +151,9 @@ variable_flaws names at outputs (x ∷ more) =
 abbrev pub is_input : Role → Bool
 is_input role.Input = true
 is_input r = false
+
+-- an assignment of a value to this variable, which is written so
+abbrev pub assigned_flaws : List Declaration → Option Declaration → Named → TextExpression → List Flaw
+assigned_flaws variables None target value = flaw_if true broken.Unknown target.at ++ expression_flaws variables None value
+assigned_flaws variables (Some x) target value =
+    flaw_if (is_input x.role) broken.Rule target.at ++ expression_flaws variables (Some x.kind) value

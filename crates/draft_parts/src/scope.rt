@@ -2,14 +2,15 @@
 
 ghost use Rattle.std.specs.Prelude.{◌≡◌, ◌∷◌, IfOk, OnOk, option_map};
 ghost use Rattle.std.specs.List.{list_all};
-ghost use Rattle.draft_parts.specs.Flaws.{variable_names, variable_named, is_among, unknown_one, unknown_names, has_known_name, kind_named, kinds_behind, is_of_kind, is_of_other_kind, expression_flaws};
+ghost use Rattle.draft_parts.specs.Flaws.{variable_names, variable_named, is_among, unknown_one, unknown_names, has_known_name, kind_named, kinds_behind, is_of_kind, is_of_other_kind, expression_flaws, is_input, assigned_flaws};
 ghost use Rattle.draft_parts.specs.Inside.{IsIndex, first_behind, some_if};
 
 use crate::flaw::{Flaw, note_if};
 use crate::heights::passes_limits;
 use crate::index::Index;
 use crate::kinds::Kinds;
-use crate::parts::{Declaration, TextExpression};
+use crate::parts::{Declaration, Named, TextExpression};
+use sc_graph::Role;
 use sc_text::{Broken, TextOperation};
 use sc_values::{Kind, Name};
 use sqlite_items::Items;
@@ -68,6 +69,29 @@ impl<'a> Scope<'a> {
             expression.start,
         );
         Ok(())
+    }
+
+    /// The flaws of an assignment to the variable of this name. Err: memory was refused.
+    #[tactic(auto, using(crate::proofs::Firsts::behind_both))]
+    pub fn assignment(
+        &self,
+        alloc: Global,
+        target: Named,
+        value: &TextExpression,
+        first: &mut Option<Flaw>,
+    ) -> Result<(), AllocError>
+        ensures { OnOk result (first.new ≡ first_behind first.old (assigned_flaws self.now.variables.now (variable_named self.now.variables.now target.name) target value.now)) }
+    {
+        match self.variable(target.name) {
+            Some(variable) => {
+                note_if(first, is_input(variable.role), Broken::Rule, target.at);
+                self.expression(alloc, Some(variable.kind), value, first)
+            }
+            None => {
+                note_if(first, true, Broken::Unknown, target.at);
+                self.expression(alloc, None, value, first)
+            }
+        }
     }
 
     fn is_known(&self, name: Name) -> bool
@@ -205,4 +229,13 @@ fn variable_names(alloc: Global, variables: &[Declaration]) -> Result<Items<Name
         names.push(variable.named.name)?;
     }
     Ok(names)
+}
+
+fn is_input(role: Role) -> bool
+    ensures { result ≡ is_input role }
+{
+    match role {
+        Role::Input => true,
+        Role::Output | Role::Local => false,
+    }
 }
