@@ -13,7 +13,7 @@ use Rattle.sc_text.specs.Phrases.{Phrase}
 use Rattle.sc_text.specs.Expression.{text_tokens, after, before, expression}
 use Rattle.sc_text.specs.Reading.{Stops, Takes}
 use Rattle.sc_text.proofs.Steps.{one_taken, next_stops, stops_as, seq_got, seq_stops_first, seq_stops_second}
-use Rattle.scl_reader.specs.declared.statement.TextExpression.{TextExpression}
+use Rattle.draft_parts.specs.declared.parts.TextExpression.{TextExpression}
 use Rattle.scl_reader.specs.declared.statement.TextStatement.{TextStatement}
 use Rattle.scl_reader.specs.declared.statement.TextStatement.TheVariants as open_text
 use Rattle.scl_reader.specs.Statements.{Statements, none_or_them, if_statement}

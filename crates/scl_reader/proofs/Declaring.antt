@@ -1,5 +1,5 @@
 -- Reading declarations.
-use Rattle.std.proofs.Common.{◌≡◌, ℕ, suc, ◌<◌, true, false, List, [], ◌∷◌, ◌++◌, length, map, drop, refl, ◌∙◌, ap}
+use Rattle.std.proofs.Common.{◌≡◌, ℕ, suc, ◌<◌, true, false, List, [], ◌∷◌, ◌++◌, length, map, drop, ◌∙◌, ap}
 use Rattle.std.proofs.lemmas.List.Concat.{flat_map_single}
 use Rattle.std.specs.List.{flat_map}
 use Rattle.grammar.specs.Grammar.{one, seq, many}
@@ -10,7 +10,8 @@ use Rattle.sc_text.specs.declared.token.Token.{Token}
 use Rattle.sc_text.specs.declared.read_fault.ReadFault.{ReadFault}
 use Rattle.sc_text.specs.Expression.{text_tokens, before}
 use Rattle.sc_text.specs.Reading.{Stops, Takes}
-use Rattle.scl_reader.specs.declared.draft.Declaration.{Declaration}
+use Rattle.draft_parts.specs.declared.parts.Named.{Named}
+use Rattle.draft_parts.specs.declared.parts.Declaration.{Declaration}
 use Rattle.scl_reader.specs.Draft.{declared}
 use Rattle.scl_reader.specs.Program.{Grows, name, semicolon, declaration}
 use Rattle.scl_reader.specs.Inside.{TakesName, TakesRole, TakesKind, Adds, IsGoing, roles, kinds, one_declared}
@@ -47,22 +48,21 @@ module _ (text : List Token) where
       name_stops end f s =
           typed_stops end f (pair_stops_second (one kinds) ending end behind_role named u.token f u.is (before_stops semicolon name end named f s))
 
-      module _ (called : List ℕ) (at : ℕ) (rest : List Token) (n : TakesName named called at) (g : rest ≡ drop 1 named) where
+      module _ (called : Named) (rest : List Token) (n : TakesName named called) (g : rest ≡ drop 1 named) where
         got : read name named ≡ Got n.token rest
-        got = name_got named rest called at n g
+        got = name_got named rest called n g
 
         pub end_stops : (end : ℕ) (f : ReadFault) → Stops end (read (one {L = text_tokens} semicolon) rest) f → Stops end (read declaration text) f
         end_stops end f s =
             typed_stops end f
             (pair_stops_second (one kinds) ending end behind_role named u.token f u.is (before_stops_behind semicolon name end named rest n.token f got s))
 
-        pub declaration_reads : (after : List Token) (old new : List Declaration) (d : Declaration) → Takes (read (one {L = text_tokens} semicolon) rest) after → d ≡ record { role = r; kind = k; name = called; at = at } → new ≡ old ++ d ∷ [] → Adds one_declared (read declaration text) old new after
+        pub declaration_reads : (after : List Token) (old new : List Declaration) (d : Declaration) → Takes (read (one {L = text_tokens} semicolon) rest) after → d ≡ record { role = r; kind = k; named = called } → new ≡ old ++ d ∷ [] → Adds one_declared (read declaration text) old new after
         unfolding declaration
         declaration_reads after old new d c e b =
             let w = t.writes in
             let x = u.writes in
-            let y = n.named in
-            let z = n.placed in
+            let y = n.means in
             let same : d ≡ declared (t.token, (u.token, n.token)) = cc in
             record {
               meaning = (t.token, (u.token, n.token));

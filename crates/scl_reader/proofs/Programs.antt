@@ -11,7 +11,8 @@ use Rattle.sc_text.specs.Classes.{Class, TheWord, TheSign}
 use Rattle.sc_text.specs.Expression.{text_tokens, after, before}
 use Rattle.sc_text.specs.Reading.{Stops, Takes}
 use Rattle.sc_text.proofs.Steps.{wrong_at, next_stops, stops_as}
-use Rattle.scl_reader.specs.declared.draft.Declaration.{Declaration}
+use Rattle.draft_parts.specs.declared.parts.Named.{Named}
+use Rattle.draft_parts.specs.declared.parts.Declaration.{Declaration}
 use Rattle.scl_reader.specs.declared.draft.Draft.{Draft}
 use Rattle.scl_reader.specs.Statements.{Statements}
 use Rattle.scl_reader.specs.Draft.{declared}
@@ -93,9 +94,9 @@ module _ (text : List Token) where
     pub name_stops : (end : ℕ) (f : ReadFault) → Stops end (read name named) f → Stops end (read_all (scl 0) text) f
     name_stops end f s = behind_word end f (pair_stops_first name in_braces end named f s)
 
-    module _ (called : List ℕ) (at : ℕ) (n : TakesName named called at) (opened : List Token) (g : opened ≡ drop 1 named) where
+    module _ (called : Named) (n : TakesName named called) (opened : List Token) (g : opened ≡ drop 1 named) where
       got : read name named ≡ Got n.token opened
-      got = name_got named opened called at n g
+      got = name_got named opened called n g
 
       pub body_stops : (end : ℕ) (f : ReadFault) → Stops end (read in_braces opened) f → Stops end (read_all (scl 0) text) f
       body_stops end f s = behind_word end f (pair_stops_second name in_braces end named opened n.token f got s)
@@ -118,9 +119,9 @@ module _ (text : List Token) where
         more_stops end f n w =
             subst (Stops end (read_all (scl 0) text)) (sym w) (record { flaw = Wrong; rest = rest; is = more_wrong rest refl n; breaks = refl; place = refl })
 
-        pub whole_drafts : (draft : Draft) → old_variables ≡ [] → old_statements ≡ [] → rest ≡ [] → draft ≡ record { name = called; declarations = variables; statements = statements } → Drafts (read_all (scl 0) text) draft
+        pub whole_drafts : (draft : Draft) → old_variables ≡ [] → old_statements ≡ [] → rest ≡ [] → draft ≡ record { name = called.name; declarations = variables; statements = statements } → Drafts (read_all (scl 0) text) draft
         whole_drafts draft no_variables no_statements e d =
-            let named_so = n.named in
+            let named_so = n.means in
             let vs : variables ≡ map declared b.variables_read = b.variables_behind ∙ ap (λ o. o ++ map declared b.variables_read) no_variables in
             let ls : statements ≡ b.statements_read = b.statements_behind ∙ ap (λ o. o ++ b.statements_read) no_statements in
             record { program = spelled; is = ap (λ o. next o ended) (program_got ∙ ap (λ r. Got spelled r) e); drafted = cc }

@@ -10,9 +10,11 @@ use Rattle.sc_text.specs.Classes.{Class, AName, TheWord, TheSign}
 use Rattle.sc_text.specs.Expression.{text_tokens, before, expression}
 use Rattle.sc_text.specs.Reading.{Stops, Takes}
 use Rattle.sc_text.proofs.Steps.{one_taken, next_stops, stops_as, seq_got, seq_stops_first, seq_stops_second}
-use Rattle.scl_reader.specs.declared.statement.TextExpression.{TextExpression}
+use Rattle.draft_parts.specs.declared.parts.Named.{Named}
+use Rattle.draft_parts.specs.declared.parts.TextExpression.{TextExpression}
+use Rattle.draft_parts.specs.Parts.{named as named_token, expressed}
 use Rattle.scl_reader.specs.declared.statement.TextStatement.TheVariants as open_text
-use Rattle.scl_reader.specs.Statements.{Statements, Becomes, IsLabel, name_of, expression_of, named_statement, goto_statement, pause_statement}
+use Rattle.scl_reader.specs.Statements.{Statements, Becomes, IsLabel, named_statement, goto_statement, pause_statement}
 use Rattle.scl_reader.specs.Program.{name, semicolon, assigned, labelled, named, goto, pause, simple}
 use Rattle.scl_reader.specs.Inside.{TakesName, TakesValue, Adds, alone}
 use Rattle.scl_reader.proofs.Names.{name_got}
@@ -36,9 +38,9 @@ module _ (text : List Token) where
   unfolding named
   name_stops end f s = seq_stops_first _ name (either (assigned (expression 0)) labelled) end text f s
 
-  module _ (rest : List Token) (called : List ℕ) (at : ℕ) (t : TakesName text called at) (g : rest ≡ drop 1 text) where
+  module _ (rest : List Token) (called : Named) (t : TakesName text called) (g : rest ≡ drop 1 text) where
     got : read name text ≡ Got t.token rest
-    got = name_got text rest called at t g
+    got = name_got text rest called t g
 
     pub assigned_stops : (more : List Token) (end : ℕ) (f : ReadFault) → starts text_tokens becomes rest ≡ true → more ≡ drop 1 rest → Stops end (read (before (headed (expression 0)) semicolon) more) f → Stops end (read (named (expression 0)) text) f
     unfolding named assigned
@@ -47,13 +49,12 @@ module _ (text : List Token) where
         (stops_as end _ _ f (assigned_read rest e)
         (next_stops end _ _ f (after_stops becomes (before (headed (expression 0)) semicolon) end rest more f (one_taken becomes rest more e d) s)))
 
-    pub assigned_reads : (more end : List Token) (value : TextExpression) (old new : Statements) → starts text_tokens becomes rest ≡ true → more ≡ drop 1 rest → TakesValue (read (before (headed (expression 0)) semicolon) more) value end → new ≡ old ++ open_text.Assign called at value ∷ [] → Adds alone (read (named (expression 0)) text) old new end
+    pub assigned_reads : (more end : List Token) (value : TextExpression) (old new : Statements) → starts text_tokens becomes rest ≡ true → more ≡ drop 1 rest → TakesValue (read (before (headed (expression 0)) semicolon) more) value end → new ≡ old ++ open_text.Assign called value ∷ [] → Adds alone (read (named (expression 0)) text) old new end
     unfolding named assigned
     assigned_reads more end value old new e d v b =
-        let n = t.named in
-        let p = t.placed in
+        let n = t.means in
         let s = v.means in
-        let same : open_text.Assign called at value ≡ open_text.Assign (name_of t.token.kind) t.token.at (expression_of v.head v.phrase) = cc in
+        let same : open_text.Assign called value ≡ open_text.Assign (named_token t.token) (expressed (v.head, v.phrase)) = cc in
         record {
           meaning = named_statement t.token (Becomes v.head v.phrase);
           is =
@@ -68,12 +69,11 @@ module _ (text : List Token) where
         seq_stops_second _ name (either (assigned (expression 0)) labelled) end text rest t.token f got
         (stops_as end _ _ f (labelled_read rest e) (next_stops end _ _ f s))
 
-    pub labelled_reads : (end : List Token) (old new : Statements) → starts text_tokens becomes rest ≡ false → Takes (read (one {L = text_tokens} (TheSign sign.Colon ∷ [])) rest) end → new ≡ old ++ open_text.Label called at ∷ [] → Adds alone (read (named (expression 0)) text) old new end
+    pub labelled_reads : (end : List Token) (old new : Statements) → starts text_tokens becomes rest ≡ false → Takes (read (one {L = text_tokens} (TheSign sign.Colon ∷ [])) rest) end → new ≡ old ++ open_text.Label called ∷ [] → Adds alone (read (named (expression 0)) text) old new end
     unfolding named labelled
     labelled_reads end old new e c b =
-        let n = t.named in
-        let p = t.placed in
-        let same : open_text.Label called at ≡ open_text.Label (name_of t.token.kind) t.token.at = cc in
+        let n = t.means in
+        let same : open_text.Label called ≡ open_text.Label (named_token t.token) = cc in
         record {
           meaning = named_statement t.token IsLabel;
           is =
@@ -98,21 +98,20 @@ module _ (text : List Token) where
     target_stops end f s =
         next_stops end _ _ f (after_stops goto_word (before name semicolon) end text target f w (before_stops semicolon name end target f s))
 
-    module _ (rest : List Token) (called : List ℕ) (at : ℕ) (t : TakesName target called at) (g : rest ≡ drop 1 target) where
+    module _ (rest : List Token) (called : Named) (t : TakesName target called) (g : rest ≡ drop 1 target) where
       got_target : read name target ≡ Got t.token rest
-      got_target = name_got target rest called at t g
+      got_target = name_got target rest called t g
 
       pub goto_end_stops : (end : ℕ) (f : ReadFault) → Stops end (read (one {L = text_tokens} semicolon) rest) f → Stops end (read goto text) f
       unfolding goto
       goto_end_stops end f s =
           next_stops end _ _ f (after_stops goto_word (before name semicolon) end text target f w (before_stops_behind semicolon name end target rest t.token f got_target s))
 
-      pub goto_reads : (end : List Token) (old new : Statements) → Takes (read (one {L = text_tokens} semicolon) rest) end → new ≡ old ++ open_text.Goto called at ∷ [] → Adds alone (read goto text) old new end
+      pub goto_reads : (end : List Token) (old new : Statements) → Takes (read (one {L = text_tokens} semicolon) rest) end → new ≡ old ++ open_text.Goto called ∷ [] → Adds alone (read goto text) old new end
       unfolding goto
       goto_reads end old new c b =
-          let n = t.named in
-          let p = t.placed in
-          let same : open_text.Goto called at ≡ open_text.Goto (name_of t.token.kind) t.token.at = cc in
+          let n = t.means in
+          let same : open_text.Goto called ≡ open_text.Goto (named_token t.token) = cc in
           record {
             meaning = goto_statement t.token;
             is = ap (λ o. next o (λ x r. Got (goto_statement x) r)) (after_got goto_word (before name semicolon) text target end t.token w (before_got semicolon name target rest end t.token got_target c));

@@ -14,7 +14,7 @@ use Rattle.sc_text.specs.Expression.{text_tokens, before, expression}
 use Rattle.sc_text.specs.Reading.{Stops, Reads, Takes, place_of}
 use Rattle.sc_text.proofs.Shapes.{expression_is}
 use Rattle.sc_text.proofs.Steps.{next_stops}
-use Rattle.scl_reader.specs.declared.statement.TextExpression.{TextExpression}
+use Rattle.draft_parts.specs.declared.parts.TextExpression.{TextExpression}
 use Rattle.scl_reader.specs.Program.{Grows}
 use Rattle.scl_reader.specs.Inside.{TakesValue}
 use Rattle.scl_reader.proofs.Taking.{before_got, before_stops, before_stops_behind}
@@ -47,7 +47,7 @@ module _ (closing : Sign) (text : List Token) (end : ℕ) where
       let h = headed_got end text rest r.phrase r.is in
       before_stops_behind (TheSign closing ∷ []) (headed (expression 0)) end text rest (h.0, r.phrase) f h.2 s
 
-  pub value_taken : (rest more : List Token) (code : Phrase) (value : TextExpression) → value ≡ record { start = place_of end text; code = code } → Reads (read (expression 0) text) [] code rest → Takes (read (one {L = text_tokens} (TheSign closing ∷ [])) rest) more → TakesValue (read (before (headed (expression 0)) (TheSign closing ∷ [])) text) value more
+  pub value_taken : (rest more : List Token) (code : Phrase) (value : TextExpression) → value ≡ record { start = place_of end text; operations = code } → Reads (read (expression 0) text) [] code rest → Takes (read (one {L = text_tokens} (TheSign closing ∷ [])) rest) more → TakesValue (read (before (headed (expression 0)) (TheSign closing ∷ [])) text) value more
   value_taken rest more code value v r t =
       let h = headed_got end text rest r.phrase r.is in
       let begins = h.1 in

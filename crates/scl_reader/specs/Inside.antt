@@ -10,29 +10,30 @@ use Rattle.sc_text.specs.declared.token.Token.{Token}
 use Rattle.sc_text.specs.Classes.{Class, AName, TheWord, TheSign}
 use Rattle.sc_text.specs.Phrases.{Phrase}
 use Rattle.sc_text.specs.Expression.{text_tokens, after, before, expression}
-use Rattle.scl_reader.specs.declared.statement.TextExpression.{TextExpression}
+use Rattle.draft_parts.specs.declared.parts.Named.{Named}
+use Rattle.draft_parts.specs.declared.parts.TextExpression.{TextExpression}
+use Rattle.draft_parts.specs.declared.parts.Declaration.{Declaration}
+use Rattle.draft_parts.specs.Parts.{named, expressed, role_of, kind_of}
 use Rattle.scl_reader.specs.declared.statement.TextStatement.{TextStatement}
-use Rattle.scl_reader.specs.Statements.{Statements, name_of, expression_of, branch_of}
+use Rattle.scl_reader.specs.Statements.{Statements, branch_of}
 use Rattle.sc_values.specs.declared.value.Kind.{Kind}
 use Rattle.sc_graph.specs.declared.program.Role.{Role}
-use Rattle.scl_reader.specs.declared.draft.Declaration.{Declaration}
 use Rattle.scl_reader.specs.declared.draft.Draft.{Draft}
 use Rattle.scl_reader.specs.Program.{Grows, name, declaration, Inner, Text, forking, statement, ifs_within, forks_within}
-use Rattle.scl_reader.specs.Draft.{role_of, kind_of, declared, draft_of}
+use Rattle.scl_reader.specs.Draft.{declared, draft_of}
 
--- a name is next, which stands at this place
-pub record TakesName (text : List Token) (called : List ℕ) (at : ℕ) : Type 0 where
+-- this name is next
+pub record TakesName (text : List Token) (called : Named) : Type 0 where
   pub token : Token
   pub is : read name text ≡ Got token (drop 1 text)
-  pub named : called ≡ name_of token.kind
-  pub placed : at ≡ token.at
+  pub means : called ≡ named token
 
 -- an expression was read, with its first token
 pub record TakesValue (o : Outcome Token (Token × Phrase)) (value : TextExpression) (rest : List Token) : Type 0 where
   pub head : Token
   pub phrase : Phrase
   pub is : o ≡ Got (head, phrase) rest
-  pub means : value ≡ expression_of head phrase
+  pub means : value ≡ expressed (head, phrase)
 
 -- a phrase was read, and what it gives stands behind the old items
 pub record Adds {A X : Type 0} (gives : A → List X) (o : Outcome Token A) (old new : List X) (rest : List Token) : Type 0 where

@@ -3,3 +3,4 @@ pub mod Program
 pub mod Laws
 pub mod Draft
 pub mod Inside
+pub mod Flaws

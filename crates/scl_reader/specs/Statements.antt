@@ -1,24 +1,13 @@
 -- What the parts of an SCL text mean: its statements.
 use Rattle.std.specs.Prelude.{ℕ, Option, Some, None, List, [], ◌∷◌, map}
 use Rattle.sc_text.specs.declared.token.Token.{Token}
-use Rattle.sc_text.specs.declared.token.TokenKind.{TokenKind}
-use Rattle.sc_text.specs.declared.token.TokenKind.TheVariants as kind
 use Rattle.sc_text.specs.Phrases.{Phrase}
-use Rattle.scl_reader.specs.declared.statement.TextExpression.{TextExpression}
+use Rattle.draft_parts.specs.Parts.{named, expressed}
 use Rattle.scl_reader.specs.declared.statement.TextStatement.{TextStatement}
 use Rattle.scl_reader.specs.declared.statement.TextStatement.TheVariants as text
 
 abbrev pub Statements : Type 0
 Statements = List TextStatement
-
--- the name that a token is
-abbrev pub name_of : TokenKind → List ℕ
-name_of (kind.Name name) = name
-name_of k = []
-
--- an expression by its first token
-abbrev pub expression_of : Token → Phrase → TextExpression
-expression_of first value = record { start = first.at; code = value }
 
 -- what stands behind a name: an expression with its first token, or a colon
 pub data AfterName : Type 0 where
@@ -26,11 +15,11 @@ pub data AfterName : Type 0 where
   IsLabel : AfterName
 
 abbrev pub named_statement : Token → AfterName → TextStatement
-named_statement t (Becomes first value) = text.Assign (name_of t.kind) t.at (expression_of first value)
-named_statement t IsLabel = text.Label (name_of t.kind) t.at
+named_statement t (Becomes first value) = text.Assign (named t) (expressed (first, value))
+named_statement t IsLabel = text.Label (named t)
 
 abbrev pub goto_statement : Token → TextStatement
-goto_statement t = text.Goto (name_of t.kind) t.at
+goto_statement t = text.Goto (named t)
 
 abbrev pub pause_statement : TextStatement
 pause_statement = text.Pause
@@ -41,7 +30,7 @@ none_or_them (Some statements) = statements
 
 -- a test with its first token, the first list, and the second one if it is there
 abbrev pub if_statement : Token × Phrase → Statements → Option Statements → TextStatement
-if_statement test first second = text.If (expression_of test.0 test.1) first (none_or_them second)
+if_statement test first second = text.If (expressed test) first (none_or_them second)
 
 -- a branch by the word that opens it
 abbrev pub branch_of : Token × Statements → ℕ × Statements

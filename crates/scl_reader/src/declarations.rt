@@ -6,12 +6,12 @@ ghost use Rattle.grammar.specs.Grammar.{one, many};
 ghost use Rattle.grammar.specs.Read.{read, starts};
 ghost use Rattle.sc_text.specs.Expression.{text_tokens};
 ghost use Rattle.sc_text.specs.Reading.{Stops};
-ghost use Rattle.scl_reader.specs.Draft.{role_of, kind_of};
+ghost use Rattle.draft_parts.specs.Parts.{role_of, kind_of};
 ghost use Rattle.scl_reader.specs.Program.{declaration};
 ghost use Rattle.scl_reader.specs.Inside.{Adds, TakesRole, TakesKind, roles, kinds, one_declared};
 
-use crate::draft::Declaration;
 use crate::name::name;
+use draft_parts::Declaration;
 use sc_graph::Role;
 use sc_text::ahead::{behind, past_sign, word_follows, wrong};
 use sc_text::{ReadFault, Sign, Token, TokenKind, Word};
@@ -54,14 +54,13 @@ fn declaration<'a>(
 {
     let (role, typed) = role(tokens, end)?;
     let (kind, named) = kind(typed, end)?;
-    let (name, at) = name(named, end)?;
+    let called = name(named, end)?;
     let rest = behind(named);
     let after = past_sign(rest, end, Sign::Semicolon)?;
     declarations.push(Declaration {
         role,
         kind,
-        name,
-        at,
+        named: called,
     })?;
     Ok(after)
 }

@@ -11,7 +11,7 @@ mod statement;
 mod statements;
 mod value;
 
-pub use draft::{Declaration, Draft};
+pub use draft::Draft;
 pub use laws::scl_texts_are_told;
 pub use program::read_draft;
-pub use statement::{TextExpression, TextStatement};
+pub use statement::TextStatement;

@@ -5,10 +5,11 @@ ghost use Rattle.grammar.specs.Read.{read, starts};
 ghost use Rattle.sc_text.specs.Classes.{AName, class_of, same_class};
 ghost use Rattle.sc_text.specs.Expression.{text_tokens};
 ghost use Rattle.sc_text.specs.Reading.{Stops};
-ghost use Rattle.scl_reader.specs.Statements.{name_of};
+ghost use Rattle.draft_parts.specs.Parts.{name_of};
 ghost use Rattle.scl_reader.specs.Program.{name};
 ghost use Rattle.scl_reader.specs.Inside.{TakesName};
 
+use draft_parts::Named;
 use sc_text::ahead::wrong;
 use sc_text::{ReadFault, Token, TokenKind};
 use sc_values::Name;
@@ -35,11 +36,11 @@ fn is_name(kind: TokenKind) -> bool
     }
 }
 
-/// The name that is next, and the place where it stands. Err: none is next.
+/// The name that is next, with its place. Err: none is next.
 #[tactic(auto, using(crate::proofs::Names::no_name, crate::proofs::Names::name_taken))]
-pub fn name(tokens: &[Token], end: usize) -> Result<(Name, usize), ReadFault>
+pub fn name(tokens: &[Token], end: usize) -> Result<Named, ReadFault>
     ensures { MatchResult result
-        (λ p. TakesName tokens.now p.0 p.1)
+        (λ called. TakesName tokens.now called)
         (λ fault. Stops end (read name tokens.now) fault) }
 {
     if !name_follows(tokens) {
@@ -47,7 +48,10 @@ pub fn name(tokens: &[Token], end: usize) -> Result<(Name, usize), ReadFault>
     }
     match tokens {
         [] => Err(wrong(tokens, end)),
-        [next, ..] => Ok((name_of(next.kind), next.at)),
+        [next, ..] => Ok(Named {
+            name: name_of(next.kind),
+            at: next.at,
+        }),
     }
 }
 

@@ -8,10 +8,11 @@ ghost use Rattle.scl_reader.specs.Program.{scl};
 ghost use Rattle.scl_reader.specs.Inside.{Drafts, AddsBody, in_braces};
 
 use crate::declarations::declarations;
-use crate::draft::{Declaration, Draft};
+use crate::draft::Draft;
 use crate::name::name;
 use crate::statement::TextStatement;
 use crate::statements::{FORK_LIMIT, IF_LIMIT, statements};
+use draft_parts::Declaration;
 use sc_text::ahead::{behind, past_sign, past_word, wrong};
 use sc_text::{Language, ReadFault, Sign, Token, Word, tokens};
 use sqlite_items::Items;
@@ -38,7 +39,7 @@ fn whole(alloc: Global, tokens: &[Token], end: usize) -> Result<Draft, ReadFault
         (λ fault. Stops end (read_all (scl 0) tokens.now) fault) }
 {
     let named = past_word(tokens, end, Word::Scl)?;
-    let (name, _) = name(named, end)?;
+    let called = name(named, end)?;
     let mut variables = Items::new(alloc);
     let mut statements = Items::new(alloc);
     let rest = body(alloc, behind(named), end, &mut variables, &mut statements)?;
@@ -46,7 +47,7 @@ fn whole(alloc: Global, tokens: &[Token], end: usize) -> Result<Draft, ReadFault
         return Err(wrong(rest, end));
     }
     Ok(Draft {
-        name,
+        name: called.name,
         declarations: variables,
         statements,
     })

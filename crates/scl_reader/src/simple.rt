@@ -52,15 +52,18 @@ fn named<'a>(
         (λ rest. Adds alone (read (named (expression 0)) tokens.now) statements.old statements.new rest.now)
         (λ fault. Stops end (read (named (expression 0)) tokens.now) fault) }
 {
-    let (name, at) = name(tokens, end)?;
+    let called = name(tokens, end)?;
     let rest = behind(tokens);
     if sign_follows(rest, Sign::Becomes) {
         let (value, after) = value(alloc, Sign::Semicolon, behind(rest), end)?;
-        statements.push(TextStatement::Assign { name, at, value })?;
+        statements.push(TextStatement::Assign {
+            target: called,
+            value,
+        })?;
         return Ok(after);
     }
     let after = past_sign(rest, end, Sign::Colon)?;
-    statements.push(TextStatement::Label(name, at))?;
+    statements.push(TextStatement::Label(called))?;
     Ok(after)
 }
 
@@ -75,10 +78,10 @@ fn goto<'a>(
         (λ fault. Stops end (read goto tokens.now) fault) }
 {
     let target = past_word(tokens, end, Word::Goto)?;
-    let (name, at) = name(target, end)?;
+    let called = name(target, end)?;
     let rest = behind(target);
     let after = past_sign(rest, end, Sign::Semicolon)?;
-    statements.push(TextStatement::Goto(name, at))?;
+    statements.push(TextStatement::Goto(called))?;
     Ok(after)
 }
 

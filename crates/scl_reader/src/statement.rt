@@ -1,29 +1,19 @@
 //! The statements of an SCL text.
 
-use sc_text::TextOperation;
-use sc_values::Name;
+use draft_parts::{Named, TextExpression};
 use sqlite_items::Items;
-
-/// An expression as the text has it, with the place of its first byte.
-#[derive(Debug, Drop)]
-pub struct TextExpression {
-    pub start: usize,
-    pub code: Items<TextOperation>,
-}
 
 /// A statement of a program's text. Names are not yet resolved. A place is that of a first byte in the text.
 #[derive(Debug, Drop)]
 pub enum TextStatement {
-    /// The variable of this name, which stands at `at`, becomes the value.
+    /// The variable of this name becomes the value.
     Assign {
-        name: Name,
-        at: usize,
+        target: Named,
         value: TextExpression,
     },
-    /// A label, which stands at this place.
-    Label(Name, usize),
-    /// A goto of this label, which stands at this place.
-    Goto(Name, usize),
+    Label(Named),
+    /// A goto of this label.
+    Goto(Named),
     Pause,
     /// An if. Where it has no `else` the second list is empty.
     If {

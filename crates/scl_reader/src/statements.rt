@@ -13,8 +13,9 @@ ghost use Rattle.scl_reader.specs.Inside.{Adds, TakesValue, itself, alone, one_b
 
 use crate::name::name_follows;
 use crate::simple::simple;
-use crate::statement::{TextExpression, TextStatement};
+use crate::statement::TextStatement;
 use crate::value::value;
+use draft_parts::TextExpression;
 use sc_text::ahead::{behind, past_sign, past_word, place, too_deep, word_follows};
 use sc_text::{ReadFault, Sign, Token, Word};
 use sqlite_items::Items;

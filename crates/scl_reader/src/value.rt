@@ -8,7 +8,7 @@ ghost use Rattle.sc_text.specs.Expression.{before, expression};
 ghost use Rattle.sc_text.specs.Reading.{Stops};
 ghost use Rattle.scl_reader.specs.Inside.{TakesValue};
 
-use crate::statement::TextExpression;
+use draft_parts::TextExpression;
 use sc_text::ahead::{past_sign, place};
 use sc_text::{ReadFault, Sign, Token, expression};
 use sqlite_items::Items;
@@ -28,8 +28,8 @@ pub fn value(
         (λ fault. Stops end (read (before (headed (expression 0)) (TheSign closing ∷ [])) tokens.now) fault) }
 {
     let start = place(tokens, end);
-    let mut code = Items::new(alloc);
-    let rest = expression(tokens, end, &mut code)?;
+    let mut operations = Items::new(alloc);
+    let rest = expression(tokens, end, &mut operations)?;
     let after = past_sign(rest, end, closing)?;
-    Ok((TextExpression { start, code }, after))
+    Ok((TextExpression { start, operations }, after))
 }

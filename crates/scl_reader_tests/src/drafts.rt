@@ -21,19 +21,19 @@ const TEXTS: [(&str, &str); 41] = [
     ("scl p { input bool a; output int b; local int c; }", "3 []"),
     (
         "scl p { a = b + 1; }",
-        "0 [Assign { name: a, at: 8, value: TextExpression { start: 12, code: Items { items: [Load(b, 12), Literal(Int(1)), Binary(Add)] } } }]",
+        "0 [Assign { target: Named { name: a, at: 8 }, value: TextExpression { start: 12, operations: Items { items: [Load(b, 12), Literal(Int(1)), Binary(Add)] } } }]",
     ),
     (
         "scl _p { L: goto L; pause; }",
-        "0 [Label(L, 9), Goto(L, 17), Pause]",
+        "0 [Label(Named { name: L, at: 9 }), Goto(Named { name: L, at: 17 }), Pause]",
     ),
     (
         "scl p { if (a) { pause; } }",
-        "0 [If { test: TextExpression { start: 12, code: Items { items: [Load(a, 12)] } }, first: Items { items: [Pause] }, second: Items { items: [] } }]",
+        "0 [If { test: TextExpression { start: 12, operations: Items { items: [Load(a, 12)] } }, first: Items { items: [Pause] }, second: Items { items: [] } }]",
     ),
     (
         "scl p { if (true) { } else { pause; } }",
-        "0 [If { test: TextExpression { start: 12, code: Items { items: [Literal(Bool(true))] } }, first: Items { items: [] }, second: Items { items: [Pause] } }]",
+        "0 [If { test: TextExpression { start: 12, operations: Items { items: [Literal(Bool(true))] } }, first: Items { items: [] }, second: Items { items: [Pause] } }]",
     ),
     (
         "scl p { fork { pause; } par { } join; }",
