@@ -2,7 +2,7 @@
 
 ghost use Rattle.std.specs.Prelude.{◌≡◌};
 ghost use Rattle.draft_parts.specs.First.{comes_before};
-ghost use Rattle.draft_parts.specs.Flaws.{flaw_if};
+ghost use Rattle.draft_parts.specs.Flaws.{flaw_if, is_full};
 ghost use Rattle.draft_parts.specs.Inside.{earlier, first_behind};
 
 use sc_text::Broken;
@@ -30,6 +30,13 @@ pub fn note_if(first: &mut Option<Flaw>, is_broken: bool, broken: Broken, at: us
     if is_broken {
         *first = Some(earlier(*first, Flaw { broken, at }));
     }
+}
+
+/// Whether so many are there already that no more may be.
+pub fn is_full(limit: usize, count: usize) -> bool
+    ensures { result ≡ is_full limit count }
+{
+    !(count < limit)
 }
 
 fn earlier(first: Option<Flaw>, next: Flaw) -> Flaw

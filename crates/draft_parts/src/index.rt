@@ -4,7 +4,7 @@ ghost use Rattle.std.specs.Prelude.{◌≡◌, ℕ, List, IfOk, OnOk};
 ghost use Rattle.std.specs.BTreeMap.{get};
 ghost use Rattle.std.specs.Cmp.Lexicographic.{slice_cmp};
 ghost use Rattle.std.specs.Ordering.{nat_cmp};
-ghost use Rattle.draft_parts.specs.Flaws.{place_among};
+ghost use Rattle.draft_parts.specs.Flaws.{place_among, is_among, is_at, is_repeated};
 ghost use Rattle.draft_parts.specs.Inside.{IsIndex, with_name};
 
 use sc_values::Name;
@@ -38,6 +38,29 @@ impl Index {
             Some(at) => Some(*at),
             None => None,
         }
+    }
+
+    /// Whether this is one of the names.
+    pub fn has(&self, name: Name) -> bool
+        ensures { (names : List (List ℕ)) → IsIndex names self.now → result ≡ is_among names name }
+    {
+        self.place(name).is_some()
+    }
+
+    /// Whether the name that stands at this place stands at an earlier one too.
+    pub fn is_repeated(&self, at: usize, name: Name) -> bool
+        ensures { (names : List (List ℕ)) → IsIndex names self.now → result ≡ is_repeated names at name }
+    {
+        !is_at(at, self.place(name))
+    }
+}
+
+fn is_at(at: usize, place: Option<usize>) -> bool
+    ensures { result ≡ is_at at place }
+{
+    match place {
+        Some(found) => found == at,
+        None => false,
     }
 }
 

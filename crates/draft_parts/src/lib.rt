@@ -10,7 +10,7 @@ mod kinds;
 mod parts;
 mod scope;
 
-pub use flaw::{Flaw, note_if};
+pub use flaw::{Flaw, is_full, note_if};
 pub use index::Index;
 pub use parts::{Declaration, Named, TextExpression};
 pub use scope::Scope;

@@ -1,16 +1,19 @@
 //! What is wrong with the expressions of a draft, held against its variables.
 
-ghost use Rattle.std.specs.Prelude.{◌≡◌, ◌∷◌, IfOk, OnOk, option_map};
+ghost use Rattle.std.specs.Prelude.{◌≡◌, ◌∷◌, ◌&&◌, IfOk, OnOk, option_map};
 ghost use Rattle.std.specs.List.{list_all};
-ghost use Rattle.draft_parts.specs.Flaws.{variable_names, variable_named, is_among, unknown_one, unknown_names, has_known_name, kind_named, kinds_behind, is_of_kind, is_of_other_kind, expression_flaws, is_input, assigned_flaws};
+ghost use Rattle.sc_graph.specs.Limits.{variable_limit, output_limit};
+ghost use Rattle.sc_graph.specs.Size.{is_output};
+ghost use Rattle.sc_text.specs.declared.read_fault.Broken.TheVariants as broken;
+ghost use Rattle.draft_parts.specs.Flaws.{flaw_if, is_full, is_repeated, variable_flaws, variable_names, variable_named, is_among, unknown_one, unknown_names, has_known_name, kind_named, kinds_behind, is_of_kind, is_of_other_kind, expression_flaws, is_input, assigned_flaws};
 ghost use Rattle.draft_parts.specs.Inside.{IsIndex, first_behind, some_if};
 
-use crate::flaw::{Flaw, note_if};
+use crate::flaw::{Flaw, is_full, note_if};
 use crate::heights::passes_limits;
 use crate::index::Index;
 use crate::kinds::Kinds;
 use crate::parts::{Declaration, Named, TextExpression};
-use sc_graph::Role;
+use sc_graph::{OUTPUT_LIMIT, Role, VARIABLE_LIMIT};
 use sc_text::{Broken, TextOperation};
 use sc_values::{Kind, Name};
 use sqlite_items::Items;
@@ -19,7 +22,7 @@ use std::alloc::{AllocError, Global};
 /// What the parts of a draft are held against: its variables, and a table of their places by name.
 #[derive(Drop)]
 pub struct Scope<'a> {
-    variables: &'a [Declaration],
+    pub variables: &'a [Declaration],
     index: Index,
     ghost same: { IsIndex (variable_names variables.now) index },
 }
@@ -45,6 +48,42 @@ impl<'a> Scope<'a> {
             },
             None => None,
         }
+    }
+
+    /// Notes the flaws of the variables themselves: names that stand twice, and variables and outputs past their limits.
+    #[tactic(auto, using(crate::proofs::Flawed::variable_step, crate::proofs::Flawed::variables_over))]
+    pub fn declarations(&self, first: &mut Option<Flaw>)
+        ensures { first.new ≡ first_behind first.old (variable_flaws (variable_names self.now.variables.now) 0 0 self.now.variables.now) }
+    {
+        let mut outputs: usize = 0;
+        for (at, variable) in self.variables.iter().enumerate() {
+            self.declaration(at, outputs, variable, first);
+            if variable.role.is_output() {
+                outputs += 1;
+            }
+        }
+    }
+
+    // The flaws of the variable at this place, before which stand so many outputs.
+    fn declaration(
+        &self,
+        at: usize,
+        outputs: usize,
+        variable: &Declaration,
+        first: &mut Option<Flaw>,
+    )
+        ensures { first.new ≡ first_behind (first_behind (first_behind first.old
+            (flaw_if (is_repeated (variable_names self.now.variables.now) at variable.now.named.name) broken.Repeated variable.now.named.at))
+            (flaw_if (is_full variable_limit at) broken.Limit variable.now.named.at))
+            (flaw_if (is_output variable.now.role && is_full output_limit outputs) broken.Limit variable.now.named.at) }
+    {
+        let named = variable.named;
+        let is_repeated = self.index.is_repeated(at, named.name);
+        note_if(first, is_repeated, Broken::Repeated, named.at);
+        let is_past = is_full(VARIABLE_LIMIT, at);
+        note_if(first, is_past, Broken::Limit, named.at);
+        let is_past = variable.role.is_output() && is_full(OUTPUT_LIMIT, outputs);
+        note_if(first, is_past, Broken::Limit, named.at);
     }
 
     /// The flaws of an expression where one of this kind is wanted; None: of any kind. Err: memory was refused.
@@ -97,7 +136,7 @@ impl<'a> Scope<'a> {
     fn is_known(&self, name: Name) -> bool
         ensures { result ≡ is_among (variable_names self.now.variables.now) name }
     {
-        self.index.place(name).is_some()
+        self.index.has(name)
     }
 
     #[tactic(auto, using(crate::proofs::Flawed::unknown_step, crate::proofs::Flawed::unknown_over))]
