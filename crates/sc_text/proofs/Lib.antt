@@ -8,4 +8,5 @@ pub mod Faces
 pub mod Rows
 pub mod Cutting
 pub mod Scanning
+pub mod WellTokens
 pub mod Meanings

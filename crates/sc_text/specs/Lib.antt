@@ -2,6 +2,7 @@ pub mod Words
 pub mod Pieces
 pub mod Tokens
 pub mod Parts
+pub mod Writable
 pub mod FaultText
 pub mod Classes
 pub mod Phrases
