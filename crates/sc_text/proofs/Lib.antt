@@ -9,4 +9,6 @@ pub mod Rows
 pub mod Cutting
 pub mod Scanning
 pub mod WellTokens
+pub mod EachPart
+pub mod WritablePhrases
 pub mod Meanings
