@@ -1,3 +1,9 @@
 pub mod Firsts
 pub mod Indexed
 pub mod Flawed
+pub mod Resolving
+pub mod Kinded
+pub mod Within
+pub mod Unflawed
+pub mod Distinct
+pub mod Declared

@@ -2,3 +2,4 @@ pub mod Parts
 pub mod First
 pub mod Flaws
 pub mod Inside
+pub mod Resolved

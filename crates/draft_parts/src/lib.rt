@@ -8,9 +8,12 @@ mod heights;
 mod index;
 mod kinds;
 mod parts;
+mod resolved;
 mod scope;
+mod trees;
 
 pub use flaw::{Flaw, is_full, note_if};
 pub use index::Index;
 pub use parts::{Declaration, Named, TextExpression};
+pub use resolved::variables;
 pub use scope::Scope;

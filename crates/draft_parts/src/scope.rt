@@ -23,7 +23,7 @@ use std::alloc::{AllocError, Global};
 #[derive(Drop)]
 pub struct Scope<'a> {
     pub variables: &'a [Declaration],
-    index: Index,
+    pub(crate) index: Index,
     ghost same: { IsIndex (variable_names variables.now) index },
 }
 
