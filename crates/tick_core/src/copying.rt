@@ -4,8 +4,8 @@ use sc_graph::Control;
 use sqlite_items::Items;
 use std::alloc::{AllocError, Global};
 
-/// The same configuration again.
-pub(crate) fn copied(alloc: Global, control: &Control) -> Result<Control, AllocError>
+/// The same configuration again. Err: memory was refused.
+pub fn copied(alloc: Global, control: &Control) -> Result<Control, AllocError>
     ensures { IfOk result (λ c. c ≡ control.now) }
 {
     let variables = Items::from_slice(alloc, control.variables.as_slice())?;

@@ -20,6 +20,7 @@ mod state;
 mod stepping;
 
 pub use claim::{Claim, Done, evaluate};
+pub use copying::copied;
 pub use events::{all_ticks_end_alike, every_order_replays};
 pub use history::{Entry, Report};
 pub use inputs::Inputs;
