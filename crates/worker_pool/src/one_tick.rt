@@ -10,14 +10,14 @@ use crate::gate::Gate;
 use crate::hall::Hall;
 use crate::picture::Picture;
 use crate::serving::{alone, stretch};
-use crate::settling::{copied, settle};
+use crate::settling::settle;
 use crate::ticking::run_again;
 use std::alloc::Global;
 use std::marker::Brand;
 use std::sync::Wait;
 use std::thread;
 use std::thread::{Scope, Threads};
-use tick_core::{BeginFault, Claim, Control, Inputs, Report, TickState, begin};
+use tick_core::{BeginFault, Claim, Control, Inputs, Report, TickState, begin, copied};
 use verifier::Verified;
 
 /// Runs a tick from a configuration that rests to its one end, with 1 to 8 workers: the configuration after it, and

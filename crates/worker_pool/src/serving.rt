@@ -68,8 +68,8 @@ pub(crate) fn operations_of(claim: &Claim<'_>) -> u64 {
     }
 }
 
-// Takes all steps that are left of a tick.
-fn serve<G: Gate>(state: &mut TickState<'_>, gate: &G)
+/// Takes all steps that are left of a tick.
+pub(crate) fn serve<G: Gate>(state: &mut TickState<'_>, gate: &G)
     ensures { EndsTick state.old state.new }
 {
     for _ in 0..u64::MAX {

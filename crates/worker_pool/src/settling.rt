@@ -1,4 +1,4 @@
-ghost use Rattle.std.specs.Prelude.{◌≡◌, IfOk, IfSome, IsTrue};
+ghost use Rattle.std.specs.Prelude.{◌≡◌, IfSome, IsTrue};
 ghost use Rattle.sc_values.specs.Runs.{IsOver};
 ghost use Rattle.sc_graph.specs.Machine.{machine};
 
@@ -6,8 +6,6 @@ use crate::desk::Desk;
 use crate::picture::Picture;
 use sc_graph::Status;
 use sc_values::Value;
-use sqlite_items::Items;
-use std::alloc::{AllocError, Global};
 use tick_core::{Control, TickState};
 
 /// What came back of a tick that began so, run to its end. None: nothing came back, or another tick.
@@ -25,18 +23,6 @@ pub(crate) fn settle<'x, J: Picture>(
     }
     state.run_alone();
     Some(state)
-}
-
-/// The same configuration again.
-pub(crate) fn copied(alloc: Global, control: &Control) -> Result<Control, AllocError>
-    ensures { IfOk result (λ c. c ≡ control.now) }
-{
-    let variables = Items::from_slice(alloc, control.variables.as_slice())?;
-    let statuses = Items::from_slice(alloc, control.statuses.as_slice())?;
-    Ok(Control {
-        variables,
-        statuses,
-    })
 }
 
 // Whether one configuration is the other.

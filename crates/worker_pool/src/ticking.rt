@@ -8,24 +8,25 @@ use crate::crew::Crew;
 use crate::desk::Desk;
 use crate::gate::Gate;
 use crate::picture::Picture;
-use crate::serving::{alone, stretch};
-use crate::settling::{copied, settle};
+use crate::serving::{alone, serve, stretch};
+use crate::settling::settle;
 use std::alloc::Global;
 use std::sync::Wait;
 use std::thread::Scope;
-use tick_core::{BeginFault, Claim, Control, Inputs, Room, TickState, begin};
+use tick_core::{BeginFault, Claim, Control, Inputs, Room, TickState, begin, copied};
 use verifier::Verified;
 
 impl<'r, 'x, J: Picture, G: Gate> Crew<'r, 'x, J, G> {
-    /// Runs a tick of the hall's image from a configuration that rests, in the room that an earlier one left, to where
-    /// nobody is enabled. Each step passes the gate. `Input` and `Memory` as of `begin`; the configuration is untouched.
+    /// Runs a tick of the hall's image from a configuration that rests and is given up, in the room that an earlier one
+    /// left, to where nobody is enabled. Each step passes the gate. `Input` as of `begin`. One worker takes no memory,
+    /// and others share the tick where there is memory for it.
     pub fn tick<'s, R, E>(
         &mut self,
         rt: &'s R,
         scope: &'s Scope<'s, E>,
         alloc: Global,
         room: Room<'x>,
-        control: &Control,
+        control: Control,
         inputs: &Inputs,
     ) -> Result<TickState<'x>, BeginFault>
     where
@@ -36,14 +37,30 @@ impl<'r, 'x, J: Picture, G: Gate> Crew<'r, 'x, J, G> {
         'r: 's,
         'x: 's,
         requires image { room ≡ J.image }
-        requires rests { Rests J.image.program control.now }
-        ensures ended { IfOk result (Ended J.image inputs.now control.now) }
+        requires rests { Rests J.image.program control }
+        ensures ended { IfOk result (Ended J.image inputs.now control) }
         ensures refused { IsErrOf result BeginFault.Input ↔ ¬ (AreAccepted J.image.program inputs.now) }
     {
-        let state = room.begin(alloc, control, inputs)?;
+        let before = self.kept(alloc, &control);
+        let mut state = room.go_on(control, inputs)?;
+        let Some(before) = before else {
+            serve(&mut state, self.hall.gate);
+            return Ok(state);
+        };
         match self.complete(rt, scope, alloc, state) {
             Some(state) => Ok(state),
-            None => run_again(alloc, self.hall.verified, control, inputs),
+            None => run_again(alloc, self.hall.verified, &before, inputs),
+        }
+    }
+
+    // Where others may share a tick: the configuration from which it begins, kept for a tick that is lost.
+    fn kept(&self, alloc: Global, control: &Control) -> Option<Control>
+        ensures { IfSome result (λ c. c ≡ control.now) }
+    {
+        if self.workers > 1 {
+            copied(alloc, control).ok()
+        } else {
+            None
         }
     }
 
