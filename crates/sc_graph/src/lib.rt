@@ -15,8 +15,6 @@ mod resting;
 mod size;
 mod structure;
 mod tables;
-#[cfg(test)]
-mod tests;
 
 pub use accesses::is_loaded;
 pub use concurrency::{concurrent, lca};

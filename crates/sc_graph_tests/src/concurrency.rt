@@ -1,7 +1,9 @@
+//! Which threads are concurrent, and which thread forks them apart.
+
 ghost use Rattle.sc_graph.specs.Valid.{IsFormed};
 
-use super::programs::{Small, program, wide_fork};
-use crate::{ConcurrentThreads, Program, ThreadId, concurrent, lca};
+use crate::programs::{Small, program, wide_fork};
+use sc_graph::{ConcurrentThreads, Program, ThreadId, concurrent, lca};
 use std::alloc::Global;
 use std::process::Abort;
 use std::test::Fail;

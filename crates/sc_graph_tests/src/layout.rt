@@ -1,5 +1,7 @@
-use super::programs::{Small, nodes, threads, variables, wide_fork};
-use crate::{Node, Program, ProgramFault, Role, Step, Thread, Variable};
+//! The counts that the layout of an image has room for.
+
+use crate::programs::{Small, nodes, threads, variables, wide_fork};
+use sc_graph::{Node, Program, ProgramFault, Role, Step, Thread, Variable};
 use sc_values::{Kind, Name};
 use sqlite_items::Items;
 use std::alloc::Global;

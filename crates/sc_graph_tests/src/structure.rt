@@ -1,5 +1,7 @@
-use super::programs::{Begin, NODES, Small, THREADS, program, with_node, with_thread};
-use crate::{NodeId, Place, ThreadId};
+//! Which programs are formed, and where others break the rule of structure.
+
+use crate::programs::{Begin, NODES, Small, THREADS, program, said, with_node, with_thread};
+use sc_graph::{NodeId, Place, ThreadId};
 use std::alloc::Global;
 use std::process::Abort;
 use std::test::Fail;
@@ -11,19 +13,16 @@ fn breaks<R: Abort>(
     list: &[(NodeId, (ThreadId, Small), Place)],
 ) -> Result<(), Fail> {
     for (at, node, place) in list {
-        let broken = with_node(alloc, *at, *node)?;
-        assert!(rt; broken.size_fault().is_none(), "node {at}");
-        assert!(rt; broken.structure_fault() == Some(*place), "node {at}");
-        assert!(rt; !broken.formed());
+        let found = said(with_node(alloc, *at, *node)?);
+        assert_eq!(rt; found, (None, Some(*place), false), "node {at}");
     }
     Ok(())
 }
 
 #[test]
 fn a_formed_program(rt: HostRuntime) -> Result<(), Fail> {
-    let program = program(rt.alloc(), &THREADS, &NODES)?;
-    assert!(rt; program.formed());
-    assert!(rt; program.structure_fault().is_none());
+    let found = said(program(rt.alloc(), &THREADS, &NODES)?);
+    assert_eq!(rt; found, (None, None, true));
     Ok(())
 }
 
@@ -92,7 +91,6 @@ fn children_of_no_fork_or_two(rt: HostRuntime) -> Result<(), Fail> {
 
 #[test]
 fn broken_threads(rt: HostRuntime) -> Result<(), Fail> {
-    let alloc = rt.alloc();
     let list: [(ThreadId, Begin, Place); 3] = [
         // the root begins at a join, a thread at a depth
         (0, (None, 1), Place::Thread(0)),
@@ -101,10 +99,8 @@ fn broken_threads(rt: HostRuntime) -> Result<(), Fail> {
         (2, (Some(1), 5), Place::Node(0)),
     ];
     for (at, thread, place) in list {
-        let broken = with_thread(alloc, at, thread)?;
-        assert!(rt; broken.size_fault().is_none(), "thread {at}");
-        assert!(rt; broken.structure_fault() == Some(place), "thread {at}");
-        assert!(rt; !broken.formed());
+        let found = said(with_thread(rt.alloc(), at, thread)?);
+        assert_eq!(rt; found, (None, Some(place), false), "thread {at}");
     }
     Ok(())
 }
@@ -116,9 +112,8 @@ fn the_root_as_a_child(rt: HostRuntime) -> Result<(), Fail> {
         (0, Small::Join(2)),
         (0, Small::Exit),
     ];
-    let program = program(rt.alloc(), &[(None, 0)], &node_list)?;
-    assert!(rt; program.size_fault().is_none());
-    assert!(rt; program.structure_fault() == Some(Place::Node(0)));
+    let found = said(program(rt.alloc(), &[(None, 0)], &node_list)?);
+    assert_eq!(rt; found, (None, Some(Place::Node(0)), false));
     Ok(())
 }
 
@@ -133,9 +128,7 @@ fn two_forks_of_one_join(rt: HostRuntime) -> Result<(), Fail> {
         (1, Small::Exit),
         (2, Small::Exit),
     ];
-    let program = program(rt.alloc(), &thread_list, &node_list)?;
-    assert!(rt; program.size_fault().is_none());
-    assert!(rt; program.structure_fault() == Some(Place::Node(2)));
-    assert!(rt; !program.formed());
+    let found = said(program(rt.alloc(), &thread_list, &node_list)?);
+    assert_eq!(rt; found, (None, Some(Place::Node(2)), false));
     Ok(())
 }

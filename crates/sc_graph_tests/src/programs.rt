@@ -1,6 +1,6 @@
 //! Small programs to test on.
 
-use crate::{Node, NodeId, Program, Role, Step, Thread, ThreadId, Variable, VariableId};
+use sc_graph::{Node, NodeId, Place, Program, Role, Step, Thread, ThreadId, Variable, VariableId};
 use sc_values::{Code, Combination, Kind, Name, Operation, Value};
 use sqlite_items::Items;
 use std::alloc::Global;
@@ -15,6 +15,8 @@ pub enum Small {
     Copy(VariableId, VariableId, NodeId),
     /// The second variable is added to the first.
     Add(VariableId, VariableId, NodeId),
+    /// The variable is combined with 1.
+    Combine(VariableId, Combination, NodeId),
     /// Goes on at the first node where the variable is true.
     Cond(VariableId, NodeId, NodeId),
     Fork(ThreadId, ThreadId, NodeId),
@@ -29,13 +31,15 @@ pub enum Small {
 /// The number of a thread's parent, and of the node where the thread begins.
 pub type Begin = (Option<ThreadId>, NodeId);
 
-/// The code of one operation.
-pub fn code(operation: Operation) -> Result<Code, Fail> {
+const ONE: Operation = Operation::Literal(Value::Int(1));
+
+// The code of one operation.
+fn code(operation: Operation) -> Result<Code, Fail> {
     Ok(Code::from_operations(&[operation]).ok_or("a code")?)
 }
 
-/// A fork of these children.
-pub fn fork(alloc: Global, children: &[ThreadId], join: NodeId) -> Result<Step, Fail> {
+// A fork of these children.
+fn fork(alloc: Global, children: &[ThreadId], join: NodeId) -> Result<Step, Fail> {
     Ok(Step::Fork {
         children: Items::from_slice(alloc, children)?,
         join,
@@ -50,8 +54,8 @@ fn assign(variable: VariableId, operation: Operation, next: NodeId) -> Result<St
     })
 }
 
-/// An update by a combination.
-pub fn update(
+// An update by a combination.
+fn update(
     variable: VariableId,
     combine: Combination,
     operation: Operation,
@@ -68,9 +72,10 @@ pub fn update(
 /// The step of a small program.
 pub fn step(alloc: Global, small: Small) -> Result<Step, Fail> {
     match small {
-        Small::Assign(x, next) => assign(x, Operation::Literal(Value::Int(1)), next),
+        Small::Assign(x, next) => assign(x, ONE, next),
         Small::Copy(x, y, next) => assign(x, Operation::Load(y), next),
         Small::Add(x, y, next) => update(x, Combination::Add, Operation::Load(y), next),
+        Small::Combine(x, combine, next) => update(x, combine, ONE, next),
         Small::Cond(x, then, other) => Ok(Step::Cond {
             code: code(Operation::Load(x))?,
             then,
@@ -139,6 +144,15 @@ pub fn program(
         threads(alloc, thread_list)?,
         nodes(alloc, node_list)?,
     )?)
+}
+
+/// Where a program breaks the rule of sizes, where that of structure, and whether it is formed.
+pub fn said(program: Program) -> (Option<Place>, Option<Place>, bool) {
+    (
+        program.size_fault(),
+        program.structure_fault(),
+        program.formed(),
+    )
 }
 
 /// Of the small program: a root that forks a thread that writes, and one that pauses.
