@@ -7,7 +7,7 @@ ghost use Rattle.chart_lowering.specs.Lowering.{piece_of_region, root, lowered};
 
 use crate::aborts::are_aborts_in;
 use crate::regions::branches_of;
-use core_charts::{Chart, CoreChart, Region};
+use core_charts::{Chart, CoreChart, Region, copied_variables};
 use sc_graph::Variable;
 use sc_values::Name;
 use scl::{Scl, Statement};
@@ -58,18 +58,4 @@ fn program(
     })?;
     let declared = copied_variables(alloc, variables)?;
     Ok(Scl::known(name, declared, body))
-}
-
-fn copied_variables(alloc: Global, variables: &[Variable]) -> Result<Items<Variable>, AllocError>
-    ensures { IfOk result (λ copy. copy ≡ variables.now) }
-{
-    let mut copy = Vec::with_capacity(alloc, variables.len())?;
-    for variable in variables {
-        copy.push(Variable {
-            name: variable.name,
-            kind: variable.kind,
-            role: variable.role,
-        })?;
-    }
-    Ok(Items::from_vec(copy))
 }

@@ -152,7 +152,8 @@ impl Configuration {
     }
 }
 
-pub(crate) fn copied_variables(
+/// A copy of a list of variables. Err: memory was refused.
+pub fn copied_variables(
     alloc: Global,
     variables: &[Variable],
 ) -> Result<Items<Variable>, AllocError>

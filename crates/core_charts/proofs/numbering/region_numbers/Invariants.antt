@@ -1,6 +1,6 @@
 use Rattle.std.proofs.Common.{◌≡◌, ◌++◌, ◌+◌, map, drop}
 use Rattle.core_charts.specs.Table.{piece_of_region, region_numbers}
-use Rattle.core_charts.proofs.tabling.region_numbers.Given as goal
+use Rattle.core_charts.proofs.numbering.region_numbers.Given as goal
 
 abbrev pub invariant-loop-region : goal.invariant-loop-region
 invariant-loop-region l =

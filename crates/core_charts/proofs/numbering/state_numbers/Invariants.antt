@@ -1,6 +1,6 @@
 use Rattle.std.proofs.Common.{◌≡◌, ◌++◌, ◌+◌, map, drop}
 use Rattle.core_charts.specs.Table.{piece_of_state, state_numbers}
-use Rattle.core_charts.proofs.tabling.state_numbers.Given as goal
+use Rattle.core_charts.proofs.numbering.state_numbers.Given as goal
 
 abbrev pub invariant-loop-state : goal.invariant-loop-state
 invariant-loop-state l =
