@@ -1,1 +1,3 @@
 pub mod Compiled
+pub mod FaultText
+pub mod Texts

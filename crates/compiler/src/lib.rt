@@ -2,7 +2,10 @@
 #![tactic(auto)]
 
 mod fault;
+mod fault_text;
 mod from_program;
+mod from_scl;
 
 pub use fault::CompileFault;
 pub use from_program::compile_program;
+pub use from_scl::compile_scl;

@@ -1,0 +1,55 @@
+-- From a graph to its image.
+use Rattle.std.proofs.Common.{◌≡◌, Bool, true, false, List, subst, sym, IsTrue}
+use Rattle.std.proofs.Math.Logic.{∥∥₁_elim, ∥∥₁_map}
+use Rattle.sc_graph.specs.Program.{Program}
+use Rattle.sc_graph.specs.Valid.{IsFormed, IsValid}
+use Rattle.priority_weights.specs.LeastTables.{AreLeast}
+use Rattle.bytecode.specs.Image.{Image}
+use Rattle.scl.specs.declared.program.Scl.{Scl}
+use Rattle.scl.specs.Numbering.{numbered}
+use Rattle.scl.specs.Rules.{KeepsRules}
+use Rattle.scl_graph.specs.Answers.{IsGraph}
+use Rattle.scl_graph_laws.specs.Keeps.{Keeps}
+use Rattle.scl_graph_laws.proofs.Keeping.{program_keeps_runs}
+use Rattle.scl_graph_laws.proofs.Forming.{program_is_formed}
+use Rattle.compiler.specs.Compiled.{IsCompiled, IsRefused}
+use Rattle.compiler.specs.Texts.{IsImageOf, IsNotCompiled}
+use Rattle.compiler.specs.declared.fault.CompileFault.{CompileFault}
+use Rattle.compiler.specs.declared.fault.CompileFault.TheVariants as fault
+
+-- the graph of an SCL program keeps its runs, and is formed
+answered : (scl : Scl) (q : Program) → KeepsRules scl.name scl.variables scl.body → IsGraph scl q → Keeps (numbered scl) q × IsFormed q
+answered scl q kept graph = (
+  subst (λ q. Keeps (numbered scl) q) (sym graph.is) (program_keeps_runs scl kept graph.no_loop),
+  subst IsFormed (sym graph.is) (program_is_formed scl kept graph.no_loop graph.fits),
+)
+
+pub graph_formed : (scl : Scl) (q : Program) → IsGraph scl q → ∥ IsFormed q ∥₁
+graph_formed scl q graph = ∥∥₁_map scl.kept (λ kept. (answered scl q kept graph).1)
+
+pub image_of_graph : (scl : Scl) (q : Program) (image : Image) → IsGraph scl q → IsCompiled q image → IsImageOf scl image
+image_of_graph scl q image graph compiled =
+    let graph' : IsGraph scl image.program = subst (IsGraph scl) (sym compiled.program) graph in
+    record {
+      graph = graph';
+      runs = ∥∥₁_map scl.kept (λ kept. (answered scl image.program kept graph').0);
+      least = subst (λ p. AreLeast p image.tables) (sym compiled.program) compiled.least;
+      valid = subst (λ p. IsValid p image.tables) (sym compiled.program) compiled.valid;
+    }
+
+pub graph_refused : (scl : Scl) (q : Program) (f : CompileFault) → IsGraph scl q → IsRefused q f → IsNotCompiled scl f
+graph_refused scl q (fault.Graph f) graph refused = absurd refused
+graph_refused scl q (fault.Conflict f) graph refused = record { program = q; graph = graph; refused = refused }
+graph_refused scl q (fault.Tables f) graph refused = record { program = q; graph = graph; refused = refused }
+graph_refused scl q (fault.Rule f) graph refused = record { program = q; graph = graph; refused = refused }
+
+-- so a test of it is passed
+clash : (b : Bool) → b ≡ true → b ≡ false → ⊥
+clash b holds fails = cc
+
+no_proof : IsProp ⊥
+no_proof a = absurd a
+
+pub is_formed : (scl : Scl) (q : Program) (b : Bool) → IsGraph scl q → (IsFormed q → IsTrue b) → b ≡ false → ⊥
+is_formed scl q b graph test is =
+    ∥∥₁_elim (graph_formed scl q graph) no_proof (λ formed. clash b (test formed) is)

@@ -1,0 +1,31 @@
+-- What compiling an SCL program gives: the image of its graph with the least tables, or why it has none.
+use Rattle.std.specs.Prelude.{◌≡◌}
+use Rattle.sc_graph.specs.Program.{Program}
+use Rattle.sc_graph.specs.Valid.{IsValid}
+use Rattle.scl.specs.declared.program.Scl.{Scl}
+use Rattle.scl.specs.Numbering.{numbered}
+use Rattle.scl_graph.specs.Answers.{IsGraph, IsReason}
+use Rattle.scl_graph_laws.specs.Keeps.{Keeps}
+use Rattle.bytecode.specs.Image.{Image}
+use Rattle.priority_weights.specs.LeastTables.{AreLeast}
+use Rattle.compiler.specs.Compiled.{IsRefused}
+use Rattle.compiler.specs.declared.fault.CompileFault.{CompileFault}
+use Rattle.compiler.specs.declared.fault.CompileFault.TheVariants as fault
+
+-- the image is valid, and its tables are the least; its program is the graph of the SCL program, and keeps its runs
+pub record IsImageOf (scl : Scl) (image : Image) : Type 0 where
+  pub graph : IsGraph scl image.program
+  pub runs : ∥ Keeps (numbered scl) image.program ∥₁
+  pub least : AreLeast image.program image.tables
+  pub valid : IsValid image.program image.tables
+
+-- the graph of an SCL program has no image, for this fault
+pub record HasNoImage (scl : Scl) (f : CompileFault) : Type 0 where
+  pub program : Program
+  pub graph : IsGraph scl program
+  pub refused : IsRefused program f
+
+-- why an SCL program has no image: that it has no graph comes before what its graph lacks
+abbrev pub IsNotCompiled : Scl → CompileFault → Type 0
+IsNotCompiled scl (fault.Graph f) = IsReason scl f
+IsNotCompiled scl other = HasNoImage scl other

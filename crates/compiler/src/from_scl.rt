@@ -1,0 +1,30 @@
+//! From an SCL program to its image.
+
+ghost use Rattle.std.specs.Prelude.{IfErr, IfOk};
+ghost use Rattle.compiler.specs.Texts.{IsImageOf, IsNotCompiled};
+
+use crate::fault::CompileFault;
+use crate::from_program::compile_program;
+use scl::Scl;
+use scl_graph::graph_of;
+use std::alloc::Global;
+use verifier::Verified;
+
+/// The valid image of an SCL program: that of its graph, with the least tables. Err: the first that holds of
+/// these: the program has no graph (E14, E07), two nodes conflict (E11), flow within one tick closes (E13),
+/// instantaneous and protocol edges close (E12), the image with the least tables breaks a rule (E31 to E40);
+/// or memory was refused.
+#[tactic(auto, using(crate::proofs::Texts::graph_formed, crate::proofs::Texts::image_of_graph, crate::proofs::Texts::graph_refused))]
+pub fn compile_scl(alloc: Global, scl: &Scl) -> Result<Verified, CompileFault>
+    ensures compiled { IfOk result (IsImageOf scl.now) }
+    ensures refused { IfErr result (IsNotCompiled scl.now) }
+{
+    let program = match graph_of(alloc, scl) {
+        Ok(program) => program,
+        Err(fault) => return Err(CompileFault::Graph(fault)),
+    };
+    if !program.formed() {
+        unreachable!();
+    }
+    compile_program(alloc, program)
+}
