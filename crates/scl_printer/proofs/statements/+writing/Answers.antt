@@ -25,6 +25,13 @@ write_statements-loop-statement-preserved g t c =
       written = λ new h. c.loop-statement.invariant.written new (written_as _ _ _ _ (sym (ap (λ ys. statements_text vs ys c.args.level) split)) (follows _ _ _ _ _ c.write_statement.ensures h));
     }
 
+pub write_statements-returns : goal.write_statements-returns
+write_statements-returns g t c =
+    let vs : List Variable = c.args.variables.now in
+    let xs : List Statement = c.args.statements.now in
+    let none : drop c.loop-statement.statement-index xs ≡ [] = drop_all c.loop-statement.statement-index xs c.loop-statement-test.false in
+    c.loop-statement.invariant.written _ (written_as _ _ _ _ (sym (ap (λ ys. statements_text vs ys c.args.level) none)) (nothing _))
+
 pub write_statement-returns-in-If : goal.write_statement-returns-in-If
 write_statement-returns-in-If g t c =
     let vs : List Variable = c.args.variables.now in
