@@ -7,3 +7,4 @@ pub mod Within
 pub mod Unflawed
 pub mod Distinct
 pub mod Declared
+pub mod EachName

@@ -1,5 +1,6 @@
 -- What holds of each phrase of a grammar, where something holds of each of its tokens.
-use Rattle.std.proofs.Common.{IsTrue, ⊎_elim, List, [], ◌∷◌, ◌++◌, Option, Some, None, sym, subst}
+use Rattle.std.proofs.Common.{ℕ, zero, suc, ◌≡◌, map, IsTrue, ⊎_elim, List, [], ◌∷◌, ◌++◌, Option, Some, None, sym, subst}
+use Rattle.std.specs.List.{slice_get}
 use Rattle.grammar.specs.Grammar.{Tokens, Grammar, One, Seq, Either, Maybe, Many, Made, Headed, Barred, is_in, each_spelled, spells}
 
 -- it holds of each item
@@ -28,6 +29,17 @@ module _ {X : Type 0} (P : X → Type 0) where
   pub every_joined : (xs ys : List X) → Every P xs → Every P ys → Every P (xs ++ ys)
   every_joined [] ys e f = f
   every_joined (x ∷ xs) ys e f = (e.0, every_joined xs ys e.1 f)
+
+  pub every_at : (xs : List X) → Every P xs → (n : ℕ) (x : X) → slice_get xs n ≡ Some x → P x
+  every_at [] e n x s = absurd (cc)
+  every_at (y ∷ xs) e zero x s =
+      let same : y ≡ x = cc in
+      subst P same e.0
+  every_at (y ∷ xs) e (suc n) x s = every_at xs e.1 n x s
+
+pub every_map : {X Y : Type 0} (P : Y → Type 0) (f : X → Y) (xs : List X) → Every (λ x. P (f x)) xs → Every P (map f xs)
+every_map P f [] e = tt
+every_map P f (x ∷ xs) e = (e.0, every_map P f xs e.1)
 
 module _ {L : Tokens} {Q : L.Token → Type 0} where
   pub each_one : (classes : List L.Class) (P : L.Token → Type 0) → ((t : L.Token) → Q t → IsTrue (is_in L classes (L.class t)) → P t) → Each {L = L} Q (One classes) P
@@ -68,3 +80,6 @@ module _ {L : Tokens} {Q : L.Token → Type 0} where
 
   pub each_barred : (A : Type 0) (ks : List L.Class) (g : Grammar L A) (P : A → Type 0) → Each Q g P → Each Q (Barred A ks g) P
   each_barred A ks g P a = record { holds = λ text x q s. a.holds text x q s }
+
+  pub each_as : (A : Type 0) (g : Grammar L A) (P R : A → Type 0) → Each Q g P → ((x : A) → P x → R x) → Each Q g R
+  each_as A g P R a step = record { holds = λ text x q s. step x (a.holds text x q s) }
