@@ -11,3 +11,5 @@ pub mod Loops
 pub mod Declaring
 pub mod Programs
 pub mod Drafting
+pub mod Shaping
+pub mod ShapedDrafts

@@ -12,6 +12,6 @@ mod statements;
 mod value;
 
 pub use draft::Draft;
-pub use laws::scl_texts_are_told;
+pub use laws::{scl_drafts_are_shaped, scl_texts_are_told};
 pub use program::read_draft;
 pub use statement::TextStatement;
