@@ -18,11 +18,12 @@ use Rattle.sc_text.specs.declared.read_fault.Broken.{Broken}
 use Rattle.sc_text.specs.declared.read_fault.Broken.TheVariants as broken
 use Rattle.sc_text.specs.Phrases.{Phrase}
 use Rattle.sc_text.specs.Parts.{IsExpression}
+use Rattle.sc_text.specs.Writable.{is_writable_operation}
 use Rattle.draft_parts.specs.declared.flaw.Flaw.{Flaw}
 use Rattle.draft_parts.specs.declared.parts.Declaration.{Declaration}
 use Rattle.draft_parts.specs.declared.parts.TextExpression.{TextExpression}
 use Rattle.draft_parts.specs.Flaws.{flaw_if, is_among, variable_names, unknown_one, unknown_names, has_known_name, kind_named, kinds_left, is_of_kind, is_of_other_kind, is_load, greatest_height, passes_limits, expression_flaws}
-use Rattle.draft_parts.specs.Resolved.{operation_of, code_of, expression_of, is_writable_operation}
+use Rattle.draft_parts.specs.Resolved.{operation_of, code_of, expression_of}
 use Rattle.draft_parts.proofs.Kinded.{kinds_of, AreKinds, Stands, all_stand, alone}
 use Rattle.draft_parts.proofs.Within.{heights, load_count, writable}
 

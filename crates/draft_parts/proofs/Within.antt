@@ -19,8 +19,9 @@ use Rattle.sc_text.specs.declared.operation.TextOperation.{TextOperation}
 use Rattle.sc_text.specs.declared.operation.TextOperation.TheVariants as text
 use Rattle.sc_text.specs.Phrases.{Phrase}
 use Rattle.sc_text.specs.Parts.{is_writable_literal, is_writable_unary, writable_step, is_writable}
+use Rattle.sc_text.specs.Writable.{is_writable_operation}
 use Rattle.draft_parts.specs.Flaws.{is_load, height_behind, greatest_height}
-use Rattle.draft_parts.specs.Resolved.{operation_of, code_of, is_writable_operation}
+use Rattle.draft_parts.specs.Resolved.{operation_of, code_of}
 
 -- ---- how many operands stand
 

@@ -1,6 +1,6 @@
 -- What the parts of a draft are once its names are looked up. A variable is named by its place among the declarations. What
 -- a name is that no variable has, and operations that spell no tree, is said too, but a draft without flaws has neither.
-use Rattle.std.specs.Prelude.{ℕ, Bool, true, false, List, map, unwrap_or}
+use Rattle.std.specs.Prelude.{ℕ, false, List, map, unwrap_or}
 use Rattle.sc_values.specs.declared.value.Value.TheVariants as value
 use Rattle.sc_values.specs.declared.operation.Operation.{Operation}
 use Rattle.sc_values.specs.declared.operation.Operation.TheVariants as op
@@ -11,7 +11,6 @@ use Rattle.sc_graph.specs.declared.program.Variable.{Variable}
 use Rattle.sc_text.specs.declared.operation.TextOperation.{TextOperation}
 use Rattle.sc_text.specs.declared.operation.TextOperation.TheVariants as text
 use Rattle.sc_text.specs.Phrases.{Phrase}
-use Rattle.sc_text.specs.Parts.{is_writable_literal, is_writable_unary}
 use Rattle.draft_parts.specs.declared.parts.Declaration.{Declaration}
 use Rattle.draft_parts.specs.Flaws.{place_among}
 
@@ -37,9 +36,3 @@ variable_of x = record { name = x.named.name; kind = x.kind; role = x.role }
 
 abbrev pub variables_of : List Declaration → List Variable
 variables_of variables = map variable_of variables
-
--- whether a text can write the operation again
-abbrev pub is_writable_operation : TextOperation → Bool
-is_writable_operation (text.Literal v) = is_writable_literal v
-is_writable_operation (text.Unary f) = is_writable_unary f
-is_writable_operation o = true
