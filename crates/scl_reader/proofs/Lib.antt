@@ -13,3 +13,6 @@ pub mod Programs
 pub mod Drafting
 pub mod Shaping
 pub mod ShapedDrafts
+pub mod Labelled
+pub mod Surveyed
+pub mod Checking

@@ -5,3 +5,5 @@ pub mod Draft
 pub mod Shape
 pub mod Inside
 pub mod Flaws
+pub mod Checked
+pub mod Survey
