@@ -6,3 +6,4 @@ pub mod Pieces
 pub mod Nesting
 pub mod Drafting
 pub mod Flawed
+pub mod Checking

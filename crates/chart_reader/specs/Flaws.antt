@@ -14,21 +14,16 @@ use Rattle.chart_reader.specs.declared.draft.DraftRegion.{DraftRegion}
 use Rattle.chart_reader.specs.declared.draft.DraftRegion.TheViews.{out-DraftRegion, out-DraftState}
 use Rattle.chart_reader.specs.declared.draft.DraftState.{DraftState}
 use Rattle.chart_reader.specs.declared.draft.DraftChart.{DraftChart}
-use Rattle.draft_parts.specs.Flaws.{flaw_if, is_full, is_among, variable_names, variable_named, expression_flaws, is_repeated, variable_flaws, is_input}
+use Rattle.draft_parts.specs.Flaws.{assigned_flaws, flaw_if, is_full, is_among, variable_names, variable_named, expression_flaws, is_repeated, variable_flaws}
 
 -- ---- transitions
-
--- an assignment to this variable
-abbrev pub assigned_flaws : List Declaration → Option Declaration → DraftEffect → List Flaw
-assigned_flaws variables None e = flaw_if true broken.Unknown e.variable.at ++ expression_flaws variables None e.value
-assigned_flaws variables (Some x) e = flaw_if (is_input x.role) broken.Rule e.variable.at ++ expression_flaws variables (Some x.kind) e.value
 
 -- the effects of a transition behind so many others
 abbrev pub effect_flaws : List Declaration → ℕ → List DraftEffect → List Flaw
 effect_flaws variables before [] = []
 effect_flaws variables before (e ∷ more) =
     flaw_if (is_full 16 before) broken.Limit e.variable.at
-    ++ (assigned_flaws variables (variable_named variables e.variable.name) e ++ effect_flaws variables (before + 1) more)
+    ++ (assigned_flaws variables (variable_named variables e.variable.name) e.variable e.value ++ effect_flaws variables (before + 1) more)
 
 abbrev pub trigger_flaws : List Declaration → Option TextExpression → List Flaw
 trigger_flaws variables None = []

@@ -4,3 +4,4 @@ pub mod Flaws
 pub mod Inside
 pub mod Laws
 pub mod Reading
+pub mod Checked
