@@ -1,5 +1,5 @@
 -- Membership in lists by head and tail.
-use Rattle.std.proofs.Common.{◌≡◌, ℕ, zero, suc, ◌<◌, ◌⊎◌, List, [], ◌∷◌, ◌++◌, length, get_or, Contains, refl, inl, inr, ⊎_elim, arith}
+use Rattle.std.proofs.Common.{◌≡◌, ℕ, zero, suc, ◌<◌, ◌⊎◌, List, [], ◌∷◌, length, get_or, Contains, refl, inl, inr, arith}
 
 module _ {X : Type 0} where
   pub contains_head : (x : X) (xs : List X) → Contains (x ∷ xs) x
@@ -18,18 +18,3 @@ module _ {X : Type 0} where
   -- an element is the head or stands in the tail
   pub contains_cons : (x y : X) (xs : List X) → Contains (x ∷ xs) y → (x ≡ y) ⊎ Contains xs y
   contains_cons x y xs h = contains_at x y xs h.0 h.1 h.2
-
-  pub contains_left : (x : X) (xs ys : List X) → Contains xs x → Contains (xs ++ ys) x
-  contains_left x [] ys h = absurd (contains_none x h)
-  contains_left x (z ∷ xs) ys h =
-      ⊎_elim (λ same. (0, omega arith, same)) (λ tail. contains_tail z x (xs ++ ys) (contains_left x xs ys tail)) (contains_cons z x xs h)
-
-  pub contains_right : (x : X) (xs ys : List X) → Contains ys x → Contains (xs ++ ys) x
-  contains_right x [] ys h = h
-  contains_right x (z ∷ xs) ys h = contains_tail z x (xs ++ ys) (contains_right x xs ys h)
-
-  -- an element of two lists in a row is one of the first or of the second
-  pub contains_parts : (x : X) (xs ys : List X) → Contains (xs ++ ys) x → Contains xs x ⊎ Contains ys x
-  contains_parts x [] ys h = inr h
-  contains_parts x (z ∷ xs) ys h =
-      ⊎_elim (λ same. inl (0, omega arith, same)) (λ tail. ⊎_elim (λ first. inl (contains_tail z x xs first)) (λ second. inr second) (contains_parts x xs ys tail)) (contains_cons z x (xs ++ ys) h)

@@ -1,12 +1,13 @@
 -- Each goto finds its label in its own thread, where each thread's gotos name labels of its own and no label stands
 -- twice.
 use Rattle.std.proofs.Common.{◌≡◌, ℕ, Option, Some, None, List, [], ◌∷◌, ◌++◌, Contains, ⊎_elim, refl, sym, ap, subst, ◌∙◌, append_assoc}
+use Rattle.std.proofs.lemmas.List.Elements.{Contains-append_left, Contains-append_right, Contains-append_cases}
 use Rattle.sc_values.specs.declared.expression.Expr.{Expr}
 use Rattle.scl.specs.Block.{Block, End, Assign, Label, Goto, Pause, If, Fork, Branches, NoMore, Branch}
 use Rattle.scl.specs.Labels.{before, or_else, behind_own_label, behind_lower_label, behind_label_among, behind_label}
 use Rattle.scl.specs.Places.{Place, whole, after_assign, after_label, after_goto, after_pause, in_first, in_second, after_if, after_fork, in_branch, IsBranch, here, later}
 use Rattle.scl_graph_laws.specs.Settling.{StayWithin}
-use Rattle.scl_graph_laws.proofs.Members.{contains_head, contains_tail, contains_none, contains_cons, contains_left, contains_right, contains_parts}
+use Rattle.scl_graph_laws.proofs.Members.{contains_head, contains_tail, contains_none, contains_cons}
 use Rattle.scl_graph_laws.proofs.Searching.{own_labels, own_gotos, lower_labels, labels_among, Found, found_first, found_second, or_else_assoc, own_found, own_none, lower_found, lower_none, among_found, among_none, label_place}
 
 -- ---- lists in which nothing stands twice
@@ -17,7 +18,7 @@ Distinct (x ∷ xs) = (¬ Contains xs x) × Distinct xs
 
 distinct_first : (xs ys : List (List ℕ)) → Distinct (xs ++ ys) → Distinct xs
 distinct_first [] ys h = tt
-distinct_first (x ∷ xs) ys h = (λ i. h.0 (contains_left x xs ys i), distinct_first xs ys h.1)
+distinct_first (x ∷ xs) ys h = (λ i. h.0 (Contains-append_left xs ys x i), distinct_first xs ys h.1)
 
 distinct_second : (xs ys : List (List ℕ)) → Distinct (xs ++ ys) → Distinct ys
 distinct_second [] ys h = h
@@ -27,21 +28,21 @@ distinct_second (x ∷ xs) ys h = distinct_second xs ys h.1
 distinct_apart : (xs ys : List (List ℕ)) (x : List ℕ) → Distinct (xs ++ ys) → Contains xs x → Contains ys x → ⊥
 distinct_apart [] ys x h i j = contains_none x i
 distinct_apart (z ∷ xs) ys x h i j =
-    ⊎_elim (λ same. h.0 (subst (Contains (xs ++ ys)) (sym same) (contains_right x xs ys j))) (λ tail. distinct_apart xs ys x h.1 tail j) (contains_cons z x xs i)
+    ⊎_elim (λ same. h.0 (subst (Contains (xs ++ ys)) (sym same) (Contains-append_right xs ys x j))) (λ tail. distinct_apart xs ys x h.1 tail j) (contains_cons z x xs i)
 
 distinct_both : (xs ys : List (List ℕ)) → Distinct xs → Distinct ys → ((x : List ℕ) → Contains xs x → Contains ys x → ⊥) → Distinct (xs ++ ys)
 distinct_both [] ys h k apart = k
 distinct_both (x ∷ xs) ys h k apart =
-    (λ i. ⊎_elim (λ j. h.0 j) (λ j. apart x (contains_head x xs) j) (contains_parts x xs ys i), distinct_both xs ys h.1 k (λ y i j. apart y (contains_tail x y xs i) j))
+    (λ i. ⊎_elim (λ j. h.0 j) (λ j. apart x (contains_head x xs) j) (Contains-append_cases xs ys x i), distinct_both xs ys h.1 k (λ y i j. apart y (contains_tail x y xs i) j))
 
 -- of three lists in a row, the first and the third, and the second and the third
 outer_distinct : (a b c : List (List ℕ)) → Distinct ((a ++ b) ++ c) → Distinct (a ++ c)
 outer_distinct a b c h =
-    distinct_both a c (distinct_first a b (distinct_first (a ++ b) c h)) (distinct_second (a ++ b) c h) (λ x i j. distinct_apart (a ++ b) c x h (contains_left x a b i) j)
+    distinct_both a c (distinct_first a b (distinct_first (a ++ b) c h)) (distinct_second (a ++ b) c h) (λ x i j. distinct_apart (a ++ b) c x h (Contains-append_left a b x i) j)
 
 inner_distinct : (a b c : List (List ℕ)) → Distinct ((a ++ b) ++ c) → Distinct (b ++ c)
 inner_distinct a b c h =
-    distinct_both b c (distinct_second a b (distinct_first (a ++ b) c h)) (distinct_second (a ++ b) c h) (λ x i j. distinct_apart (a ++ b) c x h (contains_right x a b i) j)
+    distinct_both b c (distinct_second a b (distinct_first (a ++ b) c h)) (distinct_second (a ++ b) c h) (λ x i j. distinct_apart (a ++ b) c x h (Contains-append_right a b x i) j)
 
 -- ---- what a text has to keep
 
@@ -136,12 +137,12 @@ module _ (root : Block) where
   whole_scope t body place distinct found none_lost finds = record {
     body = body;
     place = place;
-    finds = λ name h. finds name (contains_left name (own_labels body) (lower_labels body) h) ∙ found_first (behind_own_label body name) (behind_lower_label body name) (own_found body name h);
+    finds = λ name h. finds name (Contains-append_left (own_labels body) (lower_labels body) name h) ∙ found_first (behind_own_label body name) (behind_lower_label body name) (own_found body name h);
     gotos = found;
     none_lost = none_lost;
     distinct = distinct_second (own_labels body) (lower_labels body) distinct;
     lower = λ name h.
-        finds name (contains_right name (own_labels body) (lower_labels body) h)
+        finds name (Contains-append_right (own_labels body) (lower_labels body) name h)
         ∙ found_second (behind_own_label body name) (behind_lower_label body name)
         (own_none body name (λ i. distinct_apart (own_labels body) (lower_labels body) name distinct i h));
   }
@@ -151,7 +152,7 @@ module _ (root : Block) where
       ⊎_elim
       (λ i. let k : Found (behind_own_label b name) = own_found b name i in (k.0, found_first (behind_own_label b name) (behind_lower_label b name) k ∙ k.1))
       (λ i. below (behind_own_label b name) (lower_found b name i))
-      (contains_parts name (own_labels b) (lower_labels b) h)
+      (Contains-append_cases (own_labels b) (lower_labels b) name h)
     where
       below : (o : Option Block) → Found (behind_lower_label b name) → Found (or_else o (behind_lower_label b name))
       below None k = k
@@ -159,12 +160,12 @@ module _ (root : Block) where
 
   all_none : (b : Block) (name : List ℕ) → ¬ Contains (own_labels b ++ lower_labels b) name → behind_label b name ≡ None
   all_none b name without =
-      found_second (behind_own_label b name) (behind_lower_label b name) (own_none b name (λ i. without (contains_left name (own_labels b) (lower_labels b) i)))
-      ∙ lower_none b name (λ i. without (contains_right name (own_labels b) (lower_labels b) i))
+      found_second (behind_own_label b name) (behind_lower_label b name) (own_none b name (λ i. without (Contains-append_left (own_labels b) (lower_labels b) name i)))
+      ∙ lower_none b name (λ i. without (Contains-append_right (own_labels b) (lower_labels b) name i))
 
   among_branch : (branches : Branches) (u : ℕ) (body : Block) → IsBranch branches u body → (name : List ℕ) → Contains (own_labels body ++ lower_labels body) name → Contains (labels_among branches) name
-  among_branch branches u body (here t first more) name h = contains_left name (own_labels first ++ lower_labels first) (labels_among more) h
-  among_branch branches u body (later t other more v last at) name h = contains_right name (own_labels other ++ lower_labels other) (labels_among more) (among_branch more v last at name h)
+  among_branch branches u body (here t first more) name h = Contains-append_left (own_labels first ++ lower_labels first) (labels_among more) name h
+  among_branch branches u body (later t other more v last at) name h = Contains-append_right (own_labels other ++ lower_labels other) (labels_among more) name (among_branch more v last at name h)
 
   distinct_branch : (branches : Branches) (u : ℕ) (body : Block) → IsBranch branches u body → Distinct (labels_among branches) → Distinct (own_labels body ++ lower_labels body)
   distinct_branch branches u body (here t first more) h = distinct_first (own_labels first ++ lower_labels first) (labels_among more) h
@@ -210,9 +211,9 @@ module _ (root : Block) where
         gotos_of : (name : List ℕ) → Contains (own_gotos a ++ own_gotos rest) name → Contains ((own_gotos a ++ own_gotos b) ++ own_gotos rest) name
         gotos_of name h =
             ⊎_elim
-            (λ i. contains_left name (own_gotos a ++ own_gotos b) (own_gotos rest) (contains_left name (own_gotos a) (own_gotos b) i))
-            (λ i. contains_right name (own_gotos a ++ own_gotos b) (own_gotos rest) i)
-            (contains_parts name (own_gotos a) (own_gotos rest) h)
+            (λ i. Contains-append_left (own_gotos a ++ own_gotos b) (own_gotos rest) name (Contains-append_left (own_gotos a) (own_gotos b) name i))
+            (λ i. Contains-append_right (own_gotos a ++ own_gotos b) (own_gotos rest) name i)
+            (Contains-append_cases (own_gotos a) (own_gotos rest) name h)
 
         lower_of : (name : List ℕ) → Contains (lower_labels a ++ lower_labels rest) name →
             Contains (lower_labels (If n e a b rest)) name × (behind_lower_label (If n e a b rest) name ≡ behind_lower_label (before a rest) name)
@@ -222,15 +223,15 @@ module _ (root : Block) where
             let z : Option Block = behind_lower_label rest name in
             ⊎_elim
             (λ i. (
-              contains_left name (lower_labels a ++ lower_labels b) (lower_labels rest) (contains_left name (lower_labels a) (lower_labels b) i),
+              Contains-append_left (lower_labels a ++ lower_labels b) (lower_labels rest) name (Contains-append_left (lower_labels a) (lower_labels b) name i),
               found_first x (or_else y z) (lower_found a name i) ∙ sym (found_first x z (lower_found a name i)) ∙ sym (search_before a rest name),
             ))
             (λ i. (
-              contains_right name (lower_labels a ++ lower_labels b) (lower_labels rest) i,
-              ap (or_else x) (found_second y z (lower_none b name (λ j. distinct_apart (lower_labels a ++ lower_labels b) (lower_labels rest) name s.distinct (contains_right name (lower_labels a) (lower_labels b) j) i)))
+              Contains-append_right (lower_labels a ++ lower_labels b) (lower_labels rest) name i,
+              ap (or_else x) (found_second y z (lower_none b name (λ j. distinct_apart (lower_labels a ++ lower_labels b) (lower_labels rest) name s.distinct (Contains-append_right (lower_labels a) (lower_labels b) name j) i)))
                   ∙ sym (search_before a rest name),
             ))
-            (contains_parts name (lower_labels a) (lower_labels rest) h)
+            (Contains-append_cases (lower_labels a) (lower_labels rest) name h)
 
     second_scope : Scope root t (before b rest)
     second_scope =
@@ -243,23 +244,23 @@ module _ (root : Block) where
         gotos_of : (name : List ℕ) → Contains (own_gotos b ++ own_gotos rest) name → Contains ((own_gotos a ++ own_gotos b) ++ own_gotos rest) name
         gotos_of name h =
             ⊎_elim
-            (λ i. contains_left name (own_gotos a ++ own_gotos b) (own_gotos rest) (contains_right name (own_gotos a) (own_gotos b) i))
-            (λ i. contains_right name (own_gotos a ++ own_gotos b) (own_gotos rest) i)
-            (contains_parts name (own_gotos b) (own_gotos rest) h)
+            (λ i. Contains-append_left (own_gotos a ++ own_gotos b) (own_gotos rest) name (Contains-append_right (own_gotos a) (own_gotos b) name i))
+            (λ i. Contains-append_right (own_gotos a ++ own_gotos b) (own_gotos rest) name i)
+            (Contains-append_cases (own_gotos b) (own_gotos rest) name h)
 
         apart : (name : List ℕ) → Contains (lower_labels b ++ lower_labels rest) name → ¬ Contains (lower_labels a) name
         apart name h j =
             ⊎_elim
             (λ i. distinct_apart (lower_labels a) (lower_labels b) name (distinct_first (lower_labels a ++ lower_labels b) (lower_labels rest) s.distinct) j i)
-            (λ i. distinct_apart (lower_labels a ++ lower_labels b) (lower_labels rest) name s.distinct (contains_left name (lower_labels a) (lower_labels b) j) i)
-            (contains_parts name (lower_labels b) (lower_labels rest) h)
+            (λ i. distinct_apart (lower_labels a ++ lower_labels b) (lower_labels rest) name s.distinct (Contains-append_left (lower_labels a) (lower_labels b) name j) i)
+            (Contains-append_cases (lower_labels b) (lower_labels rest) name h)
 
         stands : (name : List ℕ) → Contains (lower_labels b ++ lower_labels rest) name → Contains ((lower_labels a ++ lower_labels b) ++ lower_labels rest) name
         stands name h =
             ⊎_elim
-            (λ i. contains_left name (lower_labels a ++ lower_labels b) (lower_labels rest) (contains_right name (lower_labels a) (lower_labels b) i))
-            (λ i. contains_right name (lower_labels a ++ lower_labels b) (lower_labels rest) i)
-            (contains_parts name (lower_labels b) (lower_labels rest) h)
+            (λ i. Contains-append_left (lower_labels a ++ lower_labels b) (lower_labels rest) name (Contains-append_right (lower_labels a) (lower_labels b) name i))
+            (λ i. Contains-append_right (lower_labels a ++ lower_labels b) (lower_labels rest) name i)
+            (Contains-append_cases (lower_labels b) (lower_labels rest) name h)
 
         lower_of : (name : List ℕ) → Contains (lower_labels b ++ lower_labels rest) name →
             Contains (lower_labels (If n e a b rest)) name × (behind_lower_label (If n e a b rest) name ≡ behind_lower_label (before b rest) name)
@@ -271,13 +272,13 @@ module _ (root : Block) where
     behind_scope : Scope root t rest
     behind_scope =
         part_scope t (If n e a b rest) s rest
-        (λ name h. contains_right name (own_gotos a ++ own_gotos b) (own_gotos rest) h)
+        (λ name h. Contains-append_right (own_gotos a ++ own_gotos b) (own_gotos rest) name h)
         s.none_lost.2
         (distinct_second (lower_labels a ++ lower_labels b) (lower_labels rest) s.distinct)
         (λ name h. (
-          contains_right name (lower_labels a ++ lower_labels b) (lower_labels rest) h,
-          found_second (behind_lower_label a name) (or_else (behind_lower_label b name) (behind_lower_label rest name)) (lower_none a name (λ j. distinct_apart (lower_labels a ++ lower_labels b) (lower_labels rest) name s.distinct (contains_left name (lower_labels a) (lower_labels b) j) h))
-              ∙ found_second (behind_lower_label b name) (behind_lower_label rest name) (lower_none b name (λ j. distinct_apart (lower_labels a ++ lower_labels b) (lower_labels rest) name s.distinct (contains_right name (lower_labels a) (lower_labels b) j) h)),
+          Contains-append_right (lower_labels a ++ lower_labels b) (lower_labels rest) name h,
+          found_second (behind_lower_label a name) (or_else (behind_lower_label b name) (behind_lower_label rest name)) (lower_none a name (λ j. distinct_apart (lower_labels a ++ lower_labels b) (lower_labels rest) name s.distinct (Contains-append_left (lower_labels a) (lower_labels b) name j) h))
+              ∙ found_second (behind_lower_label b name) (behind_lower_label rest name) (lower_none b name (λ j. distinct_apart (lower_labels a ++ lower_labels b) (lower_labels rest) name s.distinct (Contains-append_right (lower_labels a) (lower_labels b) name j) h)),
         ))
 
   module _ (t n : ℕ) (branches : Branches) (rest : Block) (s : Scope root t (Fork n branches rest)) where
@@ -288,7 +289,7 @@ module _ (root : Block) where
         s.none_lost.1
         (distinct_second (labels_among branches) (lower_labels rest) s.distinct)
         (λ name h. (
-          contains_right name (labels_among branches) (lower_labels rest) h,
+          Contains-append_right (labels_among branches) (lower_labels rest) name h,
           found_second (behind_label_among branches name) (behind_lower_label rest name) (among_none branches name (λ j. distinct_apart (labels_among branches) (lower_labels rest) name s.distinct j h)),
         ))
 
@@ -299,7 +300,7 @@ module _ (root : Block) where
         whole_scope u body place (distinct_branch branches u body at among) finds.0 finds.1
         (λ name h.
         let i : Contains (labels_among branches) name = among_branch branches u body at name h in
-        s.lower name (contains_left name (labels_among branches) (lower_labels rest) i)
+        s.lower name (Contains-append_left (labels_among branches) (lower_labels rest) name i)
         ∙ found_first (behind_label_among branches name) (behind_lower_label rest name) (among_found branches name i)
         ∙ found_in_branch branches u body at among name h)
 

@@ -1,5 +1,6 @@
 -- What the search for a label finds: the labels of a text, and where they stand.
 use Rattle.std.proofs.Common.{◌≡◌, ℕ, ◌⊎◌, Bool, true, false, Option, Some, None, List, [], ◌∷◌, ◌++◌, Contains, if◌then◌else◌, inl, inr, ⊎_elim, refl, sym, ap, subst, ◌∙◌, option_map}
+use Rattle.std.proofs.lemmas.List.Elements.{Contains-append_left, Contains-append_right, Contains-append_cases}
 use Rattle.std.specs.Str.{bytes_eq}
 use Rattle.std.proofs.lemmas.Slice.Eq.{bytes_eq-Decides}
 use Rattle.std.proofs.lemmas.Option.{none-some, same_Some}
@@ -7,7 +8,7 @@ use Rattle.scl.specs.Block.{Block, End, Assign, Label, Goto, Pause, If, Fork, Br
 use Rattle.scl.specs.Labels.{before, or_else, behind_own_label, behind_lower_label, behind_label_among, behind_label}
 use Rattle.scl.specs.Places.{Place, after_assign, after_label, after_goto, after_pause, in_first, in_second, after_if, after_fork}
 use Rattle.scl_graph.specs.Graph.{end}
-use Rattle.scl_graph_laws.proofs.Members.{contains_head, contains_tail, contains_none, contains_cons, contains_left, contains_right, contains_parts}
+use Rattle.scl_graph_laws.proofs.Members.{contains_head, contains_tail, contains_none, contains_cons}
 use Rattle.scl_graph_laws.proofs.Ways.{before_end}
 
 -- the labels of a thread's text
@@ -106,9 +107,9 @@ own_found (If n e first second rest) name h =
     (λ i. ⊎_elim
     (λ j. found_here a (or_else b c) (found_mapped (λ k. before k rest) (behind_own_label first name) (own_found first name j)))
     (λ j. found_there a (or_else b c) (found_here b c (found_mapped (λ k. before k rest) (behind_own_label second name) (own_found second name j))))
-    (contains_parts name (own_labels first) (own_labels second) i))
+    (Contains-append_cases (own_labels first) (own_labels second) name i))
     (λ i. found_there a (or_else b c) (found_there b c (own_found rest name i)))
-    (contains_parts name (own_labels first ++ own_labels second) (own_labels rest) h)
+    (Contains-append_cases (own_labels first ++ own_labels second) (own_labels rest) name h)
 own_found (Fork n branches rest) name h = own_found rest name h
 
 own_stands : (b : Block) (name : List ℕ) (k : Block) → behind_own_label b name ≡ Some k → Contains (own_labels b) name
@@ -128,12 +129,12 @@ own_stands (If n e first second rest) name k h =
     ⊎_elim
     (λ i.
     let j : (j : Block) × (behind_own_label first name ≡ Some j) × (before j rest ≡ k) = before_mapped (λ k. before k rest) (behind_own_label first name) k i in
-    contains_left name (own_labels first ++ own_labels second) (own_labels rest) (contains_left name (own_labels first) (own_labels second) (own_stands first name j.0 j.1)))
+    Contains-append_left (own_labels first ++ own_labels second) (own_labels rest) name (Contains-append_left (own_labels first) (own_labels second) name (own_stands first name j.0 j.1)))
     (λ i. ⊎_elim
     (λ i.
     let j : (j : Block) × (behind_own_label second name ≡ Some j) × (before j rest ≡ k) = before_mapped (λ k. before k rest) (behind_own_label second name) k i in
-    contains_left name (own_labels first ++ own_labels second) (own_labels rest) (contains_right name (own_labels first) (own_labels second) (own_stands second name j.0 j.1)))
-    (λ i. contains_right name (own_labels first ++ own_labels second) (own_labels rest) (own_stands rest name k i))
+    Contains-append_left (own_labels first ++ own_labels second) (own_labels rest) name (Contains-append_right (own_labels first) (own_labels second) name (own_stands second name j.0 j.1)))
+    (λ i. Contains-append_right (own_labels first ++ own_labels second) (own_labels rest) name (own_stands rest name k i))
     (found_cases b c k i))
     (found_cases a (or_else b c) k h)
 own_stands (Fork n branches rest) name k h = own_stands rest name k h
@@ -155,14 +156,14 @@ mutual
       let b : Option Block = behind_lower_label second name in
       let c : Option Block = behind_lower_label rest name in
       ⊎_elim
-      (λ i. ⊎_elim (λ j. found_here a (or_else b c) (lower_found first name j)) (λ j. found_there a (or_else b c) (found_here b c (lower_found second name j))) (contains_parts name (lower_labels first) (lower_labels second) i))
+      (λ i. ⊎_elim (λ j. found_here a (or_else b c) (lower_found first name j)) (λ j. found_there a (or_else b c) (found_here b c (lower_found second name j))) (Contains-append_cases (lower_labels first) (lower_labels second) name i))
       (λ i. found_there a (or_else b c) (found_there b c (lower_found rest name i)))
-      (contains_parts name (lower_labels first ++ lower_labels second) (lower_labels rest) h)
+      (Contains-append_cases (lower_labels first ++ lower_labels second) (lower_labels rest) name h)
   lower_found (Fork n branches rest) name h =
       ⊎_elim
       (λ i. found_here (behind_label_among branches name) (behind_lower_label rest name) (among_found branches name i))
       (λ i. found_there (behind_label_among branches name) (behind_lower_label rest name) (lower_found rest name i))
-      (contains_parts name (labels_among branches) (lower_labels rest) h)
+      (Contains-append_cases (labels_among branches) (lower_labels rest) name h)
 
   pub among_found : (branches : Branches) (name : List ℕ) → Contains (labels_among branches) name → Found (behind_label_among branches name)
   among_found NoMore name h = absurd (contains_none name h)
@@ -171,9 +172,9 @@ mutual
       let b : Option Block = behind_lower_label body name in
       let c : Option Block = behind_label_among more name in
       ⊎_elim
-      (λ i. found_here (or_else a b) c (⊎_elim (λ j. found_here a b (own_found body name j)) (λ j. found_there a b (lower_found body name j)) (contains_parts name (own_labels body) (lower_labels body) i)))
+      (λ i. found_here (or_else a b) c (⊎_elim (λ j. found_here a b (own_found body name j)) (λ j. found_there a b (lower_found body name j)) (Contains-append_cases (own_labels body) (lower_labels body) name i)))
       (λ i. found_there (or_else a b) c (among_found more name i))
-      (contains_parts name (own_labels body ++ lower_labels body) (labels_among more) h)
+      (Contains-append_cases (own_labels body ++ lower_labels body) (labels_among more) name h)
 
 mutual
   lower_stands : (b : Block) (name : List ℕ) (k : Block) → behind_lower_label b name ≡ Some k → Contains (lower_labels b) name
@@ -187,16 +188,16 @@ mutual
       let b : Option Block = behind_lower_label second name in
       let c : Option Block = behind_lower_label rest name in
       ⊎_elim
-      (λ i. contains_left name (lower_labels first ++ lower_labels second) (lower_labels rest) (contains_left name (lower_labels first) (lower_labels second) (lower_stands first name k i)))
+      (λ i. Contains-append_left (lower_labels first ++ lower_labels second) (lower_labels rest) name (Contains-append_left (lower_labels first) (lower_labels second) name (lower_stands first name k i)))
       (λ i. ⊎_elim
-      (λ i. contains_left name (lower_labels first ++ lower_labels second) (lower_labels rest) (contains_right name (lower_labels first) (lower_labels second) (lower_stands second name k i)))
-      (λ i. contains_right name (lower_labels first ++ lower_labels second) (lower_labels rest) (lower_stands rest name k i))
+      (λ i. Contains-append_left (lower_labels first ++ lower_labels second) (lower_labels rest) name (Contains-append_right (lower_labels first) (lower_labels second) name (lower_stands second name k i)))
+      (λ i. Contains-append_right (lower_labels first ++ lower_labels second) (lower_labels rest) name (lower_stands rest name k i))
       (found_cases b c k i))
       (found_cases a (or_else b c) k h)
   lower_stands (Fork n branches rest) name k h =
       ⊎_elim
-      (λ i. contains_left name (labels_among branches) (lower_labels rest) (among_stands branches name k i))
-      (λ i. contains_right name (labels_among branches) (lower_labels rest) (lower_stands rest name k i))
+      (λ i. Contains-append_left (labels_among branches) (lower_labels rest) name (among_stands branches name k i))
+      (λ i. Contains-append_right (labels_among branches) (lower_labels rest) name (lower_stands rest name k i))
       (found_cases (behind_label_among branches name) (behind_lower_label rest name) k h)
 
   among_stands : (branches : Branches) (name : List ℕ) (k : Block) → behind_label_among branches name ≡ Some k → Contains (labels_among branches) name
@@ -206,9 +207,9 @@ mutual
       let b : Option Block = behind_lower_label body name in
       let c : Option Block = behind_label_among more name in
       ⊎_elim
-      (λ i. contains_left name (own_labels body ++ lower_labels body) (labels_among more)
-      (⊎_elim (λ j. contains_left name (own_labels body) (lower_labels body) (own_stands body name k j)) (λ j. contains_right name (own_labels body) (lower_labels body) (lower_stands body name k j)) (found_cases a b k i)))
-      (λ i. contains_right name (own_labels body ++ lower_labels body) (labels_among more) (among_stands more name k i))
+      (λ i. Contains-append_left (own_labels body ++ lower_labels body) (labels_among more) name
+      (⊎_elim (λ j. Contains-append_left (own_labels body) (lower_labels body) name (own_stands body name k j)) (λ j. Contains-append_right (own_labels body) (lower_labels body) name (lower_stands body name k j)) (found_cases a b k i)))
+      (λ i. Contains-append_right (own_labels body ++ lower_labels body) (labels_among more) name (among_stands more name k i))
       (found_cases (or_else a b) c k h)
 
 pub lower_none : (b : Block) (name : List ℕ) → ¬ Contains (lower_labels b) name → behind_lower_label b name ≡ None
@@ -294,6 +295,6 @@ label_place root t body name k place h =
 pub label_stands : (b : Block) (name : List ℕ) (k : Block) → behind_label b name ≡ Some k → Contains (own_labels b ++ lower_labels b) name
 label_stands b name k h =
     ⊎_elim
-    (λ i. contains_left name (own_labels b) (lower_labels b) (own_stands b name k i))
-    (λ i. contains_right name (own_labels b) (lower_labels b) (lower_stands b name k i))
+    (λ i. Contains-append_left (own_labels b) (lower_labels b) name (own_stands b name k i))
+    (λ i. Contains-append_right (own_labels b) (lower_labels b) name (lower_stands b name k i))
     (found_cases (behind_own_label b name) (behind_lower_label b name) k h)
