@@ -1,3 +1,4 @@
 pub mod Pieces
 pub mod Keeping
 pub mod Looking
+pub mod Reading
