@@ -17,6 +17,3 @@ pub use checked::read_checked;
 pub use draft::{DraftChart, DraftEffect, DraftRegion, DraftState, DraftTransition};
 pub use laws::chart_texts_are_told;
 pub use whole::read_draft;
-
-#[cfg(test)]
-mod tests;

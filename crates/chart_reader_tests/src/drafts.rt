@@ -1,6 +1,6 @@
 //! Texts that are charts by the grammar, and the faults of texts that are none.
 
-use crate::read_draft;
+use chart_reader::read_draft;
 use std::alloc::{AllocError, Global};
 use std::test::Fail;
 

@@ -1,0 +1,9 @@
+//! Tests of the reader of chart text: what texts are read into, and the faults of others.
+#![tactic(auto)]
+
+#[cfg(test)]
+mod drafts;
+#[cfg(test)]
+mod flaws;
+#[cfg(test)]
+mod limits;
