@@ -5,5 +5,6 @@ pub mod Going
 pub mod Pieces
 pub mod Nesting
 pub mod Drafting
+pub mod ShapedDrafts
 pub mod Flawed
 pub mod Checking

@@ -4,4 +4,5 @@ pub mod Flaws
 pub mod Inside
 pub mod Laws
 pub mod Reading
+pub mod Shape
 pub mod Checked
