@@ -3,3 +3,5 @@
 
 #[cfg(test)]
 mod drafts;
+#[cfg(test)]
+mod flaws;
