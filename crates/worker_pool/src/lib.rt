@@ -15,7 +15,6 @@ mod ticking;
 mod working;
 
 pub use crew::Crew;
-pub use desk::Desk;
 pub use gate::{Gate, NoGate};
 pub use hall::Hall;
 pub use one_tick::run_tick;
