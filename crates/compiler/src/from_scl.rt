@@ -1,13 +1,15 @@
 //! From an SCL program to its image.
 
-ghost use Rattle.std.specs.Prelude.{IfErr, IfOk};
+ghost use Rattle.std.specs.Prelude.{◌↔◌, IfErr, IfOk, IsTrue};
 ghost use Rattle.compiler.specs.Texts.{IsImageOf, IsNotCompiled};
+ghost use Rattle.sc_graph.specs.Valid.{IsFormed};
 
 use crate::fault::CompileFault;
 use crate::from_program::compile_program;
+use sc_graph::{Links, Program};
 use scl::Scl;
-use scl_graph::graph_of;
-use std::alloc::Global;
+use scl_graph::{GraphFault, graph_of};
+use std::alloc::{AllocError, Global};
 use verifier::Verified;
 
 /// The valid image of an SCL program: that of its graph, with the least tables. Err: the first that holds of
@@ -23,8 +25,20 @@ pub fn compile_scl(alloc: Global, scl: &Scl) -> Result<Verified, CompileFault>
         Ok(program) => program,
         Err(fault) => return Err(CompileFault::Graph(fault)),
     };
-    if !program.formed() {
+    let formed = match is_formed(alloc, &program) {
+        Ok(formed) => formed,
+        Err(_) => return Err(CompileFault::Graph(GraphFault::Memory)),
+    };
+    if !formed {
         unreachable!();
     }
     compile_program(alloc, program)
+}
+
+// Whether a program is formed, in one pass over its nodes.
+fn is_formed(alloc: Global, program: &Program) -> Result<bool, AllocError>
+    ensures { IfOk result (λ formed. IsTrue formed ↔ IsFormed program.now) }
+{
+    let links = Links::of(alloc, program)?;
+    Ok(program.size_fault().is_none() && program.structure_fault_with(&links).is_none())
 }
