@@ -1,2 +1,9 @@
+mod Naming
+mod Lists
+mod Expressions
+mod Taken
+mod Leaving
+mod Apart
+mod PieceParts
 mod ExpansionRows
 mod NestedRows

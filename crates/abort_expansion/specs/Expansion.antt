@@ -9,26 +9,20 @@ use Rattle.core_charts.specs.declared.region.Region.{Region}
 use Rattle.core_charts.specs.declared.region.State.{State}
 use Rattle.core_charts.specs.declared.region.Region.TheOpen.{Region-F, State-F}
 use Rattle.core_charts.specs.declared.region.Region.TheViews.{roll-Region, roll-State}
-use Rattle.core_charts.specs.declared.region.Region.TheFolds.{fold-Region}
+use Rattle.core_charts.specs.declared.region.Region.TheFolds.{fold-Region, fold-State}
 use Rattle.core_charts.specs.Chart.{Chart}
 use Rattle.core_charts.specs.Standing.{at_once, strong_aborts, weak_aborts, terminations}
-use Rattle.abort_expansion.specs.Flags.{Flags, preparation_name, continuation_name, monitor_name, watching_name, abandoned_name, first_name, has_aborts, counts, flag_count, flags_of, declarations, has_weak, aborts_around, weak_around}
-use Rattle.abort_expansion.specs.Transitions.{is_number, put, count_down, on, go, strong_checks, weak_checks, Places, led, led_by, answers, raising}
+use Rattle.abort_expansion.specs.declared.flags.Flags.{Flags}
+use Rattle.abort_expansion.specs.declared.places.Places.{Places}
+use Rattle.abort_expansion.specs.declared.pieces.States.{States}
+use Rattle.abort_expansion.specs.declared.pieces.Regions.{Regions}
+use Rattle.abort_expansion.specs.declared.pieces.Numbers.{Numbers}
+use Rattle.abort_expansion.specs.Flags.{preparation_name, continuation_name, monitor_name, watching_name, abandoned_name, first_name, has_aborts, counts, flag_count, flags_of, declarations, one, has_weak, aborts_around, weak_around}
+use Rattle.abort_expansion.specs.Transitions.{is_number, put, count_down, on, go, strong_checks, weak_checks, led, led_by, answers, raising}
 
 -- ---- what is made
 
--- states that stand side by side in a region, the variables that they need, and of each core state in them, in the order
--- of the text, the chart's state for which it stands, if any
-pub record States : Type 0 where
-  pub states : List State
-  pub variables : List Variable
-  pub stands_for : List (Option ℕ)
-
-pub record Regions : Type 0 where
-  pub regions : List Region
-  pub variables : List Variable
-  pub stands_for : List (Option ℕ)
-
+-- states with those behind them, and regions
 abbrev pub beside : States → States → States
 beside a b =
     record { states = a.states ++ b.states; variables = a.variables ++ b.variables; stands_for = a.stands_for ++ b.stands_for }
@@ -36,12 +30,6 @@ beside a b =
 abbrev pub together : Regions → Regions → Regions
 together a b =
     record { regions = a.regions ++ b.regions; variables = a.variables ++ b.variables; stands_for = a.stands_for ++ b.stands_for }
-
--- the numbers that come next: of a superstate, of a variable, of a state of the text
-pub record Numbers : Type 0 where
-  pub superstate : ℕ
-  pub variable : ℕ
-  pub state : ℕ
 
 -- a region with all that is in it: how many superstates and states it has, how many variables it needs, by whether weak
 -- aborts enclose it, and what it becomes, by the flags of the superstates around it, outermost first, and the counter of
@@ -91,11 +79,12 @@ expanded_regions (r ∷ regions) around counter at =
 abbrev pub simple_transitions : List Flags → Places → List Transition → List Transition
 simple_transitions around at own = strong_checks false at.left around ++ map (led at) own ++ weak_checks true at.left around
 
-abbrev pub simple : Bool → State-F RegionPiece StatePiece → List Flags → Places → Bool → State
-simple true s around at begins =
-    roll-State (record { name = s.name; is_initial = begins; is_final = true; regions = []; transitions = [] })
-simple false s around at begins =
-    roll-State (record { name = s.name; is_initial = begins; is_final = false; regions = []; transitions = simple_transitions around at s.transitions })
+-- a simple state of this name and these transitions, by whether it is final
+abbrev pub simple : Bool → (name : List ℕ) → List Transition → List Flags → Places → Bool → State
+simple true name own around at begins =
+    roll-State (record { name = name; is_initial = begins; is_final = true; regions = []; transitions = [] })
+simple false name own around at begins =
+    roll-State (record { name = name; is_initial = begins; is_final = false; regions = []; transitions = simple_transitions around at own })
 
 -- ---- superstates
 
@@ -189,53 +178,62 @@ within weak own at =
     record { superstate = suc at.superstate; variable = at.variable + flag_count weak own; state = suc at.state }
 
 -- a superstate without aborts that none enclose: as it is, with expanded regions
-abbrev pub as_it_is : State-F RegionPiece StatePiece → Regions → Places → Bool → Numbers → States
-as_it_is s inside to begins at =
+abbrev pub as_it_is : (name : List ℕ) → List Transition → Regions → Places → Bool → Numbers → States
+as_it_is name own inside to begins at =
     record {
       states = roll-State (record {
-        name = s.name;
+        name = name;
         is_initial = begins;
         is_final = false;
         regions = inside.regions;
-        transitions = map (led to) s.transitions;
+        transitions = map (led to) own;
       }) ∷ [];
       variables = inside.variables;
       stands_for = Some at.state ∷ inside.stands_for;
     }
 
 -- the preparation state alone
-abbrev pub prepared : State-F RegionPiece StatePiece → Flags → Places → ℕ → Bool → Numbers → States
-prepared s flags to place begins at =
+abbrev pub prepared : (regions : ℕ) → List Transition → Flags → Places → ℕ → Bool → Numbers → States
+prepared regions own flags to place begins at =
     record {
-      states = preparation at.superstate flags (length s.regions) s.transitions to (suc place) begins ∷ [];
+      states = preparation at.superstate flags regions own to (suc place) begins ∷ [];
       variables = [];
       stands_for = Some at.state ∷ [];
     }
 
 -- the fork with what is inside it, a monitor's two states among it, and the continuation state
-abbrev pub forked : State-F RegionPiece StatePiece → List Flags → Flags → Regions → Places → ℕ → Bool → Numbers → States
-forked s around flags inside to place begins at =
-    let has_monitor : Bool = has_aborts s.transitions in
+abbrev pub forked : (name : List ℕ) → List Transition → List Flags → Flags → Regions → Places → ℕ → Bool → Numbers → States
+forked name own around flags inside to place begins at =
     record {
-      states = fork s.name begins (inside.regions ++ watched has_monitor (monitor at.superstate around flags s.transitions)) (suc place) ∷
-          continuation at.superstate around flags to s.transitions ∷ [];
+      states = fork name begins (inside.regions ++ watched (has_aborts own) (monitor at.superstate around flags own)) (suc place) ∷
+          continuation at.superstate around flags to own ∷ [];
       variables = declarations at.superstate flags ++ inside.variables;
-      stands_for = Some at.state ∷ inside.stands_for ++ (if has_monitor then None ∷ None ∷ [] else []) ++ Some at.state ∷ [];
+      stands_for = Some at.state ∷ inside.stands_for ++ (if has_aborts own then None ∷ None ∷ [] else []) ++ Some at.state ∷ [];
     }
 
 -- any other one: the preparation state where it is prepared, the fork, and the continuation state
-abbrev pub split : State-F RegionPiece StatePiece → List Flags → Flags → Regions → Places → ℕ → Bool → Numbers → States
-split s around flags inside to place begins at =
-    if is_prepared around s.transitions
-    then beside (prepared s flags to place begins at) (forked s around flags inside to (suc place) false at)
-    else forked s around flags inside to place begins at
+abbrev pub split : (name : List ℕ) → (regions : ℕ) → List Transition → List Flags → Flags → Regions → Places → ℕ → Bool → Numbers → States
+split name regions own around flags inside to place begins at =
+    if is_prepared around own
+    then beside (prepared regions own flags to place begins at) (forked name own around flags inside to (suc place) false at)
+    else forked name own around flags inside to place begins at
 
-abbrev pub superstate : State-F RegionPiece StatePiece → List Flags → Places → ℕ → Bool → Numbers → States
-superstate s around to place begins at =
-    let weak : Bool = weak_around around in
-    let flags : Flags = flags_of weak s.transitions at.variable in
-    let inside : Regions = expanded_regions s.regions (around ++ flags ∷ []) flags.counter (within weak s.transitions at) in
-    if stays around s.transitions then as_it_is s inside to begins at else split s around flags inside to place begins at
+-- a superstate of this name, so many regions and these transitions, over what is inside it
+abbrev pub superstate_over : (name : List ℕ) → (regions : ℕ) → List Transition → List Flags → Flags → Regions → Places → ℕ → Bool → Numbers → States
+superstate_over name regions own around flags inside to place begins at =
+    if stays around own
+    then as_it_is name own inside to begins at
+    else split name regions own around flags inside to place begins at
+
+-- what is inside a superstate
+abbrev pub inside_superstate : List RegionPiece → List Transition → List Flags → Flags → Numbers → Regions
+inside_superstate regions own around flags at =
+    expanded_regions regions (around ++ flags ∷ []) flags.counter (within (weak_around around) own at)
+
+abbrev pub superstate : State-F RegionPiece StatePiece → List Flags → Flags → Places → ℕ → Bool → Numbers → States
+superstate s around flags to place begins at =
+    superstate_over s.name (length s.regions) s.transitions around flags
+    (inside_superstate s.regions s.transitions around flags at) to place begins at
 
 -- ---- states
 
@@ -250,8 +248,9 @@ width true around own =
 
 abbrev pub made : Bool → State-F RegionPiece StatePiece → List Flags → Places → ℕ → Bool → Numbers → States
 made false s around to place begins at =
-    record { states = simple s.is_final s around to begins ∷ []; variables = []; stands_for = Some at.state ∷ [] }
-made true s around to place begins at = superstate s around to place begins at
+    record { states = simple s.is_final s.name s.transitions around to begins ∷ []; variables = []; stands_for = Some at.state ∷ [] }
+made true s around to place begins at =
+    superstate s around (flags_of (weak_around around) s.transitions at.variable) to place begins at
 
 abbrev pub state_piece : State-F RegionPiece StatePiece → StatePiece
 state_piece s =
@@ -324,19 +323,26 @@ abbrev pub left_behind : Bool → States
 left_behind true = record { states = abandoned ∷ []; variables = []; stands_for = None ∷ [] }
 left_behind false = record { states = []; variables = []; stands_for = [] }
 
--- all states of a region: the new initial one, those of the text, and the abandoned one
-abbrev pub inside_region : List StatePiece → List Flags → Option ℕ → Numbers → States
-inside_region states around counter at =
-    let anew : Bool = begins_anew counter states in
-    let begin : ℕ = if anew then 1 else 0 in
-    let to : Places = record {
+-- where the states of a region are, of which the first one of the text has this place
+abbrev pub region_places : List StatePiece → List Flags → Option ℕ → (begin : ℕ) → Places
+region_places states around counter begin =
+    record {
       states = places states around begin;
       finals = map (λ s. s.is_final) states;
       left = begin + widths states around;
       counter = counter;
-    } in
+    }
+
+-- all states of a region: the new initial one, those of the text, and the abandoned one
+abbrev pub region_over : Bool → List StatePiece → List Flags → Option ℕ → (begin : ℕ) → Numbers → States
+region_over anew states around counter begin at =
     beside (new_initial anew counter (initial_place states around begin) (initial_number states at.state))
-    (beside (expanded_states anew states around to begin at) (left_behind (aborts_around around)))
+    (beside (expanded_states anew states around (region_places states around counter begin) begin at)
+    (left_behind (aborts_around around)))
+
+abbrev pub inside_region : List StatePiece → List Flags → Option ℕ → Numbers → States
+inside_region states around counter at =
+    region_over (begins_anew counter states) states around counter (one (begins_anew counter states)) at
 
 abbrev pub named : List ℕ → States → Regions
 named name inside =
@@ -369,6 +375,9 @@ region_piece r =
 
 abbrev pub piece_of_region : Region → RegionPiece
 piece_of_region = fold-Region RegionPiece StatePiece region_piece state_piece
+
+abbrev pub piece_of_state : State → StatePiece
+piece_of_state = fold-State RegionPiece StatePiece region_piece state_piece
 
 -- ---- charts
 

@@ -7,6 +7,7 @@ use Rattle.sc_graph.specs.declared.program.Variable.{Variable}
 use Rattle.sc_graph.specs.declared.program.Role.TheVariants as role
 use Rattle.core_charts.specs.declared.region.Transition.{Transition}
 use Rattle.core_charts.specs.Standing.{is_strong, is_weak, is_join}
+use Rattle.abort_expansion.specs.declared.flags.Flags.{Flags}
 
 -- ---- names, of superstate s
 
@@ -57,12 +58,6 @@ has_aborts all = has_strong all || has_weak all
 -- whether a superstate with these transitions has a termination counter, by whether weak aborts enclose it
 abbrev pub counts : Bool → List Transition → Bool
 counts weak_around all = has_join all && (has_aborts all || weak_around)
-
--- the variables of a superstate
-pub record Flags : Type 0 where
-  pub strong : Option ℕ
-  pub weak : Option ℕ
-  pub counter : Option ℕ
 
 abbrev pub one : Bool → ℕ
 one true = 1

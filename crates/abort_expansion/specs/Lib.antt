@@ -2,3 +2,4 @@ pub mod Flags
 pub mod Transitions
 pub mod Expansion
 pub mod StateMap
+pub mod Inside

@@ -7,7 +7,8 @@ use Rattle.sc_values.specs.declared.expression.Expr.TheVariants as expr
 use Rattle.core_charts.specs.declared.region.Effect.{Effect}
 use Rattle.core_charts.specs.declared.region.Transition.{Transition}
 use Rattle.core_charts.specs.declared.region.TransitionKind.TheVariants as kind
-use Rattle.abort_expansion.specs.Flags.{Flags}
+use Rattle.abort_expansion.specs.declared.flags.Flags.{Flags}
+use Rattle.abort_expansion.specs.declared.places.Places.{Places}
 
 abbrev pub number : ℕ → Expr
 number n = expr.Literal (value.Int (pos n))
@@ -48,14 +49,6 @@ abbrev pub weak_checks : Bool → (left : ℕ) → List Flags → List Transitio
 weak_checks immediate left around = flat_map (λ f. check immediate left f.weak) around
 
 -- ---- transitions to states of the text
-
--- where the states of a region are, behind expansion: of each state of the text its place and whether it is final; the
--- place of the abandoned state; the counter of the superstate that holds the region
-pub record Places : Type 0 where
-  pub states : List ℕ
-  pub finals : List Bool
-  pub left : ℕ
-  pub counter : Option ℕ
 
 -- a transition to a final state counts down, as its last effect
 abbrev pub counting : Places → (target : ℕ) → List Effect → List Effect

@@ -2,6 +2,19 @@
 //! core chart stand.
 #![tactic(auto)]
 
+mod checks;
+mod counting;
+mod flags;
+mod making;
+mod names;
+mod pieces;
+mod places;
+mod regions;
 mod state_map;
+mod states;
+mod superstates;
 
+pub use flags::Flags;
+pub use pieces::{Numbers, Regions, States};
+pub use places::Places;
 pub use state_map::StateMap;

@@ -1,0 +1,8 @@
+use Rattle.std.proofs.Common.{◌≡◌, drop}
+use Rattle.core_charts.specs.Standing.{terminations}
+use Rattle.abort_expansion.specs.Expansion.{closing}
+use Rattle.abort_expansion.proofs.states.closing.Given as goal
+
+abbrev pub invariant-loop-transition : goal.invariant-loop-transition
+invariant-loop-transition l =
+    closing l.around l.flags l.at (terminations (drop l.transition-index l.own)) ≡ closing l.around l.flags l.at (terminations l.own)

@@ -1,0 +1,124 @@
+//! Where the states of a region are behind expansion, and transitions to them.
+
+ghost use Rattle.std.specs.Prelude.{◌≡◌, IfOk, false, slice_get, unwrap_or, map};
+ghost use Rattle.abort_expansion.specs.Transitions.{place_of, counting, led, led_by};
+
+use crate::making::{counting_down, go};
+use core_charts::{Effect, Transition};
+use sc_graph::VariableId;
+use sc_values::Expr;
+use sqlite_items::Items;
+use std::alloc::{AllocError, Global};
+
+/// Where the states of a region are, behind expansion.
+#[derive(Debug, Drop)]
+pub struct Places {
+    /// Of each state of the text its place.
+    pub states: Items<u32>,
+    /// Of each state of the text whether it is final.
+    pub finals: Items<bool>,
+    /// The place of the abandoned state.
+    pub left: u32,
+    /// The termination counter of the superstate that holds the region.
+    pub counter: Option<VariableId>,
+}
+
+impl Places {
+    fn place_of(&self, target: u32) -> u32
+        ensures { result ≡ place_of self.now target }
+    {
+        match self.states.get(target as usize) {
+            Some(place) => *place,
+            None => 0,
+        }
+    }
+
+    fn is_final(&self, target: u32) -> bool
+        ensures { result ≡ unwrap_or (slice_get self.now.finals target) false }
+    {
+        match self.finals.get(target as usize) {
+            Some(is_final) => *is_final,
+            None => false,
+        }
+    }
+
+    // These effects of a transition to a state of the text, which counts down where that is final.
+    fn counting(
+        &self,
+        alloc: Global,
+        target: u32,
+        effects: &[Effect],
+    ) -> Result<Items<Effect>, AllocError>
+        ensures { IfOk result (λ made. made ≡ counting self.now target effects.now) }
+    {
+        let mut all = copied_effects(alloc, effects)?;
+        if self.is_final(target) {
+            all.append(counting_down(alloc, self.counter)?)?;
+        }
+        Ok(all)
+    }
+
+    // A transition as it stands, to where its target is.
+    fn led(&self, alloc: Global, transition: &Transition) -> Result<Transition, AllocError>
+        ensures { IfOk result (λ made. made ≡ led self.now transition.now) }
+    {
+        Ok(Transition {
+            kind: transition.kind,
+            immediate: transition.immediate,
+            trigger: copied_trigger(alloc, &transition.trigger)?,
+            effects: self.counting(alloc, transition.target, transition.effects.as_slice())?,
+            target: self.place_of(transition.target),
+        })
+    }
+
+    /// Its effects and target, tested at once by this trigger.
+    pub(crate) fn led_by(
+        &self,
+        alloc: Global,
+        trigger: Option<Expr>,
+        transition: &Transition,
+    ) -> Result<Transition, AllocError>
+        ensures { IfOk result (λ made. made ≡ led_by self.now trigger transition.now) }
+    {
+        let effects = self.counting(alloc, transition.target, transition.effects.as_slice())?;
+        Ok(go(true, trigger, effects, self.place_of(transition.target)))
+    }
+
+    /// Transitions as they stand, to where their targets are.
+    pub(crate) fn all_led(
+        &self,
+        alloc: Global,
+        all: &[Transition],
+    ) -> Result<Items<Transition>, AllocError>
+        ensures { IfOk result (λ made. made ≡ map (led self.now) all.now) }
+    {
+        let mut made = Items::new(alloc);
+        for transition in all {
+            made.push(self.led(alloc, transition)?)?;
+        }
+        Ok(made)
+    }
+}
+
+/// A copy of a trigger. Err: memory was refused.
+pub(crate) fn copied_trigger(
+    alloc: Global,
+    trigger: &Option<Expr>,
+) -> Result<Option<Expr>, AllocError>
+    ensures { IfOk result (λ copy. copy ≡ trigger.now) }
+{
+    match trigger {
+        Some(condition) => Ok(Some(condition.copied(alloc)?)),
+        None => Ok(None),
+    }
+}
+
+fn copied_effects(alloc: Global, effects: &[Effect]) -> Result<Items<Effect>, AllocError>
+    ensures { IfOk result (λ copy. copy ≡ effects.now) }
+{
+    let mut copy = Vec::with_capacity(alloc, effects.len())?;
+    for effect in effects {
+        copy.push(effect.copied(alloc)?)?;
+    }
+    Ok(Items::from_vec(copy))
+}
