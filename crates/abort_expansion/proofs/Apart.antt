@@ -119,6 +119,11 @@ text_is_named name h = record { free = h.free; begins = λ first at. refl }
 pub text_has_no_bar : (name rest : List ℕ) → IsNameIn languages.Chart name → name ≢ 95 ∷ rest
 text_has_no_bar name rest h same = let begins : IsTrue (not (95 == 95)) = h.begins 95 (ap (λ n. slice_get n 0) same) in absurd cc
 
+abbrev pub letter_of : List ℕ → ℕ
+letter_of [] = 0
+letter_of (first ∷ []) = 0
+letter_of (first ∷ letter ∷ rest) = letter
+
 -- ---- a name by a letter, below some byte, and a number of this range, behind `_`
 
 pub record IsAdded (top low high : ℕ) (name : List ℕ) : Type 0 where
@@ -142,10 +147,10 @@ at_in P [] name h is = absurd is
 at_in P (text ∷ texts) name h (inl same) = subst P (sym same) h.0
 at_in P (text ∷ texts) name h (inr later) = at_in P texts name h.1 later
 
-abbrev IsText : List ℕ → Type 0
+abbrev pub IsText : List ℕ → Type 0
 IsText name = IsNameIn languages.Chart name
 
-added_apart : (top low mid high : ℕ) (x y : List ℕ) → high ≤ 2 ^ 64 → IsAdded top low mid x → IsAdded top mid high y → x ≢ y
+pub added_apart : (top low mid high : ℕ) (x y : List ℕ) → high ≤ 2 ^ 64 → IsAdded top low mid x → IsAdded top mid high y → x ≢ y
 added_apart top low mid high x y small h k same =
     let both : 95 ∷ h.letter ∷ decimal h.number ≡ 95 ∷ k.letter ∷ decimal k.number = sym h.is ∙ same ∙ k.is in
     let digits : decimal h.number ≡ decimal k.number = cc in

@@ -4,6 +4,8 @@ mod Expressions
 mod Taken
 mod Leaving
 mod Apart
+mod Added
+mod Shapes
 mod PieceParts
 mod ExpansionRows
 mod NestedRows
