@@ -92,10 +92,10 @@ led_keeps variables m n at f declared super t places taken h allowed = record {
   target = places.within t.target taken.target;
 }
 
--- a transition that goes, of the text
-pub record GoesInText (declared variables : List Variable) (m : ℕ) (t : Transition) : Type 0 where
+-- a transition of the text, of a superstate or a simple state, seen over all variables
+pub record InText (declared variables : List Variable) (m : ℕ) (super : Bool) (t : Transition) : Type 0 where
   pub taken : IsTaken variables m t
-  pub kept : IsTransition features.Extended declared m false t
+  pub kept : IsTransition features.Extended declared m super t
 
 allowed_by_go : (k : TransitionKind) → IsTrue (fits_state false k) → IsTrue (allows features.Core k)
 allowed_by_go kind.Go h = refl
@@ -105,13 +105,13 @@ allowed_by_go kind.Join h = refl
 
 pub simple_transitions_go : (declared variables : List Variable) (m n : ℕ) (around : List Flags) (at : Places) (own : List Transition)
     → Each (AreFlags variables) around → (IsTrue (aborts_around around) → at.left < n) → ArePlaces variables m n at
-    → Each (GoesInText declared variables m) own → Each (Goes variables n) (simple_transitions around at own)
+    → Each (InText declared variables m false) own → Each (Goes variables n) (simple_transitions around at own)
 simple_transitions_go declared variables m n around at own flags within places h =
     each_append (Goes variables n) (strong_checks false at.left around ++ map (led at) own) (weak_checks true at.left around)
     (each_append (Goes variables n) (strong_checks false at.left around) (map (led at) own)
     (strong_checks_go variables n at.left false around flags within)
     (each_mapped (Goes variables n) (led at) own
-    (each_more (GoesInText declared variables m) (λ t. Goes variables n (led at t)) own
+    (each_more (InText declared variables m false) (λ t. Goes variables n (led at t)) own
     (λ t g. led_keeps variables m n at features.Extended declared false t places g.taken g.kept (allowed_by_go t.kind g.kept.fits)) h)))
     (weak_checks_go variables n at.left true around flags within)
 

@@ -6,6 +6,10 @@ mod Leaving
 mod Apart
 mod Added
 mod Shapes
+mod Joined
+mod Alone
+mod Inner
+mod Staying
 mod PieceParts
 mod ExpansionRows
 mod NestedRows
