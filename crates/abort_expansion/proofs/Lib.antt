@@ -9,7 +9,10 @@ mod Shapes
 mod Joined
 mod Alone
 mod Inner
+mod Splitting
+mod Prepared
 mod Staying
+mod Within
 mod PieceParts
 mod ExpansionRows
 mod NestedRows
