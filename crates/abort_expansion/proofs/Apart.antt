@@ -142,7 +142,7 @@ IsIn (text ∷ texts) name = (name ≡ text) ⊎ IsIn texts name
 abbrev pub IsCalled : (texts : List (List ℕ)) → (top low high : ℕ) → List ℕ → Type 0
 IsCalled texts top low high name = IsIn texts name ⊎ IsAdded top low high name
 
-at_in : (P : List ℕ → Type 0) (texts : List (List ℕ)) (name : List ℕ) → Each P texts → IsIn texts name → P name
+pub at_in : (P : List ℕ → Type 0) (texts : List (List ℕ)) (name : List ℕ) → Each P texts → IsIn texts name → P name
 at_in P [] name h is = absurd is
 at_in P (text ∷ texts) name h (inl same) = subst P (sym same) h.0
 at_in P (text ∷ texts) name h (inr later) = at_in P texts name h.1 later

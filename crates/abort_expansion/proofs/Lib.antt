@@ -13,6 +13,9 @@ mod Splitting
 mod Prepared
 mod Staying
 mod Within
+mod Assembled
+mod Regional
+mod Shaped
 mod PieceParts
 mod ExpansionRows
 mod NestedRows

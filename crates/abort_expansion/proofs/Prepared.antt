@@ -71,15 +71,15 @@ split_shape true declared variables levels m high name regions own around to pla
 split_shape false declared variables levels m high name regions own around to place begins at h is small =
     forked_shape declared variables levels m high name regions own around to place begins at h is small
 
-abbrev located_so : (variables : List Variable) (regions : List Region) (own : List Transition) (around : List Flags) (at : Numbers) → Type 0
-located_so variables regions own around at =
+abbrev pub AreLocated : (variables : List Variable) (regions : List Region) (own : List Transition) (around : List Flags) (at : Numbers) → Type 0
+AreLocated variables regions own around at =
     Located variables at.variable (declarations at.superstate (mine own around at) ++ (inside_of regions own around at).variables)
 
 -- a split superstate needs the same variables, prepared or not
 pub split_keeps : (prepare : Bool) (declared variables : List Variable) (levels m n : ℕ) (name : List ℕ) (regions : List Region) (own : List Transition) (around : List Flags) (to : Places) (place : ℕ) (begins : Bool) (at : Numbers)
     → IsSuperstate declared variables levels m name regions own → has_regions regions ≡ true
     → suc at.superstate + superstates_in (map piece_of_region regions) ≤ 2 ^ 64
-    → IsScene variables m n around to → place + (if prepare then 3 else 2) ≤ n → located_so variables regions own around at
+    → IsScene variables m n around to → place + (if prepare then 3 else 2) ≤ n → AreLocated variables regions own around at
     → Each (IsState features.Core variables (AreRegions features.Core variables (suc levels)) n)
     (if prepare
     then beside (prepared (length regions) own (mine own around at) to place begins at) (forked name own around (mine own around at) (inside_of regions own around at) to (suc place) false at)

@@ -75,7 +75,7 @@ has_more : (regions more : List Region) → has_regions regions ≡ true → has
 has_more [] more h = absurd cc
 has_more (r ∷ regions) more h = refl
 
-still_some : (regions others : List Region) → region_names others ≡ region_names regions → has_regions regions ≡ true → has_regions others ≡ true
+pub still_some : (regions others : List Region) → region_names others ≡ region_names regions → has_regions regions ≡ true → has_regions others ≡ true
 still_some [] others names some = absurd cc
 still_some (r ∷ regions) others names some = has_some others (out-Region r).name (region_names regions) names
 
