@@ -112,6 +112,7 @@ monitor_keeps variables levels m s around flags own each h taken =
     (added_is_named (103 ∷ decimal s))
     (sym (count_is (λ z. (out-State z).is_initial) (first ∷ abandoned ∷ []))
     ∙ two_counted (out-State first).is_initial (out-State abandoned).is_initial first_named.begins_is last_named.begins_is)
-    (both_apart (out-State first).name (out-State abandoned).name watching_name abandoned_name first_named.name_is last_named.name_is watching_not_abandoned)
-    (left_by variables levels 2 watching_name true all (added_is_named (118 ∷ [])) (monitor_goes variables m around flags own each h taken),
-    (ended_in variables levels 2 abandoned_name false (added_is_named (108 ∷ [])), tt))
+    (both_apart (out-State first).name (out-State abandoned).name watching_name abandoned_name first_named.name_is last_named.name_is watching_not_abandoned) (
+      left_by variables levels 2 watching_name true all (added_is_named (118 ∷ [])) (monitor_goes variables m around flags own each h taken),
+      (ended_in variables levels 2 abandoned_name false (added_is_named (108 ∷ [])), tt),
+    )

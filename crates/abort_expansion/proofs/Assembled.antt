@@ -86,11 +86,13 @@ staying_keeps declared variables levels m n name regions own around to begins at
     omega (arith, sym (as_many_names inside.regions) ∙ ap (λ ns. length ns) names ∙ as_many_names regions, h.few) in
     let sides : AreRegions features.Core variables (suc levels) inside.regions =
     side_by_side variables levels inside.regions few (subst Apart (sym names) h.apart) (inside_keeps variables levels regions own around at h.inner small scene.flags here there) in
-    let super : true ≡ has_regions inside.regions = sym (still_some regions inside.regions names some) in
-    (state_keeps variables (suc levels) n (record { name = name; is_initial = begins; is_final = false; regions = inside.regions; transitions = map (led to) own })
-    (text_is_named name h.text) (λ is. absurd cc) sides (joins_led to own h.joins)
-    (subst (λ b. Each (IsTransition features.Core variables n b) (map (led to) own)) super
-    (led_all_keep declared variables m n to own scene.places h.taken aborts.0 aborts.1)), tt)
+    let super : true ≡ has_regions inside.regions = sym (still_some regions inside.regions names some) in (
+      state_keeps variables (suc levels) n (record { name = name; is_initial = begins; is_final = false; regions = inside.regions; transitions = map (led to) own })
+          (text_is_named name h.text) (λ is. absurd cc) sides (joins_led to own h.joins)
+          (subst (λ b. Each (IsTransition features.Core variables n b) (map (led to) own)) super
+          (led_all_keep declared variables m n to own scene.places h.taken aborts.0 aborts.1)),
+      tt,
+    )
 
 -- ---- either way
 

@@ -52,8 +52,10 @@ prepared_shape declared variables levels m high name regions own around to place
       begins = first_begins (out-State first).is_initial begins (initial_in (middle ∷ last ∷ [])) named.begins_is rest.begins;
       called = (inr (preparation_added s high (out-State first).name named.name_is (omega (arith, is))), rest.called);
       apart = (
-        (apart_two (out-State first).name (out-State middle).name (preparation_name s) name named.name_is forking.name_is (λ same. text_has_no_bar name (101 ∷ decimal s) h.text (sym same)),
-        (apart_two (out-State first).name (out-State last).name (preparation_name s) (continuation_name s) named.name_is ending.name_is (preparation_not_continuation s), tt)),
+        (
+          apart_two (out-State first).name (out-State middle).name (preparation_name s) name named.name_is forking.name_is (λ same. text_has_no_bar name (101 ∷ decimal s) h.text (sym same)),
+          (apart_two (out-State first).name (out-State last).name (preparation_name s) (continuation_name s) named.name_is ending.name_is (preparation_not_continuation s), tt),
+        ),
         rest.apart,
       );
       added = rest.added;
@@ -88,9 +90,10 @@ split_keeps true declared variables levels m n name regions own around to place 
     let s : ℕ = at.superstate in
     let flags : Flags = mine own around at in
     let here : AreFlags variables flags =
-    flags_there variables (weak_around around) own s at.variable (located_first variables at.variable (declarations s flags) (inside_of regions own around at).variables located) in
-    (preparation_keeps variables (suc levels) m n s flags (length regions) own to (suc place) begins (added_is_named (101 ∷ decimal s)) here scene.places
-    (taken_all declared variables m true own h.taken) (omega (arith, within)),
-    forked_keeps declared variables levels m n name regions own around to (suc place) false at h some small scene (omega (arith, within)) located)
+    flags_there variables (weak_around around) own s at.variable (located_first variables at.variable (declarations s flags) (inside_of regions own around at).variables located) in (
+      preparation_keeps variables (suc levels) m n s flags (length regions) own to (suc place) begins (added_is_named (101 ∷ decimal s)) here scene.places
+          (taken_all declared variables m true own h.taken) (omega (arith, within)),
+      forked_keeps declared variables levels m n name regions own around to (suc place) false at h some small scene (omega (arith, within)) located,
+    )
 split_keeps false declared variables levels m n name regions own around to place begins at h some small scene within located =
     forked_keeps declared variables levels m n name regions own around to place begins at h some small scene within located

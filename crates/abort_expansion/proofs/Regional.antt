@@ -61,9 +61,11 @@ left_keeps variables levels n false = tt
 
 pub first_keeps : (variables : List Variable) (levels n : ℕ) (b : Bool) (counter : Option ℕ) (target number : ℕ) → IsFlagIfAny variables counter → (b ≡ true → target < n)
     → Each (IsState features.Core variables (AreRegions features.Core variables levels) n) (new_initial b counter target number).states
-first_keeps variables levels n true counter target number h within =
-    (left_by variables levels n first_name true (go true None (on counter count_down) target ∷ []) (added_is_named (105 ∷ []))
-    (go_goes variables n true None (on counter count_down) target (no_trigger variables) (counting_down_effects variables counter h) (within refl), tt), tt)
+first_keeps variables levels n true counter target number h within = (
+  left_by variables levels n first_name true (go true None (on counter count_down) target ∷ []) (added_is_named (105 ∷ []))
+      (go_goes variables n true None (on counter count_down) target (no_trigger variables) (counting_down_effects variables counter h) (within refl), tt),
+  tt,
+)
 first_keeps variables levels n false counter target number h within = tt
 
 pub left_size : (b : Bool) → length (left_behind b).states ≡ one b

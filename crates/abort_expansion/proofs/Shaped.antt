@@ -123,15 +123,22 @@ region_is_kept variables levels name states anew around counter at is_anew text 
     let rest : States = beside made (left_behind left) in
     let all : List State = (whole_region anew states around counter at).states in
     let shape : HasShape (names_of states) at.superstate (at.superstate + superstates_among (pieces_of states)) (widths (pieces_of states) around)
-        (initial_of anew (pieces_of states)) (variables_among (weak_around around) (pieces_of states)) made =
+    (initial_of anew (pieces_of states)) (variables_among (weak_around around) (pieces_of states)) made =
     inner_shape variables levels states anew around counter at h small in
     let size : length all ≡ one anew + widths (pieces_of states) around + one left =
     omega (arith, length-append first.states rest.states, length-append made.states (left_behind left).states, first_size anew counter target number, left_size left, shape.wide) in
     let scene : IsScene variables (length states) (length all) around (region_places (pieces_of states) around counter (one anew)) =
     region_scene variables levels (length states) (length all) states around counter (one anew) h.keep refl flags counted size in
     let begun : count (λ s. (out-State s).is_initial) all ≡ 1 =
-    omega (arith, count_append (λ s. (out-State s).is_initial) first.states rest.states, count_append (λ s. (out-State s).is_initial) made.states (left_behind left).states,
-    first_count anew counter target number, left_count left, shape.begins, initial_counted anew states h.initial) in
+    omega (
+      arith,
+      count_append (λ s. (out-State s).is_initial) first.states rest.states,
+      count_append (λ s. (out-State s).is_initial) made.states (left_behind left).states,
+      first_count anew counter target number,
+      left_count left,
+      shape.begins,
+      initial_counted anew states h.initial,
+    ) in
     region_keeps variables levels (record { name = name; states = all }) (text_is_named name text)
     (sym (count_is (λ s. (out-State s).is_initial) all) ∙ begun)
     (with_first anew counter target number rest

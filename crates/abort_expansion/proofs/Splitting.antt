@@ -174,6 +174,7 @@ forked_keeps declared variables levels m n name regions own around to place begi
     (watched_apart (has_aborts own) s around flags own inside.regions (subst (Each IsText) (sym names) h.texts) (subst Apart (sym names) h.apart))
     (watched_keep variables levels (has_aborts own) inside.regions watching
     (inside_keeps variables levels regions own around at h.inner small scene.flags here there)
-    (monitor_keeps variables levels m s around flags own scene.flags here taken)) in
-    (fork_keeps variables levels n name begins all (suc place) h.text sides (has_more inside.regions (watched (has_aborts own) watching) (still_some regions inside.regions names some)) (omega (arith, within)),
-    (continuation_keeps variables (suc levels) m n s around flags to own (added_is_named (98 ∷ decimal s)) scene.flags scene.left here scene.places taken, tt))
+    (monitor_keeps variables levels m s around flags own scene.flags here taken)) in (
+      fork_keeps variables levels n name begins all (suc place) h.text sides (has_more inside.regions (watched (has_aborts own) watching) (still_some regions inside.regions names some)) (omega (arith, within)),
+      (continuation_keeps variables (suc levels) m n s around flags to own (added_is_named (98 ∷ decimal s)) scene.flags scene.left here scene.places taken, tt),
+    )

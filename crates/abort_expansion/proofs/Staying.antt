@@ -68,9 +68,10 @@ pub led_all_keep : (declared variables : List Variable) (m n : ℕ) (to : Places
 led_all_keep declared variables m n to [] places h strong weak = tt
 led_all_keep declared variables m n to (t ∷ own) places h strong weak =
     let first : (is_strong t.kind ≡ false) × (has_strong own ≡ false) = or_none (is_strong t.kind) (has_strong own) strong in
-    let second : (is_weak t.kind ≡ false) × (has_weak own ≡ false) = or_none (is_weak t.kind) (has_weak own) weak in
-    (led_keeps variables m n to features.Extended declared true t places h.0.taken h.0.kept (allowed_kind t.kind first.0 second.0),
-    led_all_keep declared variables m n to own places h.1 first.1 second.1)
+    let second : (is_weak t.kind ≡ false) × (has_weak own ≡ false) = or_none (is_weak t.kind) (has_weak own) weak in (
+      led_keeps variables m n to features.Extended declared true t places h.0.taken h.0.kept (allowed_kind t.kind first.0 second.0),
+      led_all_keep declared variables m n to own places h.1 first.1 second.1,
+    )
 
 same_count : (to : Places) (own : List Transition) → count (λ t. is_join t.kind) (map (led to) own) ≡ count (λ t. is_join t.kind) own
 same_count to [] = refl
