@@ -16,6 +16,7 @@ mod Within
 mod Assembled
 mod Regional
 mod Shaped
+mod Keeping
 mod PieceParts
 mod ExpansionRows
 mod NestedRows
