@@ -16,7 +16,9 @@ use Rattle.trace_player.specs.declared.player.PlayFault.TheVariants as play_faul
 use Rattle.sct_command.specs.FaultText.{fault_text, shown_name}
 use Rattle.sct_command.specs.Files.{Contents, HasBytes, LacksFile, Stores}
 use Rattle.trace_lines.specs.Lines.{line_feed}
-use Rattle.sct_command.specs.Request.{Request, Check, Run, Migrate}
+use Rattle.sct_command.specs.Request.{Request, Check, Run, Compile, Print, Migrate}
+use Rattle.sct_command.specs.Sources.{Compiles, PrintsText, RefusesCompile, RefusesPrinting}
+use Rattle.sct_command.specs.Storing.{IsNotStored}
 use Rattle.sct_command.specs.Summary.{summary_of}
 use Rattle.trace_player.specs.Trace.{Plays, Good, Leaves}
 
@@ -57,11 +59,13 @@ pub record WritesText (old new : Option (List ℕ)) : Type 0 where
   pub some : text ≢ []
   pub written : Appends old new text
 
--- what was done for a request: a summary, a whole trace, an image in version 2, or for none the help
+-- what was done for a request: a summary, a whole trace, an image, a text, an image in version 2, or for none the help
 abbrev pub Does : Option Contents → Option Contents → Option Request → Option (List ℕ) → Option (List ℕ)
     → Option (List ℕ) → Type 0
 Does files files' (Some (Check name)) input old new = SumsUp files name old new
 Does files files' (Some (Run name)) input old new = PlaysWhole files name input old new
+Does files files' (Some (Compile from to)) input old new = Compiles files files' from to old new
+Does files files' (Some (Print name)) input old new = PrintsText files name old new
 Does files files' (Some (Migrate from to)) input old new = Migrates files files' from to old new
 Does files files' None input old new = WritesText old new
 
@@ -112,12 +116,6 @@ abbrev pub RefusesRun : Option Contents → List ℕ → Option (List ℕ) → O
 RefusesRun files name input old new (fault.Play f) = StopsPlaying files name input old new f
 RefusesRun files name input old new other = IsNotLoaded files name other × (new ≡ old)
 
--- the file of this name could not be written, for this fault
-abbrev pub IsNotStored : List ℕ → Fault → Type 0
-IsNotStored name fault.Memory = Unit {0}
-IsNotStored name (fault.File shown) = string_bytes shown ≡ shown_name name
-IsNotStored name other = ⊥
-
 -- there is no image in the first file, or the second cannot be written
 abbrev pub IsNotMigrated : Option Contents → List ℕ → List ℕ → Fault → Type 0
 IsNotMigrated files from to f = IsNotLoaded files from f ⊎ IsNotStored to f
@@ -148,6 +146,8 @@ abbrev pub Refuses : Option Contents → Option Contents → Option Request → 
     → Option (List ℕ) → Fault → Type 0
 Refuses files files' (Some (Check name)) input old new f = RefusesCheck files name old new f
 Refuses files files' (Some (Run name)) input old new f = RefusesRun files name input old new f
+Refuses files files' (Some (Compile from to)) input old new f = RefusesCompile files files' from to old new f
+Refuses files files' (Some (Print name)) input old new f = RefusesPrinting files name old new f
 Refuses files files' (Some (Migrate from to)) input old new f = RefusesMigration files files' from to old new f
 Refuses files files' None input old new f = RefusesHelp old new f
 

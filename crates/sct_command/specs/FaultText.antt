@@ -3,6 +3,8 @@ use Rattle.std.specs.Prelude.{ℕ, List, ◌++◌, codes, map, if◌then◌else�
 use Rattle.std.specs.Char.{is_ascii_control}
 use Rattle.bytecode.specs.FaultText as bytes
 use Rattle.verifier.specs.FaultText as rules
+use Rattle.sc_text.specs.FaultText as texts
+use Rattle.compiler.specs.FaultText as programs
 use Rattle.sct_command.specs.declared.fault.Fault.{Fault}
 use Rattle.sct_command.specs.declared.fault.Fault.TheVariants as fault
 use Rattle.trace_player.specs.FaultText.{play_fault_text}
@@ -21,6 +23,8 @@ abbrev pub fault_text : Fault → List ℕ
 fault_text fault.Memory = codes "E52"
 fault_text (fault.Image f) = bytes.fault_text f
 fault_text (fault.Rule f) = rules.refusal_text f
+fault_text (fault.Text f) = texts.fault_text f
+fault_text (fault.Program f) = programs.fault_text f
 fault_text (fault.Play f) = play_fault_text f
 fault_text fault.Write = codes "E63"
 fault_text (fault.File shown) = codes "E64 " ++ string_bytes shown

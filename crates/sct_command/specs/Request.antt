@@ -10,12 +10,16 @@ use Rattle.sct_command.specs.declared.arguments.Request.TheVariants as words
 pub data Request : Type 0 where
   Check : (name : List ℕ) → Request
   Run : (name : List ℕ) → Request
+  Compile : (from to : List ℕ) → Request
+  Print : (name : List ℕ) → Request
   Migrate : (from to : List ℕ) → Request
 
 -- a request whose name is text
 abbrev pub seen : Words → Request
 seen (words.Check name) = Check name.now
 seen (words.Run name) = Run name.now
+seen (words.Compile from to) = Compile from.now to.now
+seen (words.Print name) = Print name.now
 seen (words.Migrate from to) = Migrate from.now to.now
 
 abbrev pub hyphen : ℕ
@@ -39,8 +43,12 @@ abbrev pub asked : List ℕ → List (List ℕ) → Option Request
 asked verb (name ∷ []) =
     if bytes_eq verb (codes "check") then Some (Check name)
     else if bytes_eq verb (codes "run") then Some (Run name)
+    else if bytes_eq verb (codes "scl") then Some (Print name)
     else None
-asked verb (from ∷ to ∷ []) = if bytes_eq verb (codes "migrate") then Some (Migrate from to) else None
+asked verb (from ∷ to ∷ []) =
+    if bytes_eq verb (codes "compile") then Some (Compile from to)
+    else if bytes_eq verb (codes "migrate") then Some (Migrate from to)
+    else None
 asked verb operands = None
 
 -- the request of the words behind the program's name
@@ -53,7 +61,8 @@ abbrev pub IsRun : Option Request → Type 0
 IsRun (Some (Run name)) = Unit {0}
 IsRun request = ⊥
 
--- a migration is asked for, which alone writes a file
-abbrev pub IsMigration : Option Request → Type 0
-IsMigration (Some (Migrate from to)) = Unit {0}
-IsMigration request = ⊥
+-- an image is asked for, by compiling or by migration, which alone write a file
+abbrev pub StoresImage : Option Request → Type 0
+StoresImage (Some (Compile from to)) = Unit {0}
+StoresImage (Some (Migrate from to)) = Unit {0}
+StoresImage request = ⊥

@@ -14,6 +14,10 @@ pub enum Request<'a> {
     Check(&'a str),
     /// Run the image in this file.
     Run(&'a str),
+    /// Write the image of the SCL text in the first file to the second.
+    Compile(&'a str, &'a str),
+    /// Print the SCL text in this file.
+    Print(&'a str),
     /// Write the image in the first file to the second, in version 2 of the layout.
     Migrate(&'a str, &'a str),
 }
@@ -35,7 +39,8 @@ impl From<AllocError> for Unread {
     }
 }
 
-const EXAMPLE: &str = "Example:\n  sct run examples/two_threads.image < examples/two_threads.ticks";
+const EXAMPLE: &str =
+    "Examples:\n  sct compile examples/abro.scl abro.image\n  sct run examples/two_threads.image < examples/two_threads.ticks";
 
 // A command that takes the file of an image.
 fn over_image<'a>(alloc: Global, name: &'a str, about: &'a str) -> Result<Command<'a>, AllocError> {
@@ -67,6 +72,23 @@ fn migrate_command<'a>(alloc: Global) -> Result<Command<'a>, AllocError> {
         .arg(new)
 }
 
+// The command that takes a text to an image.
+fn compile_command<'a>(alloc: Global) -> Result<Command<'a>, AllocError> {
+    let image = file_name(alloc, "image", "IMAGE", "The file that is written");
+    Command::new(alloc, "compile")
+        .about("Compiles an SCL text to an image")
+        .arg(file_name(alloc, "file", "FILE", "The file of the text"))?
+        .arg(image)
+}
+
+// The command that prints a text.
+fn scl_command<'a>(alloc: Global) -> Result<Command<'a>, AllocError> {
+    let file = file_name(alloc, "file", "FILE", "The file of the text");
+    Command::new(alloc, "scl")
+        .about("Prints an SCL text in its layout")
+        .arg(file)
+}
+
 fn sct_command<'a>(alloc: Global) -> Result<Command<'a>, AllocError> {
     let check = over_image(alloc, "check", "Decodes and verifies an image")?;
     let run = over_image(
@@ -76,12 +98,14 @@ fn sct_command<'a>(alloc: Global) -> Result<Command<'a>, AllocError> {
     )?;
     Command::new(alloc, "sct")
         .bin_name("sct")?
-        .about("Checks and runs images of SCCharts")
+        .about("Compiles SCCharts to images, checks images and runs them")
         .no_binary_name(true)
         .subcommand_required(true)
         .arg_required_else_help(true)
         .disable_help_subcommand(true)
         .after_help(EXAMPLE)
+        .subcommand(compile_command(alloc)?)?
+        .subcommand(scl_command(alloc)?)?
         .subcommand(check)?
         .subcommand(run)?
         .subcommand(migrate_command(alloc)?)
@@ -139,6 +163,8 @@ fn asked<'a>(verb: &str, operands: &'a [String]) -> Option<Request<'a>>
     match operands {
         [name] if verb == "check" => Some(Request::Check(name.as_str())),
         [name] if verb == "run" => Some(Request::Run(name.as_str())),
+        [name] if verb == "scl" => Some(Request::Print(name.as_str())),
+        [from, to] if verb == "compile" => Some(Request::Compile(from.as_str(), to.as_str())),
         [from, to] if verb == "migrate" => Some(Request::Migrate(from.as_str(), to.as_str())),
         _ => None,
     }

@@ -4,6 +4,7 @@ ghost use Rattle.bytecode.specs.Reading.Image.{version_of};
 ghost use Rattle.bytecode.specs.Spells.{Spells};
 ghost use Rattle.sct_command.specs.Answer.{IsLoaded, IsNoImage, IsNotLoaded};
 ghost use Rattle.sct_command.specs.Files.{HasBytes};
+ghost use Rattle.sct_command.specs.Sources.{IsNoSource};
 ghost use Rattle.sct_command.specs.Summary.{summary_line, summary_of};
 
 use crate::fault::Fault;
@@ -13,10 +14,11 @@ use bytecode::{Image, decode_either};
 use std::alloc::{AllocError, Global};
 use verifier::{Verified, verify};
 
-// The bytes of the file of this name.
-fn bytes_of<F: Files>(alloc: Global, files: &mut F, name: &str) -> Result<Vec<u8>, Fault>
+/// The bytes of the file of this name. Err: it could not be read; or memory was refused.
+pub fn bytes_of<F: Files>(alloc: Global, files: &mut F, name: &str) -> Result<Vec<u8>, Fault>
     ensures bytes { IfOk result (λ bytes. HasBytes (F.contents files.old) name.now bytes.items) }
     ensures fault { IfErr result (IsNotLoaded (F.contents files.old) name.now) }
+    ensures source { IfErr result (IsNoSource (F.contents files.old) name.now) }
     ensures same { F.contents files.new ≡ F.contents files.old }
 {
     match files.load(alloc, name) {

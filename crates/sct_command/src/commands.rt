@@ -3,14 +3,16 @@ ghost use Rattle.sct_command.specs.Answer.{SumsUp, PlaysWhole, WritesText, Write
 ghost use Rattle.sct_command.specs.Answer.{Does, Refuses, IsRefused, TellsFault, fault_line};
 ghost use Rattle.sct_command.specs.Answer.{reads_failed, writes_failed};
 ghost use Rattle.sct_command.specs.FaultText.{fault_text};
-ghost use Rattle.sct_command.specs.Request.{IsMigration, IsRun, request_of, seen};
+ghost use Rattle.sct_command.specs.Request.{StoresImage, IsRun, request_of, seen};
 ghost use Rattle.sct_command.specs.declared.fault.Fault.TheVariants as told;
 
 use crate::arguments::{Request, Unread, read_words};
 use crate::check::{load_verified, summary_of};
+use crate::compile::compile;
 use crate::fault::Fault;
 use crate::files::Files;
 use crate::migrate::migrate;
+use crate::print::print_text;
 use sc_values::{Sink, Source, write_all};
 use std::alloc::{AllocError, Global};
 use trace_player::play;
@@ -136,11 +138,13 @@ fn perform<F: Files, R: Source, W: Sink>(
     ensures none_failed { OnOk result (W.failures output.new ≡ W.failures output.old) }
     ensures failed { IfErr result (λ fault. W.failures output.new ≡ W.failures output.old + writes_failed fault) }
     ensures unread { ¬ IsRun (Some (seen request.entry)) → R.to_come input.new ≡ R.to_come input.old }
-    ensures files { ¬ IsMigration (Some (seen request.entry)) → F.contents files.new ≡ F.contents files.old }
+    ensures files { ¬ StoresImage (Some (seen request.entry)) → F.contents files.new ≡ F.contents files.old }
 {
     match request {
         Request::Check(name) => check(alloc, name, files, output),
         Request::Run(name) => run(alloc, name, files, input, output),
+        Request::Compile(from, to) => compile(alloc, from, to, files, output),
+        Request::Print(name) => print_text(alloc, name, files, output),
         Request::Migrate(from, to) => migrate(alloc, from, to, files, output),
     }
 }
@@ -174,7 +178,7 @@ pub fn command<F: Files, R: Source, W: Sink, X: Sink>(
     ensures nothing { result ≡ MISUSED → W.taken output.new ≡ W.taken output.old }
 
     ensures unread { ¬ IsRun (request_of (map string_bytes words.now)) → R.to_come input.new ≡ R.to_come input.old }
-    ensures files { ¬ IsMigration (request_of (map string_bytes words.now))
+    ensures files { ¬ StoresImage (request_of (map string_bytes words.now))
         → F.contents files.new ≡ F.contents files.old }
 {
     let fault = match read_words(alloc, words) {

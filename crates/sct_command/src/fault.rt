@@ -2,6 +2,8 @@ ghost use Rattle.std.specs.Prelude.{◌≡◌};
 ghost use Rattle.sct_command.specs.declared.fault.Fault.TheVariants.{Memory};
 
 use bytecode::DecodeFault;
+use compiler::CompileFault;
+use sc_text::ReadFault;
 use std::alloc::{AllocError, AllocFailed};
 use trace_player::PlayFault;
 use verifier::Refusal;
@@ -15,11 +17,15 @@ pub enum Fault {
     Image(DecodeFault),
     /// The image breaks a rule, or memory was refused.
     Rule(Refusal),
+    /// The text spells no program, or memory was refused.
+    Text(ReadFault),
+    /// The program has no image, or memory was refused.
+    Program(CompileFault),
     /// Standard input was not played to its end.
     Play(PlayFault),
     /// E63: standard output failed, or took no byte.
     Write,
-    /// E64: the file cannot be read whose name is shown so.
+    /// E64: the file cannot be read or written whose name is shown so.
     File(String),
 }
 

@@ -19,6 +19,8 @@ impl fmt::Display for Fault {
             Fault::Memory => write!(f, "E52"),
             Fault::Image(fault) => write!(f, "{fault}"),
             Fault::Rule(refusal) => write!(f, "{refusal}"),
+            Fault::Text(fault) => write!(f, "{fault}"),
+            Fault::Program(fault) => write!(f, "{fault}"),
             Fault::Play(fault) => write!(f, "{fault}"),
             Fault::Write => write!(f, "E63"),
             Fault::File(shown) => write!(f, "E64 {shown}"),

@@ -1,15 +1,19 @@
-//! What the program `sct` does, over its words, files and streams: it checks images, runs them, and writes
-//! them anew.
+//! What the program `sct` does, over its words, files and streams: it compiles and prints SCL text, checks
+//! images, runs them, and writes them anew.
 #![tactic(auto)]
 
 mod arguments;
 mod check;
 mod commands;
+mod compile;
 mod fault;
 mod fault_text;
 mod files;
 mod laws;
 mod migrate;
+mod print;
+mod source;
+mod store;
 
 pub use check::load_verified;
 pub use commands::{DONE, MISUSED, REFUSED, command};

@@ -1,27 +1,13 @@
-ghost use Rattle.std.specs.Prelude.{◌≡◌, ◌+◌, IfErr, OnErr, OnOk};
-ghost use Rattle.sct_command.specs.Answer.{Migrates, RefusesMigration, IsNotStored, reads_failed, writes_failed};
-ghost use Rattle.sct_command.specs.Files.{Stores};
+ghost use Rattle.std.specs.Prelude.{◌≡◌, ◌+◌, IfErr, OnOk};
+ghost use Rattle.sct_command.specs.Answer.{Migrates, RefusesMigration, reads_failed, writes_failed};
 
 use crate::check::{load_verified, summary_of};
 use crate::fault::Fault;
-use crate::fault_text::shown_name;
-use crate::files::{FileFault, Files};
+use crate::files::Files;
+use crate::store::store;
 use bytecode::encode;
 use sc_values::{Sink, write_all};
 use std::alloc::Global;
-
-// Makes these bytes the file of this name.
-fn store<F: Files>(alloc: Global, files: &mut F, name: &str, bytes: &[u8]) -> Result<(), Fault>
-    ensures stored { OnOk result (Stores (F.contents files.old) (F.contents files.new) name.now bytes.now) }
-    ensures fault { IfErr result (IsNotStored name.now) }
-    ensures same { OnErr result (F.contents files.new ≡ F.contents files.old) }
-{
-    match files.store(alloc, name, bytes) {
-        Ok(()) => Ok(()),
-        Err(FileFault::Memory) => Err(Fault::Memory),
-        Err(FileFault::Named) => Err(Fault::File(shown_name(alloc, name)?)),
-    }
-}
 
 /// Writes the image in one file to another, in version 2 of the layout, once it is verified, and then
 /// its summary to the output. Err: there is no valid image in the first file or the second cannot be

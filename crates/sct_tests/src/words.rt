@@ -21,10 +21,10 @@ fn is_misuse(alloc: Global, words: &[&str]) -> Result<bool, AllocError> {
 fn tells_misuse(rt: HostRuntime) -> Result<(), Fail> {
     let alloc = rt.alloc();
     assert!(rt; is_misuse(alloc, &[])?);
-    assert!(rt; is_misuse(alloc, &["compile", "a", "b"])?);
+    assert!(rt; is_misuse(alloc, &["compile", "a"])?);
     assert!(rt; is_misuse(alloc, &["run"])?);
     assert!(rt; is_misuse(alloc, &["check", "a", "b"])?);
-    assert!(rt; is_misuse(alloc, &["scl", "a"])?);
+    assert!(rt; is_misuse(alloc, &["scl", "a", "b"])?);
     assert!(rt; is_misuse(alloc, &["run", "a", "--workers", "2"])?);
     Ok(())
 }
@@ -37,11 +37,13 @@ Usage: sct run <IMAGE>
 For more information, try '--help'.
 ";
 
-const HELP: &str = "Checks and runs images of SCCharts
+const HELP: &str = "Compiles SCCharts to images, checks images and runs them
 
 Usage: sct <COMMAND>
 
 Commands:
+  compile  Compiles an SCL text to an image
+  scl      Prints an SCL text in its layout
   check    Decodes and verifies an image
   run      Plays standard input to standard output, a tick for each line
   migrate  Writes an image in version 2 of the layout
@@ -49,7 +51,8 @@ Commands:
 Options:
   -h, --help  Print help
 
-Example:
+Examples:
+  sct compile examples/abro.scl abro.image
   sct run examples/two_threads.image < examples/two_threads.ticks
 ";
 

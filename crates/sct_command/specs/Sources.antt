@@ -1,0 +1,101 @@
+-- What a file of SCL text holds, and what is left where it is compiled or printed.
+use Rattle.std.specs.Prelude.{ℕ, ◌≡◌, ◌⊎◌, Option, List, string_bytes}
+use Rattle.std.specs.Io.KnownBytes.{Appends}
+use Rattle.std.specs.Str.{IsUtf8}
+use Rattle.sc_values.specs.Streams.{GrowsInto}
+use Rattle.sc_text.specs.declared.read_fault.Broken.TheVariants as broken
+use Rattle.sc_text.specs.declared.read_fault.ReadFault.{ReadFault}
+use Rattle.sc_text.specs.declared.read_fault.ReadFault.TheVariants as read
+use Rattle.scl.specs.declared.program.Scl.{Scl}
+use Rattle.scl_reader.specs.Checked.{IsTextFault}
+use Rattle.scl_programs.specs.Read.{IsRead}
+use Rattle.scl_printer.specs.Layout.{text_of}
+use Rattle.bytecode.specs.Image.{Image}
+use Rattle.bytecode.specs.Spells.{Spells}
+use Rattle.compiler.specs.Texts.{IsImageOf, IsNotCompiled}
+use Rattle.sct_command.specs.declared.fault.Fault.{Fault}
+use Rattle.sct_command.specs.declared.fault.Fault.TheVariants as fault
+use Rattle.sct_command.specs.FaultText.{shown_name}
+use Rattle.sct_command.specs.Files.{Contents, HasBytes, LacksFile, Stores}
+use Rattle.sct_command.specs.Storing.{IsNotStored}
+use Rattle.sct_command.specs.Summary.{summary_of}
+
+-- ---- what was done
+
+-- the bytes of the file of this name are text, which spells this program
+pub record IsSource (files : Option Contents) (name : List ℕ) (scl : Scl) : Type 0 where
+  pub bytes : List ℕ
+  pub held : HasBytes files name bytes
+  pub text : IsUtf8 bytes
+  pub read : IsRead bytes scl
+
+-- the image is that of the program in this file
+pub record IsCompiledFrom (files : Option Contents) (name : List ℕ) (image : Image) : Type 0 where
+  pub scl : Scl
+  pub source : IsSource files name scl
+  pub compiled : IsImageOf scl image
+
+-- the file of one name has now the image of the program in that of the other, in version 2, and the image's summary
+-- was written
+pub record Compiles (files files' : Option Contents) (from to : List ℕ) (old new : Option (List ℕ)) : Type 0 where
+  pub image : Image
+  pub compiled : IsCompiledFrom files from image
+  pub bytes : List ℕ
+  pub spelt : Spells 2 bytes image
+  pub stored : Stores files files' to bytes
+  pub written : Appends old new (summary_of image)
+
+-- the text of the program in this file was written
+pub record PrintsText (files : Option Contents) (name : List ℕ) (old new : Option (List ℕ)) : Type 0 where
+  pub scl : Scl
+  pub source : IsSource files name scl
+  pub written : Appends old new (text_of scl)
+
+-- ---- what was refused
+
+-- why bytes spell no program: they are no text, which is told of their first place; or the text spells none
+abbrev pub IsNoText : List ℕ → ReadFault → Type 0
+IsNoText bytes f = (¬ IsUtf8 bytes × (f ≡ read.Text broken.Token 0)) ⊎ (IsUtf8 bytes × IsTextFault bytes f)
+
+-- no program could be had from the file of this name, for this fault
+abbrev pub IsNoSource : Option Contents → List ℕ → Fault → Type 0
+IsNoSource files name fault.Memory = Unit {0}
+IsNoSource files name (fault.File shown) = LacksFile files name × (string_bytes shown ≡ shown_name name)
+IsNoSource files name (fault.Text f) = (bytes : List ℕ) × HasBytes files name bytes × IsNoText bytes f
+IsNoSource files name other = ⊥
+
+-- the program in this file has no image, for this fault
+abbrev pub HasNoImage : Option Contents → List ℕ → Fault → Type 0
+HasNoImage files name (fault.Program f) = (scl : Scl) × IsSource files name scl × IsNotCompiled scl f
+HasNoImage files name other = ⊥
+
+-- there is no program in this file, or it has no image
+abbrev pub IsNoCompiled : Option Contents → List ℕ → Fault → Type 0
+IsNoCompiled files name f = IsNoSource files name f ⊎ HasNoImage files name f
+
+-- the image was stored, and a beginning of its summary was written
+pub record CompilesPart (files files' : Option Contents) (from to : List ℕ) (old new : Option (List ℕ)) : Type 0 where
+  pub image : Image
+  pub compiled : IsCompiledFrom files from image
+  pub bytes : List ℕ
+  pub spelt : Spells 2 bytes image
+  pub stored : Stores files files' to bytes
+  pub in_part : GrowsInto old new (summary_of image)
+
+-- what compiling leaves that is refused: no file was written and nothing else, but where the output failed
+abbrev pub RefusesCompile : Option Contents → Option Contents → List ℕ → List ℕ → Option (List ℕ) → Option (List ℕ)
+    → Fault → Type 0
+RefusesCompile files files' from to old new fault.Write = CompilesPart files files' from to old new
+RefusesCompile files files' from to old new other =
+    (IsNoCompiled files from other ⊎ IsNotStored to other) × (files' ≡ files) × (new ≡ old)
+
+-- a beginning of the text of the program in this file was written
+pub record PrintsPart (files : Option Contents) (name : List ℕ) (old new : Option (List ℕ)) : Type 0 where
+  pub scl : Scl
+  pub source : IsSource files name scl
+  pub in_part : GrowsInto old new (text_of scl)
+
+-- what printing leaves that is refused: nothing was written, but where the output failed
+abbrev pub RefusesPrinting : Option Contents → List ℕ → Option (List ℕ) → Option (List ℕ) → Fault → Type 0
+RefusesPrinting files name old new fault.Write = PrintsPart files name old new
+RefusesPrinting files name old new other = IsNoSource files name other × (new ≡ old)
