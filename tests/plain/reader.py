@@ -41,8 +41,9 @@ class Program:
 
 # ---- the first pass
 
-def tokens(text):
-    """The tokens as (kind, value, place): kind is NAME, NUMBER, or the word or sign itself. The last one is END."""
+def tokens(text, is_chart=False):
+    """The tokens as (kind, value, place): kind is NAME, NUMBER, or the word or sign itself. The last one is END. In a
+    chart no name begins with `_`."""
     found, at = [], 0
     while at < len(text):
         piece = PIECES.match(text, at)
@@ -51,6 +52,8 @@ def tokens(text):
         word = piece.group()
         if word[:1].isalpha() or word[:1] == b"_":
             name = word.decode()
+            if is_chart and name.startswith("_"):
+                raise Fault(1, at)
             if name in RESERVED:
                 found.append((name, name, at))
             elif len(name) > 64:
@@ -97,16 +100,20 @@ class Grammar:
         self.take("scl")
         name = self.take(NAME)[1]
         self.take("{")
-        declarations = []
-        while self.ahead() in ("input", "output", "local"):
-            role = self.take("input", "output", "local")[0]
-            kind = self.take("bool", "int")[0]
-            declarations.append((role, kind, self.take(NAME)))
-            self.take(";")
+        declarations = self.declarations()
         body = self.statements(NESTED, NESTED)
         self.take("}")
         self.take(END)
         return name, declarations, body
+
+    def declarations(self):
+        found = []
+        while self.ahead() in ("input", "output", "local"):
+            role = self.take("input", "output", "local")[0]
+            kind = self.take("bool", "int")[0]
+            found.append((role, kind, self.take(NAME)))
+            self.take(";")
+        return found
 
     def block(self, forks, ifs):
         self.take("{")
@@ -293,10 +300,9 @@ def is_too_large(code):
 class Rules:
     """All flaws of what a text spells, each as (place, number)."""
 
-    def __init__(self, declarations, body):
+    def __init__(self, declarations):
         self.flaws, self.roles, self.kinds, self.labels = [], {}, {}, set()
         self.declare(declarations)
-        self.thread(body)
 
     def flaw(self, number, place):
         self.flaws.append((place, number))
@@ -395,16 +401,28 @@ def resolved(body, places):
     return made
 
 
-def read(text):
-    """The program that a text spells, or a Fault."""
-    try:
-        text.decode()
-    except UnicodeDecodeError:
-        raise Fault(1, 0) from None
-    name, declarations, body = Grammar(text).program()
-    flaws = Rules(declarations, body).flaws
+def tell_first(flaws):
+    """Tells the flaw of least place, and there the one of least number."""
     if flaws:
         place, number = min(flaws)
         raise Fault(number, place)
+
+
+def is_utf8(text):
+    try:
+        text.decode()
+    except UnicodeDecodeError:
+        return False
+    return True
+
+
+def read(text):
+    """The program that a text spells, or a Fault."""
+    if not is_utf8(text):
+        raise Fault(1, 0)
+    name, declarations, body = Grammar(text).program()
+    rules = Rules(declarations)
+    rules.thread(body)
+    tell_first(rules.flaws)
     variables = [Variable(name, role, kind) for role, kind, (_, name, _) in declarations]
     return Program(name, variables, resolved(body, {v.name: x for x, v in enumerate(variables)}))
