@@ -215,17 +215,21 @@ class Writer:
         return text_of(self.body, "P", self.variables)
 
     def laid_out(self):
-        """The printed text with other white space and comments."""
-        r, made, behind = self.random, [], ""
-        for kind, value, _ in tokens(self.printed().encode())[:-1]:
-            word = str(value)
-            joins = behind and (behind[-1].isalnum() or behind[-1] == "_") and (word[0].isalnum() or word[0] == "_")
-            joins = joins or (behind + word)[:2] in ("==", "!=", "<=", ">=", "->", "//")
-            blanks = [" ", "  ", "\n", "\t", "\r\n", " // \u00e9 $\n"] + (["// c\n"] if behind != "/" else [])
-            made.append(r.choice(blanks) if joins or r.random() < 0.3 else "")
-            made.append(word)
-            behind = word
-        return "".join(made)
+        return laid_out(self.printed(), self.random)
+
+
+def laid_out(text, r):
+    """A text with other white space and comments."""
+    made, behind = [], ""
+    for _, value, _ in tokens(text.encode())[:-1]:
+        word = str(value)
+        joins = behind and (behind[-1].isalnum() or behind[-1] == "_") and (word[0].isalnum() or word[0] == "_")
+        joins = joins or (behind + word)[:2] in ("==", "!=", "<=", ">=", "->", "//")
+        blanks = [" ", "  ", "\n", "\t", "\r\n", " // \u00e9 $\n"] + (["// c\n"] if behind != "/" else [])
+        made.append(r.choice(blanks) if joins or r.random() < 0.3 else "")
+        made.append(word)
+        behind = word
+    return "".join(made)
 
 
 VOCABULARY = ("scl chart input output local bool int if else goto fork par join pause true false not and or min max { "
@@ -233,7 +237,7 @@ VOCABULARY = ("scl chart input output local bool int if else goto fork par join 
               "\0 // \u00e9").split(" ")
 
 
-def changed(text, r):
+def changed(text, r, vocabulary=VOCABULARY):
     """The text with a few of its tokens or bytes dropped, doubled, put in or replaced."""
     try:
         words = [str(value) for _, value, _ in tokens(text.encode())[:-1]]
@@ -243,13 +247,13 @@ def changed(text, r):
         at = r.randrange(len(words) + 1)
         which = r.randrange(4)
         if which == 0:
-            words.insert(at, r.choice(VOCABULARY))
+            words.insert(at, r.choice(vocabulary))
         elif words:
             at = min(at, len(words) - 1)
             if which == 1:
                 del words[at]
             elif which == 2:
-                words[at] = r.choice(VOCABULARY)
+                words[at] = r.choice(vocabulary)
             else:
                 words.insert(at, words[r.randrange(len(words))])
     return r.choice([" ", " ", "\n"]).join(words)
@@ -290,20 +294,21 @@ RULES = {
 }
 
 
-def first_stop(text):
-    """The place of the first token with which no text goes on, or None."""
-    states = [{("program", tuple(RULES["program"][0]), 0, 0)}]
-    for at, (kind, value, place) in enumerate(tokens(text)):
+def first_stop(text, rules=RULES, is_chart=False):
+    """The place of the first token with which no text goes on, or None. The first rule has one form."""
+    first = next(iter(rules))
+    states = [{(first, tuple(rules[first][0]), 0, 0)}]
+    for at, (kind, value, place) in enumerate(tokens(text, is_chart)):
         word = ("zero" if value == 0 else "above zero") if kind == NUMBER else kind
         here, todo = states[at], list(states[at])
         while todo:
             name, right, dot, start = todo.pop()
             if dot == len(right):
                 new = [(n, r, d + 1, s) for n, r, d, s in states[start] if d < len(r) and r[d] == name]
-            elif right[dot] in RULES:
-                new = [(right[dot], tuple(r), 0, at) for r in RULES[right[dot]]]
+            elif right[dot] in rules:
+                new = [(right[dot], tuple(r), 0, at) for r in rules[right[dot]]]
                 # what may be empty, and was told to be so before
-                new += [(name, right, dot + 1, start)] if [] in RULES[right[dot]] else []
+                new += [(name, right, dot + 1, start)] if [] in rules[right[dot]] else []
             else:
                 new = []
             todo += [s for s in new if s not in here]
