@@ -19,7 +19,7 @@ class ChartGenerator(Generator):
         of = {"int": ["add", "add", "min", "max", "multiply"], "bool": ["and", "or"]}
         self.combination = {x: r.choice(of[VARIABLES[x].kind]) if r.random() < 0.6 else None for x in WRITTEN}
         self.writable = WRITTEN
-        self.daring = r.choice([0, 0, 0.1, 0.4])
+        self.daring = r.choice([0, 0, 0.05, 0.2])
 
     def name(self, letter):
         self.count += 1
@@ -52,7 +52,8 @@ class ChartGenerator(Generator):
         immediate = kind != "join" and r.random() < 0.3
         sure = kind != "join" and r.random() < 0.85
         target = r.randrange(states)
-        if (immediate or kind == "join") and target <= at and r.random() < 0.9:
+        # what leads back to where it came from in one tick has no image
+        if (immediate or kind != "go") and target <= at and r.random() < 0.9:
             target = states - 1
             if target <= at:
                 immediate = False
@@ -77,7 +78,7 @@ class ChartGenerator(Generator):
             self.left -= 1
             if at == final:
                 states.append(State(self.name("F"), at == initial, True))
-            elif depth and self.left > 0 and r.random() < 0.4:
+            elif depth and self.left > 0 and r.random() < (0.5 if at < count - 1 else 0.15):
                 states.append(self.superstate(depth, inside_aborts, at, count, at == initial))
             else:
                 kinds = ["go"] * r.choice([0, 1, 1, 1, 2, 3])
@@ -88,7 +89,8 @@ class ChartGenerator(Generator):
     def superstate(self, depth, inside_aborts, at, count, is_initial):
         r = self.random
         may_abort = not (self.is_flat and inside_aborts)
-        kinds = [r.choice(["strong", "weak"]) for _ in range(r.choice([0, 1, 1, 2, 3]))] if may_abort else []
+        kinds = [r.choice(["strong", "weak"]) for _ in range(r.choice([0, 1, 1, 2, 3] if self.is_flat else [0, 1, 1, 1, 2]))]
+        kinds = kinds if may_abort else []
         kinds += ["join"] * (r.random() < 0.6)
         r.shuffle(kinds)
         name = self.name("S")
