@@ -33,6 +33,12 @@ ROWS = [
 ]
 
 
+# texts of which the first word tells whether they are charts, and bytes that are no text
+BEGINNINGS = [b"", b"chart", b"charts { }", b"Chart P { }", b"// x\n\t chart", b"//chart\nscl P { }", b"chart//", b"chart/", b"_chart P { }", b"scl chart { }",
+              b"$ chart", b"/ chart", b"chart P { } // \xff", b"\xffchart", b"chart\0", b"chart$", "\u00e9 chart".encode(), b"chart1 P",
+              b"scl P { chart }", b"chart P { scl }", b" \r\n//\n//\nchart P { region R { initial state s; } }", b"chart{", b"state P { }"]
+
+
 def core_limit_rows():
     """Texts whose core charts have as many variables as they may, and more: with their faults."""
     for declared, aborts, fault in [

@@ -172,6 +172,7 @@ def with_limits():
     yield "E02", HEAD + nested(32, "go -> s; ^region R { }") + "}"
     yield None, HEAD + deep(31, "region R { initial state s { ", "region R { initial state s { } final state f; } region Q { initial state s; } ",
                             "} } ") + "}"
+    yield None, HEAD + deep(31, "region R { initial state s { ", "region R { initial final state s; } ", "strong if i -> s; weak if i -> s; join -> s; } } ") + "}"
     for form in ("go if %s -> t;", "go do b = %s -> t;"):
         yield None, of_simple(form % deep(64, "(", "i", ")"))
         yield "E07", of_simple(form % deep(64, "(", "^(i)", ")"))
