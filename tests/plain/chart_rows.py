@@ -9,7 +9,8 @@ n = n + 1 -> b; } final state b; } weak if K do n = n + 10 -> T; join do n = n +
 NESTED = """chart N { input bool K; input bool R; output int n; region M { initial state S { region B { initial state U { region D {
 initial state C { go do n = n + 1 -> C; } } strong if R do n = 10 -> U; } } strong if K -> T; } state T; } }"""
 JOINED = """chart J { input bool A; output int x; region M { initial state S { region P { initial state a { go immediate do
-x = x + 1 -> b; } final state b; } region Q { initial state c { go if A do x = x + 2 -> d; } final state d; } join -> T; } state T; } }"""
+x = x + 1 -> b; } final state b; } region Q { initial state c { go if A do x = x + 2 -> d; } final state d; } join -> T; }
+state T; } }"""
 
 
 def counted(name, *ticks):
@@ -23,7 +24,8 @@ def abro():
 
 ROWS = [
     (abro(), "ok nodes=36 threads=6 budget=27",
-     counted("O", ("", False, 7), ("A", False, 11), ("B", True, 11), ("R", False, 16), ("A", False, 11), ("A B R", False, 19), ("A B", True, 15))),
+     counted("O", ("", False, 7), ("A", False, 11), ("B", True, 11), ("R", False, 16), ("A", False, 11),
+             ("A B R", False, 19), ("A B", True, 15))),
     (WEAK, "ok nodes=28 threads=4 budget=15", counted("n", ("", 0, 8), ("", 0, 8), ("A K", 11, 13), ("", 11, 2))),
     (WEAK, "ok nodes=28 threads=4 budget=15", counted("n", ("", 0, 8), ("", 0, 8), ("A", 101, 13), ("", 101, 2))),
     (WEAK.replace("weak", "strong"), "ok nodes=27 threads=4 budget=16", counted("n", ("", 0, 7), ("", 0, 8), ("A K", 10, 11), ("", 10, 2))),
@@ -34,9 +36,12 @@ ROWS = [
 
 
 # texts of which the first word tells whether they are charts, and bytes that are no text
-BEGINNINGS = [b"", b"chart", b"charts { }", b"Chart P { }", b"// x\n\t chart", b"//chart\nscl P { }", b"chart//", b"chart/", b"_chart P { }", b"scl chart { }",
-              b"$ chart", b"/ chart", b"chart P { } // \xff", b"\xffchart", b"chart\0", b"chart$", "\u00e9 chart".encode(), b"chart1 P",
-              b"scl P { chart }", b"chart P { scl }", b" \r\n//\n//\nchart P { region R { initial state s; } }", b"chart{", b"state P { }"]
+BEGINNINGS = [
+    b"", b"chart", b"charts { }", b"Chart P { }", b"// x\n\t chart", b"//chart\nscl P { }", b"chart//", b"chart/", b"_chart P { }",
+    b"scl chart { }", b"$ chart", b"/ chart", b"chart P { } // \xff", b"\xffchart", b"chart\0", b"chart$", b"\xc3\xa9 chart",
+    b"chart1 P", b"scl P { chart }", b"chart P { scl }", b"chart{", b"state P { }",
+    b" \r\n//\n//\nchart P { region R { initial state s; } }",
+]
 
 
 def core_limit_rows():

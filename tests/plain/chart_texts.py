@@ -19,7 +19,8 @@ TEXTS = {
         "// \u00e9 \0\nchart ^! {", HEAD + "region R { initial state s { go do ^_x = 1 -> t; } state t; } region R { state s; } }",
     ],
     "E02": [
-        "chart^", "chart P^", "chart P {^", "chart P { ^}", "chart ^region { }", "chart P { region R { ^} }", "chart P { input int x; ^}",
+        "chart^", "chart P^", "chart P {^", "chart P { ^}", "chart ^region { }", "chart P { region R { ^} }",
+        "chart P { input int x; ^}",
         "chart P { region R { initial state s; } ^input int x; }", "chart P { region R { initial state s; } } ^}",
         "chart P { region R { initial state s; }^", "chart P { ^initial region R { } }", "chart ^-> { }", "chart P { ^state s; }",
         "chart P { region R { final ^initial state s; } }", "chart P { region R { initial ^initial state s; } }",
@@ -50,30 +51,37 @@ SIMPLE = {
         "go ^;", "go ->^;", "go -> t ^}", "go if ^-> t;", "go ^i -> t;", "go if i ^x = 1 -> t;", "go do ^-> t;", "go do x ^-> t;",
         "go do x = ^-> t;", "go do x = 1 ^x = 2 -> t;", "go do x = 1, ^-> t;", "go do x = 1^;", "go if i do x = 1 ^if i -> t;",
         "go do x = 1 ^immediate -> t;", "go if i ^immediate -> t;", "go immediate ^immediate -> t;", "go -> ^1;", "go -> t^, t;",
-        "join ^if i -> t;", "join ^immediate -> t;", "go if (i ^-> t;", "go if i ^) -> t;", "region Q { ^}", "go -> t; ^region Q { }",
-        "^x = 1;", "go if a / ^0 == 1 -> t;", "go if a < n ^< x -> t;", "go if a - ^> t;", "^else -> t;", "go -> t; ^state u;", "^pause;",
+        "join ^if i -> t;", "join ^immediate -> t;", "go if (i ^-> t;", "go if i ^) -> t;", "region Q { ^}",
+        "go -> t; ^region Q { }",
+        "^x = 1;", "go if a / ^0 == 1 -> t;", "go if a < n ^< x -> t;", "go if a - ^> t;", "^else -> t;",
+        "go -> t; ^state u;", "^pause;",
     ],
     "E03": [
         "go -> ^u;", "go if ^z -> t;", "go do ^z = 1 -> t;", "go do x = ^z -> t;", "go if ^z do y = 1 -> u;",
         "go -> ^R;", "go -> ^x;", "go if ^t -> t;", "go if ^z + 1 -> t;", "go do x = 1, ^z = i -> t;",
     ],
     "E05": [
-        "go if ^a -> t;", "go if ^n + 1 -> t;", "go do x = ^i -> t;", "go do b = ^a -> t;", "go if ^i and a -> t;", "go do x = ^-i -> t;",
-        "go do x = 1, b = ^1 -> t;", "go if ^(a) -> t;", "go do x = ^min(i, 1) -> t;", "go if ^a == i -> t;", "go do a = ^a == n -> t;",
+        "go if ^a -> t;", "go if ^n + 1 -> t;", "go do x = ^i -> t;", "go do b = ^a -> t;", "go if ^i and a -> t;",
+        "go do x = ^-i -> t;",
+        "go do x = 1, b = ^1 -> t;", "go if ^(a) -> t;", "go do x = ^min(i, 1) -> t;", "go if ^a == i -> t;",
+        "go do a = ^a == n -> t;",
     ],
     "E06": [
-        "^strong if i -> t;", "^weak -> t;", "^join -> t;", "^strong immediate if i -> u;", "go do ^n = 1 -> t;", "go do ^i = 1 -> t;",
+        "^strong if i -> t;", "^weak -> t;", "^join -> t;", "^strong immediate if i -> u;", "go do ^n = 1 -> t;",
+        "go do ^i = 1 -> t;",
         "go -> t; ^join -> t;", "go do x = 1, ^n = n + 1 -> t;",
     ],
 }
 
 # those of a superstate s
 SUPER = {
-    "E02": ["go ->^;", "strong ^;", "weak if ^-> t;", "join ^if i -> t;", "join ^immediate -> t;", "join do ^-> t;", "strong -> t; ^initial state u;",
+    "E02": ["go ->^;", "strong ^;", "weak if ^-> t;", "join ^if i -> t;", "join ^immediate -> t;", "join do ^-> t;",
+            "strong -> t; ^initial state u;",
             "weak -> t; ^region S { initial state v; }"],
     "E03": ["strong -> ^v;", "join -> ^v;", "weak if ^z -> t;"],
     "E05": ["strong if ^a -> t;", "join do x = ^b -> t;"],
-    "E06": ["^go -> t;", "^go immediate if i -> u;", "join -> t; ^join -> t;", "join -> t; ^join -> u; join -> t;", "join do ^n = 1 -> t;"],
+    "E06": ["^go -> t;", "^go immediate if i -> u;", "join -> t; ^join -> t;", "join -> t; ^join -> u; join -> t;",
+            "join do ^n = 1 -> t;"],
 }
 
 
@@ -94,12 +102,15 @@ def marked_rows():
 
 # ---- two faults: each before and behind each other one, in states of one region
 
-FLAWS = [("E03", "state %s { go -> ^u; }"), ("E03", "state %s { go if ^z -> %s; }"), ("E04", "state ^s;"), ("E05", "state %s { go if ^a -> %s; }"),
-         ("E06", "final state ^%s { go -> %s; }"), ("E06", "state %s { ^join -> %s; }"), ("E06", "state %s { go do ^n = 1 -> %s; }"),
+FLAWS = [("E03", "state %s { go -> ^u; }"), ("E03", "state %s { go if ^z -> %s; }"), ("E04", "state ^s;"), ("E05",
+"state %s { go if ^a -> %s; }"),
+         ("E06", "final state ^%s { go -> %s; }"), ("E06", "state %s { ^join -> %s; }"), ("E06",
+         "state %s { go do ^n = 1 -> %s; }"),
          ("E06", "state %s { region ^Q { state v; } }"), ("E07", "state %s { go if ^(a" + " + a" * 16 + ") == 1 -> %s; }"),
          ("E07", "state %s { go do x = 1" + ", x = 1" * 15 + ", ^x = 2 -> %s; }")]
 # what an earlier pass finds goes before all of these, wherever it stands
-EARLIER = [("E01", "state w { go -> ^$; }"), ("E01", "state ^_w;"), ("E07", "state w { go if a > ^2147483648 -> w; }"), ("E02", "state w { ^; }")]
+EARLIER = [("E01", "state w { go -> ^$; }"), ("E01", "state ^_w;"), ("E07",
+"state w { go if a > ^2147483648 -> w; }"), ("E02", "state w { ^; }")]
 
 
 def filled(text, name):
@@ -170,9 +181,11 @@ def with_limits():
     yield None, HEAD + nested(32, "") + "}"
     yield "E07", HEAD + nested(32, "^region R { }") + "}"
     yield "E02", HEAD + nested(32, "go -> s; ^region R { }") + "}"
-    yield None, HEAD + deep(31, "region R { initial state s { ", "region R { initial state s { } final state f; } region Q { initial state s; } ",
+    yield None, HEAD + deep(31, "region R { initial state s { ",
+    "region R { initial state s { } final state f; } region Q { initial state s; } ",
                             "} } ") + "}"
-    yield None, HEAD + deep(31, "region R { initial state s { ", "region R { initial final state s; } ", "strong if i -> s; weak if i -> s; join -> s; } } ") + "}"
+    yield None, HEAD + deep(31, "region R { initial state s { ", "region R { initial final state s; } ",
+    "strong if i -> s; weak if i -> s; join -> s; } } ") + "}"
     for form in ("go if %s -> t;", "go do b = %s -> t;"):
         yield None, of_simple(form % deep(64, "(", "i", ")"))
         yield "E07", of_simple(form % deep(64, "(", "^(i)", ")"))
@@ -199,7 +212,8 @@ def hostile(size):
     yield "E07", of_simple("go -> t; " * 64 + "^" + "go -> t; " * size)
     yield "E07", of_simple("go do x = 1" + ", x = 1" * 15 + ", ^x = 1" + ", x = 1" * size + " -> t;")
     yield "E04", HEAD + "region R { initial state s; state ^s; " + "state s; " * size + "} }"
-    yield "E07", HEAD + many(63, "region R{} {{ initial state s; }}") + "region ^Q { initial state s; } " + many(size // 20, "region R{} {{ initial state s; }}", 63) + "}"
+    form = "region R{} {{ initial state s; }}"
+    yield "E07", HEAD + many(63, form) + "region ^Q { initial state s; } " + many(size // 20, form, 63) + "}"
     yield "E01", "chart ^\0" + "\0" * size
     yield "E07", "chart ^" + "a" * size
     yield "E02", "chart //" + "/" * size + "^"
