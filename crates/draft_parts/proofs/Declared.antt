@@ -1,6 +1,6 @@
 -- What the variables of a draft are where nothing is wrong with them.
-use Rattle.std.proofs.Common.{◌≡◌, ℕ, zero, suc, ◌+◌, ◌≤◌, Bool, true, false, cond, Option, Some, None, List, [], ◌∷◌, ◌++◌, length, map, slice_get, refl, sym, ◌∙◌, ap, subst, arith}
-use Rattle.std.specs.Prelude.{not, ◌&&◌, nat_eq, nat_lt, count_by, option_map}
+use Rattle.std.proofs.Common.{◌≡◌, ℕ, suc, ◌+◌, ◌≤◌, Bool, true, false, cond, Option, Some, None, List, [], ◌∷◌, ◌++◌, length, map, slice_get, refl, sym, ◌∙◌, ap, subst, arith}
+use Rattle.std.specs.Prelude.{◌&&◌, nat_lt, count_by, option_map}
 use Rattle.std.proofs.lemmas.Bool.Decides.{Decides-eqb}
 use Rattle.std.proofs.lemmas.List.{length-map}
 use Rattle.std.proofs.lemmas.List.Sums.{sum_by-cons}
@@ -16,7 +16,7 @@ use Rattle.draft_parts.specs.declared.parts.Declaration.{Declaration}
 use Rattle.draft_parts.specs.Flaws.{flaw_if, is_full, place_among, is_at, is_repeated, one_more_if, variable_flaws, variable_names}
 use Rattle.draft_parts.specs.Resolved.{variable_of, variables_of}
 use Rattle.draft_parts.proofs.Unflawed.{none_first, none_second, no_flaw, not_false}
-use Rattle.draft_parts.proofs.Distinct.{AreFirst, first_distinct}
+use Rattle.draft_parts.proofs.Distinct.{AreFirstBehind, no_more_names, one_more_name, all_first, first_distinct}
 
 -- what stands at this place is not repeated: so it is the first of its name
 pub is_first : (names : List (List ℕ)) (at : ℕ) (name : List ℕ) → is_repeated names at name ≡ false → place_among names name ≡ Some at
@@ -26,24 +26,29 @@ is_first names at name e = by_place (place_among names name) (not_false (is_at a
     by_place None e = absurd cc
     by_place (Some p) e = ap Some ((Decides-eqb p at).0 e)
 
-not_full : (limit count : ℕ) → is_full limit count ≡ false → count + 1 ≤ limit
-not_full limit n e = let less = not_false (nat_lt n limit) e in grind (arith, less)
+-- there is room for one more
+pub room_for_one : (limit count : ℕ) → is_full limit count ≡ false → count + 1 ≤ limit
+room_for_one limit n e = let less = not_false (nat_lt n limit) e in grind (arith, less)
+
+-- there is, and also for all those behind it
+pub room_for_more : (limit n more : ℕ) → n + 1 ≤ limit → (n + 1 ≤ limit → n + 1 + more ≤ limit) → n + suc more ≤ limit
+room_for_more limit n more one all = let fits = all one in omega (arith, fits)
 
 -- what is known of the variables from one place on
 record Flawless (names : List (List ℕ)) (at outputs : ℕ) (V : List Declaration) : Type 0 where
   pub count : at ≤ variable_limit → at + length V ≤ variable_limit
   pub outputs_are : outputs ≤ output_limit → outputs + count_by (λ x. is_output x.role) (variables_of V) ≤ output_limit
-  pub first : (k : ℕ) (name : List ℕ) → slice_get (variable_names V) k ≡ Some name → place_among names name ≡ Some (at + k)
+  pub first : AreFirstBehind names at (variable_names V)
 
 outputs_more : (b : Bool) (outputs rest : ℕ) → (b && is_full output_limit outputs) ≡ false → (one_more_if b outputs ≤ output_limit → one_more_if b outputs + rest ≤ output_limit) → outputs ≤ output_limit → outputs + (cond b 1 0 + rest) ≤ output_limit
 outputs_more false outputs rest e more le = let m = more le in omega (arith, m)
 outputs_more true outputs rest e more le =
-    let fits = not_full output_limit outputs e in
+    let fits = room_for_one output_limit outputs e in
     let m = more fits in
     omega (arith, m)
 
 flawless : (names : List (List ℕ)) (at outputs : ℕ) (V : List Declaration) → variable_flaws names at outputs V ≡ [] → Flawless names at outputs V
-flawless names at outputs [] none = record { count = λ le. omega (arith, le); outputs_are = λ le. omega (arith, le); first = λ k name e. absurd cc }
+flawless names at outputs [] none = record { count = λ le. omega (arith, le); outputs_are = λ le. omega (arith, le); first = no_more_names names at }
 flawless names at outputs (x ∷ V) none =
     let a : List Flaw = flaw_if (is_repeated names at x.named.name) broken.Repeated x.named.at in
     let b : List Flaw = flaw_if (is_full variable_limit at) broken.Limit x.named.at in
@@ -52,27 +57,17 @@ flawless names at outputs (x ∷ V) none =
     let behind_a : b ++ (c ++ d) ≡ [] = none_second a (b ++ (c ++ d)) none in
     let behind_b : c ++ d ≡ [] = none_second b (c ++ d) behind_a in
     let here : place_among names x.named.name ≡ Some at = is_first names at x.named.name (no_flaw (is_repeated names at x.named.name) broken.Repeated x.named.at (none_first a (b ++ (c ++ d)) none)) in
-    let room : at + 1 ≤ variable_limit = not_full variable_limit at (no_flaw (is_full variable_limit at) broken.Limit x.named.at (none_first b (c ++ d) behind_a)) in
+    let room : at + 1 ≤ variable_limit = room_for_one variable_limit at (no_flaw (is_full variable_limit at) broken.Limit x.named.at (none_first b (c ++ d) behind_a)) in
     let output : (is_output x.role && is_full output_limit outputs) ≡ false = no_flaw (is_output x.role && is_full output_limit outputs) broken.Limit x.named.at (none_first c d behind_b) in
     let rest : Flawless names (at + 1) (one_more_if (is_output x.role) outputs) V = flawless names (at + 1) (one_more_if (is_output x.role) outputs) V (none_second c d behind_b) in
     record {
-      count = λ le. (let m = rest.count room in omega (arith, m));
+      count = λ le. room_for_more variable_limit at (length V) room rest.count;
       outputs_are = λ le.
           (let sum = sum_by-cons (λ (y : Variable). cond (is_output y.role) 1 0) (variable_of x) (variables_of V) in
           let m = outputs_more (is_output x.role) outputs (count_by (λ y. is_output y.role) (variables_of V)) output rest.outputs_are le in
           omega (arith, sum, m));
-      first = λ k name e. placed k name e here rest.first;
+      first = one_more_name names at x.named.name (variable_names V) here rest.first;
     }
-  where
-    placed : (k : ℕ) (name : List ℕ) → slice_get (variable_names (x ∷ V)) k ≡ Some name → place_among names x.named.name ≡ Some at →
-        ((j : ℕ) (m : List ℕ) → slice_get (variable_names V) j ≡ Some m → place_among names m ≡ Some (at + 1 + j)) → place_among names name ≡ Some (at + k)
-    placed zero name e here more =
-        let same : x.named.name ≡ name = cc in
-        let sum : at + 0 ≡ at = omega arith in
-        ap (place_among names) (sym same) ∙ here ∙ ap Some (sym sum)
-    placed (suc k) name e here more =
-        let sum : at + 1 + k ≡ at + suc k = omega arith in
-        more k name e ∙ ap Some sum
 
 pub few_variables : (V : List Declaration) → variable_flaws (variable_names V) 0 0 V ≡ [] → length V ≤ variable_limit
 few_variables V none = let few = (flawless (variable_names V) 0 0 V none).count (omega arith) in omega (arith, few)
@@ -87,12 +82,11 @@ variables_are l V called none =
     let all : Flawless (variable_names V) 0 0 V = flawless (variable_names V) 0 0 V none in
     let few = all.count (omega arith) in
     let long = length-map V variable_of in
-    let first : AreFirst (variable_names V) = λ k name e. (let sum : 0 + k ≡ k = omega arith in all.first k name e ∙ ap Some sum) in
     record {
       count = omega (arith, few, long);
       outputs = (let o = all.outputs_are (omega arith) in omega (arith, o));
       named = λ i x e. found i x (slice_get V i) refl (sym (slice_get-map variable_of V i) ∙ e);
-      distinct = ap are_distinct (names_same V) ∙ first_distinct (variable_names V) first;
+      distinct = ap are_distinct (names_same V) ∙ first_distinct (variable_names V) (all_first (variable_names V) all.first);
     }
   where
     found : (i : ℕ) (x : Variable) (o : Option Declaration) → slice_get V i ≡ o → option_map variable_of o ≡ Some x → IsNameIn l x.name

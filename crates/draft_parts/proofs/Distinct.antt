@@ -1,6 +1,6 @@
 -- Names of which each is the first of its kind are distinct, in whichever order they stand.
-use Rattle.std.proofs.Common.{◌≡◌, ℕ, zero, suc, ◌+◌, ◌≤◌, Bool, true, false, cond, Option, Some, None, List, [], ◌∷◌, ◌++◌, length, slice_get, refl, sym, ◌∙◌, ap, subst, arith}
-use Rattle.std.specs.Prelude.{not, ◌&&◌, ◌||◌, option_map}
+use Rattle.std.proofs.Common.{◌≡◌, ℕ, zero, suc, ◌+◌, ◌≤◌, Bool, true, false, cond, Option, Some, None, List, [], ◌∷◌, ◌++◌, slice_get, refl, sym, ◌∙◌, ap, arith}
+use Rattle.std.specs.Prelude.{not, ◌&&◌, ◌||◌}
 use Rattle.std.specs.List.{list_any}
 use Rattle.std.specs.Str.{bytes_eq}
 use Rattle.std.proofs.lemmas.Slice.Eq.{bytes_eq-Decides}
@@ -11,6 +11,28 @@ use Rattle.draft_parts.specs.Flaws.{first_or, place_among}
 -- each of the names is the first of those that are equal to it
 abbrev pub AreFirst : List (List ℕ) → Type 0
 AreFirst names = (k : ℕ) (name : List ℕ) → slice_get names k ≡ Some name → place_among names name ≡ Some k
+
+-- the same of the names from one place on
+abbrev pub AreFirstBehind : (names : List (List ℕ)) (at : ℕ) → List (List ℕ) → Type 0
+AreFirstBehind names at rest = (k : ℕ) (name : List ℕ) → slice_get rest k ≡ Some name → place_among names name ≡ Some (at + k)
+
+module _ (names : List (List ℕ)) where
+  pub no_more_names : (at : ℕ) → AreFirstBehind names at []
+  no_more_names at k name e = absurd cc
+
+  pub one_more_name : (at : ℕ) (name : List ℕ) (rest : List (List ℕ)) → place_among names name ≡ Some at → AreFirstBehind names (at + 1) rest → AreFirstBehind names at (name ∷ rest)
+  one_more_name at name rest here more zero n e =
+      let same : name ≡ n = cc in
+      let sum : at + 0 ≡ at = omega arith in
+      ap (place_among names) (sym same) ∙ here ∙ ap Some (sym sum)
+  one_more_name at name rest here more (suc k) n e =
+      let sum : at + 1 + k ≡ at + suc k = omega arith in
+      more k n e ∙ ap Some sum
+
+  pub all_first : AreFirstBehind names 0 names → AreFirst names
+  all_first are k name e =
+      let sum : 0 + k ≡ k = omega arith in
+      are k name e ∙ ap Some sum
 
 abbrev pub count : List ℕ → List (List ℕ) → ℕ
 count name [] = 0

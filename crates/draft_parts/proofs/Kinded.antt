@@ -1,8 +1,7 @@
 -- Operations whose kinds fit build a tree of that kind.
-use Rattle.std.proofs.Common.{◌≡◌, ℕ, Bool, true, false, Option, Some, None, List, [], ◌∷◌, map, slice_get, refl, sym, ◌∙◌, ap, subst}
+use Rattle.std.proofs.Common.{◌≡◌, ℕ, true, Option, Some, None, List, [], ◌∷◌, map, slice_get, refl, ◌∙◌, ap, subst}
 use Rattle.std.specs.Prelude.{option_map, option_and_then, unwrap_or}
 use Rattle.std.proofs.lemmas.Option.{slice_get-map}
-use Rattle.sc_values.specs.declared.value.Value.{Value}
 use Rattle.sc_values.specs.declared.value.Kind.{Kind}
 use Rattle.sc_values.specs.declared.value.Kind.TheVariants as kind_is
 use Rattle.sc_values.specs.declared.operator.UnaryOperator.{UnaryOperator}

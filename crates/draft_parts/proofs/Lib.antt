@@ -8,3 +8,4 @@ pub mod Unflawed
 pub mod Distinct
 pub mod Declared
 pub mod EachName
+pub mod Assigned

@@ -1,12 +1,13 @@
--- The number of a variable that is declared fits.
-use Rattle.std.proofs.Common.{◌≡◌, ℕ, zero, suc, refl, ◌<◌, ◌≤◌, Bool, true, false, Option, Some, None, List, [], ◌∷◌, length, sym, arith}
+-- A name that is found stands below the end of the names, so the number of a variable that is declared fits.
+use Rattle.std.proofs.Common.{◌≡◌, ℕ, suc, refl, ◌<◌, ◌≤◌, Bool, true, false, Option, Some, None, List, [], ◌∷◌, length, sym, arith}
 use Rattle.std.specs.Str.{bytes_eq}
 use Rattle.std.proofs.lemmas.List.{length-map}
 use Rattle.sc_graph.specs.Limits.{variable_limit}
 use Rattle.draft_parts.specs.declared.parts.Declaration.{Declaration}
 use Rattle.draft_parts.specs.Flaws.{first_or, place_among, variable_names}
 
-place_below : (names : List (List ℕ)) (name : List ℕ) (at : ℕ) → place_among names name ≡ Some at → at < length names
+-- where a name stands among others
+pub place_below : (names : List (List ℕ)) (name : List ℕ) (at : ℕ) → place_among names name ≡ Some at → at < length names
 place_below [] name at e = absurd cc
 place_below (n ∷ names) name at e = by_name (bytes_eq n name) (place_among names name) refl e (λ k was. place_below names name k was)
   where

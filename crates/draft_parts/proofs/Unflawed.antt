@@ -1,5 +1,5 @@
 -- What an expression of a draft is where nothing is wrong with it.
-use Rattle.std.proofs.Common.{◌≡◌, ℕ, ◌≤◌, ◌<◌, Bool, true, false, Option, Some, None, List, [], ◌∷◌, ◌++◌, length, map, refl, sym, ◌∙◌, ap, subst, arith}
+use Rattle.std.proofs.Common.{◌≡◌, ℕ, ◌≤◌, ◌<◌, Bool, true, false, Some, List, [], ◌∷◌, ◌++◌, length, refl, sym, ◌∙◌, ap, subst, arith}
 use Rattle.std.specs.Prelude.{not, ◌&&◌, ◌||◌, nat_lt, count_by, unwrap_or, option_and_then}
 use Rattle.std.specs.List.{list_all}
 use Rattle.std.proofs.lemmas.Bool.Decides.{Decides-ltb}
@@ -8,11 +8,10 @@ use Rattle.sc_values.specs.declared.value.Kind.{Kind}
 use Rattle.sc_values.specs.declared.value.Value.TheVariants as value
 use Rattle.sc_values.specs.declared.expression.Expr.{Expr}
 use Rattle.sc_values.specs.declared.expression.Expr.TheVariants as tree
-use Rattle.sc_values.specs.Expr.{kind, postorder}
-use Rattle.sc_values.specs.Code.{trees, only, tree_of, loads, IsWithinLimits}
+use Rattle.sc_values.specs.Expr.{postorder}
+use Rattle.sc_values.specs.Code.{trees, only, tree_of, IsWithinLimits}
 use Rattle.sc_values.specs.Limits.{operation_limit, operand_limit, load_limit}
 use Rattle.sc_values.proofs.Spelling.{tree_of-spells}
-use Rattle.sc_text.specs.declared.operation.TextOperation.{TextOperation}
 use Rattle.sc_text.specs.declared.operation.TextOperation.TheVariants as text
 use Rattle.sc_text.specs.declared.read_fault.Broken.{Broken}
 use Rattle.sc_text.specs.declared.read_fault.Broken.TheVariants as broken
