@@ -1,0 +1,11 @@
+pub mod Looking
+pub mod Names
+pub mod Numbers
+pub mod KeptTransitions
+pub mod KeptStates
+pub mod KeptRegions
+pub mod Keeping
+pub mod Narrow
+pub mod Inner
+pub mod Whole
+pub mod Reading

@@ -1,0 +1,10 @@
+use Rattle.std.proofs.Common.{◌≡◌, ◌++◌, map, drop}
+use Rattle.draft_parts.specs.Flaws.{variable_names}
+use Rattle.chart_reader.specs.Flaws.{state_names}
+use Rattle.resolved_charts.specs.Resolved.{transition_of}
+use Rattle.resolved_charts.proofs.transitions.transitions.Given as goal
+
+abbrev pub invariant-loop-text : goal.invariant-loop-text
+invariant-loop-text l =
+    l.all ++ map (transition_of (variable_names l.scope.variables.now) (state_names l.states.states.now)) (drop l.text-index l.texts)
+    ≡ map (transition_of (variable_names l.scope.variables.now) (state_names l.states.states.now)) l.texts

@@ -1,0 +1,12 @@
+//! Reading chart text: from a draft in which nothing is wrong to the chart that the text spells. `specs/Resolved` says
+//! which chart that is, and `specs/Read` what a text is read into.
+#![tactic(auto)]
+
+mod chart;
+mod read;
+mod regions;
+mod states;
+mod transitions;
+
+pub use chart::chart_of;
+pub use read::read_chart;
