@@ -1,28 +1,26 @@
 -- The program of a draft of the grammar, in which nothing is wrong, keeps the rules of SCL.
-use Rattle.std.proofs.Common.{◌≡◌, ◌≢◌, ℕ, zero, suc, ◌+◌, ◌≤◌, Bool, true, false, not, Option, Some, None, List, [], ◌∷◌, ◌++◌, map, length, slice_get, refl, ap, sym, subst, ◌∙◌, arith}
-use Rattle.std.specs.Prelude.{nat_lt, ◌&&◌, option_map, option_and_then, unwrap_or}
+use Rattle.std.proofs.Common.{◌≡◌, ℕ, suc, ◌+◌, ◌≤◌, true, Some, List, [], ◌∷◌, ◌++◌, map, length, slice_get, refl, ap, sym, subst, ◌∙◌, arith}
 use Rattle.std.specs.List.{list_all}
 use Rattle.std.proofs.lemmas.Bool.{and_parts}
-use Rattle.std.proofs.lemmas.Option.{slice_get-map}
+use Rattle.grammar.proofs.Each.{every_at}
 use Rattle.sc_values.specs.declared.value.Kind.TheVariants as kind_is
 use Rattle.sc_values.specs.declared.expression.Expr.{Expr}
 use Rattle.sc_graph.specs.Limits.{child_limit, variable_limit}
-use Rattle.sc_graph.specs.declared.program.Role.{Role}
-use Rattle.sc_graph.specs.declared.program.Role.TheVariants as role
 use Rattle.sc_text.specs.declared.language.Language.TheVariants as language
 use Rattle.sc_text.specs.declared.read_fault.Broken.TheVariants as broken
-use Rattle.sc_text.specs.Parts.{IsNameIn, IsExpression, are_distinct}
+use Rattle.sc_text.specs.Parts.{IsExpression, are_distinct}
 use Rattle.sc_text.specs.Writable.{is_writable_operation}
 use Rattle.draft_parts.specs.declared.flaw.Flaw.{Flaw}
 use Rattle.draft_parts.specs.declared.parts.Named.{Named}
 use Rattle.draft_parts.specs.declared.parts.TextExpression.{TextExpression}
 use Rattle.draft_parts.specs.declared.parts.Declaration.{Declaration}
-use Rattle.draft_parts.specs.Flaws.{flaw_if, is_full, is_repeated, is_input, place_among, variable_names, variable_named, variable_flaws, expression_flaws, assigned_flaws}
-use Rattle.draft_parts.specs.Resolved.{number_of, expression_of, variable_of, variables_of}
+use Rattle.draft_parts.specs.Flaws.{flaw_if, is_full, place_among, variable_names, variable_named, variable_flaws, expression_flaws, assigned_flaws}
+use Rattle.draft_parts.specs.Resolved.{number_of, expression_of, variables_of}
 use Rattle.draft_parts.proofs.Kinded.{kinds_of}
-use Rattle.draft_parts.proofs.Unflawed.{none_first, none_second, no_flaw, not_false, expression_is}
-use Rattle.draft_parts.proofs.Distinct.{AreFirst, count, first_distinct, distinct_once, once_distinct}
-use Rattle.draft_parts.proofs.Declared.{is_first, few_variables, variables_are}
+use Rattle.draft_parts.proofs.Unflawed.{none_first, none_second, no_flaw, expression_is}
+use Rattle.draft_parts.proofs.Assigned.{IsAssigned, assigned_is}
+use Rattle.draft_parts.proofs.Distinct.{AreFirst, AreFirstBehind, no_more_names, one_more_name, all_first, count, first_distinct, distinct_once, once_distinct}
+use Rattle.draft_parts.proofs.Declared.{room_for_one, is_first, few_variables, variables_are}
 use Rattle.scl.specs.declared.statement.Statement.{Statement}
 use Rattle.scl.specs.declared.statement.Statement.TheOpen as open_statement
 use Rattle.scl.specs.declared.statement.Statement.TheVariants as statement
@@ -43,33 +41,14 @@ use Rattle.scl_reader.specs.Flaws.{names, repeated, scl_flaws}
 use Rattle.scl_reader.specs.Shape as shapes
 use Rattle.scl_reader.specs.Shape.{IsShaped, shape, shape_of}
 use Rattle.scl_programs.specs.Resolved.{resolved, statement_of, statements_of, IsProgramOf}
-use Rattle.scl_programs.proofs.Pieces.{Each, each_of, each_at, Sound, Ruled, Keeps, keeps_both, keeps_nothing, keeps_flaws, keeps_thread}
-
--- there is room for one more
-room_for_one : (limit n : ℕ) → is_full limit n ≡ false → n + 1 ≤ limit
-room_for_one limit n e = let less = not_false (nat_lt n limit) e in grind (arith, less)
+use Rattle.scl_programs.proofs.Pieces.{every_of, Sound, Ruled, Keeps, keeps_both, keeps_nothing, keeps_flaws, keeps_thread}
 
 -- ---- an assignment
 
-no_input : (r : Role) → is_input r ≡ false → r ≢ role.Input
-no_input role.Input e = absurd cc
-no_input role.Output e = λ same. cc
-no_input role.Local e = λ same. cc
-
-module _ (V : List Declaration) (target : Named) (e : TextExpression) (can : list_all is_writable_operation e.operations ≡ true) where
-  assignment_at : (p : Option ℕ) (o : Option Declaration) → place_among (variable_names V) target.name ≡ p → option_and_then (slice_get V) p ≡ o → assigned_flaws V o target e ≡ [] → IsAssignment (variables_of V) (number_of (variable_names V) target.name) (expression_of (variable_names V) e.operations)
-  assignment_at p None was is none = absurd cc
-  assignment_at None (Some x) was is none = absurd cc
-  assignment_at (Some i) (Some x) was is none =
-      let number : number_of (variable_names V) target.name ≡ i = ap (λ p. unwrap_or p 0) was in
-      let there : slice_get (variables_of V) i ≡ Some (variable_of x) = slice_get-map variable_of V i ∙ ap (option_map variable_of) is in
-      let first : List Flaw = flaw_if (is_input x.role) broken.Rule target.at in
-      record {
-        variable = variable_of x;
-        is_there = ap (slice_get (variables_of V)) number ∙ there;
-        no_input = no_input x.role (no_flaw (is_input x.role) broken.Rule target.at (none_first first (expression_flaws V (Some x.kind) e) none));
-        becomes = expression_is V x.kind e can (none_second first (expression_flaws V (Some x.kind) e) none);
-      }
+assignment_is : (V : List Declaration) (target : Named) (e : TextExpression) → list_all is_writable_operation e.operations ≡ true → assigned_flaws V (variable_named V target.name) target e ≡ [] → IsAssignment (variables_of V) (number_of (variable_names V) target.name) (expression_of (variable_names V) e.operations)
+assignment_is V target e can none =
+    let assigned : IsAssigned V target e = assigned_is V target e can none in
+    record { variable = assigned.variable; is_there = assigned.is_there; no_input = assigned.no_input; becomes = assigned.value }
 
 -- ---- each statement
 
@@ -94,7 +73,7 @@ module _ (V : List Declaration) where
         ifs = refl;
         lower_ifs = refl;
         depth = refl;
-        ruled = λ sound. record { lost = refl; assigned = (assignment_at V target e sound.writable (place_among vn target.name) (variable_named V target.name) refl refl sound.flawless, tt); tests = tt; forks = tt };
+        ruled = λ sound. record { lost = refl; assigned = (assignment_is V target e sound.writable sound.flawless, tt); tests = tt; forks = tt };
       })
 
   label_keeps : (label : Named) → one (flaws.part V (text.Label label)) (shape (text.Label label)) (resolved vn (text.Label label))
@@ -278,19 +257,14 @@ module _ (V : List Declaration) where
 
 -- ---- labels that stand once
 
-first_at : (labels : List (List ℕ)) (at : ℕ) (ls : List Named) → repeated labels at ls ≡ [] → (k : ℕ) (name : List ℕ) → slice_get (names ls) k ≡ Some name → place_among labels name ≡ Some (at + k)
-first_at labels at [] none k name e = absurd cc
-first_at labels at (l ∷ ls) none zero name e =
-    let here : place_among labels l.name ≡ Some at = is_first labels at l.name (no_flaw (is_repeated labels at l.name) broken.Repeated l.at (none_first (flaw_if (is_repeated labels at l.name) broken.Repeated l.at) (repeated labels (at + 1) ls) none)) in
-    let same : l.name ≡ name = cc in
-    let sum : at + 0 ≡ at = omega arith in
-    ap (place_among labels) (sym same) ∙ here ∙ ap Some (sym sum)
-first_at labels at (l ∷ ls) none (suc k) name e =
-    let sum : at + 1 + k ≡ at + suc k = omega arith in
-    first_at labels (at + 1) ls (none_second (flaw_if (is_repeated labels at l.name) broken.Repeated l.at) (repeated labels (at + 1) ls) none) k name e ∙ ap Some sum
+first_behind : (labels : List (List ℕ)) (at : ℕ) (ls : List Named) → repeated labels at ls ≡ [] → AreFirstBehind labels at (names ls)
+first_behind labels at [] none = no_more_names labels at
+first_behind labels at (l ∷ ls) none =
+    let here : place_among labels l.name ≡ Some at = is_first labels at l.name (no_flaw _ _ _ (none_first _ _ none)) in
+    one_more_name labels at l.name (names ls) here (first_behind labels (at + 1) ls (none_second _ _ none))
 
 first_labels : (ls : List Named) → repeated (names ls) 0 ls ≡ [] → AreFirst (names ls)
-first_labels ls none k name e = let sum : 0 + k ≡ k = omega arith in first_at (names ls) 0 ls none k name e ∙ ap Some sum
+first_labels ls none = all_first (names ls) (first_behind (names ls) 0 ls none)
 
 -- ---- the whole program
 
@@ -308,7 +282,7 @@ rules_kept d none shaped =
     let sound : Sound q h = record {
       flawless = none_first q.flaws (repeated (names q.all) 0 q.all) behind;
       writable = shaped.writable;
-      branches = each_of (λ n. 1 ≤ n) h.forks shaped.branches;
+      branches = every_of (λ n. 1 ≤ n) h.forks shaped.branches;
     } in
     let r : Ruled V p = a.ruled sound in
     let once : are_distinct (names q.all) ≡ true = first_distinct (names q.all) (first_labels q.all (none_second q.flaws (repeated (names q.all) 0 q.all) behind)) in
@@ -316,12 +290,12 @@ rules_kept d none shaped =
       named = shaped.named;
       declared = variables_are language.Scl V shaped.declared declared;
       text = record {
-        assignments = λ n x e at. each_at (λ (a : ℕ × Expr). IsAssignment (variables_of V) a.0 a.1) p.assigned r.assigned n (x, e) at;
-        tests = λ n e at. each_at (IsExpression (kinds_of V) kind_is.Bool) p.tests r.tests n e at;
+        assignments = λ n x e at. every_at (λ (a : ℕ × Expr). IsAssignment (variables_of V) a.0 a.1) p.assigned r.assigned n (x, e) at;
+        tests = λ n e at. every_at (IsExpression (kinds_of V) kind_is.Bool) p.tests r.tests n e at;
         distinct = once_distinct p.lower (λ n. (let all : 0 + count n p.lower ≡ count n (names q.all) = a.counted n in let le = distinct_once (names q.all) once n in omega (arith, all, le)));
         named = λ n name at. shaped.labels n name (ap (λ ls. slice_get ls n) (sym a.lower) ∙ at);
         found = r.lost;
-        branches = λ n count at. each_at (λ n. (1 ≤ n) × (n ≤ child_limit)) p.forks r.forks n count at;
+        branches = λ n count at. every_at (λ n. (1 ≤ n) × (n ≤ child_limit)) p.forks r.forks n count at;
         forks = subst (λ n. n ≤ fork_limit) (sym a.depth) shaped.forks;
         ifs = subst (λ n. n ≤ if_limit) (sym a.lower_ifs) shaped.ifs;
       };

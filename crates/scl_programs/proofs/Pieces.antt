@@ -1,16 +1,15 @@
 -- What is known of a piece of a thread's text, its names looked up, and how pieces come together.
-use Rattle.std.proofs.Common.{◌≡◌, ℕ, zero, suc, ◌+◌, ◌≤◌, max, Bool, true, false, not, Option, Some, None, List, [], ◌∷◌, ◌++◌, map, length, slice_get, refl, ap, sym, subst, ◌∙◌, arith, if◌then◌else◌}
-use Rattle.std.specs.Prelude.{◌&&◌, ◌||◌, option_map}
+use Rattle.std.proofs.Common.{◌≡◌, ℕ, suc, ◌+◌, ◌≤◌, max, Bool, true, false, not, Option, Some, None, List, [], ◌∷◌, ◌++◌, slice_get, refl, ap, sym, ◌∙◌, arith, if◌then◌else◌}
+use Rattle.std.specs.Prelude.{◌||◌}
 use Rattle.std.specs.Option.{is_some}
 use Rattle.std.specs.List.{filter}
 use Rattle.std.specs.Str.{bytes_eq}
 use Rattle.std.proofs.lemmas.Bool.{and_parts}
-use Rattle.std.proofs.lemmas.List.{map-append}
+use Rattle.grammar.proofs.Each.{Every, every_front, every_behind, every_joined}
 use Rattle.sc_values.specs.declared.value.Kind.TheVariants as kind_is
 use Rattle.sc_graph.specs.Limits.{child_limit}
-use Rattle.sc_text.specs.declared.language.Language.TheVariants as language
 use Rattle.sc_text.specs.declared.read_fault.Broken.TheVariants as broken
-use Rattle.sc_text.specs.Parts.{IsNameIn, IsExpression}
+use Rattle.sc_text.specs.Parts.{IsExpression}
 use Rattle.draft_parts.specs.declared.flaw.Flaw.{Flaw}
 use Rattle.draft_parts.specs.declared.parts.Named.{Named}
 use Rattle.draft_parts.specs.declared.parts.Declaration.{Declaration}
@@ -25,45 +24,22 @@ use Rattle.scl_reader.specs.Flaws as flaws
 use Rattle.scl_reader.specs.Flaws.{names, lost}
 use Rattle.scl_reader.specs.Shape as shapes
 
--- each item of a list
-abbrev pub Each : {A : Type 0} → (A → Type 0) → List A → Type 0
-Each P [] = Unit {0}
-Each P (x ∷ xs) = P x × Each P xs
-
-module _ {A : Type 0} (P : A → Type 0) where
-  pub each_append : (xs ys : List A) → Each P xs → Each P ys → Each P (xs ++ ys)
-  each_append [] ys h k = k
-  each_append (x ∷ xs) ys h k = (h.0, each_append xs ys h.1 k)
-
-  pub each_front : (xs ys : List A) → Each P (xs ++ ys) → Each P xs
-  each_front [] ys h = tt
-  each_front (x ∷ xs) ys h = (h.0, each_front xs ys h.1)
-
-  pub each_behind : (xs ys : List A) → Each P (xs ++ ys) → Each P ys
-  each_behind [] ys h = h
-  each_behind (x ∷ xs) ys h = each_behind xs ys h.1
-
-  pub each_of : (xs : List A) → ((i : ℕ) (x : A) → slice_get xs i ≡ Some x → P x) → Each P xs
-  each_of [] h = tt
-  each_of (x ∷ xs) h = (h 0 x refl, each_of xs (λ i y at. h (suc i) y at))
-
-  pub each_at : (xs : List A) → Each P xs → (i : ℕ) (x : A) → slice_get xs i ≡ Some x → P x
-  each_at [] h i x at = absurd cc
-  each_at (y ∷ xs) h zero x at = let same : y ≡ x = cc in subst P same h.0
-  each_at (y ∷ xs) h (suc i) x at = each_at xs h.1 i x at
+pub every_of : {A : Type 0} (P : A → Type 0) (xs : List A) → ((i : ℕ) (x : A) → slice_get xs i ≡ Some x → P x) → Every P xs
+every_of P [] h = tt
+every_of P (x ∷ xs) h = (h 0 x refl, every_of P xs (λ i y at. h (suc i) y at))
 
 -- nothing is wrong with a piece, and the grammar gives its shape
 pub record Sound (q : flaws.Part) (h : shapes.Shape) : Type 0 where
   pub flawless : q.flaws ≡ []
   pub writable : h.writable ≡ true
-  pub branches : Each (λ n. 1 ≤ n) h.forks
+  pub branches : Every (λ n. 1 ≤ n) h.forks
 
 -- what then holds of what SCL's rules see of it
 pub record Ruled (V : List Declaration) (p : rules.Part) : Type 0 where
   pub lost : p.lost ≡ []
-  pub assigned : Each (λ a. IsAssignment (variables_of V) a.0 a.1) p.assigned
-  pub tests : Each (IsExpression (kinds_of V) kind_is.Bool) p.tests
-  pub forks : Each (λ n. (1 ≤ n) × (n ≤ child_limit)) p.forks
+  pub assigned : Every (λ a. IsAssignment (variables_of V) a.0 a.1) p.assigned
+  pub tests : Every (IsExpression (kinds_of V) kind_is.Bool) p.tests
+  pub forks : Every (λ n. (1 ≤ n) × (n ≤ child_limit)) p.forks
 
 -- the flaws, the shape and the rules of one piece
 pub record Keeps (V : List Declaration) (q : flaws.Part) (h : shapes.Shape) (p : rules.Part) : Type 0 where
@@ -84,14 +60,14 @@ module _ (q r : flaws.Part) (h i : shapes.Shape) (both : Sound (flaws.both q r) 
   sound_first = record {
     flawless = none_first q.flaws r.flaws both.flawless;
     writable = (and_parts h.writable i.writable both.writable).0;
-    branches = each_front (λ n. 1 ≤ n) h.forks i.forks both.branches;
+    branches = every_front (λ n. 1 ≤ n) h.forks i.forks both.branches;
   }
 
   pub sound_second : Sound r i
   sound_second = record {
     flawless = none_second q.flaws r.flaws both.flawless;
     writable = (and_parts h.writable i.writable both.writable).1;
-    branches = each_behind (λ n. 1 ≤ n) h.forks i.forks both.branches;
+    branches = every_behind (λ n. 1 ≤ n) h.forks i.forks both.branches;
   }
 
 no_more : {A : Type 0} (xs ys : List A) → xs ≡ [] → ys ≡ [] → xs ++ ys ≡ []
@@ -100,9 +76,9 @@ no_more xs ys e f = ap (λ zs. zs ++ ys) e ∙ f
 ruled_both : (V : List Declaration) (p s : rules.Part) → Ruled V p → Ruled V s → Ruled V (rules.both p s)
 ruled_both V p s a b = record {
   lost = no_more p.lost s.lost a.lost b.lost;
-  assigned = each_append (λ a. IsAssignment (variables_of V) a.0 a.1) p.assigned s.assigned a.assigned b.assigned;
-  tests = each_append (IsExpression (kinds_of V) kind_is.Bool) p.tests s.tests a.tests b.tests;
-  forks = each_append (λ n. (1 ≤ n) × (n ≤ child_limit)) p.forks s.forks a.forks b.forks;
+  assigned = every_joined (λ a. IsAssignment (variables_of V) a.0 a.1) p.assigned s.assigned a.assigned b.assigned;
+  tests = every_joined (IsExpression (kinds_of V) kind_is.Bool) p.tests s.tests a.tests b.tests;
+  forks = every_joined (λ n. (1 ≤ n) × (n ≤ child_limit)) p.forks s.forks a.forks b.forks;
 }
 
 two_lists : {A : Type 0} (xs ys us vs : List A) → xs ≡ us → ys ≡ vs → xs ++ ys ≡ us ++ vs
