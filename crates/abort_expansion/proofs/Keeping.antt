@@ -52,7 +52,7 @@ in_text declared more m super t h = record {
 }
 
 -- the regions inside, which nest this many levels deep at most
-abbrev AreInside : List Variable → List Variable → ℕ → List Region → Type 0
+abbrev pub AreInside : List Variable → List Variable → ℕ → List Region → Type 0
 AreInside declared more zero regions = regions ≡ []
 AreInside declared more (suc levels) regions =
     RegionsKeep (declared ++ more) levels regions × (length regions ≤ 63) × Each IsText (region_names regions) × Apart (region_names regions)
@@ -67,7 +67,7 @@ state_of declared more (suc levels) m is_initial is_final name (r ∷ rs) own te
     superstate_piece_keeps declared (declared ++ more) levels m is_initial is_final name r rs own
     (record { text = text; inner = inside.0; few = inside.1; texts = inside.2; apart = inside.3; taken = each; joins = joins })
 
-abbrev Inner : List Variable → List Variable → ℕ → Type 0
+abbrev pub Inner : List Variable → List Variable → ℕ → Type 0
 Inner declared more levels = (regions : List Region) → AreRegions features.Extended declared levels regions → AreInside declared more levels regions
 
 state_keeps_rules : (declared more : List Variable) (levels m : ℕ) → Inner declared more levels

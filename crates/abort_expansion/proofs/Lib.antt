@@ -17,6 +17,7 @@ mod Assembled
 mod Regional
 mod Shaped
 mod Keeping
+mod Whole
 mod PieceParts
 mod ExpansionRows
 mod NestedRows

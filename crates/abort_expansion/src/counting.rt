@@ -1,8 +1,8 @@
 //! How many superstates, states and new variables are in a piece of a chart.
 
-ghost use Rattle.std.specs.Prelude.{◌≡◌, ◌+◌, ◌||◌, ◌&&◌, IfOk, map};
+ghost use Rattle.std.specs.Prelude.{◌≡◌, ◌+◌, ◌<◌, ◌^◌, ◌||◌, ◌&&◌, false, IfOk, map};
 ghost use Rattle.abort_expansion.specs.Flags.{weak_around};
-ghost use Rattle.abort_expansion.specs.Expansion.{piece_of_region, piece_of_state, past_region, past_state, initial_number};
+ghost use Rattle.abort_expansion.specs.Expansion.{piece_of_region, piece_of_state, superstates_in, variables_in, past_region, past_state, initial_number};
 
 use crate::flags::{Flags, flag_count, has_weak, weak_around};
 use crate::pieces::Numbers;
@@ -19,7 +19,8 @@ pub(crate) struct Size {
 
 // Err: no memory holds a chart with so many.
 fn sum(a: u32, b: u32) -> Result<u32, AllocError>
-    ensures { IfOk result (λ both. both ≡ a + b) }
+    ensures value { IfOk result (λ both. both ≡ a + b) }
+    ensures within { IfOk result (λ both. both < 2 ^ 32) }
 {
     match a.checked_add(b) {
         Some(both) => Ok(both),
@@ -33,6 +34,7 @@ impl Size {
         ensures superstates { IfOk result (λ both. both.superstates ≡ self.superstates + more.superstates) }
         ensures states { IfOk result (λ both. both.states ≡ self.states + more.states) }
         ensures variables { IfOk result (λ both. both.variables ≡ self.variables + more.variables) }
+        ensures few { IfOk result (λ both. (both.superstates < 2 ^ 32) × (both.variables < 2 ^ 32)) }
     {
         Ok(Size {
             superstates: sum(self.superstates, more.superstates)?,
@@ -81,6 +83,23 @@ pub(crate) fn state_size(weak: bool, state: &State) -> Result<Size, AllocError>
     };
     for region in state.regions.as_slice() {
         size = size.plus(region_size(inside_weak, region)?)?;
+    }
+    Ok(size)
+}
+
+/// Of the regions of a chart. Err: no memory holds so many.
+pub(crate) fn regions_size(regions: &[Region]) -> Result<Size, AllocError>
+    ensures superstates { IfOk result (λ size. size.superstates ≡ superstates_in (map piece_of_region regions.now)) }
+    ensures variables { IfOk result (λ size. size.variables ≡ variables_in false (map piece_of_region regions.now)) }
+    ensures few { IfOk result (λ size. (size.superstates < 2 ^ 32) × (size.variables < 2 ^ 32)) }
+{
+    let mut size = Size {
+        superstates: 0,
+        states: 0,
+        variables: 0,
+    };
+    for region in regions {
+        size = size.plus(region_size(false, region)?)?;
     }
     Ok(size)
 }

@@ -2,8 +2,10 @@
 //! core chart stand.
 #![tactic(auto)]
 
+mod charts;
 mod checks;
 mod counting;
+mod fault;
 mod flags;
 mod making;
 mod names;
@@ -14,6 +16,8 @@ mod state_map;
 mod states;
 mod superstates;
 
+pub use charts::expand;
+pub use fault::ExpandFault;
 pub use flags::Flags;
 pub use pieces::{Numbers, Regions, States};
 pub use places::Places;

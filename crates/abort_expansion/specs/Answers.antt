@@ -1,0 +1,18 @@
+-- What is answered of a chart: its core chart with the states for which those of that stand, or why it has none.
+use Rattle.std.specs.Prelude.{◌≡◌}
+use Rattle.core_charts.specs.Chart.{Chart}
+use Rattle.abort_expansion.specs.declared.fault.ExpandFault.{ExpandFault}
+use Rattle.abort_expansion.specs.declared.fault.ExpandFault.TheVariants as fault
+use Rattle.abort_expansion.specs.declared.state_map.StateMap.{StateMap}
+use Rattle.abort_expansion.specs.Expansion.{IsExpandable, expanded, state_map}
+
+-- this is the chart's core chart, and these are the states for which its states stand
+pub record IsExpansion (c : Chart) (core : Chart) (map : StateMap) : Type 0 where
+  pub expandable : IsExpandable c
+  pub core_is : core ≡ expanded c
+  pub stands_for : map.states ≡ state_map c
+
+-- it has none for this reason. A refusal of memory says nothing of the chart
+abbrev pub IsReason : Chart → ExpandFault → Type 0
+IsReason c fault.Limit = ¬ IsExpandable c
+IsReason c fault.Memory = Unit {0}
