@@ -13,17 +13,15 @@ use Rattle.core_charts.specs.declared.region.Region.TheViews.{roll-Region, out-R
 use Rattle.core_charts.specs.Rules.{IsState, IsRegion, AreRegions}
 use Rattle.abort_expansion.specs.declared.flags.Flags.{Flags}
 use Rattle.abort_expansion.specs.declared.places.Places.{Places}
-use Rattle.abort_expansion.specs.declared.pieces.Numbers.{Numbers}
-use Rattle.abort_expansion.specs.declared.pieces.States.{States}
-use Rattle.abort_expansion.specs.Flags.{one, weak_around, watching_name, abandoned_name, monitor_name}
+use Rattle.abort_expansion.specs.Flags.{one, watching_name, abandoned_name, monitor_name}
 use Rattle.abort_expansion.specs.Expansion.{simple, simple_transitions, state_piece, monitor, monitor_transitions, abandoned}
-use Rattle.abort_expansion.proofs.Lists.{Each, each_at, count, count_is}
-use Rattle.abort_expansion.proofs.Taken.{AreFlags, IsTaken, Goes}
+use Rattle.abort_expansion.proofs.Lists.{Each, each_at, count_is}
+use Rattle.abort_expansion.proofs.Taken.{AreFlags, IsTaken}
 use Rattle.abort_expansion.proofs.Leaving.{InText, left_by, ended_in, simple_transitions_go, monitor_goes}
-use Rattle.abort_expansion.proofs.Apart.{Apart, IsCalled, IsText, text_is_named, added_is_named, distinct_if_apart, letter_of}
+use Rattle.abort_expansion.proofs.Apart.{Apart, IsText, text_is_named, added_is_named, distinct_if_apart, letter_of}
 use Rattle.abort_expansion.proofs.Added.{none_added}
 use Rattle.abort_expansion.proofs.Shapes.{IsNamed, rolled_named}
-use Rattle.abort_expansion.proofs.Joined.{HasShape, StateKeeps, IsScene, names_of, initial_in}
+use Rattle.abort_expansion.proofs.Joined.{HasShape, StateKeeps, IsScene, names_of}
 
 counted_alone : (b c : Bool) → b ≡ c → cond b (1 + 0) 0 ≡ one c
 counted_alone true true is = refl

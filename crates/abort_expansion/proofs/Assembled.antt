@@ -1,12 +1,11 @@
 -- A superstate, as it is or split, becomes states that keep the rules of core charts.
-use Rattle.std.proofs.Common.{◌≡◌, ℕ, suc, ◌+◌, ◌≤◌, ◌^◌, inl, Bool, true, false, not, cond, ◌||◌, ◌&&◌, if◌then◌else◌, List, [], ◌∷◌, ◌++◌, map, length, refl, ap, sym, subst, ◌∙◌, arith}
-use Rattle.std.specs.Prelude.{Some}
+use Rattle.std.proofs.Common.{◌≡◌, ℕ, suc, ◌+◌, ◌≤◌, ◌^◌, inl, Bool, true, false, cond, ◌||◌, if◌then◌else◌, List, [], ◌∷◌, map, length, refl, ap, sym, subst, ◌∙◌, arith}
 use Rattle.sc_graph.specs.declared.program.Variable.{Variable}
 use Rattle.core_charts.specs.declared.features.Features.TheVariants as features
 use Rattle.core_charts.specs.declared.region.Region.{Region}
 use Rattle.core_charts.specs.declared.region.State.{State}
 use Rattle.core_charts.specs.declared.region.Transition.{Transition}
-use Rattle.core_charts.specs.declared.region.Region.TheViews.{roll-State, out-Region, out-State}
+use Rattle.core_charts.specs.declared.region.Region.TheViews.{roll-State, out-State}
 use Rattle.core_charts.specs.Rules.{IsState, IsTransition, AreRegions, has_regions}
 use Rattle.abort_expansion.specs.declared.flags.Flags.{Flags}
 use Rattle.abort_expansion.specs.declared.places.Places.{Places}

@@ -1,5 +1,5 @@
 -- Expressions over some variables are expressions over more; those that expansion makes are expressions.
-use Rattle.std.proofs.Common.{◌≡◌, ℕ, Bool, ◌&&◌, pos, zero, suc, ◌+◌, ◌<◌, ◌≤◌, Option, Some, None, List, [], ◌∷◌, ◌++◌, map, length, take, slice_get, option_and_then, IsTrue, refl, ap, sym, subst, ◌∙◌, arith}
+use Rattle.std.proofs.Common.{◌≡◌, ℕ, Bool, ◌&&◌, pos, zero, suc, ◌≤◌, Option, Some, None, List, [], ◌∷◌, ◌++◌, length, take, slice_get, option_and_then, refl, ap, sym, subst, ◌∙◌, arith}
 use Rattle.sc_values.specs.declared.value.Value.{Value}
 use Rattle.sc_values.specs.declared.value.Value.TheVariants as value
 use Rattle.sc_values.specs.declared.value.Kind.{Kind}
@@ -17,7 +17,7 @@ use Rattle.sc_values.specs.declared.expression.Expr.TheFolds.{fold-roll-Expr}
 use Rattle.sc_values.specs.Operator.{unary_kind, binary_kind}
 use Rattle.sc_values.specs.Expr.{kind, postorder}
 use Rattle.sc_values.specs.Code.{IsWithinLimits, trees}
-use Rattle.sc_values.proofs.Induction.{Inductive, induct, kind-literal, kind-load, kind-unary, kind-binary, postorder-literal, postorder-load, postorder-binary}
+use Rattle.sc_values.proofs.Induction.{induct, kind-literal, kind-load, kind-unary, kind-binary, postorder-literal, postorder-load, postorder-binary}
 use Rattle.sc_text.specs.Parts.{IsExpression, is_writable, writable_step}
 use Rattle.abort_expansion.specs.Transitions.{number}
 use Rattle.abort_expansion.proofs.Lists.{at_front}

@@ -1,5 +1,5 @@
 -- What is inside a superstate, by the numbers and flags that it passes on.
-use Rattle.std.proofs.Common.{◌≡◌, ℕ, zero, suc, ◌+◌, ◌<◌, ◌≤◌, ◌^◌, Bool, true, false, not, ◌||◌, ◌&&◌, IsTrue, Option, Some, None, List, [], ◌∷◌, ◌++◌, map, length, refl, ap, sym, subst, ◌∙◌, arith}
+use Rattle.std.proofs.Common.{◌≡◌, ℕ, suc, ◌+◌, ◌≤◌, ◌^◌, Bool, true, false, ◌||◌, List, [], ◌∷◌, ◌++◌, map, length, refl, ap, subst, ◌∙◌, arith}
 use Rattle.std.proofs.lemmas.List.Folds.{list_any-append}
 use Rattle.sc_graph.specs.declared.program.Variable.{Variable}
 use Rattle.core_charts.specs.declared.features.Features.TheVariants as features
@@ -10,11 +10,11 @@ use Rattle.abort_expansion.specs.declared.flags.Flags.{Flags}
 use Rattle.abort_expansion.specs.declared.pieces.Numbers.{Numbers}
 use Rattle.abort_expansion.specs.declared.pieces.Regions.{Regions}
 use Rattle.abort_expansion.specs.Flags.{flags_of, flag_count, given, is_there, one, has_strong, has_weak, weak_around, declarations}
-use Rattle.abort_expansion.specs.Expansion.{RegionPiece, piece_of_region, inside_superstate, expanded_regions, superstates_in, variables_in, within}
+use Rattle.abort_expansion.specs.Expansion.{piece_of_region, inside_superstate, superstates_in, variables_in, within}
 use Rattle.abort_expansion.proofs.Lists.{Each, each_append, each_at}
-use Rattle.abort_expansion.proofs.Taken.{IsFlagIfAny, AreFlags}
+use Rattle.abort_expansion.proofs.Taken.{AreFlags}
 use Rattle.abort_expansion.proofs.Apart.{Apart, distinct_if_apart}
-use Rattle.abort_expansion.proofs.Added.{Located, located_first, located_later, AreAdded, declarations_added, both_added, flags_there}
+use Rattle.abort_expansion.proofs.Added.{Located, AreAdded, declarations_added, both_added}
 use Rattle.abort_expansion.proofs.Joined.{RegionsKeep, region_names, regions_named, regions_added, regions_keep}
 
 there_or_none : (b : Bool) (x : ℕ) → (is_there (given b x) || false) ≡ b

@@ -1,5 +1,5 @@
 -- What states and regions side by side become, from what each becomes.
-use Rattle.std.proofs.Common.{◌≡◌, ◌≢◌, ℕ, suc, ◌+◌, ◌<◌, ◌≤◌, ◌^◌, ◌⊎◌, inl, inr, Bool, true, false, not, ◌&&◌, IsTrue, Option, Some, None, List, [], ◌∷◌, ◌++◌, map, length, slice_get, refl, ap, sym, subst, ◌∙◌, arith}
+use Rattle.std.proofs.Common.{◌≡◌, ◌≢◌, ℕ, ◌+◌, ◌<◌, ◌≤◌, ◌^◌, inl, inr, Bool, not, ◌&&◌, IsTrue, Option, List, [], ◌∷◌, ◌++◌, map, length, refl, ap, sym, subst, ◌∙◌, arith}
 use Rattle.std.proofs.lemmas.List.{length-append, map-append}
 use Rattle.sc_graph.specs.declared.program.Variable.{Variable}
 use Rattle.core_charts.specs.declared.features.Features.TheVariants as features
@@ -13,7 +13,7 @@ use Rattle.abort_expansion.specs.declared.pieces.Numbers.{Numbers}
 use Rattle.abort_expansion.specs.declared.pieces.Regions.{Regions}
 use Rattle.abort_expansion.specs.declared.pieces.States.{States}
 use Rattle.abort_expansion.specs.Flags.{one, aborts_around, weak_around}
-use Rattle.abort_expansion.specs.Expansion.{RegionPiece, StatePiece, piece_of_region, piece_of_state, beside, together, expanded_regions, expanded_states, superstates_in, variables_in, superstates_among, variables_among, widths, past_region, past_state}
+use Rattle.abort_expansion.specs.Expansion.{RegionPiece, StatePiece, piece_of_region, piece_of_state, beside, expanded_regions, expanded_states, superstates_in, variables_in, superstates_among, variables_among, widths, past_region, past_state}
 use Rattle.abort_expansion.proofs.Lists.{Each, each_append, each_more, count, count_append}
 use Rattle.abort_expansion.proofs.Taken.{IsFlagIfAny, AreFlags, ArePlaces}
 use Rattle.abort_expansion.proofs.Apart.{Unlike, Apart, apart_append, IsAdded, IsIn, IsCalled, IsText, called_apart}

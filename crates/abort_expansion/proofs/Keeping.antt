@@ -1,8 +1,7 @@
 -- What the regions of a chart of a text become keeps the rules of core charts, over the variables with those that are added.
-use Rattle.std.proofs.Common.{◌≡◌, ℕ, zero, suc, ◌≤◌, Bool, true, false, IsTrue, Some, List, [], ◌∷◌, ◌++◌, map, length, slice_get, count_by, refl, ap, sym, subst, ◌∙◌, arith}
+use Rattle.std.proofs.Common.{◌≡◌, ℕ, zero, suc, ◌≤◌, Bool, List, [], ◌∷◌, ◌++◌, map, length, count_by, sym, subst, ◌∙◌}
 use Rattle.std.proofs.lemmas.List.{map-append}
 use Rattle.sc_values.specs.declared.value.Kind.TheVariants as of_kind
-use Rattle.sc_values.specs.declared.expression.Expr.{Expr}
 use Rattle.sc_graph.specs.declared.program.Variable.{Variable}
 use Rattle.sc_text.specs.Parts.{IsExpression}
 use Rattle.core_charts.specs.declared.features.Features.TheVariants as features
@@ -17,14 +16,12 @@ use Rattle.core_charts.specs.Rules.{IsEffect, IsTransition, IsState, IsRegion, A
 use Rattle.abort_expansion.specs.Expansion.{RegionPiece, StatePiece, region_piece, state_piece, piece_of_region, piece_of_state}
 use Rattle.abort_expansion.proofs.Lists.{Each, each_of, each_more, each_mapped, at_front, count_is}
 use Rattle.abort_expansion.proofs.Expressions.{expression_over_more}
-use Rattle.abort_expansion.proofs.Taken.{IsTaken}
 use Rattle.abort_expansion.proofs.Leaving.{InText}
 use Rattle.abort_expansion.proofs.Apart.{Apart, IsText, apart_if_distinct}
-use Rattle.abort_expansion.proofs.Joined.{StateKeeps, RegionKeeps, RegionsKeep, AllKeep, names_of, region_names}
+use Rattle.abort_expansion.proofs.Joined.{StateKeeps, RegionKeeps, RegionsKeep, names_of, region_names}
 use Rattle.abort_expansion.proofs.Alone.{simple_piece_keeps}
-use Rattle.abort_expansion.proofs.Splitting.{IsSuperstate}
 use Rattle.abort_expansion.proofs.Assembled.{superstate_piece_keeps}
-use Rattle.abort_expansion.proofs.Shaped.{AreStates, region_piece_keeps}
+use Rattle.abort_expansion.proofs.Shaped.{region_piece_keeps}
 
 more_kinds : (declared more : List Variable) → kinds_of declared ++ kinds_of more ≡ kinds_of (declared ++ more)
 more_kinds declared more = sym (map-append (λ x. x.kind) declared more)

@@ -1,5 +1,5 @@
 -- The states that expansion makes, apart from what is inside them, keep the rules of core charts.
-use Rattle.std.proofs.Common.{◌≡◌, ℕ, zero, suc, ◌+◌, ◌<◌, ◌≤◌, Bool, true, false, not, ◌||◌, IsTrue, if◌then◌else◌, Option, Some, None, List, [], ◌∷◌, ◌++◌, map, length, slice_get, count_by, refl, ap, sym, subst, ◌∙◌, arith}
+use Rattle.std.proofs.Common.{◌≡◌, ℕ, zero, suc, ◌<◌, ◌≤◌, Bool, true, false, ◌||◌, IsTrue, if◌then◌else◌, Option, Some, None, List, [], ◌∷◌, ◌++◌, map, slice_get, count_by, refl, sym, subst, arith}
 use Rattle.std.specs.Prelude.{filter}
 use Rattle.sc_graph.specs.declared.program.Variable.{Variable}
 use Rattle.sc_text.specs.declared.language.Language.TheVariants as languages
@@ -18,10 +18,10 @@ use Rattle.core_charts.specs.Rules.{IsEffect, IsState, IsTransition, AreRegions,
 use Rattle.core_charts.specs.Standing.{is_join, is_strong, is_weak, at_once, strong_aborts, weak_aborts, terminations}
 use Rattle.abort_expansion.specs.declared.flags.Flags.{Flags}
 use Rattle.abort_expansion.specs.declared.places.Places.{Places}
-use Rattle.abort_expansion.specs.Flags.{preparation_name, continuation_name, abandoned_name, is_there, aborts_around, weak_around}
+use Rattle.abort_expansion.specs.Flags.{preparation_name, continuation_name, is_there, aborts_around, weak_around}
 use Rattle.abort_expansion.specs.Transitions.{is_number, put, on, go, strong_checks, weak_checks, led, led_by, answers, raising}
-use Rattle.abort_expansion.specs.Expansion.{simple_transitions, preparation, continuation, closing, joined_or_left, monitor_transitions, all_ended, abandoned}
-use Rattle.abort_expansion.proofs.Lists.{Each, each_append, each_of, each_at, each_chosen, each_mapped, each_more, count, count_is, count_none}
+use Rattle.abort_expansion.specs.Expansion.{simple_transitions, preparation, continuation, closing, joined_or_left, monitor_transitions, all_ended}
+use Rattle.abort_expansion.proofs.Lists.{Each, each_append, each_at, each_chosen, each_mapped, each_more, count, count_is, count_none}
 use Rattle.abort_expansion.proofs.Taken.{IsFlagIfAny, AreFlags, IsTaken, ArePlaces, Goes, go_goes, no_trigger, number_trigger, putting_effects, counting_effects, strong_checks_go, weak_checks_go, led_by_goes, answers_go, raising_goes}
 
 pub no_regions : (f : Features) (variables : List Variable) (levels : ℕ) → AreRegions f variables levels []

@@ -1,5 +1,5 @@
 -- What regions and states become, by their parts.
-use Rattle.std.proofs.Common.{◌≡◌, ℕ, suc, Bool, true, false, Option, Some, List, [], ◌∷◌, ◌++◌, map, length, refl, ap, ◌∙◌}
+use Rattle.std.proofs.Common.{◌≡◌, ℕ, suc, Bool, true, false, Option, Some, List, [], ◌∷◌, map, length, refl, ap, ◌∙◌}
 use Rattle.core_charts.specs.declared.region.Region.{Region}
 use Rattle.core_charts.specs.declared.region.State.{State}
 use Rattle.core_charts.specs.declared.region.Transition.{Transition}
@@ -11,7 +11,7 @@ use Rattle.abort_expansion.specs.declared.places.Places.{Places}
 use Rattle.abort_expansion.specs.declared.pieces.Numbers.{Numbers}
 use Rattle.abort_expansion.specs.declared.pieces.States.{States}
 use Rattle.abort_expansion.specs.Flags.{flags_of, weak_around}
-use Rattle.abort_expansion.specs.Expansion.{RegionPiece, StatePiece, region_piece, state_piece, piece_of_region, piece_of_state, named, inside_region, simple, superstate_over, inside_superstate, made, is_superstate}
+use Rattle.abort_expansion.specs.Expansion.{RegionPiece, StatePiece, region_piece, state_piece, piece_of_region, piece_of_state, named, inside_region, simple, superstate_over, inside_superstate}
 
 pub region_made : (r : Region) (around : List Flags) (counter : Option ℕ) (at : Numbers)
     → (piece_of_region r).made around counter at ≡ named (out-Region r).name (inside_region (map piece_of_state (out-Region r).states) around counter at)

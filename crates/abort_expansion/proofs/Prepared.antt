@@ -1,6 +1,6 @@
 -- A superstate that is split, with a preparation state or without one, keeps the rules of core charts.
 use Rattle.std.specs.Prelude.{decimal}
-use Rattle.std.proofs.Common.{◌≡◌, ℕ, suc, ◌+◌, ◌≤◌, ◌^◌, inl, inr, Bool, true, false, cond, sym, if◌then◌else◌, List, [], ◌∷◌, ◌++◌, map, length, refl, arith}
+use Rattle.std.proofs.Common.{◌≡◌, ℕ, suc, ◌+◌, ◌≤◌, ◌^◌, inr, Bool, true, false, cond, sym, if◌then◌else◌, List, [], ◌∷◌, ◌++◌, map, length, refl, arith}
 use Rattle.sc_graph.specs.declared.program.Variable.{Variable}
 use Rattle.core_charts.specs.declared.features.Features.TheVariants as features
 use Rattle.core_charts.specs.declared.region.Region.{Region}
@@ -12,13 +12,12 @@ use Rattle.abort_expansion.specs.declared.flags.Flags.{Flags}
 use Rattle.abort_expansion.specs.declared.places.Places.{Places}
 use Rattle.abort_expansion.specs.declared.pieces.Numbers.{Numbers}
 use Rattle.abort_expansion.specs.declared.pieces.Regions.{Regions}
-use Rattle.abort_expansion.specs.declared.pieces.States.{States}
 use Rattle.abort_expansion.specs.Flags.{one, has_aborts, weak_around, declarations, preparation_name, continuation_name}
 use Rattle.abort_expansion.specs.Expansion.{piece_of_region, superstates_in, preparation, continuation, fork, monitor, watched, forked, prepared, beside}
-use Rattle.abort_expansion.proofs.Lists.{Each, each_append}
-use Rattle.abort_expansion.proofs.Taken.{IsTaken, AreFlags}
+use Rattle.abort_expansion.proofs.Lists.{Each}
+use Rattle.abort_expansion.proofs.Taken.{AreFlags}
 use Rattle.abort_expansion.proofs.Leaving.{preparation_keeps}
-use Rattle.abort_expansion.proofs.Apart.{Unlike, Apart, IsCalled, text_has_no_bar, added_is_named}
+use Rattle.abort_expansion.proofs.Apart.{text_has_no_bar, added_is_named}
 use Rattle.abort_expansion.proofs.Added.{Located, located_first, flags_there}
 use Rattle.abort_expansion.proofs.Shapes.{IsNamed, preparation_named, fork_named, continuation_named}
 use Rattle.abort_expansion.proofs.Joined.{HasShape, IsScene, initial_in}

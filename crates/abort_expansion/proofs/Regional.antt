@@ -1,24 +1,20 @@
 -- A region whose states keep the rules becomes a region that keeps those of core charts.
-use Rattle.std.proofs.Common.{◌≡◌, ◌≢◌, ℕ, suc, ◌+◌, ◌<◌, ◌≤◌, ◌^◌, inl, inr, Bool, true, false, not, cond, ◌&&◌, if◌then◌else◌, Option, Some, None, List, [], ◌∷◌, ◌++◌, map, length, count_by, refl, ap, sym, subst, ◌∙◌, arith}
-use Rattle.std.specs.List.{list_any}
-use Rattle.std.proofs.lemmas.List.{length-append, map-append, append-nil}
+use Rattle.std.proofs.Common.{◌≡◌, ◌≢◌, ℕ, ◌+◌, ◌<◌, ◌≤◌, inl, inr, Bool, true, false, cond, Option, None, List, [], ◌∷◌, ◌++◌, length, refl, ap, sym, subst, ◌∙◌, arith}
+use Rattle.std.proofs.lemmas.List.{map-append, append-nil}
 use Rattle.sc_graph.specs.declared.program.Variable.{Variable}
 use Rattle.core_charts.specs.declared.features.Features.TheVariants as features
-use Rattle.core_charts.specs.declared.region.State.{State}
-use Rattle.core_charts.specs.declared.region.Transition.{Transition}
-use Rattle.core_charts.specs.declared.region.Region.TheViews.{roll-State, out-State}
+use Rattle.core_charts.specs.declared.region.Region.TheViews.{out-State}
 use Rattle.core_charts.specs.Rules.{IsState, AreRegions}
-use Rattle.abort_expansion.specs.declared.flags.Flags.{Flags}
 use Rattle.abort_expansion.specs.declared.pieces.States.{States}
 use Rattle.abort_expansion.specs.Flags.{one, first_name, abandoned_name}
 use Rattle.abort_expansion.specs.Transitions.{go, on, count_down}
 use Rattle.abort_expansion.specs.Expansion.{abandoned, beside, new_initial, left_behind}
-use Rattle.abort_expansion.proofs.Lists.{Each, each_append, each_more, count, count_append, count_is}
+use Rattle.abort_expansion.proofs.Lists.{Each, each_more}
 use Rattle.abort_expansion.proofs.Taken.{IsFlagIfAny, counting_down_effects, go_goes, no_trigger}
 use Rattle.abort_expansion.proofs.Leaving.{left_by, ended_in}
 use Rattle.abort_expansion.proofs.Apart.{Unlike, Apart, apart_append, IsCalled, IsText, text_has_no_bar, added_is_named, letter_of, at_in}
 use Rattle.abort_expansion.proofs.Shapes.{IsNamed, rolled_named}
-use Rattle.abort_expansion.proofs.Joined.{HasShape, names_of, initial_in}
+use Rattle.abort_expansion.proofs.Joined.{names_of, initial_in}
 
 -- names of states are none of those by a letter behind those that expansion numbers
 pub called_not_plain : (texts : List (List ℕ)) (low high letter : ℕ) (name : List ℕ) → 105 ≤ letter → Each IsText texts → IsCalled texts 105 low high name → name ≢ 95 ∷ letter ∷ []

@@ -1,21 +1,18 @@
 -- A region whose states keep the rules becomes a region that keeps those of core charts.
-use Rattle.std.proofs.Common.{◌≡◌, ◌≢◌, ℕ, ◌+◌, ◌<◌, ◌≤◌, ◌^◌, Bool, true, false, cond, Option, Some, None, List, [], ◌∷◌, ◌++◌, map, length, count_by, refl, ap, sym, subst, ◌∙◌, arith}
-use Rattle.std.specs.List.{list_any}
+use Rattle.std.proofs.Common.{◌≡◌, ◌≢◌, ℕ, ◌+◌, ◌<◌, ◌≤◌, ◌^◌, Bool, true, false, cond, Option, Some, None, List, [], ◌∷◌, ◌++◌, map, length, refl, ap, sym, subst, ◌∙◌, arith}
 use Rattle.std.proofs.lemmas.List.{length-append, map-append, append-nil}
 use Rattle.sc_graph.specs.declared.program.Variable.{Variable}
 use Rattle.core_charts.specs.declared.features.Features.TheVariants as features
-use Rattle.core_charts.specs.declared.region.Region.{Region}
 use Rattle.core_charts.specs.declared.region.State.{State}
 use Rattle.core_charts.specs.declared.region.Transition.{Transition}
 use Rattle.core_charts.specs.declared.region.Region.TheViews.{roll-State, roll-Region, out-State, out-roll-Region}
 use Rattle.core_charts.specs.Rules.{IsState, IsRegion, AreRegions}
 use Rattle.abort_expansion.specs.declared.flags.Flags.{Flags}
-use Rattle.abort_expansion.specs.declared.places.Places.{Places}
 use Rattle.abort_expansion.specs.declared.pieces.Numbers.{Numbers}
 use Rattle.abort_expansion.specs.declared.pieces.States.{States}
 use Rattle.abort_expansion.specs.Flags.{one, first_name, abandoned_name, aborts_around, weak_around}
 use Rattle.abort_expansion.specs.Transitions.{go, on, count_down}
-use Rattle.abort_expansion.specs.Expansion.{abandoned, StatePiece, piece_of_state, region_piece, inside_region, region_over, region_places, begins_anew, initial_place, initial_number, new_initial, left_behind, beside, expanded_states, widths, superstates_among, variables_among}
+use Rattle.abort_expansion.specs.Expansion.{abandoned, StatePiece, piece_of_state, region_piece, region_over, region_places, begins_anew, initial_place, initial_number, new_initial, left_behind, beside, expanded_states, widths, superstates_among, variables_among}
 use Rattle.abort_expansion.proofs.Lists.{Each, each_append, each_more, count, count_append, count_is}
 use Rattle.abort_expansion.proofs.Taken.{IsFlagIfAny, AreFlags}
 use Rattle.abort_expansion.proofs.Apart.{Unlike, Apart, IsCalled, IsText, text_is_named, letter_of}

@@ -1,5 +1,5 @@
 -- The states that expansion makes: their names, and which are initial.
-use Rattle.std.proofs.Common.{◌≡◌, ℕ, Bool, true, false, Option, List, [], ◌∷◌, refl, ap}
+use Rattle.std.proofs.Common.{◌≡◌, ℕ, Bool, false, List, [], ap}
 use Rattle.core_charts.specs.declared.region.Region.{Region}
 use Rattle.core_charts.specs.declared.region.State.{State}
 use Rattle.core_charts.specs.declared.region.Transition.{Transition}

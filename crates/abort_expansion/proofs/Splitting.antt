@@ -1,6 +1,6 @@
 -- A superstate becomes states that keep the rules of core charts.
 use Rattle.std.specs.Prelude.{decimal}
-use Rattle.std.proofs.Common.{◌≡◌, ◌≢◌, ℕ, suc, ◌+◌, ◌<◌, ◌≤◌, ◌^◌, inl, inr, Bool, true, false, not, cond, ◌||◌, ◌&&◌, IsTrue, if◌then◌else◌, Option, Some, None, List, [], ◌∷◌, ◌++◌, map, length, count_by, refl, ap, sym, subst, ◌∙◌, arith}
+use Rattle.std.proofs.Common.{◌≡◌, ◌≢◌, ℕ, suc, ◌+◌, ◌<◌, ◌≤◌, ◌^◌, inl, inr, Bool, true, false, cond, ◌||◌, None, List, [], ◌∷◌, ◌++◌, map, length, count_by, refl, ap, sym, subst, ◌∙◌, arith}
 use Rattle.std.proofs.lemmas.List.{length-append, map-append, append-nil}
 use Rattle.sc_graph.specs.declared.program.Variable.{Variable}
 use Rattle.core_charts.specs.declared.features.Features.TheVariants as features
@@ -8,23 +8,22 @@ use Rattle.core_charts.specs.declared.region.Region.{Region}
 use Rattle.core_charts.specs.declared.region.State.{State}
 use Rattle.core_charts.specs.declared.region.Transition.{Transition}
 use Rattle.core_charts.specs.declared.region.TransitionKind.TheVariants as kind
-use Rattle.core_charts.specs.declared.region.Region.TheViews.{roll-State, out-Region, out-State, out-roll-Region}
+use Rattle.core_charts.specs.declared.region.Region.TheViews.{out-Region, out-State, out-roll-Region}
 use Rattle.core_charts.specs.Rules.{IsState, IsRegion, IsTransition, AreRegions, has_regions}
 use Rattle.core_charts.specs.Standing.{is_join}
 use Rattle.abort_expansion.specs.declared.flags.Flags.{Flags}
 use Rattle.abort_expansion.specs.declared.places.Places.{Places}
 use Rattle.abort_expansion.specs.declared.pieces.Numbers.{Numbers}
 use Rattle.abort_expansion.specs.declared.pieces.Regions.{Regions}
-use Rattle.abort_expansion.specs.declared.pieces.States.{States}
 use Rattle.abort_expansion.specs.Flags.{flags_of, flag_count, one, has_aborts, has_weak, weak_around, declarations, preparation_name, continuation_name, monitor_name}
-use Rattle.abort_expansion.specs.Expansion.{piece_of_region, superstates_in, variables_in, preparation, continuation, fork, monitor, watched, forked, prepared, beside}
+use Rattle.abort_expansion.specs.Expansion.{piece_of_region, superstates_in, variables_in, continuation, fork, monitor, watched, forked}
 use Rattle.abort_expansion.proofs.Lists.{Each, each_append, each_more}
 use Rattle.abort_expansion.proofs.Taken.{IsTaken, AreFlags}
-use Rattle.abort_expansion.proofs.Leaving.{InText, state_keeps, preparation_keeps, continuation_keeps}
-use Rattle.abort_expansion.proofs.Apart.{Unlike, Apart, apart_append, IsCalled, IsAdded, IsText, text_has_no_bar, text_is_named, added_is_named, letter_of}
+use Rattle.abort_expansion.proofs.Leaving.{InText, state_keeps, continuation_keeps}
+use Rattle.abort_expansion.proofs.Apart.{Unlike, Apart, apart_append, IsAdded, IsText, text_has_no_bar, text_is_named, added_is_named, letter_of}
 use Rattle.abort_expansion.proofs.Added.{Located, located_first, located_later, AreAdded, declarations_added, flags_there}
-use Rattle.abort_expansion.proofs.Shapes.{IsNamed, preparation_named, continuation_named, fork_named}
-use Rattle.abort_expansion.proofs.Joined.{HasShape, IsScene, RegionsKeep, region_names, names_of}
+use Rattle.abort_expansion.proofs.Shapes.{IsNamed, continuation_named, fork_named}
+use Rattle.abort_expansion.proofs.Joined.{HasShape, IsScene, RegionsKeep, region_names}
 use Rattle.abort_expansion.proofs.Alone.{monitor_keeps}
 use Rattle.abort_expansion.proofs.Inner.{inside_of, inside_keeps, inside_named, all_added, side_by_side, as_many_names, has_some}
 

@@ -2,18 +2,15 @@
 use Rattle.std.proofs.Common.{◌≡◌, ℕ, ◌+◌, ◌≤◌, Bool, true, false, not, cond, ◌||◌, ◌&&◌, IsTrue, List, [], ◌∷◌, map, count_by, refl, ap, arith}
 use Rattle.sc_graph.specs.declared.program.Variable.{Variable}
 use Rattle.core_charts.specs.declared.features.Features.TheVariants as features
-use Rattle.core_charts.specs.declared.region.Region.{Region}
-use Rattle.core_charts.specs.declared.region.State.{State}
 use Rattle.core_charts.specs.declared.region.Transition.{Transition}
 use Rattle.core_charts.specs.declared.region.TransitionKind.{TransitionKind}
 use Rattle.core_charts.specs.declared.region.TransitionKind.TheVariants as kind
-use Rattle.core_charts.specs.Rules.{IsState, AreRegions, IsTransition, has_regions, allows}
+use Rattle.core_charts.specs.Rules.{IsTransition, allows}
 use Rattle.core_charts.specs.Standing.{is_strong, is_weak, is_join}
-use Rattle.abort_expansion.specs.declared.flags.Flags.{Flags}
 use Rattle.abort_expansion.specs.declared.places.Places.{Places}
-use Rattle.abort_expansion.specs.Flags.{one, given, flags_of, flag_count, has_strong, has_weak, has_join, has_aborts, counts, aborts_around, weak_around}
+use Rattle.abort_expansion.specs.Flags.{one, given, flags_of, flag_count, has_strong, has_weak, has_join, has_aborts, counts}
 use Rattle.abort_expansion.specs.Transitions.{led}
-use Rattle.abort_expansion.proofs.Lists.{Each, each_mapped, count, count_is}
+use Rattle.abort_expansion.proofs.Lists.{Each, count, count_is}
 use Rattle.abort_expansion.proofs.Taken.{IsFlagIfAny, AreFlags, ArePlaces}
 use Rattle.abort_expansion.proofs.Leaving.{InText, led_keeps}
 

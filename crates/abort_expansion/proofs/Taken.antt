@@ -1,6 +1,5 @@
 -- The transitions that expansion makes keep the rules of core charts.
-use Rattle.std.proofs.Common.{◌≡◌, ◌≢◌, ℕ, zero, suc, ◌<◌, Bool, true, false, ◌||◌, IsTrue, if◌then◌else◌, Option, Some, None, List, [], ◌∷◌, ◌++◌, map, length, slice_get, unwrap_or, refl, ap, subst}
-use Rattle.sc_values.specs.declared.value.Kind.{Kind}
+use Rattle.std.proofs.Common.{◌≡◌, ◌≢◌, ℕ, zero, suc, ◌<◌, Bool, true, false, ◌||◌, IsTrue, if◌then◌else◌, Option, Some, None, List, [], ◌∷◌, ◌++◌, map, slice_get, unwrap_or, refl, ap, subst}
 use Rattle.sc_values.specs.declared.value.Kind.TheVariants as of_kind
 use Rattle.sc_values.specs.declared.operator.BinaryOperator.TheVariants as operator
 use Rattle.sc_values.specs.declared.expression.Expr.{Expr}
@@ -14,9 +13,9 @@ use Rattle.core_charts.specs.declared.region.TransitionKind.TheVariants as kind
 use Rattle.core_charts.specs.Rules.{IsEffect, IsTransition, kinds_of}
 use Rattle.abort_expansion.specs.declared.flags.Flags.{Flags}
 use Rattle.abort_expansion.specs.declared.places.Places.{Places}
-use Rattle.abort_expansion.specs.Flags.{local, is_there, aborts_around, weak_around}
+use Rattle.abort_expansion.specs.Flags.{local, is_there, aborts_around}
 use Rattle.abort_expansion.specs.Transitions.{is_number, is_raised, number, put, count_down, on, go, check, strong_checks, weak_checks, counting, place_of, led_by, answers, raising}
-use Rattle.abort_expansion.proofs.Lists.{Each, each_append, each_of, each_at}
+use Rattle.abort_expansion.proofs.Lists.{Each, each_append, each_at}
 use Rattle.abort_expansion.proofs.Expressions.{beside_number, number_is_expression}
 
 -- a flag or a counter among the variables

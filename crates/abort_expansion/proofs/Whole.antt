@@ -1,19 +1,18 @@
 -- The core chart of a chart keeps the rules of core charts, where the variables that are added are not too many.
-use Rattle.std.proofs.Common.{◌≡◌, ◌≢◌, ℕ, suc, ◌+◌, ◌≤◌, ◌^◌, Bool, true, false, IsTrue, Some, None, List, [], ◌∷◌, ◌++◌, map, length, slice_get, count_by, refl, ap, sym, subst, ◌∙◌, arith}
+use Rattle.std.proofs.Common.{◌≡◌, ◌≢◌, ℕ, ◌+◌, ◌≤◌, ◌^◌, Bool, false, None, List, [], ◌∷◌, ◌++◌, map, length, count_by, refl, ap, sym, subst, ◌∙◌, arith}
 use Rattle.std.specs.Prelude.{decimal}
 use Rattle.std.proofs.lemmas.List.{length-append, map-append, append-nil}
 use Rattle.sc_graph.specs.declared.program.Variable.{Variable}
-use Rattle.sc_graph.specs.Limits.{variable_limit, output_limit}
+use Rattle.sc_graph.specs.Limits.{variable_limit}
 use Rattle.sc_graph.specs.Size.{is_output}
 use Rattle.sc_text.specs.declared.language.Language.TheVariants as languages
 use Rattle.sc_text.specs.Parts.{IsNameIn, AreVariables}
 use Rattle.core_charts.specs.declared.features.Features.TheVariants as features
 use Rattle.core_charts.specs.declared.region.Region.{Region}
 use Rattle.core_charts.specs.Chart.{Chart}
-use Rattle.core_charts.specs.Rules.{IsRegion, AreRegions, IsChart}
-use Rattle.abort_expansion.specs.declared.pieces.Regions.{Regions}
+use Rattle.core_charts.specs.Rules.{AreRegions, IsChart}
 use Rattle.abort_expansion.specs.Flags.{local}
-use Rattle.abort_expansion.specs.Expansion.{RegionPiece, piece_of_region, superstates_in, variables_in, whole, expansion, expanded, IsExpandable}
+use Rattle.abort_expansion.specs.Expansion.{piece_of_region, superstates_in, variables_in, whole, expansion, expanded, IsExpandable}
 use Rattle.abort_expansion.proofs.Lists.{Each, each_append, each_of, each_at, each_more, each_mapped, count, count_is, count_append, count_none}
 use Rattle.abort_expansion.proofs.Apart.{Unlike, Apart, IsAdded, IsText, apart_append, apart_if_distinct, distinct_if_apart, added_is_named, text_is_named, text_has_no_bar}
 use Rattle.abort_expansion.proofs.Added.{Located, AreAdded}

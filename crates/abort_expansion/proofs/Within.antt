@@ -1,5 +1,5 @@
 -- Where the states of a region are behind expansion: each is within it, and exactly one is initial.
-use Rattle.std.proofs.Common.{◌≡◌, ℕ, zero, suc, ◌+◌, ◌<◌, ◌≤◌, Bool, true, false, not, cond, ◌||◌, ◌&&◌, IsTrue, if◌then◌else◌, Option, Some, None, List, [], ◌∷◌, map, length, slice_get, unwrap_or, refl, ap, ◌∙◌, arith}
+use Rattle.std.proofs.Common.{◌≡◌, ℕ, zero, suc, ◌+◌, ◌<◌, ◌≤◌, Bool, true, false, cond, ◌||◌, ◌&&◌, IsTrue, if◌then◌else◌, Option, List, [], ◌∷◌, map, length, slice_get, unwrap_or, refl, ap, arith}
 use Rattle.std.specs.List.{list_any}
 use Rattle.sc_graph.specs.declared.program.Variable.{Variable}
 use Rattle.core_charts.specs.declared.region.State.{State}
@@ -7,8 +7,8 @@ use Rattle.core_charts.specs.declared.region.Region.TheViews.{out-State}
 use Rattle.core_charts.specs.declared.region.Region.TheFolds.{fold_out-State}
 use Rattle.abort_expansion.specs.declared.flags.Flags.{Flags}
 use Rattle.abort_expansion.specs.Flags.{one, aborts_around}
-use Rattle.abort_expansion.specs.Expansion.{RegionPiece, StatePiece, region_piece, state_piece, piece_of_state, places, widths, initial_place, begins_anew, region_places}
-use Rattle.abort_expansion.proofs.Lists.{Each, count}
+use Rattle.abort_expansion.specs.Expansion.{RegionPiece, StatePiece, region_piece, state_piece, piece_of_state, places, widths, initial_place, region_places}
+use Rattle.abort_expansion.proofs.Lists.{Each}
 use Rattle.abort_expansion.proofs.Taken.{IsFlagIfAny, AreFlags}
 use Rattle.abort_expansion.proofs.Joined.{AllKeep, IsScene, initial_of, initial_in}
 

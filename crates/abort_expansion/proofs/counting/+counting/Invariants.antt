@@ -1,5 +1,4 @@
 use Rattle.std.proofs.Common.{◌≡◌, ◌+◌, map, drop}
-use Rattle.core_charts.specs.declared.region.Region.TheViews.{out-Region, out-State}
 use Rattle.abort_expansion.specs.Expansion.{piece_of_region, piece_of_state, superstates_in, states_in, variables_in, superstates_among, states_among, variables_among}
 use Rattle.abort_expansion.proofs.counting.+counting.Given as goal
 
