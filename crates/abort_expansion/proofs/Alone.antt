@@ -14,7 +14,8 @@ use Rattle.core_charts.specs.Rules.{IsState, IsRegion, AreRegions}
 use Rattle.abort_expansion.specs.declared.flags.Flags.{Flags}
 use Rattle.abort_expansion.specs.declared.places.Places.{Places}
 use Rattle.abort_expansion.specs.Flags.{one, watching_name, abandoned_name, monitor_name}
-use Rattle.abort_expansion.specs.Expansion.{simple, simple_transitions, state_piece, monitor, monitor_transitions, abandoned}
+use Rattle.abort_expansion.specs.Superstates.{simple, simple_transitions, monitor, monitor_transitions, abandoned}
+use Rattle.abort_expansion.specs.Expansion.{state_piece}
 use Rattle.abort_expansion.proofs.Lists.{Each, each_at, count_is}
 use Rattle.abort_expansion.proofs.Taken.{AreFlags, IsTaken}
 use Rattle.abort_expansion.proofs.Leaving.{InText, left_by, ended_in, simple_transitions_go, monitor_goes}

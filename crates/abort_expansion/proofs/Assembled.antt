@@ -14,7 +14,9 @@ use Rattle.abort_expansion.specs.declared.pieces.Regions.{Regions}
 use Rattle.abort_expansion.specs.declared.pieces.States.{States}
 use Rattle.abort_expansion.specs.Flags.{one, is_there, flag_count, has_strong, has_weak, has_aborts, aborts_around, weak_around}
 use Rattle.abort_expansion.specs.Transitions.{led}
-use Rattle.abort_expansion.specs.Expansion.{piece_of_region, superstates_in, variables_in, state_piece, stays, is_prepared, as_it_is, split, superstate_over, prepared, forked, beside}
+use Rattle.abort_expansion.specs.Pieces.{superstates_in, variables_in, beside}
+use Rattle.abort_expansion.specs.Superstates.{stays, is_prepared, as_it_is, split, superstate_over, prepared, forked}
+use Rattle.abort_expansion.specs.Expansion.{piece_of_region, state_piece}
 use Rattle.abort_expansion.proofs.Lists.{Each}
 use Rattle.abort_expansion.proofs.Taken.{AreFlags}
 use Rattle.abort_expansion.proofs.Leaving.{state_keeps}

@@ -13,7 +13,9 @@ use Rattle.core_charts.specs.declared.region.State.{State}
 use Rattle.core_charts.specs.declared.region.Region.TheViews.{roll-Region, roll-State}
 use Rattle.abort_expansion.specs.Flags.{local, strong_flag_name, weak_flag_name, counter_name, preparation_name, continuation_name, monitor_name, watching_name, first_name}
 use Rattle.abort_expansion.specs.Transitions.{go, is_number, is_raised, put, count_down}
-use Rattle.abort_expansion.specs.Expansion.{RegionPiece, StatePiece, region_piece, state_piece, all_expanded, abandoned}
+use Rattle.abort_expansion.specs.Pieces.{RegionPiece, StatePiece}
+use Rattle.abort_expansion.specs.Superstates.{abandoned}
+use Rattle.abort_expansion.specs.Expansion.{region_piece, state_piece, all_expanded}
 
 -- ---- the chart
 

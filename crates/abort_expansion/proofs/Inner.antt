@@ -10,7 +10,9 @@ use Rattle.abort_expansion.specs.declared.flags.Flags.{Flags}
 use Rattle.abort_expansion.specs.declared.pieces.Numbers.{Numbers}
 use Rattle.abort_expansion.specs.declared.pieces.Regions.{Regions}
 use Rattle.abort_expansion.specs.Flags.{flags_of, flag_count, given, is_there, one, has_strong, has_weak, weak_around, declarations}
-use Rattle.abort_expansion.specs.Expansion.{piece_of_region, inside_superstate, superstates_in, variables_in, within}
+use Rattle.abort_expansion.specs.Pieces.{superstates_in, variables_in}
+use Rattle.abort_expansion.specs.Superstates.{within}
+use Rattle.abort_expansion.specs.Expansion.{piece_of_region, inside_superstate}
 use Rattle.abort_expansion.proofs.Lists.{Each, each_append, each_at}
 use Rattle.abort_expansion.proofs.Taken.{AreFlags}
 use Rattle.abort_expansion.proofs.Apart.{Apart, distinct_if_apart}

@@ -13,7 +13,8 @@ use Rattle.abort_expansion.specs.declared.pieces.Numbers.{Numbers}
 use Rattle.abort_expansion.specs.declared.pieces.Regions.{Regions}
 use Rattle.abort_expansion.specs.declared.pieces.States.{States}
 use Rattle.abort_expansion.specs.Flags.{one, aborts_around, weak_around}
-use Rattle.abort_expansion.specs.Expansion.{RegionPiece, StatePiece, piece_of_region, piece_of_state, beside, expanded_regions, expanded_states, superstates_in, variables_in, superstates_among, variables_among, widths, past_region, past_state}
+use Rattle.abort_expansion.specs.Pieces.{RegionPiece, StatePiece, beside, expanded_regions, superstates_in, variables_in, past_region}
+use Rattle.abort_expansion.specs.Expansion.{piece_of_region, piece_of_state, expanded_states, superstates_among, variables_among, widths, past_state}
 use Rattle.abort_expansion.proofs.Lists.{Each, each_append, each_more, count, count_append}
 use Rattle.abort_expansion.proofs.Taken.{IsFlagIfAny, AreFlags, ArePlaces}
 use Rattle.abort_expansion.proofs.Apart.{Unlike, Apart, apart_append, IsAdded, IsIn, IsCalled, IsText, called_apart}

@@ -20,7 +20,7 @@ use Rattle.abort_expansion.specs.declared.flags.Flags.{Flags}
 use Rattle.abort_expansion.specs.declared.places.Places.{Places}
 use Rattle.abort_expansion.specs.Flags.{preparation_name, continuation_name, is_there, aborts_around, weak_around}
 use Rattle.abort_expansion.specs.Transitions.{is_number, put, on, go, strong_checks, weak_checks, led, led_by, answers, raising}
-use Rattle.abort_expansion.specs.Expansion.{simple_transitions, preparation, continuation, closing, joined_or_left, monitor_transitions, all_ended}
+use Rattle.abort_expansion.specs.Superstates.{simple_transitions, preparation, continuation, closing, joined_or_left, monitor_transitions, all_ended}
 use Rattle.abort_expansion.proofs.Lists.{Each, each_append, each_at, each_chosen, each_mapped, each_more, count, count_is, count_none}
 use Rattle.abort_expansion.proofs.Taken.{IsFlagIfAny, AreFlags, IsTaken, ArePlaces, Goes, go_goes, no_trigger, number_trigger, putting_effects, counting_effects, strong_checks_go, weak_checks_go, led_by_goes, answers_go, raising_goes}
 

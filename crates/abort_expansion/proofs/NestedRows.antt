@@ -8,7 +8,9 @@ use Rattle.core_charts.specs.declared.region.TransitionKind.TheVariants as kind
 use Rattle.core_charts.specs.declared.region.Region.{Region}
 use Rattle.abort_expansion.specs.Flags.{local, strong_flag_name, weak_flag_name, counter_name, preparation_name, continuation_name, monitor_name, watching_name, first_name}
 use Rattle.abort_expansion.specs.Transitions.{go, is_number, is_raised, put, count_down}
-use Rattle.abort_expansion.specs.Expansion.{RegionPiece, all_expanded, abandoned}
+use Rattle.abort_expansion.specs.Pieces.{RegionPiece}
+use Rattle.abort_expansion.specs.Superstates.{abandoned}
+use Rattle.abort_expansion.specs.Expansion.{all_expanded}
 use Rattle.abort_expansion.proofs.ExpansionRows.{state, region, transition, plus, core_state, core_region, join}
 
 -- a strong abort inside a superstate with another one

@@ -11,7 +11,9 @@ use Rattle.abort_expansion.specs.declared.places.Places.{Places}
 use Rattle.abort_expansion.specs.declared.pieces.Numbers.{Numbers}
 use Rattle.abort_expansion.specs.declared.pieces.States.{States}
 use Rattle.abort_expansion.specs.Flags.{flags_of, weak_around}
-use Rattle.abort_expansion.specs.Expansion.{RegionPiece, StatePiece, region_piece, state_piece, piece_of_region, piece_of_state, named, inside_region, simple, superstate_over, inside_superstate}
+use Rattle.abort_expansion.specs.Pieces.{RegionPiece, StatePiece}
+use Rattle.abort_expansion.specs.Superstates.{simple, superstate_over}
+use Rattle.abort_expansion.specs.Expansion.{region_piece, state_piece, piece_of_region, piece_of_state, named, inside_region, inside_superstate}
 
 pub region_made : (r : Region) (around : List Flags) (counter : Option ℕ) (at : Numbers)
     → (piece_of_region r).made around counter at ≡ named (out-Region r).name (inside_region (map piece_of_state (out-Region r).states) around counter at)

@@ -13,7 +13,9 @@ use Rattle.abort_expansion.specs.declared.places.Places.{Places}
 use Rattle.abort_expansion.specs.declared.pieces.Numbers.{Numbers}
 use Rattle.abort_expansion.specs.declared.pieces.Regions.{Regions}
 use Rattle.abort_expansion.specs.Flags.{one, has_aborts, weak_around, declarations, preparation_name, continuation_name}
-use Rattle.abort_expansion.specs.Expansion.{piece_of_region, superstates_in, preparation, continuation, fork, monitor, watched, forked, prepared, beside}
+use Rattle.abort_expansion.specs.Pieces.{superstates_in, beside}
+use Rattle.abort_expansion.specs.Superstates.{preparation, continuation, fork, monitor, watched, forked, prepared}
+use Rattle.abort_expansion.specs.Expansion.{piece_of_region}
 use Rattle.abort_expansion.proofs.Lists.{Each}
 use Rattle.abort_expansion.proofs.Taken.{AreFlags}
 use Rattle.abort_expansion.proofs.Leaving.{preparation_keeps}

@@ -8,7 +8,9 @@ use Rattle.core_charts.specs.Rules.{IsState, AreRegions}
 use Rattle.abort_expansion.specs.declared.pieces.States.{States}
 use Rattle.abort_expansion.specs.Flags.{one, first_name, abandoned_name}
 use Rattle.abort_expansion.specs.Transitions.{go, on, count_down}
-use Rattle.abort_expansion.specs.Expansion.{abandoned, beside, new_initial, left_behind}
+use Rattle.abort_expansion.specs.Pieces.{beside}
+use Rattle.abort_expansion.specs.Superstates.{abandoned}
+use Rattle.abort_expansion.specs.Expansion.{new_initial, left_behind}
 use Rattle.abort_expansion.proofs.Lists.{Each, each_more}
 use Rattle.abort_expansion.proofs.Taken.{IsFlagIfAny, counting_down_effects, go_goes, no_trigger}
 use Rattle.abort_expansion.proofs.Leaving.{left_by, ended_in}

@@ -12,7 +12,9 @@ use Rattle.abort_expansion.specs.declared.pieces.Numbers.{Numbers}
 use Rattle.abort_expansion.specs.declared.pieces.States.{States}
 use Rattle.abort_expansion.specs.Flags.{one, first_name, abandoned_name, aborts_around, weak_around}
 use Rattle.abort_expansion.specs.Transitions.{go, on, count_down}
-use Rattle.abort_expansion.specs.Expansion.{abandoned, StatePiece, piece_of_state, region_piece, region_over, region_places, begins_anew, initial_place, initial_number, new_initial, left_behind, beside, expanded_states, widths, superstates_among, variables_among}
+use Rattle.abort_expansion.specs.Pieces.{StatePiece, beside}
+use Rattle.abort_expansion.specs.Superstates.{abandoned}
+use Rattle.abort_expansion.specs.Expansion.{piece_of_state, region_piece, region_over, region_places, begins_anew, initial_place, initial_number, new_initial, left_behind, expanded_states, widths, superstates_among, variables_among}
 use Rattle.abort_expansion.proofs.Lists.{Each, each_append, each_more, count, count_append, count_is}
 use Rattle.abort_expansion.proofs.Taken.{IsFlagIfAny, AreFlags}
 use Rattle.abort_expansion.proofs.Apart.{Unlike, Apart, IsCalled, IsText, text_is_named, letter_of}

@@ -8,7 +8,7 @@ use Rattle.core_charts.specs.declared.region.Region.TheViews.{roll-State, out-St
 use Rattle.abort_expansion.specs.declared.flags.Flags.{Flags}
 use Rattle.abort_expansion.specs.declared.places.Places.{Places}
 use Rattle.abort_expansion.specs.Flags.{preparation_name, continuation_name}
-use Rattle.abort_expansion.specs.Expansion.{preparation, continuation, fork}
+use Rattle.abort_expansion.specs.Superstates.{preparation, continuation, fork}
 
 -- a state of this name, initial or not
 pub record IsNamed (name : List ℕ) (begins : Bool) (s : State) : Type 0 where

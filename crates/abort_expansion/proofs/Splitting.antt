@@ -16,7 +16,9 @@ use Rattle.abort_expansion.specs.declared.places.Places.{Places}
 use Rattle.abort_expansion.specs.declared.pieces.Numbers.{Numbers}
 use Rattle.abort_expansion.specs.declared.pieces.Regions.{Regions}
 use Rattle.abort_expansion.specs.Flags.{flags_of, flag_count, one, has_aborts, has_weak, weak_around, declarations, preparation_name, continuation_name, monitor_name}
-use Rattle.abort_expansion.specs.Expansion.{piece_of_region, superstates_in, variables_in, continuation, fork, monitor, watched, forked}
+use Rattle.abort_expansion.specs.Pieces.{superstates_in, variables_in}
+use Rattle.abort_expansion.specs.Superstates.{continuation, fork, monitor, watched, forked}
+use Rattle.abort_expansion.specs.Expansion.{piece_of_region}
 use Rattle.abort_expansion.proofs.Lists.{Each, each_append, each_more}
 use Rattle.abort_expansion.proofs.Taken.{IsTaken, AreFlags}
 use Rattle.abort_expansion.proofs.Leaving.{InText, state_keeps, continuation_keeps}

@@ -1,5 +1,7 @@
 pub mod Flags
 pub mod Transitions
+pub mod Pieces
+pub mod Superstates
 pub mod Expansion
 pub mod StateMap
 pub mod Answers

@@ -52,7 +52,8 @@ weak_checks immediate left around = flat_map (λ f. check immediate left f.weak)
 
 -- a transition to a final state counts down, as its last effect
 abbrev pub counting : Places → (target : ℕ) → List Effect → List Effect
-counting at target effects = if unwrap_or (slice_get at.finals target) false then effects ++ on at.counter count_down else effects
+counting at target effects =
+    if unwrap_or (slice_get at.finals target) false then effects ++ on at.counter count_down else effects
 
 abbrev pub place_of : Places → (target : ℕ) → ℕ
 place_of at target = unwrap_or (slice_get at.states target) 0

@@ -2,7 +2,8 @@
 
 ghost use Rattle.std.specs.Prelude.{◌≡◌, ◌+◌, ◌≤◌, ◌^◌, map, length, IfOk, MatchResult};
 ghost use Rattle.abort_expansion.specs.Answers.{IsExpansion, IsReason};
-ghost use Rattle.abort_expansion.specs.Expansion.{IsExpandable, expanded, piece_of_region, superstates_in, whole};
+ghost use Rattle.abort_expansion.specs.Pieces.{superstates_in};
+ghost use Rattle.abort_expansion.specs.Expansion.{IsExpandable, expanded, piece_of_region, whole};
 
 use crate::counting::regions_size;
 use crate::fault::ExpandFault;

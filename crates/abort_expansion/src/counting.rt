@@ -2,7 +2,8 @@
 
 ghost use Rattle.std.specs.Prelude.{◌≡◌, ◌+◌, ◌<◌, ◌^◌, ◌||◌, ◌&&◌, false, IfOk, map};
 ghost use Rattle.abort_expansion.specs.Flags.{weak_around};
-ghost use Rattle.abort_expansion.specs.Expansion.{piece_of_region, piece_of_state, superstates_in, variables_in, past_region, past_state, initial_number};
+ghost use Rattle.abort_expansion.specs.Pieces.{superstates_in, variables_in, past_region};
+ghost use Rattle.abort_expansion.specs.Expansion.{piece_of_region, piece_of_state, past_state, initial_number};
 
 use crate::flags::{Flags, flag_count, has_weak, weak_around};
 use crate::pieces::Numbers;

@@ -1,7 +1,7 @@
 //! What expansion makes of the pieces of a chart, and the numbers that come next.
 
 ghost use Rattle.std.specs.Prelude.{◌≡◌, OnOk};
-ghost use Rattle.abort_expansion.specs.Expansion.{beside, together};
+ghost use Rattle.abort_expansion.specs.Pieces.{beside, together};
 
 use core_charts::{Region, State};
 use sc_graph::Variable;

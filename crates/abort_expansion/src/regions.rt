@@ -3,7 +3,8 @@
 ghost use Rattle.std.specs.Prelude.{◌≡◌, ◌+◌, ◌∷◌, ◌++◌, [], IfOk, map, length};
 ghost use Rattle.core_charts.specs.declared.region.Region.TheViews.{out-State};
 ghost use Rattle.abort_expansion.specs.Flags.{one};
-ghost use Rattle.abort_expansion.specs.Expansion.{piece_of_region, piece_of_state, expanded_regions, expanded_states, inside_superstate, width, widths, places, region_places, begins_anew, initial_place, new_initial, left_behind, region_over, inside_region};
+ghost use Rattle.abort_expansion.specs.Pieces.{expanded_regions};
+ghost use Rattle.abort_expansion.specs.Expansion.{piece_of_region, piece_of_state, expanded_states, inside_superstate, width, widths, places, region_places, begins_anew, initial_place, new_initial, left_behind, region_over, inside_region};
 
 use crate::counting::initial_number;
 use crate::flags::{Flags, aborts_around, flag_count, flags_of, weak_around};
@@ -102,7 +103,8 @@ fn expanded_states(
     first: u32,
     at: Numbers,
 ) -> Result<States, AllocError>
-    ensures { IfOk result (λ made. made ≡ expanded_states anew (map piece_of_state states.now) around.now to.now first at) }
+    ensures { IfOk result (λ made. made
+        ≡ expanded_states anew (map piece_of_state states.now) around.now to.now first at) }
 {
     let mut here = at;
     let mut place = first;

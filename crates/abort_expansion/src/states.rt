@@ -3,7 +3,7 @@
 ghost use Rattle.std.specs.Prelude.{◌≡◌, ◌∷◌, ◌++◌, [], IfOk};
 ghost use Rattle.core_charts.specs.Standing.{terminations};
 ghost use Rattle.abort_expansion.specs.Transitions.{put, on};
-ghost use Rattle.abort_expansion.specs.Expansion.{simple, simple_transitions, preparation, abandoned, monitor, monitor_transitions, continuation, closing, joined_or_left, all_ended, fork};
+ghost use Rattle.abort_expansion.specs.Superstates.{simple, simple_transitions, resets, preparation, abandoned, monitor, monitor_transitions, continuation, closing, joined_or_left, all_ended, fork};
 
 use crate::checks::{Sort, answers, entry_aborts, raising, strong_checks, weak_checks};
 use crate::flags::{Flags, weak_around};
@@ -85,7 +85,7 @@ pub(crate) fn preparation(
 
 // The flags and the counter as they are where a superstate with so many regions is entered.
 fn resets(alloc: Global, flags: Flags, regions: u16) -> Result<Items<Effect>, AllocError>
-    ensures { IfOk result (λ made. made ≡ on flags.strong (λ x. put x 0) ++ on flags.weak (λ x. put x 0) ++ on flags.counter (λ x. put x regions)) }
+    ensures { IfOk result (λ made. made ≡ resets flags regions) }
 {
     let mut effects = Items::new(alloc);
     if let Some(variable) = flags.strong {

@@ -2,7 +2,7 @@
 
 ghost use Rattle.std.specs.Prelude.{◌≡◌, ◌+◌, ◌∷◌, [], Some, None, IfOk, if◌then◌else◌};
 ghost use Rattle.abort_expansion.specs.Flags.{has_aborts, declarations, local};
-ghost use Rattle.abort_expansion.specs.Expansion.{stays, is_prepared, as_it_is, prepared, forked, split, superstate_over, watched, monitor, continuation, fork};
+ghost use Rattle.abort_expansion.specs.Superstates.{stays, is_prepared, as_it_is, prepared, forked, split, superstate_over, watched, monitor, continuation, fork};
 
 use crate::flags::{Flags, aborts_around, counts, has_aborts, weak_around};
 use crate::making::alone;
@@ -232,7 +232,8 @@ pub(crate) fn superstate_over(
     begins: bool,
     at: Numbers,
 ) -> Result<States, AllocError>
-    ensures { IfOk result (λ made. made ≡ superstate_over name regions own.now around.now flags inside to.now place begins at) }
+    ensures { IfOk result (λ made. made
+        ≡ superstate_over name regions own.now around.now flags inside to.now place begins at) }
 {
     if stays(around, own) {
         as_it_is(alloc, name, own, inside, to, begins, at)

@@ -1,5 +1,6 @@
 use Rattle.std.proofs.Common.{◌≡◌, ◌+◌, map, drop}
-use Rattle.abort_expansion.specs.Expansion.{piece_of_region, piece_of_state, superstates_in, states_in, variables_in, superstates_among, states_among, variables_among}
+use Rattle.abort_expansion.specs.Pieces.{superstates_in, states_in, variables_in}
+use Rattle.abort_expansion.specs.Expansion.{piece_of_region, piece_of_state, superstates_among, states_among, variables_among}
 use Rattle.abort_expansion.proofs.counting.+counting.Given as goal
 
 abbrev pub invariant-region_size-loop-state : goal.invariant-region_size-loop-state

@@ -1,5 +1,6 @@
 use Rattle.std.proofs.Common.{◌≡◌, ◌+◌, ◌<◌, ◌^◌, false, map, drop}
-use Rattle.abort_expansion.specs.Expansion.{piece_of_region, superstates_in, variables_in}
+use Rattle.abort_expansion.specs.Pieces.{superstates_in, variables_in}
+use Rattle.abort_expansion.specs.Expansion.{piece_of_region}
 use Rattle.abort_expansion.proofs.counting.regions_size.Given as goal
 
 abbrev pub invariant-loop-region : goal.invariant-loop-region

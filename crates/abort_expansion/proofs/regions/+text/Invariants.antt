@@ -1,5 +1,6 @@
 use Rattle.std.proofs.Common.{◌≡◌, map, drop}
-use Rattle.abort_expansion.specs.Expansion.{piece_of_region, piece_of_state, beside, together, expanded_regions, expanded_states}
+use Rattle.abort_expansion.specs.Pieces.{beside, together, expanded_regions}
+use Rattle.abort_expansion.specs.Expansion.{piece_of_region, piece_of_state, expanded_states}
 use Rattle.abort_expansion.proofs.regions.+text.Given as goal
 
 abbrev pub invariant-expanded_regions-loop-region : goal.invariant-expanded_regions-loop-region

@@ -1,6 +1,6 @@
 use Rattle.std.proofs.Common.{◌≡◌, drop}
 use Rattle.core_charts.specs.Standing.{terminations}
-use Rattle.abort_expansion.specs.Expansion.{closing}
+use Rattle.abort_expansion.specs.Superstates.{closing}
 use Rattle.abort_expansion.proofs.states.closing.Given as goal
 
 abbrev pub invariant-loop-transition : goal.invariant-loop-transition
