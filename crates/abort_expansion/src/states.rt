@@ -1,8 +1,7 @@
 //! The states that expansion makes of a state, and abort monitors, without what is inside them.
 
-ghost use Rattle.std.specs.Prelude.{◌≡◌, ◌∷◌, ◌++◌, [], IfOk};
+ghost use Rattle.std.specs.Prelude.{◌≡◌, ◌∷◌, [], IfOk};
 ghost use Rattle.core_charts.specs.Standing.{terminations};
-ghost use Rattle.abort_expansion.specs.Transitions.{put, on};
 ghost use Rattle.abort_expansion.specs.Superstates.{simple, simple_transitions, resets, preparation, abandoned, monitor, monitor_transitions, continuation, closing, joined_or_left, all_ended, fork};
 
 use crate::checks::{Sort, answers, entry_aborts, raising, strong_checks, weak_checks};
