@@ -38,6 +38,7 @@ image_of_graph scl q image graph compiled =
     }
 
 pub graph_refused : (scl : Scl) (q : Program) (f : CompileFault) → IsGraph scl q → IsRefused q f → IsNotCompiled scl f
+graph_refused scl q (fault.Expansion f) graph refused = absurd refused
 graph_refused scl q (fault.Graph f) graph refused = absurd refused
 graph_refused scl q (fault.Conflict f) graph refused = record { program = q; graph = graph; refused = refused }
 graph_refused scl q (fault.Tables f) graph refused = record { program = q; graph = graph; refused = refused }

@@ -42,6 +42,7 @@ BreaksARule p refusal.Memory = Unit {0}
 
 -- why a program has no image: conflicts come before walks, and these before rules
 abbrev pub IsRefused : Program → CompileFault → Type 0
+IsRefused p (fault.Expansion f) = ⊥
 IsRefused p (fault.Graph f) = ⊥
 IsRefused p (fault.Conflict f) = Conflicts p f
 IsRefused p (fault.Tables f) = HasNoConflict p × HasAWalk p f

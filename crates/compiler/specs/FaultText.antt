@@ -1,6 +1,7 @@
 -- What is printed of a fault: its number, and the label, the nodes or the place that it names.
 use Rattle.std.specs.Prelude.{ℕ, List, ◌++◌, codes}
 use Rattle.std.specs.Fmt.{decimal}
+use Rattle.abort_expansion.specs.FaultText as expansions
 use Rattle.scl_graph.specs.declared.fault.GraphFault.{GraphFault}
 use Rattle.scl_graph.specs.declared.fault.GraphFault.TheVariants as graph
 use Rattle.conflict_edges.specs.declared.fault.ConflictFault.{ConflictFault}
@@ -22,6 +23,7 @@ conflict_text (conflict.WriteWrite m n) = codes "E11 " ++ (decimal m ++ (codes "
 conflict_text conflict.Memory = codes "E52"
 
 abbrev pub fault_text : CompileFault → List ℕ
+fault_text (fault.Expansion f) = expansions.fault_text f
 fault_text (fault.Graph f) = graph_text f
 fault_text (fault.Conflict f) = conflict_text f
 fault_text (fault.Tables f) = walks.fault_text f

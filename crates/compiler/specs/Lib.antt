@@ -1,3 +1,4 @@
 pub mod Compiled
-pub mod FaultText
 pub mod Texts
+pub mod Charts
+pub mod FaultText

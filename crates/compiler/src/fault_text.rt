@@ -14,6 +14,7 @@ impl fmt::Display for CompileFault {
 
     fn fmt<W: fmt::Write>(&self, f: &mut fmt::Formatter<W>) -> fmt::Result {
         match self {
+            CompileFault::Expansion(fault) => write!(f, "{fault}"),
             CompileFault::Graph(GraphFault::EmptyLoop(label)) => write!(f, "E14 {label}"),
             CompileFault::Graph(GraphFault::Limit) => write!(f, "E07 limit"),
             CompileFault::Graph(GraphFault::Memory) => write!(f, "E52"),

@@ -1,0 +1,40 @@
+-- What compiling a chart gives: the image of its SCL program, or why it has none.
+use Rattle.std.specs.Prelude.{◌≡◌}
+use Rattle.core_charts.specs.Chart.{Chart}
+use Rattle.abort_expansion.specs.Answers.{IsReason}
+use Rattle.abort_expansion.specs.Expansion.{IsExpandable, expanded}
+use Rattle.chart_lowering.specs.Lowering.{lowered}
+use Rattle.scl.specs.declared.program.Scl.{Scl}
+use Rattle.bytecode.specs.Image.{Image}
+use Rattle.compiler.specs.Texts.{IsImageOf, IsNotCompiled}
+use Rattle.compiler.specs.declared.fault.CompileFault.{CompileFault}
+use Rattle.compiler.specs.declared.fault.CompileFault.TheVariants as fault
+
+-- the SCL program of a chart: the lowering of its expansion
+pub record IsSclOf (chart : Chart) (scl : Scl) : Type 0 where
+  pub expandable : IsExpandable chart
+  pub named : scl.name ≡ (expanded chart).name
+  pub declared : scl.variables ≡ (expanded chart).variables
+  pub body : scl.body ≡ lowered (expanded chart)
+
+-- a chart has no SCL program, for this fault
+abbrev pub HasNoScl : Chart → CompileFault → Type 0
+HasNoScl chart (fault.Expansion f) = IsReason chart f
+HasNoScl chart other = ⊥
+
+-- the image is that of the SCL program of a chart
+pub record IsImageOfChart (chart : Chart) (image : Image) : Type 0 where
+  pub scl : Scl
+  pub lowers : IsSclOf chart scl
+  pub image_of : IsImageOf scl image
+
+-- the SCL program of a chart has no image, for this fault
+pub record LacksImage (chart : Chart) (f : CompileFault) : Type 0 where
+  pub scl : Scl
+  pub lowers : IsSclOf chart scl
+  pub refused : IsNotCompiled scl f
+
+-- why a chart has no image: that it has no SCL program comes before what that lacks
+abbrev pub IsChartNotCompiled : Chart → CompileFault → Type 0
+IsChartNotCompiled chart (fault.Expansion f) = IsReason chart f
+IsChartNotCompiled chart other = LacksImage chart other
