@@ -19,7 +19,7 @@ TEXTS = {
         "x = ^2147483648;", "x = ^" + "9" * 1000, "scl ^" + "n" * 65, "^" + "n" * 65 + " $", ") ( ^2147483648",
     ],
     "E02": [
-        "^", " // nothing ^", "scl^", "scl P { ^", "^chart P { }", "scl ^goto { }", "scl P { } ^}", "scl P { } ^scl",
+        "^", " // nothing ^", "scl^", "scl P { ^", "^region P { }", "scl ^goto { }", "scl P { } ^}", "scl P { } ^scl",
         HEAD + "goto L ^} ", HEAD + "pause ^} ", HEAD + "fork { } ^} ", HEAD + "fork { } join ^} ",
         "scl P { input ^x; }", "scl P { input int ^; }", "scl P { input int x ^} ", "^-> scl",
         "scl P { z = 1; goto L; ^1 }", HEAD + "n = 1; n = 1; ^)",

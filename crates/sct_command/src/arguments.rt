@@ -14,9 +14,9 @@ pub enum Request<'a> {
     Check(&'a str),
     /// Run the image in this file.
     Run(&'a str),
-    /// Write the image of the SCL text in the first file to the second.
+    /// Write the image of the chart or SCL text in the first file to the second.
     Compile(&'a str, &'a str),
-    /// Print the SCL text in this file.
+    /// Print the SCL text in this file, or that of the chart in it.
     Print(&'a str),
     /// Write the image in the first file to the second, in version 2 of the layout.
     Migrate(&'a str, &'a str),
@@ -76,16 +76,16 @@ fn migrate_command<'a>(alloc: Global) -> Result<Command<'a>, AllocError> {
 fn compile_command<'a>(alloc: Global) -> Result<Command<'a>, AllocError> {
     let image = file_name(alloc, "image", "IMAGE", "The file that is written");
     Command::new(alloc, "compile")
-        .about("Compiles an SCL text to an image")
-        .arg(file_name(alloc, "file", "FILE", "The file of the text"))?
+        .about("Compiles a chart or an SCL text to an image")
+        .arg(file_name(alloc, "file", "FILE", "The file of the chart or SCL text"))?
         .arg(image)
 }
 
 // The command that prints a text.
 fn scl_command<'a>(alloc: Global) -> Result<Command<'a>, AllocError> {
-    let file = file_name(alloc, "file", "FILE", "The file of the text");
+    let file = file_name(alloc, "file", "FILE", "The file of the chart or SCL text");
     Command::new(alloc, "scl")
-        .about("Prints an SCL text in its layout")
+        .about("Prints an SCL text, or that of a chart, in its layout")
         .arg(file)
 }
 

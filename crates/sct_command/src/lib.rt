@@ -1,5 +1,5 @@
-//! What the program `sct` does, over its words, files and streams: it compiles and prints SCL text, checks
-//! images, runs them, and writes them anew.
+//! What the program `sct` does, over its words, files and streams: it compiles charts and SCL text and prints
+//! their SCL, checks images, runs them, and writes them anew.
 #![tactic(auto)]
 
 mod arguments;

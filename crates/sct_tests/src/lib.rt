@@ -14,6 +14,8 @@ mod outcomes;
 #[cfg(test)]
 mod playing;
 #[cfg(test)]
+mod sources;
+#[cfg(test)]
 mod streams;
 #[cfg(test)]
 mod words;

@@ -42,8 +42,8 @@ const HELP: &str = "Compiles SCCharts to images, checks images and runs them
 Usage: sct <COMMAND>
 
 Commands:
-  compile  Compiles an SCL text to an image
-  scl      Prints an SCL text in its layout
+  compile  Compiles a chart or an SCL text to an image
+  scl      Prints an SCL text, or that of a chart, in its layout
   check    Decodes and verifies an image
   run      Plays standard input to standard output, a tick for each line
   migrate  Writes an image in version 2 of the layout
