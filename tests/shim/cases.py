@@ -121,7 +121,7 @@ def refused(program):
              Case("no text", ["compile", "source", "new"], {}), Case("no text to print", ["scl", "source"], {}),
              Case("no folder", ["migrate", "image", "nowhere/new"], {"image": image}),
              Case("a cut image", ["check", "image"], {"image": image[:100]}),
-             Case("a bad field", ["check", "image"], {"image": image[:42] + b"\x09" + image[43:]}),
+             Case("a bad field", ["check", "image"], {"image": image[:7] + b"\x09" + image[8:]}),
              Case("an image that is not valid", ["check", "image"], {"image": image[:-4] + b"\x06\0\0\0"}),
              Case("bytes that are no text", ["scl", "source"], {"source": b"scl P { } // \xff"})]
     for name, last in (("no object", b"[]"), ("no input", b'{"x":1}'), ("no JSON", b'{"A":' + b"[" * 200), ("no end", b"{")):

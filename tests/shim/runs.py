@@ -13,7 +13,7 @@ import tempfile
 from typing import NamedTuple
 
 KINDS = ["memory", "thread", "input", "output", "errors", "open", "load", "store", "seek", "close", "rename", "unlink"]
-FIELDS = struct.Struct(f"<{5 + 2 * len(KINDS)}q")
+FIELDS = struct.Struct(f"<{6 + 2 * len(KINDS)}q")
 PLAN_BYTES = 512
 HERE = os.path.dirname(os.path.realpath(__file__))
 TOP = os.path.dirname(os.path.dirname(HERE))
@@ -58,7 +58,7 @@ class Left(NamedTuple):
     peak: int
     live: int
     started: int
-    joined: int
+    ended: int
     met: dict
     failed: dict
 
@@ -126,10 +126,10 @@ class Served:
         data = os.read(self.answers, FIELDS.size)
         if len(data) != FIELDS.size:
             raise SystemExit(f"the run of {self.words} by {plan!r} cannot be had: {self.process.wait()}\n0 passed, 1 failed")
-        status, peak, live, started, joined, *counts = FIELDS.unpack(data)
+        status, peak, live, started, joined, ended, *counts = FIELDS.unpack(data)
         found = self.found() if with_files else {}
         left = Left(os.waitstatus_to_exitcode(status), self.get("output"), self.get("errors"), found, peak, live, started,
-                    joined, dict(zip(KINDS, counts)), dict(zip(KINDS, counts[len(KINDS):])))
+                    max(joined, ended), dict(zip(KINDS, counts)), dict(zip(KINDS, counts[len(KINDS):])))
         if with_files:
             self.restore()
         return left

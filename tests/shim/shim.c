@@ -16,7 +16,8 @@
  * files, it serves: it stands before its main, reads plans from IN, 512 bytes each with 0 behind the text, and for each
  * forks a run of main, over the files input, output and errors of its folder. Then it writes to OUT what the run left: its
  * status as waitpid tells it, its peak memory in KiB, the blocks of memory that it had not given back when it exited, its
- * threads that were started and those that were joined, and for each kind how many calls were met and how many the plan
+ * threads that were started, those that were joined and those that ended, and for each kind how many calls were met and how
+ * many the plan
  * made fail: signed numbers of 64 bits. */
 #define _GNU_SOURCE
 #include <dlfcn.h>
@@ -51,7 +52,7 @@ struct plan {
 /* What a run leaves. It lies in memory that the run shares with the one who forked it. */
 struct left {
   int64_t status, peak;
-  _Atomic int64_t live, started, joined, met[KINDS], failed[KINDS];
+  _Atomic int64_t live, started, joined, ended, met[KINDS], failed[KINDS];
 };
 
 enum { PLAN_BYTES = 512, PATIENCE = 60, WORDS = 4 };
@@ -137,15 +138,34 @@ void *mmap(void *at, size_t size, int protection, int flags, int file, off_t fro
 
 /* ---- threads */
 
+struct body {
+  void *(*body)(void *), *given;
+};
+
+static void *run_body(void *boxed) {
+  struct body own = *(struct body *)boxed;
+  void *result;
+  __libc_free(boxed);
+  result = own.body(own.given);
+  atomic_fetch_add(&left->ended, 1);
+  return result;
+}
+
 int pthread_create(pthread_t *thread, const pthread_attr_t *how, void *(*body)(void *), void *given) {
   static int (*real)(pthread_t *, const pthread_attr_t *, void *(*)(void *), void *);
+  struct body *boxed;
   int error;
   if (met(THREAD))
     return errno;
   if (!real)
     *(void **)&real = dlsym(RTLD_NEXT, "pthread_create");
-  if (!(error = real(thread, how, body, given)))
+  if (!(boxed = __libc_malloc(sizeof *boxed)))
+    return EAGAIN;
+  *boxed = (struct body){body, given};
+  if (!(error = real(thread, how, run_body, boxed)))
     atomic_fetch_add(&left->started, 1);
+  else
+    __libc_free(boxed);
   return error;
 }
 
