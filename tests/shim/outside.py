@@ -237,21 +237,21 @@ def growing(at):
 
     def grow():
         with open(at.path("growing"), "ab") as file:
-            while not done.is_set() and file.tell() < 1 << 23:
+            while not done.is_set() and file.tell() < 1 << 20:
                 file.write(at.image)
                 file.flush()
     at.put("growing", at.image)
     grower = threading.Thread(target=grow)
     grower.start()
-    for turn in range(20):
+    for turn in range(10):
         at.expect(f"an image that grows, turn {turn}", at.call(["check", "growing"]), (1, b"", b"sct: E24\n"),
                   (0, SUMMARY, b""))
     done.set()
     grower.join()
     os.remove(at.path("growing"))
     for words in ["check", "/dev/zero"], ["compile", "/dev/zero", "new"]:
-        answer = at.call(words, preexec_fn=bounding(resource.RLIMIT_AS, 1 << 28))
-        at.expect(f"{words[0]} of a file without end, in 256 MiB", answer, (1, b"", b"sct: E52\n"))
+        answer = at.call(words, preexec_fn=bounding(resource.RLIMIT_AS, 1 << 26))
+        at.expect(f"{words[0]} of a file without end, in 64 MiB", answer, (1, b"", b"sct: E52\n"))
     os.mkfifo(at.path("queue"))
     feeder = threading.Thread(target=lambda: at.put("queue", at.image))
     feeder.start()

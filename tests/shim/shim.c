@@ -16,9 +16,8 @@
  * files, it serves: it stands before its main, reads plans from IN, 512 bytes each with 0 behind the text, and for each
  * forks a run of main, over the files input, output and errors of its folder. Then it writes to OUT what the run left: its
  * status as waitpid tells it, its peak memory in KiB, the blocks of memory that it had not given back when it exited, its
- * threads that were started, those that were joined and those that ended, and for each kind how many calls were met and how
- * many the plan
- * made fail: signed numbers of 64 bits. */
+ * threads that were started, that were joined and that ended, and for each kind how many calls were met and how many the
+ * plan made fail: signed numbers of 64 bits. */
 #define _GNU_SOURCE
 #include <dlfcn.h>
 #include <errno.h>
