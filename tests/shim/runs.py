@@ -1,7 +1,7 @@
 """Runs of the program under the shim (shim.c), and what they left.
 
 A `Served` is the program with its words in a folder of its own, standing before its main: each run of it is a fork, so
-that a run costs a third of a millisecond. A run has 60 seconds; one that takes longer ends by the signal 14.
+that it is loaded once. A run has 60 seconds; one that takes longer ends by the signal 14.
 """
 import os
 import shutil
