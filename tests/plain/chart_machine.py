@@ -219,8 +219,8 @@ class ChartMachine:
             self.step(r)
         return run
 
-    def tick(self, inputs):
-        """Plays one tick; how many steps it took."""
+    def begin(self, inputs):
+        """Begins a tick."""
         for x, v in enumerate(self.chart.variables):
             if v.role == "input":
                 self.values[x] = inputs.get(v.name, False if v.kind == "bool" else 0)
@@ -230,6 +230,10 @@ class ChartMachine:
         else:
             for r in self.regions:
                 self.wake(r)
+
+    def tick(self, inputs):
+        """Plays one tick; how many steps it took."""
+        self.begin(inputs)
         return len(self.play())
 
     def active(self):

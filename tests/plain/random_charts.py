@@ -98,6 +98,6 @@ class ChartGenerator(Generator):
         return State(name, is_initial, False, regions, [self.transition(kind, at, count) for kind in kinds])
 
 
-def random_chart(seed, size, is_flat):
+def random_chart(seed, size, is_flat, depth=3):
     generator = ChartGenerator(seed, size, is_flat)
-    return Chart("C", VARIABLES, generator.regions(3, False, generator.random.choice([1, 2, 2, 3])))
+    return Chart("C", VARIABLES, generator.regions(depth, False, generator.random.choice([1, 2, 2, 3])))
