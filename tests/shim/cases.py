@@ -27,6 +27,16 @@ def bytes_of(*parts):
         return file.read()
 
 
+TEXTS = (".chart", ".scl")
+
+
+def texts(folder):
+    """The charts and SCL texts of a folder, each with its name and its bytes."""
+    for name in sorted(os.listdir(os.path.join(TOP, folder))):
+        if name.endswith(TEXTS):
+            yield name, bytes_of(folder, name)
+
+
 def stems(folder, ending):
     return sorted(name[:-len(ending)] for name in os.listdir(os.path.join(TOP, folder)) if name.endswith(ending))
 
@@ -73,9 +83,8 @@ def examples(program, count=0):
     """The examples of the repository, and so many random programs that have an image."""
     found = [Example(stem, bytes_of("examples", stem + ".image"), bytes_of("examples", stem + ".ticks"))
              for stem in stems("examples", ".image")]
-    for stem in stems("examples", ".scl"):
-        text = bytes_of("examples", stem + ".scl")
-        found.append(Example(stem, compiled(program, text), bytes_of("examples", stem + ".ticks"), text))
+    for name, text in texts("examples"):
+        found.append(Example(name, compiled(program, text), bytes_of("examples", os.path.splitext(name)[0] + ".ticks"), text))
     seed = 0
     while count:
         seed += 1
@@ -114,7 +123,7 @@ def over_examples(program, count):
 def refused(program):
     """Commands that are refused, or ask for nothing."""
     image = bytes_of("examples", "two_threads.image")
-    found = [Case("help", ["--help"], {}), Case("help of run", ["run", "--help"], {}), Case("no words", [], {}),
+    found = [Case("help", ["--help"], {}), Case("version", ["--version"], {}), Case("help of run", ["run", "--help"], {}), Case("no words", [], {}),
              Case("an unknown command", ["frob"], {}), Case("no operand", ["run"], {}),
              Case("two operands", ["check", "a", "b"], {}), Case("an unknown option", ["run", "image", "--frob"], {}),
              Case("no image", ["check", "image"], {}), Case("no image to run", ["run", "image"], {}),
@@ -126,9 +135,8 @@ def refused(program):
              Case("bytes that are no text", ["scl", "source"], {"source": b"scl P { } // \xff"})]
     for name, last in (("no object", b"[]"), ("no input", b'{"x":1}'), ("no JSON", b'{"A":' + b"[" * 200), ("no end", b"{")):
         found.append(Case(f"a line that is {name}", ["run", "image"], {"image": image}, b"{}\n" + last + b"\n{}\n"))
-    for stem in stems("examples/refused", ".scl"):
-        files = {"source": bytes_of("examples", "refused", stem + ".scl")}
-        found += writes(f"compile {stem}", ["compile", "source", "new"], files, "new")
+    for name, text in texts("examples/refused"):
+        found += writes(f"compile {name}", ["compile", "source", "new"], {"source": text}, "new")
     return found
 
 
