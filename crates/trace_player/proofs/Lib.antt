@@ -1,3 +1,4 @@
+pub mod Coming
 pub mod OneTrace
 pub mod Playing
 pub mod Splits

@@ -1,5 +1,5 @@
 -- How a trace grows, line by line.
-use Rattle.std.proofs.Common.{◌≡◌, ℕ, min, Option, Some, None, option_map, List, [], ◌∷◌, ◌++◌, length, refl, ap, sym, ◌∙◌, subst, arith, append_assoc, append-nil, length-append, inl}
+use Rattle.std.proofs.Common.{◌≡◌, ℕ, min, Option, Some, None, option_map, Result, Err, List, [], ◌∷◌, ◌++◌, length, refl, ap, sym, ◌∙◌, subst, arith, append_assoc, append-nil, length-append, inl}
 use Rattle.std.specs.List.{concat}
 use Rattle.std.specs.Io.KnownBytes.{Appends, IsAtEnd}
 use Rattle.std.proofs.lemmas.List.Folds.{concat-append}
@@ -7,6 +7,7 @@ use Rattle.std.proofs.KnownBytes.{Appends-nil, Appends-trans, prepend_known-nil}
 use Rattle.sc_values.specs.Streams.{GrowsInto}
 use Rattle.sc_graph.specs.declared.control.Control.{Control}
 use Rattle.sc_graph.specs.Tick.{initial}
+use Rattle.sc_graph.specs.Program.{Program}
 use Rattle.bytecode.specs.Image.{Image}
 use Rattle.trace_lines.specs.declared.lines.LinesFault.{LinesFault}
 use Rattle.trace_lines.specs.declared.lines.LinesFault.TheVariants as lines_fault
@@ -174,3 +175,21 @@ pub unread_no_write : (f : LinesFault) (k : ℕ) → ¬ (unread f k ≡ play_fau
 unread_no_write lines_fault.Memory k told = cc
 unread_no_write lines_fault.Read k told = cc
 unread_no_write lines_fault.TooLong k told = cc
+
+-- a fault of one line is none of a stream
+pub tells_no_read : (p : Program) (k : ℕ) (line : List ℕ) (f : PlayFault) → Tells p k line f → ¬ (f ≡ play_fault.Read)
+tells_no_read p k line (play_fault.Input n) tells is = cc
+tells_no_read p k line play_fault.Memory tells is = cc
+tells_no_read p k line play_fault.Read tells is = tells
+tells_no_read p k line (play_fault.NotJson n) tells is = cc
+tells_no_read p k line play_fault.Write tells is = cc
+
+pub tells_no_write : (p : Program) (k : ℕ) (line : List ℕ) (f : PlayFault) → Tells p k line f → ¬ (f ≡ play_fault.Write)
+tells_no_write p k line (play_fault.Input n) tells is = cc
+tells_no_write p k line play_fault.Memory tells is = cc
+tells_no_write p k line play_fault.Read tells is = cc
+tells_no_write p k line (play_fault.NotJson n) tells is = cc
+tells_no_write p k line play_fault.Write tells is = tells
+
+pub one_fault : {T : Type 0} (r : Result T LinesFault) (f k : LinesFault) → r ≡ Err f → r ≡ Err k → f ≡ k
+one_fault r f k is is' = cc (is, is')

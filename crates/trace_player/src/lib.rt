@@ -2,8 +2,12 @@
 #![tactic(auto)]
 
 mod fault_text;
+mod hosting;
 mod laws;
 mod player;
+mod ports;
+mod shift;
+mod turns;
 
 pub use laws::one_trace;
 pub use player::{PlayFault, play};
