@@ -7,7 +7,10 @@ use sc_values::{Failures, OfRead, OfWrite};
 use sct_command::{HostFiles, MISUSED, REFUSED, command};
 use std::marker::Brand;
 use std::process::ExitCode;
+use std::rt::{Files, Stderr, Stdin, Stdout};
+use std::sync::Wait;
 use std::sync::ledger::{Blank, Ledger};
+use std::thread::Threads;
 use std::{env, io};
 
 // The words after the program's name.
@@ -32,24 +35,34 @@ fn without_words(rt: &HostRuntime, error: &io::Error) -> u8
     }
 }
 
-// The command over the system's files and streams. The blanks are for the counts of failures.
-fn serve<L: Ledger, M: Ledger, N: Ledger>(
-    rt: &HostRuntime,
-    words: &[String],
+// The system's streams, and the blanks for the counts of their failures.
+#[derive(Drop)]
+struct Streams {
+    input: Stdin,
+    output: Stdout,
+    errors: Stderr,
     read: Blank,
     written: Blank,
     reported: Blank,
+}
+
+// The command over the system's files and streams.
+fn serve<R: Files + AllocGlobal + Threads + Wait + Sync, L: Ledger, M: Ledger, N: Ledger>(
+    rt: &R,
+    words: &[String],
+    streams: Streams,
 ) -> u8
-    requires read { (read.name ≡ L.name) × (read.parts ≡ L.parts) × (0 < L.parts) }
-    requires written { (written.name ≡ M.name) × (written.parts ≡ M.parts) × (0 < M.parts) }
-    requires reported { (reported.name ≡ N.name) × (reported.parts ≡ N.parts) × (0 < N.parts) }
+    requires read { (streams.read.name ≡ L.name) × (streams.read.parts ≡ L.parts) × (0 < L.parts) }
+    requires written { (streams.written.name ≡ M.name) × (streams.written.parts ≡ M.parts) × (0 < M.parts) }
+    requires reported { (streams.reported.name ≡ N.name) × (streams.reported.parts ≡ N.parts) × (0 < N.parts) }
     ensures { result ≤ MISUSED }
 {
     let mut files = HostFiles::new(rt);
-    let mut input: OfRead<_, L> = OfRead::new(rt.stdin(), Failures::none(read));
-    let mut output: OfWrite<_, M> = OfWrite::new(rt.stdout(), Failures::none(written));
-    let mut errors: OfWrite<_, N> = OfWrite::new(rt.stderr(), Failures::none(reported));
+    let mut input: OfRead<_, L> = OfRead::new(streams.input, Failures::none(streams.read));
+    let mut output: OfWrite<_, M> = OfWrite::new(streams.output, Failures::none(streams.written));
+    let mut errors: OfWrite<_, N> = OfWrite::new(streams.errors, Failures::none(streams.reported));
     command(
+        rt,
         rt.alloc(),
         words,
         &mut files,
@@ -61,13 +74,17 @@ fn serve<L: Ledger, M: Ledger, N: Ledger>(
 
 fn main(rt: HostRuntime) -> ExitCode {
     let status = match words_of(&rt) {
-        Ok(words) => serve::<Brand, Brand, Brand>(
-            &rt,
-            &words,
-            Blank::new(1),
-            Blank::new(1),
-            Blank::new(1),
-        ),
+        Ok(words) => {
+            let streams = Streams {
+                input: rt.stdin(),
+                output: rt.stdout(),
+                errors: rt.stderr(),
+                read: Blank::new(1),
+                written: Blank::new(1),
+                reported: Blank::new(1),
+            };
+            serve::<_, Brand, Brand, Brand>(&rt, &words, streams)
+        }
         Err(error) => without_words(&rt, &error),
     };
     ExitCode::from(status)

@@ -63,7 +63,7 @@ pub record WritesText (old new : Option (List ℕ)) : Type 0 where
 abbrev pub Does : Option Contents → Option Contents → Option Request → Option (List ℕ) → Option (List ℕ)
     → Option (List ℕ) → Type 0
 Does files files' (Some (Check name)) input old new = SumsUp files name old new
-Does files files' (Some (Run name)) input old new = PlaysWhole files name input old new
+Does files files' (Some (Run name workers)) input old new = PlaysWhole files name input old new
 Does files files' (Some (Compile from to)) input old new = Compiles files files' from to old new
 Does files files' (Some (Print name)) input old new = PrintsText files name old new
 Does files files' (Some (Migrate from to)) input old new = Migrates files files' from to old new
@@ -145,7 +145,7 @@ RefusesHelp old new other = ⊥
 abbrev pub Refuses : Option Contents → Option Contents → Option Request → Option (List ℕ) → Option (List ℕ)
     → Option (List ℕ) → Fault → Type 0
 Refuses files files' (Some (Check name)) input old new f = RefusesCheck files name old new f
-Refuses files files' (Some (Run name)) input old new f = RefusesRun files name input old new f
+Refuses files files' (Some (Run name workers)) input old new f = RefusesRun files name input old new f
 Refuses files files' (Some (Compile from to)) input old new f = RefusesCompile files files' from to old new f
 Refuses files files' (Some (Print name)) input old new f = RefusesPrinting files name old new f
 Refuses files files' (Some (Migrate from to)) input old new f = RefusesMigration files files' from to old new f

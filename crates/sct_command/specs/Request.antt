@@ -1,15 +1,15 @@
 -- What the words of a command ask for.
-use Rattle.std.specs.Prelude.{ℕ, Bool, false, ◌==◌, if◌then◌else◌, codes, Option, Some, None, List, [], ◌∷◌}
+use Rattle.std.specs.Prelude.{ℕ, Bool, false, ◌==◌, ◌-◌, ◌||◌, nat_lt, if◌then◌else◌, codes, Option, Some, None, option_map, List, [], ◌∷◌, take, drop}
 use Rattle.std.specs.List.{list_any}
 use Rattle.std.specs.Option.{option_and_then}
 use Rattle.std.specs.Str.{bytes_eq}
 use Rattle.sct_command.specs.declared.arguments.Request.{Request as Words}
 use Rattle.sct_command.specs.declared.arguments.Request.TheVariants as words
 
--- a request, with the name of a file or of two
+-- a request, with the name of a file or of two; a run by so many workers
 pub data Request : Type 0 where
   Check : (name : List ℕ) → Request
-  Run : (name : List ℕ) → Request
+  Run : (name : List ℕ) (workers : ℕ) → Request
   Compile : (from to : List ℕ) → Request
   Print : (name : List ℕ) → Request
   Migrate : (from to : List ℕ) → Request
@@ -17,7 +17,7 @@ pub data Request : Type 0 where
 -- a request whose name is text
 abbrev pub seen : Words → Request
 seen (words.Check name) = Check name.now
-seen (words.Run name) = Run name.now
+seen (words.Run name workers) = Run name.now workers.number
 seen (words.Compile from to) = Compile from.now to.now
 seen (words.Print name) = Print name.now
 seen (words.Migrate from to) = Migrate from.now to.now
@@ -38,11 +38,61 @@ operands (word ∷ words) =
     else if list_any is_option (word ∷ words) then None
     else Some (word ∷ words)
 
--- what a verb asks for with these operands
+-- how many workers a run has where it does not say
+abbrev pub usual_workers : ℕ
+usual_workers = 2
+
+-- how many workers a word names: a digit from 1 to 8
+abbrev pub workers_named : List ℕ → Option ℕ
+workers_named (digit ∷ []) = if nat_lt digit 49 || nat_lt 56 digit then None else Some (digit - 48)
+workers_named word = None
+
+-- how many workers `--workers=N` says
+abbrev pub workers_in : List ℕ → Option ℕ
+workers_in word = if bytes_eq (take 10 word) (codes "--workers=") then workers_named (drop 10 word) else None
+
+-- the number of workers that stands first, and the words behind it
+abbrev pub number_first : List (List ℕ) → Option (ℕ × List (List ℕ))
+number_first [] = None
+number_first (word ∷ words) = option_map (λ n. (n, words)) (workers_named word)
+
+-- how many workers the first words say, by `--workers N` or `--workers=N`, and the words behind them
+abbrev pub workers_first : List (List ℕ) → Option (ℕ × List (List ℕ))
+workers_first [] = None
+workers_first (word ∷ words) =
+    if bytes_eq word (codes "--workers") then number_first words else option_map (λ n. (n, words)) (workers_in word)
+
+-- a run of the one file among these operands
+abbrev pub run_over : ℕ → List (List ℕ) → Option Request
+run_over workers (name ∷ []) = Some (Run name workers)
+run_over workers operands = None
+
+abbrev pub run_by : ℕ → List (List ℕ) → Option Request
+run_by workers words = option_and_then (run_over workers) (operands words)
+
+-- a run of a file whose name stands first, where these are the workers behind it
+abbrev pub run_ending : List ℕ → List (List ℕ) → Option (ℕ × List (List ℕ)) → Option Request
+run_ending name words (Some (workers, [])) = Some (Run name workers)
+run_ending name words other = run_by usual_workers (name ∷ words)
+
+-- a run whose words do not begin with the workers
+abbrev pub run_behind : List (List ℕ) → Option Request
+run_behind [] = None
+run_behind (name ∷ words) =
+    if is_option name then run_by usual_workers (name ∷ words) else run_ending name words (workers_first words)
+
+-- what a run asks for with the words behind its verb: workers in front of the file's name, or behind it, or nowhere
+abbrev pub run_from : List (List ℕ) → Option (ℕ × List (List ℕ)) → Option Request
+run_from words (Some (workers, rest)) = run_by workers rest
+run_from words None = run_behind words
+
+abbrev pub run_of : List (List ℕ) → Option Request
+run_of words = run_from words (workers_first words)
+
+-- what another verb asks for with these operands
 abbrev pub asked : List ℕ → List (List ℕ) → Option Request
 asked verb (name ∷ []) =
     if bytes_eq verb (codes "check") then Some (Check name)
-    else if bytes_eq verb (codes "run") then Some (Run name)
     else if bytes_eq verb (codes "scl") then Some (Print name)
     else None
 asked verb (from ∷ to ∷ []) =
@@ -54,11 +104,11 @@ asked verb operands = None
 -- the request of the words behind the program's name
 abbrev pub request_of : List (List ℕ) → Option Request
 request_of [] = None
-request_of (verb ∷ words) = option_and_then (asked verb) (operands words)
+request_of (verb ∷ words) = if bytes_eq verb (codes "run") then run_of words else option_and_then (asked verb) (operands words)
 
 -- a run is asked for, which alone reads the input
 abbrev pub IsRun : Option Request → Type 0
-IsRun (Some (Run name)) = Unit {0}
+IsRun (Some (Run name workers)) = Unit {0}
 IsRun request = ⊥
 
 -- an image is asked for, by compiling or by migration, which alone write a file

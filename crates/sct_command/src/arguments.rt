@@ -3,6 +3,9 @@ ghost use Rattle.std.specs.List.{list_any};
 ghost use Rattle.sct_command.specs.Request.{seen, is_option, operands, asked, request_of};
 ghost use Rattle.sct_command.specs.declared.arguments.Unread.TheVariants.{Memory};
 
+use crate::run_words::run_of;
+use crate::workers::Workers;
+use clap::builder::ValueParser;
 use clap::error::ErrorKind;
 use clap::{Arg, ArgAction, Command, Error};
 use std::alloc::{AllocError, Global};
@@ -12,8 +15,8 @@ use std::alloc::{AllocError, Global};
 pub enum Request<'a> {
     /// Check the image in this file.
     Check(&'a str),
-    /// Run the image in this file.
-    Run(&'a str),
+    /// Run the image in this file by so many workers.
+    Run(&'a str, Workers),
     /// Write the image of the chart or SCL text in the first file to the second.
     Compile(&'a str, &'a str),
     /// Print the SCL text in this file, or that of the chart in it.
@@ -57,6 +60,20 @@ fn file_name<'a>(alloc: Global, name: &'a str, shown: &'a str, about: &'a str) -
         .action(ArgAction::Set)
 }
 
+// The command that plays.
+fn run_command<'a>(alloc: Global) -> Result<Command<'a>, AllocError> {
+    let workers = Arg::new(alloc, "workers")
+        .long("workers")
+        .value_name("N")
+        .help("How many threads serve, from 1 to 8: the trace is the same for each")
+        .value_parser(ValueParser::unsigned(1, 8))
+        .default_value("2");
+    Command::new(alloc, "run")
+        .about("Plays standard input to standard output, a tick for each line")
+        .arg(file_name(alloc, "image", "IMAGE", "The file of the image"))?
+        .arg(workers)
+}
+
 // The command over two files.
 fn migrate_command<'a>(alloc: Global) -> Result<Command<'a>, AllocError> {
     let old = file_name(
@@ -91,13 +108,9 @@ fn scl_command<'a>(alloc: Global) -> Result<Command<'a>, AllocError> {
 
 fn sct_command<'a>(alloc: Global) -> Result<Command<'a>, AllocError> {
     let check = over_image(alloc, "check", "Decodes and verifies an image")?;
-    let run = over_image(
-        alloc,
-        "run",
-        "Plays standard input to standard output, a tick for each line",
-    )?;
     Command::new(alloc, "sct")
         .bin_name("sct")?
+        .version("0.1.0")
         .about("Compiles SCCharts to images, checks images and runs them")
         .no_binary_name(true)
         .subcommand_required(true)
@@ -107,7 +120,7 @@ fn sct_command<'a>(alloc: Global) -> Result<Command<'a>, AllocError> {
         .subcommand(compile_command(alloc)?)?
         .subcommand(scl_command(alloc)?)?
         .subcommand(check)?
-        .subcommand(run)?
+        .subcommand(run_command(alloc)?)?
         .subcommand(migrate_command(alloc)?)
 }
 
@@ -124,8 +137,8 @@ fn shown(alloc: Global, error: &Error) -> Unread {
     }
 }
 
-// Whether a word is an option: a hyphen and more.
-fn is_option(word: &String) -> bool
+/// Whether a word is an option: a hyphen and more.
+pub(crate) fn is_option(word: &String) -> bool
     ensures { result ≡ is_option (string_bytes word.now) }
 {
     match word.as_bytes() {
@@ -140,8 +153,8 @@ fn has_option(words: &[String]) -> bool
     words.iter().any(is_option)
 }
 
-// The words behind the verb: all, where none is an option, or those behind a `--`.
-fn operands(words: &[String]) -> Option<&[String]>
+/// The words behind the verb: all, where none is an option, or those behind a `--`.
+pub(crate) fn operands(words: &[String]) -> Option<&[String]>
     ensures { option_map (λ s. map string_bytes s.now) result ≡ operands (map string_bytes words.now) }
 {
     let Some((first, rest)) = words.split_first() else {
@@ -156,13 +169,12 @@ fn operands(words: &[String]) -> Option<&[String]>
     }
 }
 
-// What a verb asks for with these operands.
+// What another verb than `run` asks for with these operands.
 fn asked<'a>(verb: &str, operands: &'a [String]) -> Option<Request<'a>>
     ensures { option_map seen result ≡ asked verb.now (map string_bytes operands.now) }
 {
     match operands {
         [name] if verb == "check" => Some(Request::Check(name.as_str())),
-        [name] if verb == "run" => Some(Request::Run(name.as_str())),
         [name] if verb == "scl" => Some(Request::Print(name.as_str())),
         [from, to] if verb == "compile" => Some(Request::Compile(from.as_str(), to.as_str())),
         [from, to] if verb == "migrate" => Some(Request::Migrate(from.as_str(), to.as_str())),
@@ -175,7 +187,11 @@ fn request_of<'a>(words: &'a [String]) -> Option<Request<'a>>
     ensures { option_map seen result ≡ request_of (map string_bytes words.now) }
 {
     let (verb, words) = words.split_first()?;
-    asked(verb.as_str(), operands(words)?)
+    if verb.as_str() == "run" {
+        run_of(words)
+    } else {
+        asked(verb.as_str(), operands(words)?)
+    }
 }
 
 // What is shown for words that ask for nothing.

@@ -13,9 +13,13 @@ use crate::fault::Fault;
 use crate::files::Files;
 use crate::migrate::migrate;
 use crate::print::print_text;
+use crate::workers::Workers;
 use sc_values::{Sink, Source, write_all};
 use std::alloc::{AllocError, Global};
+use std::sync::Wait;
+use std::thread::Threads;
 use trace_player::play;
+use worker_pool::NoGate;
 
 /// The status of a command that was done.
 pub const DONE: u8 = 0;
@@ -48,9 +52,11 @@ fn check<F: Files, W: Sink>(
     }
 }
 
-fn run<F: Files, R: Source, W: Sink>(
+fn run<T: Threads + Wait + Sync, F: Files, R: Source, W: Sink>(
+    rt: &T,
     alloc: Global,
     name: &str,
+    workers: Workers,
     files: &mut F,
     input: &mut R,
     output: &mut W,
@@ -66,7 +72,7 @@ fn run<F: Files, R: Source, W: Sink>(
     ensures files { F.contents files.new ≡ F.contents files.old }
 {
     let image = load_verified(alloc, files, name)?;
-    match play(alloc, &image, input, output) {
+    match play(rt, alloc, &image, input, output, workers.number, &NoGate) {
         Ok(_) => Ok(()),
         Err(fault) => Err(Fault::Play(fault)),
     }
@@ -122,7 +128,8 @@ fn show<W: Sink, X: Sink>(
 }
 
 // Does what is asked for.
-fn perform<F: Files, R: Source, W: Sink>(
+fn perform<T: Threads + Wait + Sync, F: Files, R: Source, W: Sink>(
+    rt: &T,
     alloc: Global,
     request: Request<'_>,
     files: &mut F,
@@ -142,7 +149,7 @@ fn perform<F: Files, R: Source, W: Sink>(
 {
     match request {
         Request::Check(name) => check(alloc, name, files, output),
-        Request::Run(name) => run(alloc, name, files, input, output),
+        Request::Run(name, workers) => run(rt, alloc, name, workers, files, input, output),
         Request::Compile(from, to) => compile(alloc, from, to, files, output),
         Request::Print(name) => print_text(alloc, name, files, output),
         Request::Migrate(from, to) => migrate(alloc, from, to, files, output),
@@ -150,8 +157,9 @@ fn perform<F: Files, R: Source, W: Sink>(
 }
 
 /// The whole program, over its words without its name, files, an input, an output and one for
-/// errors: does what the words ask for, and gives the status.
-pub fn command<F: Files, R: Source, W: Sink, X: Sink>(
+/// errors: does what the words ask for, and gives the status. A run starts threads where it has more than one worker.
+pub fn command<T: Threads + Wait + Sync, F: Files, R: Source, W: Sink, X: Sink>(
+    rt: &T,
     alloc: Global,
     words: &[String],
     files: &mut F,
@@ -182,7 +190,7 @@ pub fn command<F: Files, R: Source, W: Sink, X: Sink>(
         → F.contents files.new ≡ F.contents files.old }
 {
     let fault = match read_words(alloc, words) {
-        Ok(request) => match perform(alloc, request, files, input, output) {
+        Ok(request) => match perform(rt, alloc, request, files, input, output) {
             Ok(()) => return DONE,
             Err(fault) => fault,
         },

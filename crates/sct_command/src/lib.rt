@@ -12,8 +12,10 @@ mod files;
 mod laws;
 mod migrate;
 mod print;
+mod run_words;
 mod source;
 mod store;
+mod workers;
 
 pub use check::load_verified;
 pub use commands::{DONE, MISUSED, REFUSED, command};

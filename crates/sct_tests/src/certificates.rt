@@ -55,10 +55,10 @@ const RAISED: [(usize, u8, &str); 20] = [
 #[test]
 fn refuses_each_table_by_one(rt: HostRuntime) -> Result<(), Fail> {
     for (at, byte, errors) in LOWERED.iter().chain(&RAISED) {
-        assert!(rt; is_refused_with(rt.alloc(), &TWO_THREADS, *at, *byte, *errors)?);
+        assert!(rt; is_refused_with(&rt, &TWO_THREADS, *at, *byte, *errors)?);
     }
     // the join with the greater priority has two exits before it
-    assert!(rt; is_refused_with(rt.alloc(), &TWO_THREADS, 60, 1, "sct: E37 4 1\n")?);
+    assert!(rt; is_refused_with(&rt, &TWO_THREADS, 60, 1, "sct: E37 4 1\n")?);
     Ok(())
 }
 
@@ -66,14 +66,14 @@ const TRACE: &str =
     "{\"out\":{\"x\":1,\"y\":1},\"steps\":7,\"tick\":1}\n{\"out\":{\"x\":1,\"y\":1},\"steps\":0,\"tick\":2}\n";
 
 // Whether the image with another byte at a place is checked with this line, and played as without.
-fn is_accepted_with(alloc: Global, at: usize, byte: u8, line: &str) -> Result<bool, AllocError> {
-    let raised = with_byte(alloc, &TWO_THREADS, at, byte)?;
+fn is_accepted_with(rt: &HostRuntime, at: usize, byte: u8, line: &str) -> Result<bool, AllocError> {
+    let raised = with_byte(rt.alloc(), &TWO_THREADS, at, byte)?;
     let wanted = Wanted {
         status: 0,
         output: line,
         errors: "",
     };
-    Ok(leaves(alloc, &CHECK, &raised, b"", wanted)? && plays(alloc, &raised, b"{}\n{}\n", TRACE)?)
+    Ok(leaves(rt, &CHECK, &raised, b"", wanted)? && plays(rt, &raised, b"{}\n{}\n", TRACE)?)
 }
 
 #[test]
@@ -84,7 +84,7 @@ fn accepts_greater_tables(rt: HostRuntime) -> Result<(), Fail> {
         (21, 3, "ok nodes=7 threads=3 budget=7\n"),
         (126, 8, "ok nodes=7 threads=3 budget=8\n"),
     ] {
-        assert!(rt; is_accepted_with(rt.alloc(), at, byte, line)?);
+        assert!(rt; is_accepted_with(&rt, at, byte, line)?);
     }
     Ok(())
 }

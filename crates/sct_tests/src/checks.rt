@@ -30,7 +30,7 @@ fn checks_good_images(rt: HostRuntime) -> Result<(), Fail> {
             output: line,
             errors: "",
         };
-        assert!(rt; leaves(rt.alloc(), &CHECK, image, b"", wanted)?);
+        assert!(rt; leaves(&rt, &CHECK, image, b"", wanted)?);
     }
     Ok(())
 }
@@ -40,7 +40,7 @@ fn refuses_each_cut(rt: HostRuntime) -> Result<(), Fail> {
     for image in [ONE_EXIT.as_slice(), TWO_THREADS.as_slice()] {
         for length in 0..image.len() {
             if let Some(cut) = image.get(..length) {
-                assert!(rt; is_refused(rt.alloc(), cut, "sct: E21\n")?);
+                assert!(rt; is_refused(&rt, cut, "sct: E21\n")?);
             }
         }
     }
@@ -49,14 +49,14 @@ fn refuses_each_cut(rt: HostRuntime) -> Result<(), Fail> {
 
 // Whether an image with another byte at a place is refused with this line.
 pub(crate) fn is_refused_with(
-    alloc: Global,
+    rt: &HostRuntime,
     image: &[u8],
     at: usize,
     byte: u8,
     errors: &str,
 ) -> Result<bool, AllocError> {
-    let damaged = with_byte(alloc, image, at, byte)?;
-    is_refused(alloc, &damaged, errors)
+    let damaged = with_byte(rt.alloc(), image, at, byte)?;
+    is_refused(rt, &damaged, errors)
 }
 
 #[test]
@@ -69,11 +69,11 @@ fn refuses_damaged_bytes(rt: HostRuntime) -> Result<(), Fail> {
         (23, 0, "sct: E39 0\n"),
         (27, 0, "sct: E40 image\n"),
     ] {
-        assert!(rt; is_refused_with(rt.alloc(), &ONE_EXIT, at, byte, errors)?);
+        assert!(rt; is_refused_with(&rt, &ONE_EXIT, at, byte, errors)?);
     }
     // priority 1 at nodes 5 and 6
     for (at, errors) in [(104, "sct: E38 3 5\n"), (120, "sct: E37 5 6\n")] {
-        assert!(rt; is_refused_with(rt.alloc(), &TWO_THREADS, at, 1, errors)?);
+        assert!(rt; is_refused_with(&rt, &TWO_THREADS, at, 1, errors)?);
     }
     Ok(())
 }
@@ -91,13 +91,13 @@ fn without_byte(alloc: Global, bytes: &[u8], at: usize) -> Result<Vec<u8>, Alloc
 
 // Whether an image without the byte at a place is refused with this line.
 fn is_refused_without(
-    alloc: Global,
+    rt: &HostRuntime,
     image: &[u8],
     at: usize,
     errors: &str,
 ) -> Result<bool, AllocError> {
-    let left = without_byte(alloc, image, at)?;
-    is_refused(alloc, &left, errors)
+    let left = without_byte(rt.alloc(), image, at)?;
+    is_refused(rt, &left, errors)
 }
 
 // These bytes with a zero more, before the one at a place.
@@ -114,20 +114,20 @@ fn with_zero(alloc: Global, bytes: &[u8], at: usize) -> Result<Vec<u8>, AllocErr
 
 // Whether an image with a zero more, before the byte at a place, is refused with this line.
 fn is_refused_longer(
-    alloc: Global,
+    rt: &HostRuntime,
     image: &[u8],
     at: usize,
     errors: &str,
 ) -> Result<bool, AllocError> {
-    let longer = with_zero(alloc, image, at)?;
-    is_refused(alloc, &longer, errors)
+    let longer = with_zero(rt.alloc(), image, at)?;
+    is_refused(rt, &longer, errors)
 }
 
 // Whether an image with a zero behind it is refused with this line.
-fn is_refused_with_tail(alloc: Global, image: &[u8], errors: &str) -> Result<bool, AllocError> {
-    let mut longer = Vec::from_slice(alloc, image)?;
+fn is_refused_with_tail(rt: &HostRuntime, image: &[u8], errors: &str) -> Result<bool, AllocError> {
+    let mut longer = Vec::from_slice(rt.alloc(), image)?;
     longer.push(0)?;
-    is_refused(alloc, &longer, errors)
+    is_refused(rt, &longer, errors)
 }
 
 #[test]
@@ -144,7 +144,7 @@ fn refuses_a_lost_byte(rt: HostRuntime) -> Result<(), Fail> {
         (18, 31, "sct: E21\n"),
     ] {
         for at in from..to {
-            assert!(rt; is_refused_without(rt.alloc(), &ONE_EXIT, at, errors)?);
+            assert!(rt; is_refused_without(&rt, &ONE_EXIT, at, errors)?);
         }
     }
     Ok(())
@@ -160,9 +160,9 @@ fn refuses_a_byte_too_many(rt: HostRuntime) -> Result<(), Fail> {
         (26, 31, "sct: E24\n"),
     ] {
         for at in from..to {
-            assert!(rt; is_refused_longer(rt.alloc(), &ONE_EXIT, at, errors)?);
+            assert!(rt; is_refused_longer(&rt, &ONE_EXIT, at, errors)?);
         }
     }
-    assert!(rt; is_refused_with_tail(rt.alloc(), &ONE_EXIT, "sct: E24\n")?);
+    assert!(rt; is_refused_with_tail(&rt, &ONE_EXIT, "sct: E24\n")?);
     Ok(())
 }

@@ -26,7 +26,7 @@ fn names_a_missing_file(rt: HostRuntime) -> Result<(), Fail> {
             output: "",
             errors,
         };
-        assert!(rt; leaves(rt.alloc(), words, b"", b"", wanted)?);
+        assert!(rt; leaves(&rt, words, b"", b"", wanted)?);
     }
     Ok(())
 }

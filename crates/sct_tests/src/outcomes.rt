@@ -52,7 +52,7 @@ pub(crate) struct Wanted<'a> {
 
 // The status of a command over one file of the name `image`, and what it writes as errors.
 pub(crate) fn done_over<W: Sink, M: Ledger>(
-    alloc: Global,
+    rt: &HostRuntime,
     words: &[&str],
     image: &[u8],
     input: FromSlice<'_>,
@@ -61,23 +61,31 @@ pub(crate) fn done_over<W: Sink, M: Ledger>(
 ) -> Result<(u8, Vec<u8>), AllocError>
     requires { (reported.name ≡ M.name) × (reported.parts ≡ M.parts) × (0 < M.parts) }
 {
-    let mut owned = Vec::new(alloc);
+    let mut owned = Vec::new(rt.alloc());
     for word in words {
-        owned.push(String::from_str(alloc, *word)?)?;
+        owned.push(String::from_str(rt.alloc(), *word)?)?;
     }
     let mut files = OneFile {
         name: "image",
         bytes: image,
     };
     let mut input = input;
-    let mut errors: ToVec<M> = ToVec::new(alloc, 10, Plan::Never, Failures::none(reported));
-    let status = command(alloc, &owned, &mut files, &mut input, output, &mut errors);
+    let mut errors: ToVec<M> = ToVec::new(rt.alloc(), 10, Plan::Never, Failures::none(reported));
+    let status = command(
+        rt,
+        rt.alloc(),
+        &owned,
+        &mut files,
+        &mut input,
+        output,
+        &mut errors,
+    );
     Ok((status, errors.bytes))
 }
 
 // What a command leaves whose output takes at most `each` bytes at a write, and fails as planned.
 fn left_of<L: Ledger, M: Ledger>(
-    alloc: Global,
+    rt: &HostRuntime,
     words: &[&str],
     image: &[u8],
     input: FromSlice<'_>,
@@ -90,9 +98,9 @@ fn left_of<L: Ledger, M: Ledger>(
     requires written { (written.name ≡ L.name) × (written.parts ≡ L.parts) × (0 < L.parts) }
     requires reported { (reported.name ≡ M.name) × (reported.parts ≡ M.parts) × (0 < M.parts) }
 {
-    let mut output: ToVec<L> = ToVec::new(alloc, each, plan, Failures::none(written));
+    let mut output: ToVec<L> = ToVec::new(rt.alloc(), each, plan, Failures::none(written));
     let (status, errors) = done_over::<ToVec<L>, M>(
-        alloc,
+        rt,
         words,
         image,
         input,
@@ -108,7 +116,7 @@ fn left_of<L: Ledger, M: Ledger>(
 
 // What a command leaves, with sinks that count in ledgers of their own.
 pub(crate) fn outcome(
-    alloc: Global,
+    rt: &HostRuntime,
     words: &[&str],
     image: &[u8],
     source: FromSlice<'_>,
@@ -118,7 +126,7 @@ pub(crate) fn outcome(
     requires { 0 < each }
 {
     left_of::<Brand, Brand>(
-        alloc,
+        rt,
         words,
         image,
         source,
@@ -139,7 +147,7 @@ fn is_left(left: &Left, wanted: Wanted<'_>) -> bool {
 // Whether a command over this input leaves just this, where its output takes at most `each` bytes at a write, and fails
 // as planned.
 pub(crate) fn leaves_by(
-    alloc: Global,
+    rt: &HostRuntime,
     words: &[&str],
     image: &[u8],
     source: FromSlice<'_>,
@@ -149,13 +157,13 @@ pub(crate) fn leaves_by(
 ) -> Result<bool, AllocError>
     requires { 0 < each }
 {
-    let left = outcome(alloc, words, image, source, each, plan)?;
+    let left = outcome(rt, words, image, source, each, plan)?;
     Ok(is_left(&left, wanted))
 }
 
 // Whether a command over this input leaves just this, where no stream fails.
 pub(crate) fn leaves(
-    alloc: Global,
+    rt: &HostRuntime,
     words: &[&str],
     image: &[u8],
     input: &[u8],
@@ -166,22 +174,22 @@ pub(crate) fn leaves(
         each: 3,
         plan: Plan::Never,
     };
-    leaves_by(alloc, words, image, source, 10, Plan::Never, wanted)
+    leaves_by(rt, words, image, source, 10, Plan::Never, wanted)
 }
 
 // Whether a check of these bytes is refused with this line.
-pub(crate) fn is_refused(alloc: Global, image: &[u8], errors: &str) -> Result<bool, AllocError> {
+pub(crate) fn is_refused(rt: &HostRuntime, image: &[u8], errors: &str) -> Result<bool, AllocError> {
     let wanted = Wanted {
         status: 1,
         output: "",
         errors,
     };
-    leaves(alloc, &CHECK, image, b"", wanted)
+    leaves(rt, &CHECK, image, b"", wanted)
 }
 
 // Whether an input is played to its end, with this trace.
 pub(crate) fn plays(
-    alloc: Global,
+    rt: &HostRuntime,
     image: &[u8],
     input: &[u8],
     trace: &str,
@@ -191,5 +199,5 @@ pub(crate) fn plays(
         output: trace,
         errors: "",
     };
-    leaves(alloc, &RUN, image, input, wanted)
+    leaves(rt, &RUN, image, input, wanted)
 }

@@ -61,7 +61,7 @@ fn plays_ticks(rt: HostRuntime) -> Result<(), Fail> {
             "{\"out\":{\"y\":-2147483648},\"steps\":2,\"tick\":1}\n",
         ),
     ] {
-        assert!(rt; plays(rt.alloc(), image, input, trace)?);
+        assert!(rt; plays(&rt, image, input, trace)?);
     }
     Ok(())
 }
@@ -82,7 +82,7 @@ fn refuses_integers(rt: HostRuntime) -> Result<(), Fail> {
         b"{\"n\":true}".as_slice(),
         b"{\"y\":1}".as_slice(),
     ] {
-        assert!(rt; leaves(rt.alloc(), &RUN, &COPY, input, wanted)?);
+        assert!(rt; leaves(&rt, &RUN, &COPY, input, wanted)?);
     }
     Ok(())
 }
@@ -116,7 +116,25 @@ fn refuses_lines(rt: HostRuntime) -> Result<(), Fail> {
             output: first,
             errors,
         };
-        assert!(rt; leaves(rt.alloc(), &RUN, &COUNTER, input, wanted)?);
+        assert!(rt; leaves(&rt, &RUN, &COUNTER, input, wanted)?);
+    }
+    Ok(())
+}
+
+#[test]
+fn workers_give_the_same_trace(rt: HostRuntime) -> Result<(), Fail> {
+    for words in [
+        ["run", "image", "--workers", "1"].as_slice(),
+        ["run", "--workers", "2", "image"].as_slice(),
+        ["run", "--workers=8", "image"].as_slice(),
+        ["run", "--workers", "3", "--", "image"].as_slice(),
+    ] {
+        let wanted = Wanted {
+            status: 0,
+            output: PAUSES,
+            errors: "",
+        };
+        assert!(rt; leaves(&rt, words, &TWO_PAUSES, b"{}\n{}\n{}\n", wanted)?);
     }
     Ok(())
 }

@@ -56,7 +56,7 @@ fn prints_the_program_of_a_chart(rt: HostRuntime) -> Result<(), Fail> {
             output: LOWERED,
             errors: "",
         };
-        assert!(rt; leaves(rt.alloc(), &PRINT, text.as_bytes(), b"", wanted)?);
+        assert!(rt; leaves(&rt, &PRINT, text.as_bytes(), b"", wanted)?);
     }
     Ok(())
 }
@@ -79,7 +79,7 @@ fn tells_charts_by_their_first_token(rt: HostRuntime) -> Result<(), Fail> {
             output: "",
             errors,
         };
-        assert!(rt; leaves(rt.alloc(), &PRINT, text.as_bytes(), b"", wanted)?);
+        assert!(rt; leaves(&rt, &PRINT, text.as_bytes(), b"", wanted)?);
     }
     Ok(())
 }

@@ -17,7 +17,7 @@ const BOTH: &str =
 
 // Whether a run of `TWO_THREADS` over a source leaves this.
 fn runs(
-    alloc: Global,
+    rt: &HostRuntime,
     source: FromSlice<'_>,
     status: u8,
     output: &str,
@@ -28,7 +28,7 @@ fn runs(
         output,
         errors,
     };
-    leaves_by(alloc, &RUN, &TWO_THREADS, source, 10, Plan::Never, wanted)
+    leaves_by(rt, &RUN, &TWO_THREADS, source, 10, Plan::Never, wanted)
 }
 
 // All of these bytes, in pieces that are not small.
@@ -52,15 +52,15 @@ fn spaced(alloc: Global, spaces: usize, behind: &[u8]) -> Result<Vec<u8>, AllocE
 
 // Whether a run over such a line leaves this.
 fn runs_spaced(
-    alloc: Global,
+    rt: &HostRuntime,
     spaces: usize,
     behind: &[u8],
     status: u8,
     output: &str,
     errors: &str,
 ) -> Result<bool, AllocError> {
-    let line = spaced(alloc, spaces, behind)?;
-    runs(alloc, whole(&line), status, output, errors)
+    let line = spaced(rt.alloc(), spaces, behind)?;
+    runs(rt, whole(&line), status, output, errors)
 }
 
 #[test]
@@ -71,7 +71,7 @@ fn limits_lines(rt: HostRuntime) -> Result<(), Fail> {
         (65_535, b"".as_slice(), 1, "", "sct: E62 line 1\n"),
         (65_535, b"\n{}".as_slice(), 1, "", "sct: E62 line 1\n"),
     ] {
-        assert!(rt; runs_spaced(rt.alloc(), spaces, behind, status, output, errors)?);
+        assert!(rt; runs_spaced(&rt, spaces, behind, status, output, errors)?);
     }
     Ok(())
 }
@@ -90,14 +90,14 @@ fn nested(alloc: Global, depth: usize) -> Result<Vec<u8>, AllocError> {
 }
 
 // Whether a run over such a line is refused with this line.
-fn refuses_nested(alloc: Global, depth: usize, errors: &str) -> Result<bool, AllocError> {
-    let line = nested(alloc, depth)?;
+fn refuses_nested(rt: &HostRuntime, depth: usize, errors: &str) -> Result<bool, AllocError> {
+    let line = nested(rt.alloc(), depth)?;
     let wanted = Wanted {
         status: 1,
         output: "",
         errors,
     };
-    leaves_by(alloc, &RUN, &COUNTER, whole(&line), 10, Plan::Never, wanted)
+    leaves_by(rt, &RUN, &COUNTER, whole(&line), 10, Plan::Never, wanted)
 }
 
 #[test]
@@ -108,7 +108,7 @@ fn refuses_deep_lines(rt: HostRuntime) -> Result<(), Fail> {
         (127, "sct: E62 line 1\n"),
         (200, "sct: E62 line 1\n"),
     ] {
-        assert!(rt; refuses_nested(rt.alloc(), depth, errors)?);
+        assert!(rt; refuses_nested(&rt, depth, errors)?);
     }
     Ok(())
 }
@@ -121,7 +121,7 @@ fn cuts_lines(rt: HostRuntime) -> Result<(), Fail> {
         (b"\n".as_slice(), 1, "", "sct: E62 line 1\n"),
         (b"{}\n\n".as_slice(), 1, FIRST, "sct: E62 line 2\n"),
     ] {
-        assert!(rt; runs(rt.alloc(), whole(input), status, output, errors)?);
+        assert!(rt; runs(&rt, whole(input), status, output, errors)?);
     }
     // single bytes, both ways
     let single = FromSlice {
@@ -134,17 +134,7 @@ fn cuts_lines(rt: HostRuntime) -> Result<(), Fail> {
         output: BOTH,
         errors: "",
     };
-    assert!(rt;
-        leaves_by(
-            rt.alloc(),
-            &RUN,
-            &TWO_THREADS,
-            single,
-            1,
-            Plan::Never,
-            wanted
-        )?
-    );
+    assert!(rt; leaves_by(&rt, &RUN, &TWO_THREADS, single, 1, Plan::Never, wanted)?);
     Ok(())
 }
 
@@ -163,7 +153,7 @@ fn tells_each_failing_read(rt: HostRuntime) -> Result<(), Fail> {
             each: 2,
             plan: Plan::After(reads),
         };
-        assert!(rt; runs(rt.alloc(), source, status, output, errors)?);
+        assert!(rt; runs(&rt, source, status, output, errors)?);
     }
     Ok(())
 }
@@ -184,7 +174,7 @@ fn tells_each_failing_write(rt: HostRuntime) -> Result<(), Fail> {
             errors: "sct: E63\n",
         };
         let plan = Plan::After(writes);
-        assert!(rt; leaves_by(rt.alloc(), &RUN, &TWO_THREADS, source, 10, plan, wanted)?);
+        assert!(rt; leaves_by(&rt, &RUN, &TWO_THREADS, source, 10, plan, wanted)?);
     }
     Ok(())
 }
@@ -198,7 +188,7 @@ fn tells_failing_answers(rt: HostRuntime) -> Result<(), Fail> {
             output: "",
             errors: "sct: E63\n",
         };
-        assert!(rt; leaves_by(rt.alloc(), words, &ONE_EXIT, whole(b""), 10, plan, wanted)?);
+        assert!(rt; leaves_by(&rt, words, &ONE_EXIT, whole(b""), 10, plan, wanted)?);
     }
     // the image comes before the streams
     let broken = FromSlice {
@@ -211,7 +201,7 @@ fn tells_failing_answers(rt: HostRuntime) -> Result<(), Fail> {
         output: "",
         errors: "sct: E21\n",
     };
-    assert!(rt; leaves_by(rt.alloc(), &RUN, &ONE_EXIT[..30], broken, 10, plan, wanted)?);
+    assert!(rt; leaves_by(&rt, &RUN, &ONE_EXIT[..30], broken, 10, plan, wanted)?);
     Ok(())
 }
 
@@ -234,7 +224,7 @@ impl<L: Ledger> Sink for Full<L> {
 
 // The status and the errors of a run whose output takes no byte.
 fn left_without_output<L: Ledger, M: Ledger>(
-    alloc: Global,
+    rt: &HostRuntime,
     source: FromSlice<'_>,
     written: Blank,
     reported: Blank,
@@ -245,18 +235,18 @@ fn left_without_output<L: Ledger, M: Ledger>(
     let mut output: Full<L> = Full {
         failed: Failures::none(written),
     };
-    done_over::<Full<L>, M>(alloc, &RUN, &TWO_THREADS, source, &mut output, reported)
+    done_over::<Full<L>, M>(rt, &RUN, &TWO_THREADS, source, &mut output, reported)
 }
 
 // Whether a run whose output takes no byte has this status and these errors.
 fn stops_at_a_full_output(
-    alloc: Global,
+    rt: &HostRuntime,
     input: &[u8],
     status: u8,
     errors: &str,
 ) -> Result<bool, AllocError> {
     let (left, told) = left_without_output::<Brand, Brand>(
-        alloc,
+        rt,
         whole(input),
         Blank::new(1),
         Blank::new(1),
@@ -266,7 +256,7 @@ fn stops_at_a_full_output(
 
 #[test]
 fn tells_a_full_output(rt: HostRuntime) -> Result<(), Fail> {
-    assert!(rt; stops_at_a_full_output(rt.alloc(), b"{}\n", 1, "sct: E63\n")?);
-    assert!(rt; stops_at_a_full_output(rt.alloc(), b"", 0, "")?);
+    assert!(rt; stops_at_a_full_output(&rt, b"{}\n", 1, "sct: E63\n")?);
+    assert!(rt; stops_at_a_full_output(&rt, b"", 0, "")?);
     Ok(())
 }

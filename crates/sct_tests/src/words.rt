@@ -7,25 +7,28 @@ use std::process::Abort;
 use std::test::Fail;
 
 // Whether words ask for nothing: status 2, and what is wrong on the errors.
-fn is_misuse(alloc: Global, words: &[&str]) -> Result<bool, AllocError> {
+fn is_misuse(rt: &HostRuntime, words: &[&str]) -> Result<bool, AllocError> {
     let nothing = FromSlice {
         rest: b"",
         each: 3,
         plan: Plan::Never,
     };
-    let left = outcome(alloc, words, &TWO_THREADS, nothing, 10, Plan::Never)?;
+    let left = outcome(rt, words, &TWO_THREADS, nothing, 10, Plan::Never)?;
     Ok(left.status == 2 && left.output.is_empty() && !left.errors.is_empty())
 }
 
 #[test]
 fn tells_misuse(rt: HostRuntime) -> Result<(), Fail> {
-    let alloc = rt.alloc();
-    assert!(rt; is_misuse(alloc, &[])?);
-    assert!(rt; is_misuse(alloc, &["compile", "a"])?);
-    assert!(rt; is_misuse(alloc, &["run"])?);
-    assert!(rt; is_misuse(alloc, &["check", "a", "b"])?);
-    assert!(rt; is_misuse(alloc, &["scl", "a", "b"])?);
-    assert!(rt; is_misuse(alloc, &["run", "a", "--workers", "2"])?);
+    assert!(rt; is_misuse(&rt, &[])?);
+    assert!(rt; is_misuse(&rt, &["compile", "a"])?);
+    assert!(rt; is_misuse(&rt, &["run"])?);
+    assert!(rt; is_misuse(&rt, &["check", "a", "b"])?);
+    assert!(rt; is_misuse(&rt, &["scl", "a", "b"])?);
+    for number in ["0", "9", "10", "x", ""] {
+        assert!(rt; is_misuse(&rt, &["run", "a", "--workers", number])?);
+    }
+    assert!(rt; is_misuse(&rt, &["run", "--workers", "2"])?);
+    assert!(rt; is_misuse(&rt, &["check", "a", "--workers", "2"])?);
     Ok(())
 }
 
@@ -49,7 +52,8 @@ Commands:
   migrate  Writes an image in version 2 of the layout
 
 Options:
-  -h, --help  Print help
+  -h, --help     Print help
+  -V, --version  Print version
 
 Examples:
   sct compile examples/abro.scl abro.image
@@ -58,13 +62,14 @@ Examples:
 
 const HELP_OF_RUN: &str = "Plays standard input to standard output, a tick for each line
 
-Usage: sct run <IMAGE>
+Usage: sct run [OPTIONS] <IMAGE>
 
 Arguments:
   <IMAGE>  The file of the image
 
 Options:
-  -h, --help  Print help
+      --workers <N>  How many threads serve, from 1 to 8: the trace is the same for each [default: 2]
+  -h, --help         Print help
 ";
 
 #[test]
@@ -79,7 +84,7 @@ fn tells_what_is_missing(rt: HostRuntime) -> Result<(), Fail> {
             output: "",
             errors,
         };
-        assert!(rt; leaves(rt.alloc(), words, b"", b"", wanted)?);
+        assert!(rt; leaves(&rt, words, b"", b"", wanted)?);
     }
     Ok(())
 }
@@ -89,13 +94,14 @@ fn shows_help(rt: HostRuntime) -> Result<(), Fail> {
     for (words, output) in [
         (["--help"].as_slice(), HELP),
         (["run", "--help"].as_slice(), HELP_OF_RUN),
+        (["--version"].as_slice(), "sct 0.1.0\n"),
     ] {
         let wanted = Wanted {
             status: 0,
             output,
             errors: "",
         };
-        assert!(rt; leaves(rt.alloc(), words, b"", b"", wanted)?);
+        assert!(rt; leaves(&rt, words, b"", b"", wanted)?);
     }
     Ok(())
 }

@@ -1,0 +1,10 @@
+ghost use Rattle.std.specs.Prelude.{◌≤◌};
+
+/// How many threads serve in a run: 1 to 8.
+#[derive(Clone, Copy, Debug, PartialEq, Eq)]
+pub struct Workers {
+    /// The number.
+    pub number: u8,
+    ghost some: { 1 ≤ number },
+    ghost few: { number ≤ 8 },
+}
