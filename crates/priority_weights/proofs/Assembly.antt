@@ -26,7 +26,7 @@ use Rattle.priority_weights.specs.Inside.Entries.{entry_number}
 use Rattle.priority_weights.specs.Inside.Parts.{AreParts}
 use Rattle.priority_weights.proofs.Bridging.{bits_below, bits_kept, end_bit_is, weights_keep, weights_kept, bound_sum_is, entry_number_is}
 use Rattle.priority_weights.proofs.Bounding.{bounds_more}
-use Rattle.priority_weights.proofs.Instantly.{owner_within}
+use Rattle.instant_edges.proofs.Instantly.{owner_within}
 use Rattle.priority_weights.proofs.Rooms.{step_placed, join_owned}
 use Rattle.priority_weights.proofs.Weighing.{number_more}
 

@@ -8,7 +8,7 @@ use Rattle.conflict_edges.specs.Conflicts.{AreFollowers}
 use Rattle.least.specs.Least.{IsNeeded}
 use Rattle.least.specs.Walks.{Falls, LeadsTo, LeadsStrictlyTo}
 use Rattle.priority_weights.specs.Edges.{InOrder}
-use Rattle.priority_weights.specs.Inside.Instants.{IsFollower}
+use Rattle.priority_weights.specs.Inside.Ordered.{IsFollower}
 use Rattle.priority_weights.specs.Inside.Next.{IsAsked, IsRanked}
 use Rattle.priority_weights.proofs.Asking.{falls_needed, answer_turned}
 

@@ -15,7 +15,7 @@ use Rattle.least.specs.Least.{Exceeds}
 use Rattle.least.specs.Walks.{HasRanks}
 use Rattle.priority_weights.specs.Inside.Entries.{bits, entry_bits, entry_number, entry_sum, join_weight, step_weight, WeightKept}
 use Rattle.priority_weights.specs.Inside.Next.{FlowBy, FlowLeads, successor, over}
-use Rattle.priority_weights.proofs.Instantly.{owner_within, fork_owned}
+use Rattle.instant_edges.proofs.Instantly.{owner_within, fork_owned}
 use Rattle.priority_weights.proofs.Sums.{sum_over, total, AllOf, all_of, apart_of, total_small}
 use Rattle.priority_weights.proofs.Chains.{IsTree, reach, reach_small, parts}
 

@@ -2,6 +2,6 @@
 pub mod Entries
 pub mod Next
 pub mod Falling
-pub mod Instants
+pub mod Ordered
 pub mod Bounds
 pub mod Parts

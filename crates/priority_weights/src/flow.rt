@@ -7,11 +7,13 @@ ghost use Rattle.least.specs.Least.{IsLeast};
 ghost use Rattle.least.specs.Walks.{Falls};
 ghost use Rattle.priority_weights.specs.Edges.{InTick};
 ghost use Rattle.priority_weights.specs.Inside.Falling.{IsFalling};
-ghost use Rattle.priority_weights.specs.Inside.Next.{FlowBy, FlowLeads, IsNext, join_at_once};
+ghost use Rattle.instant_edges.specs.Sorts.{IsNext};
+ghost use Rattle.priority_weights.specs.Inside.Next.{FlowBy, FlowLeads, join_at_once};
 
 use crate::ends::entry_bits;
 use crate::falling::{Falling, Hints, table_or_cycle};
-use crate::next::{NextNodes, asked_by_next, ranked_next, successors};
+use crate::next::{asked_by_next, ranked_next};
+use instant_edges::{NextNodes, successors};
 use least::{Graph, Rule};
 use sc_graph::{NodeId, Program, Step};
 use std::alloc::{AllocError, Global};

@@ -2,9 +2,9 @@
 //! numbered by their strongly connected components, which come in an order in which what edges lead to stands first.
 
 use crate::falling::Hints;
-use crate::instants::next_hint;
 use crate::next::entry;
 use conflict_edges::Edges;
+use instant_edges::next_nodes;
 use sc_graph::{Links, NodeId, Program, Step};
 use std::alloc::{AllocError, Global};
 
@@ -214,7 +214,7 @@ fn candidate_at(
         Some(step) => step,
         None => return Candidate::End,
     };
-    let next = next_hint(program, links, node, step);
+    let next = next_nodes(program, links, node, step);
     if at == 0 {
         return sure(next.first);
     }
@@ -251,7 +251,7 @@ fn goes_round(program: &Program, links: &Links, component: &[u32], node: NodeId)
     match program.step(node) {
         Some(Step::Fork { join, .. }) => entry(component, *join) == entry(component, node),
         Some(step) => {
-            let next = next_hint(program, links, node, step);
+            let next = next_nodes(program, links, node, step);
             is_within(component, next.first, node) || is_within(component, next.second, node)
         }
         None => false,

@@ -1,40 +1,11 @@
-//! The nodes at which a thread goes on: what they ask of the node before, and which of them has a rank.
+//! The nodes to which edges lead: what they ask of the node before, and which of them has a rank.
 
-ghost use Rattle.std.specs.Prelude.{◌≡◌, ◌≤◌, ◌↔◌, ℕ, IsTrue, Some, MatchOption, Contains, slice_index};
-ghost use Rattle.sc_graph.specs.Protocol.{successors};
-ghost use Rattle.priority_weights.specs.Inside.Next.{IsAsked, IsNext, IsRanked};
+ghost use Rattle.std.specs.Prelude.{◌≡◌, ◌≤◌, ◌↔◌, ℕ, IsTrue, Some, MatchOption, slice_index};
+ghost use Rattle.instant_edges.specs.Sorts.{IsNext};
+ghost use Rattle.priority_weights.specs.Inside.Next.{IsAsked, IsRanked};
 
-use sc_graph::{NodeId, Step};
-
-/// Up to two nodes at which a thread may go on.
-#[derive(Clone, Copy)]
-pub(crate) struct NextNodes {
-    pub(crate) first: Option<NodeId>,
-    pub(crate) second: Option<NodeId>,
-}
-
-/// The nodes of its own at which a thread goes on from such a step in the same tick.
-pub(crate) fn successors(step: &Step) -> NextNodes
-    ensures { (n : ℕ) → IsNext result n ↔ Contains (successors step.now) n }
-{
-    match step {
-        Step::Assign { next, .. }
-        | Step::Update { next, .. }
-        | Step::Join { next }
-        | Step::Depth { next } => NextNodes {
-            first: Some(*next),
-            second: None,
-        },
-        Step::Cond { then, other, .. } => NextNodes {
-            first: Some(*then),
-            second: Some(*other),
-        },
-        Step::Fork { .. } | Step::Surf { .. } | Step::Exit => NextNodes {
-            first: None,
-            second: None,
-        },
-    }
-}
+use instant_edges::NextNodes;
+use sc_graph::NodeId;
 
 /// What edges of a weight to these nodes ask for.
 pub(crate) fn asked_by_next(table: &[u32], nodes: NextNodes, weight: u64) -> u64

@@ -50,7 +50,7 @@ struct Order<'a> {
 
 impl<'a> Model for Order<'a> {
     ghost use Rattle.sc_graph.specs.Program.{Program};
-    ghost use Rattle.priority_weights.specs.Inside.Instants.{IsOrdered};
+    ghost use Rattle.priority_weights.specs.Inside.Ordered.{IsOrdered};
 
     ghost Value = { Program };
 

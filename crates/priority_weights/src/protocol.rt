@@ -2,7 +2,7 @@
 
 ghost use Rattle.std.specs.Prelude.{ℕ, MatchOption};
 ghost use Rattle.sc_graph.specs.Protocol.{ProtocolEdge};
-ghost use Rattle.priority_weights.specs.Inside.Instants.{IsFollower};
+ghost use Rattle.priority_weights.specs.Inside.Ordered.{IsFollower};
 ghost use Rattle.priority_weights.specs.Inside.Next.{IsAsked, IsRanked};
 
 use crate::next::{entry, is_ranked};

@@ -8,4 +8,3 @@ pub mod Each
 pub mod Standing
 pub mod Sampling
 pub mod Giving
-pub mod ExitLists

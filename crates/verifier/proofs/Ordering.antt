@@ -1,17 +1,15 @@
 -- The rules of pairs, variable by variable, are the rules at every pair.
-use Rattle.std.proofs.Common.{ℕ, ◌≡◌, ◌<◌, ◌≤◌, ◌⊎◌, inl, inr, List, length, subst, arith}
+use Rattle.std.proofs.Common.{ℕ, ◌≡◌, ◌<◌, List, length, subst}
 use Rattle.sc_values.specs.Access.{Clash, two_inits, two_updates, Precedes, init_update, init_read, update_read}
 use Rattle.sc_graph.specs.declared.place.Place.{Place}
 use Rattle.sc_graph.specs.declared.place.Place.TheVariants as place
 use Rattle.sc_graph.specs.declared.tables.Tables.{Tables}
 use Rattle.sc_graph.specs.Program.{Program}
 use Rattle.sc_graph.specs.Valid.{IsFormed}
-use Rattle.sc_graph.specs.Tables.{priority}
-use Rattle.sc_graph.specs.Threads.{ConcurrentNodes}
 use Rattle.sc_graph.specs.Accesses.{accesses}
 use Rattle.sc_graph.specs.Protocol.{NoConflictAt, WriteConflict, ProtocolAt}
 use Rattle.variable_users.specs.Users.{InitsAt, UpdatesAt, ReadsAt, Lists, NoConflictOn}
-use Rattle.verifier.specs.Inside.Pairs.{DoesNotFall, AllFall, NoFallBetween, FallsOn}
+use Rattle.verifier.specs.Inside.Pairs.{Falls, AllFall, NoFallBetween, FallsOn}
 use Rattle.variable_users.proofs.Variables.{init_variable, update_variable}
 
 pub no_conflicts_kept : (p : Program) → IsFormed p → ((x : ℕ) → x < length p.variables → NoConflictOn p x) → (at : Place) → NoConflictAt p at
@@ -25,12 +23,10 @@ no_conflicts_kept p formed h (place.Pair m n) = λ w. over w w.clash
     over w (two_inits x i j other) = (h x (init_variable p formed m x i)).inits m n i j w
     over w (two_updates x f g u v ne) = (h x (update_variable p formed m x f u)).updates m n (f, u) (g, v) w
 
-no_fall_breaks : (p : Program) (q : Tables) (m n : ℕ) (at : Place) → at ≡ place.Pair m n → DoesNotFall p q m n → Precedes (accesses p m) (accesses p n) → ¬ ProtocolAt p q at
-no_fall_breaks p q m n at is r before kept =
+no_fall_breaks : (p : Program) (q : Tables) (m n : ℕ) (at : Place) → at ≡ place.Pair m n → ¬ Falls p q m n → Precedes (accesses p m) (accesses p n) → ¬ ProtocolAt p q at
+no_fall_breaks p q m n at is rises before kept =
     let P : Place → Type 0 = λ a. ProtocolAt p q a in
-    let falls : priority q n < priority q m = (subst P is kept) (record { concurrent = r.concurrent; precedes = before }) in
-    let no_greater = r.no_greater in
-    omega (arith, no_greater)
+    rises (record { falls = λ concurrent. (subst P is kept) (record { concurrent = concurrent; precedes = before }) })
 
 pub init_update_breaks : (p : Program) (q : Tables) (x : ℕ) (inits updates : List ℕ) → Lists inits (InitsAt p x) → Lists updates (UpdatesAt p x) → (at : Place) → NoFallBetween p q inits updates at → ¬ ProtocolAt p q at
 init_update_breaks p q x inits updates i u at r =
@@ -54,23 +50,14 @@ falls_on p q x inits updates reads i u l iu il ul = record {
   update_read = λ m n a b. ul m n (u.each m a) (l.each n b);
 }
 
-less_or_not : (a b : ℕ) → (a < b) ⊎ (b ≤ a)
-less_or_not a b = grind arith
-
-falls : (p : Program) (q : Tables) (m n : ℕ) → ConcurrentNodes p m n → ¬ DoesNotFall p q m n → priority q n < priority q m
-falls p q m n concurrent always = elim (less_or_not (priority q n) (priority q m)) [
-  | inl lt ↦ lt
-  | inr le ↦ absurd (always (record { concurrent = concurrent; no_greater = le }))
-]
-
 pub falls_kept : (p : Program) (q : Tables) → IsFormed p → ((x : ℕ) → x < length p.variables → FallsOn p q x) → (at : Place) → ProtocolAt p q at
 falls_kept p q formed h place.Image = tt
 falls_kept p q formed h (place.Variable x) = tt
 falls_kept p q formed h (place.Thread t) = tt
 falls_kept p q formed h (place.Node n) = tt
-falls_kept p q formed h (place.Pair m n) = λ edge. falls p q m n edge.concurrent (over edge.precedes)
+falls_kept p q formed h (place.Pair m n) = λ edge. (over edge.precedes).falls edge.concurrent
   where
-    over : Precedes (accesses p m) (accesses p n) → ¬ DoesNotFall p q m n
+    over : Precedes (accesses p m) (accesses p n) → Falls p q m n
     over (init_update x f i u) = (h x (init_variable p formed m x i)).init_update m n i (f, u)
     over (init_read x i l) = (h x (init_variable p formed m x i)).init_read m n i l
     over (update_read x f u l) = (h x (update_variable p formed m x f u)).update_read m n (f, u) l

@@ -97,16 +97,16 @@ owned_too p m n k e c = record { first = c.first; second = c.second; first_owner
 
 -- priority falls between all nodes where it falls from those of the least to those of the greatest
 pub all_fall : (p : Program) (q : Tables) (firsts least seconds greatest : List ℕ) → StandFor p q extreme.Least firsts least → StandFor p q extreme.Greatest seconds greatest → AllFall p q least greatest → AllFall p q firsts seconds
-all_fall p q firsts least seconds greatest f s fall m n a b d =
+all_fall p q firsts least seconds greatest f s fall m n a b =
     let l : StoodFor p q extreme.Least least m = f.each m a in
     let g : StoodFor p q extreme.Greatest greatest n = s.each n b in
     let low : priority q l.by ≤ priority q m = l.extreme in
     let high : priority q n ≤ priority q g.by = g.extreme in
-    let between : priority q m ≤ priority q n = d.no_greater in
-    fall l.by g.by l.among g.among (record {
-      concurrent = owned_too p l.by n g.by g.owner (owned_so p m n l.by l.owner d.concurrent);
-      no_greater = omega (arith, low, high, between);
-    })
+    record {
+      falls = λ concurrent.
+          let between = (fall l.by g.by l.among g.among).falls (owned_too p l.by n g.by g.owner (owned_so p m n l.by l.owner concurrent)) in
+          omega (arith, low, high, between);
+    }
 
 -- the list stands for the nodes before a place
 pub record StandUpTo (p : Program) (q : Tables) (e : Extreme) (nodes list : List ℕ) (i : ℕ) : Type 0 where

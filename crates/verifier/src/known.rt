@@ -3,7 +3,6 @@
 ghost use Rattle.std.specs.Prelude.{◌≡◌, IfOk};
 ghost use Rattle.verifier.specs.Inside.Known.{KnownOf};
 
-use crate::exits::exits_of;
 use crate::extremes::Extremes;
 use crate::kinds::kinds_of;
 use crate::samples::Samples;
@@ -11,15 +10,14 @@ use sc_graph::{Links, Program, Tables};
 use sc_values::Kind;
 use sqlite_items::Items;
 use std::alloc::{AllocError, Global};
-use variable_users::{NodeLists, Users};
+use variable_users::Users;
 
-/// What is made once of an image: the links of its program, the kinds of its variables, the exits of
-/// each thread, the nodes that use each variable, and what is chosen of these.
+/// What is made once of an image: the links of its program, the kinds of its variables, the nodes that
+/// use each variable, and what is chosen of these.
 #[derive(Drop)]
 pub(crate) struct Known {
     pub(crate) links: Links,
     pub(crate) kinds: Items<Kind>,
-    pub(crate) exits: NodeLists,
     pub(crate) users: Users,
     pub(crate) extremes: Extremes,
     pub(crate) samples: Samples,
@@ -34,7 +32,6 @@ impl Known {
         Ok(Known {
             links: Links::of(alloc, program)?,
             kinds: kinds_of(alloc, program)?,
-            exits: exits_of(alloc, program)?,
             extremes: Extremes::of(alloc, program, tables, &users)?,
             samples: Samples::of(alloc, program, &users)?,
             users,
@@ -48,7 +45,6 @@ impl Known {
         let Known {
             links,
             kinds: _,
-            exits: _,
             users: _,
             extremes: _,
             samples: _,

@@ -7,7 +7,6 @@ mod codes;
 mod concurrency;
 mod conflicts;
 mod end_bits;
-mod exits;
 mod extremes;
 mod fault_text;
 mod flow;

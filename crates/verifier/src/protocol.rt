@@ -5,7 +5,7 @@ ghost use Rattle.std.specs.Prelude.{◌≡◌, ◌↔◌, IsTrue, MatchOption, �
 ghost use Rattle.sc_graph.specs.Protocol.{ProtocolAt};
 ghost use Rattle.sc_graph.specs.Valid.{IsFormed};
 ghost use Rattle.sc_graph.specs.declared.place.Place.TheVariants as place;
-ghost use Rattle.verifier.specs.Inside.Pairs.{AllFall, FallsOn, DoesNotFall, NoFallBetween};
+ghost use Rattle.verifier.specs.Inside.Pairs.{AllFall, Falls, FallsOn, NoFallBetween};
 ghost use Rattle.variable_users.specs.Users.{InitsAt, Lists, ReadsAt, UpdatesAt};
 ghost use Rattle.verifier.specs.Inside.Faults.{IsFault};
 ghost use Rattle.verifier.specs.Inside.Known.{KnownOf};
@@ -146,7 +146,7 @@ fn no_fall_between(
     None
 }
 
-// One of these nodes that is concurrent to the first and has no smaller priority.
+// One of these nodes to which priority does not fall from the first.
 fn no_fall_after(
     program: &Program,
     tables: &Tables,
@@ -155,21 +155,21 @@ fn no_fall_after(
     seconds: &[NodeId],
 ) -> Option<NodeId>
     requires { IsLinked program.now links.now }
-    ensures { MatchOption result ((n : ℕ) → Contains seconds.now n → ¬ DoesNotFall program.now tables.now m n)
-        (λ n. Contains seconds.now n × DoesNotFall program.now tables.now m n) }
+    ensures { MatchOption result ((n : ℕ) → Contains seconds.now n → Falls program.now tables.now m n)
+        (λ n. Contains seconds.now n × ¬ Falls program.now tables.now m n) }
 {
     for n in seconds {
-        if does_not_fall(program, tables, links, m, *n) {
+        if !falls(program, tables, links, m, *n) {
             return Some(*n);
         }
     }
     None
 }
 
-// Whether two nodes are concurrent and priority does not fall from the first to the second.
-fn does_not_fall(program: &Program, tables: &Tables, links: &Links, m: NodeId, n: NodeId) -> bool
+// Whether priority falls from a node to another, if they are concurrent.
+fn falls(program: &Program, tables: &Tables, links: &Links, m: NodeId, n: NodeId) -> bool
     requires { IsLinked program.now links.now }
-    ensures { IsTrue result ↔ DoesNotFall program.now tables.now m n }
+    ensures { IsTrue result ↔ Falls program.now tables.now m n }
 {
-    tables.priority(m) <= tables.priority(n) && are_concurrent(program, links, m, n)
+    tables.priority(n) < tables.priority(m) || !are_concurrent(program, links, m, n)
 }

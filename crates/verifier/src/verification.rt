@@ -119,7 +119,7 @@ fn broken_place(rule: Rule, program: &Program, tables: &Tables, known: &Known) -
         Rule::Assignment => assignment_fault(program, known.kinds.as_slice()),
         Rule::EndBit => end_bit_fault(program, tables),
         Rule::NoConflict => no_conflict_fault(program, &known.links, &known.users, &known.samples),
-        Rule::Flow => flow_fault(program, tables, &known.exits),
+        Rule::Flow => flow_fault(program, tables, &known.links),
         Rule::Protocol => protocol_fault(program, tables, known),
         Rule::Weight => weight_fault(program, tables),
         Rule::Bound => bound_fault(program, tables),

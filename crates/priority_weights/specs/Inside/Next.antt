@@ -4,12 +4,7 @@ use Rattle.sc_graph.specs.declared.program.Step.{Step}
 use Rattle.sc_graph.specs.declared.program.Step.TheVariants as step
 use Rattle.sc_graph.specs.Program.{Program, step_at}
 use Rattle.sc_graph.specs.Protocol.{successors}
-use Rattle.priority_weights.specs.declared.next.NextNodes.{NextNodes}
 use Rattle.priority_weights.specs.Inside.Entries.{bits, entry_bits}
-
--- the node is one of the two
-abbrev pub IsNext : NextNodes → ℕ → Type 0
-IsNext nodes n = (nodes.first ≡ Some n) ⊎ (nodes.second ≡ Some n)
 
 -- x is the greatest number that edges of weight w to these nodes ask for, and 0 where there is none
 pub record IsAsked (Nodes : ℕ → Type 0) (table : List ℕ) (w x : ℕ) : Type 0 where

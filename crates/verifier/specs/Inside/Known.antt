@@ -1,17 +1,15 @@
 -- What is made once of a program for all rules.
-use Rattle.std.specs.Prelude.{◌≡◌, length}
+use Rattle.std.specs.Prelude.{◌≡◌}
 use Rattle.sc_graph.specs.declared.tables.Tables.{Tables}
 use Rattle.sc_graph.specs.Program.{Program, kinds}
 use Rattle.sc_graph.specs.Links.{Tells}
 use Rattle.verifier.specs.declared.known.Known.{Known}
-use Rattle.verifier.specs.Inside.ByNode.{IsExitOf}
-use Rattle.variable_users.specs.Users.{ListsEach, UsersOf}
+use Rattle.variable_users.specs.Users.{UsersOf}
 use Rattle.verifier.specs.Inside.Chosen.{ExtremesOf, SamplesOf}
 
 pub record KnownOf (p : Program) (q : Tables) (k : Known) : Type 0 where
   pub links : Tells p k.links
   pub kinds : k.kinds ≡ kinds p
-  pub exits : ListsEach (length p.threads) (IsExitOf p) k.exits
   pub users : UsersOf p k.users
   pub extremes : ExtremesOf p q k.users k.extremes
   pub samples : SamplesOf p k.users k.samples

@@ -1,7 +1,7 @@
 use Rattle.std.proofs.Common.{ℕ, ◌≡◌, ◌≤◌, ◌+◌, true, get_or, refl, sym, subst, arith}
 use Rattle.std.specs.Prelude.{slice_index}
 use Rattle.sc_graph.specs.Threads.{ConcurrentNodes}
-use Rattle.priority_weights.specs.Inside.Instants.{IsFollower}
+use Rattle.priority_weights.specs.Inside.Ordered.{IsFollower}
 use Rattle.priority_weights.specs.Inside.Next.{IsAsked}
 use Rattle.priority_weights.proofs.Asking.{Before, asked_up, asked_same, asked_alike, before_end}
 use Rattle.priority_weights.proofs.protocol.asked_by_followers.Goals.{then-asked-more+then-are_concurrent, else-asked-more, else-asked-more-via-then-asked-more+else-are_concurrent, else-asked-more-via-else-asked-more}

@@ -1,6 +1,6 @@
 use Rattle.std.proofs.Common.{ℕ, subst, sym, ◌⊎◌}
 use Rattle.sc_graph.specs.Protocol.{ProtocolEdge}
-use Rattle.priority_weights.specs.Inside.Instants.{IsFollower}
+use Rattle.priority_weights.specs.Inside.Ordered.{IsFollower}
 use Rattle.priority_weights.specs.Inside.Next.{IsAsked}
 use Rattle.priority_weights.proofs.Asking.{asked_alike, asked_either}
 use Rattle.priority_weights.proofs.Ordering.{protocol_edges}

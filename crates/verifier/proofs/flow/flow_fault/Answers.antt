@@ -1,10 +1,17 @@
 use Rattle.std.proofs.Common.{arith, below_more}
-use Rattle.verifier.specs.Inside.ByNode.{StepFlows}
-use Rattle.verifier.proofs.Rising.{flows_kept}
+use Rattle.verifier.specs.Inside.ByNode.{FlowsFrom}
+use Rattle.verifier.proofs.Rising.{flows_from, flows_kept, rise_breaks}
 use Rattle.verifier.proofs.flow.flow_fault.Goals as goal
 
-pub loop-n-preserved : goal.loop-n-preserved
-loop-n-preserved c = below_more (StepFlows c.args.program.now c.args.tables.now) _ c.loop-n.invariant c.in_default.ensures
+pub returns-in-Some : goal.returns-in-Some
+returns-in-Some c =
+    let found = c.in-Some.ensures in
+    rise_breaks c.args.program.now c.args.tables.now c.loop-m.m c.in-Some.n found.0 found.1
+
+pub loop-m-preserved : goal.loop-m-preserved
+loop-m-preserved c =
+    below_more (FlowsFrom c.args.program.now c.args.tables.now) _ c.loop-m.invariant
+    (flows_from c.args.program.now c.args.tables.now c.loop-m.m c.in_default.ensures)
 
 pub returns : goal.returns
-returns c = flows_kept c.args.program.now c.args.tables.now (λ n h. c.loop-n.invariant n (omega (arith, h)))
+returns c = flows_kept c.args.program.now c.args.tables.now (λ m h. c.loop-m.invariant m (omega (arith, h)))

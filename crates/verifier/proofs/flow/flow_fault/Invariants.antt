@@ -1,6 +1,6 @@
 use Rattle.std.proofs.Common.{ℕ, ◌<◌}
-use Rattle.verifier.specs.Inside.ByNode.{StepFlows}
+use Rattle.verifier.specs.Inside.ByNode.{FlowsFrom}
 use Rattle.verifier.proofs.flow.flow_fault.Given as goal
 
-abbrev pub invariant-loop-n : goal.invariant-loop-n
-invariant-loop-n l = (k : ℕ) → k < l.n → StepFlows l.program l.tables k
+abbrev pub invariant-loop-m : goal.invariant-loop-m
+invariant-loop-m l = (k : ℕ) → k < l.m → FlowsFrom l.program l.tables k

@@ -12,8 +12,11 @@ no_conflict_fault-requires-clause-links c = record {
   told = c.requires.known.links;
 }
 
-pub flow_fault-requires-clause-formed : goal.flow_fault-requires-clause-formed
-flow_fault-requires-clause-formed c = formed_from c.args.program.now c.args.tables.now c.args.rule 37 (ap fault_number c.in-Flow.is) (omega arith) c.requires.lower
+pub flow_fault-requires : goal.flow_fault-requires
+flow_fault-requires c = record {
+  formed = formed_from c.args.program.now c.args.tables.now c.args.rule 37 (ap fault_number c.in-Flow.is) (omega arith) c.requires.lower;
+  told = c.requires.known.links;
+}
 
 pub protocol_fault-requires-clause-formed : goal.protocol_fault-requires-clause-formed
 protocol_fault-requires-clause-formed c = formed_from c.args.program.now c.args.tables.now c.args.rule 38 (ap fault_number c.in-Protocol.is) (omega arith) c.requires.lower

@@ -14,7 +14,8 @@ use Rattle.sc_graph.specs.Threads.{IsFork}
 use Rattle.sc_graph.specs.Valid.{IsFormed}
 use Rattle.sc_graph.proofs.Formed.{node_at, owner_at, parent_is_owner, forked_once, within_threads}
 use Rattle.sc_graph.proofs.Linking.{fork_known}
-use Rattle.priority_weights.specs.Inside.Instants.{IsJoinBehind, IsOn, IsEntry, is_exit, children_of, fork_join, join_of_child, join_behind}
+use Rattle.instant_edges.specs.Sorts.{IsJoinBehind, IsOn, IsEntry, children_of}
+use Rattle.instant_edges.specs.Inside.Behind.{is_exit, fork_join, join_of_child, join_behind}
 
 nothing_in : (n : ℕ) → ¬ Contains [] n
 nothing_in n c = let lt = c.1 in omega (arith, lt)

@@ -1,0 +1,2 @@
+pub mod Instantly
+pub mod Answer
