@@ -8,8 +8,6 @@ mod expected;
 #[cfg(test)]
 mod limits;
 #[cfg(test)]
-mod making;
-#[cfg(test)]
 mod said;
 #[cfg(test)]
 mod states;

@@ -2,18 +2,20 @@
 
 use crate::charts::with_variables;
 use crate::said::states_said;
+use std::alloc::{AllocError, Global};
 use std::test::Fail;
 
-#[test]
-fn as_many_variables_as_a_program_may_have(rt: HostRuntime) -> Result<(), Fail> {
-    let line = states_said(rt.alloc(), &with_variables(rt.alloc(), 253)?, 9)?;
-    assert_eq!(rt; line.as_str(), " 0 0 1 2 - - - 0 -");
-    Ok(())
+fn said_with(alloc: Global, count: u16) -> Result<String, AllocError> {
+    let chart = with_variables(alloc, count)?;
+    states_said(alloc, chart.as_str(), 9)
 }
 
+// As many variables as a program may have, and one more.
 #[test]
-fn one_variable_more(rt: HostRuntime) -> Result<(), Fail> {
-    let line = states_said(rt.alloc(), &with_variables(rt.alloc(), 254)?, 9)?;
-    assert_eq!(rt; line.as_str(), "E07 limit");
+fn variables_of_a_core_chart(rt: HostRuntime) -> Result<(), Fail> {
+    for (count, wanted) in [(253, " 0 0 1 2 - - - 0 -"), (254, "E07 limit")] {
+        let line = said_with(rt.alloc(), count)?;
+        assert_eq!(rt; line.as_str(), wanted);
+    }
     Ok(())
 }
