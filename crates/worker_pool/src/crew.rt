@@ -1,5 +1,5 @@
 ghost use Rattle.std.specs.Prelude.{◌≤◌, All};
-ghost use Rattle.ready_queue.specs.Rule.{IsPassOf};
+ghost use Rattle.worker_pool.specs.Halls.{IsPassTo};
 
 use crate::desk::Desk;
 use crate::gate::Gate;
@@ -22,7 +22,7 @@ pub struct Crew<'r, 'x, J: Picture, G: Gate> {
     // how many workers there are, and how many there may be
     started: u8,
     pub(crate) workers: u8,
-    ghost own: { All (λ p. IsPassOf hall.now.queue p) passes.items },
+    ghost own: { All (λ p. IsPassTo hall.now p) passes.items },
     ghost few: { workers ≤ 8 },
 }
 
@@ -33,7 +33,7 @@ impl<'r, 'x, J: Picture, G: Gate> Crew<'r, 'x, J, G> {
         passes: Vec<Pass<'x>>,
         workers: u8,
     ) -> Option<Crew<'r, 'x, J, G>>
-        requires passes { All (λ p. IsPassOf hall.now.queue p) passes.items }
+        requires passes { All (λ p. IsPassTo hall.now p) passes.items }
         requires workers { workers ≤ 8 }
     {
         let mut passes = passes;

@@ -1,5 +1,4 @@
-ghost use Rattle.std.specs.Prelude.{◌≡◌, All, IfOk};
-ghost use Rattle.ready_queue.specs.Rule.{IsPassOf};
+ghost use Rattle.std.specs.Prelude.{◌≡◌};
 
 use crate::desk::Desk;
 use crate::gate::Gate;
@@ -26,6 +25,9 @@ pub struct Hall<'x, J: Picture, G: Gate> {
 }
 
 impl<'x, J: Picture, G: Gate> Hall<'x, J, G> {
+    ghost use Rattle.std.specs.Prelude.{◌≡◌, All, IfOk};
+    ghost use Rattle.worker_pool.specs.Halls.{IsPassTo};
+
     /// A hall for ticks of an image, and a pass for each who works there. Err: memory was refused.
     pub fn open(
         alloc: Global,
@@ -33,7 +35,7 @@ impl<'x, J: Picture, G: Gate> Hall<'x, J, G> {
         gate: &'x G,
     ) -> Result<(Hall<'x, J, G>, Vec<Pass<'x>>), AllocError>
         requires { verified.now ≡ J.image }
-        ensures { IfOk result (λ r. All (λ p. IsPassOf r.0.queue p) r.1.items) }
+        ensures { IfOk result (λ r. All (λ p. IsPassTo r.0 p) r.1.items) }
     {
         let (queue, passes) = ReadyQueue::open(alloc, verified)?;
         let hall = Hall {

@@ -1,5 +1,5 @@
 ghost use Rattle.std.specs.Prelude.{◌≤◌};
-ghost use Rattle.ready_queue.specs.Rule.{IsPassOf};
+ghost use Rattle.worker_pool.specs.Halls.{IsPassTo};
 
 use crate::desk::Desk;
 use crate::gate::Gate;
@@ -16,7 +16,7 @@ pub(crate) struct Seat<'r, 'x, J: Picture, G: Gate> {
     pub hall: &'r Hall<'x, J, G>,
     pub pass: Pass<'x>,
     pub worker: u8,
-    ghost own: { IsPassOf hall.now.queue pass },
+    ghost own: { IsPassTo hall.now pass },
     ghost numbered: { worker ≤ 8 },
 }
 
