@@ -118,7 +118,8 @@ fn is_operation(expression: &Expr) -> bool
     }
 }
 
-fn is_infix(operator: BinaryOperator) -> bool
+/// Whether an operator stands between its operands.
+pub fn is_infix(operator: BinaryOperator) -> bool
     ensures { result ≡ is_infix operator }
 {
     match operator {
@@ -128,7 +129,8 @@ fn is_infix(operator: BinaryOperator) -> bool
     }
 }
 
-fn prefix_text(operator: UnaryOperator) -> &'static str
+/// What stands before the operand of an operator.
+pub fn prefix_text(operator: UnaryOperator) -> &'static str
     ensures { result.now ≡ prefix_text operator }
 {
     match operator {
@@ -139,7 +141,8 @@ fn prefix_text(operator: UnaryOperator) -> &'static str
     }
 }
 
-fn opening_text(operator: BinaryOperator) -> &'static str
+/// What stands before the operands of an operator.
+pub fn opening_text(operator: BinaryOperator) -> &'static str
     ensures { result.now ≡ opening_text operator }
 {
     match operator {
@@ -149,7 +152,8 @@ fn opening_text(operator: BinaryOperator) -> &'static str
     }
 }
 
-fn infix_text(operator: BinaryOperator) -> &'static str
+/// What stands between the operands of an operator.
+pub fn infix_text(operator: BinaryOperator) -> &'static str
     ensures { result.now ≡ infix_text operator }
 {
     match operator {
@@ -169,7 +173,8 @@ fn infix_text(operator: BinaryOperator) -> &'static str
     }
 }
 
-fn closing_text(operator: BinaryOperator) -> &'static str
+/// What stands behind the operands of an operator.
+pub fn closing_text(operator: BinaryOperator) -> &'static str
     ensures { result.now ≡ closing_text operator }
 {
     match operator {

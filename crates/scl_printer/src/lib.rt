@@ -8,5 +8,6 @@ mod print_fault;
 mod program;
 mod statements;
 
+pub use expressions::{closing_text, infix_text, is_infix, opening_text, prefix_text};
 pub use print_fault::PrintFault;
 pub use program::print;
