@@ -1,0 +1,5 @@
+//! Tests of listings of images: whole texts compared.
+#![tactic(auto)]
+
+#[cfg(test)]
+mod listed;
