@@ -1,0 +1,82 @@
+//! The drawing of a program of nodes: a cluster for each thread.
+
+use crate::flow::put_flow;
+use crate::protocol::put_protocol;
+use image_listing::step_text;
+use sc_graph::{Links, Program, ThreadId};
+use sc_values::Name;
+use std::alloc::{AllocError, Global};
+
+// Puts the nodes of a thread behind a text.
+fn put_nodes(
+    alloc: Global,
+    text: &mut String,
+    program: &Program,
+    thread: ThreadId,
+) -> Result<(), AllocError> {
+    for number in 0..program.node_count() {
+        match program.step(number) {
+            Some(step) if program.owns(thread, number) => {
+                let what = step_text(alloc, program.variables(), step)?;
+                let line = format!(in alloc; "\"{number}\" [label=\"{number}: {what}\"];\n")?;
+                text.push_str(line.as_str())?;
+            }
+            _ => {}
+        }
+    }
+    Ok(())
+}
+
+// Puts the cluster of a thread behind a text.
+fn put_thread(
+    alloc: Global,
+    text: &mut String,
+    program: &Program,
+    thread: ThreadId,
+) -> Result<(), AllocError> {
+    let opening = format!(in alloc;
+        "subgraph \"cluster_{thread}\" {{\nlabel=\"thread {thread}\";\n"
+    )?;
+    text.push_str(opening.as_str())?;
+    put_nodes(alloc, text, program, thread)?;
+    text.push_str("}\n")?;
+    Ok(())
+}
+
+// Puts all clusters behind a text.
+fn put_threads(alloc: Global, text: &mut String, program: &Program) -> Result<(), AllocError> {
+    for thread in 0..program.thread_count() {
+        put_thread(alloc, text, program, thread)?;
+    }
+    Ok(())
+}
+
+// Puts the arrows of flow and of ticks behind a text.
+fn put_all_flow(
+    alloc: Global,
+    text: &mut String,
+    program: &Program,
+    links: &Links,
+) -> Result<(), AllocError> {
+    for number in 0..program.node_count() {
+        if let Some(step) = program.step(number) {
+            put_flow(alloc, text, program, links, number, step)?;
+        }
+    }
+    Ok(())
+}
+
+/// A program as Graphviz text: threads are clusters. Flow within a tick is drawn in solid arrows, the way from a pause
+/// into the next tick in dashed gray ones, and what must come before what in dotted blue ones; where two nodes conflict,
+/// a red line stands between them in place of these. Err: memory was refused.
+pub fn graph_drawing(alloc: Global, name: &Name, program: &Program) -> Result<String, AllocError> {
+    let links = Links::of(alloc, program)?;
+    let mut text = format!(in alloc;
+        "digraph \"{name}\" {{\nlabel=\"{name}\";\nnode [shape=\"box\"];\n"
+    )?;
+    put_threads(alloc, &mut text, program)?;
+    put_all_flow(alloc, &mut text, program, &links)?;
+    put_protocol(alloc, &mut text, program, &links)?;
+    text.push_str("}\n")?;
+    Ok(text)
+}

@@ -1,0 +1,11 @@
+//! Charts and graphs of SCL programs as Graphviz text, which `dot` draws.
+#![tactic(auto)]
+
+mod flow;
+mod graphs;
+mod labels;
+mod protocol;
+mod regions;
+
+pub use graphs::graph_drawing;
+pub use regions::chart_drawing;

@@ -1,0 +1,161 @@
+//! The drawing of a chart: a cluster for each region and each superstate, a node for each simple state, an arrow for
+//! each transition. A superstate has a point inside, at which its arrows begin and end; they are cut at its border.
+
+use crate::labels::transition_text;
+use core_charts::{Chart, Region, State, Transition};
+use sc_graph::Variable;
+use sqlite_items::at;
+use std::alloc::{AllocError, Global};
+
+// How a state's border is drawn.
+fn border(state: &State) -> &'static str {
+    if state.is_initial { "bold" } else { "solid" }
+}
+
+// How many lines go round a state.
+fn rings(state: &State) -> &'static str {
+    if state.is_final { "2" } else { "1" }
+}
+
+// Where an arrow is cut: at the border of a superstate.
+fn cut(
+    alloc: Global,
+    end: &str,
+    state: Option<&State>,
+    path: &str,
+    number: u32,
+) -> Result<String, AllocError> {
+    match state {
+        Some(state) if state.is_superstate() => {
+            format!(in alloc; ", {end}=\"cluster_{path}_{number}\"")
+        }
+        _ => Ok(String::new(alloc)),
+    }
+}
+
+// The line of a transition of the state of this number, in the region of this path.
+fn arrow(
+    alloc: Global,
+    variables: &[Variable],
+    states: &[State],
+    path: &str,
+    from: u32,
+    transition: &Transition,
+) -> Result<String, AllocError> {
+    let label = transition_text(alloc, variables, transition)?;
+    let to = transition.target;
+    if from == to {
+        return format!(in alloc; "\"{path}_{from}\" -> \"{path}_{to}\" [label=\"{label}\"];\n");
+    }
+    let tail = cut(alloc, "ltail", at(states, from as usize), path, from)?;
+    let head = cut(alloc, "lhead", at(states, to as usize), path, to)?;
+    format!(in alloc; "\"{path}_{from}\" -> \"{path}_{to}\" [label=\"{label}\"{tail}{head}];\n")
+}
+
+// Puts the lines of the transitions of a state behind a text.
+fn put_arrows(
+    alloc: Global,
+    text: &mut String,
+    variables: &[Variable],
+    states: &[State],
+    path: &str,
+    from: u32,
+    state: &State,
+) -> Result<(), AllocError> {
+    for transition in state.transitions.as_slice() {
+        let line = arrow(alloc, variables, states, path, from, transition)?;
+        text.push_str(line.as_str())?;
+    }
+    Ok(())
+}
+
+// Puts the lines of the transitions of all states of a region behind a text.
+fn put_all_arrows(
+    alloc: Global,
+    text: &mut String,
+    variables: &[Variable],
+    states: &[State],
+    path: &str,
+) -> Result<(), AllocError> {
+    let mut from: u32 = 0;
+    for state in states {
+        put_arrows(alloc, text, variables, states, path, from, state)?;
+        from = from.saturating_add(1);
+    }
+    Ok(())
+}
+
+// Puts the cluster of a region behind a text. The numbers of the regions and states around it are its path.
+#[cycle(drawn)]
+fn put_region(
+    region: &Region,
+    alloc: Global,
+    text: &mut String,
+    variables: &[Variable],
+    path: &str,
+) -> Result<(), AllocError> {
+    let name = region.name;
+    let opening = format!(in alloc;
+        "subgraph \"cluster_{path}\" {{\nlabel=\"{name}\";\nstyle=\"dashed\";\n"
+    )?;
+    text.push_str(opening.as_str())?;
+    let mut number: u32 = 0;
+    for state in region.states.as_slice() {
+        let inner = format!(in alloc; "{path}_{number}")?;
+        put_state(state, alloc, text, variables, inner.as_str())?;
+        number = number.saturating_add(1);
+    }
+    put_all_arrows(alloc, text, variables, region.states.as_slice(), path)?;
+    text.push_str("}\n")?;
+    Ok(())
+}
+
+// Puts the node of a simple state, or the cluster of a superstate, behind a text.
+#[cycle(drawn)]
+fn put_state(
+    state: &State,
+    alloc: Global,
+    text: &mut String,
+    variables: &[Variable],
+    path: &str,
+) -> Result<(), AllocError> {
+    let name = state.name;
+    let border = border(state);
+    if !state.is_superstate() {
+        let rings = rings(state);
+        let line = format!(in alloc;
+            "\"{path}\" [label=\"{name}\", shape=\"box\", style=\"rounded,{border}\", peripheries={rings}];\n"
+        )?;
+        text.push_str(line.as_str())?;
+        return Ok(());
+    }
+    let opening = format!(in alloc;
+        "subgraph \"cluster_{path}\" {{\nlabel=\"{name}\";\nstyle=\"rounded,{border}\";\n\"{path}\" [shape=\"point\"];\n"
+    )?;
+    text.push_str(opening.as_str())?;
+    let mut number: u32 = 0;
+    for region in state.regions.as_slice() {
+        let inner = format!(in alloc; "{path}_{number}")?;
+        put_region(region, alloc, text, variables, inner.as_str())?;
+        number = number.saturating_add(1);
+    }
+    text.push_str("}\n")?;
+    Ok(())
+}
+
+/// A chart as Graphviz text: regions and superstates are clusters, simple states nodes, and each transition an arrow with
+/// its words. Initial states have a bold border, final ones two. Err: memory was refused.
+pub fn chart_drawing(alloc: Global, chart: &Chart) -> Result<String, AllocError> {
+    let name = chart.name();
+    let mut text = format!(in alloc;
+        "digraph \"{name}\" {{\nlabel=\"{name}\";\ncompound=\"true\";\n"
+    )?;
+    let mut number: u32 = 0;
+    for region in chart.regions() {
+        let path = format!(in alloc; "{number}")?;
+        put_region(region, alloc, &mut text, chart.variables(), path.as_str())?;
+        number = number.saturating_add(1);
+    }
+    text.push_str("}\n")?;
+    Ok(text)
+}
