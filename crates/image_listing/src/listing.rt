@@ -1,7 +1,7 @@
 //! The whole listing.
 
-ghost use Rattle.std.specs.Prelude.{◌≡◌, ◌++◌, IfOk, List, ℕ, string_bytes};
-ghost use Rattle.image_listing.specs.Nodes.{nodes_text};
+ghost use Rattle.std.specs.Prelude.{IfOk, string_bytes};
+ghost use Rattle.image_listing.specs.Listing.{IsListing};
 
 use crate::edges::edges_text;
 use crate::nodes::nodes_text;
@@ -40,8 +40,7 @@ fn tail_text(alloc: Global, image: &Verified) -> Result<String, AllocError> {
 /// their bounds, a line for each node, which begins with its number, and the protocol edges of each variable. All other
 /// lines begin with a space or a letter, or are empty. Err: memory was refused.
 pub fn image_text(alloc: Global, image: &Verified) -> Result<String, AllocError>
-    ensures { IfOk result (λ text. (head : List ℕ) × ((tail : List ℕ) × (string_bytes text
-        ≡ head ++ (nodes_text image.now.program.variables image.now.tables 0 image.now.program.nodes ++ tail)))) }
+    ensures { IfOk result (λ text. IsListing image.now (string_bytes text)) }
 {
     let program = image.image().program();
     let head = head_text(alloc, image.image(), program.node_count())?;

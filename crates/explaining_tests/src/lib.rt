@@ -1,0 +1,7 @@
+//! Tests of faults explained: whole texts compared.
+#![tactic(auto)]
+
+#[cfg(test)]
+mod explained;
+#[cfg(test)]
+mod spots;
