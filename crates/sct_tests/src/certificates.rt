@@ -4,7 +4,9 @@ use crate::images::TWO_THREADS;
 use crate::outcomes::{CHECK, Wanted, leaves, plays};
 use std::alloc::{AllocError, Global};
 use std::process::Abort;
+use std::sync::Wait;
 use std::test::Fail;
+use std::thread::Threads;
 
 // The entries of the certificate, one lower: the place of the byte, and the fault.
 const LOWERED: [(usize, u8, &str); 18] = [
@@ -66,7 +68,12 @@ const TRACE: &str =
     "{\"out\":{\"x\":1,\"y\":1},\"steps\":7,\"tick\":1}\n{\"out\":{\"x\":1,\"y\":1},\"steps\":0,\"tick\":2}\n";
 
 // Whether the image with another byte at a place is checked with this line, and played as without.
-fn is_accepted_with(rt: &HostRuntime, at: usize, byte: u8, line: &str) -> Result<bool, AllocError> {
+fn is_accepted_with(
+    rt: &(impl Threads + Wait + Sync + AllocGlobal),
+    at: usize,
+    byte: u8,
+    line: &str,
+) -> Result<bool, AllocError> {
     let raised = with_byte(rt.alloc(), &TWO_THREADS, at, byte)?;
     let wanted = Wanted {
         status: 0,

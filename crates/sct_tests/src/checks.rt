@@ -3,7 +3,9 @@ use crate::images::{ONE_EXIT, TWO_THREADS};
 use crate::outcomes::{CHECK, Wanted, is_refused, leaves};
 use std::alloc::{AllocError, Global};
 use std::process::Abort;
+use std::sync::Wait;
 use std::test::Fail;
+use std::thread::Threads;
 
 // These bytes, with another one at a place.
 pub(crate) fn with_byte(
@@ -49,7 +51,7 @@ fn refuses_each_cut(rt: HostRuntime) -> Result<(), Fail> {
 
 // Whether an image with another byte at a place is refused with this line.
 pub(crate) fn is_refused_with(
-    rt: &HostRuntime,
+    rt: &(impl Threads + Wait + Sync + AllocGlobal),
     image: &[u8],
     at: usize,
     byte: u8,
@@ -91,7 +93,7 @@ fn without_byte(alloc: Global, bytes: &[u8], at: usize) -> Result<Vec<u8>, Alloc
 
 // Whether an image without the byte at a place is refused with this line.
 fn is_refused_without(
-    rt: &HostRuntime,
+    rt: &(impl Threads + Wait + Sync + AllocGlobal),
     image: &[u8],
     at: usize,
     errors: &str,
@@ -114,7 +116,7 @@ fn with_zero(alloc: Global, bytes: &[u8], at: usize) -> Result<Vec<u8>, AllocErr
 
 // Whether an image with a zero more, before the byte at a place, is refused with this line.
 fn is_refused_longer(
-    rt: &HostRuntime,
+    rt: &(impl Threads + Wait + Sync + AllocGlobal),
     image: &[u8],
     at: usize,
     errors: &str,
@@ -124,7 +126,11 @@ fn is_refused_longer(
 }
 
 // Whether an image with a zero behind it is refused with this line.
-fn is_refused_with_tail(rt: &HostRuntime, image: &[u8], errors: &str) -> Result<bool, AllocError> {
+fn is_refused_with_tail(
+    rt: &(impl Threads + Wait + Sync + AllocGlobal),
+    image: &[u8],
+    errors: &str,
+) -> Result<bool, AllocError> {
     let mut longer = Vec::from_slice(rt.alloc(), image)?;
     longer.push(0)?;
     is_refused(rt, &longer, errors)

@@ -5,7 +5,9 @@ use sc_values::{Failures, FromSlice, Plan, Sink, ToVec};
 use sct_command::{FileFault, Files, command};
 use std::alloc::{AllocError, Global};
 use std::marker::Brand;
+use std::sync::Wait;
 use std::sync::ledger::{Blank, Ledger};
+use std::thread::Threads;
 
 /// The words of a run of the image.
 pub(crate) const RUN: [&str; 2] = ["run", "image"];
@@ -51,8 +53,8 @@ pub(crate) struct Wanted<'a> {
 }
 
 // The status of a command over one file of the name `image`, and what it writes as errors.
-pub(crate) fn done_over<W: Sink, M: Ledger>(
-    rt: &HostRuntime,
+pub(crate) fn done_over<T: Threads + Wait + Sync + AllocGlobal, W: Sink, M: Ledger>(
+    rt: &T,
     words: &[&str],
     image: &[u8],
     input: FromSlice<'_>,
@@ -84,8 +86,8 @@ pub(crate) fn done_over<W: Sink, M: Ledger>(
 }
 
 // What a command leaves whose output takes at most `each` bytes at a write, and fails as planned.
-fn left_of<L: Ledger, M: Ledger>(
-    rt: &HostRuntime,
+fn left_of<T: Threads + Wait + Sync + AllocGlobal, L: Ledger, M: Ledger>(
+    rt: &T,
     words: &[&str],
     image: &[u8],
     input: FromSlice<'_>,
@@ -99,7 +101,7 @@ fn left_of<L: Ledger, M: Ledger>(
     requires reported { (reported.name ≡ M.name) × (reported.parts ≡ M.parts) × (0 < M.parts) }
 {
     let mut output: ToVec<L> = ToVec::new(rt.alloc(), each, plan, Failures::none(written));
-    let (status, errors) = done_over::<ToVec<L>, M>(
+    let (status, errors) = done_over::<_, ToVec<L>, M>(
         rt,
         words,
         image,
@@ -116,7 +118,7 @@ fn left_of<L: Ledger, M: Ledger>(
 
 // What a command leaves, with sinks that count in ledgers of their own.
 pub(crate) fn outcome(
-    rt: &HostRuntime,
+    rt: &(impl Threads + Wait + Sync + AllocGlobal),
     words: &[&str],
     image: &[u8],
     source: FromSlice<'_>,
@@ -125,7 +127,7 @@ pub(crate) fn outcome(
 ) -> Result<Left, AllocError>
     requires { 0 < each }
 {
-    left_of::<Brand, Brand>(
+    left_of::<_, Brand, Brand>(
         rt,
         words,
         image,
@@ -147,7 +149,7 @@ fn is_left(left: &Left, wanted: Wanted<'_>) -> bool {
 // Whether a command over this input leaves just this, where its output takes at most `each` bytes at a write, and fails
 // as planned.
 pub(crate) fn leaves_by(
-    rt: &HostRuntime,
+    rt: &(impl Threads + Wait + Sync + AllocGlobal),
     words: &[&str],
     image: &[u8],
     source: FromSlice<'_>,
@@ -163,7 +165,7 @@ pub(crate) fn leaves_by(
 
 // Whether a command over this input leaves just this, where no stream fails.
 pub(crate) fn leaves(
-    rt: &HostRuntime,
+    rt: &(impl Threads + Wait + Sync + AllocGlobal),
     words: &[&str],
     image: &[u8],
     input: &[u8],
@@ -178,7 +180,11 @@ pub(crate) fn leaves(
 }
 
 // Whether a check of these bytes is refused with this line.
-pub(crate) fn is_refused(rt: &HostRuntime, image: &[u8], errors: &str) -> Result<bool, AllocError> {
+pub(crate) fn is_refused(
+    rt: &(impl Threads + Wait + Sync + AllocGlobal),
+    image: &[u8],
+    errors: &str,
+) -> Result<bool, AllocError> {
     let wanted = Wanted {
         status: 1,
         output: "",
@@ -189,7 +195,7 @@ pub(crate) fn is_refused(rt: &HostRuntime, image: &[u8], errors: &str) -> Result
 
 // Whether an input is played to its end, with this trace.
 pub(crate) fn plays(
-    rt: &HostRuntime,
+    rt: &(impl Threads + Wait + Sync + AllocGlobal),
     image: &[u8],
     input: &[u8],
     trace: &str,

@@ -7,8 +7,10 @@ use sc_values::{Failed, Failures, FromSlice, Plan, Sink};
 use std::alloc::{AllocError, Global};
 use std::marker::Brand;
 use std::process::Abort;
+use std::sync::Wait;
 use std::sync::ledger::{Blank, Ledger};
 use std::test::Fail;
+use std::thread::Threads;
 
 const FIRST: &str = "{\"out\":{\"x\":1,\"y\":1},\"steps\":7,\"tick\":1}\n";
 
@@ -17,7 +19,7 @@ const BOTH: &str =
 
 // Whether a run of `TWO_THREADS` over a source leaves this.
 fn runs(
-    rt: &HostRuntime,
+    rt: &(impl Threads + Wait + Sync + AllocGlobal),
     source: FromSlice<'_>,
     status: u8,
     output: &str,
@@ -52,7 +54,7 @@ fn spaced(alloc: Global, spaces: usize, behind: &[u8]) -> Result<Vec<u8>, AllocE
 
 // Whether a run over such a line leaves this.
 fn runs_spaced(
-    rt: &HostRuntime,
+    rt: &(impl Threads + Wait + Sync + AllocGlobal),
     spaces: usize,
     behind: &[u8],
     status: u8,
@@ -90,7 +92,11 @@ fn nested(alloc: Global, depth: usize) -> Result<Vec<u8>, AllocError> {
 }
 
 // Whether a run over such a line is refused with this line.
-fn refuses_nested(rt: &HostRuntime, depth: usize, errors: &str) -> Result<bool, AllocError> {
+fn refuses_nested(
+    rt: &(impl Threads + Wait + Sync + AllocGlobal),
+    depth: usize,
+    errors: &str,
+) -> Result<bool, AllocError> {
     let line = nested(rt.alloc(), depth)?;
     let wanted = Wanted {
         status: 1,
@@ -223,8 +229,8 @@ impl<L: Ledger> Sink for Full<L> {
 }
 
 // The status and the errors of a run whose output takes no byte.
-fn left_without_output<L: Ledger, M: Ledger>(
-    rt: &HostRuntime,
+fn left_without_output<T: Threads + Wait + Sync + AllocGlobal, L: Ledger, M: Ledger>(
+    rt: &T,
     source: FromSlice<'_>,
     written: Blank,
     reported: Blank,
@@ -235,17 +241,17 @@ fn left_without_output<L: Ledger, M: Ledger>(
     let mut output: Full<L> = Full {
         failed: Failures::none(written),
     };
-    done_over::<Full<L>, M>(rt, &RUN, &TWO_THREADS, source, &mut output, reported)
+    done_over::<_, Full<L>, M>(rt, &RUN, &TWO_THREADS, source, &mut output, reported)
 }
 
 // Whether a run whose output takes no byte has this status and these errors.
 fn stops_at_a_full_output(
-    rt: &HostRuntime,
+    rt: &(impl Threads + Wait + Sync + AllocGlobal),
     input: &[u8],
     status: u8,
     errors: &str,
 ) -> Result<bool, AllocError> {
-    let (left, told) = left_without_output::<Brand, Brand>(
+    let (left, told) = left_without_output::<_, Brand, Brand>(
         rt,
         whole(input),
         Blank::new(1),

@@ -4,10 +4,15 @@ use crate::outcomes::{Wanted, leaves, outcome};
 use sc_values::{FromSlice, Plan};
 use std::alloc::{AllocError, Global};
 use std::process::Abort;
+use std::sync::Wait;
 use std::test::Fail;
+use std::thread::Threads;
 
 // Whether words ask for nothing: status 2, and what is wrong on the errors.
-fn is_misuse(rt: &HostRuntime, words: &[&str]) -> Result<bool, AllocError> {
+fn is_misuse(
+    rt: &(impl Threads + Wait + Sync + AllocGlobal),
+    words: &[&str],
+) -> Result<bool, AllocError> {
     let nothing = FromSlice {
         rest: b"",
         each: 3,

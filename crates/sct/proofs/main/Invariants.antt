@@ -2,10 +2,10 @@
 use Rattle.sct.proofs.main.Given as goal
 
 abbrev pub ghosts-serve-L-Ledger : goal.ghosts-serve-L-Ledger
-ghosts-serve-L-Ledger a = record { name = a.read.name; parts = a.read.parts }
+ghosts-serve-L-Ledger g a = record { name = a.streams.read.name; parts = a.streams.read.parts }
 
 abbrev pub ghosts-serve-M-Ledger : goal.ghosts-serve-M-Ledger
-ghosts-serve-M-Ledger a = record { name = a.written.name; parts = a.written.parts }
+ghosts-serve-M-Ledger g a = record { name = a.streams.written.name; parts = a.streams.written.parts }
 
 abbrev pub ghosts-serve-N-Ledger : goal.ghosts-serve-N-Ledger
-ghosts-serve-N-Ledger a = record { name = a.reported.name; parts = a.reported.parts }
+ghosts-serve-N-Ledger g a = record { name = a.streams.reported.name; parts = a.streams.reported.parts }
