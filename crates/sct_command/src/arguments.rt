@@ -45,10 +45,13 @@ impl From<AllocError> for Unread {
 const EXAMPLE: &str =
     "Examples:\n  sct compile examples/abro.scl abro.image\n  sct run examples/two_threads.image < examples/two_threads.ticks";
 
-// A command that takes the file of an image.
-fn over_image<'a>(alloc: Global, name: &'a str, about: &'a str) -> Result<Command<'a>, AllocError> {
+// The command that verifies.
+fn check_command<'a>(alloc: Global) -> Result<Command<'a>, AllocError> {
     let image = file_name(alloc, "image", "IMAGE", "The file of the image");
-    Command::new(alloc, name).about(about).arg(image)
+    Command::new(alloc, "check")
+        .about("Decodes and verifies an image")
+        .after_help("Example:\n  sct check examples/two_threads.image")
+        .arg(image)
 }
 
 // The operand of a command that is the name of a file.
@@ -70,6 +73,7 @@ fn run_command<'a>(alloc: Global) -> Result<Command<'a>, AllocError> {
         .default_value("2");
     Command::new(alloc, "run")
         .about("Plays standard input to standard output, a tick for each line")
+        .after_help("Example:\n  sct run examples/two_threads.image < examples/two_threads.ticks")
         .arg(file_name(alloc, "image", "IMAGE", "The file of the image"))?
         .arg(workers)
 }
@@ -85,6 +89,7 @@ fn migrate_command<'a>(alloc: Global) -> Result<Command<'a>, AllocError> {
     let new = file_name(alloc, "new", "NEW", "The file that is written");
     Command::new(alloc, "migrate")
         .about("Writes an image in version 2 of the layout")
+        .after_help("Example:\n  sct migrate examples/v1/two_threads.image two_threads.image")
         .arg(old)?
         .arg(new)
 }
@@ -94,6 +99,7 @@ fn compile_command<'a>(alloc: Global) -> Result<Command<'a>, AllocError> {
     let image = file_name(alloc, "image", "IMAGE", "The file that is written");
     Command::new(alloc, "compile")
         .about("Compiles a chart or an SCL text to an image")
+        .after_help("Example:\n  sct compile examples/abro.chart abro.image")
         .arg(file_name(alloc, "file", "FILE", "The file of the chart or SCL text"))?
         .arg(image)
 }
@@ -103,11 +109,11 @@ fn scl_command<'a>(alloc: Global) -> Result<Command<'a>, AllocError> {
     let file = file_name(alloc, "file", "FILE", "The file of the chart or SCL text");
     Command::new(alloc, "scl")
         .about("Prints an SCL text, or that of a chart, in its layout")
+        .after_help("Example:\n  sct scl examples/abro.chart")
         .arg(file)
 }
 
 fn sct_command<'a>(alloc: Global) -> Result<Command<'a>, AllocError> {
-    let check = over_image(alloc, "check", "Decodes and verifies an image")?;
     Command::new(alloc, "sct")
         .bin_name("sct")?
         .version("0.1.0")
@@ -119,7 +125,7 @@ fn sct_command<'a>(alloc: Global) -> Result<Command<'a>, AllocError> {
         .after_help(EXAMPLE)
         .subcommand(compile_command(alloc)?)?
         .subcommand(scl_command(alloc)?)?
-        .subcommand(check)?
+        .subcommand(check_command(alloc)?)?
         .subcommand(run_command(alloc)?)?
         .subcommand(migrate_command(alloc)?)
 }

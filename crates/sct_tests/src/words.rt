@@ -75,6 +75,9 @@ Arguments:
 Options:
       --workers <N>  How many threads serve, from 1 to 8: the trace is the same for each [default: 2]
   -h, --help         Print help
+
+Example:
+  sct run examples/two_threads.image < examples/two_threads.ticks
 ";
 
 #[test]
