@@ -2,7 +2,7 @@
 use Rattle.sct_tests.proofs.streams.stops_at_a_full_output.Given as goal
 
 abbrev pub ghosts-left_without_output-L-Ledger : goal.ghosts-left_without_output-L-Ledger
-ghosts-left_without_output-L-Ledger a = record { name = a.written.name; parts = a.written.parts }
+ghosts-left_without_output-L-Ledger g a = record { name = a.written.name; parts = a.written.parts }
 
 abbrev pub ghosts-left_without_output-M-Ledger : goal.ghosts-left_without_output-M-Ledger
-ghosts-left_without_output-M-Ledger a = record { name = a.reported.name; parts = a.reported.parts }
+ghosts-left_without_output-M-Ledger g a = record { name = a.reported.name; parts = a.reported.parts }
