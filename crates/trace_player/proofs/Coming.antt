@@ -3,17 +3,22 @@ use Rattle.std.proofs.Common.{◌≡◌, ◌≢◌, ◌+◌, ℕ, min, Option, R
 use Rattle.bytecode.specs.Image.{Image}
 use Rattle.trace_player.specs.declared.player.PlayFault.{PlayFault}
 use Rattle.trace_player.specs.declared.player.PlayFault.TheVariants as play_fault
-use Rattle.trace_player.specs.Trace.{Plays, PlaysFirst, PlaysPart, Leaves, Good, greatest}
+use Rattle.probe.specs.Outputs.{Outputs}
+use Rattle.trace_player.specs.Trace.{Good, greatest}
+use Rattle.trace_player.specs.Published.{PlaysTo, PlaysFirstTo, PlaysPartTo, LeavesTo}
 use Rattle.trace_player.specs.Inside.Playing.{CameTo}
-use Rattle.trace_player.proofs.Playing.{not_begun}
+use Rattle.trace_player.proofs.Playing.{not_begun, leaves}
 
 -- the input was played to its end
-pub came_well : (image : Image) (input old new : Option (List ℕ)) (r r' w w' k : ℕ)
-    → ((out : List (List ℕ)) × (k ≡ min (length out) greatest) × Plays image input old new out Good) → r' ≡ r → w' ≡ w → CameTo image input old new r r' w w' (Ok k)
-came_well image input old new r r' w w' k plays reads writes =
+pub came_well : (image : Image) (input old new : Option (List ℕ)) (rows rows' : Option (List Outputs)) (r r' w w' k : ℕ)
+    → ((out : List (List ℕ)) × (k ≡ min (length out) greatest) × PlaysTo image input old new rows rows' out Good) → r' ≡ r → w' ≡ w
+    → CameTo image input old new rows rows' r r' w w' (Ok k)
+came_well image input old new rows rows' r r' w w' k plays reads writes =
     record {
-      whole = plays;
+      whole = (plays.0, plays.1, plays.2.plays);
       fault = tt;
+      published = record { out = plays.0; count = plays.1; plays_to = plays.2 };
+      published_before = tt;
       read = λ e. absurd cc;
       not_read = λ _. reads;
       write = λ e. absurd cc;
@@ -21,13 +26,15 @@ came_well image input old new r r' w w' k plays reads writes =
     }
 
 -- it was not, for this fault
-pub came_off : (image : Image) (input old new : Option (List ℕ)) (r r' w w' : ℕ) (f : PlayFault)
-    → Leaves image input old new f → (f ≡ play_fault.Read → r' ≡ r + 1) → (f ≢ play_fault.Read → r' ≡ r)
-    → (f ≡ play_fault.Write → w' ≡ w + 1) → (f ≢ play_fault.Write → w' ≡ w) → CameTo image input old new r r' w w' (Err f)
-came_off image input old new r r' w w' f leaves read not_read write not_write =
+pub came_off : (image : Image) (input old new : Option (List ℕ)) (rows rows' : Option (List Outputs)) (r r' w w' : ℕ) (f : PlayFault)
+    → LeavesTo image input old new rows rows' f → (f ≡ play_fault.Read → r' ≡ r + 1) → (f ≢ play_fault.Read → r' ≡ r)
+    → (f ≡ play_fault.Write → w' ≡ w + 1) → (f ≢ play_fault.Write → w' ≡ w) → CameTo image input old new rows rows' r r' w w' (Err f)
+came_off image input old new rows rows' r r' w w' f left read not_read write not_write =
     record {
       whole = tt;
-      fault = leaves;
+      fault = leaves image input old new rows rows' f left;
+      published = tt;
+      published_before = left;
       read = λ e. let is : f ≡ play_fault.Read = cc in read is;
       not_read = λ n. not_read (λ e. n (ap Err e));
       write = λ e. let is : f ≡ play_fault.Write = cc in write is;
@@ -35,18 +42,19 @@ came_off image input old new r r' w w' f leaves read not_read write not_write =
     }
 
 -- memory was refused, after some lines
-pub came_short : (image : Image) (input old new : Option (List ℕ)) (r r' w w' : ℕ)
-    → PlaysFirst image input old new → r' ≡ r → w' ≡ w → CameTo image input old new r r' w w' (Err play_fault.Memory)
-came_short image input old new r r' w w' first reads writes =
-    came_off image input old new r r' w w' play_fault.Memory first (λ e. absurd cc) (λ _. reads) (λ e. absurd cc) (λ _. writes)
+pub came_short : (image : Image) (input old new : Option (List ℕ)) (rows rows' : Option (List Outputs)) (r r' w w' : ℕ)
+    → PlaysFirstTo image input old new rows rows' → r' ≡ r → w' ≡ w → CameTo image input old new rows rows' r r' w w' (Err play_fault.Memory)
+came_short image input old new rows rows' r r' w w' first reads writes =
+    came_off image input old new rows rows' r r' w w' play_fault.Memory first (λ e. absurd cc) (λ _. reads) (λ e. absurd cc) (λ _. writes)
 
 -- a line of output was not written, or not to its end
-pub came_cut : (image : Image) (input old new : Option (List ℕ)) (r r' w w' : ℕ)
-    → PlaysPart image input old new → r' ≡ r → w' ≡ w + 1 → CameTo image input old new r r' w w' (Err play_fault.Write)
-came_cut image input old new r r' w w' part reads writes =
-    came_off image input old new r r' w w' play_fault.Write part (λ e. absurd cc) (λ _. reads) (λ _. writes) (λ n. absurd (n refl))
+pub came_cut : (image : Image) (input old new : Option (List ℕ)) (rows rows' : Option (List Outputs)) (r r' w w' : ℕ)
+    → PlaysPartTo image input old new rows rows' → r' ≡ r → w' ≡ w + 1 → CameTo image input old new rows rows' r r' w w' (Err play_fault.Write)
+came_cut image input old new rows rows' r r' w w' part reads writes =
+    came_off image input old new rows rows' r r' w w' play_fault.Write part (λ e. absurd cc) (λ _. reads) (λ _. writes) (λ n. absurd (n refl))
 
 -- memory was refused before the first line
-pub came_never : (image : Image) (input old : Option (List ℕ)) (r w : ℕ) (f : PlayFault) (result : Result ℕ PlayFault)
-    → result ≡ Err f → f ≡ play_fault.Memory → CameTo image input old old r r w w result
-came_never image input old r w f result is memory = rw (is, memory) (came_short image input old old r r w w (not_begun image input old) refl refl)
+pub came_never : (image : Image) (input old : Option (List ℕ)) (rows : Option (List Outputs)) (r w : ℕ) (f : PlayFault) (result : Result ℕ PlayFault)
+    → result ≡ Err f → f ≡ play_fault.Memory → CameTo image input old old rows rows r r w w result
+came_never image input old rows r w f result is memory =
+    rw (is, memory) (came_short image input old old rows rows r r w w (not_begun image input old rows) refl refl)

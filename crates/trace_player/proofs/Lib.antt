@@ -1,4 +1,5 @@
 pub mod Coming
+pub mod Ending
 pub mod OneTrace
 pub mod Playing
 pub mod Splits

@@ -1,3 +1,4 @@
 pub mod FaultText
 pub mod Trace
+pub mod Published
 pub mod Inside

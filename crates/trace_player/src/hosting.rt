@@ -29,6 +29,7 @@ where
     requires image { verified.now ≡ J.image }
     requires workers { workers ≤ 8 }
     ensures came { CameTo J.image (P.to_come ports.old) (P.taken ports.old) (P.taken ports.new)
+        (P.published ports.old) (P.published ports.new)
         (P.failed_reads ports.old) (P.failed_reads ports.new)
         (P.failed_writes ports.old) (P.failed_writes ports.new) result }
     ensures same { P.names ports.new ≡ P.names ports.old }
@@ -68,6 +69,7 @@ where
     P: Ports,
     ensures name { result.1.ghost_name ≡ ports.entry.ghost_name }
     ensures came { CameTo J.image (P.to_come ports.entry.now) (P.taken ports.entry.now) (P.taken result.1.now)
+        (P.published ports.entry.now) (P.published result.1.now)
         (P.failed_reads ports.entry.now) (P.failed_reads result.1.now)
         (P.failed_writes ports.entry.now) (P.failed_writes result.1.now) result.0 }
     ensures same { P.names result.1.now ≡ P.names ports.entry.now }
@@ -78,6 +80,7 @@ where
         move |scope| -> (Result<u64, PlayFault>, &mut P)
             ensures name { result.1.ghost_name ≡ ports.entry.ghost_name }
             ensures came { CameTo J.image (P.to_come ports.entry.now) (P.taken ports.entry.now) (P.taken result.1.now)
+                (P.published ports.entry.now) (P.published result.1.now)
                 (P.failed_reads ports.entry.now) (P.failed_reads result.1.now)
                 (P.failed_writes ports.entry.now) (P.failed_writes result.1.now) result.0 }
             ensures same { P.names result.1.now ≡ P.names ports.entry.now }
@@ -100,6 +103,7 @@ where
     G: Gate + Sync + 's,
     P: Ports,
     ensures came { CameTo J.image (P.to_come ports.old) (P.taken ports.old) (P.taken ports.new)
+        (P.published ports.old) (P.published ports.new)
         (P.failed_reads ports.old) (P.failed_reads ports.new)
         (P.failed_writes ports.old) (P.failed_writes ports.new) result }
     ensures same { P.names ports.new ≡ P.names ports.old }

@@ -10,4 +10,4 @@ mod shift;
 mod turns;
 
 pub use laws::one_trace;
-pub use player::{PlayFault, play};
+pub use player::{PlayFault, play, play_to};

@@ -1,10 +1,12 @@
 ghost use Rattle.std.specs.Prelude.{◌≡◌, ◌≢◌, ◌+◌, ◌≤◌, min, ℕ, List, length};
-ghost use Rattle.std.specs.Prelude.{IfOk, IfErr, IsErrOf};
+ghost use Rattle.std.specs.Prelude.{Some, IfOk, IfErr, IsErrOf};
 ghost use Rattle.trace_player.specs.declared.player.PlayFault.TheVariants.{Memory};
 ghost use Rattle.trace_player.specs.Trace.{Plays, Leaves, Good, greatest};
+ghost use Rattle.trace_player.specs.Published.{PlaysAllTo, LeavesTo};
 
 use crate::hosting::host;
-use crate::ports::Streams;
+use crate::ports::{Streams, Watched};
+use probe::Publisher;
 use sc_values::{Sink, Source};
 use std::alloc::{AllocError, Global};
 use std::marker::Brand;
@@ -69,4 +71,45 @@ pub fn play<'x, R: Threads + Wait + Sync, S: Source, W: Sink, G: Gate + Sync>(
 {
     let mut streams = Streams { source, sink };
     host::<Brand, R, G, Streams<'_, '_, S, W>>(rt, alloc, image, workers, gate, &mut streams)
+}
+
+/// Plays an input as `play` does, and publishes the end of each tick before its line of output is written. So the ends
+/// of all ticks that have a line of output were published, and at `Write` that of the last one too, whose line is
+/// perhaps there in part. `Memory` also where memory for publishing was refused.
+pub fn play_to<'x, R: Threads + Wait + Sync, S: Source, W: Sink, G: Gate + Sync>(
+    rt: &R,
+    alloc: Global,
+    image: &'x Verified,
+    source: &mut S,
+    sink: &mut W,
+    workers: u8,
+    gate: &'x G,
+    publisher: &mut Publisher,
+) -> Result<u64, PlayFault>
+    requires workers { (1 ≤ workers) × (workers ≤ 8) }
+    ensures whole { IfOk result (λ ticks. (out : List (List ℕ)) × (ticks ≡ min (length out) greatest)
+        × Plays image.now (S.to_come source.old) (W.taken sink.old) (W.taken sink.new) out Good) }
+    ensures fault { IfErr result (Leaves image.now
+        (S.to_come source.old) (W.taken sink.old) (W.taken sink.new)) }
+    ensures read { IsErrOf result PlayFault.Read
+        → S.failures source.new ≡ S.failures source.old + 1 }
+    ensures not_read { result ≢ Err PlayFault.Read
+        → S.failures source.new ≡ S.failures source.old }
+    ensures write { IsErrOf result PlayFault.Write
+        → W.failures sink.new ≡ W.failures sink.old + 1 }
+    ensures not_write { result ≢ Err PlayFault.Write
+        → W.failures sink.new ≡ W.failures sink.old }
+    ensures published { IfOk result (PlaysAllTo image.now
+        (S.to_come source.old) (W.taken sink.old) (W.taken sink.new)
+        (Some publisher.old.rows) (Some publisher.new.rows)) }
+    ensures published_before { IfErr result (LeavesTo image.now
+        (S.to_come source.old) (W.taken sink.old) (W.taken sink.new)
+        (Some publisher.old.rows) (Some publisher.new.rows)) }
+{
+    let mut watched = Watched {
+        source,
+        sink,
+        publisher,
+    };
+    host::<Brand, R, G, Watched<'_, '_, '_, S, W>>(rt, alloc, image, workers, gate, &mut watched)
 }

@@ -48,6 +48,7 @@ where
     G: Gate + Sync + 's,
     P: Ports,
     ensures came { CameTo J.image (P.to_come ports.old) (P.taken ports.old) (P.taken ports.new)
+        (P.published ports.old) (P.published ports.new)
         (P.failed_reads ports.old) (P.failed_reads ports.new)
         (P.failed_writes ports.old) (P.failed_writes ports.new) result }
     ensures same { P.names ports.new ≡ P.names ports.old }
@@ -69,6 +70,7 @@ where
     G: Gate + Sync + 's,
     P: Ports,
     ensures came { CameTo J.image (P.to_come ports.old) (P.taken ports.old) (P.taken ports.new)
+        (P.published ports.old) (P.published ports.new)
         (P.failed_reads ports.old) (P.failed_reads ports.new)
         (P.failed_writes ports.old) (P.failed_writes ports.new) result }
     ensures same { P.names ports.new ≡ P.names ports.old }
@@ -101,6 +103,7 @@ where
     requires rests { Rests J.image.program control }
     requires lines { lines.old ≡ [] }
     ensures came { CameTo J.image (P.to_come ports.old) (P.taken ports.old) (P.taken ports.new)
+        (P.published ports.old) (P.published ports.new)
         (P.failed_reads ports.old) (P.failed_reads ports.new)
         (P.failed_writes ports.old) (P.failed_writes ports.new) result }
     ensures same { P.names ports.new ≡ P.names ports.old }
@@ -118,6 +121,7 @@ where
             Err(fault) => return Err(unread_line(fault, next)),
         };
         let (after, left) = shift.react(interface, room, control, next, &line, &mut shown)?;
+        ports.publish(shift.rt, shift.verified, &after)?;
         if !ports.write(shown.as_slice()) {
             return Err(PlayFault::Write);
         }

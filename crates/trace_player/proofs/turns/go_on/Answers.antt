@@ -5,8 +5,11 @@ use Rattle.sc_values.specs.Streams.{GrowsInto}
 use Rattle.trace_lines.specs.Lines.{ahead, TakesLine, IsTooLong}
 use Rattle.trace_lines.specs.declared.lines.LinesFault.TheVariants as lines_fault
 use Rattle.trace_lines.specs.declared.lines.LineEnd.TheVariants as line_end
-use Rattle.trace_player.specs.Trace.{Leaves, Shows, next_number}
+use Rattle.trace_player.specs.Trace.{Shows, next_number}
+use Rattle.trace_player.specs.Published.{LeavesTo}
+use Rattle.bytecode.specs.Image.{Image}
 use Rattle.trace_player.specs.Inside.Faults.{Tells, unread}
+use Rattle.trace_player.specs.Inside.Playing.{Gains}
 use Rattle.trace_player.proofs.Coming.{came_well, came_off, came_short, came_cut}
 use Rattle.trace_player.proofs.Playing.{Played, none_played, one_played, all_played, stopped, stopped_reading, stopped_reacting, stopped_writing, one_fault, unread_read, unread_no_write, tells_no_read, tells_no_write}
 use Rattle.trace_player.proofs.turns.go_on.Goals as goal
@@ -14,7 +17,7 @@ use Rattle.trace_player.proofs.turns.go_on.Goals as goal
 pub loop-turn-init : goal.loop-turn-init
 loop-turn-init g c = record {
   played =
-      none_played g.J.Picture.image (g.P.Ports.to_come c.args.ports.now) (g.P.Ports.taken c.args.ports.now) c.args.lines.now c.args.control
+      none_played g.J.Picture.image (g.P.Ports.to_come c.args.ports.now) (g.P.Ports.taken c.args.ports.now) (g.P.Ports.published c.args.ports.now) c.args.lines.now c.args.control
       c.requires.lines c.requires.initial;
   rests = c.requires.rests;
   room = c.requires.room;
@@ -28,11 +31,13 @@ returns-in-Ok-None-clause-came g c =
     let l = c.loop-turn in
     let start = g.P.Ports.to_come c.args.ports.now in
     let old = g.P.Ports.taken c.args.ports.now in
+    let rows = g.P.Ports.published c.args.ports.now in
     let now = ahead l.lines (g.P.Ports.to_come l.ports) in
     let ended : IsAtEnd now = rw c.in-Ok-None.field-0-is at c.in-Ok-None.ensures.end in
     let reads : g.P.Ports.failed_reads c.next.new.self ≡ g.P.Ports.failed_reads l.ports = search rules in
-    came_well g.J.Picture.image start old (g.P.Ports.taken c.next.new.self) _ _ _ _ l.number
-    (rw c.next.ensures.taken (all_played g.J.Picture.image start now l.number l.control old (g.P.Ports.taken l.ports) l.invariant.played ended))
+    came_well g.J.Picture.image start old (g.P.Ports.taken c.next.new.self) rows (g.P.Ports.published c.next.new.self) _ _ _ _ l.number
+    (rw (c.next.ensures.taken, c.next.ensures.published)
+    (all_played g.J.Picture.image start now l.number l.control old (g.P.Ports.taken l.ports) rows (g.P.Ports.published l.ports) l.invariant.played ended))
     (reads ∙ l.invariant.none_read) (c.next.ensures.no_write ∙ l.invariant.none_write)
 
 pub returns-in-Err-clause-came : goal.returns-in-Err-clause-came
@@ -41,12 +46,13 @@ returns-in-Err-clause-came g c =
     let i = g.J.Picture.image in
     let start = g.P.Ports.to_come c.args.ports.now in
     let old = g.P.Ports.taken c.args.ports.now in
+    let rows = g.P.Ports.published c.args.ports.now in
     let now = ahead l.lines (g.P.Ports.to_come l.ports) in
     let long : c.in-Err.fault ≡ lines_fault.TooLong → IsTooLong now = λ e. c.in-Err.ensures.too_long (ap Err e) in
-    let leaves : Leaves i start old (g.P.Ports.taken c.next.new.self) c.unread_line.result =
-    rw (c.unread_line.ensures, c.next_number-next.ensures, c.next.ensures.taken)
-    (stopped_reading i start now l.number l.control old (g.P.Ports.taken l.ports) c.in-Err.fault l.invariant.played long) in
-    came_off i start old (g.P.Ports.taken c.next.new.self) _ _ _ _ c.unread_line.result leaves
+    let left : LeavesTo i start old (g.P.Ports.taken c.next.new.self) rows (g.P.Ports.published c.next.new.self) c.unread_line.result =
+    rw (c.unread_line.ensures, c.next_number-next.ensures, c.next.ensures.taken, c.next.ensures.published)
+    (stopped_reading i start now l.number l.control old (g.P.Ports.taken l.ports) rows (g.P.Ports.published l.ports) c.in-Err.fault l.invariant.played long) in
+    came_off i start old (g.P.Ports.taken c.next.new.self) rows (g.P.Ports.published c.next.new.self) _ _ _ _ c.unread_line.result left
     (λ is.
     let read = unread_read c.in-Err.fault _ (sym c.unread_line.ensures ∙ is) in
     c.in-Err.ensures.failed (ap Err read) ∙ ap (λ n. n + 1) l.invariant.none_read)
@@ -64,6 +70,7 @@ returns-in_err-after-clause-came g c =
     let i = g.J.Picture.image in
     let start = g.P.Ports.to_come c.args.ports.now in
     let old = g.P.Ports.taken c.args.ports.now in
+    let rows = g.P.Ports.published c.args.ports.now in
     let now = ahead l.lines (g.P.Ports.to_come l.ports) in
     let now' = ahead c.next.new.lines (g.P.Ports.to_come c.next.new.self) in
     let fault = c.in_err-after.field-0.0 in
@@ -74,15 +81,33 @@ returns-in_err-after-clause-came g c =
     let takes : TakesLine now now' line = search rules in
     let reads : g.P.Ports.failed_reads c.next.new.self ≡ g.P.Ports.failed_reads l.ports = search rules in
     let exit = err_from_is_err_and c.from_residual.result c.from_residual.ensures.1 in
-    let leaves : Leaves i start old (g.P.Ports.taken c.next.new.self) fault =
-    rw c.next.ensures.taken
-    (stopped_reacting i start now now' l.number l.control old (g.P.Ports.taken l.ports) line fault l.invariant.played takes tells) in
+    let left : LeavesTo i start old (g.P.Ports.taken c.next.new.self) rows (g.P.Ports.published c.next.new.self) fault =
+    rw (c.next.ensures.taken, c.next.ensures.published)
+    (stopped_reacting i start now now' l.number l.control old (g.P.Ports.taken l.ports) rows (g.P.Ports.published l.ports) line fault l.invariant.played takes tells) in
     rw (exit.1, exit.2)
-    (came_off i start old (g.P.Ports.taken c.next.new.self) _ _ _ _ fault leaves
+    (came_off i start old (g.P.Ports.taken c.next.new.self) rows (g.P.Ports.published c.next.new.self) _ _ _ _ fault left
     (λ is. absurd (tells_no_read i.program (next_number l.number) line fault tells is))
     (λ _. reads ∙ l.invariant.none_read)
     (λ is. absurd (tells_no_write i.program (next_number l.number) line fault tells is))
     (λ _. c.next.ensures.no_write ∙ l.invariant.none_write))
+
+pub returns-in_err-publish-clause-came : goal.returns-in_err-publish-clause-came
+returns-in_err-publish-clause-came g c =
+    let l = c.loop-turn in
+    let i = g.J.Picture.image in
+    let start = g.P.Ports.to_come c.args.ports.now in
+    let old = g.P.Ports.taken c.args.ports.now in
+    let rows = g.P.Ports.published c.args.ports.now in
+    let now = ahead l.lines (g.P.Ports.to_come l.ports) in
+    let none : g.P.Ports.published c.publish.new.self ≡ g.P.Ports.published c.next.new.self = search rules in
+    let reads : g.P.Ports.failed_reads c.next.new.self ≡ g.P.Ports.failed_reads l.ports = search rules in
+    let exit = err_from_is_err_and c.from_residual-in_err-publish.result c.from_residual-in_err-publish.ensures.1 in
+    rw (exit.1, exit.2)
+    (came_short i start old (g.P.Ports.taken c.publish.new.self) rows (g.P.Ports.published c.publish.new.self) _ _ _ _
+    (rw (c.publish.ensures.taken ∙ c.next.ensures.taken, none ∙ c.next.ensures.published)
+    (stopped i start now l.number l.control old (g.P.Ports.taken l.ports) rows (g.P.Ports.published l.ports) l.invariant.played))
+    (c.publish.ensures.no_read ∙ reads ∙ l.invariant.none_read)
+    (c.publish.ensures.no_write ∙ c.next.ensures.no_write ∙ l.invariant.none_write))
 
 pub returns-then-not-write-clause-came : goal.returns-then-not-write-clause-came
 returns-then-not-write-clause-came g c =
@@ -90,26 +115,35 @@ returns-then-not-write-clause-came g c =
     let i = g.J.Picture.image in
     let start = g.P.Ports.to_come c.args.ports.now in
     let old = g.P.Ports.taken c.args.ports.now in
+    let rows = g.P.Ports.published c.args.ports.now in
     let now = ahead l.lines (g.P.Ports.to_come l.ports) in
     let now' = ahead c.next.new.lines (g.P.Ports.to_come c.next.new.self) in
     let line = c.next.new.line.items in
     let written = c.react.new.shown.items in
     let given : c.as_slice.result.now ≡ written = search rules in
     let after = c.in_ok-after.after in
+    let next = c.next_number-next.result in
+    let taken = g.P.Ports.taken c.write.new.self in
+    let before : g.P.Ports.taken c.publish.new.self ≡ g.P.Ports.taken l.ports = c.publish.ensures.taken ∙ c.next.ensures.taken in
     let shows : Shows i (next_number l.number) l.control line after written =
     subst (λ k. Shows i k l.control line after written) c.next_number-next.ensures
-    (subst (λ bytes. Shows i c.next_number-next.result l.control bytes after written) c.deref.ensures.value c.in_ok-after.ensures.shows) in
+    (subst (λ bytes. Shows i next l.control bytes after written) c.deref.ensures.value c.in_ok-after.ensures.shows) in
     let takes : TakesLine now now' line = search rules in
-    let some : GrowsInto (g.P.Ports.taken l.ports) (g.P.Ports.taken c.write.new.self) written =
-    subst (λ t. GrowsInto t (g.P.Ports.taken c.write.new.self) written) c.next.ensures.taken
-    (subst (GrowsInto (g.P.Ports.taken c.next.new.self) (g.P.Ports.taken c.write.new.self)) given c.write.ensures.some) in
+    let row : Gains (g.P.Ports.published c.next.new.self) (g.P.Ports.published c.publish.new.self) c.react.new.self.verified.now.program.variables after.variables = search rules in
+    let gains : Gains (g.P.Ports.published l.ports) (g.P.Ports.published c.write.new.self) i.program.variables after.variables =
+    subst (λ (image : Image). Gains (g.P.Ports.published l.ports) (g.P.Ports.published c.write.new.self) image.program.variables after.variables) c.react.new.self.of_image
+    (subst (λ rs. Gains (g.P.Ports.published l.ports) rs c.react.new.self.verified.now.program.variables after.variables) (sym c.write.ensures.published)
+    (subst (λ rs. Gains rs (g.P.Ports.published c.publish.new.self) c.react.new.self.verified.now.program.variables after.variables) c.next.ensures.published row)) in
     let reads : g.P.Ports.failed_reads c.next.new.self ≡ g.P.Ports.failed_reads l.ports = search rules in
+    let some : GrowsInto (g.P.Ports.taken l.ports) taken written =
+    subst (λ t. GrowsInto t taken written) before
+    (subst (GrowsInto (g.P.Ports.taken c.publish.new.self) taken) given c.write.ensures.some) in
     let failed = c.write.ensures.failed c.if-not-write.true in
-    came_cut i start old (g.P.Ports.taken c.write.new.self) _ _ _ _
-    (stopped_writing i start now now' l.number l.control after old (g.P.Ports.taken l.ports) (g.P.Ports.taken c.write.new.self) line written
-    l.invariant.played takes shows some)
-    (c.write.ensures.no_read ∙ reads ∙ l.invariant.none_read)
-    (failed ∙ ap (λ n. n + 1) (c.next.ensures.no_write ∙ l.invariant.none_write))
+    came_cut i start old taken rows (g.P.Ports.published c.write.new.self) _ _ _ _
+    (stopped_writing i start now now' l.number l.control after old (g.P.Ports.taken l.ports) taken rows (g.P.Ports.published l.ports) (g.P.Ports.published c.write.new.self) line written
+    l.invariant.played takes shows some gains)
+    (c.write.ensures.no_read ∙ c.publish.ensures.no_read ∙ reads ∙ l.invariant.none_read)
+    (failed ∙ ap (λ n. n + 1) (c.publish.ensures.no_write ∙ c.next.ensures.no_write ∙ l.invariant.none_write))
 
 pub returns-then-is_last-clause-came : goal.returns-then-is_last-clause-came
 returns-then-is_last-clause-came g c =
@@ -117,6 +151,7 @@ returns-then-is_last-clause-came g c =
     let i = g.J.Picture.image in
     let start = g.P.Ports.to_come c.args.ports.now in
     let old = g.P.Ports.taken c.args.ports.now in
+    let rows = g.P.Ports.published c.args.ports.now in
     let now = ahead l.lines (g.P.Ports.to_come l.ports) in
     let now' = ahead c.next.new.lines (g.P.Ports.to_come c.next.new.self) in
     let line = c.next.new.line.items in
@@ -125,23 +160,31 @@ returns-then-is_last-clause-came g c =
     let after = c.in_ok-after.after in
     let next = c.next_number-next.result in
     let taken = g.P.Ports.taken c.write.new.self in
+    let before : g.P.Ports.taken c.publish.new.self ≡ g.P.Ports.taken l.ports = c.publish.ensures.taken ∙ c.next.ensures.taken in
     let shows : Shows i (next_number l.number) l.control line after written =
     subst (λ k. Shows i k l.control line after written) c.next_number-next.ensures
     (subst (λ bytes. Shows i next l.control bytes after written) c.deref.ensures.value c.in_ok-after.ensures.shows) in
     let takes : TakesLine now now' line = search rules in
+    let row : Gains (g.P.Ports.published c.next.new.self) (g.P.Ports.published c.publish.new.self) c.react.new.self.verified.now.program.variables after.variables = search rules in
+    let gains : Gains (g.P.Ports.published l.ports) (g.P.Ports.published c.write.new.self) i.program.variables after.variables =
+    subst (λ (image : Image). Gains (g.P.Ports.published l.ports) (g.P.Ports.published c.write.new.self) image.program.variables after.variables) c.react.new.self.of_image
+    (subst (λ rs. Gains (g.P.Ports.published l.ports) rs c.react.new.self.verified.now.program.variables after.variables) (sym c.write.ensures.published)
+    (subst (λ rs. Gains rs (g.P.Ports.published c.publish.new.self) c.react.new.self.verified.now.program.variables after.variables) c.next.ensures.published row)) in
+    let reads : g.P.Ports.failed_reads c.next.new.self ≡ g.P.Ports.failed_reads l.ports = search rules in
     let appends : Appends (g.P.Ports.taken l.ports) taken written =
-    subst (λ t. Appends t taken written) c.next.ensures.taken
-    (subst (Appends (g.P.Ports.taken c.next.new.self) taken) given (c.write.ensures.whole c.if-not-write.false)) in
-    let played : Played i start now' next after old taken =
-    subst (λ k. Played i start now' k after old taken) (sym c.next_number-next.ensures)
-    (one_played i start now now' l.number l.control after old (g.P.Ports.taken l.ports) taken line written l.invariant.played takes shows appends) in
+    subst (λ t. Appends t taken written) before
+    (subst (Appends (g.P.Ports.taken c.publish.new.self) taken) given (c.write.ensures.whole c.if-not-write.false)) in
+    let published = g.P.Ports.published c.write.new.self in
+    let played : Played i start now' next after old taken rows published =
+    subst (λ k. Played i start now' k after old taken rows published) (sym c.next_number-next.ensures)
+    (one_played i start now now' l.number l.control after old (g.P.Ports.taken l.ports) taken rows (g.P.Ports.published l.ports) published line written
+    l.invariant.played takes shows appends gains) in
     let last : c.in-Ok-Some.end ≡ line_end.Input = c.is_last.ensures.0 c.if-is_last.true in
     let ended : IsAtEnd now' = c.in-Ok-Some.ensures.last (c.in-Ok-Some.field-0-is ∙ ap Some last) in
-    let reads : g.P.Ports.failed_reads c.next.new.self ≡ g.P.Ports.failed_reads l.ports = search rules in
-    came_well i start old taken _ _ _ _ next
-    (all_played i start now' next after old taken played ended)
-    (c.write.ensures.no_read ∙ reads ∙ l.invariant.none_read)
-    (c.write.ensures.none_failed c.if-not-write.false ∙ c.next.ensures.no_write ∙ l.invariant.none_write)
+    came_well i start old taken rows published _ _ _ _ next
+    (all_played i start now' next after old taken rows published played ended)
+    (c.write.ensures.no_read ∙ c.publish.ensures.no_read ∙ reads ∙ l.invariant.none_read)
+    (c.write.ensures.none_failed c.if-not-write.false ∙ c.publish.ensures.no_write ∙ c.next.ensures.no_write ∙ l.invariant.none_write)
 
 pub loop-turn-preserved : goal.loop-turn-preserved
 loop-turn-preserved g c =
@@ -149,6 +192,7 @@ loop-turn-preserved g c =
     let i = g.J.Picture.image in
     let start = g.P.Ports.to_come c.args.ports.now in
     let old = g.P.Ports.taken c.args.ports.now in
+    let rows = g.P.Ports.published c.args.ports.now in
     let now = ahead l.lines (g.P.Ports.to_come l.ports) in
     let now' = ahead c.next.new.lines (g.P.Ports.to_come c.next.new.self) in
     let line = c.next.new.line.items in
@@ -157,31 +201,40 @@ loop-turn-preserved g c =
     let after = c.in_ok-after.after in
     let next = c.next_number-next.result in
     let taken = g.P.Ports.taken c.write.new.self in
+    let before : g.P.Ports.taken c.publish.new.self ≡ g.P.Ports.taken l.ports = c.publish.ensures.taken ∙ c.next.ensures.taken in
     let shows : Shows i (next_number l.number) l.control line after written =
     subst (λ k. Shows i k l.control line after written) c.next_number-next.ensures
     (subst (λ bytes. Shows i next l.control bytes after written) c.deref.ensures.value c.in_ok-after.ensures.shows) in
     let takes : TakesLine now now' line = search rules in
-    let appends : Appends (g.P.Ports.taken l.ports) taken written =
-    subst (λ t. Appends t taken written) c.next.ensures.taken
-    (subst (Appends (g.P.Ports.taken c.next.new.self) taken) given (c.write.ensures.whole c.if-not-write.false)) in
-    let played : Played i start now' next after old taken =
-    subst (λ k. Played i start now' k after old taken) (sym c.next_number-next.ensures)
-    (one_played i start now now' l.number l.control after old (g.P.Ports.taken l.ports) taken line written l.invariant.played takes shows appends) in
-    let ahead_same : ahead c.next.new.lines (g.P.Ports.to_come c.write.new.self) ≡ now' = ap (ahead c.next.new.lines) c.write.ensures.to_come in
+    let row : Gains (g.P.Ports.published c.next.new.self) (g.P.Ports.published c.publish.new.self) c.react.new.self.verified.now.program.variables after.variables = search rules in
+    let gains : Gains (g.P.Ports.published l.ports) (g.P.Ports.published c.write.new.self) i.program.variables after.variables =
+    subst (λ (image : Image). Gains (g.P.Ports.published l.ports) (g.P.Ports.published c.write.new.self) image.program.variables after.variables) c.react.new.self.of_image
+    (subst (λ rs. Gains (g.P.Ports.published l.ports) rs c.react.new.self.verified.now.program.variables after.variables) (sym c.write.ensures.published)
+    (subst (λ rs. Gains rs (g.P.Ports.published c.publish.new.self) c.react.new.self.verified.now.program.variables after.variables) c.next.ensures.published row)) in
     let reads : g.P.Ports.failed_reads c.next.new.self ≡ g.P.Ports.failed_reads l.ports = search rules in
+    let appends : Appends (g.P.Ports.taken l.ports) taken written =
+    subst (λ t. Appends t taken written) before
+    (subst (Appends (g.P.Ports.taken c.publish.new.self) taken) given (c.write.ensures.whole c.if-not-write.false)) in
+    let published = g.P.Ports.published c.write.new.self in
+    let played : Played i start now' next after old taken rows published =
+    subst (λ k. Played i start now' k after old taken rows published) (sym c.next_number-next.ensures)
+    (one_played i start now now' l.number l.control after old (g.P.Ports.taken l.ports) taken rows (g.P.Ports.published l.ports) published line written
+    l.invariant.played takes shows appends gains) in
+    let ahead_same : ahead c.next.new.lines (g.P.Ports.to_come c.write.new.self) ≡ now' = ap (ahead c.next.new.lines) (c.write.ensures.to_come ∙ c.publish.ensures.to_come) in
     record {
-      played = subst (λ ys. Played i start ys next after old taken) (sym ahead_same) played;
+      played = subst (λ ys. Played i start ys next after old taken rows published) (sym ahead_same) played;
       rests = c.in_ok-after.ensures.rests;
       room = c.in_ok-after.ensures.room;
-      none_read = c.write.ensures.no_read ∙ reads ∙ l.invariant.none_read;
-      none_write = c.write.ensures.none_failed c.if-not-write.false ∙ c.next.ensures.no_write ∙ l.invariant.none_write;
-      same = c.write.ensures.same ∙ c.next.ensures.same ∙ l.invariant.same;
+      none_read = c.write.ensures.no_read ∙ c.publish.ensures.no_read ∙ reads ∙ l.invariant.none_read;
+      none_write = c.write.ensures.none_failed c.if-not-write.false ∙ c.publish.ensures.no_write ∙ c.next.ensures.no_write ∙ l.invariant.none_write;
+      same = c.write.ensures.same ∙ c.publish.ensures.same ∙ c.next.ensures.same ∙ l.invariant.same;
     }
 
 pub returns-clause-came : goal.returns-clause-came
 returns-clause-came g c =
     let l = c.loop-turn in
-    came_short g.J.Picture.image (g.P.Ports.to_come c.args.ports.now) (g.P.Ports.taken c.args.ports.now) (g.P.Ports.taken l.ports) _ _ _ _
+    came_short g.J.Picture.image (g.P.Ports.to_come c.args.ports.now) (g.P.Ports.taken c.args.ports.now) (g.P.Ports.taken l.ports)
+    (g.P.Ports.published c.args.ports.now) (g.P.Ports.published l.ports) _ _ _ _
     (stopped g.J.Picture.image (g.P.Ports.to_come c.args.ports.now) (ahead l.lines (g.P.Ports.to_come l.ports)) l.number l.control
-    (g.P.Ports.taken c.args.ports.now) (g.P.Ports.taken l.ports) l.invariant.played)
+    (g.P.Ports.taken c.args.ports.now) (g.P.Ports.taken l.ports) (g.P.Ports.published c.args.ports.now) (g.P.Ports.published l.ports) l.invariant.played)
     l.invariant.none_read l.invariant.none_write

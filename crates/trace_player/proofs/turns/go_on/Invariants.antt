@@ -6,7 +6,7 @@ use Rattle.trace_player.proofs.turns.go_on.Given as goal
 
 abbrev pub invariant-loop-turn : goal.invariant-loop-turn
 invariant-loop-turn g l = record {
-  played : Played g.J.Picture.image (g.P.Ports.to_come l.fn.ports) (ahead l.lines (g.P.Ports.to_come l.ports)) l.number l.control (g.P.Ports.taken l.fn.ports) (g.P.Ports.taken l.ports);
+  played : Played g.J.Picture.image (g.P.Ports.to_come l.fn.ports) (ahead l.lines (g.P.Ports.to_come l.ports)) l.number l.control (g.P.Ports.taken l.fn.ports) (g.P.Ports.taken l.ports) (g.P.Ports.published l.fn.ports) (g.P.Ports.published l.ports);
   rests : Rests g.J.Picture.image.program l.control;
   room : l.room ≡ g.J.Picture.image;
   none_read : g.P.Ports.failed_reads l.ports ≡ g.P.Ports.failed_reads l.fn.ports;
