@@ -1,0 +1,174 @@
+// What is written of an input, and what an observer sees of its ticks.
+ghost use Rattle.std.specs.Prelude.{◌≡◌, ◌<◌, ◌≤◌};
+
+use crate::abro::ABRO;
+use bytecode::decode;
+use probe::{NoSeat, Observer, Output, Publisher};
+use sc_graph::ThreadId;
+use sc_values::{Failures, FromSlice, Plan, ToVec, Value};
+use std::alloc::Global;
+use std::marker::Brand;
+use std::sync::Wait;
+use std::sync::ledger::{Blank, Ledger};
+use std::test::Fail;
+use std::thread::Threads;
+use trace_player::{PlayFault, play_to};
+use verifier::{Verified, verify};
+use worker_pool::Gate;
+
+// A gate for which every round of two claims is shared.
+struct Shares;
+
+impl Gate for Shares {
+    fn passing(&self, _worker: u8, _thread: ThreadId) {}
+}
+
+// An input, what is to be written of it, how it ends, and how many ticks an observer is to see and which value of O.
+#[derive(Clone, Copy)]
+struct Wanted<'a> {
+    input: &'a str,
+    trace: &'a str,
+    end: Result<u64, PlayFault>,
+    ticks: u64,
+    value: bool,
+}
+
+// Whether playing writes what is wanted and ends so.
+fn plays<R: Threads + Wait + Sync, L: Ledger>(
+    rt: &R,
+    alloc: Global,
+    image: &Verified,
+    publisher: &mut Publisher,
+    wanted: Wanted<'_>,
+    workers: u8,
+    written: Blank,
+) -> bool
+    requires workers { (1 ≤ workers) × (workers ≤ 8) }
+    requires written { (written.name ≡ L.name) × (written.parts ≡ L.parts) × (0 < L.parts) }
+{
+    let mut source = FromSlice {
+        rest: wanted.input.as_bytes(),
+        each: 3,
+        plan: Plan::Never,
+    };
+    let mut sink: ToVec<L> = ToVec::new(alloc, 10, Plan::Never, Failures::none(written));
+    let end = play_to(
+        rt,
+        alloc,
+        image,
+        &mut source,
+        &mut sink,
+        workers,
+        &Shares,
+        publisher,
+    );
+    end == wanted.end && sink.bytes.as_slice() == wanted.trace.as_bytes()
+}
+
+// Whether these outputs are O alone, with this value.
+fn is_o(outputs: &[Output], value: bool) -> bool {
+    match outputs {
+        [output] => output.name.as_bytes() == b"O".as_slice() && output.value == Value::Bool(value),
+        _ => false,
+    }
+}
+
+// Whether a look shows so many ticks, and this value of O.
+fn shows(observer: &mut Observer, ticks: u64, value: bool) -> bool {
+    let seen = observer.look();
+    seen.ticks == ticks && is_o(seen.outputs.outputs(), value)
+}
+
+// Whether it writes what is wanted, and an observer sees what is wanted.
+fn watched<R: Threads + Wait + Sync, L: Ledger>(
+    rt: &R,
+    alloc: Global,
+    image: &Verified,
+    publisher: &mut Publisher,
+    wanted: Wanted<'_>,
+    workers: u8,
+    written: Blank,
+) -> Result<bool, NoSeat>
+    requires workers { (1 ≤ workers) × (workers ≤ 8) }
+    requires written { (written.name ≡ L.name) × (written.parts ≡ L.parts) × (0 < L.parts) }
+{
+    let mut observer = publisher.observer()?;
+    let opening = shows(&mut observer, 0, false);
+    let played = plays::<R, L>(rt, alloc, image, publisher, wanted, workers, written);
+    Ok(opening && played && shows(&mut observer, wanted.ticks, wanted.value))
+}
+
+// The same, with a publisher of its own, that is closed behind it.
+fn tried<R: Threads + Wait + Sync, L: Ledger>(
+    rt: &R,
+    alloc: Global,
+    image: &Verified,
+    wanted: Wanted<'_>,
+    workers: u8,
+    written: Blank,
+) -> Result<bool, Fail>
+    requires workers { (1 ≤ workers) × (workers ≤ 8) }
+    requires written { (written.name ≡ L.name) × (written.parts ≡ L.parts) × (0 < L.parts) }
+{
+    let mut publisher = Publisher::open(rt, alloc, image)?;
+    let seen = watched::<R, L>(rt, alloc, image, &mut publisher, wanted, workers, written);
+    publisher.close(rt);
+    Ok(seen?)
+}
+
+// Fails where it is not as wanted with each number of workers.
+fn tries<R: Threads + Wait + Sync>(rt: &R, alloc: Global, wanted: Wanted<'_>) -> Result<(), Fail> {
+    let image = verify(alloc, decode(alloc, &ABRO)?)?;
+    for workers in 1..=8 {
+        if !tried::<R, Brand>(rt, alloc, &image, wanted, workers, Blank::new(1))? {
+            return Err(Fail::new("something else is written or seen"));
+        }
+    }
+    Ok(())
+}
+
+#[test]
+fn an_observer_sees_the_end_of_a_whole_trace(rt: HostRuntime) -> Result<(), Fail> {
+    let wanted = Wanted {
+        input: "{}\n{\"A\":true}\n{\"B\":true}\n{\"R\":true}\n{\"A\":true}\n{\"A\":true,\"B\":true,\"R\":true}\n{\"A\":true,\"B\":true}\n",
+        trace: "{\"out\":{\"O\":false},\"steps\":7,\"tick\":1}
+{\"out\":{\"O\":false},\"steps\":11,\"tick\":2}
+{\"out\":{\"O\":true},\"steps\":11,\"tick\":3}
+{\"out\":{\"O\":false},\"steps\":16,\"tick\":4}
+{\"out\":{\"O\":false},\"steps\":11,\"tick\":5}
+{\"out\":{\"O\":false},\"steps\":19,\"tick\":6}
+{\"out\":{\"O\":true},\"steps\":15,\"tick\":7}
+",
+        end: Ok(7),
+        ticks: 7,
+        value: true,
+    };
+    tries(&rt, rt.alloc(), wanted)
+}
+
+// The first tick of ABRO, and no second one, for this second line.
+fn stops_at<R: Threads + Wait + Sync>(
+    rt: &R,
+    alloc: Global,
+    input: &str,
+    fault: PlayFault,
+) -> Result<(), Fail> {
+    let wanted = Wanted {
+        input,
+        trace: "{\"out\":{\"O\":false},\"steps\":7,\"tick\":1}\n",
+        end: Err(fault),
+        ticks: 1,
+        value: false,
+    };
+    tries(rt, alloc, wanted)
+}
+
+#[test]
+fn refused_inputs_make_no_tick(rt: HostRuntime) -> Result<(), Fail> {
+    stops_at(&rt, rt.alloc(), "{}\n{\"A\":1}\n{}\n", PlayFault::Input(2))
+}
+
+#[test]
+fn a_line_that_is_no_object_makes_no_tick(rt: HostRuntime) -> Result<(), Fail> {
+    stops_at(&rt, rt.alloc(), "{}\n[]\n{}\n", PlayFault::NotJson(2))
+}
