@@ -4,6 +4,8 @@ pub mod State
 pub mod Whole
 pub mod Turns
 pub mod Events
+pub mod Taking
+pub mod Again
 pub mod FaultText
 pub mod Judging
 pub mod Inside

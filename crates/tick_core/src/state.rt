@@ -9,11 +9,13 @@ ghost use Rattle.sc_graph.specs.Steps.{step};
 ghost use Rattle.sc_graph.specs.Tick.{IsConfiguration, Rests, AreAccepted};
 ghost use Rattle.tick_core.specs.Claims.{Claim as OpenClaim};
 ghost use Rattle.tick_core.specs.Events.{begun};
-ghost use Rattle.tick_core.specs.State.{IsFresh, threads_of};
+ghost use Rattle.tick_core.specs.State.{IsFresh, BeginsTick, threads_of};
 ghost use Rattle.tick_core.specs.Turns.{AreReady};
+ghost use Rattle.tick_core.specs.Again.{begun_again};
 
 mod claiming;
 mod ending;
+mod taking;
 
 use crate::claim::Claim;
 use crate::copying::{copied, copy_into};
@@ -32,6 +34,7 @@ use sc_values::{Kind, Name, Value};
 use sqlite_items::Items;
 use std::alloc::{AllocError, AllocFailed, Global};
 use std::marker::Model;
+pub use taking::NextStep;
 use verifier::Verified;
 
 /// Why a tick was not begun. It prints as the number of the fault.
@@ -243,6 +246,22 @@ impl<'a> Room<'a> {
         ensures refused { OnErr result (¬ (AreAccepted self.entry.program inputs.now)) }
         ensures why { result ≢ Err BeginFault.Memory }
     {
+        let mut room = self;
+        let program = room.verified.image().program();
+        if !room.given.take(program, inputs.as_slice()) {
+            return Err(BeginFault::Input);
+        }
+        let mut begun = control;
+        start(program, room.given.values(), &mut begun);
+        Ok(room.begin_again(begun))
+    }
+
+    /// Begins a tick of the image again, from the configuration in which one began, which is given up. It takes no
+    /// memory.
+    pub fn begin_again(self, begun: Control) -> TickState<'a>
+        requires { BeginsTick self.program begun }
+        ensures { result ≡ begun_again self.entry begun }
+    {
         let Room {
             verified,
             layout,
@@ -251,16 +270,11 @@ impl<'a> Room<'a> {
             mut history,
             claims,
             mut living,
-            mut given,
+            given,
             spare: mut present,
         } = self;
         let image = verified.image();
         let program = image.program();
-        if !given.take(program, inputs.as_slice()) {
-            return Err(BeginFault::Input);
-        }
-        let mut begun = control;
-        start(program, given.values(), &mut begun);
         copy_into(&begun, &mut present);
         history.clear();
         count_every(&layout, program, &present, &mut living);
@@ -272,7 +286,7 @@ impl<'a> Room<'a> {
             &claims,
             &mut rows,
         );
-        Ok(TickState {
+        TickState {
             verified,
             layout,
             rows,
@@ -285,7 +299,7 @@ impl<'a> Room<'a> {
             level: 0,
             living,
             given,
-        })
+        }
     }
 }
 
@@ -299,7 +313,8 @@ impl<'a> TickState<'a> {
 
     /// The configuration in which the tick began.
     pub fn begun(&self) -> &Control
-        ensures { result.now ≡ self.now.begun }
+        ensures value { result.now ≡ self.now.begun }
+        ensures begins { BeginsTick self.now.image.program result.now }
     {
         &self.begun
     }

@@ -10,7 +10,6 @@ use crate::working::{attend, start};
 use ready_queue::Pass;
 use std::sync::Wait;
 use std::thread::Scope;
-use tick_core::Claim;
 
 /// The first worker of a hall, who serves in the caller's thread, and the passes of those whom it may start.
 #[derive(Drop)]
@@ -52,14 +51,12 @@ impl<'r, 'x, J: Picture, G: Gate> Crew<'r, 'x, J, G> {
         })
     }
 
-    /// Shares a tick, of which these two claims are open, until nobody is enabled. None: it was lost.
+    /// Shares a tick until nobody is enabled. None: it was lost.
     pub(crate) fn share<'s, R, E>(
         &mut self,
         rt: &'s R,
         scope: &'s Scope<'s, E>,
         desk: Desk<'x, J>,
-        first: Claim<'x>,
-        second: Claim<'x>,
     ) -> Option<Desk<'x, J>>
     where
         R: Wait + Sync,
@@ -69,7 +66,7 @@ impl<'r, 'x, J: Picture, G: Gate> Crew<'r, 'x, J, G> {
         'r: 's,
         'x: 's,
     {
-        let next = self.seat.lay(rt, desk, first, second);
+        let next = self.seat.lay(rt, desk);
         self.start_others(rt, scope);
         attend(rt, &mut self.seat, next);
         self.hall.clear(rt)

@@ -12,6 +12,7 @@ mod serving;
 mod settling;
 mod table;
 mod ticking;
+mod weighing;
 mod working;
 
 pub use crew::Crew;

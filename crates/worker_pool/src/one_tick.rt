@@ -1,4 +1,4 @@
-ghost use Rattle.std.specs.Prelude.{◌≡◌, ◌≤◌, ◌↔◌, IfOk, IfSome};
+ghost use Rattle.std.specs.Prelude.{◌≡◌, ◌≤◌, ◌↔◌, IfOk};
 ghost use Rattle.std.specs.Result.{IsErrOf};
 ghost use Rattle.sc_graph.specs.Tick.{Rests, AreAccepted};
 ghost use Rattle.worker_pool.specs.Ticks.{IsTick};
@@ -11,13 +11,12 @@ use crate::hall::Hall;
 use crate::picture::Picture;
 use crate::serving::{alone, stretch};
 use crate::settling::settle;
-use crate::ticking::run_again;
-use std::alloc::Global;
+use std::alloc::{AllocError, Global};
 use std::marker::Brand;
 use std::sync::Wait;
 use std::thread;
 use std::thread::{Scope, Threads};
-use tick_core::{BeginFault, Claim, Control, Inputs, Report, TickState, begin, copied};
+use tick_core::{BeginFault, Control, Inputs, Report, TickState, begin, copied};
 use verifier::Verified;
 
 /// Runs a tick from a configuration that rests to its one end, with 1 to 8 workers: the configuration after it, and
@@ -38,14 +37,11 @@ pub fn run_tick<'x, R: Threads + Wait + Sync, G: Gate + Sync>(
     ensures refused { IsErrOf result BeginFault.Input ↔ ¬ (AreAccepted verified.now.program inputs.now) }
 {
     let state = begin(alloc, verified, control, inputs)?;
-    let state = match complete::<Brand, R, G>(rt, alloc, verified, state, workers, gate) {
-        Some(state) => state,
-        None => run_again(alloc, verified, control, inputs)?,
-    };
+    let state = complete::<Brand, R, G>(rt, alloc, verified, state, workers, gate)?;
     Ok(state.finish())
 }
 
-// Runs a tick to where nobody is enabled. None: it was lost.
+// Runs a tick to where nobody is enabled. Err: it was lost, and memory was refused to begin it again.
 fn complete<'x, J, R, G>(
     rt: &R,
     alloc: Global,
@@ -53,7 +49,7 @@ fn complete<'x, J, R, G>(
     state: TickState<'x>,
     workers: u8,
     gate: &'x G,
-) -> Option<TickState<'x>>
+) -> Result<TickState<'x>, AllocError>
 where
     J: Picture + Send + Sync,
     R: Threads + Wait + Sync,
@@ -61,28 +57,25 @@ where
     requires picture { verified.now ≡ J.image }
     requires image { state.image ≡ J.image }
     requires workers { workers ≤ 8 }
-    ensures { IfSome result (EndsTick state.entry) }
+    ensures { IfOk result (EndsTick state.entry) }
 {
     let mut state = state;
-    match stretch(&mut state, workers, gate) {
-        Some((first, second)) => {
-            share::<J, R, G>(rt, alloc, verified, state, first, second, workers, gate)
-        }
-        None => Some(state),
+    if stretch(&mut state, workers, gate) {
+        share::<J, R, G>(rt, alloc, verified, state, workers, gate)
+    } else {
+        Ok(state)
     }
 }
 
-// The same from where these two claims are open. Where memory is refused the first worker goes on alone.
+// The same where there is a round to share. Where memory is refused the first worker goes on alone.
 fn share<'x, J, R, G>(
     rt: &R,
     alloc: Global,
     verified: &'x Verified,
     state: TickState<'x>,
-    first: Claim<'x>,
-    second: Claim<'x>,
     workers: u8,
     gate: &'x G,
-) -> Option<TickState<'x>>
+) -> Result<TickState<'x>, AllocError>
 where
     J: Picture + Send + Sync,
     R: Threads + Wait + Sync,
@@ -90,33 +83,29 @@ where
     requires picture { verified.now ≡ J.image }
     requires image { state.image ≡ J.image }
     requires workers { workers ≤ 8 }
-    ensures { IfSome result (EndsTick state.entry) }
+    ensures { IfOk result (EndsTick state.entry) }
 {
     let Ok(begun) = copied(alloc, state.begun()) else {
-        return Some(alone(state, first, second, gate));
+        return Ok(alone(state, gate));
     };
     let Ok((hall, passes)) = Hall::<'x, J, G>::open(alloc, verified, gate) else {
-        return Some(alone(state, first, second, gate));
+        return Ok(alone(state, gate));
     };
     let Some(crew) = Crew::of(&hall, passes, workers) else {
-        return Some(alone(state, first, second, gate));
+        return Ok(alone(state, gate));
     };
     let party = Party {
         crew,
         desk: Desk::of(state),
-        first,
-        second,
     };
-    settle(meet(rt, party), &begun)
+    settle(alloc, verified, meet(rt, party), begun)
 }
 
-// A crew, and what it is to share: a tick of which these two claims are open.
+// A crew, and the tick that it is to share.
 #[derive(Drop)]
 struct Party<'r, 'x, J: Picture, G: Gate> {
     crew: Crew<'r, 'x, J, G>,
     desk: Desk<'x, J>,
-    first: Claim<'x>,
-    second: Claim<'x>,
 }
 
 // Shares the tick, and waits for all workers.
@@ -139,14 +128,9 @@ where
     R: Wait + Sync,
     G: Gate + Sync + 's,
 {
-    let Party {
-        crew,
-        desk,
-        first,
-        second,
-    } = party;
+    let Party { crew, desk } = party;
     let mut crew = crew;
-    let back = crew.share(rt, scope, desk, first, second);
+    let back = crew.share(rt, scope, desk);
     crew.close(rt);
     back
 }

@@ -5,7 +5,7 @@ use crate::desk::Desk;
 use crate::gate::Gate;
 use crate::hall::Hall;
 use crate::picture::Picture;
-use crate::serving::{operations_of, pass_gate};
+use crate::weighing::operations_of;
 use ready_queue::Pass;
 use std::sync::Wait;
 use tick_core::{Claim, Done, Turn, evaluate};
@@ -78,7 +78,8 @@ impl<'r, 'x, J: Picture, G: Gate> Seat<'r, 'x, J, G> {
     /// Evaluates a claim, lets it pass the gate, and commits it.
     pub(crate) fn serve<R: Wait>(&mut self, rt: &R, claim: Claim<'x>) -> Next<'x> {
         let done = evaluate(claim);
-        pass_gate(self.hall.gate, &done);
+        let passing = done.claim();
+        self.hall.gate.passing(passing.worker(), passing.thread());
         self.bring(rt, &done)
     }
 
@@ -90,19 +91,13 @@ impl<'r, 'x, J: Picture, G: Gate> Seat<'r, 'x, J, G> {
         }
     }
 
-    /// Puts a tick under the lock, of which these two claims are open.
-    pub(crate) fn lay<R: Wait>(
-        &mut self,
-        rt: &R,
-        desk: Desk<'x, J>,
-        first: Claim<'x>,
-        second: Claim<'x>,
-    ) -> Next<'x> {
+    /// Puts a tick under the lock, and claims all that can be claimed.
+    pub(crate) fn lay<R: Wait>(&mut self, rt: &R, desk: Desk<'x, J>) -> Next<'x> {
         let hall = self.hall;
         let mut desk = desk;
         let mut guard = hall.table.lock(rt);
         let table = &mut *guard;
-        let round = self.put_all(rt, &mut desk, first, second);
+        let round = self.claim_all(rt, &mut desk);
         table.desk = Some(desk);
         let (next, calls) = table.note(round, hall.gate.waits());
         drop(guard);
@@ -139,8 +134,8 @@ impl<'r, 'x, J: Picture, G: Gate> Seat<'r, 'x, J, G> {
         }
     }
 
-    /// Puts these two claims, and claims and puts all others. One that the queue hands back it keeps.
-    pub(crate) fn put_all<R: Wait>(
+    // Puts these two claims, and claims and puts all others. One that the queue hands back it keeps.
+    fn put_all<R: Wait>(
         &mut self,
         rt: &R,
         desk: &mut Desk<'x, J>,

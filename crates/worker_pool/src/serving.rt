@@ -1,70 +1,57 @@
-ghost use Rattle.std.specs.Prelude.{◌≤◌, IfNone};
+ghost use Rattle.std.specs.Prelude.{◌≡◌, false};
 ghost use Rattle.sc_values.specs.Runs.{IsOver};
 ghost use Rattle.sc_graph.specs.Machine.{machine};
+ghost use Rattle.tick_core.specs.Taking.{IsNextStep};
 ghost use Rattle.worker_pool.specs.Inside.Stretches.{SameTick, EndsTick};
 
 use crate::gate::Gate;
-use tick_core::{Claim, Done, TickState, Turn, evaluate};
-
-/// How many operations are worth a worker that has to be woken, where no step waits for another.
-pub(crate) const SHARE: u64 = 256;
+use crate::weighing::is_much;
+use sc_graph::{Status, ThreadId};
+use tick_core::{NextStep, TickState};
 
 /// The steps of a tick that the first worker takes before it shares the tick with others: all of them where there are
-/// no others, else as long as there is nothing to share. Then the claims of two threads. None: nobody is enabled.
-pub(crate) fn stretch<'x, G: Gate>(
-    state: &mut TickState<'x>,
-    workers: u8,
-    gate: &G,
-) -> Option<(Claim<'x>, Claim<'x>)>
+/// no others, else as long as there is nothing to share. Whether it is to be shared; if not, nobody is enabled.
+pub(crate) fn stretch<G: Gate>(state: &mut TickState<'_>, workers: u8, gate: &G) -> bool
     ensures same { SameTick state.old state.new }
-    ensures over { IfNone result (IsOver (machine state.new.image.program) state.new.present) }
+    ensures over { result ≡ false → IsOver (machine state.new.image.program) state.new.present }
 {
-    if workers > 1 {
-        let claims = lead(state, gate);
-        if claims.is_some() {
-            return claims;
-        }
+    if workers > 1 && lead(state, gate) {
+        return true;
     }
     serve(state, gate);
-    None
+    false
 }
 
-// Takes steps of a tick as long as one thread alone can step, or several have little work. Then the claims of two
-// threads.
-fn lead<'x, G: Gate>(state: &mut TickState<'x>, gate: &G) -> Option<(Claim<'x>, Claim<'x>)>
+// Takes steps of a tick as long as one thread alone can step, or several have little work. Whether there is a round to
+// share then.
+fn lead<G: Gate>(state: &mut TickState<'_>, gate: &G) -> bool
     ensures { SameTick state.old state.new }
 {
     for _ in 0..u64::MAX {
-        let Turn::Claim(first) = state.claim(1) else {
-            break;
+        let Some(next) = state.next_step() else {
+            return false;
         };
-        match state.claim(1) {
-            Turn::Claim(second) if gate.waits() || is_much(state, &first, &second) => {
-                return Some((first, second));
-            }
-            Turn::Claim(second) => {
-                step(state, first, gate);
-                step(state, second, gate);
-            }
-            Turn::NoneNow | Turn::Over => step(state, first, gate),
+        if is_to_share(state, next.thread, gate) {
+            return true;
         }
+        take(state, next, gate);
     }
-    None
+    false
 }
 
-// Whether the round in which these two claims stand has work for a second worker, as far as they show.
-fn is_much(state: &TickState<'_>, first: &Claim<'_>, second: &Claim<'_>) -> bool {
-    let priority = state.image().tables().priority(first.node());
-    let pairs = state.ready(priority).len() / 2 + 1;
-    let work = operations_of(first).saturating_add(operations_of(second));
-    work.saturating_mul(pairs as u64) >= 2 * SHARE
+// Whether the round in which this thread leads is worth sharing.
+fn is_to_share<G: Gate>(state: &TickState<'_>, thread: ThreadId, gate: &G) -> bool {
+    let round = round_of(state, thread);
+    round.len() > 1 && (gate.waits() || is_much(state, round))
 }
 
-/// The operations that are evaluated for a claim, and one for its step.
-pub(crate) fn operations_of(claim: &Claim<'_>) -> u64 {
-    match claim.code() {
-        Some(code) => code.code().operations().len() as u64 + 1,
-        None => 1,
+// The threads that can step at the priority of this one.
+fn round_of<'s>(state: &'s TickState<'_>, thread: ThreadId) -> &'s [ThreadId] {
+    match state.present().status(thread) {
+        Status::At(node) | Status::Waiting(node) => {
+            state.ready(state.image().tables().priority(node))
+        }
+        Status::Absent | Status::Paused(_) | Status::Ended => &[],
     }
 }
 
@@ -73,41 +60,28 @@ pub(crate) fn serve<G: Gate>(state: &mut TickState<'_>, gate: &G)
     ensures { EndsTick state.old state.new }
 {
     for _ in 0..u64::MAX {
-        match state.claim(1) {
-            Turn::Claim(claim) => step(state, claim, gate),
-            Turn::NoneNow | Turn::Over => break,
+        match state.next_step() {
+            Some(next) => take(state, next, gate),
+            None => break,
         }
     }
     state.run_alone();
 }
 
-/// The first worker takes all steps that are left of a tick, of which these two claims are open.
-pub(crate) fn alone<'x, G: Gate>(
-    state: TickState<'x>,
-    first: Claim<'x>,
-    second: Claim<'x>,
-    gate: &G,
-) -> TickState<'x>
+/// The first worker takes all steps that are left of a tick.
+pub(crate) fn alone<'x, G: Gate>(state: TickState<'x>, gate: &G) -> TickState<'x>
     ensures { EndsTick state.entry result }
 {
     let mut state = state;
-    step(&mut state, first, gate);
-    step(&mut state, second, gate);
     serve(&mut state, gate);
     state
 }
 
-// Evaluates a claim, lets it pass the gate, and commits it.
-fn step<'x, G: Gate>(state: &mut TickState<'x>, claim: Claim<'x>, gate: &G)
+// Lets an evaluated step pass the gate, and takes it.
+fn take<G: Gate>(state: &mut TickState<'_>, next: NextStep, gate: &G)
+    requires { IsNextStep state.old next }
     ensures { SameTick state.old state.new }
 {
-    let done = evaluate(claim);
-    pass_gate(gate, &done);
-    let _ = state.commit(&done);
-}
-
-/// Lets an evaluated claim pass the gate.
-pub(crate) fn pass_gate<G: Gate>(gate: &G, done: &Done<'_>) {
-    let claim = done.claim();
-    gate.passing(claim.worker(), claim.thread());
+    gate.passing(1, next.thread);
+    state.take(1, next);
 }

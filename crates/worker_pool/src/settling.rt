@@ -1,27 +1,47 @@
-ghost use Rattle.std.specs.Prelude.{◌≡◌, IfSome, IsTrue};
+ghost use Rattle.std.specs.Prelude.{◌≡◌, IfOk, IfSome, IsTrue};
 ghost use Rattle.sc_values.specs.Runs.{IsOver};
 ghost use Rattle.sc_graph.specs.Machine.{machine};
+ghost use Rattle.tick_core.specs.State.{BeginsTick};
 
 use crate::desk::Desk;
 use crate::picture::Picture;
 use sc_graph::Status;
 use sc_values::Value;
-use tick_core::{Control, TickState};
+use std::alloc::{AllocError, Global};
+use tick_core::{Control, Room, TickState};
+use verifier::Verified;
 
-/// What came back of a tick that began so, run to its end. None: nothing came back, or another tick.
+/// What came back of a tick that began so, run to its end. Where nothing came back, or another tick, it is the same tick
+/// begun again, all of whose steps the caller takes. Err: memory was refused for that.
 pub(crate) fn settle<'x, J: Picture>(
+    alloc: Global,
+    verified: &'x Verified,
     back: Option<Desk<'x, J>>,
-    begun: &Control,
-) -> Option<TickState<'x>>
+    begun: Control,
+) -> Result<TickState<'x>, AllocError>
+    requires picture { verified.now ≡ J.image }
+    requires begins { BeginsTick J.image.program begun }
+    ensures image { IfOk result (λ s. s.image ≡ J.image) }
+    ensures begun { IfOk result (λ s. s.begun ≡ begun) }
+    ensures over { IfOk result (λ s. IsOver (machine s.image.program) s.present) }
+{
+    let mut state = match returned(back, &begun) {
+        Some(state) => state,
+        None => Room::of(alloc, verified)?.begin_again(begun),
+    };
+    state.run_alone();
+    Ok(state)
+}
+
+// What came back of a tick that began so. None: nothing came back, or another tick.
+fn returned<'x, J: Picture>(back: Option<Desk<'x, J>>, begun: &Control) -> Option<TickState<'x>>
     ensures image { IfSome result (λ s. s.image ≡ J.image) }
     ensures begun { IfSome result (λ s. s.begun ≡ begun.now) }
-    ensures over { IfSome result (λ s. IsOver (machine s.image.program) s.present) }
 {
-    let mut state = back?.into_state();
+    let state = back?.into_state();
     if !is_same(state.begun(), begun) {
         return None;
     }
-    state.run_alone();
     Some(state)
 }
 

@@ -1,7 +1,7 @@
 use crate::desk::Desk;
 use crate::picture::Picture;
 use crate::seat::{Next, Round};
-use crate::serving::SHARE;
+use crate::weighing::SHARE;
 use tick_core::Claim;
 
 /// What lies under the lock of a hall: the tick that the workers share, and who waits. Whenever the lock is taken, the

@@ -1,0 +1,36 @@
+//! How much work there is, and whether it is worth a worker that has to be woken for it.
+
+use sc_graph::{Status, Step, ThreadId};
+use tick_core::{Claim, TickState};
+
+/// How many operations are worth a worker that has to be woken, where no step waits for another.
+pub(crate) const SHARE: u64 = 256;
+
+/// Whether a round of these threads has work for a second worker, as far as the first two show.
+pub(crate) fn is_much(state: &TickState<'_>, round: &[ThreadId]) -> bool {
+    let mut work: u64 = 0;
+    for thread in round.iter().take(2) {
+        work = work.saturating_add(operations_at(state, *thread));
+    }
+    work.saturating_mul(round.len() as u64 / 2) >= 2 * SHARE
+}
+
+// The operations that are evaluated for the step of a thread, and one for the step.
+fn operations_at(state: &TickState<'_>, thread: ThreadId) -> u64 {
+    let (Status::At(node) | Status::Waiting(node)) = state.present().status(thread) else {
+        return 1;
+    };
+    match state.image().program().step(node) {
+        Some(Step::Assign { code, .. } | Step::Update { code, .. } | Step::Cond { code, .. }) =>
+            (code.operations().len() as u64).saturating_add(1),
+        _ => 1,
+    }
+}
+
+/// The operations that are evaluated for a claim, and one for its step.
+pub(crate) fn operations_of(claim: &Claim<'_>) -> u64 {
+    match claim.code() {
+        Some(code) => (code.code().operations().len() as u64).saturating_add(1),
+        None => 1,
+    }
+}
