@@ -105,6 +105,7 @@ pub fn play_to<'x, R: Threads + Wait + Sync, S: Source, W: Sink, G: Gate + Sync>
     ensures published_before { IfErr result (LeavesTo image.now
         (S.to_come source.old) (W.taken sink.old) (W.taken sink.new)
         (Some publisher.old.rows) (Some publisher.new.rows)) }
+    ensures publisher { publisher.new.publisher ≡ publisher.old.publisher }
 {
     let mut watched = Watched {
         source,

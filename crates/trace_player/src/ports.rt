@@ -1,6 +1,7 @@
 ghost use Rattle.std.specs.Prelude.{◌≡◌, ◌≢◌, ◌+◌, ◌≤◌, ℕ, List, Option, Some, true, false, length};
 ghost use Rattle.std.specs.Prelude.{IfOk, IfSome, IfNone, IsErrOf, OnOk, OnErr};
 ghost use Rattle.std.specs.Io.KnownBytes.{Appends, IsAtEnd};
+ghost use Rattle.logbook.specs.Pages.{Book};
 ghost use Rattle.sc_values.specs.Streams.{GrowsInto};
 ghost use Rattle.probe.specs.Outputs.{Outputs};
 ghost use Rattle.trace_lines.specs.Lines.{line_limit, ahead, TakesLine, IsTooLong};
@@ -18,7 +19,7 @@ use verifier::Verified;
 /// they are. Contracts see which these are, the bytes that are to come and that were taken, how often each failed, and
 /// the rows that were published.
 pub(crate) trait Ports {
-    ghost names: { Self → ℕ × ℕ × ℕ };
+    ghost names: { Self → ℕ × ℕ × ℕ × Option Book };
 
     ghost to_come: { Self → Option (List ℕ) };
 
@@ -88,7 +89,7 @@ pub(crate) struct Streams<'a, 'b, S: Source, W: Sink> {
 impl<'a, 'b, S: Source, W: Sink> Ports for Streams<'a, 'b, S, W> {
     ghost use Rattle.std.specs.Prelude.{None};
 
-    ghost names = { λ s. (s.source.ghost_name, s.sink.ghost_name, 0) };
+    ghost names = { λ s. (s.source.ghost_name, s.sink.ghost_name, 0, None) };
 
     ghost to_come = { λ s. S.to_come s.source.now };
 
@@ -136,7 +137,7 @@ pub(crate) struct Watched<'a, 'b, 'c, S: Source, W: Sink> {
 impl<'a, 'b, 'c, S: Source, W: Sink> Ports for Watched<'a, 'b, 'c, S, W> {
     ghost use Rattle.std.specs.Prelude.{Some};
 
-    ghost names = { λ s. (s.source.ghost_name, s.sink.ghost_name, s.publisher.ghost_name) };
+    ghost names = { λ s. (s.source.ghost_name, s.sink.ghost_name, s.publisher.ghost_name, Some s.publisher.now.publisher) };
 
     ghost to_come = { λ s. S.to_come s.source.now };
 

@@ -1,4 +1,4 @@
-// What is written of an input, and what an observer sees of its ticks.
+// What is written of an input, and what observers see of its ticks.
 ghost use Rattle.std.specs.Prelude.{◌≡◌, ◌<◌, ◌≤◌};
 
 use crate::abro::ABRO;
@@ -23,14 +23,17 @@ impl Gate for Shares {
     fn passing(&self, _worker: u8, _thread: ThreadId) {}
 }
 
-// An input, what is to be written of it, how it ends, and how many ticks an observer is to see and which value of O.
+/// An input, when reads and writes fail, what is to be written, how it ends, and how many ticks observers are to see and
+/// which value of O.
 #[derive(Clone, Copy)]
-struct Wanted<'a> {
-    input: &'a str,
-    trace: &'a str,
-    end: Result<u64, PlayFault>,
-    ticks: u64,
-    value: bool,
+pub(crate) struct Wanted<'a> {
+    pub(crate) input: &'a str,
+    pub(crate) reads: Plan,
+    pub(crate) writes: Plan,
+    pub(crate) trace: &'a [u8],
+    pub(crate) end: Result<u64, PlayFault>,
+    pub(crate) ticks: u64,
+    pub(crate) value: bool,
 }
 
 // Whether playing writes what is wanted and ends so.
@@ -45,13 +48,14 @@ fn plays<R: Threads + Wait + Sync, L: Ledger>(
 ) -> bool
     requires workers { (1 ≤ workers) × (workers ≤ 8) }
     requires written { (written.name ≡ L.name) × (written.parts ≡ L.parts) × (0 < L.parts) }
+    ensures { publisher.new.publisher ≡ publisher.old.publisher }
 {
     let mut source = FromSlice {
         rest: wanted.input.as_bytes(),
         each: 3,
-        plan: Plan::Never,
+        plan: wanted.reads,
     };
-    let mut sink: ToVec<L> = ToVec::new(alloc, 10, Plan::Never, Failures::none(written));
+    let mut sink: ToVec<L> = ToVec::new(alloc, 10, wanted.writes, Failures::none(written));
     let end = play_to(
         rt,
         alloc,
@@ -62,7 +66,7 @@ fn plays<R: Threads + Wait + Sync, L: Ledger>(
         &Shares,
         publisher,
     );
-    end == wanted.end && sink.bytes.as_slice() == wanted.trace.as_bytes()
+    end == wanted.end && sink.bytes.as_slice() == wanted.trace
 }
 
 // Whether these outputs are O alone, with this value.
@@ -79,7 +83,7 @@ fn shows(observer: &mut Observer, ticks: u64, value: bool) -> bool {
     seen.ticks == ticks && is_o(seen.outputs.outputs(), value)
 }
 
-// Whether it writes what is wanted, and an observer sees what is wanted.
+// Whether it writes what is wanted, and two observers see what is wanted, the second of which learnt the note.
 fn watched<R: Threads + Wait + Sync, L: Ledger>(
     rt: &R,
     alloc: Global,
@@ -93,9 +97,12 @@ fn watched<R: Threads + Wait + Sync, L: Ledger>(
     requires written { (written.name ≡ L.name) × (written.parts ≡ L.parts) × (0 < L.parts) }
 {
     let mut observer = publisher.observer()?;
+    let mut told = publisher.observer()?;
     let opening = shows(&mut observer, 0, false);
     let played = plays::<R, L>(rt, alloc, image, publisher, wanted, workers, written);
-    Ok(opening && played && shows(&mut observer, wanted.ticks, wanted.value))
+    told.learn(publisher.tell());
+    let (ticks, value) = (wanted.ticks, wanted.value);
+    Ok(opening && played && shows(&mut observer, ticks, value) && shows(&mut told, ticks, value))
 }
 
 // The same, with a publisher of its own, that is closed behind it.
@@ -117,21 +124,37 @@ fn tried<R: Threads + Wait + Sync, L: Ledger>(
 }
 
 // Fails where it is not as wanted with each number of workers.
-fn tries<R: Threads + Wait + Sync>(rt: &R, alloc: Global, wanted: Wanted<'_>) -> Result<(), Fail> {
-    let image = verify(alloc, decode(alloc, &ABRO)?)?;
+fn tries_over<R: Threads + Wait + Sync>(
+    rt: &R,
+    alloc: Global,
+    image: &Verified,
+    wanted: Wanted<'_>,
+) -> Result<(), Fail> {
     for workers in 1..=8 {
-        if !tried::<R, Brand>(rt, alloc, &image, wanted, workers, Blank::new(1))? {
+        if !tried::<R, Brand>(rt, alloc, image, wanted, workers, Blank::new(1))? {
             return Err(Fail::new("something else is written or seen"));
         }
     }
     Ok(())
 }
 
+/// Fails where it is not as wanted of ABRO, with each number of workers.
+pub(crate) fn tries<R: Threads + Wait + Sync>(
+    rt: &R,
+    alloc: Global,
+    wanted: Wanted<'_>,
+) -> Result<(), Fail> {
+    let image = verify(alloc, decode(alloc, &ABRO)?)?;
+    tries_over(rt, alloc, &image, wanted)
+}
+
 #[test]
 fn an_observer_sees_the_end_of_a_whole_trace(rt: HostRuntime) -> Result<(), Fail> {
     let wanted = Wanted {
         input: "{}\n{\"A\":true}\n{\"B\":true}\n{\"R\":true}\n{\"A\":true}\n{\"A\":true,\"B\":true,\"R\":true}\n{\"A\":true,\"B\":true}\n",
-        trace: "{\"out\":{\"O\":false},\"steps\":7,\"tick\":1}
+        reads: Plan::Never,
+        writes: Plan::Never,
+        trace: b"{\"out\":{\"O\":false},\"steps\":7,\"tick\":1}
 {\"out\":{\"O\":false},\"steps\":11,\"tick\":2}
 {\"out\":{\"O\":true},\"steps\":11,\"tick\":3}
 {\"out\":{\"O\":false},\"steps\":16,\"tick\":4}
@@ -155,7 +178,9 @@ fn stops_at<R: Threads + Wait + Sync>(
 ) -> Result<(), Fail> {
     let wanted = Wanted {
         input,
-        trace: "{\"out\":{\"O\":false},\"steps\":7,\"tick\":1}\n",
+        reads: Plan::Never,
+        writes: Plan::Never,
+        trace: b"{\"out\":{\"O\":false},\"steps\":7,\"tick\":1}\n",
         end: Err(fault),
         ticks: 1,
         value: false,
