@@ -1,3 +1,3 @@
-pub mod Asking
-pub mod Naming
+pub mod Drawn
 pub mod Taken
+pub mod Told

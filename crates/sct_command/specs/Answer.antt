@@ -1,35 +1,28 @@
 -- What a command leaves that was done, and what one that was refused.
-use Rattle.std.specs.Prelude.{ℕ, ◌≡◌, ◌≢◌, ◌+◌, ◌⊎◌, codes, Option, Some, None, Err, List, [], ◌∷◌, ◌++◌, string_bytes}
+use Rattle.std.specs.Prelude.{ℕ, ◌≡◌, ◌+◌, ◌⊎◌, codes, Option, Some, None, List, [], ◌∷◌, ◌++◌}
 use Rattle.std.specs.Io.KnownBytes.{Appends}
 use Rattle.sc_values.specs.Streams.{GrowsInto}
-use Rattle.sc_graph.specs.Valid.{IsValid}
 use Rattle.bytecode.specs.Image.{Image}
 use Rattle.bytecode.specs.Spells.{Spells}
-use Rattle.bytecode.specs.Reading.Image.{Answers, reading, version_of}
-use Rattle.verifier.specs.Verdict.{IsLowestBroken}
-use Rattle.verifier.specs.declared.rule.Refusal.{Refusal}
-use Rattle.verifier.specs.declared.rule.Refusal.TheVariants as refusal
-use Rattle.sct_command.specs.declared.fault.Fault.{Fault}
-use Rattle.sct_command.specs.declared.fault.Fault.TheVariants as fault
+use Rattle.command_files.specs.declared.fault.Fault.{Fault}
+use Rattle.command_files.specs.declared.fault.Fault.TheVariants as fault
 use Rattle.trace_player.specs.declared.player.PlayFault.{PlayFault}
 use Rattle.trace_player.specs.declared.player.PlayFault.TheVariants as play_fault
-use Rattle.sct_command.specs.FaultText.{fault_text, shown_name}
-use Rattle.sct_command.specs.Files.{Contents, HasBytes, LacksFile, Stores}
+use Rattle.command_files.specs.FaultText.{fault_text}
+use Rattle.command_files.specs.Files.{Contents, Stores}
+use Rattle.command_files.specs.Images.{IsLoaded, IsNotLoaded}
 use Rattle.trace_lines.specs.Lines.{line_feed}
-use Rattle.sct_command.specs.Request.{Request, Check, Run, Compile, Print, Migrate}
+use Rattle.command_words.specs.Request.{Request, Check, Run, Compile, Print, Migrate, ListNodes, ListPlaces, Explain, Draw}
 use Rattle.sct_command.specs.Sources.{Compiles, PrintsText, RefusesCompile, RefusesPrinting}
-use Rattle.sct_command.specs.Storing.{IsNotStored}
+use Rattle.command_files.specs.Storing.{IsNotStored}
+use Rattle.sct_command.specs.Drawing.{Draws, RefusesDrawing}
+use Rattle.sct_command.specs.Explaining.{FindsImage, RefusesExplaining}
+use Rattle.sct_command.specs.Listing.{ListsNodes, ListsPlaces, RefusesListing, RefusesPlaces}
 use Rattle.sct_command.specs.Summary.{summary_of}
+use Rattle.sct_command.specs.Writing.{WritesPart, WritesText}
 use Rattle.trace_player.specs.Trace.{Plays, Good, Leaves}
 
 -- ---- what was done
-
--- the image is valid, and the bytes of the file of this name spell it, in the version that they say
-pub record IsLoaded (files : Option Contents) (name : List ℕ) (image : Image) : Type 0 where
-  pub bytes : List ℕ
-  pub held : HasBytes files name bytes
-  pub spelt : Spells (version_of bytes) bytes image
-  pub valid : IsValid image.program image.tables
 
 -- the summary of the image in this file was written
 pub record SumsUp (files : Option Contents) (name : List ℕ) (old new : Option (List ℕ)) : Type 0 where
@@ -53,13 +46,8 @@ pub record Migrates (files files' : Option Contents) (from to : List ℕ) (old n
   pub stored : Stores files files' to bytes
   pub written : Appends old new (summary_of image)
 
--- a text that is not empty was written
-pub record WritesText (old new : Option (List ℕ)) : Type 0 where
-  pub text : List ℕ
-  pub some : text ≢ []
-  pub written : Appends old new text
-
--- what was done for a request: a summary, a whole trace, an image, a text, an image in version 2, or for none the help
+-- what was done for a request: a summary, a whole trace, an image, a text, an image in version 2, a listing, a summary
+-- of what compiles, a drawing, or for none the help
 abbrev pub Does : Option Contents → Option Contents → Option Request → Option (List ℕ) → Option (List ℕ)
     → Option (List ℕ) → Type 0
 Does files files' (Some (Check name)) input old new = SumsUp files name old new
@@ -67,26 +55,13 @@ Does files files' (Some (Run name workers)) input old new = PlaysWhole files nam
 Does files files' (Some (Compile from to)) input old new = Compiles files files' from to old new
 Does files files' (Some (Print name)) input old new = PrintsText files name old new
 Does files files' (Some (Migrate from to)) input old new = Migrates files files' from to old new
+Does files files' (Some (ListNodes name)) input old new = ListsNodes files name old new
+Does files files' (Some (ListPlaces name source)) input old new = ListsPlaces files name source old new
+Does files files' (Some (Explain name)) input old new = FindsImage files name old new
+Does files files' (Some (Draw name)) input old new = Draws files name old new
 Does files files' None input old new = WritesText old new
 
 -- ---- what was refused
-
--- the lowest rule that the image breaks, and where. That memory was refused claims nothing
-abbrev pub IsRefusal : Refusal → Image → Type 0
-IsRefusal (refusal.Broken broken) image = IsLowestBroken image.program image.tables broken
-IsRefusal refusal.Memory image = Unit {0}
-
--- these bytes give no valid image, for this fault
-abbrev pub IsNoImage : List ℕ → Fault → Type 0
-IsNoImage bytes (fault.Image f) = Answers (Err f) (reading (version_of bytes) bytes)
-IsNoImage bytes (fault.Rule r) = (image : Image) × Spells (version_of bytes) bytes image × IsRefusal r image
-IsNoImage bytes other = ⊥
-
--- no image could be had from the file of this name, for this fault
-abbrev pub IsNotLoaded : Option Contents → List ℕ → Fault → Type 0
-IsNotLoaded files name fault.Memory = Unit {0}
-IsNotLoaded files name (fault.File shown) = LacksFile files name × (string_bytes shown ≡ shown_name name)
-IsNotLoaded files name f = (bytes : List ℕ) × HasBytes files name bytes × IsNoImage bytes f
 
 -- a beginning of the summary of the image in this file was written
 pub record SumsUpPart (files : Option Contents) (name : List ℕ) (old new : Option (List ℕ)) : Type 0 where
@@ -100,11 +75,6 @@ pub record StopsPlaying (files : Option Contents) (name : List ℕ) (input old n
   pub image : Image
   pub loaded : IsLoaded files name image
   pub leaves : Leaves image input old new f
-
--- a beginning of some text was written
-pub record WritesPart (old new : Option (List ℕ)) : Type 0 where
-  pub text : List ℕ
-  pub in_part : GrowsInto old new text
 
 -- what a check leaves that is refused: nothing was written, but where the output failed
 abbrev pub RefusesCheck : Option Contents → List ℕ → Option (List ℕ) → Option (List ℕ) → Fault → Type 0
@@ -149,6 +119,10 @@ Refuses files files' (Some (Run name workers)) input old new f = RefusesRun file
 Refuses files files' (Some (Compile from to)) input old new f = RefusesCompile files files' from to old new f
 Refuses files files' (Some (Print name)) input old new f = RefusesPrinting files name old new f
 Refuses files files' (Some (Migrate from to)) input old new f = RefusesMigration files files' from to old new f
+Refuses files files' (Some (ListNodes name)) input old new f = RefusesListing files name old new f
+Refuses files files' (Some (ListPlaces name source)) input old new f = RefusesPlaces files name source old new f
+Refuses files files' (Some (Explain name)) input old new f = RefusesExplaining files name old new f
+Refuses files files' (Some (Draw name)) input old new f = RefusesDrawing files name old new f
 Refuses files files' None input old new f = RefusesHelp old new f
 
 -- how often the input failed, and how often the output, where this is the fault

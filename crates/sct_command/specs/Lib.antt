@@ -1,7 +1,8 @@
 pub mod Answer
-pub mod FaultText
-pub mod Files
-pub mod Request
+pub mod Drawing
+pub mod Explaining
+pub mod Keeping
+pub mod Listing
 pub mod Sources
-pub mod Storing
 pub mod Summary
+pub mod Writing

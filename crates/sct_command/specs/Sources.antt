@@ -1,64 +1,19 @@
--- What a file of source text holds, and what is left where it is compiled or printed.
-use Rattle.std.specs.Prelude.{ℕ, ◌≡◌, ◌⊎◌, Option, List, string_bytes}
+-- What is left where a source text is compiled or printed.
+use Rattle.std.specs.Prelude.{ℕ, ◌≡◌, ◌⊎◌, Option, List}
 use Rattle.std.specs.Io.KnownBytes.{Appends}
-use Rattle.std.specs.Str.{IsUtf8}
 use Rattle.sc_values.specs.Streams.{GrowsInto}
-use Rattle.sc_text.specs.declared.read_fault.Broken.TheVariants as broken
-use Rattle.sc_text.specs.declared.read_fault.ReadFault.{ReadFault}
-use Rattle.sc_text.specs.declared.read_fault.ReadFault.TheVariants as read
-use Rattle.sc_text.specs.declared.language.Language.{Language}
-use Rattle.sc_text.specs.declared.language.Language.TheVariants as language
-use Rattle.source_language.specs.First.{IsIn}
 use Rattle.scl.specs.declared.program.Scl.{Scl}
-use Rattle.scl_reader.specs.Checked as programs
-use Rattle.scl_programs.specs.Read as programs_read
-use Rattle.core_charts.specs.Chart.{Chart}
-use Rattle.chart_reader.specs.Checked as charts
-use Rattle.resolved_charts.specs.Read as charts_read
 use Rattle.scl_printer.specs.Layout.{text_of}
 use Rattle.bytecode.specs.Image.{Image}
 use Rattle.bytecode.specs.Spells.{Spells}
-use Rattle.compiler.specs.Charts.{IsSclOf, HasNoScl}
-use Rattle.compiler.specs.declared.fault.CompileFault.{CompileFault}
-use Rattle.compiler.specs.Texts.{IsImageOf, IsNotCompiled}
-use Rattle.sct_command.specs.declared.fault.Fault.{Fault}
-use Rattle.sct_command.specs.declared.fault.Fault.TheVariants as fault
-use Rattle.sct_command.specs.FaultText.{shown_name}
-use Rattle.sct_command.specs.Files.{Contents, HasBytes, LacksFile, Stores}
-use Rattle.sct_command.specs.Storing.{IsNotStored}
+use Rattle.command_files.specs.declared.fault.Fault.{Fault}
+use Rattle.command_files.specs.declared.fault.Fault.TheVariants as fault
+use Rattle.command_files.specs.Files.{Contents, Stores}
+use Rattle.command_files.specs.Sources.{IsCompiledFrom, IsNoCompiled, IsNoSource, IsSource}
+use Rattle.command_files.specs.Storing.{IsNotStored}
 use Rattle.sct_command.specs.Summary.{summary_of}
 
 -- ---- what was done
-
--- the text spells a chart, whose SCL program this is
-pub record SpellsChart (text : List ℕ) (scl : Scl) : Type 0 where
-  pub chart : Chart
-  pub read : charts_read.IsRead text chart
-  pub is : IsSclOf chart scl
-
--- a text of this language spells this SCL program
-abbrev pub SpellsIn : Language → List ℕ → Scl → Type 0
-SpellsIn language.Chart text scl = SpellsChart text scl
-SpellsIn language.Scl text scl = programs_read.IsRead text scl
-
--- the text spells this SCL program, in the language that its first token tells
-pub record SpellsProgram (text : List ℕ) (scl : Scl) : Type 0 where
-  pub language : Language
-  pub is_in : IsIn text language
-  pub spells : SpellsIn language text scl
-
--- the bytes of the file of this name are text, which spells this program
-pub record IsSource (files : Option Contents) (name : List ℕ) (scl : Scl) : Type 0 where
-  pub bytes : List ℕ
-  pub held : HasBytes files name bytes
-  pub text : IsUtf8 bytes
-  pub read : SpellsProgram bytes scl
-
--- the image is that of the program in this file
-pub record IsCompiledFrom (files : Option Contents) (name : List ℕ) (image : Image) : Type 0 where
-  pub scl : Scl
-  pub source : IsSource files name scl
-  pub compiled : IsImageOf scl image
 
 -- the file of one name has now the image of the program in that of the other, in version 2, and the image's summary
 -- was written
@@ -77,53 +32,6 @@ pub record PrintsText (files : Option Contents) (name : List ℕ) (old new : Opt
   pub written : Appends old new (text_of scl)
 
 -- ---- what was refused
-
--- the fault of a text of this language, which is not of the grammar or breaks a rule
-abbrev pub IsFaultIn : Language → List ℕ → ReadFault → Type 0
-IsFaultIn language.Chart text f = charts.IsTextFault text f
-IsFaultIn language.Scl text f = programs.IsTextFault text f
-
--- the fault of a text, in the language that its first token tells
-pub record IsTextFault (text : List ℕ) (f : ReadFault) : Type 0 where
-  pub language : Language
-  pub is_in : IsIn text language
-  pub fault : IsFaultIn language text f
-
--- the text spells a chart, which has no SCL program, for this fault
-pub record LacksProgram (text : List ℕ) (f : CompileFault) : Type 0 where
-  pub is_chart : IsIn text language.Chart
-  pub chart : Chart
-  pub read : charts_read.IsRead text chart
-  pub none : HasNoScl chart f
-
--- why a text spells no program: it has a fault; or it spells a chart that has no SCL program
-abbrev pub SpellsNone : List ℕ → Fault → Type 0
-SpellsNone text (fault.Text f) = IsTextFault text f
-SpellsNone text (fault.Program f) = LacksProgram text f
-SpellsNone text other = ⊥
-
--- why bytes spell no program: they are no text, which is told of their first place; or the text spells none
-abbrev pub IsNoText : List ℕ → Fault → Type 0
-IsNoText bytes (fault.Text f) = (¬ IsUtf8 bytes × (f ≡ read.Text broken.Token 0)) ⊎ (IsUtf8 bytes × IsTextFault bytes f)
-IsNoText bytes (fault.Program f) = IsUtf8 bytes × LacksProgram bytes f
-IsNoText bytes other = ⊥
-
--- no program could be had from the file of this name, for this fault
-abbrev pub IsNoSource : Option Contents → List ℕ → Fault → Type 0
-IsNoSource files name fault.Memory = Unit {0}
-IsNoSource files name (fault.File shown) = LacksFile files name × (string_bytes shown ≡ shown_name name)
-IsNoSource files name (fault.Text f) = (bytes : List ℕ) × HasBytes files name bytes × IsNoText bytes (fault.Text f)
-IsNoSource files name (fault.Program f) = (bytes : List ℕ) × HasBytes files name bytes × IsNoText bytes (fault.Program f)
-IsNoSource files name other = ⊥
-
--- the program in this file has no image, for this fault
-abbrev pub HasNoImage : Option Contents → List ℕ → Fault → Type 0
-HasNoImage files name (fault.Program f) = (scl : Scl) × IsSource files name scl × IsNotCompiled scl f
-HasNoImage files name other = ⊥
-
--- there is no program in this file, or it has no image
-abbrev pub IsNoCompiled : Option Contents → List ℕ → Fault → Type 0
-IsNoCompiled files name f = IsNoSource files name f ⊎ HasNoImage files name f
 
 -- the image was stored, and a beginning of its summary was written
 pub record CompilesPart (files files' : Option Contents) (from to : List ℕ) (old new : Option (List ℕ)) : Type 0 where

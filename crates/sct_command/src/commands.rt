@@ -1,25 +1,28 @@
-ghost use Rattle.std.specs.Prelude.{◌≡◌, ◌≤◌, ◌+◌, Some, None, IfOk, IfErr, OnOk, map, string_bytes};
-ghost use Rattle.sct_command.specs.Answer.{SumsUp, PlaysWhole, WritesText, WritesPart, RefusesCheck, RefusesRun};
-ghost use Rattle.sct_command.specs.Answer.{Does, Refuses, IsRefused, TellsFault, fault_line};
-ghost use Rattle.sct_command.specs.Answer.{reads_failed, writes_failed};
-ghost use Rattle.sct_command.specs.FaultText.{fault_text};
-ghost use Rattle.sct_command.specs.Request.{StoresImage, IsRun, request_of, seen};
-ghost use Rattle.sct_command.specs.declared.fault.Fault.TheVariants as told;
+//! From words to what they ask for.
 
-use crate::arguments::{Request, Unread, read_words};
-use crate::check::{load_verified, summary_of};
+ghost use Rattle.std.specs.Prelude.{◌≡◌, ◌≤◌, ◌+◌, Some, None, IfOk, IfErr, OnOk, map, string_bytes};
+ghost use Rattle.command_files.specs.FaultText.{fault_text};
+ghost use Rattle.command_files.specs.declared.fault.Fault.TheVariants as told;
+ghost use Rattle.command_words.specs.Request.{StoresImage, IsRun, request_of, seen};
+ghost use Rattle.sct_command.specs.Answer.{Does, Refuses, IsRefused, TellsFault};
+ghost use Rattle.sct_command.specs.Answer.{fault_line, reads_failed, writes_failed};
+ghost use Rattle.sct_command.specs.Writing.{WritesText, WritesPart};
+
+use crate::check::check;
 use crate::compile::compile;
-use crate::fault::Fault;
-use crate::files::Files;
+use crate::draw::draw;
+use crate::explain::explain;
+use crate::list::list;
+use crate::list_places::list_places;
 use crate::migrate::migrate;
 use crate::print::print_text;
-use crate::workers::Workers;
+use crate::run::run;
+use command_files::{Fault, Files};
+use command_words::{Request, Unread, read_words};
 use sc_values::{Sink, Source, write_all};
 use std::alloc::{AllocError, Global};
 use std::sync::Wait;
 use std::thread::Threads;
-use trace_player::play;
-use worker_pool::NoGate;
 
 /// The status of a command that was done.
 pub const DONE: u8 = 0;
@@ -29,54 +32,6 @@ pub const REFUSED: u8 = 1;
 
 /// The status of words that ask for nothing.
 pub const MISUSED: u8 = 2;
-
-fn check<F: Files, W: Sink>(
-    alloc: Global,
-    name: &str,
-    files: &mut F,
-    output: &mut W,
-) -> Result<(), Fault>
-    ensures done { OnOk result (SumsUp (F.contents files.old) name.now (W.taken output.old) (W.taken output.new)) }
-    ensures refused { IfErr result
-        (RefusesCheck (F.contents files.old) name.now (W.taken output.old) (W.taken output.new)) }
-    ensures none_failed { OnOk result (W.failures output.new ≡ W.failures output.old) }
-    ensures failed { IfErr result (λ fault. W.failures output.new ≡ W.failures output.old + writes_failed fault) }
-    ensures files { F.contents files.new ≡ F.contents files.old }
-    ensures unread { IfErr result (λ fault. reads_failed fault ≡ 0) }
-{
-    let image = load_verified(alloc, files, name)?;
-    let line = summary_of(alloc, image.image())?;
-    match write_all(output, line.as_bytes()) {
-        Ok(()) => Ok(()),
-        Err(_) => Err(Fault::Write),
-    }
-}
-
-fn run<T: Threads + Wait + Sync, F: Files, R: Source, W: Sink>(
-    rt: &T,
-    alloc: Global,
-    name: &str,
-    workers: Workers,
-    files: &mut F,
-    input: &mut R,
-    output: &mut W,
-) -> Result<(), Fault>
-    ensures done { OnOk result (PlaysWhole (F.contents files.old) name.now
-        (R.to_come input.old) (W.taken output.old) (W.taken output.new)) }
-    ensures refused { IfErr result (RefusesRun (F.contents files.old) name.now
-        (R.to_come input.old) (W.taken output.old) (W.taken output.new)) }
-    ensures none_read { OnOk result (R.failures input.new ≡ R.failures input.old) }
-    ensures read { IfErr result (λ fault. R.failures input.new ≡ R.failures input.old + reads_failed fault) }
-    ensures none_failed { OnOk result (W.failures output.new ≡ W.failures output.old) }
-    ensures failed { IfErr result (λ fault. W.failures output.new ≡ W.failures output.old + writes_failed fault) }
-    ensures files { F.contents files.new ≡ F.contents files.old }
-{
-    let image = load_verified(alloc, files, name)?;
-    match play(rt, alloc, &image, input, output, workers.number, &NoGate) {
-        Ok(_) => Ok(()),
-        Err(fault) => Err(Fault::Play(fault)),
-    }
-}
 
 // The line of a fault.
 fn line_of(alloc: Global, fault: &Fault) -> Result<String, AllocError>
@@ -153,6 +108,10 @@ fn perform<T: Threads + Wait + Sync, F: Files, R: Source, W: Sink>(
         Request::Compile(from, to) => compile(alloc, from, to, files, output),
         Request::Print(name) => print_text(alloc, name, files, output),
         Request::Migrate(from, to) => migrate(alloc, from, to, files, output),
+        Request::ListNodes(name) => list(alloc, name, files, output),
+        Request::ListPlaces(name, source) => list_places(alloc, name, source, files, output),
+        Request::Explain(name) => explain(alloc, name, files, output),
+        Request::Draw(name) => draw(alloc, name, files, output),
     }
 }
 

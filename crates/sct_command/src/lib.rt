@@ -1,24 +1,19 @@
-//! What the program `sct` does, over its words, files and streams: it compiles charts and SCL text and prints
-//! their SCL, checks images, runs them, and writes them anew.
+//! What the program `sct` does, over its words, files and streams: it compiles charts and SCL text, tells why they are
+//! refused, prints their SCL and draws them; it checks images, lists them, runs them, and writes them anew.
 #![tactic(auto)]
 
-mod arguments;
 mod check;
 mod commands;
 mod compile;
-mod fault;
-mod fault_text;
-mod files;
-mod laws;
+mod draw;
+mod explain;
+mod keep;
+mod list;
+mod list_places;
 mod migrate;
 mod print;
-mod run_words;
-mod source;
-mod store;
-mod workers;
+mod run;
+mod summary;
 
-pub use check::load_verified;
+pub use command_files::{Fault, FileFault, Files, HostFiles, load_verified, one_line};
 pub use commands::{DONE, MISUSED, REFUSED, command};
-pub use fault::Fault;
-pub use files::{FileFault, Files, HostFiles};
-pub use laws::one_line;

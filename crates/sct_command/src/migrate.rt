@@ -1,18 +1,17 @@
+//! The verb `migrate`.
+
 ghost use Rattle.std.specs.Prelude.{◌≡◌, ◌+◌, IfErr, OnOk};
 ghost use Rattle.sct_command.specs.Answer.{Migrates, RefusesMigration, reads_failed, writes_failed};
 
-use crate::check::{load_verified, summary_of};
-use crate::fault::Fault;
-use crate::files::Files;
-use crate::store::store;
-use bytecode::encode;
-use sc_values::{Sink, write_all};
+use crate::keep::keep_image;
+use command_files::{Fault, Files, load_verified};
+use sc_values::Sink;
 use std::alloc::Global;
 
 /// Writes the image in one file to another, in version 2 of the layout, once it is verified, and then
 /// its summary to the output. Err: there is no valid image in the first file or the second cannot be
 /// written, and then no file changed; or the output failed, after the file was written.
-pub fn migrate<F: Files, W: Sink>(
+pub(crate) fn migrate<F: Files, W: Sink>(
     alloc: Global,
     from: &str,
     to: &str,
@@ -28,11 +27,5 @@ pub fn migrate<F: Files, W: Sink>(
     ensures unread { IfErr result (λ fault. reads_failed fault ≡ 0) }
 {
     let image = load_verified(alloc, files, from)?;
-    let bytes = encode(alloc, image.image())?;
-    let line = summary_of(alloc, image.image())?;
-    store(alloc, files, to, &bytes)?;
-    match write_all(output, line.as_bytes()) {
-        Ok(()) => Ok(()),
-        Err(_) => Err(Fault::Write),
-    }
+    keep_image(alloc, &image, to, files, output)
 }

@@ -1,17 +1,17 @@
+//! The verb `scl`.
+
 ghost use Rattle.std.specs.Prelude.{◌≡◌, ◌+◌, IfErr, OnOk};
 ghost use Rattle.sct_command.specs.Answer.{reads_failed, writes_failed};
 ghost use Rattle.sct_command.specs.Sources.{PrintsText, RefusesPrinting};
 
-use crate::fault::Fault;
-use crate::files::Files;
-use crate::source::load_scl;
+use command_files::{Fault, Files, load_scl};
 use sc_values::Sink;
 use scl_printer::print;
 use std::alloc::Global;
 
 /// Writes the text of the program in this file, in its layout. Err: there is no program in the file; or the
 /// output failed.
-pub fn print_text<F: Files, W: Sink>(
+pub(crate) fn print_text<F: Files, W: Sink>(
     alloc: Global,
     name: &str,
     files: &mut F,

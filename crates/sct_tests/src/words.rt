@@ -29,6 +29,11 @@ fn tells_misuse(rt: HostRuntime) -> Result<(), Fail> {
     assert!(rt; is_misuse(&rt, &["run"])?);
     assert!(rt; is_misuse(&rt, &["check", "a", "b"])?);
     assert!(rt; is_misuse(&rt, &["scl", "a", "b"])?);
+    assert!(rt; is_misuse(&rt, &["list"])?);
+    assert!(rt; is_misuse(&rt, &["list", "a", "--source"])?);
+    assert!(rt; is_misuse(&rt, &["list", "--source=b"])?);
+    assert!(rt; is_misuse(&rt, &["dot", "a", "b"])?);
+    assert!(rt; is_misuse(&rt, &["explain"])?);
     for number in ["0", "9", "10", "x", ""] {
         assert!(rt; is_misuse(&rt, &["run", "a", "--workers", number])?);
     }
@@ -52,7 +57,10 @@ Usage: sct <COMMAND>
 Commands:
   compile  Compiles a chart or an SCL text to an image
   scl      Prints an SCL text, or that of a chart, in its layout
+  explain  Tells where and why a chart or an SCL text is refused, and writes no file
+  dot      Prints a chart, or the graph of an SCL text, as Graphviz text
   check    Decodes and verifies an image
+  list     Prints an image for people: variables, threads, nodes and protocol edges
   run      Plays standard input to standard output, a tick for each line
   migrate  Writes an image in version 2 of the layout
 

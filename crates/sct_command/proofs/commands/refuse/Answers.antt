@@ -1,7 +1,7 @@
 use Rattle.std.proofs.Common.{codes, subst, ◌∙◌, inl, inr, refl}
 use Rattle.std.specs.Io.KnownBytes.{Appends}
 use Rattle.sc_values.specs.Streams.{GrowsInto}
-use Rattle.sct_command.specs.FaultText.{fault_text}
+use Rattle.command_files.specs.FaultText.{fault_text}
 use Rattle.sct_command.proofs.Taken.{taken_whole}
 use Rattle.sct_command.proofs.commands.refuse.Goals as goal
 

@@ -1,0 +1,5 @@
+pub mod FaultText
+pub mod Files
+pub mod Images
+pub mod Sources
+pub mod Storing

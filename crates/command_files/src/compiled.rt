@@ -1,0 +1,36 @@
+//! The image of the program in a file.
+
+ghost use Rattle.std.specs.Prelude.{◌≡◌, IfErr, IfOk};
+ghost use Rattle.command_files.specs.Sources.{IsCompiledFrom, IsNoCompiled, SpellsImage, SpellsNoImage};
+
+use crate::fault::Fault;
+use crate::files::Files;
+use crate::load::bytes_of;
+use crate::source::read_bytes;
+use compiler::compile_scl;
+use std::alloc::Global;
+use verifier::Verified;
+
+/// The image of the program that these bytes spell, or of that of the chart that they spell. Err: they spell no
+/// program, or why it has no image.
+pub fn compile_bytes(alloc: Global, bytes: &[u8]) -> Result<Verified, Fault>
+    ensures compiled { IfOk result (SpellsImage bytes.now) }
+    ensures fault { IfErr result (SpellsNoImage bytes.now) }
+{
+    let scl = read_bytes(alloc, bytes)?;
+    match compile_scl(alloc, &scl) {
+        Ok(image) => Ok(image),
+        Err(fault) => Err(Fault::Program(fault)),
+    }
+}
+
+/// The image of the program whose text, or the text of whose chart, is in the file of this name. Err: there is no
+/// program in the file, or why it has no image.
+pub fn load_compiled<F: Files>(alloc: Global, files: &mut F, name: &str) -> Result<Verified, Fault>
+    ensures compiled { IfOk result (IsCompiledFrom (F.contents files.old) name.now) }
+    ensures fault { IfErr result (IsNoCompiled (F.contents files.old) name.now) }
+    ensures same { F.contents files.new ≡ F.contents files.old }
+{
+    let bytes = bytes_of(alloc, files, name)?;
+    compile_bytes(alloc, &bytes)
+}

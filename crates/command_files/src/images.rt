@@ -1,0 +1,40 @@
+//! The image in a file.
+
+ghost use Rattle.std.specs.Prelude.{◌≡◌, IfErr, IfOk};
+ghost use Rattle.sc_graph.specs.Valid.{IsValid};
+ghost use Rattle.bytecode.specs.Reading.Image.{version_of};
+ghost use Rattle.bytecode.specs.Spells.{Spells};
+ghost use Rattle.command_files.specs.Images.{IsLoaded, IsNoImage, IsNotLoaded};
+
+use crate::fault::Fault;
+use crate::files::Files;
+use crate::load::bytes_of;
+use bytecode::decode_either;
+use std::alloc::Global;
+use verifier::{Verified, verify};
+
+// The valid image that these bytes spell.
+fn verified(alloc: Global, bytes: &[u8]) -> Result<Verified, Fault>
+    ensures spelt { IfOk result (λ image. Spells (version_of bytes.now) bytes.now image) }
+    ensures valid { IfOk result (λ image. IsValid image.program image.tables) }
+    ensures fault { IfErr result (IsNoImage bytes.now) }
+{
+    match decode_either(alloc, bytes) {
+        Ok(image) => match verify(alloc, image) {
+            Ok(image) => Ok(image),
+            Err(refusal) => Err(Fault::Rule(refusal)),
+        },
+        Err(fault) => Err(Fault::Image(fault)),
+    }
+}
+
+/// The image in the file of this name, once it is verified. Err: the file could not be read, or why
+/// it has no valid image.
+pub fn load_verified<F: Files>(alloc: Global, files: &mut F, name: &str) -> Result<Verified, Fault>
+    ensures loaded { IfOk result (IsLoaded (F.contents files.old) name.now) }
+    ensures fault { IfErr result (IsNotLoaded (F.contents files.old) name.now) }
+    ensures same { F.contents files.new ≡ F.contents files.old }
+{
+    let bytes = bytes_of(alloc, files, name)?;
+    verified(alloc, &bytes)
+}

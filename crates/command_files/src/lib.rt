@@ -1,0 +1,22 @@
+//! Files by name: what is read from them, why they are refused, and how they are written.
+#![tactic(auto)]
+
+mod compiled;
+mod fault;
+mod fault_text;
+mod files;
+mod images;
+mod laws;
+mod load;
+mod source;
+mod storing;
+
+pub use compiled::{compile_bytes, load_compiled};
+pub use fault::Fault;
+pub use fault_text::shown_name;
+pub use files::{FileFault, Files, HostFiles};
+pub use images::load_verified;
+pub use laws::one_line;
+pub use load::bytes_of;
+pub use source::{load_scl, text_of};
+pub use storing::store;

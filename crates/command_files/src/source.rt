@@ -1,0 +1,94 @@
+//! The program in a file.
+
+ghost use Rattle.std.specs.Prelude.{◌≡◌, IfErr, IfOk};
+ghost use Rattle.sc_text.specs.declared.language.Language.TheVariants as language;
+ghost use Rattle.command_files.specs.Sources.{IsNoSource, IsNoText, IsSource, SpellsNone, SpellsProgram};
+ghost use Rattle.source_language.specs.First.{IsIn};
+ghost use Rattle.std.specs.Str.{IsUtf8};
+
+use crate::fault::Fault;
+use crate::files::Files;
+use crate::load::bytes_of;
+use compiler::scl_of_chart;
+use resolved_charts::read_chart;
+use sc_text::{Broken, Language, ReadFault};
+use scl::Scl;
+use scl_programs::read_scl;
+use source_language::language_of;
+use std::alloc::Global;
+use std::str;
+
+// The SCL program of the chart that a text spells.
+fn read_as_chart(alloc: Global, text: &str) -> Result<Scl, Fault>
+    requires { IsIn text.now language.Chart }
+    ensures read { IfOk result (SpellsProgram text.now) }
+    ensures fault { IfErr result (SpellsNone text.now) }
+{
+    let chart = match read_chart(alloc, text) {
+        Ok(chart) => chart,
+        Err(fault) => return Err(Fault::Text(fault)),
+    };
+    match scl_of_chart(alloc, &chart) {
+        Ok(scl) => Ok(scl),
+        Err(fault) => Err(Fault::Program(fault)),
+    }
+}
+
+// The SCL program that a text spells.
+fn read_as_scl(alloc: Global, text: &str) -> Result<Scl, Fault>
+    requires { IsIn text.now language.Scl }
+    ensures read { IfOk result (SpellsProgram text.now) }
+    ensures fault { IfErr result (SpellsNone text.now) }
+{
+    match read_scl(alloc, text) {
+        Ok(scl) => Ok(scl),
+        Err(fault) => Err(Fault::Text(fault)),
+    }
+}
+
+// The program of a text, in the language that its first token tells.
+fn read_text(alloc: Global, text: &str) -> Result<Scl, Fault>
+    ensures read { IfOk result (SpellsProgram text.now) }
+    ensures fault { IfErr result (SpellsNone text.now) }
+{
+    match language_of(text) {
+        Language::Chart => read_as_chart(alloc, text),
+        Language::Scl => read_as_scl(alloc, text),
+    }
+}
+
+/// These bytes as text. Err: they are no text, which is told of their first place.
+pub fn text_of(bytes: &[u8]) -> Result<&str, Fault>
+    ensures same { IfOk result (λ text. text.now ≡ bytes.now) }
+    ensures text { IfOk result (λ _. IsUtf8 bytes.now) }
+    ensures fault { IfErr result (IsNoText bytes.now) }
+{
+    match str::from_utf8(bytes) {
+        Ok(text) => Ok(text),
+        Err(_) => Err(Fault::Text(ReadFault::Text(Broken::Token, 0))),
+    }
+}
+
+/// The SCL program that these bytes spell, or that of the chart that they spell. Err: they are no text (E01 at its
+/// first place), or the text spells no program: the first fault of the text, or E07 where the expansion of its chart
+/// passes a limit.
+pub(crate) fn read_bytes(alloc: Global, bytes: &[u8]) -> Result<Scl, Fault>
+    ensures text { IfOk result (λ _. IsUtf8 bytes.now) }
+    ensures read { IfOk result (SpellsProgram bytes.now) }
+    ensures fault { IfErr result (IsNoText bytes.now) }
+{
+    let text = text_of(bytes)?;
+    read_text(alloc, text)
+}
+
+/// The SCL program whose text, or the text of whose chart, is in the file of this name. Err: the file could not be
+/// read, is no text (E01 at its first place), or its text spells no program: the first fault of the text, or E07
+/// where the expansion of its chart passes a limit.
+pub fn load_scl<F: Files>(alloc: Global, files: &mut F, name: &str) -> Result<Scl, Fault>
+    ensures loaded { IfOk result (IsSource (F.contents files.old) name.now) }
+    ensures fault { IfErr result (IsNoSource (F.contents files.old) name.now) }
+    ensures same { F.contents files.new ≡ F.contents files.old }
+{
+    let bytes = bytes_of(alloc, files, name)?;
+    read_bytes(alloc, &bytes)
+}

@@ -1,0 +1,206 @@
+//! The verbs, with their help, as the library of command lines knows them. It is asked where words ask for nothing.
+
+use clap::builder::ValueParser;
+use clap::{Arg, ArgAction, Command};
+use std::alloc::{AllocError, Global};
+
+// The verbs.
+#[derive(Clone, Copy)]
+enum Verb {
+    Compile,
+    Scl,
+    Explain,
+    Dot,
+    Check,
+    List,
+    Run,
+    Migrate,
+}
+
+// In the order of the help.
+const VERBS: [Verb; 8] = [
+    Verb::Compile,
+    Verb::Scl,
+    Verb::Explain,
+    Verb::Dot,
+    Verb::Check,
+    Verb::List,
+    Verb::Run,
+    Verb::Migrate,
+];
+
+const EXAMPLE: &str =
+    "Examples:\n  sct compile examples/abro.scl abro.image\n  sct run examples/two_threads.image < examples/two_threads.ticks";
+
+// The operand of a command that is the name of a file.
+fn file_name<'a>(alloc: Global, name: &'a str, shown: &'a str, about: &'a str) -> Arg<'a> {
+    Arg::new(alloc, name)
+        .value_name(shown)
+        .help(about)
+        .required(true)
+        .action(ArgAction::Set)
+}
+
+// The operand that is a source text.
+fn source_name<'a>(alloc: Global) -> Arg<'a> {
+    file_name(alloc, "file", "FILE", "The file of the chart or SCL text")
+}
+
+// The operand that is an image.
+fn image_name<'a>(alloc: Global) -> Arg<'a> {
+    file_name(alloc, "image", "IMAGE", "The file of the image")
+}
+
+// A command over one file.
+fn over_one<'a>(
+    alloc: Global,
+    verb: &'a str,
+    about: &'a str,
+    example: &'a str,
+    operand: Arg<'a>,
+) -> Result<Command<'a>, AllocError> {
+    Command::new(alloc, verb)
+        .about(about)
+        .after_help(example)
+        .arg(operand)
+}
+
+// The command that verifies.
+fn check_command<'a>(alloc: Global) -> Result<Command<'a>, AllocError> {
+    over_one(
+        alloc,
+        "check",
+        "Decodes and verifies an image",
+        "Example:\n  sct check examples/two_threads.image",
+        image_name(alloc),
+    )
+}
+
+// The command that shows an image to people.
+fn list_command<'a>(alloc: Global) -> Result<Command<'a>, AllocError> {
+    let source = Arg::new(alloc, "source")
+        .long("source")
+        .value_name("FILE")
+        .help(
+            "The chart or SCL text that it was compiled from: each node is listed with its place there",
+        )
+        .action(ArgAction::Set);
+    Command::new(alloc, "list")
+        .about("Prints an image for people: variables, threads, nodes and protocol edges")
+        .after_help("Example:\n  sct list examples/two_threads.image")
+        .arg(image_name(alloc))?
+        .arg(source)
+}
+
+// The command that prints a text.
+fn scl_command<'a>(alloc: Global) -> Result<Command<'a>, AllocError> {
+    over_one(
+        alloc,
+        "scl",
+        "Prints an SCL text, or that of a chart, in its layout",
+        "Example:\n  sct scl examples/abro.chart",
+        source_name(alloc),
+    )
+}
+
+// The command that tells why a text has no image.
+fn explain_command<'a>(alloc: Global) -> Result<Command<'a>, AllocError> {
+    over_one(
+        alloc,
+        "explain",
+        "Tells where and why a chart or an SCL text is refused, and writes no file",
+        "Example:\n  sct explain examples/abro.chart",
+        source_name(alloc),
+    )
+}
+
+// The command that draws.
+fn dot_command<'a>(alloc: Global) -> Result<Command<'a>, AllocError> {
+    over_one(
+        alloc,
+        "dot",
+        "Prints a chart, or the graph of an SCL text, as Graphviz text",
+        "Example:\n  sct dot examples/abro.chart | dot -Tsvg > abro.svg",
+        source_name(alloc),
+    )
+}
+
+// The command that plays.
+fn run_command<'a>(alloc: Global) -> Result<Command<'a>, AllocError> {
+    let workers = Arg::new(alloc, "workers")
+        .long("workers")
+        .value_name("N")
+        .help("How many threads serve, from 1 to 8: the trace is the same for each")
+        .value_parser(ValueParser::unsigned(1, 8))
+        .default_value("2");
+    Command::new(alloc, "run")
+        .about("Plays standard input to standard output, a tick for each line")
+        .after_help("Example:\n  sct run examples/two_threads.image < examples/two_threads.ticks")
+        .arg(image_name(alloc))?
+        .arg(workers)
+}
+
+// The command over two files.
+fn migrate_command<'a>(alloc: Global) -> Result<Command<'a>, AllocError> {
+    let old = file_name(
+        alloc,
+        "old",
+        "OLD",
+        "The file of the image, in either version",
+    );
+    let new = file_name(alloc, "new", "NEW", "The file that is written");
+    Command::new(alloc, "migrate")
+        .about("Writes an image in version 2 of the layout")
+        .after_help("Example:\n  sct migrate examples/v1/two_threads.image two_threads.image")
+        .arg(old)?
+        .arg(new)
+}
+
+// The command that takes a text to an image.
+fn compile_command<'a>(alloc: Global) -> Result<Command<'a>, AllocError> {
+    let image = file_name(alloc, "image", "IMAGE", "The file that is written");
+    Command::new(alloc, "compile")
+        .about("Compiles a chart or an SCL text to an image")
+        .after_help("Example:\n  sct compile examples/abro.chart abro.image")
+        .arg(source_name(alloc))?
+        .arg(image)
+}
+
+// What is known of a verb.
+fn described<'a>(alloc: Global, verb: Verb) -> Result<Command<'a>, AllocError> {
+    match verb {
+        Verb::Compile => compile_command(alloc),
+        Verb::Scl => scl_command(alloc),
+        Verb::Explain => explain_command(alloc),
+        Verb::Dot => dot_command(alloc),
+        Verb::Check => check_command(alloc),
+        Verb::List => list_command(alloc),
+        Verb::Run => run_command(alloc),
+        Verb::Migrate => migrate_command(alloc),
+    }
+}
+
+// The program, without its verbs.
+fn program<'a>(alloc: Global) -> Result<Command<'a>, AllocError> {
+    Ok(
+        Command::new(alloc, "sct")
+            .bin_name("sct")?
+            .version("0.1.0")
+            .about("Compiles SCCharts to images, checks images and runs them")
+            .no_binary_name(true)
+            .subcommand_required(true)
+            .arg_required_else_help(true)
+            .disable_help_subcommand(true)
+            .after_help(EXAMPLE),
+    )
+}
+
+/// The program with all its verbs. Err: memory was refused.
+pub(crate) fn sct_command<'a>(alloc: Global) -> Result<Command<'a>, AllocError> {
+    let mut command = program(alloc)?;
+    for verb in VERBS {
+        let described = described(alloc, verb)?;
+        command = command.subcommand(described)?;
+    }
+    Ok(command)
+}

@@ -1,0 +1,82 @@
+-- What is left where a source text is drawn.
+use Rattle.std.specs.Prelude.{ℕ, ◌≡◌, ◌⊎◌, Option, List}
+use Rattle.std.specs.Io.KnownBytes.{Appends}
+use Rattle.std.specs.Str.{IsUtf8}
+use Rattle.sc_values.specs.Streams.{GrowsInto}
+use Rattle.sc_graph.specs.Program.{Program}
+use Rattle.sc_text.specs.declared.language.Language.{Language}
+use Rattle.sc_text.specs.declared.language.Language.TheVariants as language
+use Rattle.source_language.specs.First.{IsIn}
+use Rattle.scl.specs.declared.program.Scl.{Scl}
+use Rattle.scl_programs.specs.Read.{IsRead}
+use Rattle.scl_graph.specs.Answers.{IsGraph, IsReason}
+use Rattle.scl_graph.specs.declared.fault.GraphFault.{GraphFault}
+use Rattle.compiler.specs.declared.fault.CompileFault.TheVariants as compiling
+use Rattle.command_files.specs.declared.fault.Fault.{Fault}
+use Rattle.command_files.specs.declared.fault.Fault.TheVariants as fault
+use Rattle.command_files.specs.Files.{Contents, HasBytes}
+use Rattle.command_files.specs.Sources.{SpellsIn, SpellsNone, IsNoText, IsNoSource}
+
+-- ---- what was done
+
+-- what is drawn: of a chart itself, of an SCL program its graph
+abbrev pub HasGraph : Language → Scl → Type 0
+HasGraph language.Chart scl = Unit {0}
+HasGraph language.Scl scl = (p : Program) × IsGraph scl p
+
+-- the text spells a program, and in SCL one that has a graph
+pub record HasDrawing (text : List ℕ) : Type 0 where
+  pub language : Language
+  pub is_in : IsIn text language
+  pub scl : Scl
+  pub spells : SpellsIn language text scl
+  pub graph : HasGraph language scl
+
+-- there is such a text in this file, and some text was written
+pub record Draws (files : Option Contents) (name : List ℕ) (old new : Option (List ℕ)) : Type 0 where
+  pub bytes : List ℕ
+  pub held : HasBytes files name bytes
+  pub is_text : IsUtf8 bytes
+  pub drawn : HasDrawing bytes
+  pub text : List ℕ
+  pub written : Appends old new text
+
+-- ---- what was refused
+
+-- the text spells a program of SCL, which has no graph, for this fault
+pub record LacksGraph (text : List ℕ) (f : GraphFault) : Type 0 where
+  pub is_scl : IsIn text language.Scl
+  pub scl : Scl
+  pub read : IsRead text scl
+  pub none : IsReason scl f
+
+abbrev pub HasNoGraph : List ℕ → Fault → Type 0
+HasNoGraph text fault.Memory = Unit {0}
+HasNoGraph text (fault.Program (compiling.Graph f)) = LacksGraph text f
+HasNoGraph text other = ⊥
+
+-- why a text has no drawing: it spells no program, or in SCL one that has no graph
+abbrev pub HasNoDrawing : List ℕ → Fault → Type 0
+HasNoDrawing text f = SpellsNone text f ⊎ HasNoGraph text f
+
+-- why bytes have none
+abbrev pub LacksDrawing : List ℕ → Fault → Type 0
+LacksDrawing bytes f = IsNoText bytes f ⊎ HasNoGraph bytes f
+
+-- there is no program in this file, or its text is SCL and has no graph
+abbrev pub IsNotDrawn : Option Contents → List ℕ → Fault → Type 0
+IsNotDrawn files name f = IsNoSource files name f ⊎ ((bytes : List ℕ) × HasBytes files name bytes × HasNoGraph bytes f)
+
+-- the output failed, and took a beginning of some text
+pub record DrawsPart (files : Option Contents) (name : List ℕ) (old new : Option (List ℕ)) : Type 0 where
+  pub bytes : List ℕ
+  pub held : HasBytes files name bytes
+  pub is_text : IsUtf8 bytes
+  pub drawn : HasDrawing bytes
+  pub text : List ℕ
+  pub in_part : GrowsInto old new text
+
+-- what drawing leaves that is refused: nothing was written, but where the output failed
+abbrev pub RefusesDrawing : Option Contents → List ℕ → Option (List ℕ) → Option (List ℕ) → Fault → Type 0
+RefusesDrawing files name old new fault.Write = DrawsPart files name old new
+RefusesDrawing files name old new other = IsNotDrawn files name other × (new ≡ old)

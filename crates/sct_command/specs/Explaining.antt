@@ -1,0 +1,49 @@
+-- What is left where a source text is explained.
+use Rattle.std.specs.Prelude.{ℕ, ◌≡◌, ◌⊎◌, Option, List}
+use Rattle.std.specs.Io.KnownBytes.{Appends}
+use Rattle.sc_values.specs.Streams.{GrowsInto}
+use Rattle.bytecode.specs.Image.{Image}
+use Rattle.command_files.specs.declared.fault.Fault.{Fault}
+use Rattle.command_files.specs.declared.fault.Fault.TheVariants as fault
+use Rattle.command_files.specs.Files.{Contents}
+use Rattle.command_files.specs.Sources.{IsCompiledFrom, IsNoCompiled}
+use Rattle.sct_command.specs.Summary.{summary_of}
+use Rattle.sct_command.specs.Writing.{WritesPart, WritesSome}
+
+-- the program in this file has an image, whose summary was written
+pub record FindsImage (files : Option Contents) (name : List ℕ) (old new : Option (List ℕ)) : Type 0 where
+  pub image : Image
+  pub compiled : IsCompiledFrom files name image
+  pub written : Appends old new (summary_of image)
+
+-- the program in this file has an image, and a beginning of its summary was written
+pub record FindsImagePart (files : Option Contents) (name : List ℕ) (old new : Option (List ℕ)) : Type 0 where
+  pub image : Image
+  pub compiled : IsCompiledFrom files name image
+  pub in_part : GrowsInto old new (summary_of image)
+
+-- a beginning was written of what is said of the fault for which this file has no image
+pub record ExplainsPart (files : Option Contents) (name : List ℕ) (old new : Option (List ℕ)) : Type 0 where
+  pub fault : Fault
+  pub none : IsNoCompiled files name fault
+  pub told : WritesPart old new
+
+-- what telling of a fault leaves that is refused
+abbrev pub RefusesTelling : Option (List ℕ) → Option (List ℕ) → Fault → Type 0
+RefusesTelling old new fault.Memory = new ≡ old
+RefusesTelling old new fault.Write = WritesPart old new
+RefusesTelling old new other = ⊥
+
+-- what is left where a fault was to be told, and this one is answered: itself, and some text of it was written; or
+-- memory was refused; or the output failed, and took a beginning
+abbrev pub IsTold : Fault → Option (List ℕ) → Option (List ℕ) → Fault → Type 0
+IsTold f old new fault.Memory = (new ≡ old) ⊎ WritesSome old new
+IsTold f old new fault.Write = WritesPart old new
+IsTold f old new other = (other ≡ f) × WritesSome old new
+
+-- what an explanation leaves: the fault for which the file has no image, and some text of it was written; where memory
+-- was refused, that or nothing; and a beginning where the output failed
+abbrev pub RefusesExplaining : Option Contents → List ℕ → Option (List ℕ) → Option (List ℕ) → Fault → Type 0
+RefusesExplaining files name old new fault.Memory = (new ≡ old) ⊎ WritesSome old new
+RefusesExplaining files name old new fault.Write = FindsImagePart files name old new ⊎ ExplainsPart files name old new
+RefusesExplaining files name old new other = IsNoCompiled files name other × WritesSome old new

@@ -1,0 +1,97 @@
+//! The verb `dot`.
+
+ghost use Rattle.std.specs.Prelude.{◌≡◌, ◌+◌, IfErr, IfOk, OnOk};
+ghost use Rattle.sc_text.specs.declared.language.Language.TheVariants as language;
+ghost use Rattle.source_language.specs.First.{IsIn};
+ghost use Rattle.sct_command.specs.Answer.{reads_failed, writes_failed};
+ghost use Rattle.sct_command.specs.Drawing.{Draws, HasDrawing, HasNoDrawing, LacksDrawing, RefusesDrawing};
+ghost use Rattle.std.specs.Str.{IsUtf8};
+
+use command_files::{Fault, Files, bytes_of, text_of};
+use compiler::{CompileFault, scl_of_chart};
+use drawing::{chart_drawing, graph_drawing};
+use resolved_charts::read_chart;
+use sc_text::Language;
+use sc_values::{Sink, write_all};
+use scl_graph::graph_of;
+use scl_programs::read_scl;
+use source_language::language_of;
+use std::alloc::Global;
+
+// The drawing of the chart that a text spells.
+fn draw_chart(alloc: Global, text: &str) -> Result<String, Fault>
+    requires { IsIn text.now language.Chart }
+    ensures drawn { IfOk result (λ _. HasDrawing text.now) }
+    ensures fault { IfErr result (HasNoDrawing text.now) }
+{
+    let chart = match read_chart(alloc, text) {
+        Ok(chart) => chart,
+        Err(fault) => return Err(Fault::Text(fault)),
+    };
+    match scl_of_chart(alloc, &chart) {
+        Ok(_) => Ok(chart_drawing(alloc, &chart)?),
+        Err(fault) => Err(Fault::Program(fault)),
+    }
+}
+
+// The drawing of the graph of the program that a text spells.
+#[tactic(auto, using(crate::proofs::Drawn::no_graph))]
+fn draw_graph(alloc: Global, text: &str) -> Result<String, Fault>
+    requires { IsIn text.now language.Scl }
+    ensures drawn { IfOk result (λ _. HasDrawing text.now) }
+    ensures fault { IfErr result (HasNoDrawing text.now) }
+{
+    let scl = match read_scl(alloc, text) {
+        Ok(scl) => scl,
+        Err(fault) => return Err(Fault::Text(fault)),
+    };
+    match graph_of(alloc, &scl) {
+        Ok(program) => Ok(graph_drawing(alloc, &scl.name, &program)?),
+        Err(fault) => Err(Fault::Program(CompileFault::Graph(fault))),
+    }
+}
+
+// The drawing of what a text spells, in the language that its first token tells.
+fn draw_text(alloc: Global, text: &str) -> Result<String, Fault>
+    ensures drawn { IfOk result (λ _. HasDrawing text.now) }
+    ensures fault { IfErr result (HasNoDrawing text.now) }
+{
+    match language_of(text) {
+        Language::Chart => draw_chart(alloc, text),
+        Language::Scl => draw_graph(alloc, text),
+    }
+}
+
+// The drawing of what these bytes spell.
+fn draw_bytes(alloc: Global, bytes: &[u8]) -> Result<String, Fault>
+    ensures text { IfOk result (λ _. IsUtf8 bytes.now) }
+    ensures drawn { IfOk result (λ _. HasDrawing bytes.now) }
+    ensures fault { IfErr result (LacksDrawing bytes.now) }
+{
+    let text = text_of(bytes)?;
+    draw_text(alloc, text)
+}
+
+/// Writes the drawing of the chart in this file, or of the graph of the SCL text in it, as Graphviz text. Err: there
+/// is no program in the file, or its text is SCL and has no graph; or the output failed.
+pub(crate) fn draw<F: Files, W: Sink>(
+    alloc: Global,
+    name: &str,
+    files: &mut F,
+    output: &mut W,
+) -> Result<(), Fault>
+    ensures done { OnOk result (Draws (F.contents files.old) name.now (W.taken output.old) (W.taken output.new)) }
+    ensures refused { IfErr result
+        (RefusesDrawing (F.contents files.old) name.now (W.taken output.old) (W.taken output.new)) }
+    ensures none_failed { OnOk result (W.failures output.new ≡ W.failures output.old) }
+    ensures failed { IfErr result (λ fault. W.failures output.new ≡ W.failures output.old + writes_failed fault) }
+    ensures files { F.contents files.new ≡ F.contents files.old }
+    ensures unread { IfErr result (λ fault. reads_failed fault ≡ 0) }
+{
+    let bytes = bytes_of(alloc, files, name)?;
+    let text = draw_bytes(alloc, &bytes)?;
+    match write_all(output, text.as_bytes()) {
+        Ok(()) => Ok(()),
+        Err(_) => Err(Fault::Write),
+    }
+}

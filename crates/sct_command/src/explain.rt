@@ -1,0 +1,105 @@
+//! The verb `explain`.
+
+ghost use Rattle.std.specs.Prelude.{◌≡◌, ◌+◌, IfErr, OnOk};
+ghost use Rattle.sct_command.specs.Answer.{reads_failed, writes_failed};
+ghost use Rattle.sct_command.specs.Explaining.{FindsImage, IsTold, RefusesExplaining, RefusesTelling};
+ghost use Rattle.sct_command.specs.Writing.{WritesSome};
+
+use crate::summary::sum_up;
+use command_files::{Fault, Files, bytes_of, compile_bytes, shown_name, text_of};
+use explaining::{program_fault_explained, text_fault_explained};
+use sc_values::{Sink, write_all};
+use std::alloc::{AllocError, Global};
+
+// What is said of a fault where there is no text in which a place could be shown.
+fn without_text(alloc: Global, name: &str, fault: &Fault) -> Result<String, AllocError> {
+    let said = match fault {
+        Fault::File(_) => {
+            "E64: the file cannot be read\nhelp: look at its name, and at who may read it"
+        }
+        Fault::Text(_) => "E01: the bytes of this file are no text\nhelp: save it as UTF-8",
+        _ => "E52: memory was refused",
+    };
+    format!(in alloc; "{name}: {said}\n")
+}
+
+// What is said of the fault of these bytes.
+fn explanation(
+    alloc: Global,
+    name: &str,
+    bytes: &[u8],
+    fault: &Fault,
+) -> Result<String, AllocError> {
+    let Ok(text) = text_of(bytes) else {
+        return without_text(alloc, name, fault);
+    };
+    match fault {
+        Fault::Text(fault) => text_fault_explained(alloc, name, text, fault),
+        Fault::Program(fault) => program_fault_explained(alloc, name, text, fault),
+        _ => without_text(alloc, name, fault),
+    }
+}
+
+// Writes what is to be said of the fault of these bytes, which are those of the file of this name.
+fn tell<W: Sink>(
+    alloc: Global,
+    name: &str,
+    bytes: &[u8],
+    fault: &Fault,
+    output: &mut W,
+) -> Result<(), Fault>
+    ensures told { OnOk result (WritesSome (W.taken output.old) (W.taken output.new)) }
+    ensures refused { IfErr result (RefusesTelling (W.taken output.old) (W.taken output.new)) }
+    ensures none_failed { OnOk result (W.failures output.new ≡ W.failures output.old) }
+    ensures failed { IfErr result (λ fault. W.failures output.new ≡ W.failures output.old + writes_failed fault) }
+    ensures unread { IfErr result (λ fault. reads_failed fault ≡ 0) }
+{
+    let name = shown_name(alloc, name)?;
+    let text = explanation(alloc, name.as_str(), bytes, fault)?;
+    match write_all(output, text.as_bytes()) {
+        Ok(()) => Ok(()),
+        Err(_) => Err(Fault::Write),
+    }
+}
+
+// Tells of a fault. Gives it, or why it could not be told.
+fn refused<W: Sink>(alloc: Global, name: &str, bytes: &[u8], fault: Fault, output: &mut W) -> Fault
+    requires write { writes_failed fault ≡ 0 }
+    requires read { reads_failed fault ≡ 0 }
+    ensures told { IsTold fault (W.taken output.old) (W.taken output.new) result }
+    ensures failed { W.failures output.new ≡ W.failures output.old + writes_failed result }
+    ensures unread { reads_failed result ≡ 0 }
+{
+    match tell(alloc, name, bytes, &fault, output) {
+        Ok(()) => fault,
+        Err(other) => other,
+    }
+}
+
+/// Compiles the program in this file, and writes the summary of its image, or else why it has none: the place of the
+/// fault, what is wrong, and what helps. Err: there is no program in the file, or it has no image, and this was told; or
+/// the output failed.
+#[tactic(auto, using(crate::proofs::Told::quiet_source, crate::proofs::Told::told_source, crate::proofs::Told::quiet_bytes, crate::proofs::Told::told_bytes, crate::proofs::Told::finds, crate::proofs::Told::finds_part))]
+pub(crate) fn explain<F: Files, W: Sink>(
+    alloc: Global,
+    name: &str,
+    files: &mut F,
+    output: &mut W,
+) -> Result<(), Fault>
+    ensures done { OnOk result (FindsImage (F.contents files.old) name.now (W.taken output.old) (W.taken output.new)) }
+    ensures refused { IfErr result
+        (RefusesExplaining (F.contents files.old) name.now (W.taken output.old) (W.taken output.new)) }
+    ensures none_failed { OnOk result (W.failures output.new ≡ W.failures output.old) }
+    ensures failed { IfErr result (λ fault. W.failures output.new ≡ W.failures output.old + writes_failed fault) }
+    ensures files { F.contents files.new ≡ F.contents files.old }
+    ensures unread { IfErr result (λ fault. reads_failed fault ≡ 0) }
+{
+    let bytes = match bytes_of(alloc, files, name) {
+        Ok(bytes) => bytes,
+        Err(fault) => return Err(refused(alloc, name, b"", fault, output)),
+    };
+    match compile_bytes(alloc, &bytes) {
+        Ok(image) => sum_up(alloc, image.image(), output),
+        Err(fault) => Err(refused(alloc, name, &bytes, fault, output)),
+    }
+}

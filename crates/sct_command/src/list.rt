@@ -1,0 +1,33 @@
+//! The verb `list`.
+
+ghost use Rattle.std.specs.Prelude.{◌≡◌, ◌+◌, IfErr, OnOk};
+ghost use Rattle.sct_command.specs.Answer.{reads_failed, writes_failed};
+ghost use Rattle.sct_command.specs.Listing.{ListsNodes, RefusesListing};
+
+use command_files::{Fault, Files, load_verified};
+use image_listing::image_text;
+use sc_values::{Sink, write_all};
+use std::alloc::Global;
+
+/// Writes the listing of the image in this file. Err: there is no valid image in the file; or the output failed.
+pub(crate) fn list<F: Files, W: Sink>(
+    alloc: Global,
+    name: &str,
+    files: &mut F,
+    output: &mut W,
+) -> Result<(), Fault>
+    ensures done { OnOk result (ListsNodes (F.contents files.old) name.now (W.taken output.old) (W.taken output.new)) }
+    ensures refused { IfErr result
+        (RefusesListing (F.contents files.old) name.now (W.taken output.old) (W.taken output.new)) }
+    ensures none_failed { OnOk result (W.failures output.new ≡ W.failures output.old) }
+    ensures failed { IfErr result (λ fault. W.failures output.new ≡ W.failures output.old + writes_failed fault) }
+    ensures files { F.contents files.new ≡ F.contents files.old }
+    ensures unread { IfErr result (λ fault. reads_failed fault ≡ 0) }
+{
+    let image = load_verified(alloc, files, name)?;
+    let text = image_text(alloc, &image)?;
+    match write_all(output, text.as_bytes()) {
+        Ok(()) => Ok(()),
+        Err(_) => Err(Fault::Write),
+    }
+}
