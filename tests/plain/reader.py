@@ -4,6 +4,7 @@ pass runs only where the one before found nothing, and each gives its fault of l
 A text is bytes. An expression is read into its postfix code, a list of ("value", v), ("load", name, place),
 ("unary", operator), ("divide", operator, divisor) and ("binary", operator), so that nothing here goes deeper than the
 limits allow. What was read is a Program: statements and trees as programs.py has them, variables by their places."""
+import functools
 import re
 import sys
 
@@ -41,6 +42,23 @@ class Program:
 
 # ---- the first pass
 
+@functools.lru_cache(maxsize=4096)
+def token(word, is_chart):
+    """What a piece is: the number of a fault, None for what stands between tokens, or a token's kind and value."""
+    if word.isspace() or word.startswith(b"//"):
+        return None
+    if word.isdigit():
+        if word[:1] == b"0" and len(word) > 1:
+            return 1
+        return 7 if len(word) > 10 or int(word) > 2147483647 else (NUMBER, int(word))
+    name = word.decode()
+    if is_chart and name.startswith("_"):
+        return 1
+    if not (name[0].isalpha() or name[0] == "_") or name in RESERVED:
+        return name, name
+    return 7 if len(name) > 64 else (NAME, name)
+
+
 def tokens(text, is_chart=False):
     """The tokens as (kind, value, place): kind is NAME, NUMBER, or the word or sign itself. The last one is END. In a
     chart no name begins with `_`."""
@@ -49,25 +67,11 @@ def tokens(text, is_chart=False):
         piece = PIECES.match(text, at)
         if not piece:
             raise Fault(1, at)
-        word = piece.group()
-        if word[:1].isalpha() or word[:1] == b"_":
-            name = word.decode()
-            if is_chart and name.startswith("_"):
-                raise Fault(1, at)
-            if name in RESERVED:
-                found.append((name, name, at))
-            elif len(name) > 64:
-                raise Fault(7, at)
-            else:
-                found.append((NAME, name, at))
-        elif word.isdigit():
-            if word[:1] == b"0" and len(word) > 1:
-                raise Fault(1, at)
-            if len(word) > 10 or int(word) > 2147483647:
-                raise Fault(7, at)
-            found.append((NUMBER, int(word), at))
-        elif not word.isspace() and not word.startswith(b"//"):
-            found.append((word.decode(), word.decode(), at))
+        known = token(piece.group(), is_chart)
+        if isinstance(known, int):
+            raise Fault(known, at)
+        if known:
+            found.append((*known, at))
         at = piece.end()
     found.append((END, None, len(text)))
     return found

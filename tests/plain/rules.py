@@ -1,5 +1,7 @@
 """The rules of a valid image, by their words in docs/definitions.md. Those of size, structure, codes and assignments are
 here, those of tables in tables.py."""
+from collections import Counter
+
 from programs import loads
 from tables import broken, edges_of
 
@@ -75,22 +77,17 @@ def stays(image, node):
     return all(is_target(image, node.owner, getattr(node, part)) for part in TARGETS.get(node.kind, []))
 
 
-def belongs(image, n):
-    node = image.nodes[n]
-    if node.kind == "join":
-        return sum(m.kind == "fork" and m.join == n for m in image.nodes) == 1
-    if node.kind == "depth":
-        return sum(m.kind == "surf" and m.depth == n for m in image.nodes) == 1
-    return True
-
-
 def structure_places(image):
-    found = []
-    for t, (_, entry) in enumerate(image.threads):
-        forked = sum(node.kind == "fork" and t in node.children for node in image.nodes)
-        if not is_target(image, t, entry) or (t > 0 and forked != 1):
-            found.append(f"thread {t}")
-    return found + [f"{n}" for n, node in enumerate(image.nodes) if not (stays(image, node) and belongs(image, n))]
+    forks, surfs = ([node for node in image.nodes if node.kind == kind] for kind in ("fork", "surf"))
+    forked = Counter(child for node in forks for child in node.children)
+    joined, resumed = Counter(node.join for node in forks), Counter(node.depth for node in surfs)
+
+    def belongs(n, node):
+        return {"join": joined[n] == 1, "depth": resumed[n] == 1}.get(node.kind, True)
+
+    found = [f"thread {t}" for t, (_, entry) in enumerate(image.threads)
+             if not is_target(image, t, entry) or (t > 0 and forked[t] != 1)]
+    return found + [f"{n}" for n, node in enumerate(image.nodes) if not (stays(image, node) and belongs(n, node))]
 
 
 # ---- codes and assignments
@@ -167,10 +164,16 @@ def assignment_places(image):
 
 # ---- all
 
-def broken_rule(image):
-    """The places at which the lowest broken rule is broken, each as it is printed, or none."""
+def broken_program(image):
+    """The places at which the lowest broken rule of those that do not ask for tables is broken, each as it is printed, or
+    none."""
     for number, places in (31, size_places), (32, structure_places), (33, code_places), (34, assignment_places):
         found = places(image)
         if found:
             return {f"E{number} {place}" for place in found}
-    return broken(image, image.tables, *edges_of(image, loads))
+    return set()
+
+
+def broken_rule(image):
+    """The places at which the lowest broken rule is broken, each as it is printed, or none."""
+    return broken_program(image) or broken(image, image.tables, *edges_of(image, loads))

@@ -3,7 +3,7 @@
 
 class Concurrency:
     def __init__(self, graph):
-        self.graph = graph
+        self.graph, self.known = graph, {}
         self.fork = {c: n for n, node in enumerate(graph.nodes) if node.kind == "fork" for c in node.children}
         self.above = []
         for parent, _ in graph.threads:
@@ -11,6 +11,11 @@ class Concurrency:
 
     def threads(self, a, b):
         """Whether two threads are, or descend from, two different children of one fork."""
+        if (a, b) not in self.known:
+            self.known[a, b] = self.tried(a, b)
+        return self.known[a, b]
+
+    def tried(self, a, b):
         left, right = self.above[a] + [a], self.above[b] + [b]
         for one, other in zip(left, right):
             if one != other:
@@ -45,19 +50,22 @@ def edges_of(graph, loads):
     """The instantaneous edges, the protocol edges and the write conflicts, as pairs of nodes."""
     together = Concurrency(graph)
     flow, protocol, conflicts = [], [], []
-    exits = {node.owner: n for n, node in enumerate(graph.nodes) if node.kind == "exit"}
+    exits = [[] for _ in graph.threads]
+    for n, node in enumerate(graph.nodes):
+        if node.kind == "exit":
+            exits[node.owner].append(n)
     for n, node in enumerate(graph.nodes):
         flow += [(n, s) for s in successors(node)]
         if node.kind == "fork":
             for c in node.children:
-                flow += [(n, graph.threads[c][1]), (exits[c], node.join)]
+                flow += [(n, graph.threads[c][1])] + [(e, node.join) for e in exits[c]]
     known = [accesses(node, loads) for node in graph.nodes]
-    users = [n for n, (reads, write) in enumerate(known) if reads or write]
-    for m in users:
-        write = known[m][1]
-        if write is None:
-            continue
-        for n in users:
+    users = {}
+    for n, (reads, write) in enumerate(known):
+        for x in {*reads, *([write[1]] if write else [])}:
+            users.setdefault(x, []).append(n)
+    for m, (_, write) in enumerate(known):
+        for n in users[write[1]] if write else []:
             if not together.nodes(m, n):
                 continue
             reads, other = known[n]

@@ -71,6 +71,21 @@ def random_text(seed):
         return text_of(body).encode(), lines
 
 
+def wide_text(branches, statements):
+    """A program of branches that step at the same time, each by so many assignments of 63 operations a tick. So there
+    is work for several workers."""
+    def assignment(x, number):
+        terms = "".join(f" {'+-*'[n % 3]} {'i' if n % 8 == 0 else n * number + 2}" for n in range(1, 32))
+        return f"{x} = {x}{terms};"
+
+    declared = "input int i; " + " ".join(f"output int x{b};" for b in range(branches))
+    bodies = []
+    for b in range(branches):
+        row = " ".join(assignment(f"x{b}", n) for n in range(1, statements + 1))
+        bodies.append(f"again{b}: {row} pause; goto again{b};")
+    return f"scl Wide {{ {declared} fork {{ {' } par { '.join(bodies)} }} join; }}".encode()
+
+
 class Example(NamedTuple):
     """An image with its lines, and its text where it has one."""
     name: str
@@ -146,3 +161,13 @@ def with_workers(program, count):
         return []
     return [Case(f"run {name} with {workers} workers", ["run", "image", "--workers", str(workers)], {"image": image}, lines)
             for name, image, lines, _ in examples(program, count) for workers in (1, 2, 8)]
+
+
+WIDE_LINES = b'{"i":3}\n{}\n{"i":-7}\n'
+
+
+def wide(program, branches, statements):
+    """Runs by workers that share their rounds, each with one worker beside it."""
+    files = {"image": compiled(program, wide_text(branches, statements))}
+    return [Case(f"run of {branches} branches of {statements} long assignments with {workers} workers",
+                 ["run", "image", "--workers", str(workers)], files, WIDE_LINES) for workers in (1, 2, 8)]

@@ -65,6 +65,11 @@ class Left(NamedTuple):
     def answer(self):
         return self.status, self.output, self.errors, self.files
 
+    def is_clean(self, right):
+        """Whether it left no thread, and no more memory than a run without a failure. For each stack of a thread the C
+        library keeps a block, and whether a thread takes the stack of one that has ended hangs on their speed."""
+        return self.started == self.ended and self.live <= right.live + self.started
+
 
 class Served:
     """The program with its words, in a folder of its own. Files of the folder are named in `files`, with their bytes;

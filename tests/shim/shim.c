@@ -64,6 +64,18 @@ extern void *__libc_malloc(size_t), *__libc_calloc(size_t, size_t), *__libc_real
 extern void *__libc_memalign(size_t, size_t);
 extern void __libc_free(void *);
 
+static _Noreturn void leave(int status) {
+  for (;;)
+    syscall(SYS_exit_group, status);
+}
+
+/* A thread may have done all its work, and not have come to its end yet, when the program ends: it has a second. */
+void _exit(int status) {
+  for (int turn = 0; turn < 10000 && left->ended < left->started && left->joined < left->started; turn++)
+    usleep(100);
+  leave(status);
+}
+
 static void read_plan(const char *text) {
   char kind[16], deed[16];
   long from, count, value;
@@ -88,7 +100,7 @@ static const struct plan *planned(enum kind kind) {
     if (number >= plan->from && (!plan->count || number < plan->from + plan->count)) {
       atomic_fetch_add(&left->failed[kind], 1);
       if (plan->deed == STOP)
-        _exit(99);
+        leave(99);
       if (plan->deed == FAIL)
         errno = (int)plan->value;
       return plan;
@@ -255,7 +267,7 @@ static int begin(int count, char **words, char **environment) {
 static void put_in_place(int file, const char *name, int flags) {
   int opened = (int)syscall(SYS_openat, AT_FDCWD, name, flags, 0600);
   if (opened < 0 || dup2(opened, file) < 0)
-    _exit(98);
+    leave(98);
   syscall(SYS_close, opened);
 }
 
@@ -265,7 +277,7 @@ static int serve(int count, char **words, char **environment) {
   pid_t run;
   struct rusage used;
   if (sscanf(getenv("SHIM_SERVE"), "%d %d", &in, &out) != 2)
-    _exit(98);
+    leave(98);
   left = (void *)syscall(SYS_mmap, 0, sizeof *left, PROT_READ | PROT_WRITE, MAP_SHARED | MAP_ANONYMOUS, -1, 0);
   while (syscall(SYS_read, in, plan, sizeof plan) == sizeof plan) {
     memset(left, 0, sizeof *left);
@@ -280,13 +292,13 @@ static int serve(int count, char **words, char **environment) {
       return begin(count, words, environment);
     }
     if (run < 0 || wait4(run, &status, 0, &used) != run)
-      _exit(98);
+      leave(98);
     left->status = status;
     left->peak = used.ru_maxrss;
     if (syscall(SYS_write, out, left, sizeof *left) != sizeof *left)
-      _exit(98);
+      leave(98);
   }
-  _exit(0);
+  leave(0);
 }
 
 int __libc_start_main(int (*main)(int, char **, char **), int count, char **words, void (*init)(void), void (*fini)(void),
