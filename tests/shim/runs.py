@@ -10,6 +10,7 @@ import struct
 import subprocess
 import sys
 import tempfile
+import time
 from typing import NamedTuple
 
 KINDS = ["memory", "thread", "input", "output", "errors", "open", "load", "store", "seek", "close", "rename", "unlink"]
@@ -18,6 +19,8 @@ PLAN_BYTES = 512
 HERE = os.path.dirname(os.path.realpath(__file__))
 TOP = os.path.dirname(os.path.dirname(HERE))
 FAST = "/dev/shm" if os.access("/dev/shm", os.W_OK) else None
+# so many processes share a sweep
+JOBS = int(os.environ.get("JOBS") or os.cpu_count())
 
 
 def program_of(words):
@@ -170,6 +173,26 @@ class Tally:
             print(f"FAILED: and {len(self.findings) - most} more")
         print(f"{self.passed} passed, {len(self.findings)} failed", flush=True)
         return 1 if self.findings else 0
+
+
+class Progress:
+    """Tells now and then how much of a part is done."""
+
+    SECONDS = 20
+
+    def __init__(self, part, whole, what):
+        self.part, self.whole, self.what = part, whole, what
+        self.done, self.findings, self.begun = 0, 0, time.time()
+        self.told = self.begun
+
+    def add(self, count, findings):
+        self.done += count
+        self.findings += findings
+        now = time.time()
+        if now - self.told >= self.SECONDS:
+            self.told = now
+            print(f"{self.part}: {self.done} of {self.whole} {self.what}, {self.findings} findings, "
+                  f"{now - self.begun:.0f} s", flush=True)
 
 
 def again(words, plan, program="crates/sct/out/sct"):
