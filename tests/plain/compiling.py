@@ -2,6 +2,7 @@
 refused."""
 from chart_reader import begins_a_chart, read_chart
 from expansion import TooLarge, expand
+from images import encode
 from lowering import lower
 from programs import Graph, Loop, loads
 from reader import Fault, Program, read
@@ -148,3 +149,9 @@ def ends_alone(graph):
 
 def compiled(text):
     return Compiled(program_of(text))
+
+
+def image_of(text):
+    """The image of a text that has one."""
+    made = compiled(text)
+    return encode(made.program.variables, made.graph, made.tables)
