@@ -7,8 +7,13 @@ use crate::seat::Next;
 use crate::table::{Calls, Table};
 use ready_queue::{Pass, ReadyQueue};
 use std::alloc::{AllocError, Global};
-use std::sync::{Condvar, Mutex, Wait};
+use std::hint::spin_loop;
+use std::sync::{Condvar, Mutex, MutexGuard, Wait};
 use verifier::Verified;
+
+// How often a worker looks for the lock before it sleeps. Under the lock others commit and claim, in less than a
+// microsecond, and to be put to sleep and woken costs several.
+const LOOKS: u32 = 400;
 
 /// What the workers of one image share: the tick under way, under a lock, and the queue of its claims.
 #[derive(Drop)]
@@ -47,6 +52,17 @@ impl<'x, J: Picture, G: Gate> Hall<'x, J, G> {
             gate,
         };
         Ok((hall, passes))
+    }
+
+    /// Takes the lock, which others hold for a short while.
+    pub(crate) fn locked<R: Wait>(&self, rt: &R) -> MutexGuard<'_, Table<'x, J>> {
+        for _ in 0..LOOKS {
+            if let Some(guard) = self.table.try_lock() {
+                return guard;
+            }
+            spin_loop();
+        }
+        self.table.lock(rt)
     }
 
     /// Wakes those who are to be woken.

@@ -108,7 +108,7 @@ impl<'r, 'x, J: Picture, G: Gate> Seat<'r, 'x, J, G> {
     // In one turn of the lock: commits, and claims all that can be claimed.
     fn bring<R: Wait>(&mut self, rt: &R, done: &Done<'x>) -> Next<'x> {
         let hall = self.hall;
-        let mut guard = hall.table.lock(rt);
+        let mut guard = hall.locked(rt);
         let table = &mut *guard;
         let Some(desk) = &mut table.desk else {
             return table.next(None, true);

@@ -6,13 +6,17 @@ use tick_core::{Claim, TickState};
 /// How many operations are worth a worker that has to be woken, where no step waits for another.
 pub(crate) const SHARE: u64 = 256;
 
+// How many operations a step has to have where its round is to be shared, and no step waits for another: to claim, put
+// and commit a step that is shared costs as much as a hundred.
+const HEAVY: u64 = 48;
+
 /// Whether a round of these threads has work for a second worker, as far as the first two show.
 pub(crate) fn is_much(state: &TickState<'_>, round: &[ThreadId]) -> bool {
     let mut work: u64 = 0;
     for thread in round.iter().take(2) {
         work = work.saturating_add(operations_at(state, *thread));
     }
-    work.saturating_mul(round.len() as u64 / 2) >= 2 * SHARE
+    work >= 2 * HEAVY && work.saturating_mul(round.len() as u64 / 2) >= 2 * SHARE
 }
 
 // The operations that are evaluated for the step of a thread, and one for the step.
