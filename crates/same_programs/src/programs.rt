@@ -1,0 +1,15 @@
+//! Whole programs.
+
+ghost use Rattle.std.specs.Prelude.{◌≡◌, ◌↔◌, IsTrue};
+
+use crate::rows::are_same_rows;
+use sc_graph::Program;
+
+/// Whether two programs have the same variables, threads and nodes.
+pub fn are_same(one: &Program, other: &Program) -> bool
+    ensures { IsTrue result ↔ (one.now ≡ other.now) }
+{
+    are_same_rows(one.variables(), other.variables())
+        && are_same_rows(one.threads(), other.threads())
+        && are_same_rows(one.nodes(), other.nodes())
+}
