@@ -8,6 +8,7 @@ mod files;
 mod images;
 mod laws;
 mod load;
+mod making;
 mod source;
 mod storing;
 
@@ -18,5 +19,6 @@ pub use files::{FileFault, Files, HostFiles};
 pub use images::load_verified;
 pub use laws::one_line;
 pub use load::bytes_of;
+pub use making::makes_program;
 pub use source::{load_scl, text_of};
 pub use storing::store;

@@ -1,5 +1,9 @@
 //! The origins of nodes, in the order of their numbers.
 
+ghost use Rattle.std.specs.Prelude.{◌≡◌, ◌<◌, ◌↔◌, ℕ, IfOk, IfSome, IsTrue, Some, slice_get};
+ghost use Rattle.node_sources.specs.declared.origin.Origin.{Origin};
+ghost use Rattle.node_sources.specs.Origins.{AreOrigins};
+
 use crate::origin::Origin;
 use crate::piece::{Piece, Whole};
 use sc_graph::{Program, Step};
@@ -127,12 +131,28 @@ fn lay_forked_by(layout: &mut Layout<'_>, piece: &Piece) -> Result<(), AllocErro
     }
 }
 
-/// The origins of the nodes of a program, in the order of their numbers. None: these pieces are not the program's.
+// Whether each place lies in a text of so many bytes.
+fn are_within(origins: &[Origin], length: usize) -> bool
+    ensures { IsTrue result ↔ ((n : ℕ) (o : Origin) → slice_get origins.now n ≡ Some o → o.at < length) }
+{
+    for origin in origins {
+        if origin.at >= length {
+            return false;
+        }
+    }
+    true
+}
+
+/// The origins of the nodes of a program in its text, in the order of their numbers. None: these pieces are not the
+/// program's.
 pub(crate) fn laid(
     alloc: Global,
+    text: &str,
     program: &Program,
     whole: &Whole,
-) -> Result<Option<Items<Origin>>, AllocError> {
+) -> Result<Option<Items<Origin>>, AllocError>
+    ensures { IfOk result (λ found. IfSome found (AreOrigins text.now program.now)) }
+{
     let mut layout = Layout {
         program,
         origins: Items::new(alloc),
@@ -142,8 +162,10 @@ pub(crate) fn laid(
     layout.put(Deed::Ends, whole.end)?;
     lay_forked(&mut layout, whole.body.as_slice())?;
     let is_whole = layout.origins.len() == program.nodes().len();
-    if layout.fits && is_whole {
-        Ok(Some(layout.origins))
+    let fits = layout.fits;
+    let origins = layout.origins;
+    if fits && is_whole && are_within(origins.as_slice(), text.len()) {
+        Ok(Some(origins))
     } else {
         Ok(None)
     }

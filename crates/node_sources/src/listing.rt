@@ -2,10 +2,9 @@
 
 use crate::origin::Origin;
 use crate::positions::Positions;
-use crate::same_program::are_same;
-use crate::sources::sources_of;
+use crate::sources::origins_of;
 use image_listing::image_text;
-use sqlite_items::at;
+use sqlite_items::{Items, at};
 use std::alloc::{AllocError, Global};
 use verifier::Verified;
 
@@ -16,27 +15,16 @@ const COLUMN: usize = 7;
 const WIDTH: usize = 13;
 
 /// The listing of an image, in which each node's line has behind its number the line and the column of the text from
-/// which it comes. None: the text has no program, or it is not that of the image. Err: memory was refused.
-pub fn image_text_with(
-    alloc: Global,
-    image: &Verified,
-    text: &str,
-) -> Result<Option<String>, AllocError> {
-    let Some(sources) = sources_of(alloc, text)? else {
-        return Ok(None);
+/// which it comes. The text is that of the image's program; where it is another, these places stand empty. Err: memory
+/// was refused.
+pub fn image_text_with(alloc: Global, image: &Verified, text: &str) -> Result<String, AllocError> {
+    let origins = match origins_of(alloc, text, image.image().program())? {
+        Some(origins) => origins,
+        None => Items::new(alloc),
     };
-    if !are_same(&sources.program, image.image().program()) {
-        return Ok(None);
-    }
     let positions = Positions::of(alloc, text)?;
     let listing = image_text(alloc, image)?;
-    let whole = with_places(
-        alloc,
-        listing.as_str(),
-        &positions,
-        sources.origins.as_slice(),
-    )?;
-    Ok(Some(whole))
+    with_places(alloc, listing.as_str(), &positions, origins.as_slice())
 }
 
 // What is known of a line of a listing.

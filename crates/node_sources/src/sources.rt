@@ -1,5 +1,8 @@
 //! From a text to its program and the origins of its nodes.
 
+ghost use Rattle.std.specs.Prelude.{IfOk, IfSome};
+ghost use Rattle.node_sources.specs.Origins.{AreOrigins};
+
 use crate::chart_marks::chart_marks;
 use crate::chart_pieces::chart_pieces;
 use crate::layout::laid;
@@ -27,24 +30,29 @@ pub struct Sources {
 }
 
 /// The program of a text with the origins of its nodes. None: the text has no program. Err: memory was refused.
-pub fn sources_of(alloc: Global, text: &str) -> Result<Option<Sources>, AllocError> {
+pub fn sources_of(alloc: Global, text: &str) -> Result<Option<Sources>, AllocError>
+    ensures { IfOk result (λ found. IfSome found (λ s. AreOrigins text.now s.program s.origins)) }
+{
     let Some(program) = program_of(alloc, text)? else {
         return Ok(None);
     };
-    let Some(whole) = whole_of(alloc, text)? else {
-        return Ok(None);
-    };
-    match laid(alloc, &program, &whole)? {
+    match origins_of(alloc, text, &program)? {
         Some(origins) => Ok(Some(Sources { program, origins })),
         None => Ok(None),
     }
 }
 
-/// For each node of the program of a text its origin, in the order of their numbers. None: the text has no program.
-/// Err: memory was refused.
-pub fn origins_of(alloc: Global, text: &str) -> Result<Option<Items<Origin>>, AllocError> {
-    match sources_of(alloc, text)? {
-        Some(sources) => Ok(Some(sources.origins)),
+/// For each node of the program of a text its origin, in the order of their numbers. None: the text has no program, or
+/// another one. Err: memory was refused.
+pub(crate) fn origins_of(
+    alloc: Global,
+    text: &str,
+    program: &Program,
+) -> Result<Option<Items<Origin>>, AllocError>
+    ensures { IfOk result (λ found. IfSome found (AreOrigins text.now program.now)) }
+{
+    match whole_of(alloc, text)? {
+        Some(whole) => laid(alloc, text, program, &whole),
         None => Ok(None),
     }
 }

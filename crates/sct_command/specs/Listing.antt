@@ -3,6 +3,7 @@ use Rattle.std.specs.Prelude.{ℕ, ◌≡◌, ◌⊎◌, Option, List, string_by
 use Rattle.std.specs.Io.KnownBytes.{Appends}
 use Rattle.std.specs.Str.{IsUtf8}
 use Rattle.sc_values.specs.Streams.{GrowsInto}
+use Rattle.sc_graph.specs.Program.{Program}
 use Rattle.bytecode.specs.Image.{Image}
 use Rattle.image_listing.specs.Listing.{IsListing}
 use Rattle.command_files.specs.declared.fault.Fault.{Fault}
@@ -10,6 +11,7 @@ use Rattle.command_files.specs.declared.fault.Fault.TheVariants as fault
 use Rattle.command_files.specs.FaultText.{shown_name}
 use Rattle.command_files.specs.Files.{Contents, HasBytes}
 use Rattle.command_files.specs.Images.{IsLoaded, IsNotLoaded}
+use Rattle.command_files.specs.Making.{IsUnmade, Makes}
 use Rattle.command_files.specs.Sources.{IsNoSource, IsNoText}
 use Rattle.sct_command.specs.Writing.{WritesPart}
 
@@ -34,25 +36,37 @@ abbrev pub RefusesListing : Option Contents → List ℕ → Option (List ℕ) �
 RefusesListing files name old new fault.Write = ListsPart files name old new
 RefusesListing files name old new other = IsNotLoaded files name other × (new ≡ old)
 
--- some text was written of the image in one file and of the text in another
+-- some text was written of the image in one file and of the text in another, which makes the image's program
 pub record ListsPlaces (files : Option Contents) (name source : List ℕ) (old new : Option (List ℕ)) : Type 0 where
   pub image : Image
   pub loaded : IsLoaded files name image
   pub bytes : List ℕ
   pub held : HasBytes files source bytes
   pub is_text : IsUtf8 bytes
+  pub makes : Makes bytes image.program
   pub text : List ℕ
   pub written : Appends old new text
 
--- why these bytes of the file of this name give no places: they are no text, or none that makes the image
-abbrev pub IsUnplaced : List ℕ → List ℕ → Fault → Type 0
-IsUnplaced source bytes fault.Memory = Unit {0}
-IsUnplaced source bytes (fault.Source shown) = string_bytes shown ≡ shown_name source
-IsUnplaced source bytes other = IsNoText bytes other
+-- why these bytes of the file of this name give no places of a program's nodes: they are no text, or none that makes
+-- the program
+abbrev pub IsUnplaced : List ℕ → List ℕ → Program → Fault → Type 0
+IsUnplaced source bytes p fault.Memory = Unit {0}
+IsUnplaced source bytes p (fault.Source shown) = (string_bytes shown ≡ shown_name source) × IsUtf8 bytes × IsUnmade bytes p
+IsUnplaced source bytes p other = IsNoText bytes other
+
+-- there is a valid image in the first file, and a text in the second, which does not make the image's program
+pub record IsAnotherSource (files : Option Contents) (name source : List ℕ) : Type 0 where
+  pub image : Image
+  pub loaded : IsLoaded files name image
+  pub bytes : List ℕ
+  pub held : HasBytes files source bytes
+  pub is_text : IsUtf8 bytes
+  pub unmade : IsUnmade bytes image.program
 
 -- there is no valid image in the first file, or no text in the second, or that does not make the image
 abbrev pub HasNoPlaces : Option Contents → List ℕ → List ℕ → Fault → Type 0
-HasNoPlaces files name source (fault.Source shown) = string_bytes shown ≡ shown_name source
+HasNoPlaces files name source (fault.Source shown) =
+    (string_bytes shown ≡ shown_name source) × IsAnotherSource files name source
 HasNoPlaces files name source other = IsNotLoaded files name other ⊎ IsNoSource files source other
 
 -- what a listing with places leaves that is refused: nothing was written, but where the output failed

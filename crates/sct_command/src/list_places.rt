@@ -2,27 +2,29 @@
 
 ghost use Rattle.std.specs.Prelude.{◌≡◌, ◌+◌, IfErr, IfOk, OnOk};
 ghost use Rattle.std.specs.Str.{IsUtf8};
+ghost use Rattle.command_files.specs.Making.{Makes};
 ghost use Rattle.command_files.specs.Sources.{IsNoText};
 ghost use Rattle.sct_command.specs.Answer.{reads_failed, writes_failed};
 ghost use Rattle.sct_command.specs.Listing.{IsUnplaced, ListsPlaces, RefusesPlaces};
 
-use command_files::{Fault, Files, bytes_of, load_verified, shown_name, text_of};
+use command_files::{Fault, Files, bytes_of, load_verified, makes_program, shown_name, text_of};
 use node_sources::image_text_with;
 use sc_values::{Sink, write_all};
 use std::alloc::Global;
 use verifier::Verified;
 
 // The listing of an image with the places of its nodes in the text that these bytes are, which those of the file of
-// this name are.
+// this name are. Err: they are no text, or it does not make the image.
 fn placed(alloc: Global, image: &Verified, source: &str, bytes: &[u8]) -> Result<String, Fault>
     ensures text { IfOk result (λ _. IsUtf8 bytes.now) }
-    ensures fault { IfErr result (IsUnplaced source.now bytes.now) }
+    ensures makes { IfOk result (λ _. Makes bytes.now image.now.program) }
+    ensures fault { IfErr result (IsUnplaced source.now bytes.now image.now.program) }
 {
     let text = text_of(bytes)?;
-    match image_text_with(alloc, image, text)? {
-        Some(listing) => Ok(listing),
-        None => Err(Fault::Source(shown_name(alloc, source)?)),
+    if !makes_program(alloc, text, image.image().program())? {
+        return Err(Fault::Source(shown_name(alloc, source)?));
     }
+    Ok(image_text_with(alloc, image, text)?)
 }
 
 /// Writes the listing of the image in one file, with the place of each node in the text of another. Err: there is no
