@@ -13,5 +13,5 @@ mod walks;
 mod words;
 
 pub use program_report::program_fault_explained;
-pub use report::{explained, text_fault_explained};
+pub use report::{explained, text_fault_explained, told_nowhere};
 pub use spots::{Spot, spot_of};

@@ -1,8 +1,13 @@
 //! The report of a fault of a program.
 
+ghost use Rattle.std.specs.Prelude.{IfOk, string_bytes};
+ghost use Rattle.compiler.specs.FaultText.{fault_text};
+ghost use Rattle.explaining.specs.Reports.{Tells};
+
 use crate::lines::marked_line;
 use crate::nodes::{Shown, scene_text};
 use crate::program_words::in_words;
+use crate::report::spot_text;
 use crate::spots::spot_of;
 use crate::walks::{conflict_text, first_node, place_text, walk_text};
 use compiler::CompileFault;
@@ -25,7 +30,9 @@ pub fn program_fault_explained(
     name: &str,
     text: &str,
     fault: &CompileFault,
-) -> Result<String, AllocError> {
+) -> Result<String, AllocError>
+    ensures { IfOk result (λ report. Tells name.now (fault_text fault.now) (string_bytes report)) }
+{
     let shown = shown_fault(alloc, text, fault)?;
     let told = in_words(fault);
     let cause = told.cause;
@@ -73,12 +80,7 @@ fn shown_fault(alloc: Global, text: &str, fault: &CompileFault) -> Result<Report
 // The place of an origin, with what stands before it.
 fn place_of(alloc: Global, text: &str, origin: Option<Origin>) -> Result<String, AllocError> {
     match origin {
-        Some(origin) => {
-            let spot = spot_of(text, origin.at);
-            let line = spot.line;
-            let column = spot.column;
-            format!(in alloc; ":{line}:{column}")
-        }
+        Some(origin) => spot_text(alloc, spot_of(text, origin.at)),
         None => Ok(String::new(alloc)),
     }
 }

@@ -25,7 +25,7 @@ quiet files name fault.Write (inr why) = absurd why
 quiet files name (fault.Play f) (inl why) = absurd why
 quiet files name (fault.Play f) (inr why) = absurd why
 
-told : (files : Option Contents) (name : List ℕ) (old new : Option (List ℕ)) (f r : Fault) → IsNoCompiled files name f → IsTold f old new r → RefusesExplaining files name old new r
+told : (files : Option Contents) (name : List ℕ) (old new : Option (List ℕ)) (f r : Fault) → IsNoCompiled files name f → IsTold name f old new r → RefusesExplaining files name old new r
 told files name old new f fault.Memory why is = is
 told files name old new f fault.Write why is = inr (record { fault = f; none = why; told = is })
 told files name old new f (fault.Image g) why (same, some) = (subst (IsNoCompiled files name) (sym same) why, some)
@@ -40,14 +40,14 @@ told files name old new f (fault.Source g) why (same, some) = (subst (IsNoCompil
 pub quiet_source : (files : Option Contents) (name : List ℕ) (f : Fault) → IsNoSource files name f → (writes_failed f ≡ 0) × (reads_failed f ≡ 0)
 quiet_source files name f why = quiet files name f (inl why)
 
-pub told_source : (files : Option Contents) (name : List ℕ) (old new : Option (List ℕ)) (f r : Fault) → IsNoSource files name f → IsTold f old new r → RefusesExplaining files name old new r
+pub told_source : (files : Option Contents) (name : List ℕ) (old new : Option (List ℕ)) (f r : Fault) → IsNoSource files name f → IsTold name f old new r → RefusesExplaining files name old new r
 told_source files name old new f r why is = told files name old new f r (inl why) is
 
 -- bytes that spell no image
 pub quiet_bytes : (files : Option Contents) (name bytes : List ℕ) (f : Fault) → HasBytes files name bytes → SpellsNoImage bytes f → (writes_failed f ≡ 0) × (reads_failed f ≡ 0)
 quiet_bytes files name bytes f held why = quiet files name f (no_compiled files name bytes f held why)
 
-pub told_bytes : (files : Option Contents) (name bytes : List ℕ) (old new : Option (List ℕ)) (f r : Fault) → HasBytes files name bytes → SpellsNoImage bytes f → IsTold f old new r → RefusesExplaining files name old new r
+pub told_bytes : (files : Option Contents) (name bytes : List ℕ) (old new : Option (List ℕ)) (f r : Fault) → HasBytes files name bytes → SpellsNoImage bytes f → IsTold name f old new r → RefusesExplaining files name old new r
 told_bytes files name bytes old new f r held why is = told files name old new f r (no_compiled files name bytes f held why) is
 
 -- bytes that spell one

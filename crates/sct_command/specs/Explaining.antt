@@ -1,12 +1,15 @@
 -- What is left where a source text is explained.
-use Rattle.std.specs.Prelude.{ℕ, ◌≡◌, ◌⊎◌, Option, List}
+use Rattle.std.specs.Prelude.{ℕ, ◌≡◌, ◌⊎◌, Option, List, codes}
 use Rattle.std.specs.Io.KnownBytes.{Appends}
 use Rattle.sc_values.specs.Streams.{GrowsInto}
 use Rattle.bytecode.specs.Image.{Image}
 use Rattle.command_files.specs.declared.fault.Fault.{Fault}
 use Rattle.command_files.specs.declared.fault.Fault.TheVariants as fault
+use Rattle.command_files.specs.FaultText.{shown_name}
 use Rattle.command_files.specs.Files.{Contents}
 use Rattle.command_files.specs.Sources.{IsCompiledFrom, IsNoCompiled}
+use Rattle.compiler.specs.FaultText.{fault_text}
+use Rattle.explaining.specs.Reports.{Tells, text_fault}
 use Rattle.sct_command.specs.Summary.{summary_of}
 use Rattle.sct_command.specs.Writing.{WritesPart, WritesSome}
 
@@ -28,22 +31,35 @@ pub record ExplainsPart (files : Option Contents) (name : List ℕ) (old new : O
   pub none : IsNoCompiled files name fault
   pub told : WritesPart old new
 
+-- how a fault is told: that of a text by its number, that of a program with what it names
+abbrev pub told_fault : Fault → List ℕ
+told_fault (fault.Text f) = text_fault f
+told_fault (fault.Program f) = fault_text f
+told_fault (fault.File shown) = codes "E64"
+told_fault other = codes "E52"
+
+-- a text was written that begins with the name of the file, as it is shown, and tells the fault
+pub record WritesReport (name : List ℕ) (f : Fault) (old new : Option (List ℕ)) : Type 0 where
+  pub text : List ℕ
+  pub tells : Tells (shown_name name) (told_fault f) text
+  pub written : Appends old new text
+
 -- what telling of a fault leaves that is refused
 abbrev pub RefusesTelling : Option (List ℕ) → Option (List ℕ) → Fault → Type 0
 RefusesTelling old new fault.Memory = new ≡ old
 RefusesTelling old new fault.Write = WritesPart old new
 RefusesTelling old new other = ⊥
 
--- what is left where a fault was to be told, and this one is answered: itself, and some text of it was written; or
--- memory was refused; or the output failed, and took a beginning
-abbrev pub IsTold : Fault → Option (List ℕ) → Option (List ℕ) → Fault → Type 0
-IsTold f old new fault.Memory = (new ≡ old) ⊎ WritesSome old new
-IsTold f old new fault.Write = WritesPart old new
-IsTold f old new other = (other ≡ f) × WritesSome old new
+-- what is left where a fault was to be told, and this one is answered: itself, and a report of it was written; or memory
+-- was refused; or the output failed, and took a beginning
+abbrev pub IsTold : List ℕ → Fault → Option (List ℕ) → Option (List ℕ) → Fault → Type 0
+IsTold name f old new fault.Memory = (new ≡ old) ⊎ WritesSome old new
+IsTold name f old new fault.Write = WritesPart old new
+IsTold name f old new other = (other ≡ f) × WritesReport name other old new
 
--- what an explanation leaves: the fault for which the file has no image, and some text of it was written; where memory
--- was refused, that or nothing; and a beginning where the output failed
+-- what an explanation leaves: the fault for which the file has no image, and a report of it was written; where memory was
+-- refused, some text or nothing; and a beginning where the output failed
 abbrev pub RefusesExplaining : Option Contents → List ℕ → Option (List ℕ) → Option (List ℕ) → Fault → Type 0
 RefusesExplaining files name old new fault.Memory = (new ≡ old) ⊎ WritesSome old new
 RefusesExplaining files name old new fault.Write = FindsImagePart files name old new ⊎ ExplainsPart files name old new
-RefusesExplaining files name old new other = IsNoCompiled files name other × WritesSome old new
+RefusesExplaining files name old new other = IsNoCompiled files name other × WritesReport name other old new

@@ -1,42 +1,57 @@
 //! The verb `explain`.
 
-ghost use Rattle.std.specs.Prelude.{◌≡◌, ◌+◌, IfErr, OnOk};
+ghost use Rattle.std.specs.Prelude.{◌≡◌, ◌+◌, IfErr, IfOk, OnOk, string_bytes};
+ghost use Rattle.explaining.specs.Reports.{Tells, text_fault};
 ghost use Rattle.sct_command.specs.Answer.{reads_failed, writes_failed};
 ghost use Rattle.sct_command.specs.Explaining.{FindsImage, IsTold, RefusesExplaining, RefusesTelling};
-ghost use Rattle.sct_command.specs.Writing.{WritesSome};
+ghost use Rattle.sct_command.specs.Explaining.{WritesReport, told_fault};
 
 use crate::summary::sum_up;
 use command_files::{Fault, Files, bytes_of, compile_bytes, shown_name, text_of};
-use explaining::{program_fault_explained, text_fault_explained};
+use explaining::{program_fault_explained, text_fault_explained, told_nowhere};
+use sc_text::ReadFault;
 use sc_values::{Sink, write_all};
 use std::alloc::{AllocError, Global};
 
-// What is said of a fault where there is no text in which a place could be shown.
-fn without_text(alloc: Global, name: &str, fault: &Fault) -> Result<String, AllocError> {
-    let said = match fault {
-        Fault::File(_) => {
-            "E64: the file cannot be read\nhelp: look at its name, and at who may read it"
+// What is said of bytes that are no text.
+fn without_text(alloc: Global, name: &str, fault: &ReadFault) -> Result<String, AllocError>
+    ensures { IfOk result (λ report. Tells name.now (text_fault fault.now) (string_bytes report)) }
+{
+    match fault {
+        ReadFault::Text(broken, _) => {
+            let number = broken.number();
+            let fault = format!(in alloc; "E0{number}")?;
+            told_nowhere(
+                alloc,
+                name,
+                fault.as_str(),
+                "the bytes of this file are no text\nhelp: save it as UTF-8",
+            )
         }
-        Fault::Text(_) => "E01: the bytes of this file are no text\nhelp: save it as UTF-8",
-        _ => "E52: memory was refused",
-    };
-    format!(in alloc; "{name}: {said}\n")
+        ReadFault::Memory => told_nowhere(alloc, name, "E52", "memory was refused"),
+    }
 }
 
 // What is said of the fault of these bytes.
-fn explanation(
-    alloc: Global,
-    name: &str,
-    bytes: &[u8],
-    fault: &Fault,
-) -> Result<String, AllocError> {
-    let Ok(text) = text_of(bytes) else {
-        return without_text(alloc, name, fault);
-    };
+fn explanation(alloc: Global, name: &str, bytes: &[u8], fault: &Fault) -> Result<String, AllocError>
+    ensures { IfOk result (λ report. Tells name.now (told_fault fault.now) (string_bytes report)) }
+{
     match fault {
-        Fault::Text(fault) => text_fault_explained(alloc, name, text, fault),
-        Fault::Program(fault) => program_fault_explained(alloc, name, text, fault),
-        _ => without_text(alloc, name, fault),
+        Fault::Text(fault) => match text_of(bytes) {
+            Ok(text) => text_fault_explained(alloc, name, text, fault),
+            Err(_) => without_text(alloc, name, fault),
+        },
+        Fault::Program(fault) => match text_of(bytes) {
+            Ok(text) => program_fault_explained(alloc, name, text, fault),
+            Err(_) => program_fault_explained(alloc, name, "", fault),
+        },
+        Fault::File(_) => told_nowhere(
+            alloc,
+            name,
+            "E64",
+            "the file cannot be read\nhelp: look at its name, and at who may read it",
+        ),
+        _ => told_nowhere(alloc, name, "E52", "memory was refused"),
     }
 }
 
@@ -48,7 +63,7 @@ fn tell<W: Sink>(
     fault: &Fault,
     output: &mut W,
 ) -> Result<(), Fault>
-    ensures told { OnOk result (WritesSome (W.taken output.old) (W.taken output.new)) }
+    ensures told { OnOk result (WritesReport name.now fault.now (W.taken output.old) (W.taken output.new)) }
     ensures refused { IfErr result (RefusesTelling (W.taken output.old) (W.taken output.new)) }
     ensures none_failed { OnOk result (W.failures output.new ≡ W.failures output.old) }
     ensures failed { IfErr result (λ fault. W.failures output.new ≡ W.failures output.old + writes_failed fault) }
@@ -66,7 +81,7 @@ fn tell<W: Sink>(
 fn refused<W: Sink>(alloc: Global, name: &str, bytes: &[u8], fault: Fault, output: &mut W) -> Fault
     requires write { writes_failed fault ≡ 0 }
     requires read { reads_failed fault ≡ 0 }
-    ensures told { IsTold fault (W.taken output.old) (W.taken output.new) result }
+    ensures told { IsTold name.now fault (W.taken output.old) (W.taken output.new) result }
     ensures failed { W.failures output.new ≡ W.failures output.old + writes_failed result }
     ensures unread { reads_failed result ≡ 0 }
 {
