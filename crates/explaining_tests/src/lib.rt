@@ -4,4 +4,6 @@
 #[cfg(test)]
 mod explained;
 #[cfg(test)]
+mod rules;
+#[cfg(test)]
 mod spots;
