@@ -1,5 +1,8 @@
 //! The drawing of a program of nodes: a cluster for each thread.
 
+ghost use Rattle.std.specs.Prelude.{IfOk, string_bytes};
+ghost use Rattle.drawing.specs.Drawing.{IsDrawing};
+
 use crate::flow::put_flow;
 use crate::protocol::put_protocol;
 use image_listing::step_text;
@@ -66,17 +69,23 @@ fn put_all_flow(
     Ok(())
 }
 
-/// A program as Graphviz text: threads are clusters. Flow within a tick is drawn in solid arrows, the way from a pause
-/// into the next tick in dashed gray ones, and what must come before what in dotted blue ones; where two nodes conflict,
-/// a red line stands between them in place of these. Err: memory was refused.
-pub fn graph_drawing(alloc: Global, name: &Name, program: &Program) -> Result<String, AllocError> {
+// What stands in the drawing of a program of this name: its title, its clusters and all its arrows.
+fn graph_body(alloc: Global, name: Name, program: &Program) -> Result<String, AllocError> {
     let links = Links::of(alloc, program)?;
-    let mut text = format!(in alloc;
-        "digraph \"{name}\" {{\nlabel=\"{name}\";\nnode [shape=\"box\"];\n"
-    )?;
+    let mut text = format!(in alloc; "label=\"{name}\";\nnode [shape=\"box\"];\n")?;
     put_threads(alloc, &mut text, program)?;
     put_all_flow(alloc, &mut text, program, &links)?;
     put_protocol(alloc, &mut text, program, &links)?;
-    text.push_str("}\n")?;
     Ok(text)
+}
+
+/// A program as Graphviz text: threads are clusters. Flow within a tick is drawn in solid arrows, the way from a pause
+/// into the next tick in dashed gray ones, and what must come before what in dotted blue ones; where two nodes conflict,
+/// a red line stands between them in place of these. Err: memory was refused.
+pub fn graph_drawing(alloc: Global, name: &Name, program: &Program) -> Result<String, AllocError>
+    ensures { IfOk result (λ text. IsDrawing name.now (string_bytes text)) }
+{
+    let name = *name;
+    let body = graph_body(alloc, name, program)?;
+    format!(in alloc; "digraph \"{name}\" {{\n{body}}}\n")
 }

@@ -1,12 +1,19 @@
 //! What stands at the arrow of a transition.
 
+ghost use Rattle.std.specs.Prelude.{◌≡◌, IfOk, string_bytes};
+ghost use Rattle.scl_printer.specs.Expressions.{variable_text};
+ghost use Rattle.drawing.specs.Labels.{effect_text, effects_text, further_text, immediate_text, kind_text};
+ghost use Rattle.drawing.specs.Labels.{transition_text, trigger_text};
+
 use core_charts::{Effect, Transition, TransitionKind};
 use expression_texts::text_of;
-use sc_graph::Variable;
+use sc_graph::{Variable, VariableId};
 use sqlite_items::at;
 use std::alloc::{AllocError, Global};
 
-fn kind_text(kind: TransitionKind) -> &'static str {
+fn kind_text(kind: TransitionKind) -> &'static str
+    ensures { result.now ≡ kind_text kind }
+{
     match kind {
         TransitionKind::Go => "go",
         TransitionKind::Strong => "strong",
@@ -15,7 +22,9 @@ fn kind_text(kind: TransitionKind) -> &'static str {
     }
 }
 
-fn immediate_text(immediate: bool) -> &'static str {
+fn immediate_text(immediate: bool) -> &'static str
+    ensures { result.now ≡ immediate_text immediate }
+{
     if immediate { " immediate" } else { "" }
 }
 
@@ -24,7 +33,9 @@ fn trigger_text(
     alloc: Global,
     variables: &[Variable],
     transition: &Transition,
-) -> Result<String, AllocError> {
+) -> Result<String, AllocError>
+    ensures { IfOk result (λ text. string_bytes text ≡ trigger_text variables.now transition.now.trigger) }
+{
     match &transition.trigger {
         Some(trigger) => {
             let test = text_of(alloc, variables, trigger)?;
@@ -34,36 +45,65 @@ fn trigger_text(
     }
 }
 
-// An effect, with what stands before it.
-fn effect_text(
+// The name of the variable of this number.
+fn name_text(
     alloc: Global,
     variables: &[Variable],
-    before: &str,
-    effect: &Effect,
-) -> Result<String, AllocError> {
-    let value = text_of(alloc, variables, &effect.value)?;
-    match at(variables, effect.variable as usize) {
+    variable: VariableId,
+) -> Result<String, AllocError>
+    ensures { IfOk result (λ text. string_bytes text ≡ variable_text variables.now variable) }
+{
+    match at(variables, variable as usize) {
         Some(variable) => {
             let name = variable.name;
-            format!(in alloc; "{before}{name} = {value}")
+            format!(in alloc; "{name}")
         }
         None => Ok(String::new(alloc)),
     }
 }
 
+// An effect: the variable, and the expression whose value it gets.
+fn effect_text(alloc: Global, variables: &[Variable], effect: &Effect) -> Result<String, AllocError>
+    ensures { IfOk result (λ text. string_bytes text ≡ effect_text variables.now effect.now) }
+{
+    let name = name_text(alloc, variables, effect.variable)?;
+    let value = text_of(alloc, variables, &effect.value)?;
+    format!(in alloc; "{name} = {value}")
+}
+
+// The effects behind the first, each with a comma before it.
+fn further_text(
+    alloc: Global,
+    variables: &[Variable],
+    effects: &[Effect],
+) -> Result<String, AllocError>
+    ensures { IfOk result (λ text. string_bytes text ≡ further_text variables.now effects.now) }
+{
+    let mut text = String::new(alloc);
+    for effect in effects {
+        let one = effect_text(alloc, variables, effect)?;
+        text.push_str(", ")?;
+        text.push_str(one.as_str())?;
+    }
+    Ok(text)
+}
+
+// All effects, where there are some.
 fn effects_text(
     alloc: Global,
     variables: &[Variable],
     effects: &[Effect],
-) -> Result<String, AllocError> {
-    let mut text = String::new(alloc);
-    let mut before = " do ";
-    for effect in effects {
-        let one = effect_text(alloc, variables, before, effect)?;
-        text.push_str(one.as_str())?;
-        before = ", ";
+) -> Result<String, AllocError>
+    ensures { IfOk result (λ text. string_bytes text ≡ effects_text variables.now effects.now) }
+{
+    match effects {
+        [] => Ok(String::new(alloc)),
+        [first, rest @ ..] => {
+            let one = effect_text(alloc, variables, first)?;
+            let others = further_text(alloc, variables, rest)?;
+            format!(in alloc; " do {one}{others}")
+        }
     }
-    Ok(text)
 }
 
 /// A transition in the words of chart text, without its target. Err: memory was refused.
@@ -71,7 +111,9 @@ pub(crate) fn transition_text(
     alloc: Global,
     variables: &[Variable],
     transition: &Transition,
-) -> Result<String, AllocError> {
+) -> Result<String, AllocError>
+    ensures { IfOk result (λ text. string_bytes text ≡ transition_text variables.now transition.now) }
+{
     let kind = kind_text(transition.kind);
     let immediate = immediate_text(transition.immediate);
     let trigger = trigger_text(alloc, variables, transition)?;

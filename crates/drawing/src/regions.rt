@@ -1,6 +1,9 @@
 //! The drawing of a chart: a cluster for each region and each superstate, a node for each simple state, an arrow for
 //! each transition. A superstate has a point inside, at which its arrows begin and end; they are cut at its border.
 
+ghost use Rattle.std.specs.Prelude.{IfOk, string_bytes};
+ghost use Rattle.drawing.specs.Drawing.{IsDrawing};
+
 use crate::labels::transition_text;
 use core_charts::{Chart, Region, State, Transition};
 use sc_graph::Variable;
@@ -143,19 +146,25 @@ fn put_state(
     Ok(())
 }
 
-/// A chart as Graphviz text: regions and superstates are clusters, simple states nodes, and each transition an arrow with
-/// its words. Initial states have a bold border, final ones two. Err: memory was refused.
-pub fn chart_drawing(alloc: Global, chart: &Chart) -> Result<String, AllocError> {
+// What stands in the drawing of a chart: its title, and the clusters of its regions.
+fn chart_body(alloc: Global, chart: &Chart) -> Result<String, AllocError> {
     let name = chart.name();
-    let mut text = format!(in alloc;
-        "digraph \"{name}\" {{\nlabel=\"{name}\";\ncompound=\"true\";\n"
-    )?;
+    let mut text = format!(in alloc; "label=\"{name}\";\ncompound=\"true\";\n")?;
     let mut number: u32 = 0;
     for region in chart.regions() {
         let path = format!(in alloc; "{number}")?;
         put_region(region, alloc, &mut text, chart.variables(), path.as_str())?;
         number = number.saturating_add(1);
     }
-    text.push_str("}\n")?;
     Ok(text)
+}
+
+/// A chart as Graphviz text: regions and superstates are clusters, simple states nodes, and each transition an arrow with
+/// its words. Initial states have a bold border, final ones two. Err: memory was refused.
+pub fn chart_drawing(alloc: Global, chart: &Chart) -> Result<String, AllocError>
+    ensures { IfOk result (λ text. IsDrawing chart.now.name (string_bytes text)) }
+{
+    let name = chart.name();
+    let body = chart_body(alloc, chart)?;
+    format!(in alloc; "digraph \"{name}\" {{\n{body}}}\n")
 }
