@@ -37,14 +37,9 @@ impl<'r, 'x, J: Picture, G: Gate> Crew<'r, 'x, J, G> {
     {
         let mut passes = passes;
         let pass = passes.pop()?;
-        let seat = Seat {
-            hall,
-            pass,
-            worker: 1,
-        };
         Some(Crew {
             hall,
-            seat,
+            seat: Seat::of(hall, pass, 1, workers),
             passes,
             started: 1,
             workers,
@@ -97,11 +92,7 @@ impl<'r, 'x, J: Picture, G: Gate> Crew<'r, 'x, J, G> {
         }
         let pass = self.passes.pop()?;
         self.started += 1;
-        Some(Seat {
-            hall: self.hall,
-            pass,
-            worker: self.started,
-        })
+        Some(Seat::of(self.hall, pass, self.started, self.workers))
     }
 
     /// No tick will be shared any more: the other workers leave.

@@ -6,9 +6,14 @@ pub trait Gate {
     fn passing(&self, worker: u8, thread: ThreadId);
 
     /// Whether a step that passes may wait for another one to pass. Where none does, a round of little work is not
-    /// shared, since waking a worker for it costs more than the work.
+    /// shared, since waking a worker for it costs more than the work, and a worker takes several steps in one turn.
     fn waits(&self) -> bool {
         true
+    }
+
+    /// How much work a step has here, in operations of a code, each of some eight nanoseconds.
+    fn work(&self) -> u64 {
+        0
     }
 }
 

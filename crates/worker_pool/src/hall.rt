@@ -76,8 +76,8 @@ impl<'x, J: Picture, G: Gate> Hall<'x, J, G> {
     }
 
     /// Another worker waits for claims that are put later. None: the hall is closed.
-    pub(crate) fn rest<R: Wait>(&self, rt: &R, seen: u64) -> Option<Next<'x>> {
-        let mut guard = self.table.lock(rt);
+    pub(crate) fn rest<R: Wait>(&self, rt: &R, seen: u64) -> Option<Next> {
+        let mut guard = self.locked(rt);
         let before = guard.resting;
         guard.resting = before.saturating_add(1);
         let mut guard = self
@@ -88,20 +88,20 @@ impl<'x, J: Picture, G: Gate> Hall<'x, J, G> {
         if guard.closed {
             None
         } else {
-            Some(guard.next(None, false))
+            Some(guard.next(false))
         }
     }
 
     /// The first worker waits for claims that are put later, or for the end of the tick.
-    pub(crate) fn rest_first<R: Wait>(&self, rt: &R, seen: u64) -> Next<'x> {
-        let mut guard = self.table.lock(rt);
+    pub(crate) fn rest_first<R: Wait>(&self, rt: &R, seen: u64) -> Next {
+        let mut guard = self.locked(rt);
         guard.first_rests = true;
         let mut guard = self
             .first
             .wait_while(rt, guard, |table| table.puts == seen && !table.over);
         guard.first_rests = false;
         let over = guard.over;
-        guard.next(None, over)
+        guard.next(over)
     }
 
     /// Takes the tick away, which is over.

@@ -5,100 +5,157 @@ use crate::desk::Desk;
 use crate::gate::Gate;
 use crate::hall::Hall;
 use crate::picture::Picture;
-use crate::weighing::operations_of;
+use crate::weighing::work_of;
+use arrayvec::ArrayVec;
 use ready_queue::Pass;
 use std::sync::Wait;
 use tick_core::{Claim, Done, Turn, evaluate};
+
+// How many steps a worker takes in one turn at most, and how many claims it keeps.
+const MOST: usize = 16;
 
 /// A worker's place in a hall.
 #[derive(Drop)]
 pub(crate) struct Seat<'r, 'x, J: Picture, G: Gate> {
     pub hall: &'r Hall<'x, J, G>,
-    pub pass: Pass<'x>,
-    pub worker: u8,
+    pass: Pass<'x>,
+    worker: u8,
+    // how many may work in the hall
+    workers: u8,
+    // claims that it has made and keeps for itself
+    kept: ArrayVec<Option<Claim<'x>>, MOST>,
     ghost own: { IsPassTo hall.now pass },
     ghost numbered: { worker ≤ 8 },
 }
 
-/// What a worker does next.
-#[derive(Drop)]
-pub(crate) struct Next<'x> {
-    // evaluates a claim that it has kept
-    pub kept: Option<Claim<'x>>,
-    // else looks for one that was put, as in so many turns by then
+/// What a worker knows when it has left the lock.
+#[derive(Clone, Copy)]
+pub(crate) struct Next {
+    // in how many turns claims were put by then
     pub puts: u64,
+    // how many claims stood then
+    pub standing: u64,
     // the tick is over
     pub over: bool,
 }
 
 /// What one worker claimed in one turn of the lock.
-#[derive(Drop)]
-pub(crate) struct Round<'x> {
-    // one claim that it keeps
-    pub kept: Option<Claim<'x>>,
-    // how many it put, and how many operations they have
+#[derive(Clone, Copy)]
+pub(crate) struct Round {
+    // how many claims it keeps
+    pub kept: u64,
+    // how many it put, and how much work they are
     pub put: u64,
     pub work: u64,
     // nobody was enabled
     pub over: bool,
 }
 
-impl<'x> Next<'x> {
+impl Next {
     /// Of a worker that knows of no tick.
-    pub(crate) fn new() -> Next<'x> {
+    pub(crate) fn new() -> Next {
         Next {
-            kept: None,
             puts: 0,
+            standing: 0,
             over: false,
         }
     }
 }
 
-impl<'x> Round<'x> {
-    fn none(over: bool) -> Round<'x> {
+impl Round {
+    fn none(over: bool) -> Round {
         Round {
-            kept: None,
+            kept: 0,
             put: 0,
             work: 0,
             over,
         }
     }
-
-    fn of(kept: Option<Claim<'x>>, put: u64, work: u64) -> Round<'x> {
-        Round {
-            kept,
-            put,
-            work,
-            over: false,
-        }
-    }
 }
 
 impl<'r, 'x, J: Picture, G: Gate> Seat<'r, 'x, J, G> {
-    /// Evaluates a claim, lets it pass the gate, and commits it.
-    pub(crate) fn serve<R: Wait>(&mut self, rt: &R, claim: Claim<'x>) -> Next<'x> {
+    /// The seat of a worker, one of so many.
+    pub(crate) fn of(
+        hall: &'r Hall<'x, J, G>,
+        pass: Pass<'x>,
+        worker: u8,
+        workers: u8,
+    ) -> Seat<'r, 'x, J, G>
+        requires own { IsPassTo hall.now pass }
+        requires numbered { worker ≤ 8 }
+    {
+        Seat {
+            hall,
+            pass,
+            worker,
+            workers,
+            kept: ArrayVec::new(),
+        }
+    }
+
+    /// A claim that it has kept, or one out of the queue.
+    pub(crate) fn find<R: Wait>(&mut self, rt: &R) -> Option<Claim<'x>> {
+        match self.kept.pop() {
+            Some(Some(claim)) => Some(claim),
+            _ => self.hall.queue.take(rt, &mut self.pass),
+        }
+    }
+
+    /// Takes the step of a claim, and then those of others that it finds, as many as are its share of the claims that
+    /// stand; and commits them all.
+    pub(crate) fn serve<R: Wait>(&mut self, rt: &R, claim: Claim<'x>, standing: u64) -> Next {
+        let mut passed = ArrayVec::<Option<Done<'x>>, MOST>::new();
+        passed.push(Some(self.let_pass(claim)));
+        for _ in 1..self.share(standing) {
+            if passed.is_full() {
+                break;
+            }
+            let Some(claim) = self.find(rt) else {
+                break;
+            };
+            passed.push(Some(self.let_pass(claim)));
+        }
+        self.bring(rt, passed.as_slice())
+    }
+
+    // Evaluates a claim, and lets it pass the gate.
+    fn let_pass(&self, claim: Claim<'x>) -> Done<'x> {
         let done = evaluate(claim);
         let passing = done.claim();
         self.hall.gate.passing(passing.worker(), passing.thread());
-        self.bring(rt, &done)
+        done
     }
 
-    /// The claim that it has kept, or one out of the queue.
-    pub(crate) fn find<R: Wait>(&mut self, rt: &R, kept: Option<Claim<'x>>) -> Option<Claim<'x>> {
-        match kept {
-            Some(claim) => Some(claim),
-            None => self.take(rt),
+    // How many steps a worker takes in one turn, where so many claims stand: half of an even share, so that who comes
+    // later finds some too. One where a step may wait for another, as what it waits for may have to be committed before.
+    fn share(&self, standing: u64) -> u64 {
+        if self.hall.gate.waits() {
+            1
+        } else {
+            (standing / (2 * u64::from(self.workers) + 1)).saturating_add(1)
+        }
+    }
+
+    // How many of several claims a worker keeps, where so many stood before: as many as it takes in one turn. None where
+    // a step may wait for another, as another worker may have to take that one.
+    fn keeps(&self, standing: u64) -> u64 {
+        if self.hall.gate.waits() {
+            0
+        } else {
+            self.share(standing)
         }
     }
 
     /// Puts a tick under the lock, and claims all that can be claimed.
-    pub(crate) fn lay<R: Wait>(&mut self, rt: &R, desk: Desk<'x, J>) -> Next<'x> {
+    pub(crate) fn lay<R: Wait>(&mut self, rt: &R, desk: Desk<'x, J>) -> Next {
         let hall = self.hall;
         let mut desk = desk;
         let mut guard = hall.table.lock(rt);
         let table = &mut *guard;
-        let round = self.claim_all(rt, &mut desk);
+        let most = self.keeps(0);
+        let round = self.claim_all(rt, &mut desk, most);
         table.desk = Some(desk);
+        table.standing = 0;
         let (next, calls) = table.note(round, hall.gate.waits());
         drop(guard);
         hall.wake(calls);
@@ -106,77 +163,104 @@ impl<'r, 'x, J: Picture, G: Gate> Seat<'r, 'x, J, G> {
     }
 
     // In one turn of the lock: commits, and claims all that can be claimed.
-    fn bring<R: Wait>(&mut self, rt: &R, done: &Done<'x>) -> Next<'x> {
+    fn bring<R: Wait>(&mut self, rt: &R, passed: &[Option<Done<'x>>]) -> Next {
         let hall = self.hall;
         let mut guard = hall.locked(rt);
         let table = &mut *guard;
         let Some(desk) = &mut table.desk else {
-            return table.next(None, true);
+            return table.next(true);
         };
-        desk.commit(done);
-        let round = self.claim_all(rt, desk);
+        commit_all(desk, passed);
+        let most = self.keeps(table.standing);
+        table.standing = table.standing.saturating_sub(passed.len() as u64);
+        let round = self.claim_all(rt, desk, most);
         let (next, calls) = table.note(round, hall.gate.waits());
         drop(guard);
         hall.wake(calls);
         next
     }
 
-    // Claims all that can be claimed. A round of one claim it keeps, others it puts.
-    fn claim_all<R: Wait>(&mut self, rt: &R, desk: &mut Desk<'x, J>) -> Round<'x> {
+    // Claims all that can be claimed. One claim alone it keeps; of several it keeps so many at most, and puts the others.
+    fn claim_all<R: Wait>(&mut self, rt: &R, desk: &mut Desk<'x, J>, most: u64) -> Round {
         let first = match desk.claim(self.worker) {
             Turn::Claim(claim) => claim,
             Turn::NoneNow => return Round::none(false),
             Turn::Over => return Round::none(true),
         };
+        let mut round = Round::none(false);
         match desk.claim(self.worker) {
-            Turn::Claim(second) => self.put_all(rt, desk, first, second),
-            Turn::NoneNow | Turn::Over => Round::of(Some(first), 0, 0),
+            Turn::Claim(second) => {
+                if self.place(rt, desk, &mut round, first, most)
+                    && self.place(rt, desk, &mut round, second, most)
+                {
+                    self.claim_others(rt, desk, &mut round, most);
+                }
+            }
+            Turn::NoneNow | Turn::Over => {
+                self.keep(desk, &mut round, first);
+            }
         }
+        round
     }
 
-    // Puts these two claims, and claims and puts all others. One that the queue hands back it keeps.
-    fn put_all<R: Wait>(
+    fn claim_others<R: Wait>(
         &mut self,
         rt: &R,
         desk: &mut Desk<'x, J>,
-        first: Claim<'x>,
-        second: Claim<'x>,
-    ) -> Round<'x> {
-        let work = operations_of(&first);
-        let both = work.saturating_add(operations_of(&second));
-        if let Err(first) = self.put(rt, first) {
-            desk.give_back(&second);
-            return Round::of(Some(first), 0, 0);
-        }
-        if let Err(second) = self.put(rt, second) {
-            return Round::of(Some(second), 1, work);
-        }
-        self.put_others(rt, desk, both)
-    }
-
-    // Claims and puts all that can be claimed, behind two that were put and have so many operations.
-    fn put_others<R: Wait>(&mut self, rt: &R, desk: &mut Desk<'x, J>, both: u64) -> Round<'x> {
-        let mut put: u64 = 2;
-        let mut work = both;
+        round: &mut Round,
+        most: u64,
+    ) {
         for _ in 0..u64::MAX {
             let Turn::Claim(claim) = desk.claim(self.worker) else {
-                break;
+                return;
             };
-            let more = operations_of(&claim);
-            if let Err(claim) = self.put(rt, claim) {
-                return Round::of(Some(claim), put, work);
+            if !self.place(rt, desk, round, claim, most) {
+                return;
             }
-            put = put.saturating_add(1);
-            work = work.saturating_add(more);
         }
-        Round::of(None, put, work)
     }
 
-    fn put<R: Wait>(&mut self, rt: &R, claim: Claim<'x>) -> Result<(), Claim<'x>> {
-        self.hall.queue.put(rt, &mut self.pass, claim)
+    // Keeps a claim, where it has kept fewer than so many, or puts it. One that the queue hands back it keeps, or gives
+    // back. Whether there is place for another.
+    fn place<R: Wait>(
+        &mut self,
+        rt: &R,
+        desk: &mut Desk<'x, J>,
+        round: &mut Round,
+        claim: Claim<'x>,
+        most: u64,
+    ) -> bool {
+        if round.kept < most {
+            return self.keep(desk, round, claim);
+        }
+        let work = work_of(&claim, self.hall.gate);
+        match self.hall.queue.put(rt, &mut self.pass, claim) {
+            Ok(()) => {
+                round.put = round.put.saturating_add(1);
+                round.work = round.work.saturating_add(work);
+                true
+            }
+            Err(claim) => {
+                self.keep(desk, round, claim);
+                false
+            }
+        }
     }
 
-    fn take<R: Wait>(&mut self, rt: &R) -> Option<Claim<'x>> {
-        self.hall.queue.take(rt, &mut self.pass)
+    // Keeps a claim, or gives it back where it has no place for it. Whether it keeps it.
+    fn keep(&mut self, desk: &mut Desk<'x, J>, round: &mut Round, claim: Claim<'x>) -> bool {
+        if self.kept.is_full() {
+            desk.give_back(&claim);
+            return false;
+        }
+        self.kept.push(Some(claim));
+        round.kept = round.kept.saturating_add(1);
+        true
+    }
+}
+
+fn commit_all<J: Picture>(desk: &mut Desk<'_, J>, passed: &[Option<Done<'_>>]) {
+    for done in passed.iter().flatten() {
+        desk.commit(done);
     }
 }

@@ -42,7 +42,7 @@ fn lead<G: Gate>(state: &mut TickState<'_>, gate: &G) -> bool
 // Whether the round in which this thread leads is worth sharing.
 fn is_to_share<G: Gate>(state: &TickState<'_>, thread: ThreadId, gate: &G) -> bool {
     let round = round_of(state, thread);
-    round.len() > 1 && (gate.waits() || is_much(state, round))
+    round.len() > 1 && (gate.waits() || is_much(state, round, gate))
 }
 
 // The threads that can step at the priority of this one.

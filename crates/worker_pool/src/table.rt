@@ -2,7 +2,6 @@ use crate::desk::Desk;
 use crate::picture::Picture;
 use crate::seat::{Next, Round};
 use crate::weighing::SHARE;
-use tick_core::Claim;
 
 /// What lies under the lock of a hall: the tick that the workers share, and who waits. Whenever the lock is taken, the
 /// tick is one of the hall's image, its history is a priority run from its start to its present configuration, and each
@@ -11,6 +10,8 @@ use tick_core::Claim;
 pub(crate) struct Table<'x, J: Picture> {
     // none while no tick is shared
     pub desk: Option<Desk<'x, J>>,
+    // how many claims were made and not committed
+    pub standing: u64,
     // in how many turns claims were put
     pub puts: u64,
     // how many workers wait for claims, and whether the first one does
@@ -34,6 +35,7 @@ impl<'x, J: Picture> Table<'x, J> {
     pub(crate) fn new() -> Table<'x, J> {
         Table {
             desk: None,
+            standing: 0,
             puts: 0,
             resting: 0,
             first_rests: false,
@@ -42,25 +44,20 @@ impl<'x, J: Picture> Table<'x, J> {
         }
     }
 
-    /// Notes what a turn came to: what its worker does next, and who is to be woken. Where a step may wait for another,
+    /// Notes what a turn came to: what its worker then knows, and who is to be woken. Where a step may wait for another,
     /// each claim is worth a worker.
-    pub(crate) fn note(&mut self, round: Round<'x>, waits: bool) -> (Next<'x>, Calls) {
-        let Round {
-            kept,
-            put,
-            work,
-            over,
-        } = round;
-        let wanted = wanted(put, work, waits);
-        let calls = self.calls(wanted, over);
-        (self.next(kept, over), calls)
+    pub(crate) fn note(&mut self, round: Round, waits: bool) -> (Next, Calls) {
+        let claimed = round.put.saturating_add(round.kept);
+        self.standing = self.standing.saturating_add(claimed);
+        let calls = self.calls(wanted(round, waits), round.over);
+        (self.next(round.over), calls)
     }
 
-    /// What a worker does next.
-    pub(crate) fn next(&self, kept: Option<Claim<'x>>, over: bool) -> Next<'x> {
+    /// What a worker knows when it leaves the lock.
+    pub(crate) fn next(&self, over: bool) -> Next {
         Next {
-            kept,
             puts: self.puts,
+            standing: self.standing,
             over,
         }
     }
@@ -101,11 +98,14 @@ impl<'x, J: Picture> Table<'x, J> {
     }
 }
 
-// How many others there is work for where so many claims were put, which have so many operations. Who put them takes
-// one itself.
-fn wanted(put: u64, work: u64, waits: bool) -> u64 {
-    let others = put.saturating_sub(1);
-    let shares = work / SHARE;
+// How many others there is work for after a round. Who put all of its claims takes one of them itself.
+fn wanted(round: Round, waits: bool) -> u64 {
+    let others = if round.kept > 0 {
+        round.put
+    } else {
+        round.put.saturating_sub(1)
+    };
+    let shares = round.work / SHARE;
     if waits || others < shares {
         others
     } else {

@@ -1,5 +1,6 @@
 //! How much work there is, and whether it is worth a worker that has to be woken for it.
 
+use crate::gate::Gate;
 use sc_graph::{Status, Step, ThreadId};
 use tick_core::{Claim, TickState};
 
@@ -11,8 +12,8 @@ pub(crate) const SHARE: u64 = 256;
 const HEAVY: u64 = 48;
 
 /// Whether a round of these threads has work for a second worker, as far as the first two show.
-pub(crate) fn is_much(state: &TickState<'_>, round: &[ThreadId]) -> bool {
-    let mut work: u64 = 0;
+pub(crate) fn is_much<G: Gate>(state: &TickState<'_>, round: &[ThreadId], gate: &G) -> bool {
+    let mut work: u64 = gate.work().saturating_mul(2);
     for thread in round.iter().take(2) {
         work = work.saturating_add(operations_at(state, *thread));
     }
@@ -31,10 +32,13 @@ fn operations_at(state: &TickState<'_>, thread: ThreadId) -> u64 {
     }
 }
 
-/// The operations that are evaluated for a claim, and one for its step.
-pub(crate) fn operations_of(claim: &Claim<'_>) -> u64 {
+/// The work of a claim: the operations that are evaluated for it, one for its step, and what it has at the gate.
+pub(crate) fn work_of<G: Gate>(claim: &Claim<'_>, gate: &G) -> u64 {
     match claim.code() {
-        Some(code) => (code.code().operations().len() as u64).saturating_add(1),
-        None => 1,
+        Some(code) => gate
+            .work()
+            .saturating_add(code.code().operations().len() as u64)
+            .saturating_add(1),
+        None => gate.work().saturating_add(1),
     }
 }

@@ -9,10 +9,9 @@ fn work<R: Wait, J: Picture, G: Gate>(rt: &R, seat: Seat<'_, '_, J, G>) {
     let mut seat = seat;
     let mut next = Next::new();
     for _ in rt.forever() {
-        let Next { kept, puts, .. } = next;
-        next = match seat.find(rt, kept) {
-            Some(claim) => seat.serve(rt, claim),
-            None => match seat.hall.rest(rt, puts) {
+        next = match seat.find(rt) {
+            Some(claim) => seat.serve(rt, claim, next.standing),
+            None => match seat.hall.rest(rt, next.puts) {
                 Some(next) => next,
                 None => return,
             },
@@ -21,20 +20,19 @@ fn work<R: Wait, J: Picture, G: Gate>(rt: &R, seat: Seat<'_, '_, J, G>) {
 }
 
 /// What the first worker does, until the tick is over.
-pub(crate) fn attend<'x, R: Wait, J: Picture, G: Gate>(
+pub(crate) fn attend<R: Wait, J: Picture, G: Gate>(
     rt: &R,
-    seat: &mut Seat<'_, 'x, J, G>,
-    next: Next<'x>,
+    seat: &mut Seat<'_, '_, J, G>,
+    next: Next,
 ) {
     let mut next = next;
     for _ in rt.forever() {
-        let Next { kept, puts, over } = next;
-        if over {
+        if next.over {
             return;
         }
-        next = match seat.find(rt, kept) {
-            Some(claim) => seat.serve(rt, claim),
-            None => seat.hall.rest_first(rt, puts),
+        next = match seat.find(rt) {
+            Some(claim) => seat.serve(rt, claim, next.standing),
+            None => seat.hall.rest_first(rt, next.puts),
         };
     }
 }

@@ -15,11 +15,26 @@ use tick_core::{Control, Inputs, Report};
 use verifier::{Verified, verify};
 use worker_pool::{Gate, NoGate, run_tick};
 
-// A gate for which every round of two claims is shared.
+// A gate for which every round of two claims is shared, since a step may wait for another.
 struct Shares;
 
 impl Gate for Shares {
     fn passing(&self, _worker: u8, _thread: ThreadId) {}
+}
+
+// One for which it is, since each step has much work; workers take several in one turn.
+struct Works;
+
+impl Gate for Works {
+    fn passing(&self, _worker: u8, _thread: ThreadId) {}
+
+    fn waits(&self) -> bool {
+        false
+    }
+
+    fn work(&self) -> u64 {
+        1000
+    }
 }
 
 /// The inputs of a tick, each a letter that is true; its steps; and the value of one variable after it.
@@ -63,15 +78,16 @@ fn is_so(end: &Control, report: &Report, workers: u8, wanted: &Wanted<'_>) -> bo
 }
 
 // Where a tick ends, if it is as wanted.
-fn tick_so<R: Threads + Wait + Sync>(
+fn tick_so<R: Threads + Wait + Sync, G: Gate + Sync>(
     rt: &R,
     alloc: Global,
     image: &Verified,
     control: &Control,
     workers: u8,
     wanted: &Wanted<'_>,
+    gate: &G,
 ) -> Result<Option<Control>, Fail> {
-    let (end, report) = tick(rt, alloc, image, control, wanted.0, workers, &Shares)?;
+    let (end, report) = tick(rt, alloc, image, control, wanted.0, workers, gate)?;
     Ok(if is_so(&end, &report, workers, wanted) {
         Some(end)
     } else {
@@ -79,16 +95,17 @@ fn tick_so<R: Threads + Wait + Sync>(
     })
 }
 
-fn end_so<R: Threads + Wait + Sync>(
+fn end_so<R: Threads + Wait + Sync, G: Gate + Sync>(
     rt: &R,
     alloc: Global,
     image: &Verified,
     workers: u8,
     ticks: &[Wanted<'_>],
+    gate: &G,
 ) -> Result<bool, Fail> {
     let mut control = Control::initial(alloc, image.image().program())?;
     for wanted in ticks {
-        match tick_so(rt, alloc, image, &control, workers, wanted)? {
+        match tick_so(rt, alloc, image, &control, workers, wanted, gate)? {
             Some(end) => control = end,
             None => return Ok(false),
         }
@@ -105,7 +122,8 @@ fn expect_ticks<R: Threads + Wait + Sync>(
 ) -> Result<(), Fail> {
     let image = verify(alloc, image)?;
     for workers in 1..=8 {
-        if !end_so(rt, alloc, &image, workers, ticks)? {
+        let waiting = end_so(rt, alloc, &image, workers, ticks, &Shares)?;
+        if !waiting || !end_so(rt, alloc, &image, workers, ticks, &Works)? {
             return Err(Fail::new("other steps, workers or values"));
         }
     }
