@@ -190,9 +190,9 @@ impl<'r, 'x, J: Picture, G: Gate> Seat<'r, 'x, J, G> {
         let mut round = Round::none(false);
         match desk.claim(self.worker) {
             Turn::Claim(second) => {
-                if self.place(rt, desk, &mut round, first, most)
-                    && self.place(rt, desk, &mut round, second, most)
-                {
+                if !self.place(rt, desk, &mut round, first, most) {
+                    desk.give_back(&second);
+                } else if self.place(rt, desk, &mut round, second, most) {
                     self.claim_others(rt, desk, &mut round, most);
                 }
             }
@@ -220,8 +220,8 @@ impl<'r, 'x, J: Picture, G: Gate> Seat<'r, 'x, J, G> {
         }
     }
 
-    // Keeps a claim, where it has kept fewer than so many, or puts it. One that the queue hands back it keeps, or gives
-    // back. Whether there is place for another.
+    // Keeps a claim, where it has fewer than so many and a place for it, or puts it. One that the queue hands back it
+    // keeps, or gives back. Whether there may be place for another.
     fn place<R: Wait>(
         &mut self,
         rt: &R,
@@ -230,7 +230,7 @@ impl<'r, 'x, J: Picture, G: Gate> Seat<'r, 'x, J, G> {
         claim: Claim<'x>,
         most: u64,
     ) -> bool {
-        if round.kept < most {
+        if (self.kept.len() as u64) < most && !self.kept.is_full() {
             return self.keep(desk, round, claim);
         }
         let work = work_of(&claim, self.hall.gate);
