@@ -1,7 +1,8 @@
 //! The variables that a superstate is given, and what of its transitions decides of them.
 
 ghost use Rattle.std.specs.Prelude.{◌≡◌, ◌+◌, ◌≤◌, ◌||◌, ◌&&◌, IfOk};
-ghost use Rattle.abort_expansion.specs.Flags.{has_strong, has_weak, has_join, has_aborts, counts, one, given, flag_count, flags_of, aborts_around, weak_around};
+ghost use Rattle.abort_expansion.specs.Flags.{has_strong, has_weak, has_join, has_aborts, counts, one, given};
+ghost use Rattle.abort_expansion.specs.Flags.{flag_count, flags_of, aborts_around, weak_around};
 
 use core_charts::Transition;
 use sc_graph::VariableId;

@@ -2,7 +2,9 @@
 
 ghost use Rattle.std.specs.Prelude.{◌≡◌, ◌≤◌, IsTrue, length};
 ghost use Rattle.sc_values.specs.Name.{is_name};
-ghost use Rattle.abort_expansion.specs.Flags.{numbered, strong_flag_name, weak_flag_name, counter_name, preparation_name, continuation_name, monitor_name, watching_name, abandoned_name, first_name};
+ghost use Rattle.abort_expansion.specs.Flags.{numbered, strong_flag_name, weak_flag_name, counter_name};
+ghost use Rattle.abort_expansion.specs.Flags.{preparation_name, continuation_name, monitor_name, watching_name};
+ghost use Rattle.abort_expansion.specs.Flags.{abandoned_name, first_name};
 
 use arrayvec::ArrayString;
 use itoa::Buffer;

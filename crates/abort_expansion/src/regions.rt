@@ -4,7 +4,9 @@ ghost use Rattle.std.specs.Prelude.{◌≡◌, ◌+◌, ◌∷◌, ◌++◌, [],
 ghost use Rattle.core_charts.specs.declared.region.Region.TheViews.{out-State};
 ghost use Rattle.abort_expansion.specs.Flags.{one};
 ghost use Rattle.abort_expansion.specs.Pieces.{expanded_regions};
-ghost use Rattle.abort_expansion.specs.Expansion.{piece_of_region, piece_of_state, expanded_states, inside_superstate, width, widths, places, region_places, begins_anew, initial_place, new_initial, left_behind, region_over, inside_region};
+ghost use Rattle.abort_expansion.specs.Expansion.{piece_of_region, piece_of_state, expanded_states, inside_superstate};
+ghost use Rattle.abort_expansion.specs.Expansion.{width, widths, places, region_places, begins_anew, initial_place};
+ghost use Rattle.abort_expansion.specs.Expansion.{new_initial, left_behind, region_over, inside_region};
 
 use crate::counting::initial_number;
 use crate::flags::{Flags, aborts_around, flag_count, flags_of, weak_around};

@@ -2,7 +2,9 @@
 
 ghost use Rattle.std.specs.Prelude.{◌≡◌, ◌∷◌, [], IfOk};
 ghost use Rattle.core_charts.specs.Standing.{terminations};
-ghost use Rattle.abort_expansion.specs.Superstates.{simple, simple_transitions, resets, preparation, abandoned, monitor, monitor_transitions, continuation, closing, joined_or_left, all_ended, fork};
+ghost use Rattle.abort_expansion.specs.Superstates.{simple, simple_transitions, resets, preparation, abandoned};
+ghost use Rattle.abort_expansion.specs.Superstates.{monitor, monitor_transitions, continuation, closing};
+ghost use Rattle.abort_expansion.specs.Superstates.{joined_or_left, all_ended, fork};
 
 use crate::checks::{Sort, answers, entry_aborts, raising, strong_checks, weak_checks};
 use crate::flags::{Flags, weak_around};

@@ -2,7 +2,8 @@
 
 ghost use Rattle.std.specs.Prelude.{◌≡◌, ◌+◌, ◌∷◌, [], Some, None, IfOk, if◌then◌else◌};
 ghost use Rattle.abort_expansion.specs.Flags.{has_aborts, declarations, local};
-ghost use Rattle.abort_expansion.specs.Superstates.{stays, is_prepared, as_it_is, prepared, forked, split, superstate_over, watched, monitor, continuation, fork};
+ghost use Rattle.abort_expansion.specs.Superstates.{stays, is_prepared, as_it_is, prepared, forked, split};
+ghost use Rattle.abort_expansion.specs.Superstates.{superstate_over, watched, monitor, continuation, fork};
 
 use crate::flags::{Flags, aborts_around, counts, has_aborts, weak_around};
 use crate::making::alone;

@@ -2,7 +2,8 @@
 
 ghost use Rattle.std.specs.Prelude.{◌≡◌, IfOk, map};
 ghost use Rattle.core_charts.specs.Standing.{terminations};
-ghost use Rattle.chart_lowering.specs.Lowering.{labels_of_simple, labels_behind, labels_in_initial, piece_of_region, piece_of_state};
+ghost use Rattle.chart_lowering.specs.Lowering.{labels_of_simple, labels_behind, labels_in_initial, piece_of_region};
+ghost use Rattle.chart_lowering.specs.Lowering.{piece_of_state};
 
 use crate::labels::past;
 use core_charts::{Region, State, Transition};

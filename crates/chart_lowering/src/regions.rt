@@ -1,7 +1,9 @@
 //! The text of regions, and of states with what is inside them.
 
 ghost use Rattle.std.specs.Prelude.{◌≡◌, ◌+◌, ◌<◌, ◌^◌, IfOk, map};
-ghost use Rattle.chart_lowering.specs.Lowering.{labels_in, labels_in_initial, labels_in_states, label_name, branches, is_wanted, numbers, targets, texts, body_from, piece_of_region, piece_of_state};
+ghost use Rattle.chart_lowering.specs.Lowering.{labels_in, labels_in_initial, labels_in_states, label_name, branches};
+ghost use Rattle.chart_lowering.specs.Lowering.{is_wanted, numbers, targets, texts, body_from, piece_of_region};
+ghost use Rattle.chart_lowering.specs.Lowering.{piece_of_state};
 
 use crate::counting::{labels_in_initial, state_labels};
 use crate::labels::{label, label_name, past};
@@ -75,7 +77,8 @@ fn statements_of(
     states: &[State],
     numbers: &Numbers,
 ) -> Result<Items<Statement>, AllocError>
-    ensures { IfOk result (λ text. text ≡ body_from (map piece_of_state states.now) numbers.now.states numbers.now.end) }
+    ensures { IfOk result
+        (λ text. text ≡ body_from (map piece_of_state states.now) numbers.now.states numbers.now.end) }
 {
     let at = targets_of(alloc, numbers)?;
     let mut text = texts_of(alloc, true, &at, states, numbers.states.as_slice())?;
@@ -138,7 +141,8 @@ fn is_wanted(are_initial: bool, is_initial: bool) -> bool
 
 // The numbers of the states' labels, where the initial one's are the first.
 fn numbers_of(alloc: Global, states: &[State], first: u64) -> Result<Numbers, AllocError>
-    ensures states { IfOk result (λ made. made.states ≡ numbers (map piece_of_state states.now) first (first + labels_in_initial (map piece_of_state states.now))) }
+    ensures states { IfOk result (λ made. made.states ≡ numbers (map piece_of_state states.now) first
+        (first + labels_in_initial (map piece_of_state states.now))) }
     ensures end { IfOk result (λ made. made.end ≡ first + labels_in_states (map piece_of_state states.now)) }
 {
     let mut next = past(first, labels_in_initial(states)?)?;

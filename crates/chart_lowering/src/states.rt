@@ -70,7 +70,8 @@ pub(crate) fn superstate(
     branches: Items<Items<Statement>>,
     next: u64,
 ) -> Result<Items<Statement>, AllocError>
-    ensures { IfOk result (λ text. text ≡ label number ∷ statement.Fork branches ∷ behind at.now (terminations transitions.now) next) }
+    ensures { IfOk result (λ text. text ≡ label number ∷ statement.Fork branches ∷ behind at.now
+        (terminations transitions.now) next) }
 {
     let mut text = Items::new(alloc);
     text.push(label(number))?;

@@ -37,7 +37,9 @@ fn put_transition(
     transition: &Transition,
     text: &mut Items<Statement>,
 ) -> Result<bool, AllocError>
-    ensures { IfOk result (λ goes_on. (rest : List Statement) → text.old ++ tested transition.now.trigger (taken at.now transition.now) rest ≡ text.new ++ (if goes_on then rest else [])) }
+    ensures { IfOk result (λ goes_on. (rest : List Statement)
+        → text.old ++ tested transition.now.trigger (taken at.now transition.now) rest ≡ text.new ++
+        (if goes_on then rest else [])) }
 {
     let does = taken(alloc, at, transition)?;
     match &transition.trigger {

@@ -10,9 +10,9 @@ pub fn chart_texts_are_told()
     ensures { TextsAreTold }
 {}
 
-/// Each draft of a text keeps what the grammar alone gives: its parts have names of charts, its expressions can be written
-/// again, a termination has no trigger, there is a region, and regions stand in one another no deeper than their limit
-/// allows. This function does nothing; its contract is the law.
+/// Each draft of a text keeps what the grammar alone gives: its parts have names of charts, its expressions can be
+/// written again, a termination has no trigger, there is a region, and regions stand in one another no deeper than
+/// their limit allows. This function does nothing; its contract is the law.
 pub fn chart_drafts_are_shaped()
     ensures { DraftsAreShaped }
 {}

@@ -5,7 +5,8 @@ ghost use Rattle.sc_text.specs.declared.read_fault.Broken.TheVariants as broken;
 ghost use Rattle.draft_parts.specs.Flaws.{flaw_if, is_full, is_repeated};
 ghost use Rattle.draft_parts.specs.Inside.{first_behind};
 ghost use Rattle.chart_reader.specs.declared.draft.DraftRegion.TheViews.{out-DraftRegion, out-DraftState};
-ghost use Rattle.chart_reader.specs.Flaws.{is_filled, final_flaws, transition_flaws, state_names, state_flaws, initial_flaws, region_names, nested_flaws};
+ghost use Rattle.chart_reader.specs.Flaws.{is_filled, final_flaws, transition_flaws, state_names, state_flaws};
+ghost use Rattle.chart_reader.specs.Flaws.{initial_flaws, region_names, nested_flaws};
 
 use crate::draft::{DraftRegion, DraftState};
 use crate::names::Names;
@@ -33,7 +34,8 @@ pub(crate) fn region_flaws(
     regions: &[DraftRegion],
     first: &mut Option<Flaw>,
 ) -> Result<(), AllocError>
-    ensures { OnOk result (first.new ≡ first_behind first.old (nested_flaws scope.now.variables.now levels regions.now)) }
+    ensures { OnOk result (first.new ≡ first_behind first.old
+        (nested_flaws scope.now.variables.now levels regions.now)) }
 {
     if levels == 0 {
         deeper_flaws(regions, first);
@@ -62,7 +64,9 @@ fn state_flaws(
     states: &[DraftState],
     first: &mut Option<Flaw>,
 ) -> Result<(), AllocError>
-    ensures { OnOk result (first.new ≡ first_behind first.old (state_flaws scope.now.variables.now (nested_flaws scope.now.variables.now levels) (state_names states.now) 0 states.now)) }
+    ensures { OnOk result (first.new ≡ first_behind first.old
+        (state_flaws scope.now.variables.now (nested_flaws scope.now.variables.now levels)
+        (state_names states.now) 0 states.now)) }
 {
     let names = Names::of(alloc, state_names(alloc, states)?)?;
     for (at, state) in states.iter().enumerate() {
@@ -87,7 +91,8 @@ fn deeper_flaws(regions: &[DraftRegion], first: &mut Option<Flaw>)
 // The flaws of a state by its place among the states of its region, which have these names.
 fn place_flaws(names: &Names, at: usize, state: &DraftState, first: &mut Option<Flaw>)
     ensures { first.new ≡ first_behind (first_behind first.old
-        (flaw_if (is_repeated names.now.names at (out-DraftState state.now).named.name) broken.Repeated (out-DraftState state.now).named.at))
+        (flaw_if (is_repeated names.now.names at (out-DraftState state.now).named.name) broken.Repeated
+        (out-DraftState state.now).named.at))
         (flaw_if (is_full 256 at) broken.Limit (out-DraftState state.now).named.at) }
 {
     let named = state.named;
@@ -115,7 +120,9 @@ fn own_transition_flaws(
     state: &DraftState,
     first: &mut Option<Flaw>,
 ) -> Result<(), AllocError>
-    ensures { OnOk result (first.new ≡ first_behind first.old (transition_flaws scope.now.variables.now names.now.names (is_filled (out-DraftState state.now).regions) false 0 (out-DraftState state.now).transitions)) }
+    ensures { OnOk result (first.new ≡ first_behind first.old
+        (transition_flaws scope.now.variables.now names.now.names (is_filled (out-DraftState state.now).regions) false 0
+        (out-DraftState state.now).transitions)) }
 {
     let is_superstate = !state.regions.is_empty();
     transition_flaws(

@@ -4,7 +4,8 @@ ghost use Rattle.std.specs.Prelude.{◌≡◌, MatchResult};
 ghost use Rattle.grammar.specs.Read.{read, starts};
 ghost use Rattle.sc_text.specs.Expression.{text_tokens, expression};
 ghost use Rattle.sc_text.specs.Reading.{Stops};
-ghost use Rattle.chart_reader.specs.ChartText.{state_first, listed, inside, body, state, states, region, braced, within};
+ghost use Rattle.chart_reader.specs.ChartText.{state_first, listed, inside, body, state, states, region, braced};
+ghost use Rattle.chart_reader.specs.ChartText.{within};
 ghost use Rattle.chart_reader.specs.Inside.{Gives};
 
 use crate::ahead::{Ahead, skip_sign};
@@ -26,8 +27,10 @@ pub(crate) fn regions(
     end: usize,
 ) -> Result<Items<DraftRegion>, ReadFault>
     ensures { MatchResult result
-        (λ x. Gives (read (listed (region (expression 0) (within (expression 0) depth)) (region (expression 0) (within (expression 0) depth))) ahead.old.tokens.now) x ahead.new.tokens.now)
-        (λ fault. Stops end (read (listed (region (expression 0) (within (expression 0) depth)) (region (expression 0) (within (expression 0) depth))) ahead.old.tokens.now) fault) }
+        (λ x. Gives (read (listed (region (expression 0) (within (expression 0) depth))
+        (region (expression 0) (within (expression 0) depth))) ahead.old.tokens.now) x ahead.new.tokens.now)
+        (λ fault. Stops end (read (listed (region (expression 0) (within (expression 0) depth))
+        (region (expression 0) (within (expression 0) depth))) ahead.old.tokens.now) fault) }
 {
     let mut found = Items::new(alloc);
     let first = region(alloc, depth, ahead, end)?;
@@ -47,7 +50,8 @@ pub(crate) fn regions(
 #[tactic(auto, using(crate::proofs::Nesting::region_gives, crate::proofs::Parts::made_stops, crate::proofs::Parts::seq_stops_first, crate::proofs::Parts::seq_stops_second), unfolding(crate::specs::ChartText::region))]
 fn region(alloc: Global, depth: u8, ahead: &mut Ahead, end: usize) -> Result<DraftRegion, ReadFault>
     ensures { MatchResult result
-        (λ x. Gives (read (region (expression 0) (within (expression 0) depth)) ahead.old.tokens.now) x ahead.new.tokens.now)
+        (λ x. Gives (read
+        (region (expression 0) (within (expression 0) depth)) ahead.old.tokens.now) x ahead.new.tokens.now)
         (λ fault. Stops end (read (region (expression 0) (within (expression 0) depth)) ahead.old.tokens.now) fault) }
 {
     let named = title(ahead, end, Word::Region)?;
@@ -64,8 +68,10 @@ fn braced_states(
     end: usize,
 ) -> Result<Items<DraftState>, ReadFault>
     ensures { MatchResult result
-        (λ x. Gives (read (braced (states (expression 0) (within (expression 0) depth))) ahead.old.tokens.now) x ahead.new.tokens.now)
-        (λ fault. Stops end (read (braced (states (expression 0) (within (expression 0) depth))) ahead.old.tokens.now) fault) }
+        (λ x. Gives (read (braced (states (expression 0) (within
+        (expression 0) depth))) ahead.old.tokens.now) x ahead.new.tokens.now)
+        (λ fault. Stops end (read (braced (states (expression 0)
+        (within (expression 0) depth))) ahead.old.tokens.now) fault) }
 {
     skip_sign(ahead, end, Sign::OpenBrace)?;
     let states = states(alloc, depth, ahead, end)?;
@@ -82,7 +88,8 @@ fn states(
     end: usize,
 ) -> Result<Items<DraftState>, ReadFault>
     ensures { MatchResult result
-        (λ x. Gives (read (states (expression 0) (within (expression 0) depth)) ahead.old.tokens.now) x ahead.new.tokens.now)
+        (λ x. Gives (read
+        (states (expression 0) (within (expression 0) depth)) ahead.old.tokens.now) x ahead.new.tokens.now)
         (λ fault. Stops end (read (states (expression 0) (within (expression 0) depth)) ahead.old.tokens.now) fault) }
 {
     let mut found = Items::new(alloc);
@@ -112,7 +119,8 @@ fn state_follows(tokens: &[Token]) -> bool
 #[tactic(auto, using(crate::proofs::Nesting::state_gives, crate::proofs::Parts::made_stops, crate::proofs::Parts::seq_stops_first, crate::proofs::Parts::seq_stops_second), unfolding(crate::specs::ChartText::state))]
 fn state(alloc: Global, depth: u8, ahead: &mut Ahead, end: usize) -> Result<DraftState, ReadFault>
     ensures { MatchResult result
-        (λ x. Gives (read (state (expression 0) (within (expression 0) depth)) ahead.old.tokens.now) x ahead.new.tokens.now)
+        (λ x. Gives (read
+        (state (expression 0) (within (expression 0) depth)) ahead.old.tokens.now) x ahead.new.tokens.now)
         (λ fault. Stops end (read (state (expression 0) (within (expression 0) depth)) ahead.old.tokens.now) fault) }
 {
     let is_initial = flag(ahead, Word::Initial);
@@ -138,7 +146,8 @@ fn body(
     end: usize,
 ) -> Result<(Items<DraftRegion>, Items<DraftTransition>), ReadFault>
     ensures { MatchResult result
-        (λ x. Gives (read (body (expression 0) (within (expression 0) depth)) ahead.old.tokens.now) x ahead.new.tokens.now)
+        (λ x. Gives (read
+        (body (expression 0) (within (expression 0) depth)) ahead.old.tokens.now) x ahead.new.tokens.now)
         (λ fault. Stops end (read (body (expression 0) (within (expression 0) depth)) ahead.old.tokens.now) fault) }
 {
     if sign_follows(ahead.tokens, Sign::Semicolon) {
@@ -160,7 +169,8 @@ fn inside(
     end: usize,
 ) -> Result<(Items<DraftRegion>, Items<DraftTransition>), ReadFault>
     ensures { MatchResult result
-        (λ x. Gives (read (inside (expression 0) (within (expression 0) depth)) ahead.old.tokens.now) x ahead.new.tokens.now)
+        (λ x. Gives (read
+        (inside (expression 0) (within (expression 0) depth)) ahead.old.tokens.now) x ahead.new.tokens.now)
         (λ fault. Stops end (read (inside (expression 0) (within (expression 0) depth)) ahead.old.tokens.now) fault) }
 {
     if !word_follows(ahead.tokens, Word::Region) {

@@ -31,7 +31,8 @@ pub(crate) fn transition_flaws(
     transitions: &[DraftTransition],
     first: &mut Option<Flaw>,
 ) -> Result<(), AllocError>
-    ensures { OnOk result (first.new ≡ first_behind first.old (transition_flaws scope.now.variables.now states.now.names is_superstate false 0 transitions.now)) }
+    ensures { OnOk result (first.new ≡ first_behind first.old
+        (transition_flaws scope.now.variables.now states.now.names is_superstate false 0 transitions.now)) }
 {
     let mut is_behind_join = false;
     for (at, transition) in transitions.iter().enumerate() {
@@ -87,7 +88,8 @@ fn trigger_flaws(
     transition: &DraftTransition,
     first: &mut Option<Flaw>,
 ) -> Result<(), AllocError>
-    ensures { OnOk result (first.new ≡ first_behind first.old (trigger_flaws scope.now.variables.now transition.now.trigger)) }
+    ensures { OnOk result (first.new ≡ first_behind first.old
+        (trigger_flaws scope.now.variables.now transition.now.trigger)) }
 {
     match &transition.trigger {
         Some(trigger) => scope.expression(alloc, Some(Kind::Bool), trigger, first),

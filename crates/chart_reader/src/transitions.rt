@@ -5,7 +5,9 @@ ghost use Rattle.grammar.specs.Grammar.{many};
 ghost use Rattle.grammar.specs.Read.{read, starts};
 ghost use Rattle.sc_text.specs.Expression.{text_tokens, after, expression};
 ghost use Rattle.sc_text.specs.Reading.{Stops};
-ghost use Rattle.chart_reader.specs.ChartText.{the_sign, declaration, placed, effect, next_effect, some_effects, effects, target, trigger, deed, termination, tested, transition_first, transition, leaving};
+ghost use Rattle.chart_reader.specs.ChartText.{the_sign, declaration, placed, effect, next_effect, some_effects};
+ghost use Rattle.chart_reader.specs.ChartText.{effects, target, trigger, deed, termination, tested, transition_first};
+ghost use Rattle.chart_reader.specs.ChartText.{transition, leaving};
 ghost use Rattle.chart_reader.specs.Inside.{Gives};
 
 use crate::ahead::{Ahead, skip_sign};
@@ -72,7 +74,8 @@ fn placed(alloc: Global, ahead: &mut Ahead, end: usize) -> Result<TextExpression
 #[tactic(auto, using(crate::proofs::Parts::after_stops_first, crate::proofs::Parts::after_stops_second, crate::proofs::Parts::after_gives))]
 fn value(alloc: Global, ahead: &mut Ahead, end: usize) -> Result<TextExpression, ReadFault>
     ensures { MatchResult result
-        (λ x. Gives (read (after (the_sign Sign.Becomes) (placed (expression 0))) ahead.old.tokens.now) x ahead.new.tokens.now)
+        (λ x. Gives (read (after (the_sign Sign.Becomes) (placed
+        (expression 0))) ahead.old.tokens.now) x ahead.new.tokens.now)
         (λ fault. Stops end (read (after (the_sign Sign.Becomes) (placed (expression 0))) ahead.old.tokens.now) fault) }
 {
     skip_sign(ahead, end, Sign::Becomes)?;

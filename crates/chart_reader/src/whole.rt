@@ -73,8 +73,11 @@ fn braced_parts(
     end: usize,
 ) -> Result<(Items<Declaration>, Items<DraftRegion>), ReadFault>
     ensures { MatchResult result
-        (λ x. Gives (read (braced (seq (many declaration) (listed (region (expression 0) (within (expression 0) 31)) (region (expression 0) (within (expression 0) 31))))) ahead.old.tokens.now) x ahead.new.tokens.now)
-        (λ fault. Stops end (read (braced (seq (many declaration) (listed (region (expression 0) (within (expression 0) 31)) (region (expression 0) (within (expression 0) 31))))) ahead.old.tokens.now) fault) }
+        (λ x. Gives (read (braced (seq (many declaration) (listed (region (expression 0) (within (expression 0) 31))
+        (region (expression 0) (within (expression 0) 31))))) ahead.old.tokens.now) x ahead.new.tokens.now)
+        (λ fault. Stops end (read (braced (seq (many declaration)
+        (listed (region (expression 0) (within (expression 0) 31))
+        (region (expression 0) (within (expression 0) 31))))) ahead.old.tokens.now) fault) }
 {
     skip_sign(ahead, end, Sign::OpenBrace)?;
     let (variables, regions) = parts(alloc, ahead, end)?;
@@ -89,8 +92,10 @@ fn parts(
     end: usize,
 ) -> Result<(Items<Declaration>, Items<DraftRegion>), ReadFault>
     ensures { MatchResult result
-        (λ x. Gives (read (seq (many declaration) (listed (region (expression 0) (within (expression 0) 31)) (region (expression 0) (within (expression 0) 31)))) ahead.old.tokens.now) x ahead.new.tokens.now)
-        (λ fault. Stops end (read (seq (many declaration) (listed (region (expression 0) (within (expression 0) 31)) (region (expression 0) (within (expression 0) 31)))) ahead.old.tokens.now) fault) }
+        (λ x. Gives (read (seq (many declaration) (listed (region (expression 0) (within (expression 0) 31))
+        (region (expression 0) (within (expression 0) 31)))) ahead.old.tokens.now) x ahead.new.tokens.now)
+        (λ fault. Stops end (read (seq (many declaration) (listed (region (expression 0) (within (expression 0) 31))
+        (region (expression 0) (within (expression 0) 31)))) ahead.old.tokens.now) fault) }
 {
     let variables = declarations(alloc, ahead, end)?;
     let regions = regions(alloc, INNER_LEVELS, ahead, end)?;

@@ -7,7 +7,8 @@ ghost use Rattle.sc_text.specs.Expression.{text_tokens, after};
 ghost use Rattle.sc_text.specs.Reading.{Stops};
 ghost use Rattle.chart_reader.specs.Draft.{tested_by};
 ghost use Rattle.draft_parts.specs.Parts.{role_of, kind_of};
-ghost use Rattle.chart_reader.specs.ChartText.{the_word, roles, kinds, tested_words, name, last_name, declared_role, declared_kind, moment, flag};
+ghost use Rattle.chart_reader.specs.ChartText.{the_word, roles, kinds, tested_words, name, last_name, declared_role};
+ghost use Rattle.chart_reader.specs.ChartText.{declared_kind, moment, flag};
 ghost use Rattle.chart_reader.specs.Inside.{Gives, IsNameOf};
 
 use crate::ahead::{Ahead, skip_sign, skip_word};

@@ -39,8 +39,8 @@ fn none_for(fault: &Fault) -> Result<bool, AllocError>
     }
 }
 
-/// Whether a text makes this program: it spells an SCL program, or a chart that has one, whose graph this is. Err: memory
-/// was refused.
+/// Whether a text makes this program: it spells an SCL program, or a chart that has one, whose graph this is. Err:
+/// memory was refused.
 #[tactic(auto, using(crate::proofs::Made::other_made, crate::proofs::Made::none_made))]
 pub fn makes_program(alloc: Global, text: &str, program: &Program) -> Result<bool, AllocError>
     ensures { IfOk result (λ made. MatchBool made (Makes text.now program.now) (IsUnmade text.now program.now)) }

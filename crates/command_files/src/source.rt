@@ -46,8 +46,8 @@ fn read_as_scl(alloc: Global, text: &str) -> Result<Scl, Fault>
     }
 }
 
-/// The SCL program of a text, in the language that its first token tells. Err: the first fault of the text, or E07 where the
-/// expansion of its chart passes a limit.
+/// The SCL program of a text, in the language that its first token tells. Err: the first fault of the text, or E07
+/// where the expansion of its chart passes a limit.
 pub(crate) fn read_text(alloc: Global, text: &str) -> Result<Scl, Fault>
     ensures read { IfOk result (SpellsProgram text.now) }
     ensures fault { IfErr result (SpellsNone text.now) }

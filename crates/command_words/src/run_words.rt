@@ -1,7 +1,8 @@
 //! The words of a run: the name of an image's file, and how many workers there are.
 
 ghost use Rattle.std.specs.Prelude.{◌≡◌, map, option_map, string_bytes};
-ghost use Rattle.command_words.specs.Request.{seen, run_by, run_of, run_behind, workers_named, workers_in, workers_first};
+ghost use Rattle.command_words.specs.Request.{seen, run_by, run_of, run_behind, workers_named, workers_in};
+ghost use Rattle.command_words.specs.Request.{workers_first};
 
 use crate::arguments::{Request, is_option, operands};
 use crate::workers::Workers;
@@ -30,7 +31,8 @@ fn workers_in(word: &[u8]) -> Option<Workers>
 
 // How many workers the first words say, and the words behind them.
 fn workers_first(words: &[String]) -> Option<(Workers, &[String])>
-    ensures { option_map (λ p. (p.0.number, map string_bytes p.1.now)) result ≡ workers_first (map string_bytes words.now) }
+    ensures { option_map (λ p. (p.0.number, map string_bytes p.1.now)) result ≡ workers_first
+        (map string_bytes words.now) }
 {
     let (word, words) = words.split_first()?;
     if word.as_str() == "--workers" {

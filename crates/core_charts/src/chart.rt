@@ -33,7 +33,11 @@ impl Model for Chart {
 
     ghost view = { λ c. record { name = c.name; variables = c.variables; regions = c.regions } };
 
-    ghost invariant = { λ c. IsChart features.Extended (record { name = c.name; variables = c.variables; regions = c.regions }) };
+    ghost invariant = { λ c. IsChart features.Extended (record {
+      name = c.name;
+      variables = c.variables;
+      regions = c.regions;
+    }) };
 }
 
 impl Chart {
@@ -121,7 +125,11 @@ impl Model for CoreChart {
 
     ghost view = { λ c. record { name = c.name; variables = c.variables; regions = c.regions } };
 
-    ghost invariant = { λ c. IsChart features.Core (record { name = c.name; variables = c.variables; regions = c.regions }) };
+    ghost invariant = { λ c. IsChart features.Core (record {
+      name = c.name;
+      variables = c.variables;
+      regions = c.regions;
+    }) };
 }
 
 impl CoreChart {

@@ -1,6 +1,7 @@
 //! Whether parts make a chart.
 
-ghost use Rattle.std.specs.Prelude.{◌≡◌, ◌↔◌, ◌≤◌, ◌<◌, ℕ, false, IfOk, IsTrue, Some, None, [], map, slice_get, length, count_by};
+ghost use Rattle.std.specs.Prelude.{◌≡◌, ◌↔◌, ◌≤◌, ◌<◌, ℕ, false, IfOk, IsTrue, Some, None, [], map, slice_get, length};
+ghost use Rattle.std.specs.Prelude.{count_by};
 ghost use Rattle.sc_values.specs.declared.expression.Expr.{Expr};
 ghost use Rattle.sc_values.specs.declared.value.Kind.TheVariants as of_kind;
 ghost use Rattle.sc_text.specs.Parts.{IsExpression};
@@ -11,7 +12,8 @@ ghost use Rattle.core_charts.specs.declared.region.State.{State};
 ghost use Rattle.core_charts.specs.declared.region.Region.{Region};
 ghost use Rattle.core_charts.specs.declared.region.Region.TheViews.{out-Region, out-State};
 ghost use Rattle.core_charts.specs.Standing.{is_join};
-ghost use Rattle.core_charts.specs.Rules.{IsWithin, kinds_of, IsEffect, IsBareIfFinal, fits_state, IsTransition, IsState, IsRegion, AreRegions, IsChart};
+ghost use Rattle.core_charts.specs.Rules.{IsWithin, kinds_of, IsEffect, IsBareIfFinal, fits_state, IsTransition};
+ghost use Rattle.core_charts.specs.Rules.{IsState, IsRegion, AreRegions, IsChart};
 
 use crate::features::{DEPTH_LIMIT, Features};
 use crate::region::{Effect, Region, State, Transition, TransitionKind};
@@ -169,7 +171,8 @@ impl<'a> Frame<'a> {
     }
 
     fn is_transition(self, states: usize, is_superstate: bool, transition: &Transition) -> bool
-        ensures { IsTrue result ↔ IsTransition self.entry.features self.entry.variables.now states is_superstate transition.now }
+        ensures { IsTrue result
+            ↔ IsTransition self.entry.features self.entry.variables.now states is_superstate transition.now }
     {
         self.features.allows(transition.kind)
             && fits_state(is_superstate, transition.kind)

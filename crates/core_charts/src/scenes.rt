@@ -1,7 +1,8 @@
 //! Where a state or a region stands in the table of a chart.
 
 ghost use Rattle.std.specs.Prelude.{◌≡◌, IfOk};
-ghost use Rattle.core_charts.specs.Table.{with_region, past_states, behind, within, inside_region, piece_of_region, piece_of_state};
+ghost use Rattle.core_charts.specs.Table.{with_region, past_states, behind, within, inside_region, piece_of_region};
+ghost use Rattle.core_charts.specs.Table.{piece_of_state};
 
 use crate::numbering::{past_region, past_states, past_states_of_region};
 use crate::region::{Region, State};

@@ -7,7 +7,8 @@ ghost use Rattle.sc_graph.specs.Tick.{given, value_at_start, values_at_start};
 ghost use Rattle.core_charts.specs.declared.standing.Standing.TheVariants as at;
 ghost use Rattle.core_charts.specs.Standing.{strong_aborts, closing_tests};
 ghost use Rattle.core_charts.specs.Turns.{standing_of};
-ghost use Rattle.core_charts.specs.Machine.{initial, guarded_first, woken, is_outside, regions_at_start, start, stands_in, is_active};
+ghost use Rattle.core_charts.specs.Machine.{initial, guarded_first, woken, is_outside, regions_at_start, start};
+ghost use Rattle.core_charts.specs.Machine.{stands_in, is_active};
 
 use crate::chosen::{closing_tests, strong_aborts};
 use crate::copies::copied_standings;

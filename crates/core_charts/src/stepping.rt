@@ -2,7 +2,8 @@
 
 ghost use Rattle.std.specs.Prelude.{◌≡◌, ◌∷◌, [], IfOk, OnOk, slice_set};
 ghost use Rattle.core_charts.specs.Table.{state_at};
-ghost use Rattle.core_charts.specs.Steps.{to, moved, written, after, state_in, dropped, acts, taken, tested, entering_on, guarding_on};
+ghost use Rattle.core_charts.specs.Steps.{to, moved, written, after, state_in, dropped, acts, taken, tested};
+ghost use Rattle.core_charts.specs.Steps.{entering_on, guarding_on};
 
 use crate::chosen::{closing_tests, first_closing_tests};
 use crate::copies::{copied_effects, copied_moves, copied_transitions};

@@ -1,7 +1,8 @@
 //! The table of a chart.
 
 ghost use Rattle.std.specs.Prelude.{◌≡◌, ◌++◌, IfOk, OnOk, map};
-ghost use Rattle.core_charts.specs.Table.{both, joined, alone, next_behind, side_by_side, in_region, piece_of_region, piece_of_state, table_of, table};
+ghost use Rattle.core_charts.specs.Table.{both, joined, alone, next_behind, side_by_side, in_region, piece_of_region};
+ghost use Rattle.core_charts.specs.Table.{piece_of_state, table_of, table};
 
 use crate::chart::{Chart, CoreChart};
 use crate::copies::{copied_moves, copied_transitions, copied_variables};

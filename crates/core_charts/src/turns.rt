@@ -3,7 +3,8 @@
 ghost use Rattle.std.specs.Prelude.{◌≡◌, IfOk, nat_eq, not};
 ghost use Rattle.std.specs.List.{list_all, list_any};
 ghost use Rattle.core_charts.specs.Table.{state_at, region_at};
-ghost use Rattle.core_charts.specs.Turns.{standing_of, has_ended, may_close, has_work, guards, is_guarded, inside, inside_is_done, is_enabled};
+ghost use Rattle.core_charts.specs.Turns.{standing_of, has_ended, may_close, has_work, guards, is_guarded, inside};
+ghost use Rattle.core_charts.specs.Turns.{inside_is_done, is_enabled};
 
 use crate::region::Transition;
 use crate::standing::{Configuration, Standing};

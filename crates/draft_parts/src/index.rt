@@ -67,7 +67,8 @@ fn is_at(at: usize, place: Option<usize>) -> bool
 // Puts a name at this place, where it has none yet.
 #[tactic(auto, using(crate::proofs::Indexed::noted, crate::proofs::Indexed::kept))]
 fn note(places: &mut BTreeMap<Name, usize>, name: Name, at: usize) -> Result<(), AllocError>
-    ensures { OnOk result ((q : List ℕ) → get (slice_cmp nat_cmp) places.new q ≡ with_name name at (get (slice_cmp nat_cmp) places.old q) q) }
+    ensures { OnOk result ((q : List ℕ) → get (slice_cmp nat_cmp) places.new q ≡ with_name name at
+        (get (slice_cmp nat_cmp) places.old q) q) }
 {
     if places.contains_key(&name) {
         return Ok(());

@@ -42,7 +42,8 @@ impl<'a> Scope<'a> {
     /// The expression with its names looked up, or `false` where it spells no tree. Err: memory was refused.
     pub fn resolved(&self, alloc: Global, expression: &TextExpression) -> Result<Expr, AllocError>
         requires { length self.now.variables.now ≤ variable_limit }
-        ensures { IfOk result (λ tree. tree ≡ expression_of (variable_names self.now.variables.now) expression.now.operations) }
+        ensures { IfOk result
+            (λ tree. tree ≡ expression_of (variable_names self.now.variables.now) expression.now.operations) }
     {
         let mut trees = Items::new(alloc);
         for operation in expression.operations.as_slice() {

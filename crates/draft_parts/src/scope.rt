@@ -5,7 +5,10 @@ ghost use Rattle.std.specs.List.{list_all};
 ghost use Rattle.sc_graph.specs.Limits.{variable_limit, output_limit};
 ghost use Rattle.sc_graph.specs.Size.{is_output};
 ghost use Rattle.sc_text.specs.declared.read_fault.Broken.TheVariants as broken;
-ghost use Rattle.draft_parts.specs.Flaws.{flaw_if, is_full, is_repeated, variable_flaws, variable_names, variable_named, is_among, unknown_one, unknown_names, has_known_name, kind_named, kinds_behind, is_of_kind, is_of_other_kind, expression_flaws, is_input, assigned_flaws};
+ghost use Rattle.draft_parts.specs.Flaws.{flaw_if, is_full, is_repeated, variable_flaws, variable_names};
+ghost use Rattle.draft_parts.specs.Flaws.{variable_named, is_among, unknown_one, unknown_names, has_known_name};
+ghost use Rattle.draft_parts.specs.Flaws.{kind_named, kinds_behind, is_of_kind, is_of_other_kind, expression_flaws};
+ghost use Rattle.draft_parts.specs.Flaws.{is_input, assigned_flaws};
 ghost use Rattle.draft_parts.specs.Inside.{IsIndex, first_behind, some_if};
 
 use crate::flaw::{Flaw, is_full, note_if};
@@ -50,10 +53,12 @@ impl<'a> Scope<'a> {
         }
     }
 
-    /// Notes the flaws of the variables themselves: names that stand twice, and variables and outputs past their limits.
+    /// Notes the flaws of the variables themselves: names that stand twice, and variables and outputs past their
+    /// limits.
     #[tactic(auto, using(crate::proofs::Flawed::variable_step, crate::proofs::Flawed::variables_over))]
     pub fn declarations(&self, first: &mut Option<Flaw>)
-        ensures { first.new ≡ first_behind first.old (variable_flaws (variable_names self.now.variables.now) 0 0 self.now.variables.now) }
+        ensures { first.new ≡ first_behind first.old (variable_flaws
+            (variable_names self.now.variables.now) 0 0 self.now.variables.now) }
     {
         let mut outputs: usize = 0;
         for (at, variable) in self.variables.iter().enumerate() {
@@ -73,7 +78,8 @@ impl<'a> Scope<'a> {
         first: &mut Option<Flaw>,
     )
         ensures { first.new ≡ first_behind (first_behind (first_behind first.old
-            (flaw_if (is_repeated (variable_names self.now.variables.now) at variable.now.named.name) broken.Repeated variable.now.named.at))
+            (flaw_if (is_repeated (variable_names self.now.variables.now) at variable.now.named.name)
+            broken.Repeated variable.now.named.at))
             (flaw_if (is_full variable_limit at) broken.Limit variable.now.named.at))
             (flaw_if (is_output variable.now.role && is_full output_limit outputs) broken.Limit variable.now.named.at) }
     {
@@ -95,7 +101,8 @@ impl<'a> Scope<'a> {
         expression: &TextExpression,
         first: &mut Option<Flaw>,
     ) -> Result<(), AllocError>
-        ensures { OnOk result (first.new ≡ first_behind first.old (expression_flaws self.now.variables.now wanted expression.now)) }
+        ensures { OnOk result (first.new ≡ first_behind first.old
+            (expression_flaws self.now.variables.now wanted expression.now)) }
     {
         let operations = expression.operations.as_slice();
         self.unknown_names(operations, first);
@@ -119,7 +126,9 @@ impl<'a> Scope<'a> {
         value: &TextExpression,
         first: &mut Option<Flaw>,
     ) -> Result<(), AllocError>
-        ensures { OnOk result (first.new ≡ first_behind first.old (assigned_flaws self.now.variables.now (variable_named self.now.variables.now target.name) target value.now)) }
+        ensures { OnOk result (first.new ≡ first_behind first.old
+            (assigned_flaws self.now.variables.now
+            (variable_named self.now.variables.now target.name) target value.now)) }
     {
         match self.variable(target.name) {
             Some(variable) => {
@@ -141,7 +150,8 @@ impl<'a> Scope<'a> {
 
     #[tactic(auto, using(crate::proofs::Flawed::unknown_step, crate::proofs::Flawed::unknown_over))]
     fn unknown_names(&self, operations: &[TextOperation], first: &mut Option<Flaw>)
-        ensures { first.new ≡ first_behind first.old (unknown_names (is_among (variable_names self.now.variables.now)) operations.now) }
+        ensures { first.new ≡ first_behind first.old (unknown_names
+            (is_among (variable_names self.now.variables.now)) operations.now) }
     {
         for operation in operations {
             self.unknown_name(operation, first);
@@ -149,7 +159,8 @@ impl<'a> Scope<'a> {
     }
 
     fn unknown_name(&self, operation: &TextOperation, first: &mut Option<Flaw>)
-        ensures { first.new ≡ first_behind first.old (unknown_one (is_among (variable_names self.now.variables.now)) operation.now) }
+        ensures { first.new ≡ first_behind first.old (unknown_one
+            (is_among (variable_names self.now.variables.now)) operation.now) }
     {
         match operation {
             TextOperation::Load(name, at) => {
@@ -221,7 +232,8 @@ impl<'a> Scope<'a> {
 
     // Does to the kinds what the operation does to its operands. False: it can't.
     fn acts(&self, operation: &TextOperation, stack: &mut Kinds) -> Result<bool, AllocError>
-        ensures { IfOk result (λ can. kinds_behind (kind_named self.now.variables.now) operation.now stack.old ≡ some_if can stack.new) }
+        ensures { IfOk result (λ can. kinds_behind (kind_named self.now.variables.now) operation.now stack.old
+            ≡ some_if can stack.new) }
     {
         match self.kind_left(operation, stack) {
             Some(kind) => {
@@ -234,7 +246,8 @@ impl<'a> Scope<'a> {
 
     // The kind of what an operation leaves for its operands, which it takes off the kinds.
     fn kind_left(&self, operation: &TextOperation, stack: &mut Kinds) -> Option<Kind>
-        ensures { kinds_behind (kind_named self.now.variables.now) operation.now stack.old ≡ option_map (λ k. k ∷ stack.new) result }
+        ensures { kinds_behind (kind_named self.now.variables.now) operation.now stack.old ≡ option_map
+            (λ k. k ∷ stack.new) result }
     {
         match operation {
             TextOperation::Literal(value) => Some(value.kind()),

@@ -80,8 +80,8 @@ fn graph_body(alloc: Global, name: Name, program: &Program) -> Result<String, Al
 }
 
 /// A program as Graphviz text: threads are clusters. Flow within a tick is drawn in solid arrows, the way from a pause
-/// into the next tick in dashed gray ones, and what must come before what in dotted blue ones; where two nodes conflict,
-/// a red line stands between them in place of these. Err: memory was refused.
+/// into the next tick in dashed gray ones, and what must come before what in dotted blue ones; where two nodes
+/// conflict, a red line stands between them in place of these. Err: memory was refused.
 pub fn graph_drawing(alloc: Global, name: &Name, program: &Program) -> Result<String, AllocError>
     ensures { IfOk result (λ text. IsDrawing name.now (string_bytes text)) }
 {

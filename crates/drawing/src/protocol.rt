@@ -51,8 +51,8 @@ fn is_formed(program: &Program, links: &Links) -> bool
     program.size_fault().is_none() && program.structure_fault_with(links).is_none()
 }
 
-/// Puts the arrows of protocol edges behind a text, or, where two nodes conflict, the line between them. Err: memory was
-/// refused.
+/// Puts the arrows of protocol edges behind a text, or, where two nodes conflict, the line between them. Err: memory
+/// was refused.
 pub(crate) fn put_protocol(
     alloc: Global,
     text: &mut String,

@@ -159,8 +159,8 @@ fn chart_body(alloc: Global, chart: &Chart) -> Result<String, AllocError> {
     Ok(text)
 }
 
-/// A chart as Graphviz text: regions and superstates are clusters, simple states nodes, and each transition an arrow with
-/// its words. Initial states have a bold border, final ones two. Err: memory was refused.
+/// A chart as Graphviz text: regions and superstates are clusters, simple states nodes, and each transition an arrow
+/// with its words. Initial states have a bold border, final ones two. Err: memory was refused.
 pub fn chart_drawing(alloc: Global, chart: &Chart) -> Result<String, AllocError>
     ensures { IfOk result (λ text. IsDrawing chart.now.name (string_bytes text)) }
 {

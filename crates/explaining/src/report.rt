@@ -40,8 +40,8 @@ pub fn explained(
     format!(in alloc; "{name}{place}: E0{number}: {cause}\n{marked}help: {cure}\n")
 }
 
-/// A fault for people of which no place is known: the name of the file, the fault, and what is said of it. Err: memory was
-/// refused.
+/// A fault for people of which no place is known: the name of the file, the fault, and what is said of it. Err: memory
+/// was refused.
 pub fn told_nowhere(
     alloc: Global,
     name: &str,

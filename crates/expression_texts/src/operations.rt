@@ -3,7 +3,8 @@
 ghost use Rattle.std.specs.Prelude.{◌≡◌, IfOk, List, string_bytes};
 ghost use Rattle.sc_graph.specs.declared.program.Variable.{Variable};
 ghost use Rattle.sc_values.specs.declared.expression.Expr.TheOpen as tree;
-ghost use Rattle.scl_printer.specs.Expressions.{operand, prefix_text, divisor_text, shown_step, value_text, variable_text};
+ghost use Rattle.scl_printer.specs.Expressions.{operand, prefix_text, divisor_text, shown_step, value_text};
+ghost use Rattle.scl_printer.specs.Expressions.{variable_text};
 ghost use Rattle.expression_texts.specs.Inside.{seen};
 
 use sc_graph::{Variable, VariableId};

@@ -9,11 +9,13 @@ pub trait Graph {
 
     /// A node to which an edge leads, of a rank above 0 and below a number. None: there is none.
     fn towards(&self, ranks: &[u32], node: u16, below: u64) -> Option<u16>
-        ensures { MatchOption result ((n : ℕ) → ¬ LeadsTo (leads self.now) ranks.now node below n) (LeadsTo (leads self.now) ranks.now node below) };
+        ensures { MatchOption result ((n : ℕ) → ¬ LeadsTo (leads self.now) ranks.now node below n)
+            (LeadsTo (leads self.now) ranks.now node below) };
 
     /// A node to which an edge of weight 1 leads, of a rank above 0. None: there is none.
     fn strictly_towards(&self, ranks: &[u32], node: u16) -> Option<u16>
-        ensures { MatchOption result ((n : ℕ) → ¬ LeadsStrictlyTo (leads self.now) ranks.now node n) (LeadsStrictlyTo (leads self.now) ranks.now node) };
+        ensures { MatchOption result ((n : ℕ) → ¬ LeadsStrictlyTo (leads self.now) ranks.now node n)
+            (LeadsStrictlyTo (leads self.now) ranks.now node) };
 
     ghost light: { (graph : Self) (m n w : ℕ) → leads graph m n w → w ≤ 1 };
 }

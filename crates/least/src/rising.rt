@@ -1,6 +1,7 @@
 //! The least table that keeps a rule: it rises from zeros until nothing more is asked.
 
-ghost use Rattle.std.specs.Prelude.{◌≡◌, ◌≤◌, ◌<◌, ℕ, IfOk, IsTrue, MatchOption, MatchBool, length, sum, slice_index, Contains, Some, None};
+ghost use Rattle.std.specs.Prelude.{◌≡◌, ◌≤◌, ◌<◌, ℕ, IfOk, IsTrue, MatchOption, MatchBool, length, sum, slice_index};
+ghost use Rattle.std.specs.Prelude.{Contains, Some, None};
 ghost use Rattle.least.specs.Least.{Exceeds, IsLeast, IsWithin, Keeps};
 ghost use Rattle.least.specs.Inside.Rising.{Became, IsUnder};
 

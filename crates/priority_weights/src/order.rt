@@ -83,5 +83,9 @@ impl<'a> Graph for Order<'a> {
         ranked_behind(self.edges, ranks, node, ANY)
     }
 
-    ghost light = { λ p m n w edge. elim edge [ inl e ↦ (let h = e.1 in Prim.omega (arith, h)) | inr e ↦ (let h = e.1 in Prim.omega (arith, h)) ] };
+    ghost light = { λ p m n w edge. elim edge [
+      | inl e ↦ (let h = e.1 in Prim.omega (arith, h))
+      | inr e ↦
+          (let h = e.1 in Prim.omega (arith, h))
+    ] };
 }

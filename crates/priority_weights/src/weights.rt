@@ -7,7 +7,8 @@ ghost use Rattle.sc_graph.specs.Limits.{child_limit};
 ghost use Rattle.sc_graph.specs.Program.{entry_of};
 ghost use Rattle.sc_graph.specs.Size.{StepFits};
 ghost use Rattle.sc_graph.specs.Valid.{IsFormed};
-ghost use Rattle.priority_weights.specs.Inside.Entries.{WeightKept, bits, entry_number, entry_sum, join_weight, step_weight};
+ghost use Rattle.priority_weights.specs.Inside.Entries.{WeightKept, bits, entry_number, entry_sum, join_weight};
+ghost use Rattle.priority_weights.specs.Inside.Entries.{step_weight};
 ghost use Rattle.priority_weights.specs.Inside.Next.{FlowLeads};
 
 use crate::ends::entry_bits;

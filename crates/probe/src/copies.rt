@@ -106,7 +106,8 @@ fn show<R: Wait>(rt: &R, writer: Shared, next: Note) -> (Shared, Result<(), Allo
     ensures idle { drop result.0.behind result.0.log.items ≡ [] }
     ensures shown { MatchResult result.1
         (λ _. (result.0.desk.shown.value ≡ next) × (view result.0.desk.place ≡ Some next))
-        (λ _. (result.0.desk.shown.value ≡ writer.desk.shown.value) × (view result.0.desk.place ≡ view writer.desk.place)) }
+        (λ _. (result.0.desk.shown.value ≡ writer.desk.shown.value)
+        × (view result.0.desk.place ≡ view writer.desk.place)) }
 {
     let mut writer = writer;
     if !log(&mut writer, next) {
@@ -129,7 +130,8 @@ impl Model for Copies {
 
     ghost view = { λ c. c.writer.desk.shown.value };
 
-    ghost invariant = { λ c. (drop c.writer.behind c.writer.log.items ≡ []) × (sides.view c.writer.desk.place ≡ Some c.writer.desk.shown.value) };
+    ghost invariant = { λ c. (drop c.writer.behind c.writer.log.items ≡ [])
+        × (sides.view c.writer.desk.place ≡ Some c.writer.desk.shown.value) };
 }
 
 impl Copies {

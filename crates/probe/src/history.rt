@@ -7,8 +7,8 @@ use crate::tick_end::TickEnd;
 use logbook::{Gain, Offer, Plain, Play, Rule, Seen, Start, Word};
 use std::marker::Model;
 
-/// The law of the history, which has the opening row and a row for each published tick. It stands in the proofs alone: what is stored are two words
-/// that count it.
+/// The law of the history, which has the opening row and a row for each published tick. It stands in the proofs alone:
+/// what is stored are two words that count it.
 pub(crate) struct Law;
 
 impl Rule<TickEnd, u64> for Law {

@@ -51,7 +51,8 @@ impl Model for Publisher {
 
     ghost view = { λ p. p.note };
 
-    ghost invariant = { λ p. (p.copies ≡ Some p.note) × IsAt p.history p.note × (p.origin ≡ origin_of p.note) × (1 ≤ length p.note.rows) };
+    ghost invariant = { λ p. (p.copies ≡ Some p.note) × IsAt p.history p.note × (p.origin ≡ origin_of p.note)
+        × (1 ≤ length p.note.rows) };
 }
 
 // The outputs of a program before its first tick.

@@ -66,7 +66,8 @@ fn take_by_each<R: Wait>(rt: &R, ports: &mut [Port<'_, '_>], threads: &[ThreadId
     true
 }
 
-// Whether nine passes put a claim each, and then take them in the order in which they were put, though not each its own.
+// Whether nine passes put a claim each, and then take them in the order in which they were put, though not each its
+// own.
 fn is_in_order<R: Wait>(rt: &R, alloc: Global, image: &Verified) -> Result<bool, Fail> {
     let (queue, passes) = ReadyQueue::open(alloc, image)?;
     let are_nine = passes.len() == 9;

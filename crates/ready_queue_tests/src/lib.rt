@@ -1,4 +1,5 @@
-//! Tests of the queue of claims: each leaves once, in the order in which they were put, and a full queue hands one back.
+//! Tests of the queue of claims: each leaves once, in the order in which they were put, and a full queue hands one
+//! back.
 #![tactic(auto)]
 
 #[cfg(test)]

@@ -1,4 +1,5 @@
-ghost use Rattle.std.specs.Prelude.{ℕ, ◌^◌, IfOk, replicate, slice_index, ◌≡◌, ◌<◌, ◌≤◌, ◌↔◌, IsTrue, MatchOption, Option, Some, None, length, slice_set, slice_get};
+ghost use Rattle.std.specs.Prelude.{ℕ, ◌^◌, IfOk, replicate, slice_index, ◌≡◌, ◌<◌, ◌≤◌, ◌↔◌, IsTrue, MatchOption};
+ghost use Rattle.std.specs.Prelude.{Option, Some, None, length, slice_set, slice_get};
 ghost use Rattle.ready_rows.specs.Rows.{HasRoom, IsBare, AreEmpty, IsFirst, IsRow, IsIn, HasRooms};
 
 use crate::making::{rooms_of, starts_of};
@@ -32,7 +33,8 @@ impl Model for Rows {
 
     ghost view = { λ r. record { rooms = r.rooms.items; classes = r.classes.items } };
 
-    ghost invariant = { λ r. Stand r.rooms.items r.classes.items r.starts.items r.counts.items r.row.items r.places.items r.top r.len };
+    ghost invariant = { λ r.
+        Stand r.rooms.items r.classes.items r.starts.items r.counts.items r.row.items r.places.items r.top r.len };
 }
 
 impl Rows {

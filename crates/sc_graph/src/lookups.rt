@@ -1,6 +1,7 @@
 ghost use Rattle.std.specs.Prelude.{◌≡◌, ◌&&◌};
 ghost use Rattle.std.specs.Option.{option_copied};
-ghost use Rattle.sc_graph.specs.Program.{step_at, owner_of, parent_of, entry_of, kind_at, role_at, owns, is_join, is_depth, is_target, is_join_step, is_depth_step, is_ordinary_step};
+ghost use Rattle.sc_graph.specs.Program.{step_at, owner_of, parent_of, entry_of, kind_at, role_at, owns, is_join};
+ghost use Rattle.sc_graph.specs.Program.{is_depth, is_target, is_join_step, is_depth_step, is_ordinary_step};
 
 use crate::program::{NodeId, Program, Role, Step, ThreadId, VariableId};
 use sc_values::Kind;

@@ -1,8 +1,10 @@
-ghost use Rattle.std.specs.Prelude.{◌≡◌, ◌≢◌, ◌≤◌, ◌<◌, ◌+◌, ◌↔◌, ℕ, IsTrue, Some, MatchOption, All, Contains, ⊤, length, slice_get, take, count_by};
+ghost use Rattle.std.specs.Prelude.{◌≡◌, ◌≢◌, ◌≤◌, ◌<◌, ◌+◌, ◌↔◌, ℕ, IsTrue, Some, MatchOption, All, Contains, ⊤};
+ghost use Rattle.std.specs.Prelude.{length, slice_get, take, count_by};
 ghost use Rattle.sc_values.specs.Code.{loaded};
 ghost use Rattle.sc_graph.specs.declared.program.Variable.{Variable};
 ghost use Rattle.sc_graph.specs.Limits.{output_limit, ancestor_limit};
-ghost use Rattle.sc_graph.specs.Size.{is_output, CountsFit, VariableFits, ParentFits, ThreadFits, InNodes, InVariables, LoadsFit, AreDistinct, ChildrenFit, StepFits, NodeFits, ProgramFitsAt};
+ghost use Rattle.sc_graph.specs.Size.{is_output, CountsFit, VariableFits, ParentFits, ThreadFits, InNodes, InVariables};
+ghost use Rattle.sc_graph.specs.Size.{LoadsFit, AreDistinct, ChildrenFit, StepFits, NodeFits, ProgramFitsAt};
 ghost use Rattle.sc_graph.specs.Threads.{Descends};
 ghost use Rattle.sc_graph.specs.Program.{owner_of};
 ghost use Rattle.sc_graph.specs.Inside.Lookups.{name_at, HasNoAncestor};

@@ -3,7 +3,8 @@
 ghost use Rattle.std.specs.Prelude.{◌≡◌, [], ◌∷◌, MatchResult};
 ghost use Rattle.grammar.specs.Read.{read};
 ghost use Rattle.sc_text.specs.Classes.{TheSign};
-ghost use Rattle.sc_text.specs.Expression.{text_tokens, within, expression, before, call, atom, unary, negation, comparison, disjunction};
+ghost use Rattle.sc_text.specs.Expression.{text_tokens, within, expression, before, call, atom, unary, negation};
+ghost use Rattle.sc_text.specs.Expression.{comparison, disjunction};
 ghost use Rattle.sc_text.specs.Reading.{Stops, Reads};
 ghost use Rattle.sc_text.specs.Levels.{whole, operand, behind_operand};
 
@@ -220,7 +221,8 @@ fn closed<'a>(
     code: &mut Items<TextOperation>,
 ) -> Result<&'a [Token], ReadFault>
     ensures { MatchResult result
-        (λ rest. Reads (read (before (disjunction (within depth)) (TheSign closing ∷ [])) tokens.now) code.old code.new rest.now)
+        (λ rest. Reads (read (before (disjunction (within depth))
+        (TheSign closing ∷ [])) tokens.now) code.old code.new rest.now)
         (λ fault. Stops end (read (before (disjunction (within depth)) (TheSign closing ∷ [])) tokens.now) fault) }
 {
     let rest = chain(Level::Disjunction, depth, tokens, end, code)?;

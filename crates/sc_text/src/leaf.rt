@@ -8,7 +8,8 @@ ghost use Rattle.sc_text.specs.Classes.{Number, class_of, same_class};
 ghost use Rattle.sc_text.specs.Phrases.{is_true, leaf_of, signed};
 ghost use Rattle.sc_text.specs.Expression.{text_tokens, comparisons, leaf, divisor, quotient};
 ghost use Rattle.sc_text.specs.Reading.{Stops, Reads};
-ghost use Rattle.sc_text.specs.Levels.{operators, calls, enclosing, leaves, TakesOperator, TakesNumber, TakesDivisor, IsAbove};
+ghost use Rattle.sc_text.specs.Levels.{operators, calls, enclosing, leaves, TakesOperator, TakesNumber, TakesDivisor};
+ghost use Rattle.sc_text.specs.Levels.{IsAbove};
 
 use crate::ahead::{behind, sign_follows, word_follows, wrong};
 use crate::level::{Level, compares, divides, division_of, operator_of};

@@ -8,7 +8,8 @@ ghost use Rattle.sc_graph.specs.Size.{is_output};
 ghost use Rattle.sc_values.specs.Expr.{kind, postorder};
 ghost use Rattle.sc_values.specs.Code.{IsWithinLimits};
 ghost use Rattle.sc_text.specs.Tokens.{IsReserved};
-ghost use Rattle.sc_text.specs.Parts.{IsNameIn, is_writable_literal, is_writable_unary, is_writable, IsExpression, AreVariables, are_distinct};
+ghost use Rattle.sc_text.specs.Parts.{IsNameIn, is_writable_literal, is_writable_unary, is_writable, IsExpression};
+ghost use Rattle.sc_text.specs.Parts.{AreVariables, are_distinct};
 
 use crate::language::Language;
 use crate::word::Word;

@@ -3,7 +3,8 @@
 ghost use Rattle.std.specs.Prelude.{◌≡◌, ◌<◌, ◌≤◌, ◌++◌, OnOk, pos, length, IfOk, IfErr, MatchOption, MatchResult};
 ghost use Rattle.std.specs.List.{list_all};
 ghost use Rattle.sc_values.specs.Name.{is_digit};
-ghost use Rattle.sc_text.specs.Tokens.{AreTokens, IsScanFault, IsPassed, IsRefused, Spells, has_idle_zero, number_limit, written};
+ghost use Rattle.sc_text.specs.Tokens.{AreTokens, IsScanFault, IsPassed, IsRefused, Spells, has_idle_zero};
+ghost use Rattle.sc_text.specs.Tokens.{number_limit, written};
 ghost use Rattle.sc_text.specs.Inside.{IsMadeOf, IsStep, IsNoStep, IsValue, IsNumber, IsNoNumber, IsFree, token_at};
 ghost use Rattle.sc_text.specs.declared.piece.Piece.TheVariants as piece;
 

@@ -3,7 +3,8 @@
 ghost use Rattle.std.specs.Prelude.{◌≡◌, ◌≤◌, length, unwrap_or};
 ghost use Rattle.std.specs.Option.{SomeIff};
 ghost use Rattle.sc_values.specs.declared.expression.Expr.TheViews.{out-Expr};
-ghost use Rattle.sc_values.specs.Assignment.{Combines, Inits, assignment_of, combination_of, decreased, in_code, is_variable, operand};
+ghost use Rattle.sc_values.specs.Assignment.{Combines, Inits, assignment_of, combination_of, decreased, in_code};
+ghost use Rattle.sc_values.specs.Assignment.{is_variable, operand};
 ghost use Rattle.sc_values.specs.Expr.{postorder};
 ghost use Rattle.sc_values.specs.Limits.{operation_limit};
 

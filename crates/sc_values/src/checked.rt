@@ -111,9 +111,11 @@ impl<'a> PartialEq for CheckedCode<'a> {
     ghost use Rattle.sc_values.specs.contracts.value.KindPartialEq.TheImpl as kind;
     ghost use Rattle.sc_values.specs.contracts.value.KindEq.TheImpl.Laws as kinds;
 
-    ghost eq = { eq_of_both (on (λ c. c.operations) (pointwise operation.eq-value.it)) (on (λ c. c.loads) (pointwise kind.eq-value.it)) };
+    ghost eq = { eq_of_both (on (λ c. c.operations) (pointwise operation.eq-value.it))
+        (on (λ c. c.loads) (pointwise kind.eq-value.it)) };
 
-    ghost laws = { partial_equiv_from_equiv (and_equiv (on_equiv (λ c. c.operations) (lists_equiv operations.laws-law)) (on_equiv (λ c. c.loads) (lists_equiv kinds.laws-law))) };
+    ghost laws = { partial_equiv_from_equiv (and_equiv (on_equiv (λ c. c.operations) (lists_equiv operations.laws-law))
+        (on_equiv (λ c. c.loads) (lists_equiv kinds.laws-law))) };
 
     fn eq(&self, other: &CheckedCode<'a>) -> bool
         ensures value { result ≡ eq_of_both (on (λ c. c.operations) (pointwise operation.eq-value.it))

@@ -1,4 +1,5 @@
-ghost use Rattle.std.specs.Prelude.{◌≡◌, ◌<◌, ◌≤◌, [], ◌∷◌, ◌++◌, ◌↔◌, IfOk, IfSome, IsSome, List, MatchBool, SomeIff, None, length};
+ghost use Rattle.std.specs.Prelude.{◌≡◌, ◌<◌, ◌≤◌, [], ◌∷◌, ◌++◌, ◌↔◌, IfOk, IfSome, IsSome, List, MatchBool, SomeIff};
+ghost use Rattle.std.specs.Prelude.{None, length};
 ghost use Rattle.std.specs.Result.{IsErrOf};
 ghost use Rattle.sc_values.specs.declared.expression.Expr.{Expr};
 ghost use Rattle.sc_values.specs.declared.value.Value.{Value};

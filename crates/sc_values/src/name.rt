@@ -3,7 +3,8 @@ ghost use Rattle.std.proofs.Common.{rules};
 ghost use Rattle.std.specs.Ordering.{nat_cmp};
 ghost use Rattle.std.specs.Hash as fed;
 ghost use Rattle.std.specs.Cmp.{partial_equiv_from_equiv};
-ghost use Rattle.std.specs.Cmp.Lexicographic.{pointwise, slice_cmp, nat_list_eq_equiv, nat_list_cmp_total, texts_ties, texts_po};
+ghost use Rattle.std.specs.Cmp.Lexicographic.{pointwise, slice_cmp, nat_list_eq_equiv, nat_list_cmp_total, texts_ties};
+ghost use Rattle.std.specs.Cmp.Lexicographic.{texts_po};
 ghost use Rattle.std.specs.Cmp.Rules.{hashing};
 ghost use Rattle.std.specs.List.{list_all};
 ghost use Rattle.sc_values.specs.Name.{is_letter, is_digit, is_name, padded};
@@ -33,11 +34,15 @@ impl Model for Name {
 
     ghost view = { λ n. take n.len n.bytes };
 
-    ghost invariant = { λ n. (n.len ≤ 64) × (length n.bytes ≡ 64) × (n.bytes ≡ padded (take n.len n.bytes)) × IsTrue (is_name (take n.len n.bytes)) };
+    ghost invariant = { λ n. (n.len ≤ 64) × (length n.bytes ≡ 64) × (n.bytes ≡ padded (take n.len n.bytes))
+        × IsTrue (is_name (take n.len n.bytes)) };
 
     ghost inverse = { λ xs. record { bytes = padded xs; len = length xs } };
 
-    ghost inverse_ok = { λ a h i. record { bytes = sym h.2 i; len = length-take-le a.len a.bytes (Prim.omega (arith, h.0, h.1)) i } };
+    ghost inverse_ok = { λ a h i. record {
+      bytes = sym h.2 i;
+      len = length-take-le a.len a.bytes (Prim.omega (arith, h.0, h.1)) i;
+    } };
 }
 
 impl Name {

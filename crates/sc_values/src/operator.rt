@@ -1,5 +1,6 @@
 ghost use Rattle.std.specs.Prelude.{◌≡◌};
-ghost use Rattle.sc_values.specs.Operator.{operator_of, kind_combined, combined, unary_value, binary_value, int_value, truth_value, unary_kind, binary_kind, int_kind, truth_kind};
+ghost use Rattle.sc_values.specs.Operator.{operator_of, kind_combined, combined, unary_value, binary_value, int_value};
+ghost use Rattle.sc_values.specs.Operator.{truth_value, unary_kind, binary_kind, int_kind, truth_kind};
 ghost use Rattle.sc_values.specs.Inside.Stack.{given_by_unary, given_by_binary};
 
 use crate::divisor::Divisor;

@@ -27,7 +27,8 @@ pub(crate) fn lay_forked<T: Targets>(
     nodes: &mut Vec<Node>,
 ) -> Result<(), GraphFault>
     requires { HasRoom at (counts_of_all statements.now) }
-    ensures { IfOk result (λ _. AreForkedLaid (T.target targets.now) owner statements.now at threads.old.items threads.new.items nodes.old.items nodes.new.items) }
+    ensures { IfOk result (λ _. AreForkedLaid (T.target targets.now) owner statements.now at
+        threads.old.items threads.new.items nodes.old.items nodes.new.items) }
 {
     let mut here = at;
     for statement in statements {
@@ -49,7 +50,8 @@ fn lay_forked_by<T: Targets>(
     nodes: &mut Vec<Node>,
 ) -> Result<(), GraphFault>
     requires { HasRoom at (counts_of statement.now) }
-    ensures { IfOk result (λ _. AreForkedLaid (T.target targets.now) owner (statement.now ∷ []) at threads.old.items threads.new.items nodes.old.items nodes.new.items) }
+    ensures { IfOk result (λ _. AreForkedLaid (T.target targets.now) owner
+        (statement.now ∷ []) at threads.old.items threads.new.items nodes.old.items nodes.new.items) }
 {
     match statement {
         Statement::Assign { .. } => Ok(()),
@@ -119,7 +121,8 @@ pub(crate) fn lay_thread<T: Targets>(
     nodes: &mut Vec<Node>,
 ) -> Result<(), GraphFault>
     requires { HasRoom at (counts_of_all body.now) }
-    ensures { IfOk result (λ _. IsThreadLaid (T.target targets.now) parent thread body.now at threads.old.items threads.new.items nodes.old.items nodes.new.items) }
+    ensures { IfOk result (λ _. IsThreadLaid (T.target targets.now) parent thread body.now at
+        threads.old.items threads.new.items nodes.old.items nodes.new.items) }
 {
     let end = at.node + known_counts(body).nodes;
     let behind = Way::At(end);

@@ -16,7 +16,8 @@ use sqlite_items::Items;
 use std::alloc::{AllocError, Global};
 
 /// Puts the nodes of a thread for these statements behind the others. Behind them it goes on the way
-/// `behind`. A row of labels is looked past once. Err: memory was refused, or an expression has more than 64 operations.
+/// `behind`. A row of labels is looked past once. Err: memory was refused, or an expression has more than 64
+/// operations.
 #[cycle(laying)]
 pub(crate) fn lay<T: Targets>(
     alloc: Global,
@@ -28,7 +29,8 @@ pub(crate) fn lay<T: Targets>(
     nodes: &mut Vec<Node>,
 ) -> Result<(), GraphFault>
     requires { HasRoom at (counts_of_all statements.now) }
-    ensures { IfOk result (λ _. IsLaid (T.target targets.now) owner statements.now at behind.now nodes.old.items nodes.new.items) }
+    ensures { IfOk result
+        (λ _. IsLaid (T.target targets.now) owner statements.now at behind.now nodes.old.items nodes.new.items) }
 {
     let mut here = at;
     let mut ahead = way_of(statements, at.node, behind);
@@ -54,7 +56,8 @@ fn lay_statement<T: Targets>(
     nodes: &mut Vec<Node>,
 ) -> Result<(), GraphFault>
     requires { HasRoom at (counts_of statement.now) }
-    ensures { IfOk result (λ _. IsLaid (T.target targets.now) owner (statement.now ∷ []) at behind.now nodes.old.items nodes.new.items) }
+    ensures { IfOk result (λ _. IsLaid (T.target targets.now) owner
+        (statement.now ∷ []) at behind.now nodes.old.items nodes.new.items) }
 {
     match statement {
         Statement::Label(_) => Ok(()),

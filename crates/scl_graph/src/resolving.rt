@@ -82,7 +82,8 @@ pub(crate) fn resolve(
 ) -> Result<Resolved, GraphFault>
     requires counted { AreCounted (totals_of_all body.now) }
     requires totals { totals ≡ totals_of_all body.now }
-    ensures { MatchResult result (λ r. IsResolved body.now (last_node totals) r.labels r.table.items) (IsUnresolved body.now) }
+    ensures { MatchResult result (λ r. IsResolved body.now (last_node totals) r.labels r.table.items)
+        (IsUnresolved body.now) }
 {
     let labels = labels_of(alloc, body, totals)?;
     let table = settled(alloc, labels.hops(alloc)?)?;

@@ -25,7 +25,8 @@ pub(crate) fn lay_assignment(
     next: NodeId,
     nodes: &mut Vec<Node>,
 ) -> Result<(), GraphFault>
-    ensures { IfOk result (λ _. nodes.new.items ≡ nodes.old.items ++ node owner (assigns variable (assignment_of variable value.now) next) ∷ []) }
+    ensures { IfOk result (λ _. nodes.new.items ≡ nodes.old.items ++ node owner
+        (assigns variable (assignment_of variable value.now) next) ∷ []) }
 {
     let Some(assignment) = CodedAssignment::of(variable, value) else {
         return Err(GraphFault::Limit);
@@ -62,7 +63,8 @@ pub(crate) fn lay_test(
     other: NodeId,
     nodes: &mut Vec<Node>,
 ) -> Result<(), GraphFault>
-    ensures { IfOk result (λ _. nodes.new.items ≡ nodes.old.items ++ node owner (step.Cond (postorder test.now) then other) ∷ []) }
+    ensures { IfOk result (λ _. nodes.new.items ≡ nodes.old.items ++ node owner
+        (step.Cond (postorder test.now) then other) ∷ []) }
 {
     let Some(code) = Code::postorder(test) else {
         return Err(GraphFault::Limit);
@@ -80,7 +82,8 @@ pub(crate) fn lay_pause(
     nodes: &mut Vec<Node>,
 ) -> Result<(), GraphFault>
     requires { at + 1 ≤ count_limit }
-    ensures { IfOk result (λ _. nodes.new.items ≡ nodes.old.items ++ node owner (step.Surf (suc at)) ∷ node owner (step.Depth next) ∷ []) }
+    ensures { IfOk result (λ _. nodes.new.items ≡ nodes.old.items ++ node owner (step.Surf (suc at)) ∷ node owner
+        (step.Depth next) ∷ []) }
 {
     nodes.push(Node {
         owner,
@@ -102,7 +105,8 @@ pub(crate) fn lay_fork(
     nodes: &mut Vec<Node>,
 ) -> Result<(), GraphFault>
     requires { at + 1 ≤ count_limit }
-    ensures { IfOk result (λ _. nodes.new.items ≡ nodes.old.items ++ node owner (step.Fork children (suc at)) ∷ node owner (step.Join next) ∷ []) }
+    ensures { IfOk result (λ _. nodes.new.items ≡ nodes.old.items ++ node owner
+        (step.Fork children (suc at)) ∷ node owner (step.Join next) ∷ []) }
 {
     let join = at + 1;
     nodes.push(Node {

@@ -9,7 +9,8 @@ ghost use Rattle.sc_text.specs.Expression.{text_tokens, after, expression};
 ghost use Rattle.sc_text.specs.Reading.{Stops};
 ghost use Rattle.scl_reader.specs.Statements.{none_or_them};
 ghost use Rattle.scl_reader.specs.Program.{block, test, choice, branch, fork};
-ghost use Rattle.scl_reader.specs.Inside.{Adds, TakesValue, itself, alone, one_branch, statement_classes, within, no_if};
+ghost use Rattle.scl_reader.specs.Inside.{Adds, TakesValue, itself, alone, one_branch, statement_classes, within};
+ghost use Rattle.scl_reader.specs.Inside.{no_if};
 
 use crate::name::name_follows;
 use crate::simple::simple;

@@ -37,7 +37,8 @@ pub(crate) fn survey_thread(
     body: &[TextStatement],
     found: &mut Found,
 ) -> Result<(), AllocError>
-    ensures { OnOk result (found.new ≡ found_behind found.old (thread (in_row (parts_of scope.now.variables.now body.now)))) }
+    ensures { OnOk result (found.new ≡ found_behind found.old
+        (thread (in_row (parts_of scope.now.variables.now body.now)))) }
 {
     let mut own = Thread {
         labels: Items::new(alloc),
@@ -61,7 +62,8 @@ fn survey_statements(
     own: &mut Thread,
     found: &mut Found,
 ) -> Result<(), AllocError>
-    ensures { OnOk result (survey own.new found.new ≡ behind (survey own.old found.old) (in_row (parts_of scope.now.variables.now statements.now))) }
+    ensures { OnOk result (survey own.new found.new ≡ behind (survey own.old found.old)
+        (in_row (parts_of scope.now.variables.now statements.now))) }
 {
     for statement in statements {
         survey_statement(alloc, scope, statement, own, found)?;
@@ -77,7 +79,8 @@ fn survey_statement(
     own: &mut Thread,
     found: &mut Found,
 ) -> Result<(), AllocError>
-    ensures { OnOk result (survey own.new found.new ≡ behind (survey own.old found.old) (part_of scope.now.variables.now statement.now)) }
+    ensures { OnOk result (survey own.new found.new ≡ behind (survey own.old found.old)
+        (part_of scope.now.variables.now statement.now)) }
 {
     match statement {
         TextStatement::Assign { target, value } => scope.assignment(

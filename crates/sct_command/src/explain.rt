@@ -92,8 +92,8 @@ fn refused<W: Sink>(alloc: Global, name: &str, bytes: &[u8], fault: Fault, outpu
 }
 
 /// Compiles the program in this file, and writes the summary of its image, or else why it has none: the place of the
-/// fault, what is wrong, and what helps. Err: there is no program in the file, or it has no image, and this was told; or
-/// the output failed.
+/// fault, what is wrong, and what helps. Err: there is no program in the file, or it has no image, and this was told;
+/// or the output failed.
 #[tactic(auto, using(crate::proofs::Told::quiet_source, crate::proofs::Told::told_source, crate::proofs::Told::quiet_bytes, crate::proofs::Told::told_bytes, crate::proofs::Told::finds, crate::proofs::Told::finds_part))]
 pub(crate) fn explain<F: Files, W: Sink>(
     alloc: Global,

@@ -24,7 +24,14 @@ impl<'a> Model for Claim<'a> {
 
     ghost Value = { Claim };
 
-    ghost view = { λ a. record { worker = a.worker; thread = a.thread; node = a.node; code = a.code; operands = a.operands; commits = a.commits } };
+    ghost view = { λ a. record {
+      worker = a.worker;
+      thread = a.thread;
+      node = a.node;
+      code = a.code;
+      operands = a.operands;
+      commits = a.commits;
+    } };
 
     ghost invariant = { λ a. HasOperands a.code a.operands };
 }
@@ -40,7 +47,14 @@ impl<'a> Claim<'a> {
         commits: u32,
     ) -> Claim<'a>
         requires { HasOperands code operands }
-        ensures { result ≡ record { worker = worker; thread = thread; node = node; code = code.entry; operands = operands; commits = commits } }
+        ensures { result ≡ record {
+          worker = worker;
+          thread = thread;
+          node = node;
+          code = code.entry;
+          operands = operands;
+          commits = commits;
+        } }
     {
         Claim {
             worker,

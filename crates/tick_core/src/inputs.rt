@@ -27,7 +27,8 @@ pub(crate) fn are_accepted(program: &Program, inputs: &[(Name, Value)]) -> bool
 // Whether the input at this place names an input variable, has its kind, and is the first of its name.
 fn is_accepted_at(program: &Program, inputs: &[(Name, Value)], at: usize) -> bool
     requires { at < length inputs.now }
-    ensures { IsTrue result ↔ ((a : List ℕ × Value) → slice_get inputs.now at ≡ Some a → IsAcceptedAt program.now.variables inputs.now at a) }
+    ensures { IsTrue result ↔ ((a : List ℕ × Value) → slice_get inputs.now at ≡ Some a
+        → IsAcceptedAt program.now.variables inputs.now at a) }
 {
     let input = &inputs[at];
     names_input(program.variables(), input) && is_new(&inputs[..at], input)

@@ -44,7 +44,8 @@ pub fn judge(
     run: &[ThreadId],
 ) -> Result<Judged, BeginFault>
     requires { Rests verified.now.program control.now }
-    ensures judged { IfOk result (IsJudgement verified.now.program (start verified.now.program inputs.now control.now) run.now) }
+    ensures judged { IfOk result (IsJudgement verified.now.program
+        (start verified.now.program inputs.now control.now) run.now) }
     ensures accepted { OnOk result (AreAccepted verified.now.program inputs.now) }
     ensures refused { IsErrOf result BeginFault.Input ↔ ¬ (AreAccepted verified.now.program inputs.now) }
 {

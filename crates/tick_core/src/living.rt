@@ -36,7 +36,8 @@ pub(crate) fn count_after(
     thread: ThreadId,
 )
     requires { FindsForks program.now layout.now }
-    ensures { counts.new.items ≡ counted_at program.now control.now counts.old.items thread (status_of control.now thread) }
+    ensures { counts.new.items ≡ counted_at program.now control.now counts.old.items thread
+        (status_of control.now thread) }
 {
     match control.status(thread) {
         Status::Waiting(join) => put(counts, thread, living(layout, program, control, join)),

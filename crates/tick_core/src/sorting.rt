@@ -5,7 +5,8 @@ ghost use Rattle.sc_graph.specs.Tick.{IsConfiguration};
 ghost use Rattle.sc_graph.specs.Valid.{IsValid};
 ghost use Rattle.tick_core.specs.Inside.Layout.{FindsForks};
 ghost use Rattle.tick_core.specs.Inside.Living.{CountsLiving};
-ghost use Rattle.tick_core.specs.Inside.Sorting.{OwnRows, AreSorted, step_priority, ready_row, sorted_one, sorted_parent, sorted_all, children_at, NodePriorities};
+ghost use Rattle.tick_core.specs.Inside.Sorting.{OwnRows, AreSorted, step_priority, ready_row, sorted_one};
+ghost use Rattle.tick_core.specs.Inside.Sorting.{sorted_parent, sorted_all, children_at, NodePriorities};
 
 use crate::claim::Claim;
 use crate::layout::Layout;
@@ -33,7 +34,10 @@ pub(crate) fn sort_after(
     requires place { thread < length program.now.threads }
     requires places { All (λ t. t < length program.now.threads) children.now }
     requires rows { OwnRows program.now tables.now rows.old }
-    ensures sorted { rows.new ≡ sorted_all (ready_row program.now tables.now control.now claims.now) children.now (sorted_parent (ready_row program.now tables.now control.now claims.now) (sorted_one (ready_row program.now tables.now control.now claims.now) rows.old thread) (parent_of program.now thread)) }
+    ensures sorted { rows.new ≡ sorted_all (ready_row program.now tables.now control.now claims.now) children.now
+        (sorted_parent (ready_row program.now tables.now control.now claims.now)
+        (sorted_one (ready_row program.now tables.now control.now claims.now) rows.old thread)
+        (parent_of program.now thread)) }
     ensures rows { OwnRows program.now tables.now rows.new }
 {
     sort(program, tables, control, living, claims, rows, thread);
@@ -80,7 +84,8 @@ fn sort_all(
     requires configuration { IsConfiguration program.now control.now }
     requires places { All (λ t. t < length program.now.threads) threads.now }
     requires rows { OwnRows program.now tables.now rows.old }
-    ensures sorted { rows.new ≡ sorted_all (ready_row program.now tables.now control.now claims.now) threads.now rows.old }
+    ensures sorted { rows.new ≡ sorted_all
+        (ready_row program.now tables.now control.now claims.now) threads.now rows.old }
     ensures rows { OwnRows program.now tables.now rows.new }
 {
     for thread in threads {
@@ -119,7 +124,8 @@ fn ready_row(
     claims: &[Option<Claim<'_>>],
     thread: ThreadId,
 ) -> Option<u16>
-    ensures { (p : Program) → CountsLiving p control.now living.now → result ≡ ready_row p tables.now control.now claims.now thread }
+    ensures { (p : Program) → CountsLiving p control.now living.now
+        → result ≡ ready_row p tables.now control.now claims.now thread }
 {
     match claims.get(thread as usize) {
         Some(None) => step_priority(tables, control, living, thread),
@@ -134,7 +140,8 @@ fn step_priority(
     living: &[usize],
     thread: ThreadId,
 ) -> Option<u16>
-    ensures { (p : Program) → CountsLiving p control.now living.now → result ≡ step_priority p tables.now control.now thread }
+    ensures { (p : Program) → CountsLiving p control.now living.now
+        → result ≡ step_priority p tables.now control.now thread }
 {
     match control.status(thread) {
         Status::At(node) => Some(tables.priority(node)),

@@ -1,5 +1,6 @@
 ghost use Rattle.std.specs.Prelude.{◌≡◌, IfOk, length, map};
-ghost use Rattle.sc_graph.specs.Tick.{Inputs, AreAccepted, given, value_at_start, values_at_start, woken, root_started, statuses_at_start, start};
+ghost use Rattle.sc_graph.specs.Tick.{Inputs, AreAccepted, given, value_at_start, values_at_start, woken, root_started};
+ghost use Rattle.sc_graph.specs.Tick.{statuses_at_start, start};
 ghost use Rattle.tick_core.specs.Inside.Given.{HasOwnNames, Gives};
 
 use crate::copying::copied;
@@ -34,7 +35,8 @@ pub(crate) fn started(
 pub(crate) fn start(program: &Program, given: &[Option<Value>], control: &mut Control)
     requires values { length control.old.variables ≡ length program.now.variables }
     requires given { length given.now ≡ length program.now.variables }
-    ensures { (inputs : Inputs) → Gives program.now.variables inputs given.now → control.new ≡ start program.now inputs control.old }
+    ensures { (inputs : Inputs) → Gives program.now.variables inputs given.now
+        → control.new ≡ start program.now inputs control.old }
 {
     start_values(program.variables(), given, &mut control.variables);
     start_statuses(program, &mut control.statuses);
@@ -43,7 +45,8 @@ pub(crate) fn start(program: &Program, given: &[Option<Value>], control: &mut Co
 fn start_values(variables: &[Variable], given: &[Option<Value>], values: &mut Items<Value>)
     requires values { length values.old ≡ length variables.now }
     requires given { length given.now ≡ length variables.now }
-    ensures { (inputs : Inputs) → Gives variables.now inputs given.now → values.new ≡ values_at_start inputs variables.now values.old }
+    ensures { (inputs : Inputs) → Gives variables.now inputs given.now
+        → values.new ≡ values_at_start inputs variables.now values.old }
 {
     for x in 0..variables.len() {
         let present = values.as_slice()[x];
@@ -53,7 +56,8 @@ fn start_values(variables: &[Variable], given: &[Option<Value>], values: &mut It
 }
 
 fn started_value(variable: &Variable, value: Option<Value>, present: Value) -> Value
-    ensures { (inputs : Inputs) → value ≡ given inputs variable.now.name → result ≡ value_at_start inputs variable.now variable.now.role present }
+    ensures { (inputs : Inputs) → value ≡ given inputs variable.now.name
+        → result ≡ value_at_start inputs variable.now variable.now.role present }
 {
     match variable.role {
         Role::Input => match value {

@@ -100,9 +100,31 @@ impl<'a> Model for TickState<'a> {
 
     ghost Value = { InTick };
 
-    ghost view = { λ s. record { image = s.verified.now; begun = s.begun; present = s.present; history = s.history.items; claims = s.claims.items } };
+    ghost view = { λ s. record {
+      image = s.verified.now;
+      begun = s.begun;
+      present = s.present;
+      history = s.history.items;
+      claims = s.claims.items;
+    } };
 
-    ghost invariant = { λ s. Holds (record { image = s.verified.now; begun = s.begun; present = s.present; history = s.history.items; claims = s.claims.items }) × (s.variable_kinds.items ≡ kinds s.verified.now.program) × (s.verified.now.tables.budget ≤ vec_capacity s.history) × FindsForks s.verified.now.program s.layout × AreSorted s.verified.now.program s.verified.now.tables s.present s.claims.items s.rows × OpenAt (record { image = s.verified.now; begun = s.begun; present = s.present; history = s.history.items; claims = s.claims.items }) s.claimed s.level × CountsLiving s.verified.now.program s.present s.living.items × (length s.given ≡ length s.verified.now.program.variables) };
+    ghost invariant = { λ s. Holds (record {
+      image = s.verified.now;
+      begun = s.begun;
+      present = s.present;
+      history = s.history.items;
+      claims = s.claims.items;
+    }) × (s.variable_kinds.items ≡ kinds s.verified.now.program)
+        × (s.verified.now.tables.budget ≤ vec_capacity s.history) × FindsForks s.verified.now.program s.layout
+        × AreSorted s.verified.now.program s.verified.now.tables s.present s.claims.items s.rows
+        × OpenAt (record {
+          image = s.verified.now;
+          begun = s.begun;
+          present = s.present;
+          history = s.history.items;
+          claims = s.claims.items;
+        }) s.claimed s.level × CountsLiving s.verified.now.program s.present s.living.items
+        × (length s.given ≡ length s.verified.now.program.variables) };
 }
 
 /// What the ticks of one verified image take over from one another: the table of its joins, the kinds
@@ -137,7 +159,12 @@ impl<'a> Model for Room<'a> {
 
     ghost view = { λ r. r.verified.now };
 
-    ghost invariant = { λ r. (r.variable_kinds.items ≡ kinds r.verified.now.program) × (r.claims.items ≡ map (λ _. None) r.verified.now.program.threads) × FindsForks r.verified.now.program r.layout × OwnRows r.verified.now.program r.verified.now.tables r.rows × (r.verified.now.tables.budget ≤ vec_capacity r.history) × (length r.living.items ≡ length r.verified.now.program.threads) × (length r.given ≡ length r.verified.now.program.variables) × HasPlaces r.verified.now.program r.spare };
+    ghost invariant = { λ r. (r.variable_kinds.items ≡ kinds r.verified.now.program)
+        × (r.claims.items ≡ map (λ _. None) r.verified.now.program.threads) × FindsForks r.verified.now.program r.layout
+        × OwnRows r.verified.now.program r.verified.now.tables r.rows
+        × (r.verified.now.tables.budget ≤ vec_capacity r.history)
+        × (length r.living.items ≡ length r.verified.now.program.threads)
+        × (length r.given ≡ length r.verified.now.program.variables) × HasPlaces r.verified.now.program r.spare };
 }
 
 /// What `claim` answers.
@@ -324,7 +351,8 @@ impl<'a> TickState<'a> {
     pub fn present(&self) -> &Control
         ensures value { result.now ≡ self.now.present }
         ensures configuration { IsConfiguration self.now.image.program result.now }
-        ensures defined { (t : ℕ) → IsEnabled self.now.image.program result.now t → IsSome (step self.now.image.program t result.now) }
+        ensures defined { (t : ℕ) → IsEnabled self.now.image.program result.now t
+            → IsSome (step self.now.image.program t result.now) }
     {
         &self.present
     }
@@ -332,7 +360,8 @@ impl<'a> TickState<'a> {
     /// The steps since, in their order: an admissible priority run, within the budget.
     pub fn history(&self) -> &[Entry]
         ensures value { result.now ≡ self.now.history }
-        ensures by_priority { PriorityRun self.now.image.program self.now.image.tables (threads_of result.now) self.now.begun self.now.present }
+        ensures by_priority { PriorityRun self.now.image.program self.now.image.tables
+            (threads_of result.now) self.now.begun self.now.present }
         ensures admissible { IsAdmissible (machine self.now.image.program) (threads_of result.now) self.now.begun }
         ensures within { length result.now ≤ self.now.image.tables.budget }
     {
@@ -344,7 +373,8 @@ impl<'a> TickState<'a> {
     pub fn open_claims(&self) -> &[Option<Claim<'a>>]
         ensures value { result.now ≡ self.now.claims }
         ensures places { length result.now ≡ length self.now.image.program.threads }
-        ensures fresh { (t : ℕ) (a : OpenClaim) → slice_get result.now t ≡ Some (Some a) → IsFresh self.now.image.program self.now.image.tables self.now.present (length self.now.history) t a }
+        ensures fresh { (t : ℕ) (a : OpenClaim) → slice_get result.now t ≡ Some (Some a)
+            → IsFresh self.now.image.program self.now.image.tables self.now.present (length self.now.history) t a }
     {
         self.claims.as_slice()
     }

@@ -65,7 +65,8 @@ fn take_step_at(
 )
     requires defined { IsSome (node_effect program.now control.old thread step.now) }
     requires value { value ≡ value_of control.old step.now }
-    ensures { option_map (λ e. after e control.old) (node_effect program.now control.old thread step.now) ≡ Some control.new }
+    ensures { option_map (λ e. after e control.old) (node_effect program.now control.old thread step.now)
+        ≡ Some control.new }
 {
     match (step, value) {
         (Step::Assign { variable, next, .. }, Some(value)) => {
@@ -97,7 +98,10 @@ fn take_step_at(
 }
 
 fn assign(control: &mut Control, thread: ThreadId, variable: VariableId, value: Value, next: NodeId)
-    ensures { control.new ≡ after (record { change = Put variable value; moves = (thread, Status.At next) ∷ [] }) control.old }
+    ensures { control.new ≡ after (record {
+      change = Put variable value;
+      moves = (thread, Status.At next) ∷ [];
+    }) control.old }
 {
     put_value(&mut control.variables, variable, value);
     put_status(&mut control.statuses, thread, Status::At(next));
@@ -111,7 +115,10 @@ fn update(
     value: Value,
     next: NodeId,
 )
-    ensures { control.new ≡ after (record { change = Combine variable combine value; moves = (thread, Status.At next) ∷ [] }) control.old }
+    ensures { control.new ≡ after (record {
+      change = Combine variable combine value;
+      moves = (thread, Status.At next) ∷ [];
+    }) control.old }
 {
     let present = control.variables.as_slice().get(variable as usize).copied();
     if let Some(present) = present {
@@ -138,7 +145,11 @@ fn fork(
     children: &[ThreadId],
     join: NodeId,
 )
-    ensures { control.new ≡ after (record { change = Keep; moves = (thread, Status.Waiting join) ∷ map (λ k. enters k (entry_of program.now k)) children.now }) control.old }
+    ensures { control.new ≡ after (record {
+      change = Keep;
+      moves = (thread, Status.Waiting join) ∷ map
+          (λ k. enters k (entry_of program.now k)) children.now;
+    }) control.old }
 {
     put_status(&mut control.statuses, thread, Status::Waiting(join));
     enter_all(program, &mut control.statuses, children);
@@ -158,7 +169,11 @@ fn enter_all(program: &Program, statuses: &mut Items<Status>, children: &[Thread
 
 // The children of a finished fork become absent, and the thread goes on.
 fn leave(control: &mut Control, thread: ThreadId, children: &[ThreadId], next: NodeId)
-    ensures { control.new ≡ after (record { change = Keep; moves = (thread, Status.At next) ∷ map (λ k. (k, Status.Absent)) children.now }) control.old }
+    ensures { control.new ≡ after (record {
+      change = Keep;
+      moves = (thread, Status.At next) ∷ map
+          (λ k. (k, Status.Absent)) children.now;
+    }) control.old }
 {
     put_status(&mut control.statuses, thread, Status::At(next));
     dismiss_all(&mut control.statuses, children);

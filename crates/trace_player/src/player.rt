@@ -39,8 +39,8 @@ impl From<AllocError> for PlayFault {
     }
 }
 
-/// Plays an input to an output, with 1 to 8 workers: for each line one tick and one output line, which is written before
-/// the next line is read; behind the end of the input nothing is read. Gives the number of ticks.
+/// Plays an input to an output, with 1 to 8 workers: for each line one tick and one output line, which is written
+/// before the next line is read; behind the end of the input nothing is read. Gives the number of ticks.
 /// `Input` and `NotJson` name the line at which the trace ends, and all before it was written; else
 /// the lines of output of some first lines were, each whole, or at `Write` the last one perhaps in
 /// part. Numbers stay at the greatest of 64 bits; after 2^128 lines it gives up as at `Memory`.

@@ -15,9 +15,9 @@ use tick_core::Control;
 use trace_lines::{LineEnd, Lines, LinesFault};
 use verifier::Verified;
 
-/// Where the lines of a trace come from, where its lines of output go, and where the ends of its ticks are published, if
-/// they are. Contracts see which these are, the bytes that are to come and that were taken, how often each failed, and
-/// the rows that were published.
+/// Where the lines of a trace come from, where its lines of output go, and where the ends of its ticks are published,
+/// if they are. Contracts see which these are, the bytes that are to come and that were taken, how often each failed,
+/// and the rows that were published.
 pub(crate) trait Ports {
     ghost names: { Self → ℕ × ℕ × ℕ × Option Book };
 
@@ -137,7 +137,12 @@ pub(crate) struct Watched<'a, 'b, 'c, S: Source, W: Sink> {
 impl<'a, 'b, 'c, S: Source, W: Sink> Ports for Watched<'a, 'b, 'c, S, W> {
     ghost use Rattle.std.specs.Prelude.{Some};
 
-    ghost names = { λ s. (s.source.ghost_name, s.sink.ghost_name, s.publisher.ghost_name, Some s.publisher.now.publisher) };
+    ghost names = { λ s. (
+      s.source.ghost_name,
+      s.sink.ghost_name,
+      s.publisher.ghost_name,
+      Some s.publisher.now.publisher,
+    ) };
 
     ghost to_come = { λ s. S.to_come s.source.now };
 

@@ -23,8 +23,8 @@ impl Gate for Shares {
     fn passing(&self, _worker: u8, _thread: ThreadId) {}
 }
 
-/// An input, when reads and writes fail, what is to be written, how it ends, and how many ticks observers are to see and
-/// which value of O.
+/// An input, when reads and writes fail, what is to be written, how it ends, and how many ticks observers are to see
+/// and which value of O.
 #[derive(Clone, Copy)]
 pub(crate) struct Wanted<'a> {
     pub(crate) input: &'a str,

@@ -10,5 +10,8 @@ pub trait Picture {
 impl Picture for Brand {
     ghost use Rattle.std.specs.Prelude.{[]};
 
-    ghost image = { record { program = record { variables = []; threads = []; nodes = [] }; tables = record { priorities = []; weights = []; end_bits = []; bounds = []; budget = 0 } } };
+    ghost image = { record {
+      program = record { variables = []; threads = []; nodes = [] };
+      tables = record { priorities = []; weights = []; end_bits = []; bounds = []; budget = 0 };
+    } };
 }

@@ -127,7 +127,8 @@ impl<'r, 'x, J: Picture, G: Gate> Seat<'r, 'x, J, G> {
     }
 
     // How many steps a worker takes in one turn, where so many claims stand: half of an even share, so that who comes
-    // later finds some too. One where a step may wait for another, as what it waits for may have to be committed before.
+    // later finds some too. One where a step may wait for another, as what it waits for may have to be committed
+    // before.
     fn share(&self, standing: u64) -> u64 {
         if self.hall.gate.waits() {
             1
@@ -136,8 +137,8 @@ impl<'r, 'x, J: Picture, G: Gate> Seat<'r, 'x, J, G> {
         }
     }
 
-    // How many of several claims a worker keeps, where so many stood before: as many as it takes in one turn. None where
-    // a step may wait for another, as another worker may have to take that one.
+    // How many of several claims a worker keeps, where so many stood before: as many as it takes in one turn. None
+    // where a step may wait for another, as another worker may have to take that one.
     fn keeps(&self, standing: u64) -> u64 {
         if self.hall.gate.waits() {
             0
@@ -180,7 +181,8 @@ impl<'r, 'x, J: Picture, G: Gate> Seat<'r, 'x, J, G> {
         next
     }
 
-    // Claims all that can be claimed. One claim alone it keeps; of several it keeps so many at most, and puts the others.
+    // Claims all that can be claimed. One claim alone it keeps; of several it keeps so many at most, and puts the
+    // others.
     fn claim_all<R: Wait>(&mut self, rt: &R, desk: &mut Desk<'x, J>, most: u64) -> Round {
         let first = match desk.claim(self.worker) {
             Turn::Claim(claim) => claim,

@@ -11,8 +11,8 @@ use std::alloc::{AllocError, Global};
 use tick_core::{Control, Room, TickState};
 use verifier::Verified;
 
-/// What came back of a tick that began so, run to its end. Where nothing came back, or another tick, it is the same tick
-/// begun again, all of whose steps the caller takes. Err: memory was refused for that.
+/// What came back of a tick that began so, run to its end. Where nothing came back, or another tick, it is the same
+/// tick begun again, all of whose steps the caller takes. Err: memory was refused for that.
 pub(crate) fn settle<'x, J: Picture>(
     alloc: Global,
     verified: &'x Verified,

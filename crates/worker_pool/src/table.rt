@@ -44,8 +44,8 @@ impl<'x, J: Picture> Table<'x, J> {
         }
     }
 
-    /// Notes what a turn came to: what its worker then knows, and who is to be woken. Where a step may wait for another,
-    /// each claim is worth a worker.
+    /// Notes what a turn came to: what its worker then knows, and who is to be woken. Where a step may wait for
+    /// another, each claim is worth a worker.
     pub(crate) fn note(&mut self, round: Round, waits: bool) -> (Next, Calls) {
         let claimed = round.put.saturating_add(round.kept);
         self.standing = self.standing.saturating_add(claimed);

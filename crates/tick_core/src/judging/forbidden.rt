@@ -14,7 +14,8 @@ use sc_graph::{NodeId, Program, ThreadId, lca};
 /// it the least first. None: the steps are in order.
 pub(crate) fn first_forbidden(program: &Program, steps: &[Taken]) -> Option<(usize, usize)>
     requires { IsFormed program.now }
-    ensures { MatchOption result (IsOrdered (ForkedApart program.now) (acts_at program.now steps.now)) (λ pair. IsFirstForbidden (ForkedApart program.now) (acts_at program.now steps.now) pair.0 pair.1) }
+    ensures { MatchOption result (IsOrdered (ForkedApart program.now) (acts_at program.now steps.now))
+        (λ pair. IsFirstForbidden (ForkedApart program.now) (acts_at program.now steps.now) pair.0 pair.1) }
 {
     for second in 0..steps.len() {
         if let Some(first) = first_before(program, steps, second) {
@@ -28,7 +29,8 @@ pub(crate) fn first_forbidden(program: &Program, steps: &[Taken]) -> Option<(usi
 fn first_before(program: &Program, steps: &[Taken], second: usize) -> Option<usize>
     requires formed { IsFormed program.now }
     requires within { second < length steps.now }
-    ensures { MatchOption result ((i : ℕ) → ¬ IsForbidden (ForkedApart program.now) (acts_at program.now steps.now) i second) (λ i. IsFirstBefore program.now steps.now i second) }
+    ensures { MatchOption result ((i : ℕ) → ¬ IsForbidden (ForkedApart program.now)
+        (acts_at program.now steps.now) i second) (λ i. IsFirstBefore program.now steps.now i second) }
 {
     for first in 0..second {
         if is_forbidden(program, steps, first, second) {

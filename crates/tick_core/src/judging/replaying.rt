@@ -70,8 +70,10 @@ fn step_if_enabled(
     requires forks { FindsForks verified.now.program layout.now }
     requires kinds { kinds.now ≡ variable_kinds verified.now.program }
     requires configuration { IsConfiguration verified.now.program control.old }
-    requires defined { IsEnabled verified.now.program control.old thread → IsSome (step verified.now.program thread control.old) }
-    ensures { MatchOption result (is_enabled verified.now.program control.old thread ≡ false) (λ n. StepsAt verified.now.program control.old thread n control.new) }
+    requires defined { IsEnabled verified.now.program control.old thread
+        → IsSome (step verified.now.program thread control.old) }
+    ensures { MatchOption result (is_enabled verified.now.program control.old thread ≡ false)
+        (λ n. StepsAt verified.now.program control.old thread n control.new) }
 {
     let program = verified.image().program();
     let node = match control.status(thread) {

@@ -1,4 +1,5 @@
-ghost use Rattle.std.specs.Prelude.{ℕ, ◌≡◌, ◌↔◌, ◌<◌, ◌≤◌, IsTrue, IsSome, IfOk, OnOk, OnErr, MatchOption, Some, None, length, slice_get, slice_set, count_by, is_some};
+ghost use Rattle.std.specs.Prelude.{ℕ, ◌≡◌, ◌↔◌, ◌<◌, ◌≤◌, IsTrue, IsSome, IfOk, OnOk, OnErr, MatchOption, Some, None};
+ghost use Rattle.std.specs.Prelude.{length, slice_get, slice_set, count_by, is_some};
 ghost use Rattle.sc_graph.specs.Control.{status_of};
 ghost use Rattle.sc_graph.specs.Priority.{Leads};
 ghost use Rattle.sc_graph.specs.Tables.{priority_of};
@@ -120,7 +121,8 @@ impl<'a> TickState<'a> {
 
     // Puts a claim at the place of its thread, which had none.
     fn open(&mut self, claim: &Claim<'a>)
-        requires fresh { IsFresh self.old.image.program self.old.image.tables self.old.present (length self.old.history) claim.now.thread claim.now }
+        requires fresh { IsFresh self.old.image.program self.old.image.tables self.old.present
+            (length self.old.history) claim.now.thread claim.now }
         requires unclaimed { claim_of self.old claim.now.thread ≡ Some None }
         ensures { self.new ≡ record self.old { claims = slice_set self.old.claims claim.now.thread (Some claim.now) } }
     {

@@ -1,4 +1,5 @@
-ghost use Rattle.std.specs.Prelude.{◌≡◌, ◌↔◌, ◌<◌, ◌≤◌, ◌==◌, ◌≢◌, List, Some, ℕ, IsTrue, count_by, length, slice_get, slice_index};
+ghost use Rattle.std.specs.Prelude.{◌≡◌, ◌↔◌, ◌<◌, ◌≤◌, ◌==◌, ◌≢◌, List, Some, ℕ, IsTrue, count_by, length, slice_get};
+ghost use Rattle.std.specs.Prelude.{slice_index};
 ghost use Rattle.sc_values.specs.Runs.{IsOver};
 ghost use Rattle.sc_graph.specs.Machine.{machine};
 ghost use Rattle.sc_graph.specs.Priority.{Leads, PriorityRun};
@@ -112,7 +113,8 @@ impl<'a> TickState<'a> {
         ensures rests { Rests self.entry.image.program result.0 }
         ensures history { result.1.history ≡ self.entry.history }
         ensures tick { WholeTick self.entry.image self.entry.begun (threads_of result.1.history) result.0 }
-        ensures by_priority { PriorityRun self.entry.image.program self.entry.image.tables (threads_of result.1.history) self.entry.begun result.0 }
+        ensures by_priority { PriorityRun self.entry.image.program self.entry.image.tables
+            (threads_of result.1.history) self.entry.begun result.0 }
         ensures by { (w : ℕ) → w < 9 → slice_index result.1.by w ≡ count_by (λ e. e.worker == w) self.entry.history }
     {
         let TickState {
@@ -130,7 +132,8 @@ impl<'a> TickState<'a> {
         ensures present { result.0 ≡ self.entry.present }
         ensures rests { Rests self.entry.image.program result.0 }
         ensures tick { WholeTick self.entry.image self.entry.begun (threads_of self.entry.history) result.0 }
-        ensures by_priority { PriorityRun self.entry.image.program self.entry.image.tables (threads_of self.entry.history) self.entry.begun result.0 }
+        ensures by_priority { PriorityRun self.entry.image.program self.entry.image.tables
+            (threads_of self.entry.history) self.entry.begun result.0 }
         ensures room { result.1 ≡ self.entry.image }
     {
         let TickState {
