@@ -39,5 +39,5 @@ pub use of_std::{Failures, OfRead, OfWrite};
 pub use operands::Operands;
 pub use operation::Operation;
 pub use operator::{BinaryOperator, Combination, UnaryOperator};
-pub use streams::{Failed, Sink, Source, write_all};
+pub use streams::{Failed, Progress, Sink, Source, write_all};
 pub use value::{Kind, Value};

@@ -5,7 +5,7 @@ ghost use Rattle.sc_values.specs.Streams.{failures_of};
 
 use crate::name::write_front;
 use crate::of_std::Failures;
-use crate::streams::{Failed, Sink, Source};
+use crate::streams::{Failed, Progress, Sink, Source};
 use std::alloc::Global;
 use std::sync::ledger::Ledger;
 
@@ -33,17 +33,20 @@ impl Plan {
 }
 
 /// A source over a slice, `rest`: at most `each` bytes a call, which is more than 0. It fails by
-/// plan.
+/// plan, and keeps how far it was read.
 #[derive(Drop)]
 pub struct FromSlice<'a> {
     pub rest: &'a [u8],
     pub each: usize,
     pub plan: Plan,
+    pub progress: Progress,
     ghost some: { 0 < each },
 }
 
 impl Source for FromSlice<'_> {
     ghost to_come = { λ s. Some s.rest.now };
+
+    ghost progress = { λ s. Some s.progress };
 
     ghost failures = { λ s. failures_of s.plan };
 
@@ -51,12 +54,14 @@ impl Source for FromSlice<'_> {
         let (fails, plan) = self.plan.next();
         self.plan = plan;
         if fails {
+            self.progress = self.progress.after(Err(Failed), buf.len());
             return Err(Failed);
         }
         let count = self.rest.len().min(buf.len()).min(self.each);
         let (front, rest) = self.rest.split_at(count);
         write_front(buf, front);
         self.rest = rest;
+        self.progress = self.progress.after(Ok(count), buf.len());
         Ok(count)
     }
 }

@@ -7,6 +7,7 @@ ghost use Rattle.std.specs.Cmp.Lexicographic.{pointwise, slice_cmp, nat_list_eq_
 ghost use Rattle.std.specs.Cmp.Lexicographic.{texts_po};
 ghost use Rattle.std.specs.Cmp.Rules.{hashing};
 ghost use Rattle.std.specs.List.{list_all};
+ghost use Rattle.sc_values.specs.Limits.{name_limit};
 ghost use Rattle.sc_values.specs.Name.{is_letter, is_digit, is_name, padded};
 
 use crate::limits::NAME_LIMIT;
@@ -28,13 +29,14 @@ impl Model for Name {
     ghost use Rattle.std.specs.Prelude.{◌≡◌, ℕ, ◌≤◌, List, length, take, IsTrue};
     ghost use Rattle.std.proofs.Common.{sym, arith};
     ghost use Rattle.std.proofs.lemmas.List.{length-take-le};
+    ghost use Rattle.sc_values.specs.Limits.{name_limit};
     ghost use Rattle.sc_values.specs.Name.{is_name, padded};
 
     ghost Value = { List ℕ };
 
     ghost view = { λ n. take n.len n.bytes };
 
-    ghost invariant = { λ n. (n.len ≤ 64) × (length n.bytes ≡ 64) × (n.bytes ≡ padded (take n.len n.bytes))
+    ghost invariant = { λ n. (n.len ≤ name_limit) × (length n.bytes ≡ name_limit) × (n.bytes ≡ padded (take n.len n.bytes))
         × IsTrue (is_name (take n.len n.bytes)) };
 
     ghost inverse = { λ xs. record { bytes = padded xs; len = length xs } };
@@ -181,7 +183,7 @@ fn is_spelt_as_name(bytes: &[u8]) -> bool
 
 // The bytes, and behind them zeros.
 fn with_zeros(bytes: &[u8]) -> [u8; NAME_LIMIT]
-    requires { length bytes.now ≤ 64 }
+    requires { length bytes.now ≤ name_limit }
     ensures { result ≡ padded bytes.now }
 {
     let mut all = [0; NAME_LIMIT];

@@ -1,8 +1,8 @@
 //! The sources and sinks that std's readers and writers are.
 
-ghost use Rattle.std.specs.Prelude.{◌≡◌, ℕ, ◌+◌, ◌<◌};
+ghost use Rattle.std.specs.Prelude.{◌≡◌, ℕ, ◌+◌, ◌<◌, Some};
 
-use crate::streams::{Failed, Sink, Source};
+use crate::streams::{Failed, Progress, Sink, Source};
 use std::io::{Read, Write};
 use std::marker::Model;
 use std::sync::ledger::{Blank, Book, Ledger, Share};
@@ -48,28 +48,40 @@ impl<L: Ledger> Failures<L> {
 #[derive(Drop)]
 pub struct OfRead<R: Read + Drop, L: Ledger> {
     reader: R,
+    progress: Progress,
     failed: Failures<L>,
 }
 
 impl<R: Read + Drop, L: Ledger> OfRead<R, L> {
-    /// The source over this reader, with the count of its failures so far.
+    /// The source over this reader, of which no end is known, with the count of its failures so far.
     pub fn new(reader: R, failed: Failures<L>) -> OfRead<R, L>
         ensures reader { result.reader ≡ reader }
+        ensures progress { result.progress ≡ Progress.Open }
         ensures failed { result.failed ≡ failed }
     {
-        OfRead { reader, failed }
+        OfRead {
+            reader,
+            progress: Progress::Open,
+            failed,
+        }
     }
 }
 
 impl<R: Read + Drop, L: Ledger> Source for OfRead<R, L> {
     ghost to_come = { λ s. R.remaining s.reader };
 
+    ghost progress = { λ s. Some s.progress };
+
     ghost failures = { λ s. s.failed };
 
     fn read(&mut self, buf: &mut [u8]) -> Result<usize, Failed> {
         match self.reader.read(buf) {
-            Ok(count) => Ok(count),
+            Ok(count) => {
+                self.progress = self.progress.after(Ok(count), buf.len());
+                Ok(count)
+            }
             Err(_) => {
+                self.progress = self.progress.after(Err(Failed), buf.len());
                 self.failed.add();
                 Err(Failed)
             }

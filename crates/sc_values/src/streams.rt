@@ -1,15 +1,44 @@
-ghost use Rattle.std.specs.Prelude.{ℕ, List, Option, None, ◌≡◌, ◌+◌, ◌≤◌, OnOk, OnErr, length};
+ghost use Rattle.std.specs.Prelude.{ℕ, List, Option, None, ◌≡◌, ◌+◌, ◌≤◌, OnOk, OnErr, length, option_map};
 ghost use Rattle.std.specs.Io.{ReadsAtMost, WritesAtMost};
 ghost use Rattle.std.specs.Io.KnownBytes.{Appends, ReadConsumes, WriteAppends};
-ghost use Rattle.sc_values.specs.Streams.{failed_reads, failed_writes, GrowsInto};
+ghost use Rattle.sc_values.specs.Streams.{failed_reads, failed_writes, progress_after, GrowsInto};
 
 /// A read or a write failed.
 #[derive(Clone, Copy, Debug, PartialEq, Eq)]
 pub struct Failed;
 
-/// What bytes come from. Contracts may see the bytes that are to come, and see how often it failed.
+/// How far a source was read.
+#[derive(Clone, Copy, Debug, PartialEq, Eq)]
+pub enum Progress {
+    /// It has not said its end: that no byte is to come.
+    Open,
+    /// It has said its end, and was not read since.
+    Ended,
+    /// It was read after it had said its end.
+    Behind,
+}
+
+impl Progress {
+    /// How far a source was read that was read once more, into so much room, with this result.
+    pub fn after(self, read: Result<usize, Failed>, room: usize) -> Progress
+        ensures { result ≡ progress_after self read room }
+    {
+        match self {
+            Progress::Open if room > 0 && read == Ok(0) => Progress::Ended,
+            Progress::Open => Progress::Open,
+            Progress::Ended | Progress::Behind => Progress::Behind,
+        }
+    }
+}
+
+/// What bytes come from. Contracts may see the bytes that are to come and how far it was read, and see how often it
+/// failed.
 pub trait Source {
+    ghost use Rattle.sc_values.specs.declared.streams.Progress.{Progress};
+
     ghost to_come: { Self → Option (List ℕ) } = { λ _. None };
+
+    ghost progress: { Self → Option Progress } = { λ _. None };
 
     ghost failures: { Self → ℕ };
 
@@ -18,6 +47,8 @@ pub trait Source {
     fn read(&mut self, buf: &mut [u8]) -> Result<usize, Failed>
         ensures bound { ReadsAtMost result buf.new }
         ensures bytes { ReadConsumes (to_come self.old) (to_come self.new) result buf.new }
+        ensures progress { progress self.new
+            ≡ option_map (λ p. progress_after p result (length buf.new)) (progress self.old) }
         ensures count { failures self.new ≡ failures self.old + failed_reads result };
 }
 

@@ -1,4 +1,4 @@
-use Rattle.std.proofs.Common.{◌≡◌, Some, false, refl, sym, ap, ◌∙◌}
+use Rattle.std.proofs.Common.{◌≡◌, Some, refl, sym, ap, ◌∙◌}
 use Rattle.sc_values.specs.Checked.{value_over}
 use Rattle.sc_values.proofs.Evaluating.{going_begins, going_acts, going_ends, value_present, value_kind, tree_value}
 use Rattle.sc_values.proofs.evaluation.eval.Goals as goal

@@ -1,4 +1,4 @@
-use Rattle.std.proofs.Common.{◌≡◌, sym, ap, ◌∙◌, FitsSigned, rules}
+use Rattle.std.proofs.Common.{◌∙◌, FitsSigned, rules}
 use Rattle.std.specs.Int.{int_wrapping_div, w32}
 use Rattle.std.proofs.lemmas.Int.{to_z-of_z}
 use Rattle.sc_values.proofs.Division.{divided}

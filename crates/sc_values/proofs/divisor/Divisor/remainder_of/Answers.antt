@@ -1,4 +1,4 @@
-use Rattle.std.proofs.Common.{◌≡◌, sym, ap, ◌∙◌, FitsSigned, rules}
+use Rattle.std.proofs.Common.{◌∙◌, FitsSigned, rules}
 use Rattle.std.specs.Int.{w32}
 use Rattle.std.specs.Int.RustNames.{int_rem}
 use Rattle.std.proofs.lemmas.Int.{to_z-of_z}
