@@ -8,7 +8,7 @@ ghost use Rattle.abort_expansion.specs.Flags.{abandoned_name, first_name};
 
 use arrayvec::ArrayString;
 use itoa::Buffer;
-use sc_values::Name;
+use sc_values::{NAME_LIMIT, Name};
 
 fn numbered(word: &str, superstate: u32) -> Name
     requires named { IsTrue (is_name word.now) }
@@ -16,7 +16,7 @@ fn numbered(word: &str, superstate: u32) -> Name
     ensures { result ≡ numbered word.now superstate }
 {
     let mut digits = Buffer::new();
-    let mut text = ArrayString::<64>::new();
+    let mut text = ArrayString::<NAME_LIMIT>::new();
     text.push_str(word);
     text.push_str(digits.format(superstate));
     match Name::of(text.as_str()) {

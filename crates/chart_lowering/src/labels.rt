@@ -5,7 +5,7 @@ ghost use Rattle.chart_lowering.specs.Lowering.{label_name, label, goto};
 
 use arrayvec::ArrayString;
 use itoa::Buffer;
-use sc_values::Name;
+use sc_values::{NAME_LIMIT, Name};
 use scl::Statement;
 use std::alloc::AllocError;
 
@@ -14,7 +14,7 @@ pub(crate) fn label_name(number: u64) -> Name
     ensures { result ≡ label_name number }
 {
     let mut digits = Buffer::new();
-    let mut text = ArrayString::<64>::new();
+    let mut text = ArrayString::<NAME_LIMIT>::new();
     text.push_str("_L");
     text.push_str(digits.format(number));
     match Name::of(text.as_str()) {

@@ -11,17 +11,12 @@ ghost use Rattle.chart_reader.specs.Flaws.{initial_flaws, region_names, nested_f
 use crate::draft::{DraftRegion, DraftState};
 use crate::names::Names;
 use crate::transition_flaws::transition_flaws;
+use core_charts::{REGION_LIMIT, STATE_LIMIT};
 use draft_parts::{Flaw, Scope, is_full, note_if};
 use sc_text::Broken;
 use sc_values::Name;
 use sqlite_items::Items;
 use std::alloc::{AllocError, Global};
-
-/// How many regions a superstate may have.
-const REGION_LIMIT: usize = 63;
-
-/// How many states a region may have.
-const STATE_LIMIT: usize = 256;
 
 /// Notes the flaws of the regions of one superstate, which nest so many levels deep at most. Err: memory was
 /// refused.

@@ -8,17 +8,11 @@ ghost use Rattle.chart_reader.specs.Flaws.{effect_flaws, trigger_flaws, kind_fla
 
 use crate::draft::{DraftEffect, DraftTransition};
 use crate::names::Names;
-use core_charts::TransitionKind;
+use core_charts::{EFFECT_LIMIT, TRANSITION_LIMIT, TransitionKind};
 use draft_parts::{Flaw, Scope, is_full, note_if};
 use sc_text::Broken;
 use sc_values::Kind;
 use std::alloc::{AllocError, Global};
-
-/// How many effects a transition may have.
-const EFFECT_LIMIT: usize = 16;
-
-/// How many transitions a state may have.
-const TRANSITION_LIMIT: usize = 64;
 
 /// Notes the flaws of the transitions of a state, a superstate or a simple one, of a region with these states. Err:
 /// memory was refused.

@@ -4,10 +4,23 @@ ghost use Rattle.std.specs.Prelude.{◌≡◌};
 ghost use Rattle.core_charts.specs.Rules.{language, region_limit, state_limit, transition_limit, effect_limit, allows};
 
 use crate::region::TransitionKind;
+use sc_graph::CHILD_LIMIT;
 use sc_text::Language;
 
 /// How deep regions nest; a region of the chart is 1 deep.
 pub const DEPTH_LIMIT: u8 = 32;
+
+/// The regions of a superstate that texts spell.
+pub const REGION_LIMIT: usize = CHILD_LIMIT - 1;
+
+/// The states of a region that texts spell.
+pub const STATE_LIMIT: usize = 256;
+
+/// The transitions of a state that texts spell.
+pub const TRANSITION_LIMIT: usize = 64;
+
+/// The effects of a transition that texts spell.
+pub const EFFECT_LIMIT: usize = 16;
 
 /// What charts may have.
 #[derive(Clone, Copy, Debug, PartialEq, Eq)]
@@ -34,8 +47,8 @@ impl Features {
         ensures { result ≡ region_limit self }
     {
         match self {
-            Features::Extended => 63,
-            Features::Core => 64,
+            Features::Extended => REGION_LIMIT,
+            Features::Core => CHILD_LIMIT,
         }
     }
 
@@ -44,7 +57,7 @@ impl Features {
         ensures { result ≡ state_limit self }
     {
         match self {
-            Features::Extended => Some(256),
+            Features::Extended => Some(STATE_LIMIT),
             Features::Core => None,
         }
     }
@@ -54,7 +67,7 @@ impl Features {
         ensures { result ≡ transition_limit self }
     {
         match self {
-            Features::Extended => Some(64),
+            Features::Extended => Some(TRANSITION_LIMIT),
             Features::Core => None,
         }
     }
@@ -64,7 +77,7 @@ impl Features {
         ensures { result ≡ effect_limit self }
     {
         match self {
-            Features::Extended => Some(16),
+            Features::Extended => Some(EFFECT_LIMIT),
             Features::Core => None,
         }
     }

@@ -27,7 +27,9 @@ pub use chart::{Chart, CoreChart};
 pub use copies::copied_variables;
 pub use deed::{Deed, Write};
 pub use evaluating::value_of;
-pub use features::{DEPTH_LIMIT, Features};
+pub use features::{
+    DEPTH_LIMIT, EFFECT_LIMIT, Features, REGION_LIMIT, STATE_LIMIT, TRANSITION_LIMIT,
+};
 pub use region::{Effect, Region, State, Transition, TransitionKind};
 pub use running::Ran;
 pub use standing::{Configuration, Move, Standing};

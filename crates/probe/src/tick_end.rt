@@ -2,15 +2,13 @@ ghost use Rattle.std.specs.Prelude.{◌≡◌, ◌≤◌, ◌<◌, ◌++◌, ◌
 ghost use Rattle.std.specs.Ordering.{nat_cmp};
 ghost use Rattle.std.specs.Cmp.Lexicographic.{slice_cmp};
 ghost use Rattle.std.specs.List.Sorted.{IsPermutation, IsSortedByKey};
+ghost use Rattle.sc_graph.specs.Limits.{output_limit};
 ghost use Rattle.probe.specs.Outputs.{outputs_among, IsRowOf};
 
-use sc_graph::{Control, Role, Variable};
+use sc_graph::{Control, OUTPUT_LIMIT, Role, Variable};
 use sc_values::{Name, Value};
 use std::marker::Model;
 use verifier::Verified;
-
-/// The most outputs that a program has.
-const OUTPUT_LIMIT: usize = 64;
 
 /// An output: its name and its value.
 #[derive(Clone, Copy, Debug, PartialEq, Eq)]
@@ -39,13 +37,14 @@ pub struct TickEnd {
 
 impl Model for TickEnd {
     ghost use Rattle.std.specs.Prelude.{◌≡◌, ◌≤◌, length, take};
+    ghost use Rattle.sc_graph.specs.Limits.{output_limit};
     ghost use Rattle.probe.specs.Outputs.{Outputs};
 
     ghost Value = { Outputs };
 
     ghost view = { λ e. take e.len e.row };
 
-    ghost invariant = { λ e. (e.len ≤ 64) × (length e.row ≡ 64) };
+    ghost invariant = { λ e. (e.len ≤ output_limit) × (length e.row ≡ output_limit) };
 }
 
 impl TickEnd {
@@ -62,7 +61,7 @@ impl TickEnd {
     /// The outputs, in byte order of their names.
     pub fn outputs(&self) -> &[Output]
         ensures value { result.now ≡ self.now }
-        ensures few { length self.now ≤ 64 }
+        ensures few { length self.now ≤ output_limit }
     {
         &self.row[..self.len]
     }
@@ -87,7 +86,7 @@ impl TickEnd {
 
     // It becomes these outputs.
     fn fill(&mut self, outputs: &[Output])
-        requires { length outputs.now ≤ 64 }
+        requires { length outputs.now ≤ output_limit }
         ensures { self.new ≡ outputs.now }
     {
         write_front(&mut self.row, outputs);
@@ -95,7 +94,7 @@ impl TickEnd {
     }
 
     fn push(&mut self, output: Output)
-        requires { length self.old < 64 }
+        requires { length self.old < output_limit }
         ensures { self.new ≡ self.old ++ output ∷ [] }
     {
         self.row[self.len] = output;
@@ -104,7 +103,7 @@ impl TickEnd {
 
     // The outputs among variables, with their values, in order of declaration.
     fn declared(variables: &[Variable], values: &[Value]) -> TickEnd
-        requires { length (outputs_among variables.now values.now) ≤ 64 }
+        requires { length (outputs_among variables.now values.now) ≤ output_limit }
         ensures { result ≡ outputs_among variables.now values.now }
     {
         let mut end = TickEnd::empty();

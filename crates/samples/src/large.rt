@@ -1,5 +1,6 @@
 //! Images of programs as long or as wide as is asked.
 ghost use Rattle.std.specs.Prelude.{◌<◌, ◌≤◌};
+ghost use Rattle.sc_graph.specs.Limits.{child_limit, node_limit};
 
 use crate::making::image_of;
 use crate::rows::{Row, Small, X, ends, thread_of};
@@ -11,7 +12,7 @@ use std::test::Fail;
 
 /// `x = 1;` so many times.
 pub fn assignments(alloc: Global, count: u16) -> Result<Image, Fail>
-    requires { count < 16384 }
+    requires { count < node_limit }
 {
     let mut rows = Vec::new(alloc);
     for node in 0..count {
@@ -45,7 +46,7 @@ fn step_of(work: Work, is_last: bool, next: NodeId) -> Small {
 
 // A fork of so many branches of one step.
 fn forked(alloc: Global, count: u16, work: Work) -> Result<Image, Fail>
-    requires { count ≤ 64 }
+    requires { count ≤ child_limit }
 {
     let mut branches = Vec::new(alloc);
     let mut rows = Vec::new(alloc);
@@ -65,7 +66,7 @@ fn forked(alloc: Global, count: u16, work: Work) -> Result<Image, Fail>
 
 /// A fork of so many branches `x = x + 1;`.
 pub fn branches(alloc: Global, count: u16) -> Result<Image, Fail>
-    requires { count ≤ 64 }
+    requires { count ≤ child_limit }
 {
     forked(alloc, count, Work::Raise)
 }
@@ -73,7 +74,7 @@ pub fn branches(alloc: Global, count: u16) -> Result<Image, Fail>
 /// A fork of so many branches `x = 1;`, of which the last is `x = last;`. Another number than 1 makes
 /// it not valid.
 pub fn inits(alloc: Global, count: u16, last: i32) -> Result<Image, Fail>
-    requires { count ≤ 64 }
+    requires { count ≤ child_limit }
 {
     forked(alloc, count, Work::Put(last))
 }
@@ -112,7 +113,7 @@ fn push_forking(
     children: (ThreadId, ThreadId),
     weight: u16,
 ) -> Result<(), Fail>
-    requires { entry < 16384 }
+    requires { entry < node_limit }
 {
     rows.push(ends(
         owner,
