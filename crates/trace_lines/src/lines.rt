@@ -3,6 +3,7 @@ ghost use Rattle.std.specs.Prelude.{IfOk, OnOk, OnErr, IfSome, IfNone, IsErrOf, 
 ghost use Rattle.std.specs.Bool.{OnFalse};
 ghost use Rattle.trace_lines.specs.declared.lines.LinesFault.TheVariants.{Memory, Read};
 ghost use Rattle.std.specs.Io.KnownBytes.{Consumes, IsAtEnd};
+ghost use Rattle.sc_values.specs.Streams.{StaysOpen, IsNotReadBehind};
 ghost use Rattle.trace_lines.specs.Lines.{line_limit, is_feed, has_feed, first_line, after_line, ahead};
 ghost use Rattle.trace_lines.specs.Lines.{TakesLine, IsTooLong};
 
@@ -111,6 +112,9 @@ impl Lines {
         ensures none_failed { OnOk result (R.failures source.new ≡ R.failures source.old) }
         ensures failed { OnErr result (R.failures source.new ≡ R.failures source.old + 1) }
         ensures end { IfOk result (λ more. OnFalse more (IsAtEnd (R.to_come source.new))) }
+        ensures going { IfOk result (λ more. IsTrue more
+            → StaysOpen (R.progress source.old) (R.progress source.new)) }
+        ensures not_behind { IsNotReadBehind (R.progress source.old) (R.progress source.new) }
     {
         let read = source.read(&mut self.piece)?;
         self.from = 0;
@@ -138,6 +142,9 @@ impl Lines {
         ensures none_failed { result ≢ Err LinesFault.Read
             → R.failures source.new ≡ R.failures source.old }
         ensures end { IfOk result (λ next. IfNone next (IsAtEnd (ahead self.old (R.to_come source.old)))) }
+        ensures going { IfOk result (λ next. next ≡ Some LineEnd.Feed
+            → StaysOpen (R.progress source.old) (R.progress source.new)) }
+        ensures not_behind { IsNotReadBehind (R.progress source.old) (R.progress source.new) }
         ensures too_long { IsErrOf result LinesFault.TooLong
             → IsTooLong (ahead self.old (R.to_come source.old)) }
     {

@@ -29,6 +29,7 @@ loop-is_whole-preserved g c =
       taken = reads start before (g.R.Source.to_come c.refill.new.source) line c.refill.new.self c.in_ok-refill.ensures.bytes moved;
       no_feed = moved_no_feed c.loop-is_whole.line.items c.loop-is_whole.self line c.loop-is_whole.invariant.no_feed c.in_ok-is_whole.ensures.line;
       none_failed = c.in_ok-refill.ensures.none_failed ∙ c.loop-is_whole.invariant.none_failed;
+      going = λ e. c.in_ok-refill.ensures.going c.if-not-branch.false (c.loop-is_whole.invariant.going e);
     }
 
 pub returns-then-not-branch-clause-line : goal.returns-then-not-branch-clause-line
