@@ -3,7 +3,7 @@
 ghost use Rattle.std.specs.Prelude.{◌≡◌, ◌<◌, ◌≤◌, IfOk};
 
 use sc_values::{
-    Failed, Failures, FromSlice, OfRead, OfWrite, Plan, Sink, Source, ToVec, write_all,
+    Failed, Failures, FromSlice, OfRead, OfWrite, Plan, Progress, Sink, Source, ToVec, write_all,
 };
 use std::alloc::Global;
 use std::io::{self, Read, Write};
@@ -180,11 +180,17 @@ fn a_slice_fails_as_planned(rt: HostRuntime) {
         rest: b"abc",
         each: 2,
         plan: Plan::After(1),
+        progress: Progress::Open,
     };
     let mut buf = [0; 8];
     assert_eq!(rt; source.read(&mut buf), Ok(2));
     assert_eq!(rt; source.read(&mut buf), Err(Failed));
     assert_eq!(rt; source.read(&mut buf), Ok(1));
     assert_eq!(rt; buf[0], b'c');
+    assert_eq!(rt; source.read(&mut buf[..0]), Ok(0));
+    assert_eq!(rt; source.progress, Progress::Open);
     assert_eq!(rt; source.read(&mut buf), Ok(0));
+    assert_eq!(rt; source.progress, Progress::Ended);
+    assert_eq!(rt; source.read(&mut buf), Ok(0));
+    assert_eq!(rt; source.progress, Progress::Behind);
 }

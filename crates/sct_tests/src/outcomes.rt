@@ -1,7 +1,7 @@
 // The program over files, an input, an output and one for errors in memory.
 ghost use Rattle.std.specs.Prelude.{◌≡◌, ◌<◌};
 
-use sc_values::{Failures, FromSlice, Plan, Sink, ToVec};
+use sc_values::{Failures, FromSlice, Plan, Progress, Sink, ToVec};
 use sct_command::{FileFault, Files, command};
 use std::alloc::{AllocError, Global};
 use std::marker::Brand;
@@ -175,6 +175,7 @@ pub(crate) fn leaves(
         rest: input,
         each: 3,
         plan: Plan::Never,
+        progress: Progress::Open,
     };
     leaves_by(rt, words, image, source, 10, Plan::Never, wanted)
 }

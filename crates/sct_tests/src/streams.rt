@@ -3,7 +3,7 @@ ghost use Rattle.std.specs.Prelude.{◌≡◌, ◌<◌};
 
 use crate::images::{COUNTER, ONE_EXIT, TWO_THREADS};
 use crate::outcomes::{CHECK, RUN, Wanted, done_over, leaves_by};
-use sc_values::{Failed, Failures, FromSlice, Plan, Sink};
+use sc_values::{Failed, Failures, FromSlice, Plan, Progress, Sink};
 use std::alloc::{AllocError, Global};
 use std::marker::Brand;
 use std::process::Abort;
@@ -39,6 +39,7 @@ fn whole<'a>(rest: &'a [u8]) -> FromSlice<'a> {
         rest,
         each: 5000,
         plan: Plan::Never,
+        progress: Progress::Open,
     }
 }
 
@@ -134,6 +135,7 @@ fn cuts_lines(rt: HostRuntime) -> Result<(), Fail> {
         rest: b"{}\n{}\n",
         each: 1,
         plan: Plan::Never,
+        progress: Progress::Open,
     };
     let wanted = Wanted {
         status: 0,
@@ -158,6 +160,7 @@ fn tells_each_failing_read(rt: HostRuntime) -> Result<(), Fail> {
             rest: b"{}\n{}",
             each: 2,
             plan: Plan::After(reads),
+            progress: Progress::Open,
         };
         assert!(rt; runs(&rt, source, status, output, errors)?);
     }
@@ -201,6 +204,7 @@ fn tells_failing_answers(rt: HostRuntime) -> Result<(), Fail> {
         rest: b"[]",
         each: 1,
         plan,
+        progress: Progress::Open,
     };
     let wanted = Wanted {
         status: 1,

@@ -1,7 +1,7 @@
 // Words that ask for help, and those that ask for nothing.
 use crate::images::TWO_THREADS;
 use crate::outcomes::{Wanted, leaves, outcome};
-use sc_values::{FromSlice, Plan};
+use sc_values::{FromSlice, Plan, Progress};
 use std::alloc::{AllocError, Global};
 use std::process::Abort;
 use std::sync::Wait;
@@ -17,6 +17,7 @@ fn is_misuse(
         rest: b"",
         each: 3,
         plan: Plan::Never,
+        progress: Progress::Open,
     };
     let left = outcome(rt, words, &TWO_THREADS, nothing, 10, Plan::Never)?;
     Ok(left.status == 2 && left.output.is_empty() && !left.errors.is_empty())

@@ -31,7 +31,8 @@ where
     ensures came { CameTo J.image (P.to_come ports.old) (P.taken ports.old) (P.taken ports.new)
         (P.published ports.old) (P.published ports.new)
         (P.failed_reads ports.old) (P.failed_reads ports.new)
-        (P.failed_writes ports.old) (P.failed_writes ports.new) result }
+        (P.failed_writes ports.old) (P.failed_writes ports.new)
+        (P.progress ports.old) (P.progress ports.new) result }
     ensures same { P.names ports.new ≡ P.names ports.old }
 {
     let (hall, passes) = Hall::<'x, J, G>::open(alloc, verified, gate)?;
@@ -71,7 +72,8 @@ where
     ensures came { CameTo J.image (P.to_come ports.entry.now) (P.taken ports.entry.now) (P.taken result.1.now)
         (P.published ports.entry.now) (P.published result.1.now)
         (P.failed_reads ports.entry.now) (P.failed_reads result.1.now)
-        (P.failed_writes ports.entry.now) (P.failed_writes result.1.now) result.0 }
+        (P.failed_writes ports.entry.now) (P.failed_writes result.1.now)
+        (P.progress ports.entry.now) (P.progress result.1.now) result.0 }
     ensures same { P.names result.1.now ≡ P.names ports.entry.now }
 {
     thread::scope(
@@ -82,7 +84,8 @@ where
             ensures came { CameTo J.image (P.to_come ports.entry.now) (P.taken ports.entry.now) (P.taken result.1.now)
                 (P.published ports.entry.now) (P.published result.1.now)
                 (P.failed_reads ports.entry.now) (P.failed_reads result.1.now)
-                (P.failed_writes ports.entry.now) (P.failed_writes result.1.now) result.0 }
+                (P.failed_writes ports.entry.now) (P.failed_writes result.1.now)
+                (P.progress ports.entry.now) (P.progress result.1.now) result.0 }
             ensures same { P.names result.1.now ≡ P.names ports.entry.now }
         {
             let result = meet_in(rt, scope, party, ports);
@@ -105,7 +108,8 @@ where
     ensures came { CameTo J.image (P.to_come ports.old) (P.taken ports.old) (P.taken ports.new)
         (P.published ports.old) (P.published ports.new)
         (P.failed_reads ports.old) (P.failed_reads ports.new)
-        (P.failed_writes ports.old) (P.failed_writes ports.new) result }
+        (P.failed_writes ports.old) (P.failed_writes ports.new)
+        (P.progress ports.old) (P.progress ports.new) result }
     ensures same { P.names ports.new ≡ P.names ports.old }
 {
     let Party {

@@ -1,5 +1,6 @@
 ghost use Rattle.std.specs.Prelude.{◌≡◌, ◌≢◌, ◌+◌, ◌≤◌, min, ℕ, List, length};
 ghost use Rattle.std.specs.Prelude.{Some, IfOk, IfErr, IsErrOf};
+ghost use Rattle.sc_values.specs.Streams.{IsNotReadBehind};
 ghost use Rattle.trace_player.specs.declared.player.PlayFault.TheVariants.{Memory};
 ghost use Rattle.trace_player.specs.Trace.{Plays, Leaves, Good, greatest};
 ghost use Rattle.trace_player.specs.Published.{PlaysAllTo, LeavesTo};
@@ -64,6 +65,7 @@ pub fn play<'x, R: Threads + Wait + Sync, S: Source, W: Sink, G: Gate + Sync>(
         → S.failures source.new ≡ S.failures source.old + 1 }
     ensures not_read { result ≢ Err PlayFault.Read
         → S.failures source.new ≡ S.failures source.old }
+    ensures end { IsNotReadBehind (S.progress source.old) (S.progress source.new) }
     ensures write { IsErrOf result PlayFault.Write
         → W.failures sink.new ≡ W.failures sink.old + 1 }
     ensures not_write { result ≢ Err PlayFault.Write
@@ -95,6 +97,7 @@ pub fn play_to<'x, R: Threads + Wait + Sync, S: Source, W: Sink, G: Gate + Sync>
         → S.failures source.new ≡ S.failures source.old + 1 }
     ensures not_read { result ≢ Err PlayFault.Read
         → S.failures source.new ≡ S.failures source.old }
+    ensures end { IsNotReadBehind (S.progress source.old) (S.progress source.new) }
     ensures write { IsErrOf result PlayFault.Write
         → W.failures sink.new ≡ W.failures sink.old + 1 }
     ensures not_write { result ≢ Err PlayFault.Write

@@ -2,7 +2,7 @@ ghost use Rattle.std.specs.Prelude.{◌≡◌, ◌≢◌, ◌+◌, ◌≤◌, �
 ghost use Rattle.std.specs.Prelude.{IfOk, IfSome, IfNone, IsErrOf, OnOk, OnErr};
 ghost use Rattle.std.specs.Io.KnownBytes.{Appends, IsAtEnd};
 ghost use Rattle.logbook.specs.Pages.{Book};
-ghost use Rattle.sc_values.specs.Streams.{GrowsInto};
+ghost use Rattle.sc_values.specs.Streams.{GrowsInto, StaysOpen, IsNotReadBehind};
 ghost use Rattle.probe.specs.Outputs.{Outputs};
 ghost use Rattle.trace_lines.specs.Lines.{line_limit, ahead, TakesLine, IsTooLong};
 ghost use Rattle.trace_player.specs.Inside.Playing.{Gains};
@@ -16,14 +16,18 @@ use trace_lines::{LineEnd, Lines, LinesFault};
 use verifier::Verified;
 
 /// Where the lines of a trace come from, where its lines of output go, and where the ends of its ticks are published,
-/// if they are. Contracts see which these are, the bytes that are to come and that were taken, how often each failed,
-/// and the rows that were published.
+/// if they are. Contracts see which these are, the bytes that are to come and that were taken, how far the source was
+/// read, how often each failed, and the rows that were published.
 pub(crate) trait Ports {
+    ghost use Rattle.sc_values.specs.declared.streams.Progress.{Progress};
+
     ghost names: { Self → ℕ × ℕ × ℕ × Option Book };
 
     ghost to_come: { Self → Option (List ℕ) };
 
     ghost taken: { Self → Option (List ℕ) };
+
+    ghost progress: { Self → Option Progress };
 
     ghost failed_reads: { Self → ℕ };
 
@@ -45,6 +49,9 @@ pub(crate) trait Ports {
         ensures end { IfOk result (λ next. IfNone next (IsAtEnd (ahead lines.old (to_come self.old)))) }
         ensures too_long { IsErrOf result LinesFault.TooLong
             → IsTooLong (ahead lines.old (to_come self.old)) }
+        ensures going { IfOk result (λ next. next ≡ Some LineEnd.Feed
+            → StaysOpen (progress self.old) (progress self.new)) }
+        ensures not_behind { IsNotReadBehind (progress self.old) (progress self.new) }
         ensures taken { taken self.new ≡ taken self.old }
         ensures no_write { failed_writes self.new ≡ failed_writes self.old }
         ensures published { published self.new ≡ published self.old }
@@ -63,6 +70,7 @@ pub(crate) trait Ports {
         ensures none { OnErr result (published self.new ≡ published self.old) }
         ensures to_come { to_come self.new ≡ to_come self.old }
         ensures taken { taken self.new ≡ taken self.old }
+        ensures progress { progress self.new ≡ progress self.old }
         ensures no_read { failed_reads self.new ≡ failed_reads self.old }
         ensures no_write { failed_writes self.new ≡ failed_writes self.old }
         ensures same { names self.new ≡ names self.old };
@@ -74,6 +82,7 @@ pub(crate) trait Ports {
         ensures some { GrowsInto (taken self.old) (taken self.new) shown.now }
         ensures failed { result ≡ false → failed_writes self.new ≡ failed_writes self.old + 1 }
         ensures to_come { to_come self.new ≡ to_come self.old }
+        ensures progress { progress self.new ≡ progress self.old }
         ensures no_read { failed_reads self.new ≡ failed_reads self.old }
         ensures published { published self.new ≡ published self.old }
         ensures same { names self.new ≡ names self.old };
@@ -94,6 +103,8 @@ impl<'a, 'b, S: Source, W: Sink> Ports for Streams<'a, 'b, S, W> {
     ghost to_come = { λ s. S.to_come s.source.now };
 
     ghost taken = { λ s. W.taken s.sink.now };
+
+    ghost progress = { λ s. S.progress s.source.now };
 
     ghost failed_reads = { λ s. S.failures s.source.now };
 
@@ -147,6 +158,8 @@ impl<'a, 'b, 'c, S: Source, W: Sink> Ports for Watched<'a, 'b, 'c, S, W> {
     ghost to_come = { λ s. S.to_come s.source.now };
 
     ghost taken = { λ s. W.taken s.sink.now };
+
+    ghost progress = { λ s. S.progress s.source.now };
 
     ghost failed_reads = { λ s. S.failures s.source.now };
 

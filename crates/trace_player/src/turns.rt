@@ -50,7 +50,8 @@ where
     ensures came { CameTo J.image (P.to_come ports.old) (P.taken ports.old) (P.taken ports.new)
         (P.published ports.old) (P.published ports.new)
         (P.failed_reads ports.old) (P.failed_reads ports.new)
-        (P.failed_writes ports.old) (P.failed_writes ports.new) result }
+        (P.failed_writes ports.old) (P.failed_writes ports.new)
+        (P.progress ports.old) (P.progress ports.new) result }
     ensures same { P.names ports.new ≡ P.names ports.old }
 {
     let mut shift = shift;
@@ -72,7 +73,8 @@ where
     ensures came { CameTo J.image (P.to_come ports.old) (P.taken ports.old) (P.taken ports.new)
         (P.published ports.old) (P.published ports.new)
         (P.failed_reads ports.old) (P.failed_reads ports.new)
-        (P.failed_writes ports.old) (P.failed_writes ports.new) result }
+        (P.failed_writes ports.old) (P.failed_writes ports.new)
+        (P.progress ports.old) (P.progress ports.new) result }
     ensures same { P.names ports.new ≡ P.names ports.old }
 {
     let program = shift.verified.image().program();
@@ -105,7 +107,8 @@ where
     ensures came { CameTo J.image (P.to_come ports.old) (P.taken ports.old) (P.taken ports.new)
         (P.published ports.old) (P.published ports.new)
         (P.failed_reads ports.old) (P.failed_reads ports.new)
-        (P.failed_writes ports.old) (P.failed_writes ports.new) result }
+        (P.failed_writes ports.old) (P.failed_writes ports.new)
+        (P.progress ports.old) (P.progress ports.new) result }
     ensures same { P.names ports.new ≡ P.names ports.old }
 {
     let mut room = room;

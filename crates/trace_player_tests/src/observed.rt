@@ -5,7 +5,7 @@ use crate::abro::ABRO;
 use bytecode::decode;
 use probe::{NoSeat, Observer, Output, Publisher};
 use sc_graph::ThreadId;
-use sc_values::{Failures, FromSlice, Plan, ToVec, Value};
+use sc_values::{Failures, FromSlice, Plan, Progress, ToVec, Value};
 use std::alloc::Global;
 use std::marker::Brand;
 use std::sync::Wait;
@@ -54,6 +54,7 @@ fn plays<R: Threads + Wait + Sync, L: Ledger>(
         rest: wanted.input.as_bytes(),
         each: 3,
         plan: wanted.reads,
+        progress: Progress::Open,
     };
     let mut sink: ToVec<L> = ToVec::new(alloc, 10, wanted.writes, Failures::none(written));
     let end = play_to(
@@ -66,7 +67,9 @@ fn plays<R: Threads + Wait + Sync, L: Ledger>(
         &Shares,
         publisher,
     );
-    end == wanted.end && sink.bytes.as_slice() == wanted.trace
+    end == wanted.end
+        && sink.bytes.as_slice() == wanted.trace
+        && source.progress != Progress::Behind
 }
 
 // Whether these outputs are O alone, with this value.

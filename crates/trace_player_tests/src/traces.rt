@@ -3,7 +3,7 @@ ghost use Rattle.std.specs.Prelude.{◌≡◌, ◌<◌, ◌≤◌};
 
 use crate::abro::ABRO;
 use bytecode::decode;
-use sc_values::{Failures, FromSlice, Plan, ToVec};
+use sc_values::{Failures, FromSlice, Plan, Progress, ToVec};
 use std::alloc::Global;
 use std::marker::Brand;
 use std::sync::Wait;
@@ -39,10 +39,13 @@ pub(crate) fn plays<'x, R: Threads + Wait + Sync, G: Gate + Sync, L: Ledger>(
         rest: wanted.input,
         each: 3,
         plan: Plan::Never,
+        progress: Progress::Open,
     };
     let mut sink: ToVec<L> = ToVec::new(alloc, 10, Plan::Never, Failures::none(written));
     let end = play(rt, alloc, image, &mut source, &mut sink, workers, gate);
-    end == wanted.end && sink.bytes.as_slice() == wanted.trace.as_bytes()
+    end == wanted.end
+        && sink.bytes.as_slice() == wanted.trace.as_bytes()
+        && source.progress != Progress::Behind
 }
 
 // Fails where this is not written of an input, or it ends otherwise, with any number of workers.

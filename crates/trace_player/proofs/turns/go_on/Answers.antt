@@ -10,7 +10,7 @@ use Rattle.trace_player.specs.Published.{LeavesTo}
 use Rattle.bytecode.specs.Image.{Image}
 use Rattle.trace_player.specs.Inside.Faults.{Tells, unread}
 use Rattle.trace_player.specs.Inside.Playing.{Gains}
-use Rattle.trace_player.proofs.Coming.{came_well, came_off, came_short, came_cut}
+use Rattle.trace_player.proofs.Coming.{came_well, came_off, came_short, came_cut, feed_of, open_not_behind}
 use Rattle.trace_player.proofs.Playing.{Played, none_played, one_played, all_played, stopped, stopped_reading, stopped_reacting, stopped_writing, one_fault, unread_read, unread_no_write, tells_no_read, tells_no_write}
 use Rattle.trace_player.proofs.turns.go_on.Goals as goal
 
@@ -23,6 +23,7 @@ loop-turn-init g c = record {
   room = c.requires.room;
   none_read = refl;
   none_write = refl;
+  going = λ e. e;
   same = refl;
 }
 
@@ -35,10 +36,11 @@ returns-in-Ok-None-clause-came g c =
     let now = ahead l.lines (g.P.Ports.to_come l.ports) in
     let ended : IsAtEnd now = rw c.in-Ok-None.field-0-is at c.in-Ok-None.ensures.end in
     let reads : g.P.Ports.failed_reads c.next.new.self ≡ g.P.Ports.failed_reads l.ports = search rules in
-    came_well g.J.Picture.image start old (g.P.Ports.taken c.next.new.self) rows (g.P.Ports.published c.next.new.self) _ _ _ _ l.number
+    came_well g.J.Picture.image start old (g.P.Ports.taken c.next.new.self) rows (g.P.Ports.published c.next.new.self) _ _ _ _ _ _ l.number
     (rw (c.next.ensures.taken, c.next.ensures.published)
     (all_played g.J.Picture.image start now l.number l.control old (g.P.Ports.taken l.ports) rows (g.P.Ports.published l.ports) l.invariant.played ended))
     (reads ∙ l.invariant.none_read) (c.next.ensures.no_write ∙ l.invariant.none_write)
+    (λ e. c.next.ensures.not_behind (l.invariant.going e))
 
 pub returns-in-Err-clause-came : goal.returns-in-Err-clause-came
 returns-in-Err-clause-came g c =
@@ -52,7 +54,7 @@ returns-in-Err-clause-came g c =
     let left : LeavesTo i start old (g.P.Ports.taken c.next.new.self) rows (g.P.Ports.published c.next.new.self) c.unread_line.result =
     rw (c.unread_line.ensures, c.next_number-next.ensures, c.next.ensures.taken, c.next.ensures.published)
     (stopped_reading i start now l.number l.control old (g.P.Ports.taken l.ports) rows (g.P.Ports.published l.ports) c.in-Err.fault l.invariant.played long) in
-    came_off i start old (g.P.Ports.taken c.next.new.self) rows (g.P.Ports.published c.next.new.self) _ _ _ _ c.unread_line.result left
+    came_off i start old (g.P.Ports.taken c.next.new.self) rows (g.P.Ports.published c.next.new.self) _ _ _ _ _ _ c.unread_line.result left
     (λ is.
     let read = unread_read c.in-Err.fault _ (sym c.unread_line.ensures ∙ is) in
     c.in-Err.ensures.failed (ap Err read) ∙ ap (λ n. n + 1) l.invariant.none_read)
@@ -63,6 +65,7 @@ returns-in-Err-clause-came g c =
     ∙ l.invariant.none_read)
     (λ is. absurd (unread_no_write c.in-Err.fault _ (sym c.unread_line.ensures ∙ is)))
     (λ _. c.next.ensures.no_write ∙ l.invariant.none_write)
+    (λ e. c.next.ensures.not_behind (l.invariant.going e))
 
 pub returns-in_err-after-clause-came : goal.returns-in_err-after-clause-came
 returns-in_err-after-clause-came g c =
@@ -85,11 +88,12 @@ returns-in_err-after-clause-came g c =
     rw (c.next.ensures.taken, c.next.ensures.published)
     (stopped_reacting i start now now' l.number l.control old (g.P.Ports.taken l.ports) rows (g.P.Ports.published l.ports) line fault l.invariant.played takes tells) in
     rw (exit.1, exit.2)
-    (came_off i start old (g.P.Ports.taken c.next.new.self) rows (g.P.Ports.published c.next.new.self) _ _ _ _ fault left
+    (came_off i start old (g.P.Ports.taken c.next.new.self) rows (g.P.Ports.published c.next.new.self) _ _ _ _ _ _ fault left
     (λ is. absurd (tells_no_read i.program (next_number l.number) line fault tells is))
     (λ _. reads ∙ l.invariant.none_read)
     (λ is. absurd (tells_no_write i.program (next_number l.number) line fault tells is))
-    (λ _. c.next.ensures.no_write ∙ l.invariant.none_write))
+    (λ _. c.next.ensures.no_write ∙ l.invariant.none_write)
+    (λ e. c.next.ensures.not_behind (l.invariant.going e)))
 
 pub returns-in_err-publish-clause-came : goal.returns-in_err-publish-clause-came
 returns-in_err-publish-clause-came g c =
@@ -103,11 +107,12 @@ returns-in_err-publish-clause-came g c =
     let reads : g.P.Ports.failed_reads c.next.new.self ≡ g.P.Ports.failed_reads l.ports = search rules in
     let exit = err_from_is_err_and c.from_residual-in_err-publish.result c.from_residual-in_err-publish.ensures.1 in
     rw (exit.1, exit.2)
-    (came_short i start old (g.P.Ports.taken c.publish.new.self) rows (g.P.Ports.published c.publish.new.self) _ _ _ _
+    (came_short i start old (g.P.Ports.taken c.publish.new.self) rows (g.P.Ports.published c.publish.new.self) _ _ _ _ _ _
     (rw (c.publish.ensures.taken ∙ c.next.ensures.taken, none ∙ c.next.ensures.published)
     (stopped i start now l.number l.control old (g.P.Ports.taken l.ports) rows (g.P.Ports.published l.ports) l.invariant.played))
     (c.publish.ensures.no_read ∙ reads ∙ l.invariant.none_read)
-    (c.publish.ensures.no_write ∙ c.next.ensures.no_write ∙ l.invariant.none_write))
+    (c.publish.ensures.no_write ∙ c.next.ensures.no_write ∙ l.invariant.none_write)
+    (λ e b. c.next.ensures.not_behind (l.invariant.going e) (sym c.publish.ensures.progress ∙ b)))
 
 pub returns-then-not-write-clause-came : goal.returns-then-not-write-clause-came
 returns-then-not-write-clause-came g c =
@@ -139,11 +144,12 @@ returns-then-not-write-clause-came g c =
     subst (λ t. GrowsInto t taken written) before
     (subst (GrowsInto (g.P.Ports.taken c.publish.new.self) taken) given c.write.ensures.some) in
     let failed = c.write.ensures.failed c.if-not-write.true in
-    came_cut i start old taken rows (g.P.Ports.published c.write.new.self) _ _ _ _
+    came_cut i start old taken rows (g.P.Ports.published c.write.new.self) _ _ _ _ _ _
     (stopped_writing i start now now' l.number l.control after old (g.P.Ports.taken l.ports) taken rows (g.P.Ports.published l.ports) (g.P.Ports.published c.write.new.self) line written
     l.invariant.played takes shows some gains)
     (c.write.ensures.no_read ∙ c.publish.ensures.no_read ∙ reads ∙ l.invariant.none_read)
     (failed ∙ ap (λ n. n + 1) (c.publish.ensures.no_write ∙ c.next.ensures.no_write ∙ l.invariant.none_write))
+    (λ e b. c.next.ensures.not_behind (l.invariant.going e) (sym (c.write.ensures.progress ∙ c.publish.ensures.progress) ∙ b))
 
 pub returns-then-is_last-clause-came : goal.returns-then-is_last-clause-came
 returns-then-is_last-clause-came g c =
@@ -181,10 +187,11 @@ returns-then-is_last-clause-came g c =
     l.invariant.played takes shows appends gains) in
     let last : c.in-Ok-Some.end ≡ line_end.Input = c.is_last.ensures.0 c.if-is_last.true in
     let ended : IsAtEnd now' = c.in-Ok-Some.ensures.last (c.in-Ok-Some.field-0-is ∙ ap Some last) in
-    came_well i start old taken rows published _ _ _ _ next
+    came_well i start old taken rows published _ _ _ _ _ _ next
     (all_played i start now' next after old taken rows published played ended)
     (c.write.ensures.no_read ∙ c.publish.ensures.no_read ∙ reads ∙ l.invariant.none_read)
     (c.write.ensures.none_failed c.if-not-write.false ∙ c.publish.ensures.no_write ∙ c.next.ensures.no_write ∙ l.invariant.none_write)
+    (λ e b. c.next.ensures.not_behind (l.invariant.going e) (sym (c.write.ensures.progress ∙ c.publish.ensures.progress) ∙ b))
 
 pub loop-turn-preserved : goal.loop-turn-preserved
 loop-turn-preserved g c =
@@ -221,12 +228,14 @@ loop-turn-preserved g c =
     (one_played i start now now' l.number l.control after old (g.P.Ports.taken l.ports) taken rows (g.P.Ports.published l.ports) published line written
     l.invariant.played takes shows appends gains) in
     let ahead_same : ahead c.next.new.lines (g.P.Ports.to_come c.write.new.self) ≡ now' = ap (ahead c.next.new.lines) (c.write.ensures.to_come ∙ c.publish.ensures.to_come) in
+    let feed : c.in-Ok-Some.end ≡ line_end.Feed = feed_of c.in-Ok-Some.end (λ i. let yes = c.is_last.ensures.1 i in let no = c.if-is_last.false in absurd cc) in
     record {
       played = subst (λ ys. Played i start ys next after old taken rows published) (sym ahead_same) played;
       rests = c.in_ok-after.ensures.rests;
       room = c.in_ok-after.ensures.room;
       none_read = c.write.ensures.no_read ∙ c.publish.ensures.no_read ∙ reads ∙ l.invariant.none_read;
       none_write = c.write.ensures.none_failed c.if-not-write.false ∙ c.publish.ensures.no_write ∙ c.next.ensures.no_write ∙ l.invariant.none_write;
+      going = λ e. c.write.ensures.progress ∙ c.publish.ensures.progress ∙ c.in-Ok-Some.ensures.going (c.in-Ok-Some.field-0-is ∙ ap Some feed) (l.invariant.going e);
       same = c.write.ensures.same ∙ c.publish.ensures.same ∙ c.next.ensures.same ∙ l.invariant.same;
     }
 
@@ -234,7 +243,7 @@ pub returns-clause-came : goal.returns-clause-came
 returns-clause-came g c =
     let l = c.loop-turn in
     came_short g.J.Picture.image (g.P.Ports.to_come c.args.ports.now) (g.P.Ports.taken c.args.ports.now) (g.P.Ports.taken l.ports)
-    (g.P.Ports.published c.args.ports.now) (g.P.Ports.published l.ports) _ _ _ _
+    (g.P.Ports.published c.args.ports.now) (g.P.Ports.published l.ports) _ _ _ _ _ _
     (stopped g.J.Picture.image (g.P.Ports.to_come c.args.ports.now) (ahead l.lines (g.P.Ports.to_come l.ports)) l.number l.control
     (g.P.Ports.taken c.args.ports.now) (g.P.Ports.taken l.ports) (g.P.Ports.published c.args.ports.now) (g.P.Ports.published l.ports) l.invariant.played)
-    l.invariant.none_read l.invariant.none_write
+    l.invariant.none_read l.invariant.none_write (open_not_behind _ _ l.invariant.going)

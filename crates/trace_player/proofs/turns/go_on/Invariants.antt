@@ -1,5 +1,6 @@
 use Rattle.std.proofs.Common.{◌≡◌, ◌-◌}
 use Rattle.sc_graph.specs.Tick.{Rests}
+use Rattle.sc_values.specs.Streams.{StaysOpen}
 use Rattle.trace_lines.specs.Lines.{ahead}
 use Rattle.trace_player.proofs.Playing.{Played}
 use Rattle.trace_player.proofs.turns.go_on.Given as goal
@@ -11,6 +12,7 @@ invariant-loop-turn g l = record {
   room : l.room ≡ g.J.Picture.image;
   none_read : g.P.Ports.failed_reads l.ports ≡ g.P.Ports.failed_reads l.fn.ports;
   none_write : g.P.Ports.failed_writes l.ports ≡ g.P.Ports.failed_writes l.fn.ports;
+  going : StaysOpen (g.P.Ports.progress l.fn.ports) (g.P.Ports.progress l.ports);
   same : g.P.Ports.names l.ports ≡ g.P.Ports.names l.fn.ports;
 }
 
