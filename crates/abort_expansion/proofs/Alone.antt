@@ -11,15 +11,17 @@ use Rattle.core_charts.specs.declared.region.Transition.{Transition}
 use Rattle.core_charts.specs.declared.region.Region.TheOpen.{Region-F}
 use Rattle.core_charts.specs.declared.region.Region.TheViews.{roll-Region, out-Region, out-roll-Region, roll-State, out-State}
 use Rattle.core_charts.specs.Rules.{IsState, IsRegion, AreRegions}
+use Rattle.sc_text.proofs.AddedNames.{added_is_named}
+use Rattle.sc_text.proofs.EachItem.{Each, each_at}
 use Rattle.abort_expansion.specs.declared.flags.Flags.{Flags}
 use Rattle.abort_expansion.specs.declared.places.Places.{Places}
 use Rattle.abort_expansion.specs.Flags.{one, watching_name, abandoned_name, monitor_name}
 use Rattle.abort_expansion.specs.Superstates.{simple, simple_transitions, monitor, monitor_transitions, abandoned}
 use Rattle.abort_expansion.specs.Expansion.{state_piece}
-use Rattle.abort_expansion.proofs.Lists.{Each, each_at, count_is}
+use Rattle.abort_expansion.proofs.Lists.{count_is}
 use Rattle.abort_expansion.proofs.Taken.{AreFlags, IsTaken}
 use Rattle.abort_expansion.proofs.Leaving.{InText, left_by, ended_in, simple_transitions_go, monitor_goes}
-use Rattle.abort_expansion.proofs.Apart.{Apart, IsText, text_is_named, added_is_named, distinct_if_apart, letter_of}
+use Rattle.abort_expansion.proofs.Apart.{Apart, IsText, text_is_named, distinct_if_apart, letter_of}
 use Rattle.abort_expansion.proofs.Added.{none_added}
 use Rattle.abort_expansion.proofs.Shapes.{IsNamed, rolled_named}
 use Rattle.abort_expansion.proofs.Joined.{HasShape, StateKeeps, IsScene, names_of}

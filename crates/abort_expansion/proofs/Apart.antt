@@ -5,12 +5,9 @@ use Rattle.std.specs.List.{list_any}
 use Rattle.std.specs.Str.{bytes_eq}
 use Rattle.std.proofs.lemmas.Slice.Eq.{bytes_eq-Decides}
 use Rattle.std.proofs.lemmas.Fmt.{decimal_injective}
-use Rattle.sc_text.specs.declared.word.Word.{Word}
-use Rattle.sc_text.specs.declared.word.Word.TheVariants as word
-use Rattle.sc_text.specs.Words.{word_text}
 use Rattle.sc_text.specs.declared.language.Language.TheVariants as languages
 use Rattle.sc_text.specs.Parts.{IsNameIn, are_distinct}
-use Rattle.abort_expansion.proofs.Lists.{Each, each_append}
+use Rattle.sc_text.proofs.EachItem.{Each, each_append}
 
 -- ---- lists without repetition
 
@@ -70,48 +67,6 @@ apart_if_distinct (x ∷ xs) h =
     (unlike_if x xs (first_not (list_any (bytes_eq x) xs) (are_distinct xs) h), apart_if_distinct xs (then_so (list_any (bytes_eq x) xs) (are_distinct xs) h))
 
 -- ---- names that begin with `_`
-
-abbrev begins_with_bar : List ℕ → Bool
-begins_with_bar [] = false
-begins_with_bar (byte ∷ bytes) = byte == 95
-
-no_bar : (w : Word) → begins_with_bar (word_text w) ≡ false
-no_bar word.Chart = refl
-no_bar word.Scl = refl
-no_bar word.Input = refl
-no_bar word.Output = refl
-no_bar word.Local = refl
-no_bar word.Bool = refl
-no_bar word.Int = refl
-no_bar word.Region = refl
-no_bar word.Initial = refl
-no_bar word.Final = refl
-no_bar word.State = refl
-no_bar word.Go = refl
-no_bar word.Strong = refl
-no_bar word.Weak = refl
-no_bar word.Join = refl
-no_bar word.Immediate = refl
-no_bar word.If = refl
-no_bar word.Else = refl
-no_bar word.Do = refl
-no_bar word.Goto = refl
-no_bar word.Fork = refl
-no_bar word.Par = refl
-no_bar word.Pause = refl
-no_bar word.True = refl
-no_bar word.False = refl
-no_bar word.Not = refl
-no_bar word.And = refl
-no_bar word.Or = refl
-no_bar word.Min = refl
-no_bar word.Max = refl
-
-no_word : (rest : List ℕ) (w : Word) → 95 ∷ rest ≡ word_text w → ⊥
-no_word rest w h = let bar : true ≡ false = ap begins_with_bar h ∙ no_bar w in absurd cc
-
-pub added_is_named : (rest : List ℕ) → IsNameIn languages.Scl (95 ∷ rest)
-added_is_named rest = record { free = λ w. no_word rest w.0 w.1; begins = λ first at. refl }
 
 pub text_is_named : (name : List ℕ) → IsNameIn languages.Chart name → IsNameIn languages.Scl name
 text_is_named name h = record { free = h.free; begins = λ first at. refl }

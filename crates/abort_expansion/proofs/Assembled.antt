@@ -7,6 +7,7 @@ use Rattle.core_charts.specs.declared.region.State.{State}
 use Rattle.core_charts.specs.declared.region.Transition.{Transition}
 use Rattle.core_charts.specs.declared.region.Region.TheViews.{roll-State, out-State}
 use Rattle.core_charts.specs.Rules.{IsState, IsTransition, AreRegions, has_regions}
+use Rattle.sc_text.proofs.EachItem.{Each}
 use Rattle.abort_expansion.specs.declared.flags.Flags.{Flags}
 use Rattle.abort_expansion.specs.declared.places.Places.{Places}
 use Rattle.abort_expansion.specs.declared.pieces.Numbers.{Numbers}
@@ -17,7 +18,6 @@ use Rattle.abort_expansion.specs.Transitions.{led}
 use Rattle.abort_expansion.specs.Pieces.{superstates_in, variables_in, beside}
 use Rattle.abort_expansion.specs.Superstates.{stays, is_prepared, as_it_is, split, superstate_over, prepared, forked}
 use Rattle.abort_expansion.specs.Expansion.{piece_of_region, state_piece}
-use Rattle.abort_expansion.proofs.Lists.{Each}
 use Rattle.abort_expansion.proofs.Taken.{AreFlags}
 use Rattle.abort_expansion.proofs.Leaving.{state_keeps}
 use Rattle.abort_expansion.proofs.Apart.{Apart, text_is_named}

@@ -6,6 +6,7 @@ use Rattle.core_charts.specs.declared.features.Features.TheVariants as features
 use Rattle.core_charts.specs.declared.region.Region.{Region}
 use Rattle.core_charts.specs.declared.region.Transition.{Transition}
 use Rattle.core_charts.specs.Rules.{IsRegion, AreRegions, has_regions}
+use Rattle.sc_text.proofs.EachItem.{Each, each_append, each_at}
 use Rattle.abort_expansion.specs.declared.flags.Flags.{Flags}
 use Rattle.abort_expansion.specs.declared.pieces.Numbers.{Numbers}
 use Rattle.abort_expansion.specs.declared.pieces.Regions.{Regions}
@@ -13,7 +14,6 @@ use Rattle.abort_expansion.specs.Flags.{flags_of, flag_count, given, is_there, o
 use Rattle.abort_expansion.specs.Pieces.{superstates_in, variables_in}
 use Rattle.abort_expansion.specs.Superstates.{within}
 use Rattle.abort_expansion.specs.Expansion.{piece_of_region, inside_superstate}
-use Rattle.abort_expansion.proofs.Lists.{Each, each_append, each_at}
 use Rattle.abort_expansion.proofs.Taken.{AreFlags}
 use Rattle.abort_expansion.proofs.Apart.{Apart, distinct_if_apart}
 use Rattle.abort_expansion.proofs.Added.{Located, AreAdded, declarations_added, both_added}

@@ -7,6 +7,7 @@ use Rattle.core_charts.specs.declared.region.Region.{Region}
 use Rattle.core_charts.specs.declared.region.State.{State}
 use Rattle.core_charts.specs.declared.region.Region.TheViews.{out-Region, out-State}
 use Rattle.core_charts.specs.Rules.{IsState, IsRegion, AreRegions}
+use Rattle.sc_text.proofs.EachItem.{Each, each_append, each_more}
 use Rattle.abort_expansion.specs.declared.flags.Flags.{Flags}
 use Rattle.abort_expansion.specs.declared.places.Places.{Places}
 use Rattle.abort_expansion.specs.declared.pieces.Numbers.{Numbers}
@@ -15,7 +16,7 @@ use Rattle.abort_expansion.specs.declared.pieces.States.{States}
 use Rattle.abort_expansion.specs.Flags.{one, aborts_around, weak_around}
 use Rattle.abort_expansion.specs.Pieces.{RegionPiece, StatePiece, beside, expanded_regions, superstates_in, variables_in, past_region}
 use Rattle.abort_expansion.specs.Expansion.{piece_of_region, piece_of_state, expanded_states, superstates_among, variables_among, widths, past_state}
-use Rattle.abort_expansion.proofs.Lists.{Each, each_append, each_more, count, count_append}
+use Rattle.abort_expansion.proofs.Lists.{count, count_append}
 use Rattle.abort_expansion.proofs.Taken.{IsFlagIfAny, AreFlags, ArePlaces}
 use Rattle.abort_expansion.proofs.Apart.{Unlike, Apart, apart_append, IsAdded, IsIn, IsCalled, IsText, called_apart}
 use Rattle.abort_expansion.proofs.Added.{Located, located_first, located_later, AreAdded, none_added, both_added}

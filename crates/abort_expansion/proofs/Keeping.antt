@@ -13,9 +13,10 @@ use Rattle.core_charts.specs.declared.region.Region.TheViews.{out-Region, out-St
 use Rattle.core_charts.specs.declared.region.Region.TheFolds.{fold_out-Region, fold_out-State}
 use Rattle.core_charts.specs.Standing.{is_join}
 use Rattle.core_charts.specs.Rules.{IsEffect, IsTransition, IsState, IsRegion, AreRegions, has_regions, kinds_of}
+use Rattle.sc_text.proofs.EachItem.{Each, each_of, each_more}
 use Rattle.abort_expansion.specs.Pieces.{RegionPiece, StatePiece}
 use Rattle.abort_expansion.specs.Expansion.{region_piece, state_piece, piece_of_region, piece_of_state}
-use Rattle.abort_expansion.proofs.Lists.{Each, each_of, each_more, each_mapped, at_front, count_is}
+use Rattle.abort_expansion.proofs.Lists.{each_mapped, at_front, count_is}
 use Rattle.abort_expansion.proofs.Expressions.{expression_over_more}
 use Rattle.abort_expansion.proofs.Leaving.{InText}
 use Rattle.abort_expansion.proofs.Apart.{Apart, IsText, apart_if_distinct}

@@ -16,12 +16,13 @@ use Rattle.core_charts.specs.declared.region.Region.TheOpen.{State-F}
 use Rattle.core_charts.specs.declared.region.Region.TheViews.{roll-State, out-State, out-roll-State}
 use Rattle.core_charts.specs.Rules.{IsEffect, IsState, IsTransition, AreRegions, has_regions, allows, fits_state}
 use Rattle.core_charts.specs.Standing.{is_join, is_strong, is_weak, at_once, strong_aborts, weak_aborts, terminations}
+use Rattle.sc_text.proofs.EachItem.{Each, each_append, each_at, each_more}
 use Rattle.abort_expansion.specs.declared.flags.Flags.{Flags}
 use Rattle.abort_expansion.specs.declared.places.Places.{Places}
 use Rattle.abort_expansion.specs.Flags.{preparation_name, continuation_name, is_there, aborts_around, weak_around}
 use Rattle.abort_expansion.specs.Transitions.{is_number, put, on, go, strong_checks, weak_checks, led, led_by, answers, raising}
 use Rattle.abort_expansion.specs.Superstates.{simple_transitions, preparation, continuation, closing, joined_or_left, monitor_transitions, all_ended}
-use Rattle.abort_expansion.proofs.Lists.{Each, each_append, each_at, each_chosen, each_mapped, each_more, count, count_is, count_none}
+use Rattle.abort_expansion.proofs.Lists.{each_chosen, each_mapped, count, count_is, count_none}
 use Rattle.abort_expansion.proofs.Taken.{IsFlagIfAny, AreFlags, IsTaken, ArePlaces, Goes, go_goes, no_trigger, number_trigger, putting_effects, counting_effects, strong_checks_go, weak_checks_go, led_by_goes, answers_go, raising_goes}
 
 pub no_regions : (f : Features) (variables : List Variable) (levels : ℕ) → AreRegions f variables levels []

@@ -8,6 +8,8 @@ use Rattle.core_charts.specs.declared.region.State.{State}
 use Rattle.core_charts.specs.declared.region.Transition.{Transition}
 use Rattle.core_charts.specs.declared.region.Region.TheViews.{out-State}
 use Rattle.core_charts.specs.Rules.{IsState, AreRegions, has_regions}
+use Rattle.sc_text.proofs.AddedNames.{added_is_named}
+use Rattle.sc_text.proofs.EachItem.{Each}
 use Rattle.abort_expansion.specs.declared.flags.Flags.{Flags}
 use Rattle.abort_expansion.specs.declared.places.Places.{Places}
 use Rattle.abort_expansion.specs.declared.pieces.Numbers.{Numbers}
@@ -16,10 +18,9 @@ use Rattle.abort_expansion.specs.Flags.{one, has_aborts, weak_around, declaratio
 use Rattle.abort_expansion.specs.Pieces.{superstates_in, beside}
 use Rattle.abort_expansion.specs.Superstates.{preparation, continuation, fork, monitor, watched, forked, prepared}
 use Rattle.abort_expansion.specs.Expansion.{piece_of_region}
-use Rattle.abort_expansion.proofs.Lists.{Each}
 use Rattle.abort_expansion.proofs.Taken.{AreFlags}
 use Rattle.abort_expansion.proofs.Leaving.{preparation_keeps}
-use Rattle.abort_expansion.proofs.Apart.{text_has_no_bar, added_is_named}
+use Rattle.abort_expansion.proofs.Apart.{text_has_no_bar}
 use Rattle.abort_expansion.proofs.Added.{Located, located_first, flags_there}
 use Rattle.abort_expansion.proofs.Shapes.{IsNamed, preparation_named, fork_named, continuation_named}
 use Rattle.abort_expansion.proofs.Joined.{HasShape, IsScene, initial_in}

@@ -5,16 +5,17 @@ use Rattle.sc_graph.specs.declared.program.Variable.{Variable}
 use Rattle.core_charts.specs.declared.features.Features.TheVariants as features
 use Rattle.core_charts.specs.declared.region.Region.TheViews.{out-State}
 use Rattle.core_charts.specs.Rules.{IsState, AreRegions}
+use Rattle.sc_text.proofs.AddedNames.{added_is_named}
+use Rattle.sc_text.proofs.EachItem.{Each, each_more}
 use Rattle.abort_expansion.specs.declared.pieces.States.{States}
 use Rattle.abort_expansion.specs.Flags.{one, first_name, abandoned_name}
 use Rattle.abort_expansion.specs.Transitions.{go, on, count_down}
 use Rattle.abort_expansion.specs.Pieces.{beside}
 use Rattle.abort_expansion.specs.Superstates.{abandoned}
 use Rattle.abort_expansion.specs.Expansion.{new_initial, left_behind}
-use Rattle.abort_expansion.proofs.Lists.{Each, each_more}
 use Rattle.abort_expansion.proofs.Taken.{IsFlagIfAny, counting_down_effects, go_goes, no_trigger}
 use Rattle.abort_expansion.proofs.Leaving.{left_by, ended_in}
-use Rattle.abort_expansion.proofs.Apart.{Unlike, Apart, apart_append, IsCalled, IsText, text_has_no_bar, added_is_named, letter_of, at_in}
+use Rattle.abort_expansion.proofs.Apart.{Unlike, Apart, apart_append, IsCalled, IsText, text_has_no_bar, letter_of, at_in}
 use Rattle.abort_expansion.proofs.Shapes.{IsNamed, rolled_named}
 use Rattle.abort_expansion.proofs.Joined.{names_of, initial_in}
 

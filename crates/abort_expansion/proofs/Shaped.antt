@@ -7,6 +7,7 @@ use Rattle.core_charts.specs.declared.region.State.{State}
 use Rattle.core_charts.specs.declared.region.Transition.{Transition}
 use Rattle.core_charts.specs.declared.region.Region.TheViews.{roll-State, roll-Region, out-State, out-roll-Region}
 use Rattle.core_charts.specs.Rules.{IsState, IsRegion, AreRegions}
+use Rattle.sc_text.proofs.EachItem.{Each, each_append, each_more}
 use Rattle.abort_expansion.specs.declared.flags.Flags.{Flags}
 use Rattle.abort_expansion.specs.declared.pieces.Numbers.{Numbers}
 use Rattle.abort_expansion.specs.declared.pieces.States.{States}
@@ -15,7 +16,7 @@ use Rattle.abort_expansion.specs.Transitions.{go, on, count_down}
 use Rattle.abort_expansion.specs.Pieces.{StatePiece, beside}
 use Rattle.abort_expansion.specs.Superstates.{abandoned}
 use Rattle.abort_expansion.specs.Expansion.{piece_of_state, region_piece, region_over, region_places, begins_anew, initial_place, initial_number, new_initial, left_behind, expanded_states, widths, superstates_among, variables_among}
-use Rattle.abort_expansion.proofs.Lists.{Each, each_append, each_more, count, count_append, count_is}
+use Rattle.abort_expansion.proofs.Lists.{count, count_append, count_is}
 use Rattle.abort_expansion.proofs.Taken.{IsFlagIfAny, AreFlags}
 use Rattle.abort_expansion.proofs.Apart.{Unlike, Apart, IsCalled, IsText, text_is_named, letter_of}
 use Rattle.abort_expansion.proofs.Added.{Located, AreAdded}

@@ -11,6 +11,8 @@ use Rattle.core_charts.specs.declared.region.TransitionKind.TheVariants as kind
 use Rattle.core_charts.specs.declared.region.Region.TheViews.{out-Region, out-State, out-roll-Region}
 use Rattle.core_charts.specs.Rules.{IsState, IsRegion, IsTransition, AreRegions, has_regions}
 use Rattle.core_charts.specs.Standing.{is_join}
+use Rattle.sc_text.proofs.AddedNames.{added_is_named}
+use Rattle.sc_text.proofs.EachItem.{Each, each_append, each_more}
 use Rattle.abort_expansion.specs.declared.flags.Flags.{Flags}
 use Rattle.abort_expansion.specs.declared.places.Places.{Places}
 use Rattle.abort_expansion.specs.declared.pieces.Numbers.{Numbers}
@@ -19,10 +21,9 @@ use Rattle.abort_expansion.specs.Flags.{flags_of, flag_count, one, has_aborts, h
 use Rattle.abort_expansion.specs.Pieces.{superstates_in, variables_in}
 use Rattle.abort_expansion.specs.Superstates.{continuation, fork, monitor, watched, forked}
 use Rattle.abort_expansion.specs.Expansion.{piece_of_region}
-use Rattle.abort_expansion.proofs.Lists.{Each, each_append, each_more}
 use Rattle.abort_expansion.proofs.Taken.{IsTaken, AreFlags}
 use Rattle.abort_expansion.proofs.Leaving.{InText, state_keeps, continuation_keeps}
-use Rattle.abort_expansion.proofs.Apart.{Unlike, Apart, apart_append, IsAdded, IsText, text_has_no_bar, text_is_named, added_is_named, letter_of}
+use Rattle.abort_expansion.proofs.Apart.{Unlike, Apart, apart_append, IsAdded, IsText, text_has_no_bar, text_is_named, letter_of}
 use Rattle.abort_expansion.proofs.Added.{Located, located_first, located_later, AreAdded, declarations_added, flags_there}
 use Rattle.abort_expansion.proofs.Shapes.{IsNamed, continuation_named, fork_named}
 use Rattle.abort_expansion.proofs.Joined.{HasShape, IsScene, RegionsKeep, region_names}

@@ -7,10 +7,11 @@ use Rattle.core_charts.specs.declared.region.TransitionKind.{TransitionKind}
 use Rattle.core_charts.specs.declared.region.TransitionKind.TheVariants as kind
 use Rattle.core_charts.specs.Rules.{IsTransition, allows}
 use Rattle.core_charts.specs.Standing.{is_strong, is_weak, is_join}
+use Rattle.sc_text.proofs.EachItem.{Each}
 use Rattle.abort_expansion.specs.declared.places.Places.{Places}
 use Rattle.abort_expansion.specs.Flags.{one, given, flags_of, flag_count, has_strong, has_weak, has_join, has_aborts, counts}
 use Rattle.abort_expansion.specs.Transitions.{led}
-use Rattle.abort_expansion.proofs.Lists.{Each, count, count_is}
+use Rattle.abort_expansion.proofs.Lists.{count, count_is}
 use Rattle.abort_expansion.proofs.Taken.{IsFlagIfAny, AreFlags, ArePlaces}
 use Rattle.abort_expansion.proofs.Leaving.{InText, led_keeps}
 

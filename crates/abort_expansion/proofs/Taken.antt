@@ -11,11 +11,11 @@ use Rattle.core_charts.specs.declared.region.Effect.{Effect}
 use Rattle.core_charts.specs.declared.region.Transition.{Transition}
 use Rattle.core_charts.specs.declared.region.TransitionKind.TheVariants as kind
 use Rattle.core_charts.specs.Rules.{IsEffect, IsTransition, kinds_of}
+use Rattle.sc_text.proofs.EachItem.{Each, each_append, each_at}
 use Rattle.abort_expansion.specs.declared.flags.Flags.{Flags}
 use Rattle.abort_expansion.specs.declared.places.Places.{Places}
 use Rattle.abort_expansion.specs.Flags.{local, is_there, aborts_around}
 use Rattle.abort_expansion.specs.Transitions.{is_number, is_raised, number, put, count_down, on, go, check, strong_checks, weak_checks, counting, place_of, led_by, answers, raising}
-use Rattle.abort_expansion.proofs.Lists.{Each, each_append, each_at}
 use Rattle.abort_expansion.proofs.Expressions.{beside_number, number_is_expression}
 
 -- a flag or a counter among the variables

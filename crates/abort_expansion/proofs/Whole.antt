@@ -11,11 +11,13 @@ use Rattle.core_charts.specs.declared.features.Features.TheVariants as features
 use Rattle.core_charts.specs.declared.region.Region.{Region}
 use Rattle.core_charts.specs.Chart.{Chart}
 use Rattle.core_charts.specs.Rules.{AreRegions, IsChart}
+use Rattle.sc_text.proofs.AddedNames.{added_is_named}
+use Rattle.sc_text.proofs.EachItem.{Each, each_append, each_of, each_at, each_more}
 use Rattle.abort_expansion.specs.Flags.{local}
 use Rattle.abort_expansion.specs.Pieces.{superstates_in, variables_in}
 use Rattle.abort_expansion.specs.Expansion.{piece_of_region, whole, expansion, expanded, IsExpandable}
-use Rattle.abort_expansion.proofs.Lists.{Each, each_append, each_of, each_at, each_more, each_mapped, count, count_is, count_append, count_none}
-use Rattle.abort_expansion.proofs.Apart.{Unlike, Apart, IsAdded, IsText, apart_append, apart_if_distinct, distinct_if_apart, added_is_named, text_is_named, text_has_no_bar}
+use Rattle.abort_expansion.proofs.Lists.{each_mapped, count, count_is, count_append, count_none}
+use Rattle.abort_expansion.proofs.Apart.{Unlike, Apart, IsAdded, IsText, apart_append, apart_if_distinct, distinct_if_apart, text_is_named, text_has_no_bar}
 use Rattle.abort_expansion.proofs.Added.{Located, AreAdded}
 use Rattle.abort_expansion.proofs.Joined.{RegionsKeep, region_names, regions_named, regions_added, regions_keep}
 use Rattle.abort_expansion.proofs.Inner.{side_by_side, as_many_names}

@@ -14,8 +14,8 @@ use Rattle.sc_values.specs.declared.value.Value.TheVariants as value
 use Rattle.sc_values.specs.declared.operation.Operation.{Operation}
 use Rattle.sc_values.specs.declared.operation.Operation.TheVariants as op
 use Rattle.sc_values.specs.declared.operator.UnaryOperator.TheVariants as unary
-use Rattle.bytecode.specs.declared.fault.Fault.{Fault}
-use Rattle.bytecode.specs.declared.fault.Fault.TheVariants as fault
+use Rattle.bytecode.specs.declared.fault.DecodeFault.{DecodeFault}
+use Rattle.bytecode.specs.declared.fault.DecodeFault.TheVariants as fault
 use Rattle.bytecode.specs.Fields.{u16_bytes, u32_bytes}
 use Rattle.bytecode.specs.Codes.{division_version, divisor_bytes, operation_bytes, code_bytes}
 use Rattle.bytecode.specs.Fits.{SayableOperation, SayableCode}
@@ -81,7 +81,7 @@ divisor_breaks Whole front bytes left fits goes_on e = when (number_at w32 bytes
         subst (λ (b : List ℕ). Breaks Whole front divisor_at b left) (sym t.0.parts)
         (at_once Whole front divisor_at (u32_bytes x.0) x.1 (divisor_bytes one) left goes_on refl as_long (rw (alone, lacking) refl))
 
-    when : (r : Result (ℕ × List ℕ) Fault) → number_at w32 bytes ≡ r → (r >>= λ n. or_field bytes (divisor_of (cast_signed w32 n.0)) >>= λ d. reads d n.1) ≡ broken left
+    when : (r : Result (ℕ × List ℕ) DecodeFault) → number_at w32 bytes ≡ r → (r >>= λ n. or_field bytes (divisor_of (cast_signed w32 n.0)) >>= λ d. reads d n.1) ≡ broken left
         → Breaks Whole front divisor_at bytes left
     when (Err f) is failed = absurd (number_breaks_not w32 bytes left (is ∙ let same : f ≡ fault.Field left = cc in cc))
     when (Ok x) is failed = chosen x (divisor_of (cast_signed w32 x.0)) is refl failed
@@ -124,7 +124,7 @@ body_breaks version zero rest Whole front left fits is goes_on e =
     (met_first Whole (front ++ (byte 0 ∷ [])) (choice_at flags) _ rest left
     (choice_breaks flags 0 Whole (front ++ (byte 0 ∷ [])) rest left (step_on Whole front (byte 0 ∷ []) (byte 0 ∷ []) (goes_on (op.Literal (value.Bool false)) tt)) (before_flag (choice_at flags rest) left e)))
   where
-    before_flag : (r : Result (Bool × List ℕ) Fault) (left : ℕ) → (r >>= λ x. reads (op.Literal (value.Bool x.0)) x.1) ≡ broken left → r ≡ broken left
+    before_flag : (r : Result (Bool × List ℕ) DecodeFault) (left : ℕ) → (r >>= λ x. reads (op.Literal (value.Bool x.0)) x.1) ≡ broken left → r ≡ broken left
     before_flag (Ok x) left e = absurd cc
     before_flag (Err f) left e = cc
 body_breaks version (suc zero) rest Whole front left fits is goes_on e = absurd (number_breaks_not w32 rest left (before_made (number_at w32 rest) _ left e))

@@ -13,8 +13,8 @@ use Rattle.sc_values.specs.Name.{is_name, is_letter, is_digit}
 use Rattle.sc_graph.specs.declared.program.Role.TheVariants as role
 use Rattle.bytecode.specs.Fits.{SayableVariable}
 use Rattle.bytecode.specs.Fields.{u16_bytes, role_number, kind_number}
-use Rattle.bytecode.specs.declared.fault.Fault.{Fault}
-use Rattle.bytecode.specs.declared.fault.Fault.TheVariants as fault
+use Rattle.bytecode.specs.declared.fault.DecodeFault.{DecodeFault}
+use Rattle.bytecode.specs.declared.fault.DecodeFault.TheVariants as fault
 use Rattle.bytecode.specs.Reading.{◌>>=◌, Reader, or_field}
 use Rattle.bytecode.specs.Reading.Fields.{bytes_at, byte_at, number_at, choice_at, roles, kinds, length_at, name_of, name_at, variable_at}
 use Rattle.bytecode.specs.FieldList.{byte, variable_fields}
@@ -35,7 +35,7 @@ begin_at Whole a b c (after, whole) =
     (c ++ after, subst Whole moved whole)
 
 -- behind these fields a reading of the bytes meets a bad one, with so many bytes from its first on
-pub record Breaks {A : Type 0} (Whole : List (List ℕ) → Type 0) (front : List (List ℕ)) (read : List ℕ → Result A Fault) (bytes : List ℕ) (left : ℕ) : Type 0 where
+pub record Breaks {A : Type 0} (Whole : List (List ℕ) → Type 0) (front : List (List ℕ)) (read : List ℕ → Result A DecodeFault) (bytes : List ℕ) (left : ℕ) : Type 0 where
   pub before : List (List ℕ)
   pub field : List ℕ
   pub after : List (List ℕ)
@@ -47,10 +47,10 @@ pub record Breaks {A : Type 0} (Whole : List (List ℕ) → Type 0) (front : Lis
   pub long : length bad ≡ length field
   pub fails : read (concat before ++ bad) ≡ Err (fault.Field (length bad))
 
-abbrev pub broken : {A : Type 0} → ℕ → Result A Fault
+abbrev pub broken : {A : Type 0} → ℕ → Result A DecodeFault
 broken left = Err (fault.Field left)
 
-abbrev pub reads : {A : Type 0} → A → List ℕ → Result (A × List ℕ) Fault
+abbrev pub reads : {A : Type 0} → A → List ℕ → Result (A × List ℕ) DecodeFault
 reads x rest = Ok (x, rest)
 
 -- a reader whose bad fields are such
@@ -59,7 +59,7 @@ CanBreak {A} read fields Fits = (Whole : List (List ℕ) → Type 0) (front : Li
     → ((x : A) → Fits x → Extends Whole (front ++ fields x)) → read bytes ≡ broken left → Breaks Whole front read bytes left
 
 -- the first reader met it
-pub met_first : {A B : Type 0} (Whole : List (List ℕ) → Type 0) (front : List (List ℕ)) (read : List ℕ → Result A Fault) (f : A → Result B Fault) (bytes : List ℕ) (left : ℕ)
+pub met_first : {A B : Type 0} (Whole : List (List ℕ) → Type 0) (front : List (List ℕ)) (read : List ℕ → Result A DecodeFault) (f : A → Result B DecodeFault) (bytes : List ℕ) (left : ℕ)
     → Breaks Whole front read bytes left → Breaks Whole front (λ b. read b >>= f) bytes left
 met_first {A} {B} Whole front read f bytes left b = record {
   before = b.before;
@@ -71,11 +71,11 @@ met_first {A} {B} Whole front read f bytes left b = record {
   stands = b.stands;
   from = b.from;
   long = b.long;
-  fails = ap (λ (r : Result A Fault). r >>= f) b.fails;
+  fails = ap (λ (r : Result A DecodeFault). r >>= f) b.fails;
 }
 
 -- what comes behind what was read met it
-pub met_behind : {B : Type 0} (Whole : List (List ℕ) → Type 0) (front fields : List (List ℕ)) (text : List ℕ) (whole : List ℕ → Result B Fault) (next : List ℕ → Result B Fault) (bytes rest : List ℕ) (left : ℕ)
+pub met_behind : {B : Type 0} (Whole : List (List ℕ) → Type 0) (front fields : List (List ℕ)) (text : List ℕ) (whole : List ℕ → Result B DecodeFault) (next : List ℕ → Result B DecodeFault) (bytes rest : List ℕ) (left : ℕ)
     → concat fields ≡ text → bytes ≡ text ++ rest → ((more : List ℕ) → whole (text ++ more) ≡ next more)
     → Breaks Whole (front ++ fields) next rest left → Breaks Whole front whole bytes left
 met_behind {B} Whole front fields text whole next bytes rest left spelt parts again b =
@@ -100,29 +100,29 @@ met_behind {B} Whole front fields text whole next bytes rest left spelt parts ag
 
 -- one reader and then another
 pub then_breaks : {A B : Type 0} {read : Reader A} {text : A → List ℕ} {Fits : A → Type 0} (law : IsRead read text Fits) (fields : A → List (List ℕ)) (spelt : (x : A) → concat (fields x) ≡ text x)
-    (Whole : List (List ℕ) → Type 0) (front : List (List ℕ)) (next : A × List ℕ → Result B Fault) (bytes : List ℕ) (left : ℕ) → IsBytes bytes
+    (Whole : List (List ℕ) → Type 0) (front : List (List ℕ)) (next : A × List ℕ → Result B DecodeFault) (bytes : List ℕ) (left : ℕ) → IsBytes bytes
     → (read bytes ≡ broken left → Breaks Whole front read bytes left)
     → ((x : A) (rest : List ℕ) → Fits x → IsBytes rest → next (x, rest) ≡ broken left → Breaks Whole (front ++ fields x) (λ b. next (x, b)) rest left)
     → (read bytes >>= next) ≡ broken left → Breaks Whole front (λ b. read b >>= next) bytes left
 then_breaks {A} {B} {read} {text} {Fits} law fields spelt Whole front next bytes left fits first second e = when (read bytes) refl
   where
-    when : (r : Result (A × List ℕ) Fault) → read bytes ≡ r → Breaks Whole front (λ b. read b >>= next) bytes left
+    when : (r : Result (A × List ℕ) DecodeFault) → read bytes ≡ r → Breaks Whole front (λ b. read b >>= next) bytes left
     when (Err f) is =
         let failed : read bytes ≡ broken left = is ∙ let same : (read bytes >>= next) ≡ broken left = e in cc in
         met_first Whole front read next bytes left (first failed)
     when (Ok x) is =
         let t = law.takes bytes x fits is in
-        let good : next x ≡ broken left = ap (λ (r : Result (A × List ℕ) Fault). r >>= next) (sym is) ∙ e in
-        let go : (more : List ℕ) → (read (text x.0 ++ more) >>= next) ≡ next (x.0, more) = λ more. ap (λ (r : Result (A × List ℕ) Fault). r >>= next) (law.again x.0 more t.1) in
+        let good : next x ≡ broken left = ap (λ (r : Result (A × List ℕ) DecodeFault). r >>= next) (sym is) ∙ e in
+        let go : (more : List ℕ) → (read (text x.0 ++ more) >>= next) ≡ next (x.0, more) = λ more. ap (λ (r : Result (A × List ℕ) DecodeFault). r >>= next) (law.again x.0 more t.1) in
         met_behind Whole front (fields x.0) (text x.0) (λ b. read b >>= next) (λ b. next (x.0, b)) bytes x.1 left (spelt x.0) t.0.parts go (second x.0 x.1 t.1 t.0.rest_bytes good)
 
 -- what is made of what was read fails nowhere
-pub before_made : {A B : Type 0} (r : Result A Fault) (make : A → B) (left : ℕ) → (r >>= λ x. Ok (make x)) ≡ broken left → r ≡ broken left
+pub before_made : {A B : Type 0} (r : Result A DecodeFault) (make : A → B) (left : ℕ) → (r >>= λ x. Ok (make x)) ≡ broken left → r ≡ broken left
 before_made (Ok x) make left e = absurd cc
 before_made (Err f) make left e = cc
 
 -- the first field is the bad one
-pub at_once : {A : Type 0} (Whole : List (List ℕ) → Type 0) (front : List (List ℕ)) (read : List ℕ → Result A Fault) (bad rest field : List ℕ) (left : ℕ)
+pub at_once : {A : Type 0} (Whole : List (List ℕ) → Type 0) (front : List (List ℕ)) (read : List ℕ → Result A DecodeFault) (bad rest field : List ℕ) (left : ℕ)
     → Extends Whole (front ++ (field ∷ [])) → length bad ≡ length field → length (bad ++ rest) ≡ left → read bad ≡ broken (length bad) → Breaks Whole front read (bad ++ rest) left
 at_once Whole front read bad rest field left (after, whole) long from fails = record {
   before = [];
@@ -179,7 +179,7 @@ unfolding length_at byte_at
 length_breaks least most other Whole front [] left goes_on e = absurd cc
 length_breaks least most other Whole front (b ∷ rest) left goes_on e = when (leb least b && leb b most) refl e
   where
-    got : Result (ℕ × List ℕ) Fault
+    got : Result (ℕ × List ℕ) DecodeFault
     got = Ok (b, rest)
 
     when : (is : Bool) → (leb least b && leb b most) ≡ is → cond is got (broken (suc (length rest))) ≡ broken left → Breaks Whole front (length_at least most) (b ∷ rest) left
@@ -220,7 +220,7 @@ text_breaks n Whole front bytes left fits goes_on e = when (bytes_at n bytes) re
         subst (λ (b : List ℕ). Breaks Whole front (λ b. bytes_at n b >>= λ text. or_field b (name_of text.0) >>= λ name. reads name text.1) b left) (sym t.0.parts)
         (at_once Whole front (λ b. bytes_at n b >>= λ text. or_field b (name_of text.0) >>= λ name. reads name text.1) x.0 x.1 (letters n) left goes_on (t.1 ∙ sym (letters_length n)) as_long (rw (alone, lacking) refl))
 
-    when : (r : Result (List ℕ × List ℕ) Fault) → bytes_at n bytes ≡ r → (r >>= λ text. or_field bytes (name_of text.0) >>= λ name. reads name text.1) ≡ broken left
+    when : (r : Result (List ℕ × List ℕ) DecodeFault) → bytes_at n bytes ≡ r → (r >>= λ text. or_field bytes (name_of text.0) >>= λ name. reads name text.1) ≡ broken left
         → Breaks Whole front (λ b. bytes_at n b >>= λ text. or_field b (name_of text.0) >>= λ name. reads name text.1) bytes left
     when (Err f) is failed = absurd (bytes_break_not n bytes left (is ∙ let same : f ≡ fault.Field left = cc in cc))
     when (Ok x) is failed = named x (name_of x.0) is refl failed

@@ -12,9 +12,8 @@ use Rattle.sc_graph.specs.declared.program.Variable.{Variable}
 use Rattle.sc_graph.specs.declared.program.Step.TheVariants as step
 use Rattle.bytecode.specs.declared.rows.ThreadRow.{ThreadRow}
 use Rattle.bytecode.specs.declared.rows.NodeRow.{NodeRow}
-use Rattle.bytecode.specs.declared.fault.DecodeFault.TheVariants as decode
-use Rattle.bytecode.specs.declared.fault.Fault.{Fault}
-use Rattle.bytecode.specs.declared.fault.Fault.TheVariants as fault
+use Rattle.bytecode.specs.declared.fault.DecodeFault.TheVariants as fault
+use Rattle.bytecode.specs.declared.fault.DecodeFault.{DecodeFault}
 use Rattle.bytecode.specs.Image.{Image}
 use Rattle.bytecode.specs.Fields.{u16_bytes, u32_bytes, role_number, kind_number, name_bytes, variable_bytes}
 use Rattle.bytecode.specs.Nodes.{thread_bytes, node_bytes}
@@ -121,7 +120,7 @@ body_breaks version bytes left fits e =
 
 -- ---- the header
 
-test_breaks_not : (b : Bool) (x : List ℕ) (left : ℕ) → (f : Fault) → f ≢ fault.Field left → cond b (Ok x) (Err f) ≢ broken left
+test_breaks_not : (b : Bool) (x : List ℕ) (left : ℕ) → (f : DecodeFault) → f ≢ fault.Field left → cond b (Ok x) (Err f) ≢ broken left
 test_breaks_not true x left f other e = absurd cc
 test_breaks_not false x left f other e = other cc
 
@@ -137,7 +136,7 @@ image_breaks : (version : ℕ) (bytes : List ℕ) (left : ℕ) → IsBytes bytes
 unfolding image_at
 image_breaks version bytes left fits e = when (header_at version bytes) refl e
   where
-    when : (r : Result (List ℕ) Fault) → header_at version bytes ≡ r → (r >>= body_at version) ≡ broken left → Breaks (Whole version) [] (image_at version) bytes left
+    when : (r : Result (List ℕ) DecodeFault) → header_at version bytes ≡ r → (r >>= body_at version) ≡ broken left → Breaks (Whole version) [] (image_at version) bytes left
     when (Err f) is failed = absurd (header_breaks_not version bytes left (is ∙ let same : f ≡ fault.Field left = cc in cc))
     when (Ok rest) is failed =
         let header = header_takes version bytes rest fits is in
@@ -146,7 +145,7 @@ image_breaks version bytes left fits e = when (header_at version bytes) refl e
 
 -- ---- what is told
 
-told_broken : (bytes : List ℕ) (r : Result Image Fault) (offset : ℕ) → answer bytes r ≡ Err (decode.Field offset) → (left : ℕ) × (r ≡ broken left) × (length bytes - left ≡ offset)
+told_broken : (bytes : List ℕ) (r : Result Image DecodeFault) (offset : ℕ) → answer bytes r ≡ Err (fault.Field offset) → (left : ℕ) × (r ≡ broken left) × (length bytes - left ≡ offset)
 told_broken bytes (Ok i) offset e = absurd cc
 told_broken bytes (Err fault.Short) offset e = absurd cc
 told_broken bytes (Err fault.Magic) offset e = absurd cc
@@ -163,10 +162,10 @@ no_spelling version bytes [] left e (i, spells) =
 no_spelling version bytes (b ∷ more) left e (i, spells) =
     let whole = image_again version (bytes ++ b ∷ more) i spells in
     let grown = image_grows version bytes (b ∷ more) (λ none. absurd cc) in
-    let same = subst (λ (r : Result Image Fault). Grown tailed (length (b ∷ more)) r (image_at version (bytes ++ b ∷ more))) e grown in
+    let same = subst (λ (r : Result Image DecodeFault). Grown tailed (length (b ∷ more)) r (image_at version (bytes ++ b ∷ more))) e grown in
     absurd cc
 
-pub told_is_bad : (version : ℕ) (bytes : List ℕ) (offset : ℕ) → IsBytes bytes → reading version bytes ≡ Err (decode.Field offset) → IsBadField version bytes offset
+pub told_is_bad : (version : ℕ) (bytes : List ℕ) (offset : ℕ) → IsBytes bytes → reading version bytes ≡ Err (fault.Field offset) → IsBadField version bytes offset
 unfolding reading
 told_is_bad version bytes offset fits e =
     let (left, is, from) = told_broken bytes (image_at version bytes) offset e in

@@ -9,7 +9,7 @@ use Rattle.sc_graph.specs.declared.program.Step.{Step}
 use Rattle.sc_graph.specs.declared.program.Step.TheVariants as step
 use Rattle.bytecode.specs.declared.rows.ThreadRow.{ThreadRow}
 use Rattle.bytecode.specs.declared.rows.NodeRow.{NodeRow}
-use Rattle.bytecode.specs.declared.fault.Fault.{Fault}
+use Rattle.bytecode.specs.declared.fault.DecodeFault.{DecodeFault}
 use Rattle.bytecode.specs.Fields.{u16_bytes, u32_bytes, combination_number, flag_number}
 use Rattle.bytecode.specs.Nodes.{parent_number, thread_bytes, step_bytes, node_bytes}
 use Rattle.bytecode.specs.Fits.{SayableCode, SayableThread, SayableStep, SayableNode}
@@ -24,7 +24,7 @@ use Rattle.bytecode.proofs.BadFields.{Extends, step_on, begin_at, Breaks, broken
 use Rattle.bytecode.proofs.BadCodes.{each_spelt, code_spelt, code_breaks}
 
 -- a number is never bad, so what comes behind it is
-pub number_then : {B : Type 0} (Whole : List (List ℕ) → Type 0) (front : List (List ℕ)) (next : ℕ × List ℕ → Result B Fault) (bytes : List ℕ) (left : ℕ) → IsBytes bytes
+pub number_then : {B : Type 0} (Whole : List (List ℕ) → Type 0) (front : List (List ℕ)) (next : ℕ × List ℕ → Result B DecodeFault) (bytes : List ℕ) (left : ℕ) → IsBytes bytes
     → ((n : ℕ) (rest : List ℕ) → n < 2 ^ 16 → IsBytes rest → next (n, rest) ≡ broken left → Breaks Whole (front ++ (u16_bytes n ∷ [])) (λ b. next (n, b)) rest left)
     → (number_at w16 bytes >>= next) ≡ broken left → Breaks Whole front (λ b. number_at w16 b >>= next) bytes left
 number_then Whole front next bytes left fits second e =
@@ -85,7 +85,7 @@ update_breaks version Whole front bytes left fits goes_on e =
     (before_made (code_at version last) _ left last_failed))) failed2) failed) e
 
 -- neither of two readers met one
-pub not_then : {A B : Type 0} (r : Result A Fault) (f : A → Result B Fault) (left : ℕ) → r ≢ broken left → ((x : A) → f x ≢ broken left) → (r >>= f) ≢ broken left
+pub not_then : {A B : Type 0} (r : Result A DecodeFault) (f : A → Result B DecodeFault) (left : ℕ) → r ≢ broken left → ((x : A) → f x ≢ broken left) → (r >>= f) ≢ broken left
 not_then (Ok x) f left first next e = next x e
 not_then (Err d) f left first next e = first cc
 

@@ -8,9 +8,7 @@ use Rattle.sc_graph.specs.declared.program.Variable.{Variable}
 use Rattle.sc_graph.specs.declared.program.Thread.{Thread}
 use Rattle.sc_graph.specs.declared.program.Node.{Node}
 use Rattle.bytecode.specs.declared.fault.DecodeFault.{DecodeFault}
-use Rattle.bytecode.specs.declared.fault.DecodeFault.TheVariants as decode
-use Rattle.bytecode.specs.declared.fault.Fault.{Fault}
-use Rattle.bytecode.specs.declared.fault.Fault.TheVariants as fault
+use Rattle.bytecode.specs.declared.fault.DecodeFault.TheVariants as fault
 use Rattle.bytecode.specs.Image.{Image}
 use Rattle.bytecode.specs.Spells.{Spells}
 use Rattle.bytecode.specs.Inside.Readers.{Fails}
@@ -21,7 +19,7 @@ use Rattle.bytecode.proofs.Readers.{IsBytes}
 use Rattle.bytecode.proofs.ImageRows.{image_is, rows_fit}
 use Rattle.bytecode.proofs.ImageLaws.{header_takes, body_takes, image_takes, image_again}
 
-answered : (bytes : List ℕ) (r : Result Image Fault) (i : Image) → answer bytes r ≡ Ok i → r ≡ Ok i
+answered : (bytes : List ℕ) (r : Result Image DecodeFault) (i : Image) → answer bytes r ≡ Ok i → r ≡ Ok i
 answered bytes (Ok j) i e = let same : j ≡ i = cc in ap (λ (x : Image). Ok x) same
 answered bytes (Err f) i e = absurd cc
 
@@ -30,7 +28,7 @@ pub reads_image : (version : ℕ) (bytes : List ℕ) (i : Image) → image_at ve
 unfolding reading
 reads_image version bytes i e = ap (answer bytes) e
 
-told_fails : (bytes : List ℕ) (f : Fault) (read : Result Image Fault) → Fails f read → Answers (Err (told bytes f)) (answer bytes read)
+told_fails : (bytes : List ℕ) (f : DecodeFault) (read : Result Image DecodeFault) → Fails f read → Answers (Err (told bytes f)) (answer bytes read)
 told_fails bytes fault.Memory read fails = tt
 told_fails bytes fault.Short read fails = ap (answer bytes) fails
 told_fails bytes fault.Magic read fails = ap (answer bytes) fails
@@ -38,12 +36,12 @@ told_fails bytes fault.Version read fails = ap (answer bytes) fails
 told_fails bytes fault.Trailing read fails = ap (answer bytes) fails
 told_fails bytes (fault.Field left) read fails = ap (answer bytes) fails
 
-pub reads_fault : (version : ℕ) (bytes : List ℕ) (f : Fault) → Fails f (image_at version bytes) → Answers (Err (told bytes f)) (reading version bytes)
+pub reads_fault : (version : ℕ) (bytes : List ℕ) (f : DecodeFault) → Fails f (image_at version bytes) → Answers (Err (told bytes f)) (reading version bytes)
 unfolding reading
 reads_fault version bytes f fails = told_fails bytes f (image_at version bytes) fails
 
 -- where memory ran out, a reader of these bytes said so
-pub told_memory : (bytes : List ℕ) (f : Fault) → told bytes f ≡ decode.Memory → f ≡ fault.Memory
+pub told_memory : (bytes : List ℕ) (f : DecodeFault) → told bytes f ≡ fault.Memory → f ≡ fault.Memory
 told_memory bytes fault.Memory e = refl
 told_memory bytes fault.Short e = absurd cc
 told_memory bytes fault.Magic e = absurd cc

@@ -15,7 +15,7 @@ use Rattle.sc_values.specs.Name.{is_name}
 use Rattle.sc_graph.specs.declared.program.Role.{Role}
 use Rattle.sc_graph.specs.declared.program.Role.TheVariants as role
 use Rattle.sc_graph.specs.declared.program.Variable.{Variable}
-use Rattle.bytecode.specs.declared.fault.Fault.TheVariants as fault
+use Rattle.bytecode.specs.declared.fault.DecodeFault.TheVariants as fault
 use Rattle.bytecode.specs.Fields.{u16_bytes, u32_bytes, flag_number, role_number, kind_number, combination_number, name_bytes, variable_bytes}
 use Rattle.bytecode.specs.Fits.{SayableVariable}
 use Rattle.bytecode.specs.Reading.{◌>>=◌, or_field}

@@ -12,8 +12,8 @@ use Rattle.sc_graph.specs.declared.program.Variable.{Variable}
 use Rattle.sc_graph.specs.Limits.{count_limit}
 use Rattle.bytecode.specs.declared.rows.ThreadRow.{ThreadRow}
 use Rattle.bytecode.specs.declared.rows.NodeRow.{NodeRow}
-use Rattle.bytecode.specs.declared.fault.Fault.{Fault}
-use Rattle.bytecode.specs.declared.fault.Fault.TheVariants as fault
+use Rattle.bytecode.specs.declared.fault.DecodeFault.{DecodeFault}
+use Rattle.bytecode.specs.declared.fault.DecodeFault.TheVariants as fault
 use Rattle.bytecode.specs.Image.{Image}
 use Rattle.bytecode.specs.Fields.{u16_bytes, u32_bytes, variable_bytes}
 use Rattle.bytecode.specs.Nodes.{thread_bytes, node_bytes}
@@ -175,7 +175,7 @@ image_again version bytes i spells =
 -- ---- bytes behind an image
 
 -- a test that failed
-failed : {A : Type 0} (b : Bool) (x : A) (f : Fault) → cond b (Ok x) (Err f) ≡ Err f → b ≡ false
+failed : {A : Type 0} (b : Bool) (x : A) (f : DecodeFault) → cond b (Ok x) (Err f) ≡ Err f → b ≡ false
 failed true x f e = absurd cc
 failed false x f e = refl
 

@@ -11,8 +11,8 @@ use Rattle.sc_values.specs.Division.{divisor_of}
 use Rattle.sc_values.specs.Limits.{name_limit, operation_limit}
 use Rattle.sc_graph.specs.declared.program.Step.{Step}
 use Rattle.sc_graph.specs.declared.program.Step.TheVariants as step
-use Rattle.bytecode.specs.declared.fault.Fault.{Fault}
-use Rattle.bytecode.specs.declared.fault.Fault.TheVariants as fault
+use Rattle.bytecode.specs.declared.fault.DecodeFault.{DecodeFault}
+use Rattle.bytecode.specs.declared.fault.DecodeFault.TheVariants as fault
 use Rattle.bytecode.specs.Image.{Image}
 use Rattle.bytecode.specs.Layout.{magic}
 use Rattle.bytecode.specs.Reading.{◌>>=◌, Reader, or_field, each_at}
@@ -24,7 +24,7 @@ use Rattle.bytecode.proofs.FieldLaws.{bytes_again}
 
 -- of what was read, and of what is read with so many bytes more: what was good comes to this, and each fault but that
 -- of short bytes is the same fault
-abbrev pub Grown : {A : Type 0} → (A → Result A Fault) → ℕ → Result A Fault → Result A Fault → Type 0
+abbrev pub Grown : {A : Type 0} → (A → Result A DecodeFault) → ℕ → Result A DecodeFault → Result A DecodeFault → Type 0
 Grown after n (Ok x) longer = longer ≡ after x
 Grown after n (Err fault.Short) longer = Unit {0}
 Grown after n (Err fault.Magic) longer = longer ≡ Err fault.Magic
@@ -37,28 +37,28 @@ Grown after n (Err (fault.Field left)) longer = longer ≡ Err (fault.Field (lef
 abbrev pub more_left : {A : Type 0} → List ℕ → A × List ℕ → A × List ℕ
 more_left more x = (x.0, x.1 ++ more)
 
-abbrev pub good : {A : Type 0} → A → Result A Fault
+abbrev pub good : {A : Type 0} → A → Result A DecodeFault
 good x = Ok x
 
 abbrev pub Grows : {A : Type 0} → Reader A → Type 0
 Grows read = (bytes more : List ℕ) → Grown (λ x. good (more_left more x)) (length more) (read bytes) (read (bytes ++ more))
 
 -- one reader and then another
-then_grows : {A B : Type 0} (grow : A → A) (after : B → Result B Fault) (n : ℕ) (r longer : Result A Fault) (f g : A → Result B Fault)
+then_grows : {A B : Type 0} (grow : A → A) (after : B → Result B DecodeFault) (n : ℕ) (r longer : Result A DecodeFault) (f g : A → Result B DecodeFault)
     → Grown (λ x. good (grow x)) n r longer → ((x : A) → Grown after n (f x) (g (grow x))) → Grown after n (r >>= f) (longer >>= g)
 then_grows {A} {B} grow after n (Ok x) longer f g first next =
-    subst (λ (r : Result A Fault). Grown after n (f x) (r >>= g)) (sym first) (next x)
+    subst (λ (r : Result A DecodeFault). Grown after n (f x) (r >>= g)) (sym first) (next x)
 then_grows {A} {B} grow after n (Err fault.Short) longer f g first next = tt
-then_grows {A} {B} grow after n (Err fault.Magic) longer f g first next = ap (λ (r : Result A Fault). r >>= g) first
-then_grows {A} {B} grow after n (Err fault.Version) longer f g first next = ap (λ (r : Result A Fault). r >>= g) first
-then_grows {A} {B} grow after n (Err fault.Trailing) longer f g first next = ap (λ (r : Result A Fault). r >>= g) first
-then_grows {A} {B} grow after n (Err fault.Memory) longer f g first next = ap (λ (r : Result A Fault). r >>= g) first
-then_grows {A} {B} grow after n (Err (fault.Field left)) longer f g first next = ap (λ (r : Result A Fault). r >>= g) first
+then_grows {A} {B} grow after n (Err fault.Magic) longer f g first next = ap (λ (r : Result A DecodeFault). r >>= g) first
+then_grows {A} {B} grow after n (Err fault.Version) longer f g first next = ap (λ (r : Result A DecodeFault). r >>= g) first
+then_grows {A} {B} grow after n (Err fault.Trailing) longer f g first next = ap (λ (r : Result A DecodeFault). r >>= g) first
+then_grows {A} {B} grow after n (Err fault.Memory) longer f g first next = ap (λ (r : Result A DecodeFault). r >>= g) first
+then_grows {A} {B} grow after n (Err (fault.Field left)) longer f g first next = ap (λ (r : Result A DecodeFault). r >>= g) first
 
 -- a choice that is made or is a bad field
 field_grows : {A : Type 0} (bytes more : List ℕ) (o : Option A) → Grown good (length more) (or_field bytes o) (or_field (bytes ++ more) o)
 field_grows {A} bytes more None =
-    let fault_of : ℕ → Result A Fault = λ n. Err (fault.Field n) in ap fault_of (length-append bytes more)
+    let fault_of : ℕ → Result A DecodeFault = λ n. Err (fault.Field n) in ap fault_of (length-append bytes more)
 field_grows bytes more (Some x) = refl
 
 -- ---- fields
@@ -97,10 +97,10 @@ unfolding length_at byte_at
 length_grows least most [] more = tt
 length_grows least most (b ∷ rest) more = when (leb least b && leb b most)
   where
-    fault_of : ℕ → Result (ℕ × List ℕ) Fault
+    fault_of : ℕ → Result (ℕ × List ℕ) DecodeFault
     fault_of n = Err (fault.Field n)
 
-    got : List ℕ → Result (ℕ × List ℕ) Fault
+    got : List ℕ → Result (ℕ × List ℕ) DecodeFault
     got left = Ok (b, left)
 
     when : (is : Bool) → Grown (λ x. good (more_left more x)) (length more) (cond is (got rest) (fault_of (suc (length rest))))
@@ -224,7 +224,7 @@ step_body_grows version (suc (suc (suc (suc (suc zero))))) rest more = target_gr
 step_body_grows version (suc (suc (suc (suc (suc (suc zero)))))) rest more = target_grows step.Surf rest more
 step_body_grows version (suc (suc (suc (suc (suc (suc (suc zero))))))) rest more = target_grows step.Depth rest more
 step_body_grows version (suc (suc (suc (suc (suc (suc (suc (suc n)))))))) rest more =
-    let fault_of : ℕ → Result (Step × List ℕ) Fault = λ n. Err (fault.Field n) in ap fault_of (length-append (suc (suc (suc (suc (suc (suc (suc (suc n))))))) ∷ rest) more)
+    let fault_of : ℕ → Result (Step × List ℕ) DecodeFault = λ n. Err (fault.Field n) in ap fault_of (length-append (suc (suc (suc (suc (suc (suc (suc (suc n))))))) ∷ rest) more)
 
 step_grows : (version : ℕ) → Grows (tagged_step_at version)
 unfolding tagged_step_at byte_at
@@ -248,7 +248,7 @@ counted_grows read grows bytes more =
     then_grows (more_left more) _ (length more) _ _ _ _ (number_grows w16 bytes more) (λ count. each_grows read grows count.0 count.1 more)
 
 -- a test that is passed or is a fault of no field
-tested_grows : (b : Bool) (rest more : List ℕ) (f : Fault) → Grown good (length more) (cond false (good rest) (Err f)) (Err f)
+tested_grows : (b : Bool) (rest more : List ℕ) (f : DecodeFault) → Grown good (length more) (cond false (good rest) (Err f)) (Err f)
     → Grown (λ (r : List ℕ). good (r ++ more)) (length more) (cond b (Ok rest) (Err f)) (cond b (Ok (rest ++ more)) (Err f))
 tested_grows true rest more f same = refl
 tested_grows false rest more fault.Short same = tt
@@ -267,7 +267,7 @@ header_grows version bytes more =
     (λ number. tested_grows (eqb number.0 version) number.1 more fault.Version refl)))
 
 -- an image that is whole has a tail then
-abbrev pub tailed : Image → Result Image Fault
+abbrev pub tailed : Image → Result Image DecodeFault
 tailed i = Err fault.Trailing
 
 ended_grows : (i : Image) (rest more : List ℕ) → more ≢ []

@@ -12,10 +12,8 @@ use Rattle.sc_values.specs.Division.{divisor_of}
 use Rattle.sc_values.specs.Limits.{name_limit, operation_limit}
 use Rattle.sc_graph.specs.declared.program.Step.{Step}
 use Rattle.sc_graph.specs.declared.program.Step.TheVariants as step
-use Rattle.bytecode.specs.declared.fault.Fault.{Fault}
-use Rattle.bytecode.specs.declared.fault.Fault.TheVariants as fault
 use Rattle.bytecode.specs.declared.fault.DecodeFault.{DecodeFault}
-use Rattle.bytecode.specs.declared.fault.DecodeFault.TheVariants as decode
+use Rattle.bytecode.specs.declared.fault.DecodeFault.TheVariants as fault
 use Rattle.bytecode.specs.Image.{Image}
 use Rattle.bytecode.specs.Layout.{magic}
 use Rattle.bytecode.specs.Reading.{◌>>=◌, Reader, or_field, each_at}
@@ -26,18 +24,18 @@ use Rattle.bytecode.specs.Reading.Image.{counted_at, header_at, image_of, body_a
 use Rattle.bytecode.proofs.Readers.{bind_ok, passed, not_short}
 
 -- of n bytes: a bad field begins at one of them, and what is to hold of a tail
-abbrev IsWithin : Type 0 → ℕ → Fault → Type 0
+abbrev IsWithin : Type 0 → ℕ → DecodeFault → Type 0
 IsWithin tail n (fault.Field left) = (0 < left) × (left ≤ n)
 IsWithin tail n fault.Memory = ⊥
 IsWithin tail n fault.Trailing = tail
 IsWithin tail n other = Unit {0}
 
 -- of n bytes: no more are left, and a bad field begins at one of them
-abbrev StaysOr : {A : Type 0} → Type 0 → (A → ℕ) → ℕ → Result A Fault → Type 0
+abbrev StaysOr : {A : Type 0} → Type 0 → (A → ℕ) → ℕ → Result A DecodeFault → Type 0
 StaysOr tail left n (Ok x) = left x ≤ n
 StaysOr tail left n (Err f) = IsWithin tail n f
 
-abbrev pub Stays : {A : Type 0} → (A → ℕ) → ℕ → Result A Fault → Type 0
+abbrev pub Stays : {A : Type 0} → (A → ℕ) → ℕ → Result A DecodeFault → Type 0
 Stays left n r = StaysOr ⊥ left n r
 
 -- the bytes after what was read
@@ -47,7 +45,7 @@ unread x = length x.1
 abbrev all_read : Image → ℕ
 all_read i = 0
 
-within_more : (tail : Type 0) (m n : ℕ) (f : Fault) → m ≤ n → IsWithin tail m f → IsWithin tail n f
+within_more : (tail : Type 0) (m n : ℕ) (f : DecodeFault) → m ≤ n → IsWithin tail m f → IsWithin tail n f
 within_more tail m n fault.Short le is = tt
 within_more tail m n fault.Magic le is = tt
 within_more tail m n fault.Version le is = tt
@@ -55,11 +53,11 @@ within_more tail m n fault.Trailing le is = is
 within_more tail m n fault.Memory le is = is
 within_more tail m n (fault.Field left) le is = (is.0, omega (arith, is.1, le))
 
-stays_in_more : {A : Type 0} (tail : Type 0) (left : A → ℕ) (m n : ℕ) (r : Result A Fault) → m ≤ n → StaysOr tail left m r → StaysOr tail left n r
+stays_in_more : {A : Type 0} (tail : Type 0) (left : A → ℕ) (m n : ℕ) (r : Result A DecodeFault) → m ≤ n → StaysOr tail left m r → StaysOr tail left n r
 stays_in_more tail left m n (Ok x) le is = omega (arith, is, le)
 stays_in_more tail left m n (Err f) le is = within_more tail m n f le is
 
-within_or : (tail : Type 0) (n : ℕ) (f : Fault) → IsWithin ⊥ n f → IsWithin tail n f
+within_or : (tail : Type 0) (n : ℕ) (f : DecodeFault) → IsWithin ⊥ n f → IsWithin tail n f
 within_or tail n fault.Short is = tt
 within_or tail n fault.Magic is = tt
 within_or tail n fault.Version is = tt
@@ -68,19 +66,19 @@ within_or tail n fault.Memory is = is
 within_or tail n (fault.Field left) is = is
 
 -- one reader and then another
-then_stays : {A B : Type 0} (left : A → ℕ) (after : B → ℕ) (n : ℕ) (r : Result A Fault) (f : A → Result B Fault)
+then_stays : {A B : Type 0} (left : A → ℕ) (after : B → ℕ) (n : ℕ) (r : Result A DecodeFault) (f : A → Result B DecodeFault)
     → Stays left n r → ((x : A) → r ≡ Ok x → Stays after (left x) (f x)) → Stays after n (r >>= f)
 then_stays left after n (Ok x) f first next = stays_in_more ⊥ after (left x) n (f x) first (next x refl)
 then_stays left after n (Err e) f first next = first
 
 -- one reader and then what may end with a tail
-then_may_end : {A B : Type 0} (left : A → ℕ) (after : B → ℕ) (n : ℕ) (r : Result A Fault) (f : A → Result B Fault)
+then_may_end : {A B : Type 0} (left : A → ℕ) (after : B → ℕ) (n : ℕ) (r : Result A DecodeFault) (f : A → Result B DecodeFault)
     → Stays left n r → ((x : A) → r ≡ Ok x → StaysOr (Unit {0}) after (left x) (f x)) → StaysOr (Unit {0}) after n (r >>= f)
 then_may_end left after n (Ok x) f first next = stays_in_more (Unit {0}) after (left x) n (f x) first (next x refl)
 then_may_end left after n (Err e) f first next = within_or (Unit {0}) n e first
 
 -- a tail was not said by the first reader
-pub tail_behind : {A B : Type 0} (left : A → ℕ) (n : ℕ) (r : Result A Fault) (f : A → Result B Fault)
+pub tail_behind : {A B : Type 0} (left : A → ℕ) (n : ℕ) (r : Result A DecodeFault) (f : A → Result B DecodeFault)
     → Stays left n r → (r >>= f) ≡ Err fault.Trailing → (x : A) × (r ≡ Ok x) × (f x ≡ Err fault.Trailing)
 tail_behind left n (Ok x) f first e = (x, refl, e)
 tail_behind left n (Err fault.Short) f first e = absurd cc
@@ -91,7 +89,7 @@ tail_behind left n (Err fault.Memory) f first e = absurd first
 tail_behind left n (Err (fault.Field at)) f first e = absurd cc
 
 -- a choice that is made or is a bad field
-chosen_stays : {A B : Type 0} (after : B → ℕ) (bytes : List ℕ) (o : Option A) (f : A → Result B Fault)
+chosen_stays : {A B : Type 0} (after : B → ℕ) (bytes : List ℕ) (o : Option A) (f : A → Result B DecodeFault)
     → 0 < length bytes → ((x : A) → Stays after (length bytes) (f x)) → Stays after (length bytes) (or_field bytes o >>= f)
 chosen_stays after bytes None f some next = (some, omega arith)
 chosen_stays after bytes (Some x) f some next = next x
@@ -153,7 +151,7 @@ bytes_enough n bytes x e = ltb-false _ _ (not_short (ltb (length bytes) n) fault
 text_stays : (n : ℕ) (bytes : List ℕ) → 1 ≤ n → Stays unread (length bytes) (bytes_at n bytes >>= λ text. or_field bytes (name_of text.0) >>= λ name. Ok (name, text.1))
 text_stays n bytes some = when (bytes_at n bytes) refl
   where
-    when : (r : Result (List ℕ × List ℕ) Fault) → bytes_at n bytes ≡ r → Stays unread (length bytes) (r >>= λ text. or_field bytes (name_of text.0) >>= λ name. Ok (name, text.1))
+    when : (r : Result (List ℕ × List ℕ) DecodeFault) → bytes_at n bytes ≡ r → Stays unread (length bytes) (r >>= λ text. or_field bytes (name_of text.0) >>= λ name. Ok (name, text.1))
     when (Err f) e = subst (Stays unread (length bytes)) e (bytes_stay n bytes)
     when (Ok x) e =
         let enough = bytes_enough n bytes x e in
@@ -176,7 +174,7 @@ variable_stays bytes =
 -- ---- codes
 
 -- one byte more before these
-behind_byte : {A : Type 0} (rest : List ℕ) (r : Result (A × List ℕ) Fault) → Stays unread (length rest) r → Stays unread (suc (length rest)) r
+behind_byte : {A : Type 0} (rest : List ℕ) (r : Result (A × List ℕ) DecodeFault) → Stays unread (length rest) r → Stays unread (suc (length rest)) r
 behind_byte rest r is = stays_in_more ⊥ unread (length rest) (suc (length rest)) r (omega arith) is
 
 operation_body_stays : (number : ℕ) (rest : List ℕ) → Stays unread (suc (length rest)) (operation_body (number ∷ rest) number rest)
@@ -198,7 +196,7 @@ divisor_stays : (bytes : List ℕ) → Stays unread (length bytes) (divisor_at b
 unfolding divisor_at
 divisor_stays bytes = when (number_at w32 bytes) refl
   where
-    when : (r : Result (ℕ × List ℕ) Fault) → number_at w32 bytes ≡ r
+    when : (r : Result (ℕ × List ℕ) DecodeFault) → number_at w32 bytes ≡ r
         → Stays unread (length bytes) (r >>= λ n. or_field bytes (divisor_of (cast_signed w32 n.0)) >>= λ d. Ok (d, n.1))
     when (Err f) e = subst (Stays unread (length bytes)) e (number_stays w32 bytes)
     when (Ok x) e =
@@ -294,7 +292,7 @@ counted_stays read stays bytes =
     then_stays unread unread _ (number_at w16 bytes) _ (number_stays w16 bytes) (λ count e. each_stays read stays count.0 count.1)
 
 -- a test that leads to an image or to a fault of no field
-tested_stays : {A : Type 0} (tail : Type 0) (left : A → ℕ) (n : ℕ) (b : Bool) (x : A) (f : Fault) → left x ≤ n → IsWithin tail n f → StaysOr tail left n (cond b (Ok x) (Err f))
+tested_stays : {A : Type 0} (tail : Type 0) (left : A → ℕ) (n : ℕ) (b : Bool) (x : A) (f : DecodeFault) → left x ≤ n → IsWithin tail n f → StaysOr tail left n (cond b (Ok x) (Err f))
 tested_stays tail left n true x f kept none = kept
 tested_stays tail left n false x f kept none = none
 
@@ -328,7 +326,7 @@ pub image_remembers : (version : ℕ) (bytes : List ℕ) → image_at version by
 image_remembers version bytes e = subst (StaysOr (Unit {0}) all_read (length bytes)) e (image_stays version bytes)
 
 -- a bad field of these bytes has the offset of one of them
-offset_within : (bytes : List ℕ) (r : Result Image Fault) (offset : ℕ) → StaysOr (Unit {0}) all_read (length bytes) r → IsErrOf (answer bytes r) (decode.Field offset) → offset < length bytes
+offset_within : (bytes : List ℕ) (r : Result Image DecodeFault) (offset : ℕ) → StaysOr (Unit {0}) all_read (length bytes) r → IsErrOf (answer bytes r) (fault.Field offset) → offset < length bytes
 offset_within bytes (Ok i) offset stays e = absurd cc
 offset_within bytes (Err fault.Short) offset stays e = absurd cc
 offset_within bytes (Err fault.Magic) offset stays e = absurd cc
@@ -340,7 +338,7 @@ offset_within bytes (Err (fault.Field left)) offset stays e =
     omega (arith, same, stays.0, stays.1)
 
 -- what a function answers of a reading
-pub fault_within : (version : ℕ) (bytes : List ℕ) (r : Result Image DecodeFault) (offset : ℕ) → Answers r (reading version bytes) → IsErrOf r (decode.Field offset) → offset < length bytes
+pub fault_within : (version : ℕ) (bytes : List ℕ) (r : Result Image DecodeFault) (offset : ℕ) → Answers r (reading version bytes) → IsErrOf r (fault.Field offset) → offset < length bytes
 unfolding reading
 fault_within version bytes r offset given is =
     offset_within bytes (image_at version bytes) offset (image_stays version bytes) (subst (λ (x : Result Image DecodeFault). Answers x (answer bytes (image_at version bytes))) is given)

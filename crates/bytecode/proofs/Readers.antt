@@ -4,7 +4,7 @@ use Rattle.std.specs.List.{flat_map, AllByRecursion}
 use Rattle.std.proofs.lemmas.Bool.{cases_lt}
 use Rattle.std.proofs.lemmas.List.{length-take, get_or-drop, get_or-take, get_or_past}
 use Rattle.std.proofs.lemmas.List.Concat.{flat_map-cons}
-use Rattle.bytecode.specs.declared.fault.Fault.{Fault}
+use Rattle.bytecode.specs.declared.fault.DecodeFault.{DecodeFault}
 use Rattle.bytecode.specs.Reading.{◌>>=◌, Reader, or_field, each_at}
 
 abbrev pub IsBytes : List ℕ → Type 0
@@ -21,16 +21,16 @@ IsBytes-take n bytes h i =
     ]
 
 -- the value of a step that did not fail
-pub bind_ok : {A B : Type 0} (r : Result A Fault) (f : A → Result B Fault) (y : B) → (r >>= f) ≡ Ok y → (x : A) × (r ≡ Ok x) × (f x ≡ Ok y)
+pub bind_ok : {A B : Type 0} (r : Result A DecodeFault) (f : A → Result B DecodeFault) (y : B) → (r >>= f) ≡ Ok y → (x : A) × (r ≡ Ok x) × (f x ≡ Ok y)
 bind_ok (Ok x) f y e = (x, refl, e)
 bind_ok (Err d) f y e = absurd cc
 
 -- a test that did not fail
-pub passed : {A : Type 0} (b : Bool) (d : Fault) (x y : A) → cond b (Ok x) (Err d) ≡ Ok y → (b ≡ true) × (x ≡ y)
+pub passed : {A : Type 0} (b : Bool) (d : DecodeFault) (x y : A) → cond b (Ok x) (Err d) ≡ Ok y → (b ≡ true) × (x ≡ y)
 passed true d x y e = (refl, cc)
 passed false d x y e = absurd cc
 
-pub not_short : {A : Type 0} (b : Bool) (d : Fault) (x y : A) → cond b (Err d) (Ok x) ≡ Ok y → (b ≡ false) × (x ≡ y)
+pub not_short : {A : Type 0} (b : Bool) (d : DecodeFault) (x y : A) → cond b (Err d) (Ok x) ≡ Ok y → (b ≡ false) × (x ≡ y)
 not_short true d x y e = absurd cc
 not_short false d x y e = (refl, cc)
 
@@ -39,7 +39,7 @@ pub chosen : {A : Type 0} (bytes : List ℕ) (o : Option A) (x : A) → or_field
 chosen bytes None x e = absurd cc
 chosen bytes (Some a) x e = cc
 
-abbrev done : {A : Type 0} → A → Result A Fault
+abbrev done : {A : Type 0} → A → Result A DecodeFault
 done x = Ok x
 
 pub ok_is : {A : Type 0} (x y : A) → done x ≡ done y → x ≡ y
@@ -59,13 +59,13 @@ pub record IsRead {A : Type 0} (read : Reader A) (text : A → List ℕ) (Fits :
   pub again : (a : A) (rest : List ℕ) → Fits a → read (text a ++ rest) ≡ Ok (a, rest)
 
 -- the first reader of several, and what it took
-pub record First {A B : Type 0} (read : Reader A) (text : A → List ℕ) (Fits : A → Type 0) (bytes : List ℕ) (f : A × List ℕ → Result B Fault) (y : B) : Type 0 where
+pub record First {A B : Type 0} (read : Reader A) (text : A → List ℕ) (Fits : A → Type 0) (bytes : List ℕ) (f : A × List ℕ → Result B DecodeFault) (y : B) : Type 0 where
   pub got : A × List ℕ
   pub took : Takes bytes (text got.0) got.1
   pub fits : Fits got.0
   pub next : f got ≡ Ok y
 
-pub first : {A B : Type 0} {read : Reader A} {text : A → List ℕ} {Fits : A → Type 0} (law : IsRead read text Fits) (bytes : List ℕ) (f : A × List ℕ → Result B Fault) (y : B)
+pub first : {A B : Type 0} {read : Reader A} {text : A → List ℕ} {Fits : A → Type 0} (law : IsRead read text Fits) (bytes : List ℕ) (f : A × List ℕ → Result B DecodeFault) (y : B)
     → IsBytes bytes → (read bytes >>= f) ≡ Ok y → First read text Fits bytes f y
 first {read = read} law bytes f y fits e =
     let a = bind_ok (read bytes) f y e in

@@ -1,7 +1,7 @@
 //! Why bytes are no image.
 
 ghost use Rattle.std.specs.Prelude.{◌≡◌};
-ghost use Rattle.bytecode.specs.declared.fault.Fault.TheVariants.{Memory};
+ghost use Rattle.bytecode.specs.declared.fault.DecodeFault.TheVariants.{Memory};
 
 use std::alloc::{AllocError, AllocFailed};
 use std::error::Error;
@@ -45,47 +45,33 @@ impl fmt::Display for DecodeFault {
 
 impl Error for DecodeFault {}
 
-/// A fault as it is met: a bad field is named by how many bytes there are from its first one on.
-#[derive(Clone, Copy, Debug, PartialEq, Eq)]
-pub enum Fault {
-    Short,
-    Magic,
-    Version,
-    Trailing,
-    Field(usize),
-    Memory,
-}
-
-impl Fault {
+impl DecodeFault {
     ghost use Rattle.bytecode.specs.Reading.Image.{told};
 
-    /// This fault in these bytes.
-    pub fn in_bytes(self, bytes: &[u8]) -> DecodeFault
+    // This fault of a reader, in the bytes from which reading began: within the readers `Field` counts the
+    // bytes from the field's first one on, and here it becomes that byte's offset.
+    pub(crate) fn in_bytes(self, bytes: &[u8]) -> DecodeFault
         ensures { result ≡ told bytes.now self }
     {
         match self {
-            Fault::Short => DecodeFault::Short,
-            Fault::Magic => DecodeFault::Magic,
-            Fault::Version => DecodeFault::Version,
-            Fault::Trailing => DecodeFault::Trailing,
-            Fault::Field(left) => DecodeFault::Field(bytes.len().saturating_sub(left)),
-            Fault::Memory => DecodeFault::Memory,
+            DecodeFault::Field(left) => DecodeFault::Field(bytes.len().saturating_sub(left)),
+            fault => fault,
         }
     }
 }
 
-impl From<AllocError> for Fault {
+impl From<AllocError> for DecodeFault {
     ghost from_gives = { λ _ e. e ≡ Memory };
 
-    fn from(_e: AllocError) -> Fault {
-        Fault::Memory
+    fn from(_e: AllocError) -> DecodeFault {
+        DecodeFault::Memory
     }
 }
 
-impl<T: Drop> From<AllocFailed<T>> for Fault {
+impl<T: Drop> From<AllocFailed<T>> for DecodeFault {
     ghost from_gives = { λ _ e. e ≡ Memory };
 
-    fn from(_e: AllocFailed<T>) -> Fault {
-        Fault::Memory
+    fn from(_e: AllocFailed<T>) -> DecodeFault {
+        DecodeFault::Memory
     }
 }

@@ -5,10 +5,11 @@ use Rattle.sc_graph.specs.declared.program.Variable.{Variable}
 use Rattle.scl.specs.declared.statement.Statement.{Statement}
 use Rattle.scl.specs.declared.statement.Statement.TheOpen as text
 use Rattle.scl.specs.Rules.{part, is_in, thread}
+use Rattle.sc_text.proofs.EachItem.{Each}
 use Rattle.chart_lowering.specs.declared.targets.Targets.{Targets}
 use Rattle.chart_lowering.specs.Lowering.{label_name, label, StatePiece, labels_in_states, labels_in_initial, numbers, texts, body, targets, body_from}
 use Rattle.chart_lowering.proofs.Parts.{part_of_label, row, row_append}
-use Rattle.chart_lowering.proofs.Pieces.{Each, IsPiece, or_cases, same_name, is_in_left, is_in_right, empty_piece, label_piece, thread_piece}
+use Rattle.chart_lowering.proofs.Pieces.{IsPiece, or_cases, same_name, is_in_left, is_in_right, empty_piece, label_piece, thread_piece}
 use Rattle.chart_lowering.proofs.Inside.{targets_of, first_piece, append_piece, begins_with}
 
 -- what is known of a state's text: that it is a piece wherever its numbers begin, and begins with its label

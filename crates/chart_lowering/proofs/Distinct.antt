@@ -5,10 +5,10 @@ use Rattle.std.specs.Str.{bytes_eq}
 use Rattle.std.proofs.lemmas.Bool.{eq-eqb}
 use Rattle.std.proofs.lemmas.Slice.Eq.{bytes_eq-Decides}
 use Rattle.sc_text.specs.Parts.{are_distinct}
+use Rattle.sc_text.proofs.EachItem.{Each}
 use Rattle.chart_lowering.specs.Lowering.{label_name}
 use Rattle.chart_lowering.proofs.Names.{IsCountable, names_differ}
 use Rattle.chart_lowering.proofs.Once.{count}
-use Rattle.chart_lowering.proofs.Pieces.{Each}
 
 false_where_never : (b : Bool) → (IsTrue b → ⊥) → b ≡ false
 false_where_never true never = absurd (never refl)

@@ -14,10 +14,11 @@ use Rattle.core_charts.specs.declared.region.Effect.{Effect}
 use Rattle.core_charts.specs.declared.region.Transition.{Transition}
 use Rattle.core_charts.specs.Rules.{IsEffect, kinds_of}
 use Rattle.core_charts.specs.Standing.{at_once, terminations}
+use Rattle.sc_text.proofs.EachItem.{Each}
 use Rattle.chart_lowering.specs.declared.targets.Targets.{Targets}
 use Rattle.chart_lowering.specs.Lowering.{label_name, label, goto, label_at, assignment, taken, tested, transitions, is_sure, leaves_surely, RegionPiece, labels_in, labels_of_simple, branches, depth, simple, final, behind, superstate, labels_behind}
 use Rattle.chart_lowering.proofs.Parts.{part_of_assign, part_of_label, part_of_goto, part_of_pause, part_of_if, part_of_fork, row, row_append}
-use Rattle.chart_lowering.proofs.Pieces.{Each, IsPiece, or_left, or_right, or_cases, name_itself, both_pieces, empty_piece, label_piece, goto_piece, assign_piece, if_piece, fork_piece, widened, narrowed}
+use Rattle.chart_lowering.proofs.Pieces.{IsPiece, or_left, or_right, or_cases, name_itself, both_pieces, empty_piece, label_piece, goto_piece, assign_piece, if_piece, fork_piece, widened, narrowed}
 
 -- a statement, and behind it a text whose labels have the next numbers
 pub first_piece : (variables : List Variable) (targets : List (List ℕ)) (deep most from m n mid size : ℕ) (s : Statement) (rest : List Statement) (p : Part)

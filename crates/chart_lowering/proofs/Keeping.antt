@@ -14,8 +14,8 @@ use Rattle.core_charts.specs.declared.region.Region.TheViews.{out-Region, out-St
 use Rattle.core_charts.specs.declared.region.Region.TheFolds.{fold_out-Region, fold_out-State}
 use Rattle.core_charts.specs.Rules.{IsEffect, IsTransition, IsState, IsRegion, AreRegions, has_regions, region_limit}
 use Rattle.core_charts.specs.Standing.{at_once, is_join, terminations}
+use Rattle.sc_text.proofs.EachItem.{Each, each_of}
 use Rattle.chart_lowering.specs.Lowering.{branches, transitions, depth, behind, labels_in, RegionPiece, StatePiece, text_of, labels_of, region_piece, state_piece, piece_of_region, piece_of_state}
-use Rattle.chart_lowering.proofs.Pieces.{Each, each_of}
 use Rattle.chart_lowering.proofs.Inside.{IsTaken, IsBody, begins_with, simple_piece, final_piece, superstate_piece}
 use Rattle.chart_lowering.proofs.Bodies.{IsText, initial_count, body_is_piece}
 

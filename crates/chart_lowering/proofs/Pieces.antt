@@ -11,30 +11,9 @@ use Rattle.std.proofs.lemmas.List.{map-append}
 use Rattle.std.proofs.lemmas.Slice.Eq.{bytes_eq-Decides}
 use Rattle.scl.specs.declared.statement.Statement.TheOpen as text
 use Rattle.scl.specs.Rules.{Part, nothing, both, in_row, part, side_by_side, is_in, thread, IsAssignment}
+use Rattle.sc_text.proofs.EachItem.{Each, each_append, each_more}
 use Rattle.chart_lowering.specs.Lowering.{label_name}
 use Rattle.chart_lowering.proofs.Once.{count, count_append, Once, none_once, one_once, both_once, same_once}
-
--- each item of a list
-abbrev pub Each : {A : Type 0} → (A → Type 0) → List A → Type 0
-Each P [] = Unit {0}
-Each P (x ∷ xs) = P x × Each P xs
-
-pub each_append : {A : Type 0} (P : A → Type 0) (xs ys : List A) → Each P xs → Each P ys → Each P (xs ++ ys)
-each_append P [] ys h k = k
-each_append P (x ∷ xs) ys h k = (h.0, each_append P xs ys h.1 k)
-
-pub each_of : {A : Type 0} (P : A → Type 0) (xs : List A) → ((i : ℕ) (x : A) → slice_get xs i ≡ Some x → P x) → Each P xs
-each_of P [] h = tt
-each_of P (x ∷ xs) h = (h 0 x refl, each_of P xs (λ i y at. h (suc i) y at))
-
-pub each_at : {A : Type 0} (P : A → Type 0) (xs : List A) → Each P xs → (i : ℕ) (x : A) → slice_get xs i ≡ Some x → P x
-each_at P [] h i x at = absurd cc
-each_at P (y ∷ xs) h zero x at = let same : y ≡ x = cc in subst P same h.0
-each_at P (y ∷ xs) h (suc i) x at = each_at P xs h.1 i x at
-
-pub each_more : {A : Type 0} (P Q : A → Type 0) (xs : List A) → ((x : A) → P x → Q x) → Each P xs → Each Q xs
-each_more P Q [] f h = tt
-each_more P Q (x ∷ xs) f h = (f x h.0, each_more P Q xs f h.1)
 
 -- a name is among those to which a text may go, or among its own labels
 abbrev pub Leads : List (List ℕ) → List (List ℕ) → List ℕ → Type 0

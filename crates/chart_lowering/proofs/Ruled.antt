@@ -10,11 +10,12 @@ use Rattle.scl.specs.Rules.{Part, in_row, thread, fork_limit, IsAssignment, Keep
 use Rattle.core_charts.specs.declared.features.Features.{Features}
 use Rattle.core_charts.specs.Chart.{Chart}
 use Rattle.core_charts.specs.Rules.{IsChart, language as features_language}
+use Rattle.sc_text.proofs.EachItem.{Each, each_at, each_more}
 use Rattle.chart_lowering.specs.Lowering.{label_name, RegionPiece, labels_in, piece_of_region, lowered}
 use Rattle.chart_lowering.proofs.Names.{IsCountable, label_in_scl}
 use Rattle.chart_lowering.proofs.Once.{count}
 use Rattle.chart_lowering.proofs.Parts.{row, parts_are}
-use Rattle.chart_lowering.proofs.Pieces.{Each, each_at, each_more, IsPiece, empty_piece, thread_piece}
+use Rattle.chart_lowering.proofs.Pieces.{IsPiece, empty_piece, thread_piece}
 use Rattle.chart_lowering.proofs.Inside.{IsBody, fork_row}
 use Rattle.chart_lowering.proofs.Distinct.{names_distinct, all_below}
 use Rattle.chart_lowering.proofs.Keeping.{each_mapped, inner, same_length}

@@ -16,4 +16,5 @@ mod words;
 pub use checked::read_checked;
 pub use draft::{DraftChart, DraftEffect, DraftRegion, DraftState, DraftTransition};
 pub use laws::{chart_drafts_are_shaped, chart_texts_are_told};
+pub use region_flaws::state_names;
 pub use whole::read_draft;

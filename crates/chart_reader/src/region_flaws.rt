@@ -150,7 +150,8 @@ fn initial_count(states: &[DraftState]) -> usize
     count
 }
 
-fn state_names(alloc: Global, states: &[DraftState]) -> Result<Items<Name>, AllocError>
+/// The names of these states, in their order. Err: memory was refused.
+pub fn state_names(alloc: Global, states: &[DraftState]) -> Result<Items<Name>, AllocError>
     ensures { IfOk result (λ names. names ≡ state_names states.now) }
 {
     let mut names = Items::new(alloc);

@@ -5,10 +5,9 @@ ghost use Rattle.draft_parts.specs.Inside.{IsIndex};
 ghost use Rattle.draft_parts.specs.Resolved.{number_of};
 ghost use Rattle.chart_reader.specs.Flaws.{state_names};
 
-use chart_reader::DraftState;
+use chart_reader::{DraftState, state_names};
 use draft_parts::Index;
 use sc_values::Name;
-use sqlite_items::Items;
 use std::alloc::{AllocError, Global};
 
 /// What the transitions of a region lead to: its states, and a table of their places by name.
@@ -41,14 +40,4 @@ impl<'a> StateScope<'a> {
             None => 0,
         }
     }
-}
-
-fn state_names(alloc: Global, states: &[DraftState]) -> Result<Items<Name>, AllocError>
-    ensures { IfOk result (λ names. names ≡ state_names states.now) }
-{
-    let mut names = Items::new(alloc);
-    for state in states {
-        names.push(state.named.name)?;
-    }
-    Ok(names)
 }

@@ -12,3 +12,5 @@ pub mod WellTokens
 pub mod EachPart
 pub mod WritablePhrases
 pub mod Meanings
+pub mod AddedNames
+pub mod EachItem

@@ -10,7 +10,7 @@ use Rattle.sc_values.specs.Name.{is_name}
 use Rattle.sc_graph.specs.declared.program.Role.{Role}
 use Rattle.sc_graph.specs.declared.program.Role.TheVariants as role
 use Rattle.sc_graph.specs.declared.program.Variable.{Variable}
-use Rattle.bytecode.specs.declared.fault.Fault.TheVariants as fault
+use Rattle.bytecode.specs.declared.fault.DecodeFault.TheVariants as fault
 use Rattle.bytecode.specs.Reading.{◌>>=◌, Reader, or_field}
 
 -- so many bytes

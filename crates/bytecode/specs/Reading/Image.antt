@@ -6,9 +6,7 @@ use Rattle.sc_graph.specs.declared.program.Variable.{Variable}
 use Rattle.bytecode.specs.declared.rows.ThreadRow.{ThreadRow}
 use Rattle.bytecode.specs.declared.rows.NodeRow.{NodeRow}
 use Rattle.bytecode.specs.declared.fault.DecodeFault.{DecodeFault}
-use Rattle.bytecode.specs.declared.fault.DecodeFault.TheVariants as decode
-use Rattle.bytecode.specs.declared.fault.Fault.{Fault}
-use Rattle.bytecode.specs.declared.fault.Fault.TheVariants as fault
+use Rattle.bytecode.specs.declared.fault.DecodeFault.TheVariants as fault
 use Rattle.bytecode.specs.Image.{Image}
 use Rattle.bytecode.specs.Layout.{magic}
 use Rattle.bytecode.specs.Reading.{◌>>=◌, Reader, each_at}
@@ -22,7 +20,7 @@ counted_at read bytes = do
   each_at read count.0 count.1
 
 -- the bytes after the magic and the version
-unfoldable pub header_at : ℕ → List ℕ → Result (List ℕ) Fault
+unfoldable pub header_at : ℕ → List ℕ → Result (List ℕ) DecodeFault
 header_at version bytes = do
   start ← bytes_at 4 bytes
   marked ← (if pointwise nat_eq start.0 magic then Ok start.1 else Err fault.Magic)
@@ -43,7 +41,7 @@ image_of variables threads nodes budget = record {
 }
 
 -- the fields behind the header, and nothing behind them
-unfoldable pub body_at : ℕ → List ℕ → Result Image Fault
+unfoldable pub body_at : ℕ → List ℕ → Result Image DecodeFault
 body_at version bytes = do
   variables ← counted_at variable_at bytes
   threads ← counted_at thread_at variables.1
@@ -51,21 +49,18 @@ body_at version bytes = do
   budget ← number_at w32 nodes.1
   if length budget.1 == 0 then Ok (image_of variables.0 threads.0 nodes.0 budget.0) else Err fault.Trailing
 
-unfoldable pub image_at : ℕ → List ℕ → Result Image Fault
+unfoldable pub image_at : ℕ → List ℕ → Result Image DecodeFault
 image_at version bytes = do
   start ← header_at version bytes
   body_at version start
 
--- a fault in these bytes: a bad field is named by its offset
-abbrev pub told : List ℕ → Fault → DecodeFault
-told bytes fault.Short = decode.Short
-told bytes fault.Magic = decode.Magic
-told bytes fault.Version = decode.Version
-told bytes fault.Trailing = decode.Trailing
-told bytes (fault.Field left) = decode.Field (length bytes - left)
-told bytes fault.Memory = decode.Memory
+-- a fault of a reader in these bytes: a bad field, of which the reader says how many bytes there are from its first
+-- one on, is named by its offset
+abbrev pub told : List ℕ → DecodeFault → DecodeFault
+told bytes (fault.Field left) = fault.Field (length bytes - left)
+told bytes other = other
 
-abbrev pub answer : List ℕ → Result Image Fault → Result Image DecodeFault
+abbrev pub answer : List ℕ → Result Image DecodeFault → Result Image DecodeFault
 answer bytes (Ok i) = Ok i
 answer bytes (Err f) = Err (told bytes f)
 
@@ -84,5 +79,5 @@ reading version bytes = answer bytes (image_at version bytes)
 -- what a function returned is this, unless memory was refused
 abbrev pub Answers : Result Image DecodeFault → Result Image DecodeFault → Type 0
 Answers (Ok i) read = read ≡ Ok i
-Answers (Err decode.Memory) read = Unit {0}
+Answers (Err fault.Memory) read = Unit {0}
 Answers (Err f) read = read ≡ Err f

@@ -6,7 +6,7 @@ use Rattle.sc_graph.specs.declared.program.Step.TheVariants as step
 use Rattle.sc_graph.specs.Limits.{no_parent}
 use Rattle.bytecode.specs.declared.rows.ThreadRow.{ThreadRow}
 use Rattle.bytecode.specs.declared.rows.NodeRow.{NodeRow}
-use Rattle.bytecode.specs.declared.fault.Fault.TheVariants as fault
+use Rattle.bytecode.specs.declared.fault.DecodeFault.TheVariants as fault
 use Rattle.bytecode.specs.Reading.{◌>>=◌, Reader, each_at}
 use Rattle.bytecode.specs.Reading.Fields.{byte_at, number_at, choice_at, flags, combinations}
 use Rattle.bytecode.specs.Reading.Codes.{code_at}

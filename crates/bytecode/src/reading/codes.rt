@@ -7,7 +7,7 @@ ghost use Rattle.bytecode.specs.Inside.Readers.{GivesExactly};
 ghost use Rattle.bytecode.specs.Reading.Codes.{operation_body, divisor_at, is_division};
 ghost use Rattle.bytecode.specs.Reading.Codes.{division, operation_at, code_at};
 
-use crate::fault::Fault;
+use crate::fault::DecodeFault;
 use crate::reading::fields::{FLAGS, byte, choice, length, number16, number32};
 use sc_values::{BinaryOperator, Code, Divisor, OPERATION_LIMIT, Operation, UnaryOperator, Value};
 use sqlite_items::at;
@@ -30,18 +30,22 @@ const OPERATORS: [Operation; 15] = [
     Operation::Binary(BinaryOperator::GreaterOrEqual),
 ];
 
-fn operator<'b>(bytes: &[u8], number: u8, rest: &'b [u8]) -> Result<(Operation, &'b [u8]), Fault>
+fn operator<'b>(
+    bytes: &[u8],
+    number: u8,
+    rest: &'b [u8],
+) -> Result<(Operation, &'b [u8]), DecodeFault>
     requires { 3 ≤ number }
     ensures { GivesExactly (λ x. (x.0, x.1.now)) result (operation_body bytes.now number rest.now) }
 {
     match at(&OPERATORS, number as usize - 3) {
         Some(operator) => Ok((*operator, rest)),
-        None => Err(Fault::Field(bytes.len())),
+        None => Err(DecodeFault::Field(bytes.len())),
     }
 }
 
 #[tactic(auto, unfolding(crate::specs::Reading::Codes::operation_body))]
-fn body<'b>(bytes: &[u8], number: u8, rest: &'b [u8]) -> Result<(Operation, &'b [u8]), Fault>
+fn body<'b>(bytes: &[u8], number: u8, rest: &'b [u8]) -> Result<(Operation, &'b [u8]), DecodeFault>
     ensures { GivesExactly (λ x. (x.0, x.1.now)) result (operation_body bytes.now number rest.now) }
 {
     match number {
@@ -62,14 +66,14 @@ fn body<'b>(bytes: &[u8], number: u8, rest: &'b [u8]) -> Result<(Operation, &'b 
 }
 
 #[tactic(auto, unfolding(crate::specs::Reading::Codes::divisor_at))]
-fn divisor(bytes: &[u8]) -> Result<(Divisor, &[u8]), Fault>
+fn divisor(bytes: &[u8]) -> Result<(Divisor, &[u8]), DecodeFault>
     ensures { GivesExactly (λ x. (x.0, x.1.now)) result (divisor_at bytes.now) }
 {
     let (number, rest) = number32(bytes)?;
     let left = bytes.len();
     match Divisor::of(number.cast_signed()) {
         Some(divisor) => Ok((divisor, rest)),
-        None => Err(Fault::Field(left)),
+        None => Err(DecodeFault::Field(left)),
     }
 }
 
@@ -91,7 +95,7 @@ fn division(number: u8, divisor: Divisor) -> UnaryOperator
 }
 
 #[tactic(auto, unfolding(crate::specs::Reading::Codes::operation_at, crate::specs::Reading::Codes::division_at))]
-fn operation(version: u8, bytes: &[u8]) -> Result<(Operation, &[u8]), Fault>
+fn operation(version: u8, bytes: &[u8]) -> Result<(Operation, &[u8]), DecodeFault>
     ensures { GivesExactly (λ x. (x.0, x.1.now)) result (operation_at version bytes.now) }
 {
     let (number, rest) = byte(bytes)?;
@@ -103,7 +107,7 @@ fn operation(version: u8, bytes: &[u8]) -> Result<(Operation, &[u8]), Fault>
     }
 }
 
-fn operations(version: u8, count: u8, bytes: &[u8]) -> Result<(Code, &[u8]), Fault>
+fn operations(version: u8, count: u8, bytes: &[u8]) -> Result<(Code, &[u8]), DecodeFault>
     requires { count ≤ operation_limit }
     ensures { GivesExactly (λ x. (x.0, x.1.now)) result (each_at (operation_at version) count bytes.now) }
 {
@@ -119,7 +123,7 @@ fn operations(version: u8, count: u8, bytes: &[u8]) -> Result<(Code, &[u8]), Fau
 
 /// A code of this version of the layout: its number of operations, and these.
 #[tactic(auto, unfolding(crate::specs::Reading::Codes::code_at))]
-pub fn code(version: u8, bytes: &[u8]) -> Result<(Code, &[u8]), Fault>
+pub fn code(version: u8, bytes: &[u8]) -> Result<(Code, &[u8]), DecodeFault>
     ensures { GivesExactly (λ x. (x.0, x.1.now)) result (code_at version bytes.now) }
 {
     let (count, rest) = length(0, OPERATION_LIMIT as u8, bytes)?;

@@ -6,7 +6,6 @@ ghost use Rattle.sc_graph.specs.Layout.{FitsLayout};
 ghost use Rattle.bytecode.specs.Layout.{thread_rows, node_rows, HasHeader};
 ghost use Rattle.bytecode.specs.Inside.Columns.{AreThreads, AreNodes};
 ghost use Rattle.bytecode.specs.declared.fault.DecodeFault.TheVariants.{Field, Memory};
-ghost use Rattle.bytecode.specs.declared.fault.Fault.TheVariants as fault;
 ghost use Rattle.bytecode.specs.Image.{Image};
 ghost use Rattle.bytecode.specs.Spells.{Spells};
 ghost use Rattle.bytecode.specs.Reading.{each_at};
@@ -15,7 +14,7 @@ ghost use Rattle.bytecode.specs.Reading.Fields.{variable_at};
 ghost use Rattle.bytecode.specs.Reading.Nodes.{thread_at, node_at};
 ghost use Rattle.bytecode.specs.Reading.Image.{header_at, body_at, image_at, image_of, reading, version_of, Answers};
 
-use crate::fault::{DecodeFault, Fault};
+use crate::fault::DecodeFault;
 use crate::image::Image;
 use crate::layout::MAGIC;
 use crate::reading::fields::{byte, front, number16, number32, variable};
@@ -41,21 +40,25 @@ struct Nodes {
 }
 
 #[tactic(auto, unfolding(crate::specs::Reading::Image::header_at))]
-fn header(version: u8, bytes: &[u8]) -> Result<&[u8], Fault>
+fn header(version: u8, bytes: &[u8]) -> Result<&[u8], DecodeFault>
     ensures { GivesExactly (λ x. x.now) result (header_at version bytes.now) }
 {
     let (start, rest) = front(bytes, 4)?;
     if start != MAGIC.as_slice() {
-        return Err(Fault::Magic);
+        return Err(DecodeFault::Magic);
     }
     let (number, rest) = byte(rest)?;
     if number != version {
-        return Err(Fault::Version);
+        return Err(DecodeFault::Version);
     }
     Ok(rest)
 }
 
-fn variable_list(alloc: Global, count: u16, bytes: &[u8]) -> Result<(Items<Variable>, &[u8]), Fault>
+fn variable_list(
+    alloc: Global,
+    count: u16,
+    bytes: &[u8],
+) -> Result<(Items<Variable>, &[u8]), DecodeFault>
     ensures { Gives (λ x. (x.0, x.1.now)) result (each_at variable_at count bytes.now) }
 {
     let mut variables = Items::new(alloc);
@@ -72,7 +75,7 @@ fn variable_list(alloc: Global, count: u16, bytes: &[u8]) -> Result<(Items<Varia
     Ok((variables, rest))
 }
 
-fn thread_columns(alloc: Global, count: u16, bytes: &[u8]) -> Result<(Threads, &[u8]), Fault>
+fn thread_columns(alloc: Global, count: u16, bytes: &[u8]) -> Result<(Threads, &[u8]), DecodeFault>
     ensures gives { Gives (λ x. (thread_rows x.0.threads x.0.bounds, x.1.now)) result
         (each_at thread_at count bytes.now) }
     ensures lengths { IfOk result (λ x. AreThreads x.0.threads x.0.bounds count) }
@@ -94,7 +97,7 @@ fn node_columns(
     version: u8,
     count: u16,
     bytes: &[u8],
-) -> Result<(Nodes, &[u8]), Fault>
+) -> Result<(Nodes, &[u8]), DecodeFault>
     ensures gives { Gives (λ x. (node_rows x.0.nodes x.0.priorities x.0.weights x.0.end_bits, x.1.now)) result
         (each_at (node_at version) count bytes.now) }
     ensures lengths { IfOk result (λ x. AreNodes x.0.nodes x.0.priorities x.0.weights x.0.end_bits count) }
@@ -131,7 +134,7 @@ struct Parts {
 }
 
 #[tactic(auto, unfolding(crate::specs::Reading::Image::body_at, crate::specs::Reading::Image::counted_at))]
-fn all_parts(alloc: Global, version: u8, bytes: &[u8]) -> Result<Parts, Fault>
+fn all_parts(alloc: Global, version: u8, bytes: &[u8]) -> Result<Parts, DecodeFault>
     ensures gives { Gives (λ p. image_of p.variables (thread_rows p.threads.threads p.threads.bounds)
         (node_rows p.nodes.nodes p.nodes.priorities p.nodes.weights p.nodes.end_bits) p.budget) result
         (body_at version bytes.now) }
@@ -147,7 +150,7 @@ fn all_parts(alloc: Global, version: u8, bytes: &[u8]) -> Result<Parts, Fault>
     let (nodes, rest) = node_columns(alloc, version, count, rest)?;
     let (budget, rest) = number32(rest)?;
     if !rest.is_empty() {
-        return Err(Fault::Trailing);
+        return Err(DecodeFault::Trailing);
     }
     Ok(Parts {
         variables,
@@ -205,7 +208,7 @@ fn image_from(parts: Parts) -> Image
     }
 }
 
-fn body(alloc: Global, version: u8, bytes: &[u8]) -> Result<Image, Fault>
+fn body(alloc: Global, version: u8, bytes: &[u8]) -> Result<Image, DecodeFault>
     ensures { Gives (λ i. i) result (body_at version bytes.now) }
 {
     let parts = all_parts(alloc, version, bytes)?;
@@ -213,9 +216,9 @@ fn body(alloc: Global, version: u8, bytes: &[u8]) -> Result<Image, Fault>
 }
 
 #[tactic(auto, unfolding(crate::specs::Reading::Image::image_at))]
-fn image(alloc: Global, version: u8, bytes: &[u8]) -> Result<Image, Fault>
+fn image(alloc: Global, version: u8, bytes: &[u8]) -> Result<Image, DecodeFault>
     ensures gives { Gives (λ i. i) result (image_at version bytes.now) }
-    ensures memory { result ≡ Err fault.Memory → HasHeader version bytes.now }
+    ensures memory { result ≡ Err Memory → HasHeader version bytes.now }
 {
     let rest = header(version, bytes)?;
     body(alloc, version, rest)

@@ -8,7 +8,7 @@ ghost use Rattle.bytecode.specs.Reading.Fields.{number_at};
 ghost use Rattle.bytecode.specs.Reading.Nodes.{parent_of, thread_at, assign_at, update_at, cond_at};
 ghost use Rattle.bytecode.specs.Reading.Nodes.{fork_at, step_body, tagged_step_at, node_at};
 
-use crate::fault::Fault;
+use crate::fault::DecodeFault;
 use crate::reading::codes::code;
 use crate::reading::fields::{COMBINATIONS, FLAGS, byte, choice, number16, number32};
 use crate::rows::{NodeRow, ThreadRow};
@@ -28,7 +28,7 @@ fn parent(number: u16) -> Option<ThreadId>
 
 /// A thread and its bound.
 #[tactic(auto, unfolding(crate::specs::Reading::Nodes::thread_at))]
-pub fn thread(bytes: &[u8]) -> Result<(ThreadRow, &[u8]), Fault>
+pub fn thread(bytes: &[u8]) -> Result<(ThreadRow, &[u8]), DecodeFault>
     ensures { GivesExactly (λ x. (x.0, x.1.now)) result (thread_at bytes.now) }
 {
     let (number, rest) = number16(bytes)?;
@@ -40,7 +40,7 @@ pub fn thread(bytes: &[u8]) -> Result<(ThreadRow, &[u8]), Fault>
 }
 
 #[tactic(auto, unfolding(crate::specs::Reading::Nodes::assign_at))]
-fn assign(version: u8, bytes: &[u8]) -> Result<(Step, &[u8]), Fault>
+fn assign(version: u8, bytes: &[u8]) -> Result<(Step, &[u8]), DecodeFault>
     ensures { GivesExactly (λ x. (x.0, x.1.now)) result (assign_at version bytes.now) }
 {
     let (variable, rest) = number16(bytes)?;
@@ -55,7 +55,7 @@ fn assign(version: u8, bytes: &[u8]) -> Result<(Step, &[u8]), Fault>
 }
 
 #[tactic(auto, unfolding(crate::specs::Reading::Nodes::update_at))]
-fn update(version: u8, bytes: &[u8]) -> Result<(Step, &[u8]), Fault>
+fn update(version: u8, bytes: &[u8]) -> Result<(Step, &[u8]), DecodeFault>
     ensures { GivesExactly (λ x. (x.0, x.1.now)) result (update_at version bytes.now) }
 {
     let (variable, rest) = number16(bytes)?;
@@ -72,7 +72,7 @@ fn update(version: u8, bytes: &[u8]) -> Result<(Step, &[u8]), Fault>
 }
 
 #[tactic(auto, unfolding(crate::specs::Reading::Nodes::cond_at))]
-fn cond(version: u8, bytes: &[u8]) -> Result<(Step, &[u8]), Fault>
+fn cond(version: u8, bytes: &[u8]) -> Result<(Step, &[u8]), DecodeFault>
     ensures { GivesExactly (λ x. (x.0, x.1.now)) result (cond_at version bytes.now) }
 {
     let (then, rest) = number16(bytes)?;
@@ -81,7 +81,7 @@ fn cond(version: u8, bytes: &[u8]) -> Result<(Step, &[u8]), Fault>
     Ok((Step::Cond { code, then, other }, rest))
 }
 
-fn children(alloc: Global, count: u8, bytes: &[u8]) -> Result<(Items<ThreadId>, &[u8]), Fault>
+fn children(alloc: Global, count: u8, bytes: &[u8]) -> Result<(Items<ThreadId>, &[u8]), DecodeFault>
     ensures { Gives (λ x. (x.0, x.1.now)) result (each_at (number_at w16) count bytes.now) }
 {
     let mut children = Items::new(alloc);
@@ -95,7 +95,7 @@ fn children(alloc: Global, count: u8, bytes: &[u8]) -> Result<(Items<ThreadId>, 
 }
 
 #[tactic(auto, unfolding(crate::specs::Reading::Nodes::fork_at))]
-fn fork(alloc: Global, bytes: &[u8]) -> Result<(Step, &[u8]), Fault>
+fn fork(alloc: Global, bytes: &[u8]) -> Result<(Step, &[u8]), DecodeFault>
     ensures { Gives (λ x. (x.0, x.1.now)) result (fork_at bytes.now) }
 {
     let (join, rest) = number16(bytes)?;
@@ -111,7 +111,7 @@ fn body<'b>(
     bytes: &[u8],
     tag: u8,
     rest: &'b [u8],
-) -> Result<(Step, &'b [u8]), Fault>
+) -> Result<(Step, &'b [u8]), DecodeFault>
     ensures { Gives (λ x. (x.0, x.1.now)) result (step_body version bytes.now tag rest.now) }
 {
     match tag {
@@ -132,12 +132,12 @@ fn body<'b>(
             let (next, rest) = number16(rest)?;
             Ok((Step::Depth { next }, rest))
         }
-        _ => Err(Fault::Field(bytes.len())),
+        _ => Err(DecodeFault::Field(bytes.len())),
     }
 }
 
 #[tactic(auto, unfolding(crate::specs::Reading::Nodes::tagged_step_at))]
-fn step(alloc: Global, version: u8, bytes: &[u8]) -> Result<(Step, &[u8]), Fault>
+fn step(alloc: Global, version: u8, bytes: &[u8]) -> Result<(Step, &[u8]), DecodeFault>
     ensures { Gives (λ x. (x.0, x.1.now)) result (tagged_step_at version bytes.now) }
 {
     let (tag, rest) = byte(bytes)?;
@@ -146,7 +146,7 @@ fn step(alloc: Global, version: u8, bytes: &[u8]) -> Result<(Step, &[u8]), Fault
 
 /// A node and its entries in the tables.
 #[tactic(auto, unfolding(crate::specs::Reading::Nodes::node_at))]
-pub fn node(alloc: Global, version: u8, bytes: &[u8]) -> Result<(NodeRow, &[u8]), Fault>
+pub fn node(alloc: Global, version: u8, bytes: &[u8]) -> Result<(NodeRow, &[u8]), DecodeFault>
     ensures { Gives (λ x. (x.0, x.1.now)) result (node_at version bytes.now) }
 {
     let (owner, rest) = number16(bytes)?;

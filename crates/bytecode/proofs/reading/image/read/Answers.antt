@@ -1,6 +1,5 @@
 use Rattle.std.proofs.Common.{Err, sym, ap, subst}
 use Rattle.bytecode.specs.declared.fault.DecodeFault.{DecodeFault}
-use Rattle.bytecode.specs.declared.fault.Fault.{Fault}
 use Rattle.bytecode.specs.Reading.Image.{reading, Answers}
 use Rattle.bytecode.proofs.Decoding.{reads_image, reads_fault, told_memory}
 use Rattle.bytecode.proofs.reading.image.read.Goals as goal
@@ -17,4 +16,4 @@ pub returns-in-Err-clause-memory : goal.returns-in-Err-clause-memory
 returns-in-Err-clause-memory c = λ e.
     let told = c.in_bytes.ensures in
     let named = told_memory c.args.bytes.now c.in-Err.fault cc in
-    c.in-Err.ensures.memory (ap (λ (f : Fault). Err f) named)
+    c.in-Err.ensures.memory (ap (λ (f : DecodeFault). Err f) named)
