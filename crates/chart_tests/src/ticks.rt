@@ -2,7 +2,8 @@
 
 use crate::making::name;
 use crate::rows::{aborted, abro, joined, nested};
-use core_charts::{Chart, Configuration, Table, TransitionKind};
+use chart_machine::{Configuration, Table};
+use core_charts::{Chart, TransitionKind};
 use sc_values::{Name, Value};
 use std::alloc::Global;
 use std::test::Fail;
@@ -53,7 +54,7 @@ fn other_tick(
     watched: usize,
     ticks: &[Tick],
 ) -> Result<usize, Fail> {
-    let Ok(table) = chart.table(alloc) else {
+    let Ok(table) = Table::of_chart(alloc, chart) else {
         return Err(Fail::new("no table"));
     };
     let mut c = table.initial(alloc)?;

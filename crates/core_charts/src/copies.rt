@@ -3,7 +3,6 @@
 ghost use Rattle.std.specs.Prelude.{◌≡◌, IfOk};
 
 use crate::region::{Effect, Transition};
-use crate::standing::{Configuration, Move, Standing};
 use sc_graph::Variable;
 use sc_values::Expr;
 use sqlite_items::Items;
@@ -45,7 +44,8 @@ fn copied_trigger(alloc: Global, trigger: &Option<Expr>) -> Result<Option<Expr>,
     }
 }
 
-pub(crate) fn copied_effects(alloc: Global, effects: &[Effect]) -> Result<Items<Effect>, AllocError>
+/// A copy of a list of effects. Err: memory was refused.
+pub fn copied_effects(alloc: Global, effects: &[Effect]) -> Result<Items<Effect>, AllocError>
     ensures { IfOk result (λ copy. copy ≡ effects.now) }
 {
     let mut copy = Vec::with_capacity(alloc, effects.len())?;
@@ -55,7 +55,8 @@ pub(crate) fn copied_effects(alloc: Global, effects: &[Effect]) -> Result<Items<
     Ok(Items::from_vec(copy))
 }
 
-pub(crate) fn copied_transitions(
+/// A copy of a list of transitions. Err: memory was refused.
+pub fn copied_transitions(
     alloc: Global,
     transitions: &[Transition],
 ) -> Result<Items<Transition>, AllocError>
@@ -66,90 +67,6 @@ pub(crate) fn copied_transitions(
         copy.push(transition.copied(alloc)?)?;
     }
     Ok(Items::from_vec(copy))
-}
-
-impl Standing {
-    /// A copy of it. Err: memory was refused.
-    pub fn copied(&self, alloc: Global) -> Result<Standing, AllocError>
-        ensures { IfOk result (λ copy. copy ≡ self.now) }
-    {
-        match self {
-            Standing::Outside => Ok(Standing::Outside),
-            Standing::Ended => Ok(Standing::Ended),
-            Standing::Trying { state, tests } => Ok(Standing::Trying {
-                state: *state,
-                tests: copied_transitions(alloc, tests.as_slice())?,
-            }),
-            Standing::Entering { state, tests } => Ok(Standing::Entering {
-                state: *state,
-                tests: copied_transitions(alloc, tests.as_slice())?,
-            }),
-            Standing::Guarding { state, tests } => Ok(Standing::Guarding {
-                state: *state,
-                tests: copied_transitions(alloc, tests.as_slice())?,
-            }),
-            Standing::Within { state, tests } => Ok(Standing::Within {
-                state: *state,
-                tests: copied_transitions(alloc, tests.as_slice())?,
-            }),
-            Standing::Acting {
-                state,
-                effects,
-                target,
-            } => Ok(Standing::Acting {
-                state: *state,
-                effects: copied_effects(alloc, effects.as_slice())?,
-                target: *target,
-            }),
-        }
-    }
-}
-
-impl Move {
-    /// A copy of it. Err: memory was refused.
-    pub fn copied(&self, alloc: Global) -> Result<Move, AllocError>
-        ensures { IfOk result (λ copy. copy ≡ self.now) }
-    {
-        Ok(Move {
-            region: self.region,
-            standing: self.standing.copied(alloc)?,
-        })
-    }
-}
-
-pub(crate) fn copied_moves(alloc: Global, moves: &[Move]) -> Result<Items<Move>, AllocError>
-    ensures { IfOk result (λ copy. copy ≡ moves.now) }
-{
-    let mut copy = Vec::with_capacity(alloc, moves.len())?;
-    for one in moves {
-        copy.push(one.copied(alloc)?)?;
-    }
-    Ok(Items::from_vec(copy))
-}
-
-pub(crate) fn copied_standings(
-    alloc: Global,
-    standings: &[Standing],
-) -> Result<Items<Standing>, AllocError>
-    ensures { IfOk result (λ copy. copy ≡ standings.now) }
-{
-    let mut copy = Vec::with_capacity(alloc, standings.len())?;
-    for standing in standings {
-        copy.push(standing.copied(alloc)?)?;
-    }
-    Ok(Items::from_vec(copy))
-}
-
-impl Configuration {
-    /// A copy of it. Err: memory was refused.
-    pub fn copied(&self, alloc: Global) -> Result<Configuration, AllocError>
-        ensures { IfOk result (λ copy. copy ≡ self.now) }
-    {
-        Ok(Configuration {
-            variables: Items::from_slice(alloc, self.variables.as_slice())?,
-            regions: copied_standings(alloc, self.regions.as_slice())?,
-        })
-    }
 }
 
 /// A copy of a list of variables. Err: memory was refused.

@@ -1,0 +1,8 @@
+use Rattle.std.proofs.Common.{◌≡◌, ◌++◌, ◌+◌, ◌∷◌, ℕ, ◌<◌, ◌≤◌, [], Some, false, not, map, drop, filter, length, nat_eq}
+use Rattle.std.specs.List.{list_all, list_any}
+use Rattle.chart_machine.specs.declared.standing.Standing.TheVariants as at
+use Rattle.chart_machine.proofs.starting.all_outside.Given as goal
+
+abbrev pub invariant-loop-row : goal.invariant-loop-row
+invariant-loop-row l =
+    l.regions.items ++ map (λ r. at.Outside) (drop l._row-index l.rows) ≡ at.Outside ∷ map (λ r. at.Outside) l.rows

@@ -1,0 +1,7 @@
+use Rattle.std.proofs.Common.{◌≡◌, ◌++◌, ◌+◌, ◌∷◌, ℕ, ◌<◌, ◌≤◌, [], Some, false, not, map, drop, filter, length, nat_eq}
+use Rattle.std.specs.List.{list_all, list_any}
+use Rattle.chart_machine.specs.Steps.{moved}
+use Rattle.chart_machine.proofs.stepping.move_all.Given as goal
+
+abbrev pub invariant-loop-one : goal.invariant-loop-one
+invariant-loop-one l = moved (drop l.one-index l.moves) l.regions ≡ moved l.moves l.initial.regions

@@ -1,0 +1,7 @@
+use Rattle.std.proofs.Common.{◌≡◌, ◌++◌, ◌+◌, ◌∷◌, ℕ, ◌<◌, ◌≤◌, [], Some, false, not, map, drop, filter, length, nat_eq}
+use Rattle.std.specs.List.{list_all, list_any}
+use Rattle.chart_machine.specs.Machine.{woken}
+use Rattle.chart_machine.proofs.table.Table.all_woken.Given as goal
+
+abbrev pub invariant-loop-standing : goal.invariant-loop-standing
+invariant-loop-standing l = l.started.items ++ map (woken l.self) (drop l.standing-index l.regions) ≡ map (woken l.self) l.regions

@@ -1,0 +1,9 @@
+use Rattle.std.proofs.Common.{◌≡◌, ◌++◌, ◌+◌, ◌∷◌, ℕ, ◌<◌, ◌≤◌, [], Some, false, not, map, drop, filter, length, nat_eq}
+use Rattle.std.specs.List.{list_all, list_any}
+use Rattle.chart_machine.specs.declared.standing.Standing.TheVariants as at
+use Rattle.chart_machine.specs.Steps.{to}
+use Rattle.chart_machine.proofs.table.Table.dropped.Given as goal
+
+abbrev pub invariant-loop-region : goal.invariant-loop-region
+invariant-loop-region l =
+    l.moves.items ++ map (λ r. to r at.Outside) (drop l.region-index l.region-items) ≡ map (λ r. to r at.Outside) l.region-items

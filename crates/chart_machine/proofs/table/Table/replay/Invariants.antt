@@ -1,0 +1,8 @@
+use Rattle.std.proofs.Common.{◌≡◌, ◌++◌, ◌+◌, ◌∷◌, ℕ, ◌<◌, ◌≤◌, [], Some, false, not, map, drop, filter, length, nat_eq}
+use Rattle.std.specs.List.{list_all, list_any}
+use Rattle.sc_values.specs.Runs.{replay}
+use Rattle.chart_machine.specs.Machine.{machine}
+use Rattle.chart_machine.proofs.table.Table.replay.Given as goal
+
+abbrev pub invariant-loop-region : goal.invariant-loop-region
+invariant-loop-region l = replay (machine l.self) (drop l.region-index l.run) l.c ≡ replay (machine l.self) l.run l.start

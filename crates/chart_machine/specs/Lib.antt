@@ -1,0 +1,4 @@
+pub mod Table
+pub mod Turns
+pub mod Steps
+pub mod Machine

@@ -1,0 +1,27 @@
+//! What charts mean: a chart as a table, its ticks as those of a machine of regions, and a plain program that runs it.
+#![tactic(auto)]
+
+mod chosen;
+mod copies;
+mod deed;
+mod doing;
+mod entering;
+mod evaluating;
+mod numbering;
+mod running;
+mod scenes;
+mod sizes;
+mod standing;
+mod starting;
+mod stepping;
+mod table;
+mod table_fault;
+mod tabling;
+mod turns;
+
+pub use deed::{Deed, Write};
+pub use evaluating::value_of;
+pub use running::Ran;
+pub use standing::{Configuration, Move, Standing};
+pub use table::{Inner, Parts, RegionRow, Scene, StateRow, Table};
+pub use table_fault::TableFault;

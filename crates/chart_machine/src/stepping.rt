@@ -1,0 +1,260 @@
+//! One step of a region.
+
+ghost use Rattle.std.specs.Prelude.{◌≡◌, ◌∷◌, [], IfOk, OnOk, slice_set};
+ghost use Rattle.chart_machine.specs.Table.{state_at};
+ghost use Rattle.chart_machine.specs.Steps.{to, moved, written, after, state_in, dropped, acts, taken, tested};
+ghost use Rattle.chart_machine.specs.Steps.{entering_on, guarding_on};
+
+use crate::chosen::{closing_tests, first_closing_tests};
+use crate::copies::copied_moves;
+use crate::deed::{Deed, Write};
+use crate::evaluating::verdict;
+use crate::standing::{Configuration, Move, Standing};
+use crate::table::Table;
+use core_charts::{Effect, Transition, copied_effects, copied_transitions};
+use sc_values::Value;
+use sqlite_items::Items;
+use std::alloc::{AllocError, Global};
+
+// The region comes to stand there.
+pub(crate) fn only_move(
+    alloc: Global,
+    region: usize,
+    standing: Standing,
+) -> Result<Items<Move>, AllocError>
+    ensures { IfOk result (λ moves. moves ≡ to region standing ∷ []) }
+{
+    let mut moves = Items::new(alloc);
+    moves.push(Move { region, standing })?;
+    Ok(moves)
+}
+
+// The regions as these moves leave them.
+pub(crate) fn move_all(
+    alloc: Global,
+    moves: &[Move],
+    regions: &mut Items<Standing>,
+) -> Result<(), AllocError>
+    ensures { OnOk result (regions.new ≡ moved moves.now regions.old) }
+{
+    for one in moves {
+        put_standing(regions, one.region, one.standing.copied(alloc)?);
+    }
+    Ok(())
+}
+
+fn put_standing(regions: &mut Items<Standing>, region: usize, standing: Standing)
+    ensures { regions.new ≡ slice_set regions.old region standing }
+{
+    if region < regions.len() {
+        regions.set(region, standing);
+    }
+}
+
+fn write(write: &Option<Write>, variables: &mut Items<Value>)
+    ensures { variables.new ≡ written write.now variables.old }
+{
+    if let Some(new) = write {
+        put_value(variables, new.variable as usize, new.value);
+    }
+}
+
+fn put_value(variables: &mut Items<Value>, variable: usize, value: Value)
+    ensures { variables.new ≡ slice_set variables.old variable value }
+{
+    if variable < variables.len() {
+        variables.set(variable, value);
+    }
+}
+
+impl Configuration {
+    pub(crate) fn after(&self, alloc: Global, deed: &Deed) -> Result<Configuration, AllocError>
+        ensures { IfOk result (λ c. c ≡ after deed.now self.now) }
+    {
+        let mut after = self.copied(alloc)?;
+        write(&deed.write, &mut after.variables);
+        move_all(alloc, deed.moves.as_slice(), &mut after.regions)?;
+        Ok(after)
+    }
+}
+
+impl Table {
+    pub(crate) fn transitions(
+        &self,
+        alloc: Global,
+        state: usize,
+    ) -> Result<Items<Transition>, AllocError>
+        ensures { IfOk result (λ transitions. transitions ≡ (state_at self.now state).transitions) }
+    {
+        match self.states.get(state) {
+            Some(row) => Ok(copied_transitions(alloc, row.transitions.as_slice())?),
+            None => Ok(Items::new(alloc)),
+        }
+    }
+
+    fn entered(&self, alloc: Global, state: usize) -> Result<Items<Move>, AllocError>
+        ensures { IfOk result (λ moves. moves ≡ (state_at self.now state).entered) }
+    {
+        match self.states.get(state) {
+            Some(row) => Ok(copied_moves(alloc, row.entered.as_slice())?),
+            None => Ok(Items::new(alloc)),
+        }
+    }
+
+    fn opened(&self, alloc: Global, state: usize) -> Result<Items<Move>, AllocError>
+        ensures { IfOk result (λ moves. moves ≡ (state_at self.now state).opened) }
+    {
+        match self.states.get(state) {
+            Some(row) => Ok(copied_moves(alloc, row.opened.as_slice())?),
+            None => Ok(Items::new(alloc)),
+        }
+    }
+
+    // The state of this place among those of a region.
+    fn state_in(&self, region: usize, place: u32) -> usize
+        ensures { result ≡ state_in self.now region place }
+    {
+        if region == 0 {
+            return 0;
+        }
+        match self.regions.get(region - 1) {
+            Some(row) => match row.states.get(place as usize) {
+                Some(state) => *state,
+                None => 0,
+            },
+            None => 0,
+        }
+    }
+
+    // All that is inside is dropped.
+    fn dropped(&self, alloc: Global, state: usize) -> Result<Items<Move>, AllocError>
+        ensures { IfOk result (λ moves. moves ≡ dropped self.now state) }
+    {
+        let inside = self.inside(alloc, state)?;
+        let mut moves = Vec::new(alloc);
+        for region in inside.as_slice() {
+            moves.push(Move {
+                region: *region,
+                standing: Standing::Outside,
+            })?;
+        }
+        Ok(Items::from_vec(moves))
+    }
+
+    // Goes on with the effects of a transition out of a state, or enters its target.
+    pub(crate) fn acts(
+        &self,
+        alloc: Global,
+        region: usize,
+        state: usize,
+        effects: &[Effect],
+        target: u32,
+    ) -> Result<Items<Move>, AllocError>
+        ensures { IfOk result (λ moves. moves ≡ acts self.now region state effects.now target) }
+    {
+        if effects.is_empty() {
+            let moves = self.entered(alloc, self.state_in(region, target))?;
+            return Ok(moves);
+        }
+        let effects = copied_effects(alloc, effects)?;
+        let moves = only_move(
+            alloc,
+            region,
+            Standing::Acting {
+                state,
+                effects,
+                target,
+            },
+        )?;
+        Ok(moves)
+    }
+
+    // Takes a transition out of a state.
+    fn taken(
+        &self,
+        alloc: Global,
+        region: usize,
+        state: usize,
+        transition: &Transition,
+    ) -> Result<Items<Move>, AllocError>
+        ensures { IfOk result (λ moves. moves ≡ taken self.now region state transition.now) }
+    {
+        let mut moves = self.dropped(alloc, state)?;
+        moves.append(self.acts(
+            alloc,
+            region,
+            state,
+            transition.effects.as_slice(),
+            transition.target,
+        )?)?;
+        Ok(moves)
+    }
+
+    // A test: where it is true its transition is taken, else these moves are made.
+    pub(crate) fn tested(
+        &self,
+        alloc: Global,
+        c: &Configuration,
+        region: usize,
+        state: usize,
+        test: &Transition,
+        otherwise: Items<Move>,
+    ) -> Result<Option<Deed>, AllocError>
+        ensures { IfOk result (λ deed. deed ≡ tested self.now c.now region state test.now otherwise) }
+    {
+        match verdict(c.variables.as_slice(), &test.trigger) {
+            Some(true) => {
+                let moves = self.taken(alloc, region, state, test)?;
+                Ok(Some(Deed { write: None, moves }))
+            }
+            Some(false) => Ok(Some(Deed {
+                write: None,
+                moves: otherwise,
+            })),
+            None => Ok(None),
+        }
+    }
+
+    // The regions of a superstate are entered, when no strong abort was taken.
+    pub(crate) fn entering_on(
+        &self,
+        alloc: Global,
+        region: usize,
+        state: usize,
+        tests: &[Transition],
+    ) -> Result<Items<Move>, AllocError>
+        ensures { IfOk result (λ moves. moves ≡ entering_on self.now region state tests.now) }
+    {
+        if !tests.is_empty() {
+            let tests = copied_transitions(alloc, tests)?;
+            let moves = only_move(alloc, region, Standing::Entering { state, tests })?;
+            return Ok(moves);
+        }
+        let transitions = self.transitions(alloc, state)?;
+        let tests = first_closing_tests(alloc, transitions.as_slice())?;
+        let mut moves = only_move(alloc, region, Standing::Within { state, tests })?;
+        moves.append(self.opened(alloc, state)?)?;
+        Ok(moves)
+    }
+
+    // The inside has its turn, when no strong abort was taken.
+    pub(crate) fn guarding_on(
+        &self,
+        alloc: Global,
+        region: usize,
+        state: usize,
+        tests: &[Transition],
+    ) -> Result<Items<Move>, AllocError>
+        ensures { IfOk result (λ moves. moves ≡ guarding_on self.now region state tests.now) }
+    {
+        if !tests.is_empty() {
+            let tests = copied_transitions(alloc, tests)?;
+            let moves = only_move(alloc, region, Standing::Guarding { state, tests })?;
+            return Ok(moves);
+        }
+        let transitions = self.transitions(alloc, state)?;
+        let tests = closing_tests(alloc, transitions.as_slice())?;
+        let moves = only_move(alloc, region, Standing::Within { state, tests })?;
+        Ok(moves)
+    }
+}

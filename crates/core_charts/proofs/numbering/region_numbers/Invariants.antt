@@ -1,7 +1,0 @@
-use Rattle.std.proofs.Common.{◌≡◌, ◌++◌, ◌+◌, map, drop}
-use Rattle.core_charts.specs.Table.{piece_of_region, region_numbers}
-use Rattle.core_charts.proofs.numbering.region_numbers.Given as goal
-
-abbrev pub invariant-loop-region : goal.invariant-loop-region
-invariant-loop-region l =
-    l.numbers.items ++ region_numbers (map piece_of_region (drop l.region-index l.regions)) l.next ≡ region_numbers (map piece_of_region l.regions) l.from

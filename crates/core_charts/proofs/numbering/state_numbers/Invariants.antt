@@ -1,7 +1,0 @@
-use Rattle.std.proofs.Common.{◌≡◌, ◌++◌, ◌+◌, map, drop}
-use Rattle.core_charts.specs.Table.{piece_of_state, state_numbers}
-use Rattle.core_charts.proofs.numbering.state_numbers.Given as goal
-
-abbrev pub invariant-loop-state : goal.invariant-loop-state
-invariant-loop-state l =
-    l.numbers.items ++ state_numbers (map piece_of_state (drop l.state-index l.states)) l.next ≡ state_numbers (map piece_of_state l.states) l.from

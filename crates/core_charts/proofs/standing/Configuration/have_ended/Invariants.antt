@@ -1,8 +1,0 @@
-use Rattle.std.proofs.Common.{◌≡◌, ◌++◌, ◌+◌, ◌∷◌, ℕ, ◌<◌, ◌≤◌, [], Some, false, not, map, drop, filter, length, nat_eq}
-use Rattle.std.specs.List.{list_all, list_any}
-use Rattle.core_charts.specs.Turns.{has_ended, standing_of}
-use Rattle.core_charts.proofs.standing.Configuration.have_ended.Given as goal
-
-abbrev pub invariant-loop-region : goal.invariant-loop-region
-invariant-loop-region l =
-    list_all (λ r. has_ended (standing_of l.self r)) (drop l.region-index l.regions) ≡ list_all (λ r. has_ended (standing_of l.self r)) l.regions

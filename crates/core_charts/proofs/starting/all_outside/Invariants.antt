@@ -1,8 +1,0 @@
-use Rattle.std.proofs.Common.{◌≡◌, ◌++◌, ◌+◌, ◌∷◌, ℕ, ◌<◌, ◌≤◌, [], Some, false, not, map, drop, filter, length, nat_eq}
-use Rattle.std.specs.List.{list_all, list_any}
-use Rattle.core_charts.specs.declared.standing.Standing.TheVariants as at
-use Rattle.core_charts.proofs.starting.all_outside.Given as goal
-
-abbrev pub invariant-loop-row : goal.invariant-loop-row
-invariant-loop-row l =
-    l.regions.items ++ map (λ r. at.Outside) (drop l._row-index l.rows) ≡ at.Outside ∷ map (λ r. at.Outside) l.rows

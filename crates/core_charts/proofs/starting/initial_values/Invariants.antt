@@ -1,8 +1,0 @@
-use Rattle.std.proofs.Common.{◌≡◌, ◌++◌, ◌+◌, ◌∷◌, ℕ, ◌<◌, ◌≤◌, [], Some, false, not, map, drop, filter, length, nat_eq}
-use Rattle.std.specs.List.{list_all, list_any}
-use Rattle.sc_values.specs.Operator.{initial_value}
-use Rattle.core_charts.proofs.starting.initial_values.Given as goal
-
-abbrev pub invariant-loop-variable : goal.invariant-loop-variable
-invariant-loop-variable l =
-    l.values.items ++ map (λ x. initial_value x.kind) (drop l.variable-index l.variables) ≡ map (λ x. initial_value x.kind) l.variables

@@ -1,8 +1,0 @@
-use Rattle.std.proofs.Common.{◌≡◌, ◌++◌, ◌+◌, ◌∷◌, ℕ, ◌<◌, ◌≤◌, [], Some, false, not, map, drop, filter, length, nat_eq}
-use Rattle.std.specs.List.{list_all, list_any}
-use Rattle.sc_graph.specs.Tick.{values_at_start}
-use Rattle.core_charts.proofs.starting.started_values.Given as goal
-
-abbrev pub invariant-loop-x : goal.invariant-loop-x
-invariant-loop-x l =
-    l.started.items ++ values_at_start l.inputs (drop l.x l.variables) (drop l.x l.values) ≡ values_at_start l.inputs l.variables l.values

@@ -1,7 +1,0 @@
-use Rattle.std.proofs.Common.{◌≡◌, ◌++◌, ◌+◌, ◌∷◌, ℕ, ◌<◌, ◌≤◌, [], Some, false, not, map, drop, filter, length, nat_eq}
-use Rattle.std.specs.List.{list_all, list_any}
-use Rattle.core_charts.specs.Steps.{moved}
-use Rattle.core_charts.proofs.stepping.move_all.Given as goal
-
-abbrev pub invariant-loop-one : goal.invariant-loop-one
-invariant-loop-one l = moved (drop l.one-index l.moves) l.regions ≡ moved l.moves l.initial.regions

@@ -1,7 +1,0 @@
-use Rattle.std.proofs.Common.{◌≡◌, ◌++◌, ◌+◌, ◌∷◌, ℕ, ◌<◌, ◌≤◌, [], Some, false, not, map, drop, filter, length, nat_eq}
-use Rattle.std.specs.List.{list_all, list_any}
-use Rattle.core_charts.specs.Turns.{is_guarded}
-use Rattle.core_charts.proofs.table.Table.is_guarded.Given as goal
-
-abbrev pub invariant-loop-state : goal.invariant-loop-state
-invariant-loop-state l = is_guarded l.self l.c (drop l.state-index l.around) ≡ is_guarded l.self l.c l.around
