@@ -1,8 +1,6 @@
 // Claims of several workers.
 use crate::acts::{Act, Told, ended, first_tick, perform};
-use crate::ticks::verified;
-use bytecode::Image;
-use samples::{wrapping_sum, write_and_read};
+use crate::images::{Sample, verified};
 use sc_graph::{NodeId, ThreadId};
 use sc_values::Value;
 use std::alloc::Global;
@@ -16,25 +14,37 @@ fn play<'a>(
     alloc: Global,
     state: &mut TickState<'a>,
     given: &mut Vec<Done<'a>>,
+    name: &str,
     acts: &[(Act, Told)],
 ) -> Result<(), Fail> {
     for (number, (act, wanted)) in acts.iter().enumerate() {
         if perform(state, given, *act)? != *wanted {
-            return Err(Fail::new(format!(in alloc; "something else at {number}")?));
+            return Err(Fail::new(format!(in alloc; "{name}: something else at {number}")?));
         }
     }
     Ok(())
+}
+
+// The same of claims that are let go then.
+fn play_first(
+    alloc: Global,
+    state: &mut TickState<'_>,
+    name: &str,
+    acts: &[(Act, Told)],
+) -> Result<(), Fail> {
+    let mut given = Vec::new(alloc);
+    play(alloc, state, &mut given, name, acts)
 }
 
 // What becomes of the first tick of an image after some acts, which then ends alone.
 fn played(
     alloc: Global,
     image: &Verified,
+    name: &str,
     acts: &[(Act, Told)],
 ) -> Result<(Control, Report), Fail> {
     let mut state = first_tick(alloc, image)?;
-    let mut given = Vec::new(alloc);
-    play(alloc, &mut state, &mut given, acts)?;
+    play_first(alloc, &mut state, name, acts)?;
     Ok(ended(state))
 }
 
@@ -64,231 +74,192 @@ fn are_by(entries: &[Entry], wanted: [usize; 3]) -> bool {
     left == [0, 0, 0]
 }
 
-// Whether the first tick of an image, after some acts and then alone, begins with these threads and
-// workers as its steps, goes on by so many steps of each thread, and leaves these values.
-fn plays_so(
-    alloc: Global,
-    image: &Verified,
-    acts: &[(Act, Told)],
-    first: &[(ThreadId, u8)],
+// What workers do in the first tick of a sample, which then ends alone, and what is wanted of it.
+struct Row {
+    name: &'static str,
+    sample: Sample,
+    acts: &'static [(Act, Told)],
+    // whose its first steps are, each with the worker that takes it
+    first: &'static [(ThreadId, u8)],
+    // how many steps more each thread takes
     alone: [usize; 3],
+    // the variables in the end
     values: [i32; 2],
-) -> Result<bool, Fail> {
-    let (end, report) = played(alloc, image, acts)?;
+}
+
+// Whether the tick goes and ends as is wanted.
+fn plays_so(alloc: Global, image: &Verified, row: &Row) -> Result<bool, Fail> {
+    let (end, report) = played(alloc, image, row.name, row.acts)?;
     Ok(
-        has_steps(report.history.as_slice(), first, alone)
-            && end.variables.as_slice() == values.map(Value::Int).as_slice(),
+        has_steps(report.history.as_slice(), row.first, row.alone)
+            && end.variables.as_slice() == row.values.map(Value::Int).as_slice(),
     )
 }
 
-fn expect_played(
-    alloc: Global,
-    image: Image,
-    acts: &[(Act, Told)],
-    first: &[(ThreadId, u8)],
-    alone: [usize; 3],
-    values: [i32; 2],
-) -> Result<(), Fail> {
-    let image = verified(alloc, image)?;
-    if plays_so(alloc, &image, acts, first, alone, values)? {
-        Ok(())
-    } else {
-        Err(Fail::new("other steps or values"))
-    }
-}
+const NOBODY: Told = Told::Row([0, 0, 0], 0);
 
-// The first variable after some steps of a tick that is not over.
-fn stands(steps: usize, first: i32) -> Told {
-    Told::Stands(steps, Value::Int(first), false)
-}
+const BOTH: Told = Told::Row([0, 1, 1], 2);
 
 const WRAPPED: [i32; 2] = [-2147483648, 0];
 
-#[test]
-fn commits_come_in_the_order_of_the_threads(rt: HostRuntime) -> Result<(), Fail> {
-    let acts = [
-        (Act::Claim(1), Told::Given(0)),
-        (Act::Claim(2), Told::NoneNow),
-        (Act::Commit(0), Told::At(0)),
-        (Act::ClaimOf(1, 1), Told::Given(1)),
-        (Act::ClaimOf(2, 2), Told::Given(2)),
-        (Act::Claim(3), Told::NoneNow),
-        (Act::Commit(1), Told::At(1)),
-        (Act::Look, stands(2, 2147483647)),
-        (Act::Commit(2), Told::At(2)),
-        (Act::Look, stands(3, -2147483648)),
-    ];
-    let first = [(0, 1), (1, 1), (2, 2)];
-    expect_played(
-        rt.alloc(),
-        wrapping_sum(rt.alloc())?,
-        &acts,
-        &first,
-        [2, 1, 1],
-        WRAPPED,
-    )
+const ROWS: [Row; 7] = [
+    Row {
+        name: "commits come in the order of the threads",
+        sample: Sample::WrappingSum,
+        acts: &[
+            (Act::Claim(1), Told::Given(0)),
+            (Act::Claim(2), Told::NoneNow),
+            (Act::Commit(0), Told::At(0)),
+            (Act::ClaimOf(1, 1), Told::Given(1)),
+            (Act::ClaimOf(2, 2), Told::Given(2)),
+            (Act::Claim(3), Told::NoneNow),
+            (Act::Commit(1), Told::At(1)),
+            (Act::Look, Told::Stands(2, Value::Int(2147483647), false)),
+            (Act::Commit(2), Told::At(2)),
+            (Act::Look, Told::Stands(3, Value::Int(-2147483648), false)),
+        ],
+        first: &[(0, 1), (1, 1), (2, 2)],
+        alone: [2, 1, 1],
+        values: WRAPPED,
+    },
+    Row {
+        name: "commits come in the other order",
+        sample: Sample::WrappingSum,
+        acts: &[
+            (Act::Claim(1), Told::Given(0)),
+            (Act::Commit(0), Told::At(0)),
+            (Act::ClaimOf(1, 1), Told::Given(1)),
+            (Act::ClaimOf(2, 2), Told::Given(2)),
+            (Act::Commit(2), Told::At(1)),
+            (Act::Look, Told::Stands(2, Value::Int(1), false)),
+            (Act::Commit(1), Told::At(2)),
+            (Act::Look, Told::Stands(3, Value::Int(-2147483648), false)),
+        ],
+        first: &[(0, 1), (2, 2), (1, 1)],
+        alone: [2, 1, 1],
+        values: WRAPPED,
+    },
+    Row {
+        name: "one commit closes a claim",
+        sample: Sample::WrappingSum,
+        acts: &[
+            (Act::Look, Told::Stands(0, Value::Int(0), false)),
+            (Act::Claim(1), Told::Given(0)),
+            (Act::Commit(0), Told::At(0)),
+            (Act::Commit(0), Told::Stale),
+            (Act::GiveBack(0), Told::Stale),
+            (Act::ClaimOf(1, 1), Told::Given(1)),
+            (Act::ClaimOf(2, 2), Told::Given(2)),
+            (Act::Commit(2), Told::At(1)),
+            (Act::Commit(2), Told::Stale),
+            (Act::Look, Told::Stands(2, Value::Int(1), false)),
+            // the other claim is still open
+            (Act::Commit(1), Told::At(2)),
+            (Act::RunAlone, Told::Done),
+            (Act::Claim(1), Told::Over),
+        ],
+        first: &[(0, 1), (2, 2), (1, 1)],
+        alone: [2, 1, 1],
+        values: WRAPPED,
+    },
+    Row {
+        name: "a claim that was given back is stale",
+        sample: Sample::WrappingSum,
+        acts: &[
+            (Act::Claim(1), Told::Given(0)),
+            (Act::Commit(0), Told::At(0)),
+            (Act::ClaimOf(1, 1), Told::Given(1)),
+            (Act::ClaimOf(2, 2), Told::Given(2)),
+            (Act::GiveBack(1), Told::GivenBack),
+            (Act::GiveBack(1), Told::Stale),
+            (Act::Commit(1), Told::Stale),
+            (Act::Look, Told::Stands(1, Value::Int(0), false)),
+            (Act::Commit(2), Told::At(1)),
+            // the claim of that thread can be had again, and the old one stays stale
+            (Act::ClaimOf(3, 1), Told::Given(1)),
+            (Act::Commit(1), Told::Stale),
+            (Act::Commit(3), Told::At(2)),
+        ],
+        first: &[(0, 1), (2, 2), (1, 3)],
+        alone: [2, 1, 1],
+        values: WRAPPED,
+    },
+    Row {
+        name: "equal claims are the same",
+        sample: Sample::WrappingSum,
+        acts: &[
+            (Act::Claim(1), Told::Given(0)),
+            (Act::GiveBack(0), Told::GivenBack),
+            // another worker's claim is another one
+            (Act::Claim(2), Told::Given(0)),
+            (Act::Commit(0), Told::Stale),
+            (Act::GiveBack(1), Told::GivenBack),
+            // with no commit in between, the next claim of the same worker is the same
+            (Act::Claim(1), Told::Given(0)),
+            (Act::Commit(0), Told::At(0)),
+            (Act::Commit(2), Told::Stale),
+        ],
+        first: &[(0, 1)],
+        alone: [2, 2, 2],
+        values: WRAPPED,
+    },
+    Row {
+        name: "rows hold who is ready",
+        sample: Sample::WrappingSum,
+        acts: &[
+            (Act::Ready(0), Told::Row([1, 0, 0], 1)),
+            (Act::Claim(1), Told::Given(0)),
+            (Act::Ready(0), NOBODY),
+            (Act::Commit(0), Told::At(0)),
+            (Act::Ready(0), BOTH),
+            (Act::Ready(1), NOBODY),
+            (Act::ClaimOf(1, 1), Told::Given(1)),
+            (Act::Ready(0), Told::Row([0, 0, 1], 1)),
+            (Act::GiveBack(1), Told::GivenBack),
+            (Act::Ready(0), BOTH),
+            (Act::ClaimOf(1, 2), Told::Given(2)),
+            (Act::Commit(2), Told::At(1)),
+            // it goes on at its exit, of the same priority
+            (Act::Ready(0), BOTH),
+            (Act::RunAlone, Told::Done),
+            (Act::Ready(0), NOBODY),
+        ],
+        first: &[(0, 1), (2, 1)],
+        alone: [2, 2, 1],
+        values: WRAPPED,
+    },
+    Row {
+        name: "running alone drops claims",
+        sample: Sample::WriteAndRead,
+        acts: &[
+            (Act::Claim(8), Told::Given(0)),
+            (Act::RunAlone, Told::Done),
+            (Act::Commit(0), Told::Stale),
+            (Act::Look, Told::Stands(7, Value::Int(1), true)),
+        ],
+        // the writer goes before the reader, since its node has the greater priority
+        first: &[(0, 0), (1, 0)],
+        alone: [2, 1, 2],
+        values: [1, 1],
+    },
+];
+
+fn row_plays_so(alloc: Global, row: &Row) -> Result<bool, Fail> {
+    plays_so(alloc, &verified(alloc, row.sample)?, row)
 }
 
 #[test]
-fn commits_come_in_the_other_order(rt: HostRuntime) -> Result<(), Fail> {
-    let acts = [
-        (Act::Claim(1), Told::Given(0)),
-        (Act::Commit(0), Told::At(0)),
-        (Act::ClaimOf(1, 1), Told::Given(1)),
-        (Act::ClaimOf(2, 2), Told::Given(2)),
-        (Act::Commit(2), Told::At(1)),
-        (Act::Look, stands(2, 1)),
-        (Act::Commit(1), Told::At(2)),
-        (Act::Look, stands(3, -2147483648)),
-    ];
-    let first = [(0, 1), (2, 2), (1, 1)];
-    expect_played(
-        rt.alloc(),
-        wrapping_sum(rt.alloc())?,
-        &acts,
-        &first,
-        [2, 1, 1],
-        WRAPPED,
-    )
-}
-
-#[test]
-fn one_commit_closes_a_claim(rt: HostRuntime) -> Result<(), Fail> {
-    let acts = [
-        (Act::Look, stands(0, 0)),
-        (Act::Claim(1), Told::Given(0)),
-        (Act::Commit(0), Told::At(0)),
-        (Act::Commit(0), Told::Stale),
-        (Act::GiveBack(0), Told::Stale),
-        (Act::ClaimOf(1, 1), Told::Given(1)),
-        (Act::ClaimOf(2, 2), Told::Given(2)),
-        (Act::Commit(2), Told::At(1)),
-        (Act::Commit(2), Told::Stale),
-        (Act::Look, stands(2, 1)),
-        // the other claim is still open
-        (Act::Commit(1), Told::At(2)),
-        (Act::RunAlone, Told::Done),
-        (Act::Claim(1), Told::Over),
-    ];
-    let first = [(0, 1), (2, 2), (1, 1)];
-    expect_played(
-        rt.alloc(),
-        wrapping_sum(rt.alloc())?,
-        &acts,
-        &first,
-        [2, 1, 1],
-        WRAPPED,
-    )
-}
-
-#[test]
-fn a_claim_that_was_given_back_is_stale(rt: HostRuntime) -> Result<(), Fail> {
-    let acts = [
-        (Act::Claim(1), Told::Given(0)),
-        (Act::Commit(0), Told::At(0)),
-        (Act::ClaimOf(1, 1), Told::Given(1)),
-        (Act::ClaimOf(2, 2), Told::Given(2)),
-        (Act::GiveBack(1), Told::GivenBack),
-        (Act::GiveBack(1), Told::Stale),
-        (Act::Commit(1), Told::Stale),
-        (Act::Look, stands(1, 0)),
-        (Act::Commit(2), Told::At(1)),
-        // the claim of that thread can be had again, and the old one stays stale
-        (Act::ClaimOf(3, 1), Told::Given(1)),
-        (Act::Commit(1), Told::Stale),
-        (Act::Commit(3), Told::At(2)),
-    ];
-    let first = [(0, 1), (2, 2), (1, 3)];
-    expect_played(
-        rt.alloc(),
-        wrapping_sum(rt.alloc())?,
-        &acts,
-        &first,
-        [2, 1, 1],
-        WRAPPED,
-    )
-}
-
-#[test]
-fn equal_claims_are_the_same(rt: HostRuntime) -> Result<(), Fail> {
-    let acts = [
-        (Act::Claim(1), Told::Given(0)),
-        (Act::GiveBack(0), Told::GivenBack),
-        // another worker's claim is another one
-        (Act::Claim(2), Told::Given(0)),
-        (Act::Commit(0), Told::Stale),
-        (Act::GiveBack(1), Told::GivenBack),
-        // with no commit in between, the next claim of the same worker is the same
-        (Act::Claim(1), Told::Given(0)),
-        (Act::Commit(0), Told::At(0)),
-        (Act::Commit(2), Told::Stale),
-    ];
-    let first = [(0, 1)];
-    expect_played(
-        rt.alloc(),
-        wrapping_sum(rt.alloc())?,
-        &acts,
-        &first,
-        [2, 2, 2],
-        WRAPPED,
-    )
-}
-
-#[test]
-fn rows_hold_who_is_ready(rt: HostRuntime) -> Result<(), Fail> {
-    let nobody = Told::Row([0, 0, 0], 0);
-    let both = Told::Row([0, 1, 1], 2);
-    let acts = [
-        (Act::Ready(0), Told::Row([1, 0, 0], 1)),
-        (Act::Claim(1), Told::Given(0)),
-        (Act::Ready(0), nobody),
-        (Act::Commit(0), Told::At(0)),
-        (Act::Ready(0), both),
-        (Act::Ready(1), nobody),
-        (Act::ClaimOf(1, 1), Told::Given(1)),
-        (Act::Ready(0), Told::Row([0, 0, 1], 1)),
-        (Act::GiveBack(1), Told::GivenBack),
-        (Act::Ready(0), both),
-        (Act::ClaimOf(1, 2), Told::Given(2)),
-        (Act::Commit(2), Told::At(1)),
-        // it goes on at its exit, of the same priority
-        (Act::Ready(0), both),
-        (Act::RunAlone, Told::Done),
-        (Act::Ready(0), nobody),
-    ];
-    let first = [(0, 1), (2, 1)];
-    expect_played(
-        rt.alloc(),
-        wrapping_sum(rt.alloc())?,
-        &acts,
-        &first,
-        [2, 2, 1],
-        WRAPPED,
-    )
-}
-
-#[test]
-fn running_alone_drops_claims(rt: HostRuntime) -> Result<(), Fail> {
-    let acts = [
-        (Act::Claim(8), Told::Given(0)),
-        (Act::RunAlone, Told::Done),
-        (Act::Commit(0), Told::Stale),
-        (Act::Look, Told::Stands(7, Value::Int(1), true)),
-    ];
-    // the writer goes before the reader, since its node has the greater priority
-    let first = [(0, 0), (1, 0)];
-    expect_played(
-        rt.alloc(),
-        write_and_read(rt.alloc())?,
-        &acts,
-        &first,
-        [2, 1, 2],
-        [1, 1],
-    )
+fn acts_are_told_and_ticks_end_so(rt: HostRuntime) -> Result<(), Fail> {
+    for row in &ROWS {
+        let is_so = row_plays_so(rt.alloc(), row)?;
+        let name = row.name;
+        assert!(rt; is_so, "{name}");
+    }
+    Ok(())
 }
 
 // What a claim bears: its worker, thread and node, its operations and its first operand, and its value.
-#[derive(Clone, Copy, Debug, PartialEq, Eq)]
+#[derive(Clone, Copy, PartialEq, Eq)]
 struct Borne {
     worker: u8,
     thread: ThreadId,
@@ -312,57 +283,66 @@ fn borne_by(done: &Done<'_>) -> Borne {
     }
 }
 
-// The first claim and the fourth, after some acts.
-fn first_and_fourth(
-    alloc: Global,
-    image: &Verified,
-    acts: &[(Act, Told)],
-) -> Result<(Option<Borne>, Option<Borne>), Fail> {
-    let mut state = first_tick(alloc, image)?;
-    let mut given = Vec::new(alloc);
-    play(alloc, &mut state, &mut given, acts)?;
-    Ok((given.first().map(borne_by), given.get(3).map(borne_by)))
+const ACTS: [(Act, Told); 7] = [
+    (Act::Claim(3), Told::Given(0)),
+    (Act::Commit(0), Told::At(0)),
+    (Act::Claim(4), Told::Given(1)),
+    // the reader is enabled, but waits for the writer
+    (Act::Claim(5), Told::NoneNow),
+    (Act::Commit(1), Told::At(1)),
+    (Act::ClaimOf(5, 1), Told::Given(1)),
+    (Act::ClaimOf(6, 2), Told::Given(2)),
+];
+
+// The first claim of these, by the fork,
+const FORK: Borne = Borne {
+    worker: 3,
+    thread: 0,
+    node: 0,
+    commits: 0,
+    operations: None,
+    operand: None,
+    value: None,
+};
+
+// and the fourth, by the reader.
+const READER: Borne = Borne {
+    worker: 6,
+    thread: 2,
+    node: 5,
+    commits: 2,
+    operations: Some(1),
+    operand: Some(Value::Int(1)),
+    value: Some(Value::Int(1)),
+};
+
+// Whether the first claim and the fourth bear so.
+fn are_borne(given: &[Done<'_>]) -> bool {
+    let (Some(first), Some(fourth)) = (given.first(), given.get(3)) else {
+        return false;
+    };
+    borne_by(first) == FORK && borne_by(fourth) == READER
 }
 
-fn borne_in(
-    alloc: Global,
-    image: Image,
-    acts: &[(Act, Told)],
-) -> Result<(Option<Borne>, Option<Borne>), Fail> {
-    first_and_fourth(alloc, &verified(alloc, image)?, acts)
+// The same after these acts.
+fn bear_so_then(alloc: Global, state: &mut TickState<'_>) -> Result<bool, Fail> {
+    let mut given = Vec::new(alloc);
+    play(alloc, state, &mut given, "what claims bear", &ACTS)?;
+    Ok(are_borne(given.as_slice()))
+}
+
+fn bear_so(alloc: Global, image: &Verified) -> Result<bool, Fail> {
+    let mut state = first_tick(alloc, image)?;
+    bear_so_then(alloc, &mut state)
+}
+
+fn bear_so_in(alloc: Global, sample: Sample) -> Result<bool, Fail> {
+    bear_so(alloc, &verified(alloc, sample)?)
 }
 
 #[test]
 fn claims_bear_the_present(rt: HostRuntime) -> Result<(), Fail> {
-    let acts = [
-        (Act::Claim(3), Told::Given(0)),
-        (Act::Commit(0), Told::At(0)),
-        (Act::Claim(4), Told::Given(1)),
-        // the reader is enabled, but waits for the writer
-        (Act::Claim(5), Told::NoneNow),
-        (Act::Commit(1), Told::At(1)),
-        (Act::ClaimOf(5, 1), Told::Given(1)),
-        (Act::ClaimOf(6, 2), Told::Given(2)),
-    ];
-    let fork = Borne {
-        worker: 3,
-        thread: 0,
-        node: 0,
-        commits: 0,
-        operations: None,
-        operand: None,
-        value: None,
-    };
-    let reader = Borne {
-        worker: 6,
-        thread: 2,
-        node: 5,
-        commits: 2,
-        operations: Some(1),
-        operand: Some(Value::Int(1)),
-        value: Some(Value::Int(1)),
-    };
-    let borne = borne_in(rt.alloc(), write_and_read(rt.alloc())?, &acts)?;
-    assert_eq!(rt; borne, (Some(fork), Some(reader)));
+    let is_so = bear_so_in(rt.alloc(), Sample::WriteAndRead)?;
+    assert!(rt; is_so, "they bear something else");
     Ok(())
 }

@@ -1,13 +1,10 @@
 // Random lists of events, beside a plain account of them.
 use crate::acts::{Act, Told, ended, perform};
 use crate::chance::Chance;
+use crate::images::{Sample, verified};
 use crate::inputs::inputs_of;
 use crate::plain::Plain;
-use crate::ticks::{tick, verified};
-use bytecode::Image;
-use samples::{
-    branches, counter, inits_by_one_literal, nested_forks, two_pauses, wrapping_sum, write_and_read,
-};
+use crate::ticks::tick;
 use sc_graph::ThreadId;
 use sc_values::Value;
 use std::alloc::{AllocError, Global};
@@ -319,48 +316,29 @@ fn seed_astray(
     Ok(None)
 }
 
-fn expect_ends(alloc: Global, image: Image, given: &[(&str, Value)]) -> Result<(), Fail> {
-    match seed_astray(alloc, &verified(alloc, image)?, given)? {
-        None => Ok(()),
-        Some(seed) => Err(Fail::new(format!(in alloc; "by the seed {seed}")?)),
+const SAMPLES: [(Sample, &[(&str, Value)]); 7] = [
+    (Sample::WriteAndRead, &[]),
+    (Sample::WrappingSum, &[]),
+    (Sample::InitsByOneLiteral, &[]),
+    (Sample::TwoPauses, &[]),
+    (Sample::NestedForks, &[]),
+    (Sample::Updates8, &[]),
+    (Sample::Counter, &[("A", Value::Bool(true))]),
+];
+
+fn astray_in(alloc: Global, sample: Sample, given: &[(&str, Value)]) -> Result<Option<u8>, Fail> {
+    seed_astray(alloc, &verified(alloc, sample)?, given)
+}
+
+#[test]
+fn ticks_of_random_events_replay(rt: HostRuntime) -> Result<(), Fail> {
+    for (number, (sample, given)) in SAMPLES.iter().enumerate() {
+        let astray = astray_in(rt.alloc(), *sample, *given)?;
+        assert_eq!(rt;
+            astray,
+            None,
+            "the seed of which sample {number} ends otherwise"
+        );
     }
-}
-
-#[test]
-fn events_of_a_write_and_a_read_replay(rt: HostRuntime) -> Result<(), Fail> {
-    expect_ends(rt.alloc(), write_and_read(rt.alloc())?, &[])
-}
-
-#[test]
-fn events_of_two_updates_replay(rt: HostRuntime) -> Result<(), Fail> {
-    expect_ends(rt.alloc(), wrapping_sum(rt.alloc())?, &[])
-}
-
-#[test]
-fn events_of_inits_by_one_literal_replay(rt: HostRuntime) -> Result<(), Fail> {
-    expect_ends(rt.alloc(), inits_by_one_literal(rt.alloc())?, &[])
-}
-
-#[test]
-fn events_of_pauses_replay(rt: HostRuntime) -> Result<(), Fail> {
-    expect_ends(rt.alloc(), two_pauses(rt.alloc())?, &[])
-}
-
-#[test]
-fn events_of_nested_forks_replay(rt: HostRuntime) -> Result<(), Fail> {
-    expect_ends(rt.alloc(), nested_forks(rt.alloc())?, &[])
-}
-
-#[test]
-fn events_of_wide_forks_replay(rt: HostRuntime) -> Result<(), Fail> {
-    expect_ends(rt.alloc(), branches(rt.alloc(), 8)?, &[])
-}
-
-#[test]
-fn events_of_ticks_with_inputs_replay(rt: HostRuntime) -> Result<(), Fail> {
-    expect_ends(
-        rt.alloc(),
-        counter(rt.alloc())?,
-        &[("A", Value::Bool(true))],
-    )
+    Ok(())
 }

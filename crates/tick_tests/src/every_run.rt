@@ -1,26 +1,20 @@
 // All runs of a tick of small images: which are admissible, and where each ends.
 ghost use Rattle.sc_graph.specs.Tick.{Rests};
 
-use crate::judged::{end_of_tick, judgement};
+use crate::images::{Sample, verified};
+use crate::judged::{begun, end_of_first, end_of_tick, judgement};
 use crate::plain::Plain;
-use crate::ticks::verified;
-use bytecode::Image;
-use samples::{
-    init_and_update, init_update_read, inits_by_one_literal, inits_by_one_literal_and_read,
-    nested_forks, two_pauses, updates_and_read, write_and_read, write_and_read_later,
-};
 use sc_graph::{Control, ThreadId};
-use sqlite_items::Items;
 use std::alloc::{AllocError, Global};
 use std::test::Fail;
-use tick_core::{Inputs, Judged, begin};
+use tick_core::Judged;
 use verifier::Verified;
 
 // A list of threads.
 type Run = Vec<ThreadId>;
 
 // What is counted of the runs of a tick.
-#[derive(Clone, Copy, PartialEq, Eq)]
+#[derive(Clone, Copy)]
 struct Counts {
     // all complete runs
     complete: usize,
@@ -219,8 +213,39 @@ fn ends_at(
     }
 }
 
-// What is counted of all runs of the tick that begins so. The same admissible ones are found both
-// ways.
+// What is counted of all runs of the tick that begins so.
+fn counted_by_steps(
+    alloc: Global,
+    image: &Verified,
+    resting: &Control,
+    start: &Control,
+    end: &Control,
+) -> Result<Counts, Fail>
+    requires { Rests image.now.program resting.now }
+{
+    let runs = complete_runs(alloc, image, start)?;
+    counts_of(alloc, image, resting, start, end, runs.as_slice())
+}
+
+// The same. The same admissible ones are found both ways.
+fn counted_both_ways(
+    alloc: Global,
+    image: &Verified,
+    resting: &Control,
+    start: &Control,
+    end: &Control,
+) -> Result<Counts, Fail>
+    requires { Rests image.now.program resting.now }
+{
+    let counts = counted_by_steps(alloc, image, resting, start, end)?;
+    if counts.admissible == admissible_count(alloc, image, resting, end)? {
+        Ok(counts)
+    } else {
+        Err(Fail::new("the two ways find different runs"))
+    }
+}
+
+// The same, of the tick that ends where it ends alone.
 fn all_counted(
     alloc: Global,
     image: &Verified,
@@ -230,21 +255,14 @@ fn all_counted(
     requires { Rests image.now.program resting.now }
 {
     let end = end_of_tick(alloc, image, resting)?;
-    let runs = complete_runs(alloc, image, start)?;
-    let counts = counts_of(alloc, image, resting, start, &end, runs.as_slice())?;
-    if counts.admissible == admissible_count(alloc, image, resting, &end)? {
-        Ok(counts)
-    } else {
-        Err(Fail::new("the two ways find different runs"))
-    }
+    counted_both_ways(alloc, image, resting, start, &end)
 }
 
 // The same of the tick without inputs from this configuration.
 fn counted(alloc: Global, image: &Verified, resting: &Control) -> Result<Counts, Fail>
     requires { Rests image.now.program resting.now }
 {
-    let inputs: Inputs = Items::new(alloc);
-    let state = begin(alloc, image, resting, &inputs)?;
+    let state = begun(alloc, image, resting)?;
     all_counted(alloc, image, resting, state.begun())
 }
 
@@ -254,139 +272,74 @@ fn in_the_first(alloc: Global, image: &Verified) -> Result<Counts, Fail> {
 }
 
 fn in_the_second(alloc: Global, image: &Verified) -> Result<Counts, Fail> {
-    let opening = Control::initial(alloc, image.image().program())?;
-    let resting = end_of_tick(alloc, image, &opening)?;
-    counted(alloc, image, &resting)
+    counted(alloc, image, &end_of_first(alloc, image)?)
 }
 
-fn in_both(alloc: Global, image: &Verified) -> Result<(Counts, Counts), Fail> {
-    Ok((in_the_first(alloc, image)?, in_the_second(alloc, image)?))
+// What is counted in the first tick of a sample, and in the second: the complete runs, the admissible ones,
+// and those astray.
+type Row = (Sample, [usize; 3], [usize; 3]);
+
+fn numbers(counts: Counts) -> [usize; 3] {
+    [counts.complete, counts.admissible, counts.astray]
 }
 
-// The same in the first tick of an image, and in the second.
-fn first_and_second(alloc: Global, image: Image) -> Result<(Counts, Counts), Fail> {
-    in_both(alloc, &verified(alloc, image)?)
-}
-
-fn expected(complete: usize, admissible: usize, astray: usize) -> Counts {
-    Counts {
-        complete,
-        admissible,
-        astray,
-    }
+// Whether all is counted as it has to be.
+fn is_counted(
+    alloc: Global,
+    image: &Verified,
+    first: [usize; 3],
+    second: [usize; 3],
+) -> Result<bool, Fail> {
+    Ok(
+        numbers(in_the_first(alloc, image)?) == first
+            && numbers(in_the_second(alloc, image)?) == second,
+    )
 }
 
 // The second tick of a program that ends in its first: the run of no step.
-const OVER: Counts = Counts {
-    complete: 1,
-    admissible: 1,
-    astray: 0,
-};
+const OVER: [usize; 3] = [1, 1, 0];
 
-// What is counted in the first tick, and in the second.
-fn expect_counted(
+const ROWS: [Row; 9] = [
+    // Two threads of two steps each stand in 6 orders, and in half of them the first writes first. Each
+    // other order reads too early.
+    (Sample::WriteAndRead, [6, 3, 3], OVER),
+    // In half of 6 orders the init comes first. Each other order updates what is initialized then.
+    (Sample::InitAndUpdate, [6, 3, 3], OVER),
+    // Two inits by one literal come in any order, and all orders end alike.
+    (Sample::InitsByOneLiteral, [6, 6, 0], OVER),
+    // Of 90 orders a third has the read behind both inits. A third has it between them, which is not
+    // admissible and ends no otherwise.
+    (Sample::InitsByOneLiteralAndRead, [90, 30, 30], OVER),
+    // Three threads of two steps each stand in 90 orders: a third of them has the read behind both
+    // updates.
+    (Sample::UpdatesAndRead, [90, 30, 60], OVER),
+    // A sixth of 90 orders has the init, the update and the read in this order.
+    (Sample::InitUpdateRead, [90, 15, 75], OVER),
+    // The inner threads stand in 6 orders, each between the fork and the two steps at and behind the
+    // join; the two steps of the reader stand among these seven in 36 ways. The read stands behind both
+    // updates in 15 of them where the updates are neighbours, in 10 where they are not: 4 · 15 + 2 · 10.
+    (Sample::NestedForks, [216, 80, 136], OVER),
+    // In the first tick two pauses stand in two orders. In the second the threads wake, end and pause
+    // again: 6 · 2 orders.
+    (Sample::TwoPauses, [2, 2, 0], [12, 12, 0]),
+    // As two pauses, but in the second tick each thread takes one step more: 20 · 2 orders.
+    (Sample::WriteAndReadLater, [2, 2, 0], [40, 20, 20]),
+];
+
+fn is_counted_in(
     alloc: Global,
-    image: Image,
-    in_the_first: Counts,
-    in_the_second: Counts,
-) -> Result<(), Fail> {
-    let (first, second) = first_and_second(alloc, image)?;
-    if first == in_the_first && second == in_the_second {
-        Ok(())
-    } else {
-        Err(Fail::new("other counts"))
+    sample: Sample,
+    first: [usize; 3],
+    second: [usize; 3],
+) -> Result<bool, Fail> {
+    is_counted(alloc, &verified(alloc, sample)?, first, second)
+}
+
+#[test]
+fn admissible_runs_end_once(rt: HostRuntime) -> Result<(), Fail> {
+    for (number, (sample, first, second)) in ROWS.iter().enumerate() {
+        let is_so = is_counted_in(rt.alloc(), *sample, *first, *second)?;
+        assert!(rt; is_so, "other counts in row {number}");
     }
-}
-
-// Two threads of two steps each stand in 6 orders, and in half of them the first writes first. Each
-// other order reads too early.
-#[test]
-fn a_write_and_a_read_end_once(rt: HostRuntime) -> Result<(), Fail> {
-    expect_counted(
-        rt.alloc(),
-        write_and_read(rt.alloc())?,
-        expected(6, 3, 3),
-        OVER,
-    )
-}
-
-// In half of 6 orders the init comes first. Each other order updates what is initialized then.
-#[test]
-fn an_init_and_an_update_end_once(rt: HostRuntime) -> Result<(), Fail> {
-    expect_counted(
-        rt.alloc(),
-        init_and_update(rt.alloc())?,
-        expected(6, 3, 3),
-        OVER,
-    )
-}
-
-// Two inits by one literal come in any order, and all orders end alike.
-#[test]
-fn inits_by_one_literal_end_once(rt: HostRuntime) -> Result<(), Fail> {
-    let image = inits_by_one_literal(rt.alloc())?;
-    expect_counted(rt.alloc(), image, expected(6, 6, 0), OVER)
-}
-
-// Of 90 orders a third has the read behind both inits. A third has it between them, which is not
-// admissible and ends no otherwise.
-#[test]
-fn two_inits_and_a_read_end_once(rt: HostRuntime) -> Result<(), Fail> {
-    let image = inits_by_one_literal_and_read(rt.alloc())?;
-    expect_counted(rt.alloc(), image, expected(90, 30, 30), OVER)
-}
-
-// Three threads of two steps each stand in 90 orders: a third of them has the read behind both
-// updates.
-#[test]
-fn two_updates_and_a_read_end_once(rt: HostRuntime) -> Result<(), Fail> {
-    expect_counted(
-        rt.alloc(),
-        updates_and_read(rt.alloc())?,
-        expected(90, 30, 60),
-        OVER,
-    )
-}
-
-// A sixth of 90 orders has the init, the update and the read in this order.
-#[test]
-fn an_init_an_update_and_a_read_end_once(rt: HostRuntime) -> Result<(), Fail> {
-    expect_counted(
-        rt.alloc(),
-        init_update_read(rt.alloc())?,
-        expected(90, 15, 75),
-        OVER,
-    )
-}
-
-// The inner threads stand in 6 orders, each between the fork and the two steps at and behind the
-// join; the two steps of the reader stand among these seven in 36 ways. The read stands behind both
-// updates in 15 of them where the updates are neighbours, in 10 where they are not: 4 · 15 + 2 · 10.
-#[test]
-fn nested_threads_end_once(rt: HostRuntime) -> Result<(), Fail> {
-    expect_counted(
-        rt.alloc(),
-        nested_forks(rt.alloc())?,
-        expected(216, 80, 136),
-        OVER,
-    )
-}
-
-// In the first tick two pauses stand in two orders. In the second the threads wake, end and pause
-// again: 6 · 2 orders.
-#[test]
-fn pauses_end_once(rt: HostRuntime) -> Result<(), Fail> {
-    expect_counted(
-        rt.alloc(),
-        two_pauses(rt.alloc())?,
-        expected(2, 2, 0),
-        expected(12, 12, 0),
-    )
-}
-
-// As two pauses, but in the second tick each thread takes one step more: 20 · 2 orders.
-#[test]
-fn a_later_write_and_read_end_once(rt: HostRuntime) -> Result<(), Fail> {
-    let image = write_and_read_later(rt.alloc())?;
-    expect_counted(rt.alloc(), image, expected(2, 2, 0), expected(40, 20, 20))
+    Ok(())
 }

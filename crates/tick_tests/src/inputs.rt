@@ -1,7 +1,6 @@
 // Inputs that a tick takes, and inputs that it refuses.
-use crate::ticks::{tick, verified};
-use bytecode::Image;
-use samples::counter;
+use crate::images::{Sample, verified};
+use crate::ticks::tick;
 use sc_values::{Name, Value};
 use sqlite_items::Items;
 use std::alloc::Global;
@@ -52,29 +51,27 @@ fn end_so(alloc: Global, image: &Verified, ticks: &[Wanted<'_>]) -> Result<bool,
     Ok(true)
 }
 
-fn expect_ticks(alloc: Global, image: Image, ticks: &[Wanted<'_>]) -> Result<(), Fail> {
-    let image = verified(alloc, image)?;
-    if end_so(alloc, &image, ticks)? {
-        Ok(())
-    } else {
-        Err(Fail::new("other steps or values"))
-    }
+const YES: Value = Value::Bool(true);
+
+const NO: Value = Value::Bool(false);
+
+const TICKS: [Wanted<'static>; 5] = [
+    (&[], 1, [NO, Value::Int(0)]),
+    (&[("A", YES)], 4, [YES, Value::Int(1)]),
+    (&[], 3, [NO, Value::Int(1)]),
+    (&[("A", YES)], 4, [YES, Value::Int(2)]),
+    (&[("A", NO)], 3, [NO, Value::Int(2)]),
+];
+
+fn last_one_tick(alloc: Global) -> Result<bool, Fail> {
+    end_so(alloc, &verified(alloc, Sample::Counter)?, &TICKS)
 }
 
 #[test]
 fn inputs_last_one_tick(rt: HostRuntime) -> Result<(), Fail> {
-    let none: &[(&str, Value)] = &[];
-    let yes: &[(&str, Value)] = &[("A", Value::Bool(true))];
-    let no: &[(&str, Value)] = &[("A", Value::Bool(false))];
-    let after = |a: bool, n: i32| [Value::Bool(a), Value::Int(n)];
-    let ticks = [
-        (none, 1, after(false, 0)),
-        (yes, 4, after(true, 1)),
-        (none, 3, after(false, 1)),
-        (yes, 4, after(true, 2)),
-        (no, 3, after(false, 2)),
-    ];
-    expect_ticks(rt.alloc(), counter(rt.alloc())?, &ticks)
+    let is_so = last_one_tick(rt.alloc())?;
+    assert!(rt; is_so, "other steps or values");
+    Ok(())
 }
 
 // Whether these inputs are refused, and the configuration stays as it was.
@@ -123,26 +120,25 @@ fn first_taken(
     Ok(None)
 }
 
-fn expect_refused(alloc: Global, image: Image, lists: &[&[(&str, Value)]]) -> Result<(), Fail> {
-    match first_taken(alloc, &verified(alloc, image)?, lists)? {
-        None => Ok(()),
-        Some(at) => Err(Fail::new(format!(in alloc; "list {at} was taken")?)),
-    }
+const LISTS: [&[(&str, Value)]; 6] = [
+    // no variable, an output, another kind
+    &[("B", YES)],
+    &[("n", Value::Int(1))],
+    &[("A", Value::Int(1))],
+    // twice, with another value or the same
+    &[("A", YES), ("A", NO)],
+    &[("A", YES), ("A", YES)],
+    // a bad one behind a good one
+    &[("A", YES), ("a", YES)],
+];
+
+fn taken(alloc: Global) -> Result<Option<usize>, Fail> {
+    first_taken(alloc, &verified(alloc, Sample::Counter)?, &LISTS)
 }
 
 #[test]
 fn bad_inputs_are_refused(rt: HostRuntime) -> Result<(), Fail> {
-    let yes = Value::Bool(true);
-    let lists: [&[(&str, Value)]; 6] = [
-        // no variable, an output, another kind
-        &[("B", yes)],
-        &[("n", Value::Int(1))],
-        &[("A", Value::Int(1))],
-        // twice, with another value or the same
-        &[("A", yes), ("A", Value::Bool(false))],
-        &[("A", yes), ("A", yes)],
-        // a bad one behind a good one
-        &[("A", yes), ("a", yes)],
-    ];
-    expect_refused(rt.alloc(), counter(rt.alloc())?, &lists)
+    let taken = taken(rt.alloc())?;
+    assert_eq!(rt; taken, None, "the list that was taken");
+    Ok(())
 }

@@ -2,18 +2,13 @@
 ghost use Rattle.std.specs.Prelude.{IfOk};
 ghost use Rattle.sc_graph.specs.Tick.{Rests};
 
-use crate::ticks::verified;
-use bytecode::Image;
-use samples::{
-    init_and_update, inits_by_one_literal, inits_by_one_literal_and_read, two_pauses,
-    write_and_read,
-};
+use crate::images::{Sample, verified};
 use sc_graph::{Control, Status, ThreadId};
 use sc_values::Value;
 use sqlite_items::Items;
 use std::alloc::Global;
 use std::test::Fail;
-use tick_core::{Inputs, Judged, begin, judge};
+use tick_core::{Inputs, Judged, TickState, begin, judge};
 use verifier::Verified;
 
 // What a judgement is to say; of an end the values of x and y, and how many threads pause.
@@ -49,6 +44,18 @@ fn answer_of(judged: &Judged) -> Told {
     }
 }
 
+/// The tick without inputs from this configuration, begun.
+pub(crate) fn begun<'a>(
+    alloc: Global,
+    image: &'a Verified,
+    resting: &Control,
+) -> Result<TickState<'a>, Fail>
+    requires { Rests image.now.program resting.now }
+{
+    let inputs: Inputs = Items::new(alloc);
+    Ok(begin(alloc, image, resting, &inputs)?)
+}
+
 // The configuration in which a tick ends that is run alone, without inputs.
 pub(crate) fn end_of_tick(
     alloc: Global,
@@ -65,6 +72,14 @@ pub(crate) fn end_of_tick(
     Ok(end)
 }
 
+/// The configuration after the first tick, from which the second begins.
+pub(crate) fn end_of_first(alloc: Global, image: &Verified) -> Result<Control, Fail>
+    ensures { IfOk result (Rests image.now.program) }
+{
+    let opening = Control::initial(alloc, image.image().program())?;
+    end_of_tick(alloc, image, &opening)
+}
+
 // What is judged of a run from this configuration, without inputs.
 pub(crate) fn judgement(
     alloc: Global,
@@ -78,85 +93,142 @@ pub(crate) fn judgement(
     Ok(judge(alloc, image, resting, &inputs, run)?)
 }
 
-// Judges runs of a tick. Fails where something else is said of one than is wanted.
-fn expect_said(
+// The first of these runs of a tick of which something else is said than is wanted.
+fn first_astray(
     alloc: Global,
     image: &Verified,
     resting: &Control,
-    rows: &[(&[ThreadId], Told)],
-) -> Result<(), Fail>
+    runs: &[Row],
+) -> Result<Option<usize>, Fail>
     requires { Rests image.now.program resting.now }
 {
-    for (at, (run, wanted)) in rows.iter().enumerate() {
-        if answer_of(&judgement(alloc, image, resting, *run)?) != *wanted {
-            return Err(Fail::new(format!(in alloc; "something else of run {at}")?));
+    for (at, row) in runs.iter().enumerate() {
+        if answer_of(&judgement(alloc, image, resting, row.run)?) != row.wanted {
+            return Ok(Some(at));
         }
+    }
+    Ok(None)
+}
+
+// The same of the first tick.
+fn astray_in_the_first(
+    alloc: Global,
+    image: &Verified,
+    runs: &[Row],
+) -> Result<Option<usize>, Fail> {
+    let opening = Control::initial(alloc, image.image().program())?;
+    first_astray(alloc, image, &opening, runs)
+}
+
+// The same of the second tick.
+fn astray_in_the_second(
+    alloc: Global,
+    image: &Verified,
+    runs: &[Row],
+) -> Result<Option<usize>, Fail> {
+    first_astray(alloc, image, &end_of_first(alloc, image)?, runs)
+}
+
+// A run, and what is to be said of it.
+struct Row {
+    run: &'static [ThreadId],
+    wanted: Told,
+}
+
+// Runs of the first tick of a sample, in the order of the samples.
+const FIRST: [(Sample, &[Row]); 4] = [
+    (
+        Sample::WriteAndRead,
+        &[
+            Row {
+                run: &[0, 1, 1, 2, 2, 0, 0],
+                wanted: Told::Ends(1, 1, 0),
+            },
+            Row {
+                run: &[0, 1, 2, 1, 2, 0, 0],
+                wanted: Told::Ends(1, 1, 0),
+            },
+            Row {
+                run: &[0, 2, 1, 1, 2, 0, 0],
+                wanted: Told::NotAdmissible(1, 2),
+            },
+            Row {
+                run: &[0, 0],
+                wanted: Told::NotRun(1),
+            },
+            Row {
+                run: &[0, 1],
+                wanted: Told::Incomplete,
+            },
+        ],
+    ),
+    (
+        Sample::InitAndUpdate,
+        &[Row {
+            run: &[0, 2, 1, 1, 2, 0, 0],
+            wanted: Told::NotAdmissible(1, 2),
+        }],
+    ),
+    (
+        Sample::InitsByOneLiteral,
+        &[
+            Row {
+                run: &[0, 1, 1, 2, 2, 0, 0],
+                wanted: Told::Ends(1, 0, 0),
+            },
+            Row {
+                run: &[0, 2, 2, 1, 1, 0, 0],
+                wanted: Told::Ends(1, 0, 0),
+            },
+        ],
+    ),
+    (
+        Sample::InitsByOneLiteralAndRead,
+        &[
+            Row {
+                run: &[0, 2, 1, 3, 3, 2, 1, 0, 0],
+                wanted: Told::Ends(1, 1, 0),
+            },
+            Row {
+                run: &[0, 2, 3, 1],
+                wanted: Told::NotAdmissible(2, 3),
+            },
+        ],
+    ),
+];
+
+// Runs of the second tick of two pauses.
+const SECOND: [Row; 2] = [
+    Row {
+        run: &[1, 1, 2, 2, 0, 0, 1, 2],
+        wanted: Told::Ends(0, 0, 2),
+    },
+    Row {
+        run: &[1, 1, 0],
+        wanted: Told::NotRun(2),
+    },
+];
+
+fn first_astray_in(alloc: Global, sample: Sample, runs: &[Row]) -> Result<Option<usize>, Fail> {
+    astray_in_the_first(alloc, &verified(alloc, sample)?, runs)
+}
+
+fn second_astray_in(alloc: Global, sample: Sample, runs: &[Row]) -> Result<Option<usize>, Fail> {
+    astray_in_the_second(alloc, &verified(alloc, sample)?, runs)
+}
+
+#[test]
+fn judges_first_ticks(rt: HostRuntime) -> Result<(), Fail> {
+    for (number, (sample, runs)) in FIRST.iter().enumerate() {
+        let astray = first_astray_in(rt.alloc(), *sample, *runs)?;
+        assert_eq!(rt; astray, None, "of sample {number}");
     }
     Ok(())
 }
 
-// The same of the first tick.
-fn expect_judged(alloc: Global, image: Image, rows: &[(&[ThreadId], Told)]) -> Result<(), Fail> {
-    let image = verified(alloc, image)?;
-    let opening = Control::initial(alloc, image.image().program())?;
-    expect_said(alloc, &image, &opening, rows)
-}
-
-// The same of the second tick.
-fn expect_judged_later(
-    alloc: Global,
-    image: Image,
-    rows: &[(&[ThreadId], Told)],
-) -> Result<(), Fail> {
-    let image = verified(alloc, image)?;
-    let opening = Control::initial(alloc, image.image().program())?;
-    let resting = end_of_tick(alloc, &image, &opening)?;
-    expect_said(alloc, &image, &resting, rows)
-}
-
-#[test]
-fn judges_a_write_and_a_read(rt: HostRuntime) -> Result<(), Fail> {
-    let rows = [
-        ([0, 1, 1, 2, 2, 0, 0].as_slice(), Told::Ends(1, 1, 0)),
-        ([0, 1, 2, 1, 2, 0, 0].as_slice(), Told::Ends(1, 1, 0)),
-        ([0, 2, 1, 1, 2, 0, 0].as_slice(), Told::NotAdmissible(1, 2)),
-        ([0, 0].as_slice(), Told::NotRun(1)),
-        ([0, 1].as_slice(), Told::Incomplete),
-    ];
-    expect_judged(rt.alloc(), write_and_read(rt.alloc())?, &rows)
-}
-
-#[test]
-fn judges_an_init_and_an_update(rt: HostRuntime) -> Result<(), Fail> {
-    let run = [0, 2, 1, 1, 2, 0, 0];
-    let rows = [(run.as_slice(), Told::NotAdmissible(1, 2))];
-    expect_judged(rt.alloc(), init_and_update(rt.alloc())?, &rows)
-}
-
-#[test]
-fn judges_inits_by_one_literal(rt: HostRuntime) -> Result<(), Fail> {
-    let rows = [
-        ([0, 1, 1, 2, 2, 0, 0].as_slice(), Told::Ends(1, 0, 0)),
-        ([0, 2, 2, 1, 1, 0, 0].as_slice(), Told::Ends(1, 0, 0)),
-    ];
-    expect_judged(rt.alloc(), inits_by_one_literal(rt.alloc())?, &rows)
-}
-
-#[test]
-fn judges_two_inits_and_a_read(rt: HostRuntime) -> Result<(), Fail> {
-    let rows = [
-        ([0, 2, 1, 3, 3, 2, 1, 0, 0].as_slice(), Told::Ends(1, 1, 0)),
-        ([0, 2, 3, 1].as_slice(), Told::NotAdmissible(2, 3)),
-    ];
-    let image = inits_by_one_literal_and_read(rt.alloc())?;
-    expect_judged(rt.alloc(), image, &rows)
-}
-
 #[test]
 fn judges_second_ticks(rt: HostRuntime) -> Result<(), Fail> {
-    let rows = [
-        ([1, 1, 2, 2, 0, 0, 1, 2].as_slice(), Told::Ends(0, 0, 2)),
-        ([1, 1, 0].as_slice(), Told::NotRun(2)),
-    ];
-    expect_judged_later(rt.alloc(), two_pauses(rt.alloc())?, &rows)
+    let astray = second_astray_in(rt.alloc(), Sample::TwoPauses, &SECOND)?;
+    assert_eq!(rt; astray, None, "the run that is judged otherwise");
+    Ok(())
 }

@@ -1,22 +1,15 @@
 // Whole ticks, by one worker.
 use crate::acts::{ended, first_tick};
-use bytecode::Image;
-use samples::{
-    assignments, branches, init_and_update, inits, inits_by_one_literal,
-    inits_by_one_literal_and_read, nested_forks, one_exit, thousand_threads, two_pauses,
-    wrapping_sum, write_and_read,
-};
+use crate::images::{Sample, verified};
 use sc_values::Value;
 use sqlite_items::Items;
 use std::alloc::Global;
 use std::test::Fail;
-use tick_core::{Control, Inputs, Report, Status, begin};
-use verifier::{Verified, verify};
+use tick_core::{Control, Inputs, Report, Status, TickState, begin};
+use verifier::Verified;
 
-/// The image, verified.
-pub(crate) fn verified(alloc: Global, image: Image) -> Result<Verified, Fail> {
-    Ok(verify(alloc, image)?)
-}
+// The steps of a tick, and the variables after it.
+type Tick = (usize, &'static [Value]);
 
 /// A tick from this configuration.
 pub(crate) fn tick(
@@ -57,7 +50,7 @@ fn tick_so(
 }
 
 // Whether each tick without inputs takes so many steps and leaves these values.
-fn end_so(alloc: Global, image: &Verified, wanted: &[(usize, &[Value])]) -> Result<bool, Fail> {
+fn end_so(alloc: Global, image: &Verified, wanted: &[Tick]) -> Result<bool, Fail> {
     let mut control = Control::initial(alloc, image.image().program())?;
     for (steps, values) in wanted {
         match tick_so(alloc, image, &control, *steps, *values)? {
@@ -68,146 +61,127 @@ fn end_so(alloc: Global, image: &Verified, wanted: &[(usize, &[Value])]) -> Resu
     Ok(true)
 }
 
-fn expect_ticks(alloc: Global, image: Image, wanted: &[(usize, &[Value])]) -> Result<(), Fail> {
-    let image = verified(alloc, image)?;
-    if end_so(alloc, &image, wanted)? {
-        Ok(())
-    } else {
-        Err(Fail::new("other steps or values"))
+const NONE: &[Value] = &[];
+
+const ZEROS: &[Value] = &[Value::Int(0), Value::Int(0)];
+
+const ONES: &[Value] = &[Value::Int(1), Value::Int(1)];
+
+const THREES: &[Value] = &[Value::Int(3), Value::Int(3)];
+
+const FIRST_ONE: &[Value] = &[Value::Int(1), Value::Int(0)];
+
+const FIRST_TWO: &[Value] = &[Value::Int(2), Value::Int(0)];
+
+const FIRST_LEAST: &[Value] = &[Value::Int(-2147483648), Value::Int(0)];
+
+// A row for each sample: what it shows, and what its first ticks are.
+const ROWS: [(&str, Sample, &[Tick]); 12] = [
+    ("one step ends", Sample::OneExit, &[(1, NONE), (0, NONE)]),
+    (
+        "what is written is read",
+        Sample::WriteAndRead,
+        &[(7, ONES), (0, ONES)],
+    ),
+    (
+        "inits by one literal write it",
+        Sample::InitsByOneLiteral,
+        &[(7, FIRST_ONE), (0, FIRST_ONE)],
+    ),
+    (
+        "what two inits write is read",
+        Sample::InitsByOneLiteralAndRead,
+        &[(9, ONES), (0, ONES)],
+    ),
+    (
+        "what is initialized is updated",
+        Sample::InitAndUpdate,
+        &[(7, FIRST_TWO), (0, FIRST_TWO)],
+    ),
+    (
+        "sums wrap",
+        Sample::WrappingSum,
+        &[(7, FIRST_LEAST), (0, FIRST_LEAST)],
+    ),
+    (
+        "nested forks join",
+        Sample::NestedForks,
+        &[(12, THREES), (0, THREES)],
+    ),
+    (
+        "later ticks meet the budget",
+        Sample::TwoPauses,
+        &[(3, ZEROS), (8, ZEROS), (8, ZEROS)],
+    ),
+    (
+        "long ticks end",
+        Sample::LongRow,
+        &[(16384, &[Value::Int(1)])],
+    ),
+    (
+        "wide ticks end",
+        Sample::Updates64,
+        &[(131, &[Value::Int(64)])],
+    ),
+    (
+        "ticks of 1024 threads end",
+        Sample::Threads1024,
+        &[(2080, &[Value::Int(992)]), (0, &[Value::Int(992)])],
+    ),
+    (
+        "wide ticks of inits end",
+        Sample::Inits64,
+        &[(131, &[Value::Int(1)])],
+    ),
+];
+
+fn end_so_in(alloc: Global, sample: Sample, wanted: &[Tick]) -> Result<bool, Fail> {
+    end_so(alloc, &verified(alloc, sample)?, wanted)
+}
+
+#[test]
+fn ticks_take_their_steps_and_leave_their_values(rt: HostRuntime) -> Result<(), Fail> {
+    for (name, sample, ticks) in &ROWS {
+        let is_so = end_so_in(rt.alloc(), *sample, *ticks)?;
+        assert!(rt; is_so, "{name}");
     }
+    Ok(())
 }
 
-#[test]
-fn one_step_ends(rt: HostRuntime) -> Result<(), Fail> {
-    expect_ticks(rt.alloc(), one_exit(rt.alloc())?, &[(1, &[]), (0, &[])])
-}
-
-#[test]
-fn what_is_written_is_read(rt: HostRuntime) -> Result<(), Fail> {
-    let ones = [Value::Int(1), Value::Int(1)];
-    expect_ticks(
-        rt.alloc(),
-        write_and_read(rt.alloc())?,
-        &[(7, &ones), (0, &ones)],
-    )
-}
-
-#[test]
-fn inits_by_one_literal_write_it(rt: HostRuntime) -> Result<(), Fail> {
-    let one = [Value::Int(1), Value::Int(0)];
-    let image = inits_by_one_literal(rt.alloc())?;
-    expect_ticks(rt.alloc(), image, &[(7, &one), (0, &one)])
-}
-
-#[test]
-fn what_two_inits_write_is_read(rt: HostRuntime) -> Result<(), Fail> {
-    let ones = [Value::Int(1), Value::Int(1)];
-    let image = inits_by_one_literal_and_read(rt.alloc())?;
-    expect_ticks(rt.alloc(), image, &[(9, &ones), (0, &ones)])
-}
-
-#[test]
-fn what_is_initialized_is_updated(rt: HostRuntime) -> Result<(), Fail> {
-    let two = [Value::Int(2), Value::Int(0)];
-    let image = init_and_update(rt.alloc())?;
-    expect_ticks(rt.alloc(), image, &[(7, &two), (0, &two)])
-}
-
-#[test]
-fn sums_wrap(rt: HostRuntime) -> Result<(), Fail> {
-    let least = [Value::Int(-2147483648), Value::Int(0)];
-    expect_ticks(
-        rt.alloc(),
-        wrapping_sum(rt.alloc())?,
-        &[(7, &least), (0, &least)],
-    )
-}
-
-#[test]
-fn nested_forks_join(rt: HostRuntime) -> Result<(), Fail> {
-    let threes = [Value::Int(3), Value::Int(3)];
-    expect_ticks(
-        rt.alloc(),
-        nested_forks(rt.alloc())?,
-        &[(12, &threes), (0, &threes)],
-    )
-}
-
-#[test]
-fn later_ticks_meet_the_budget(rt: HostRuntime) -> Result<(), Fail> {
-    let zeros = [Value::Int(0), Value::Int(0)];
-    let wanted = [
-        (3, zeros.as_slice()),
-        (8, zeros.as_slice()),
-        (8, zeros.as_slice()),
-    ];
-    expect_ticks(rt.alloc(), two_pauses(rt.alloc())?, &wanted)
-}
-
-fn budget_of(image: &Image) -> u32 {
-    image.tables().budget
+fn budget(alloc: Global, sample: Sample) -> Result<u32, Fail> {
+    Ok(verified(alloc, sample)?.image().tables().budget)
 }
 
 #[test]
 fn the_budget_of_two_pauses_is_8(rt: HostRuntime) -> Result<(), Fail> {
-    assert_eq!(rt; budget_of(&two_pauses(rt.alloc())?), 8);
+    let budget = budget(rt.alloc(), Sample::TwoPauses)?;
+    assert_eq!(rt; budget, 8);
     Ok(())
 }
 
-#[test]
-fn long_ticks_end(rt: HostRuntime) -> Result<(), Fail> {
-    expect_ticks(
-        rt.alloc(),
-        assignments(rt.alloc(), 16383)?,
-        &[(16384, &[Value::Int(1)])],
-    )
-}
-
-#[test]
-fn wide_ticks_end(rt: HostRuntime) -> Result<(), Fail> {
-    expect_ticks(
-        rt.alloc(),
-        branches(rt.alloc(), 64)?,
-        &[(131, &[Value::Int(64)])],
-    )
-}
-
-#[test]
-fn ticks_of_1024_threads_end(rt: HostRuntime) -> Result<(), Fail> {
-    let all = [Value::Int(992)];
-    expect_ticks(
-        rt.alloc(),
-        thousand_threads(rt.alloc())?,
-        &[(2080, &all), (0, &all)],
-    )
-}
-
-#[test]
-fn wide_ticks_of_inits_end(rt: HostRuntime) -> Result<(), Fail> {
-    let image = inits(rt.alloc(), 64, 1)?;
-    expect_ticks(rt.alloc(), image, &[(131, &[Value::Int(1)])])
-}
-
-// The statuses at the start of the first tick, as they are then and as they are told when it is over, and
-// the root's status then.
-fn expect_start(alloc: Global, image: &Verified, start: &[Status]) -> Result<(), Fail> {
-    let mut state = first_tick(alloc, image)?;
-    let at_first = state.present().statuses.as_slice() == start;
-    state.run_alone();
-    let at_last = state.begun().statuses.as_slice() == start;
-    if at_first && at_last && state.present().status(0) == Status::Ended {
-        Ok(())
-    } else {
-        Err(Fail::new("another start"))
+// Whether a first tick stands at this start, runs alone to its end, and still tells it then.
+fn stands_at(state: &mut TickState<'_>, start: &[Status]) -> bool {
+    if state.present().statuses.as_slice() != start {
+        return false;
     }
+    state.run_alone();
+    state.begun().statuses.as_slice() == start && state.present().status(0) == Status::Ended
+}
+
+fn starts_at(alloc: Global, image: &Verified, start: &[Status]) -> Result<bool, Fail> {
+    let mut state = first_tick(alloc, image)?;
+    Ok(stands_at(&mut state, start))
+}
+
+const START: [Status; 3] = [Status::At(0), Status::Absent, Status::Absent];
+
+fn starts_so(alloc: Global, sample: Sample) -> Result<bool, Fail> {
+    starts_at(alloc, &verified(alloc, sample)?, &START)
 }
 
 #[test]
 fn ticks_begin_at_their_start(rt: HostRuntime) -> Result<(), Fail> {
-    let start = [Status::At(0), Status::Absent, Status::Absent];
-    expect_start(
-        rt.alloc(),
-        &verified(rt.alloc(), write_and_read(rt.alloc())?)?,
-        &start,
-    )
+    let is_so = starts_so(rt.alloc(), Sample::WriteAndRead)?;
+    assert!(rt; is_so, "another start");
+    Ok(())
 }
