@@ -1,10 +1,11 @@
-//! Small programs with their tables, which the tests of several crates share.
+//! Small programs with their tables, and one image as bytes, which the tests of several crates share.
 #![tactic(auto)]
 
 mod large;
 mod making;
 mod rows;
 mod small;
+mod spelled;
 
 pub use large::{assignments, branches, inits, thousand_threads};
 pub use making::{image_of, image_over, variables};
@@ -16,3 +17,4 @@ pub use small::{
     inits_by_one_literal_and_read, inits_by_one_truth, inits_by_two_literals, nested_forks,
     one_exit, two_pauses, updates_and_read, wrapping_sum, write_and_read, write_and_read_later,
 };
+pub use spelled::ABRO;

@@ -2,8 +2,6 @@
 #![tactic(auto)]
 
 #[cfg(test)]
-mod abro;
-#[cfg(test)]
 mod failing;
 #[cfg(test)]
 mod gates;

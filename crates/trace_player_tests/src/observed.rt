@@ -1,9 +1,9 @@
 // What is written of an input, and what observers see of its ticks.
 ghost use Rattle.std.specs.Prelude.{◌≡◌, ◌<◌, ◌≤◌};
 
-use crate::abro::ABRO;
 use bytecode::decode;
 use probe::{NoSeat, Observer, Output, Publisher};
+use samples::ABRO;
 use sc_graph::ThreadId;
 use sc_values::{Failures, FromSlice, Plan, Progress, ToVec, Value};
 use std::alloc::Global;

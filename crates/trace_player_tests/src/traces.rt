@@ -1,8 +1,8 @@
 // Traces by `play`, and what it answers.
 ghost use Rattle.std.specs.Prelude.{◌≡◌, ◌<◌, ◌≤◌};
 
-use crate::abro::ABRO;
 use bytecode::decode;
+use samples::ABRO;
 use sc_values::{Failures, FromSlice, Plan, Progress, ToVec};
 use std::alloc::Global;
 use std::marker::Brand;

@@ -1,9 +1,8 @@
 // Whole ticks, by 1 to 8 workers.
 ghost use Rattle.std.specs.Prelude.{◌≤◌};
 
-use crate::abro::ABRO;
 use bytecode::{Image, decode};
-use samples::{branches, nested_forks, two_pauses, wrapping_sum, write_and_read};
+use samples::{ABRO, branches, nested_forks, two_pauses, wrapping_sum, write_and_read};
 use sc_graph::ThreadId;
 use sc_values::{Name, Value};
 use sqlite_items::Items;

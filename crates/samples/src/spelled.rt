@@ -1,7 +1,7 @@
-// The image of ABRO, as bytes.
+//! Images as the bytes that spell them.
 
 /// O once A and B have come, and anew after R: a region in which two regions wait, left by a strong abort.
-pub(crate) const ABRO: [u8; 567] = [
+pub const ABRO: [u8; 567] = [
     83, 67, 67, 66, 2, 5, 0, 0, 0, 1, 65, 0, 0, 1, 66, 0, 0, 1, 82, 1, 0, 1, 79, 2, 1, 3, 95, 115,
     49, 6, 0, 255, 255, 0, 0, 27, 0, 0, 0, 0, 0, 3, 0, 25, 0, 0, 0, 1, 0, 13, 0, 12, 0, 0, 0, 2, 0,
     21, 0, 4, 0, 0, 0, 2, 0, 26, 0, 4, 0, 0, 0, 1, 0, 31, 0, 4, 0, 0, 0, 36, 0, 0, 0, 0, 0, 7, 0,
