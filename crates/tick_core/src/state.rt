@@ -15,6 +15,7 @@ ghost use Rattle.tick_core.specs.Again.{begun_again};
 
 mod claiming;
 mod ending;
+mod first_rows;
 mod taking;
 
 use crate::claim::Claim;
@@ -28,6 +29,8 @@ use crate::sorting::{rows_of, sort_every};
 use crate::starting::start;
 use bytecode::Image;
 pub(crate) use ending::present_value;
+pub(crate) use first_rows::kinds_of;
+use first_rows::no_claims;
 use ready_rows::Rows;
 use sc_graph::{Control, Program, ThreadId};
 use sc_values::{Kind, Name, Value};
@@ -386,25 +389,4 @@ impl<'a> TickState<'a> {
     {
         self.rows.row(priority)
     }
-}
-
-/// The kinds of all variables.
-pub(crate) fn kinds_of(alloc: Global, program: &Program) -> Result<Vec<Kind>, AllocError>
-    ensures { IfOk result (λ found. found.items ≡ kinds program.now) }
-{
-    let mut found = Vec::with_capacity(alloc, program.variables().len())?;
-    for variable in program.variables() {
-        found.push(variable.kind)?;
-    }
-    Ok(found)
-}
-
-fn no_claims<'a>(alloc: Global, program: &Program) -> Result<Vec<Option<Claim<'a>>>, AllocError>
-    ensures { IfOk result (λ claims. claims.items ≡ map (λ _. None) program.now.threads) }
-{
-    let mut claims = Vec::with_capacity(alloc, program.threads().len())?;
-    for _thread in program.threads() {
-        claims.push(None)?;
-    }
-    Ok(claims)
 }

@@ -1,5 +1,5 @@
 use Rattle.std.proofs.Common.{◌≡◌, ◌++◌, map, drop}
-use Rattle.tick_core.proofs.state.kinds_of.Given as goal
+use Rattle.tick_core.proofs.state.first_rows.kinds_of.Given as goal
 
 abbrev pub invariant-loop-variable : goal.invariant-loop-variable
 invariant-loop-variable l =

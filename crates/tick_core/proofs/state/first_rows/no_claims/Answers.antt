@@ -1,6 +1,6 @@
 use Rattle.std.proofs.Common.{◌∙◌, ap, sym, ◌++◌, ◌∷◌, [], None}
 use Rattle.tick_core.proofs.Keeping.{none_more}
-use Rattle.tick_core.proofs.state.no_claims.Goals as goal
+use Rattle.tick_core.proofs.state.first_rows.no_claims.Goals as goal
 
 pub loop-thread-preserved : goal.loop-thread-preserved
 loop-thread-preserved c =
