@@ -24,11 +24,11 @@ progress_after progress.Open result room = progress.Open
 progress_after progress.Ended result room = progress.Behind
 progress_after progress.Behind result room = progress.Behind
 
--- a source that had not said its end has not said it
+-- a source that was open is open: it has not said its end meanwhile
 abbrev pub StaysOpen : Option Progress → Option Progress → Type 0
 StaysOpen old new = old ≡ Some progress.Open → new ≡ Some progress.Open
 
--- a source that had not said its end was not read behind it
+-- a source that was open has not been read behind its end
 abbrev pub IsNotReadBehind : Option Progress → Option Progress → Type 0
 IsNotReadBehind old new = old ≡ Some progress.Open → new ≢ Some progress.Behind
 

@@ -4,6 +4,7 @@ ghost use Rattle.std.specs.Prelude.{◌≡◌, ◌≤◌, ◌+◌, Some, None, I
 ghost use Rattle.command_files.specs.FaultText.{fault_text};
 ghost use Rattle.command_files.specs.declared.fault.Fault.TheVariants as told;
 ghost use Rattle.command_words.specs.Request.{StoresImage, IsRun, request_of, seen};
+ghost use Rattle.sc_values.specs.Streams.{IsNotReadBehind};
 ghost use Rattle.sct_command.specs.Answer.{Does, Refuses, IsRefused, TellsFault};
 ghost use Rattle.sct_command.specs.Answer.{fault_line, reads_failed, writes_failed};
 ghost use Rattle.sct_command.specs.Writing.{WritesText, WritesPart};
@@ -99,6 +100,7 @@ fn perform<T: Threads + Wait + Sync, F: Files, R: Source, W: Sink>(
     ensures read { IfErr result (λ fault. R.failures input.new ≡ R.failures input.old + reads_failed fault) }
     ensures none_failed { OnOk result (W.failures output.new ≡ W.failures output.old) }
     ensures failed { IfErr result (λ fault. W.failures output.new ≡ W.failures output.old + writes_failed fault) }
+    ensures end { IsNotReadBehind (R.progress input.old) (R.progress input.new) }
     ensures unread { ¬ IsRun (Some (seen request.entry)) → R.to_come input.new ≡ R.to_come input.old }
     ensures files { ¬ StoresImage (Some (seen request.entry)) → F.contents files.new ≡ F.contents files.old }
 {
@@ -144,6 +146,7 @@ pub fn command<T: Threads + Wait + Sync, F: Files, R: Source, W: Sink, X: Sink>(
     ensures misused { result ≡ MISUSED → request_of (map string_bytes words.now) ≡ None }
     ensures nothing { result ≡ MISUSED → W.taken output.new ≡ W.taken output.old }
 
+    ensures end { IsNotReadBehind (R.progress input.old) (R.progress input.new) }
     ensures unread { ¬ IsRun (request_of (map string_bytes words.now)) → R.to_come input.new ≡ R.to_come input.old }
     ensures files { ¬ StoresImage (request_of (map string_bytes words.now))
         → F.contents files.new ≡ F.contents files.old }

@@ -1,6 +1,7 @@
 //! The verb `run`.
 
 ghost use Rattle.std.specs.Prelude.{◌≡◌, ◌+◌, IfErr, OnOk};
+ghost use Rattle.sc_values.specs.Streams.{IsNotReadBehind};
 ghost use Rattle.sct_command.specs.Answer.{PlaysWhole, RefusesRun, reads_failed, writes_failed};
 
 use command_files::{Fault, Files, load_verified};
@@ -29,6 +30,7 @@ pub(crate) fn run<T: Threads + Wait + Sync, F: Files, R: Source, W: Sink>(
         (R.to_come input.old) (W.taken output.old) (W.taken output.new)) }
     ensures none_read { OnOk result (R.failures input.new ≡ R.failures input.old) }
     ensures read { IfErr result (λ fault. R.failures input.new ≡ R.failures input.old + reads_failed fault) }
+    ensures end { IsNotReadBehind (R.progress input.old) (R.progress input.new) }
     ensures none_failed { OnOk result (W.failures output.new ≡ W.failures output.old) }
     ensures failed { IfErr result (λ fault. W.failures output.new ≡ W.failures output.old + writes_failed fault) }
     ensures files { F.contents files.new ≡ F.contents files.old }
