@@ -1,13 +1,10 @@
 //! From which parts of a chart's text its core chart comes: a walk over the draft of the text in the order in which its
 //! expansion makes regions and states.
 
-use crate::abort_marks::bare;
 use crate::around::{Around, are_aborts, are_weak_aborts, termination};
 use crate::marks::{Marks, StateMark};
 use crate::origin::{Origin, Part, Scene};
-use crate::superstate_marks::{
-    as_it_is, continuation, fork, monitor, prepared, simple, without_transitions,
-};
+use crate::superstate_marks::{as_it_is, continuation, fork, monitor, prepared, simple};
 use chart_reader::{DraftRegion, DraftState};
 use sqlite_items::Items;
 use std::alloc::{AllocError, Global};
@@ -49,11 +46,15 @@ fn mark_region(
     marks.regions.push(origin)?;
     let states = region.states.as_slice();
     if counts && begins_in_final(states) {
-        marks.states.push(first_state(alloc, origin)?)?;
+        // a state that counts the region as ended stands before its first state
+        let counting = StateMark::of_one(alloc, origin, Part::Count)?;
+        marks.states.push(counting)?;
     }
     mark_states(alloc, region.named.at, states, around, marks)?;
     if are_aborts(around) {
-        marks.states.push(without_transitions(alloc, origin))?;
+        marks
+            .states
+            .push(StateMark::without_transitions(alloc, origin))?;
     }
     Ok(())
 }
@@ -87,9 +88,7 @@ fn mark_state(
     let own = state.transitions.as_slice();
     let regions = state.regions.as_slice();
     if state.is_final {
-        return marks
-            .states
-            .push(without_transitions(alloc, scene.origin(Part::State)));
+        return marks.states.push(StateMark::without_transitions(alloc, scene.origin(Part::State)));
     }
     if regions.is_empty() {
         return marks.states.push(simple(alloc, scene, around, own)?);
@@ -136,22 +135,14 @@ fn mark_closing(
         let origin = superstate.monitor();
         marks.regions.push(origin)?;
         marks.states.push(monitor(alloc, scene, around, own)?)?;
-        marks.states.push(without_transitions(alloc, origin))?;
+        marks
+            .states
+            .push(StateMark::without_transitions(alloc, origin))?;
     }
     if superstate.has_aborts() || are_aborts(around) {
         marks.states.push(continuation(alloc, scene, around, own)?)?;
     }
     Ok(())
-}
-
-// A state that counts its region as ended, before the region's first state, which is final.
-fn first_state(alloc: Global, region: Origin) -> Result<StateMark, AllocError> {
-    let mut transitions = Items::new(alloc);
-    transitions.push(bare(alloc, region, Part::Count))?;
-    Ok(StateMark {
-        origin: region,
-        transitions,
-    })
 }
 
 // Whether the initial state is final.

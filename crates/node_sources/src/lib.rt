@@ -3,7 +3,6 @@
 //! the program has nodes, each of a part that does what its node does.
 #![tactic(auto)]
 
-mod abort_marks;
 mod around;
 mod chart_marks;
 mod chart_pieces;
@@ -14,6 +13,7 @@ mod marks;
 mod origin;
 mod piece;
 mod positions;
+mod row;
 mod scl_pieces;
 mod sources;
 mod superstate_marks;

@@ -2,6 +2,7 @@
 
 use crate::origin::{Origin, Part};
 use sqlite_items::Items;
+use std::alloc::{AllocError, Global};
 
 /// Where a transition of the core chart comes from.
 #[derive(Drop)]
@@ -15,6 +16,15 @@ pub(crate) struct Mark {
 }
 
 impl Mark {
+    /// That of a transition which does nothing that stands in the text.
+    pub(crate) fn bare(alloc: Global, test: Origin, beyond: Part) -> Mark {
+        Mark {
+            test,
+            effects: Items::new(alloc),
+            beyond,
+        }
+    }
+
     /// The origin of its effect of this number, from 0.
     pub(crate) fn effect(&self, number: usize) -> Origin {
         match self.effects.get(number) {
@@ -29,6 +39,30 @@ impl Mark {
 pub(crate) struct StateMark {
     pub(crate) origin: Origin,
     pub(crate) transitions: Items<Mark>,
+}
+
+impl StateMark {
+    /// That of a final state, or of one that stands for none.
+    pub(crate) fn without_transitions(alloc: Global, origin: Origin) -> StateMark {
+        StateMark {
+            origin,
+            transitions: Items::new(alloc),
+        }
+    }
+
+    /// That of a state with one transition from the same origin, which does nothing that stands in the text.
+    pub(crate) fn of_one(
+        alloc: Global,
+        origin: Origin,
+        beyond: Part,
+    ) -> Result<StateMark, AllocError> {
+        let mut transitions = Items::new(alloc);
+        transitions.push(Mark::bare(alloc, origin, beyond))?;
+        Ok(StateMark {
+            origin,
+            transitions,
+        })
+    }
 }
 
 /// Where the regions and states of the core chart come from, both in the order of its text.

@@ -1,4 +1,5 @@
 pub mod Lists
+pub mod Classes
 pub mod Moving
 mod Reading
 pub mod Counting

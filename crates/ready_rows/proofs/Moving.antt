@@ -1,49 +1,13 @@
 -- Rows stand as an item leaves its row, and as one enters a row that has room.
-use Rattle.std.proofs.Common.{◌≡◌, ◌≢◌, ℕ, zero, suc, ◌+◌, ◌-◌, ◌<◌, ◌≤◌, ◌⊎◌, Bool, true, false, nat_eq, List, [], ◌∷◌, length, length-set, get_or, set, Option, Some, None, slice_get, slice_index, refl, sym, ap, subst, ◌∙◌, inl, inr, ⊎_elim, arith, eqb-true}
-use Rattle.std.specs.Prelude.{count_by, cond, max}
-use Rattle.std.proofs.lemmas.Bool.{cases_order, cases_lt}
-use Rattle.std.proofs.lemmas.Option.{slice_get_within, slice_get_read}
+use Rattle.std.proofs.Common.{◌≡◌, ◌≢◌, ℕ, ◌+◌, ◌-◌, ◌<◌, ◌≤◌, ◌⊎◌, Bool, true, false, nat_eq, List, length, length-set, set, Option, Some, None, slice_get, slice_index, refl, sym, ap, subst, ◌∙◌, inl, inr, arith, eqb-true}
+use Rattle.std.specs.Prelude.{count_by}
+use Rattle.std.proofs.lemmas.Bool.{cases_lt}
+use Rattle.std.proofs.lemmas.Option.{slice_get_within}
 use Rattle.std.proofs.lemmas.List.{set-set}
-use Rattle.ready_rows.specs.Rows.{Rows, IsIn, is_of, members, HasRoom}
-use Rattle.ready_rows.specs.Inside.Places.{is_in, HasPlace, Holds, LieApart, Stand}
+use Rattle.ready_rows.specs.Rows.{Rows, IsIn, members, HasRoom}
+use Rattle.ready_rows.specs.Inside.Places.{is_in, HasPlace, Holds, Stand}
 use Rattle.ready_rows.proofs.Lists.{index_same, index_other, get_set_other, get_set_same, same_or_not, counts_one, count_set, of_same}
-
-pub one_class : (classes : List (Option ℕ)) (t a b : ℕ) → IsIn classes t a → IsIn classes t b → a ≡ b
-one_class classes t a b x y = let e : Some (Some a) ≡ Some (Some b) = sym x ∙ y in cc
-
-count_more : (classes : List (Option ℕ)) (t class other : ℕ) → slice_get classes t ≡ Some None → members (set classes t (Some class)) other + 0 ≡ members classes other + counts_one (nat_eq class other)
-count_more classes t class other none = count_set (is_of other) classes t (Some class) None none
-
-count_less : (classes : List (Option ℕ)) (t class other : ℕ) → IsIn classes t class → members (set classes t None) other + counts_one (nat_eq class other) ≡ members classes other + 0
-count_less classes t class other is = count_set (is_of other) classes t None (Some class) is
-
--- who stands in a row after an item has entered one
-pub entered : (classes : List (Option ℕ)) (t class u other : ℕ) → t < length classes → IsIn (set classes t (Some class)) u other →
-    ((u ≡ t) × (other ≡ class)) ⊎ ((u ≢ t) × IsIn classes u other)
-entered classes t class u other below is = go (same_or_not u t)
-  where
-    go : (u ≡ t) ⊎ (u ≢ t) → ((u ≡ t) × (other ≡ class)) ⊎ ((u ≢ t) × IsIn classes u other)
-    go (inl same) =
-        let here : slice_get (set classes t (Some class)) t ≡ Some (Some class) = get_set_same classes t (Some class) below in
-        let also : slice_get (set classes t (Some class)) t ≡ Some (Some other) = sym (ap (slice_get (set classes t (Some class))) same) ∙ is in
-        let e : other ≡ class = cc in
-        inl (same, e)
-    go (inr differ) = inr (differ, sym (get_set_other classes t u (Some class) differ) ∙ is)
-
--- and after one has left
-pub left : (classes : List (Option ℕ)) (t u other : ℕ) → t < length classes → IsIn (set classes t None) u other → (u ≢ t) × IsIn classes u other
-left classes t u other below is = go (same_or_not u t)
-  where
-    go : (u ≡ t) ⊎ (u ≢ t) → (u ≢ t) × IsIn classes u other
-    go (inl same) =
-        let here : slice_get (set classes t None) t ≡ Some None = get_set_same classes t None below in
-        let also : slice_get (set classes t None) t ≡ Some (Some other) = sym (ap (slice_get (set classes t None)) same) ∙ is in
-        absurd cc
-    go (inr differ) = (differ, sym (get_set_other classes t u None differ) ∙ is)
-
--- an item of which a class was read stands in its row
-pub stood_in : (classes : List (Option ℕ)) (t : ℕ) (o : Option ℕ) (class : ℕ) → t < length classes → o ≡ get_or classes t o → o ≡ Some class → IsIn classes t class
-stood_in classes t o class below read is = slice_get_read classes (length classes) t o refl below read ∙ ap Some is
+use Rattle.ready_rows.proofs.Classes.{one_class, count_more, count_less, entered, left}
 
 -- the row of a class has a free place behind its items
 pub record FreePlace (rooms starts counts row : List ℕ) (class : ℕ) : Type 0 where

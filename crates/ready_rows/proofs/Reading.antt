@@ -10,7 +10,7 @@ use Rattle.std.proofs.lemmas.List.Sums.{get_or-le-sum_by}
 use Rattle.ready_rows.specs.Rows.{Rows, IsIn, is_of, members, IsRow, IsBare, AreEmpty, IsGreatest, IsFirst}
 use Rattle.ready_rows.specs.Inside.Places.{is_in, HasPlace, Holds, LieApart, Stand}
 use Rattle.ready_rows.proofs.Lists.{counts_one}
-use Rattle.ready_rows.proofs.Moving.{one_class}
+use Rattle.ready_rows.proofs.Classes.{one_class}
 
 -- what is counted is counted at least once where it stands
 counted_once : {X : Type 0} (p : X → Bool) (xs : List X) (i : ℕ) (x : X) → slice_get xs i ≡ Some x → p x ≡ true → 1 ≤ count_by p xs

@@ -3,7 +3,7 @@ use Rattle.std.proofs.Common.{◌≡◌, ◌≢◌, ℕ, ◌<◌, ◌≤◌, ◌
 use Rattle.std.proofs.lemmas.Option.{slice_get_within, same_Some}
 use Rattle.ready_rows.specs.Rows.{Rows, IsIn, HasRoom, members}
 use Rattle.ready_rows.proofs.Fitting.{Owns, fits_in}
-use Rattle.ready_rows.proofs.Moving.{entered, left}
+use Rattle.ready_rows.proofs.Classes.{entered, left}
 use Rattle.sc_graph.specs.declared.program.Node.{Node}
 use Rattle.sc_graph.specs.declared.control.Control.{Control}
 use Rattle.sc_graph.specs.declared.tables.Tables.{Tables}

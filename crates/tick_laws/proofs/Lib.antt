@@ -25,3 +25,4 @@ pub mod Claims
 pub mod Following
 pub mod Final
 pub mod Example
+pub mod ExampleTicks

@@ -1,7 +1,8 @@
 use Rattle.std.proofs.Common.{arith, rules, refl, ◌≡◌, ◌∙◌, ◌<◌, ◌≤◌, ◌+◌, ◌-◌, sym, ap, subst, List, Option, length, ℕ, slice_index, slice_get, Some, None}
 use Rattle.std.proofs.lemmas.Grind.{get_or_default_zero}
 use Rattle.ready_rows.specs.Rows.{Rows, IsIn}
-use Rattle.ready_rows.proofs.Moving.{has_left, stood_in, stands_in, StandsIn}
+use Rattle.ready_rows.proofs.Classes.{stood_in}
+use Rattle.ready_rows.proofs.Moving.{has_left, stands_in, StandsIn}
 use Rattle.ready_rows.proofs.rows.Rows.take_out.Goals as goal
 
 pub overflow_add-index : goal.overflow_add-index
