@@ -2,6 +2,9 @@
 import os
 import subprocess
 
+from compiling import Compiled, Refused, program_of
+from images import encode
+
 
 class Product:
     """The program, in a folder of its own."""
@@ -54,3 +57,19 @@ def is_reason(fault, graph, edges, tables):
         return is_walk(nodes, both) and bool(pairs & set(protocol))
     over = {(n, node.join) for n, node in enumerate(graph.nodes) if node.kind == "fork"}
     return is_walk(nodes, set(flow) | over)
+
+
+def wrong_image(product, data):
+    """What is wrong of `compile` over a text, by the plain reader and compiler: its line and its image, or why there is none.
+    Of several conflicts or walks any may be told; that memory was refused may not."""
+    status, output, errors, image = product.compiled(data)
+    try:
+        made = Compiled(program_of(data))
+    except Refused as refused:
+        good = (status, output, errors, image) == (1, "", f"sct: {refused}\n", None)
+        return [] if good else [f"compile of {data[:200]!r}: {status} {output!r} {errors!r} and not {refused}"]
+    if made.fault():
+        good = status == 1 and output == "" and image is None and is_reason(errors[5:-1], made.graph, made.edges, made.tables)
+        return [] if good else [f"compile of {data[:200]!r}: {status} {errors!r} and not as {made.fault()}"]
+    good = (status, output, errors) == (0, made.summary(), "") and image == encode(made.program.variables, made.graph, made.tables)
+    return [] if good else [f"compile of {data[:200]!r}: {status} {output!r} {errors!r} and not {made.summary()!r}, or another image"]

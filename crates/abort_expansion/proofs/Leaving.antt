@@ -15,7 +15,7 @@ use Rattle.core_charts.specs.declared.region.TransitionKind.TheVariants as kind
 use Rattle.core_charts.specs.declared.region.Region.TheOpen.{State-F}
 use Rattle.core_charts.specs.declared.region.Region.TheViews.{roll-State, out-State, out-roll-State}
 use Rattle.core_charts.specs.Rules.{IsEffect, IsState, IsTransition, AreRegions, has_regions, allows, fits_state}
-use Rattle.core_charts.specs.Standing.{is_join, is_strong, is_weak, at_once, strong_aborts, weak_aborts, terminations}
+use Rattle.core_charts.specs.Tests.{is_join, is_strong, is_weak, at_once, strong_aborts, weak_aborts, terminations}
 use Rattle.sc_text.proofs.EachItem.{Each, each_append, each_at, each_more}
 use Rattle.abort_expansion.specs.declared.flags.Flags.{Flags}
 use Rattle.abort_expansion.specs.declared.places.Places.{Places}

@@ -16,7 +16,7 @@ mod Within
 mod Assembled
 mod Regional
 mod Shaped
-mod Keeping
+mod CoreRulesKept
 mod Whole
 mod PieceParts
 mod ExpansionRows

@@ -10,7 +10,7 @@ use Rattle.core_charts.specs.declared.region.Transition.{Transition}
 use Rattle.core_charts.specs.declared.region.TransitionKind.TheVariants as kind
 use Rattle.core_charts.specs.declared.region.Region.TheViews.{out-Region, out-State, out-roll-Region}
 use Rattle.core_charts.specs.Rules.{IsState, IsRegion, IsTransition, AreRegions, has_regions}
-use Rattle.core_charts.specs.Standing.{is_join}
+use Rattle.core_charts.specs.Tests.{is_join}
 use Rattle.sc_text.proofs.AddedNames.{added_is_named}
 use Rattle.sc_text.proofs.EachItem.{Each, each_append, each_more}
 use Rattle.abort_expansion.specs.declared.flags.Flags.{Flags}

@@ -6,7 +6,7 @@ use Rattle.core_charts.specs.declared.region.Transition.{Transition}
 use Rattle.core_charts.specs.declared.region.TransitionKind.{TransitionKind}
 use Rattle.core_charts.specs.declared.region.TransitionKind.TheVariants as kind
 use Rattle.core_charts.specs.Rules.{IsTransition, allows}
-use Rattle.core_charts.specs.Standing.{is_strong, is_weak, is_join}
+use Rattle.core_charts.specs.Tests.{is_strong, is_weak, is_join}
 use Rattle.sc_text.proofs.EachItem.{Each}
 use Rattle.abort_expansion.specs.declared.places.Places.{Places}
 use Rattle.abort_expansion.specs.Flags.{one, given, flags_of, flag_count, has_strong, has_weak, has_join, has_aborts, counts}

@@ -21,7 +21,7 @@ use Rattle.abort_expansion.proofs.Apart.{Unlike, Apart, IsAdded, IsText, apart_a
 use Rattle.abort_expansion.proofs.Added.{Located, AreAdded}
 use Rattle.abort_expansion.proofs.Joined.{RegionsKeep, region_names, regions_named, regions_added, regions_keep}
 use Rattle.abort_expansion.proofs.Inner.{side_by_side, as_many_names}
-use Rattle.abort_expansion.proofs.Keeping.{AreInside, inner_keep}
+use Rattle.abort_expansion.proofs.CoreRulesKept.{AreInside, inner_keep}
 
 -- ---- the variables
 

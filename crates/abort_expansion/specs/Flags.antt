@@ -6,7 +6,7 @@ use Rattle.sc_values.specs.declared.value.Kind.TheVariants as of_kind
 use Rattle.sc_graph.specs.declared.program.Variable.{Variable}
 use Rattle.sc_graph.specs.declared.program.Role.TheVariants as role
 use Rattle.core_charts.specs.declared.region.Transition.{Transition}
-use Rattle.core_charts.specs.Standing.{is_strong, is_weak, is_join}
+use Rattle.core_charts.specs.Tests.{is_strong, is_weak, is_join}
 use Rattle.abort_expansion.specs.declared.flags.Flags.{Flags}
 
 -- ---- names, of superstate s

@@ -5,7 +5,7 @@ use Rattle.core_charts.specs.declared.region.TransitionKind.TheVariants as kind
 use Rattle.core_charts.specs.declared.region.Region.{Region}
 use Rattle.core_charts.specs.declared.region.State.{State}
 use Rattle.core_charts.specs.declared.region.Region.TheViews.{roll-Region, roll-State}
-use Rattle.core_charts.specs.Standing.{at_once, strong_aborts, weak_aborts, terminations}
+use Rattle.core_charts.specs.Tests.{at_once, strong_aborts, weak_aborts, terminations}
 use Rattle.abort_expansion.specs.declared.flags.Flags.{Flags}
 use Rattle.abort_expansion.specs.declared.places.Places.{Places}
 use Rattle.abort_expansion.specs.declared.pieces.States.{States}

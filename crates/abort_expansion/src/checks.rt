@@ -1,7 +1,7 @@
 //! The transitions by which the aborts of superstates are checked, answered and raised.
 
 ghost use Rattle.std.specs.Prelude.{◌≡◌, ◌+◌, Bool, IfOk, filter, not, ◌&&◌, map};
-ghost use Rattle.core_charts.specs.Standing.{at_once, strong_aborts};
+ghost use Rattle.core_charts.specs.Tests.{at_once, strong_aborts};
 ghost use Rattle.abort_expansion.specs.Transitions.{strong_checks, weak_checks, answers, raising, led_by};
 ghost use Rattle.abort_expansion.specs.Inside.Sorts.{is_abort_of, aborts_of, is_told_at_once};
 

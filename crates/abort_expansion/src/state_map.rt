@@ -1,3 +1,5 @@
+//! For which state of a chart each state of its core chart stands.
+
 ghost use Rattle.std.specs.Prelude.{◌≡◌};
 ghost use Rattle.abort_expansion.specs.StateMap.{chart_state};
 

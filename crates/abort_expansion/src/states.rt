@@ -1,7 +1,7 @@
 //! The states that expansion makes of a state, and abort monitors, without what is inside them.
 
 ghost use Rattle.std.specs.Prelude.{◌≡◌, ◌∷◌, [], IfOk};
-ghost use Rattle.core_charts.specs.Standing.{terminations};
+ghost use Rattle.core_charts.specs.Tests.{terminations};
 ghost use Rattle.abort_expansion.specs.Superstates.{simple, simple_transitions, resets, preparation, abandoned};
 ghost use Rattle.abort_expansion.specs.Superstates.{monitor, monitor_transitions, continuation, closing};
 ghost use Rattle.abort_expansion.specs.Superstates.{joined_or_left, all_ended, fork};

@@ -1,3 +1,5 @@
+//! Images: a program with its certificate.
+
 ghost use Rattle.std.specs.Prelude.{◌≡◌, ◌↔◌, IsSome, IfSome};
 ghost use Rattle.bytecode.specs.Image.{HasLengths};
 

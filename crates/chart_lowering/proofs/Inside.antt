@@ -13,7 +13,7 @@ use Rattle.scl.specs.Rules.{Part, nothing, both, part, part_of, side_by_side, is
 use Rattle.core_charts.specs.declared.region.Effect.{Effect}
 use Rattle.core_charts.specs.declared.region.Transition.{Transition}
 use Rattle.core_charts.specs.Rules.{IsEffect, kinds_of}
-use Rattle.core_charts.specs.Standing.{at_once, terminations}
+use Rattle.core_charts.specs.Tests.{at_once, terminations}
 use Rattle.sc_text.proofs.EachItem.{Each}
 use Rattle.chart_lowering.specs.declared.targets.Targets.{Targets}
 use Rattle.chart_lowering.specs.Lowering.{label_name, label, goto, label_at, assignment, taken, tested, transitions, is_sure, leaves_surely, RegionPiece, labels_in, labels_of_simple, branches, depth, simple, final, behind, superstate, labels_behind}

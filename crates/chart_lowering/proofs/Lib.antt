@@ -1,4 +1,4 @@
-mod Parts
+pub mod Parts
 mod Names
 mod Once
 mod Pieces
@@ -6,6 +6,6 @@ mod Inside
 mod Bodies
 mod Distinct
 mod RegionBodies
-mod Keeping
+mod PiecesKept
 pub mod Ruled
 mod LoweringRows

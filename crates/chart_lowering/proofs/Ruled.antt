@@ -18,7 +18,7 @@ use Rattle.chart_lowering.proofs.Parts.{row, parts_are}
 use Rattle.chart_lowering.proofs.Pieces.{IsPiece, empty_piece, thread_piece}
 use Rattle.chart_lowering.proofs.Inside.{IsBody, fork_row}
 use Rattle.chart_lowering.proofs.Distinct.{names_distinct, all_below}
-use Rattle.chart_lowering.proofs.Keeping.{each_mapped, inner, same_length}
+use Rattle.chart_lowering.proofs.PiecesKept.{each_mapped, inner, same_length}
 
 each_name : (ns : List ℕ) → Each (λ name. IsNameIn language.Scl name) (map label_name ns)
 each_name [] = tt

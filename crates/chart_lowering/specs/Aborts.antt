@@ -7,7 +7,7 @@ use Rattle.core_charts.specs.declared.region.Region.TheOpen.{Region-F, State-F}
 use Rattle.core_charts.specs.declared.region.Region.TheFolds.{fold-Region, fold-State}
 use Rattle.core_charts.specs.declared.region.State.{State}
 use Rattle.core_charts.specs.Chart.{Chart}
-use Rattle.core_charts.specs.Standing.{is_strong, is_weak}
+use Rattle.core_charts.specs.Tests.{is_strong, is_weak}
 
 abbrev pub is_abort : Transition → Bool
 is_abort t = is_strong t.kind || is_weak t.kind

@@ -11,7 +11,7 @@ use Rattle.core_charts.specs.declared.region.Region.TheOpen.{Region-F, State-F}
 use Rattle.core_charts.specs.declared.region.Region.TheFolds.{fold-Region, fold-State}
 use Rattle.core_charts.specs.declared.region.State.{State}
 use Rattle.core_charts.specs.Chart.{Chart}
-use Rattle.core_charts.specs.Standing.{at_once, terminations}
+use Rattle.core_charts.specs.Tests.{at_once, terminations}
 use Rattle.chart_lowering.specs.declared.targets.Targets.{Targets}
 
 -- `_L1`, `_L2`, ..

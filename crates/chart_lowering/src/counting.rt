@@ -1,7 +1,7 @@
 //! How many labels a piece of a chart has.
 
 ghost use Rattle.std.specs.Prelude.{◌≡◌, IfOk, map};
-ghost use Rattle.core_charts.specs.Standing.{terminations};
+ghost use Rattle.core_charts.specs.Tests.{terminations};
 ghost use Rattle.chart_lowering.specs.Lowering.{labels_of_simple, labels_behind, labels_in_initial, piece_of_region};
 ghost use Rattle.chart_lowering.specs.Lowering.{piece_of_state};
 

@@ -2,7 +2,7 @@
 
 ghost use Rattle.std.specs.Prelude.{◌≡◌, ◌∷◌, IfOk};
 ghost use Rattle.scl.specs.declared.statement.Statement.TheVariants as statement;
-ghost use Rattle.core_charts.specs.Standing.{terminations};
+ghost use Rattle.core_charts.specs.Tests.{terminations};
 ghost use Rattle.chart_lowering.specs.Lowering.{label, final, simple, depth, behind};
 
 use crate::labels::{goto, label, past};

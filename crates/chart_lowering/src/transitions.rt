@@ -2,7 +2,7 @@
 
 ghost use Rattle.std.specs.Prelude.{◌≡◌, ◌++◌, [], List, IfOk, if◌then◌else◌};
 ghost use Rattle.scl.specs.declared.statement.Statement.{Statement};
-ghost use Rattle.core_charts.specs.Standing.{at_once};
+ghost use Rattle.core_charts.specs.Tests.{at_once};
 ghost use Rattle.chart_lowering.specs.Lowering.{taken, tested, transitions};
 
 use crate::targets::Targets;

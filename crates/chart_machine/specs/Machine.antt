@@ -9,7 +9,7 @@ use Rattle.chart_machine.specs.declared.standing.Standing.{Standing}
 use Rattle.chart_machine.specs.declared.standing.Standing.TheVariants as at
 use Rattle.chart_machine.specs.declared.standing.Configuration.{Configuration}
 use Rattle.chart_machine.specs.declared.table.Table.{Table}
-use Rattle.core_charts.specs.Standing.{strong_aborts, closing_tests}
+use Rattle.core_charts.specs.Tests.{strong_aborts, closing_tests}
 use Rattle.chart_machine.specs.Table.{state_at}
 use Rattle.chart_machine.specs.Turns.{standing_of, is_enabled, ForkedApart}
 use Rattle.chart_machine.specs.Steps.{step, moved, access_of}

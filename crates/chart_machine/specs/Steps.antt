@@ -17,7 +17,7 @@ use Rattle.chart_machine.specs.declared.standing.Standing.TheVariants as at
 use Rattle.chart_machine.specs.declared.standing.Move.{Move}
 use Rattle.chart_machine.specs.declared.standing.Configuration.{Configuration}
 use Rattle.chart_machine.specs.declared.table.Table.{Table}
-use Rattle.core_charts.specs.Standing.{closing_tests, first_closing_tests}
+use Rattle.core_charts.specs.Tests.{closing_tests, first_closing_tests}
 use Rattle.chart_machine.specs.Table.{state_at, region_at}
 use Rattle.chart_machine.specs.Turns.{standing_of, inside, is_enabled}
 

@@ -13,18 +13,18 @@ use Rattle.chart_machine.specs.declared.standing.Standing.TheVariants as standin
 use Rattle.chart_machine.specs.declared.table.StateRow.{StateRow}
 use Rattle.chart_machine.specs.declared.table.RegionRow.{RegionRow}
 use Rattle.chart_machine.specs.declared.table.Table.{Table}
-use Rattle.chart_machine.specs.declared.table.Scene.{Scene}
-use Rattle.chart_machine.specs.declared.table.Parts.{Parts}
-use Rattle.chart_machine.specs.declared.table.Inner.{Inner}
+use Rattle.chart_machine.specs.declared.table.TablePosition.{TablePosition}
+use Rattle.chart_machine.specs.declared.table.SubtreeRows.{SubtreeRows}
+use Rattle.chart_machine.specs.declared.table.StatesRows.{StatesRows}
 use Rattle.core_charts.specs.Chart.{Chart}
-use Rattle.core_charts.specs.Standing.{at_once, strong_aborts, first_closing_tests}
+use Rattle.core_charts.specs.Tests.{at_once, strong_aborts, first_closing_tests}
 
 -- a state, or a region, with all that is in it: how many states and regions it has, and what it gives where it stands
 pub record Piece : Type 0 where
   pub is_initial : Bool
   pub states : ℕ
   pub regions : ℕ
-  pub parts : Scene → Parts
+  pub parts : TablePosition → SubtreeRows
 
 abbrev pub states_in : List Piece → ℕ
 states_in [] = 0
@@ -34,18 +34,18 @@ abbrev pub regions_in : List Piece → ℕ
 regions_in [] = 0
 regions_in (p ∷ pieces) = p.regions + regions_in pieces
 
-abbrev pub nothing : Parts
+abbrev pub nothing : SubtreeRows
 nothing = record { states = []; regions = []; entered = [] }
 
-abbrev pub both : Parts → Parts → Parts
+abbrev pub both : SubtreeRows → SubtreeRows → SubtreeRows
 both a b = record { states = a.states ++ b.states; regions = a.regions ++ b.regions; entered = a.entered ++ b.entered }
 
 -- where the next region of the superstate stands
-abbrev pub behind : Piece → Scene → Scene
+abbrev pub behind : Piece → TablePosition → TablePosition
 behind p at = record at { state = at.state + p.states; region = at.region + p.regions }
 
 -- the regions of a superstate, side by side
-abbrev pub side_by_side : List Piece → Scene → Parts
+abbrev pub side_by_side : List Piece → TablePosition → SubtreeRows
 side_by_side [] at = nothing
 side_by_side (p ∷ regions) at = both (p.parts at) (side_by_side regions (behind p at))
 
@@ -55,7 +55,7 @@ region_numbers [] n = []
 region_numbers (p ∷ regions) n = n ∷ region_numbers regions (n + p.regions)
 
 -- what is inside a superstate of this scene
-abbrev pub within : Scene → Scene
+abbrev pub within : TablePosition → TablePosition
 within at = record at { state = suc at.state; around = at.state ∷ at.around }
 
 -- what entering a superstate makes of the region that holds it: strong aborts first, where some are immediate
@@ -63,7 +63,7 @@ abbrev pub come_to : ℕ → ℕ → List Transition → List Transition → Lis
 come_to r s [] closing opened = record { region = r; standing = standing.Within s closing } ∷ opened
 come_to r s (t ∷ strong) closing opened = record { region = r; standing = standing.Entering s (t ∷ strong) } ∷ []
 
-abbrev pub entered_superstate : Scene → List Transition → List Move → List Move
+abbrev pub entered_superstate : TablePosition → List Transition → List Move → List Move
 entered_superstate at transitions opened =
     come_to at.holder at.state (at_once (strong_aborts transitions)) (first_closing_tests transitions) opened
 
@@ -73,13 +73,13 @@ is_superstate (p ∷ regions) = true
 
 -- what entering a state makes of regions, by whether it is final and whether it is a superstate: a final one ends its
 -- region, a simple one tests its immediate transitions
-abbrev pub entered_state : Bool → Bool → Scene → List Transition → List Move → List Move
+abbrev pub entered_state : Bool → Bool → TablePosition → List Transition → List Move → List Move
 entered_state true super at transitions opened = record { region = at.holder; standing = standing.Ended } ∷ []
 entered_state false false at transitions opened =
     record { region = at.holder; standing = standing.Trying at.state (at_once transitions) } ∷ []
 entered_state false true at transitions opened = entered_superstate at transitions opened
 
-abbrev pub state_row : State-F Piece Piece → Scene → List Move → StateRow
+abbrev pub state_row : State-F Piece Piece → TablePosition → List Move → StateRow
 state_row s at opened =
     record {
       holder = at.holder;
@@ -90,7 +90,7 @@ state_row s at opened =
     }
 
 -- a state, over what is inside it
-abbrev pub state_over : State-F Piece Piece → Scene → Parts → Parts
+abbrev pub state_over : State-F Piece Piece → TablePosition → SubtreeRows → SubtreeRows
 state_over s at inside =
     record {
       states = state_row s at inside.entered ∷ inside.states;
@@ -107,8 +107,8 @@ state_piece s =
       parts = λ at. state_over s at (side_by_side s.regions (within at));
     }
 
-abbrev pub joined : Inner → Inner → Inner
-joined a b = record {
+abbrev pub followed_by : StatesRows → StatesRows → StatesRows
+followed_by a b = record {
   states = a.states ++ b.states;
   first = a.first ++ b.first;
   others = a.others ++ b.others;
@@ -116,18 +116,18 @@ joined a b = record {
 }
 
 -- a scene with this number for the next region
-abbrev pub with_region : ℕ → Scene → Scene
+abbrev pub with_region : ℕ → TablePosition → TablePosition
 with_region n at = record at { region = n }
 
-abbrev pub past_states : ℕ → Scene → Scene
+abbrev pub past_states : ℕ → TablePosition → TablePosition
 past_states n at = record at { state = at.state + n }
 
 -- what one state of a region gives: the regions inside the initial one have the numbers from the scene's on, those
 -- inside another one the numbers from next on
-abbrev pub alone_with : Bool → (Scene → Parts) → ℕ → Scene → Inner
-alone_with true parts next at =
+abbrev pub rows_of_state_at : Bool → (TablePosition → SubtreeRows) → ℕ → TablePosition → StatesRows
+rows_of_state_at true parts next at =
     record { states = (parts at).states; first = (parts at).regions; others = []; entered = (parts at).entered }
-alone_with false parts next at =
+rows_of_state_at false parts next at =
     record {
       states = (parts (with_region next at)).states;
       first = [];
@@ -135,16 +135,16 @@ alone_with false parts next at =
       entered = [];
     }
 
-abbrev pub alone : Piece → ℕ → Scene → Inner
-alone p = alone_with p.is_initial p.parts
+abbrev pub alone : Piece → ℕ → TablePosition → StatesRows
+alone p = rows_of_state_at p.is_initial p.parts
 
 abbrev pub next_behind : Piece → ℕ → ℕ
 next_behind p next = if p.is_initial then next else next + p.regions
 
 -- the states of a region in the order of the text
-abbrev pub in_region : List Piece → ℕ → Scene → Inner
+abbrev pub in_region : List Piece → ℕ → TablePosition → StatesRows
 in_region [] next at = record { states = []; first = []; others = []; entered = [] }
-in_region (p ∷ states) next at = joined (alone p next at)
+in_region (p ∷ states) next at = followed_by (alone p next at)
     (in_region states (next_behind p next) (past_states p.states at))
 
 -- the numbers of the states
@@ -158,10 +158,10 @@ regions_in_initial [] = 0
 regions_in_initial (p ∷ states) = (if p.is_initial then p.regions else 0) + regions_in_initial states
 
 -- inside the region that comes next at a scene
-abbrev pub inside_region : Scene → Scene
+abbrev pub inside_region : TablePosition → TablePosition
 inside_region at = record at { region = suc at.region; holder = at.region }
 
-abbrev pub region_over : List ℕ → Scene → Inner → Parts
+abbrev pub region_over : List ℕ → TablePosition → StatesRows → SubtreeRows
 region_over states at inner =
     record {
       states = inner.states;
@@ -186,10 +186,10 @@ piece_of_region = fold-Region Piece Piece region_piece state_piece
 abbrev pub piece_of_state : State → Piece
 piece_of_state = fold-State Piece Piece region_piece state_piece
 
-abbrev pub whole : Scene
+abbrev pub whole : TablePosition
 whole = record { state = 0; region = 1; holder = 0; around = [] }
 
-abbrev pub table_over : List Variable → Parts → Table
+abbrev pub table_over : List Variable → SubtreeRows → Table
 table_over variables parts = record {
   variables = variables;
   states = parts.states;

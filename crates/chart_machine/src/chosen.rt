@@ -1,8 +1,8 @@
 //! Which transitions are tested when.
 
 ghost use Rattle.std.specs.Prelude.{◌≡◌, IfOk};
-ghost use Rattle.core_charts.specs.Standing.{at_once, strong_aborts, weak_aborts, terminations, closing_tests};
-ghost use Rattle.core_charts.specs.Standing.{first_closing_tests};
+ghost use Rattle.core_charts.specs.Tests.{at_once, strong_aborts, weak_aborts, terminations, closing_tests};
+ghost use Rattle.core_charts.specs.Tests.{first_closing_tests};
 
 use core_charts::Transition;
 use sqlite_items::Items;

@@ -7,7 +7,7 @@ ghost use Rattle.chart_machine.specs.Table.{is_superstate, entered_superstate, e
 use crate::chosen::{at_once, first_closing_tests, strong_aborts};
 use crate::copies::copied_moves;
 use crate::standing::{Move, Standing};
-use crate::table::Scene;
+use crate::table::TablePosition;
 use core_charts::{State, Transition};
 use sqlite_items::Items;
 use std::alloc::{AllocError, Global};
@@ -16,7 +16,7 @@ use std::alloc::{AllocError, Global};
 pub(crate) fn entered_state(
     alloc: Global,
     state: &State,
-    at: &Scene,
+    at: &TablePosition,
     opened: &[Move],
 ) -> Result<Items<Move>, AllocError>
     ensures { IfOk result (λ moves. moves ≡ entered_state (out-State state.now).is_final
@@ -52,7 +52,7 @@ fn is_superstate(state: &State) -> bool
 fn entered_superstate(
     alloc: Global,
     transitions: &[Transition],
-    at: &Scene,
+    at: &TablePosition,
     opened: &[Move],
 ) -> Result<Items<Move>, AllocError>
     ensures { IfOk result (λ moves. moves ≡ entered_superstate at.now transitions.now opened.now) }

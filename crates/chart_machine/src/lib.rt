@@ -23,5 +23,5 @@ pub use deed::{Deed, Write};
 pub use evaluating::value_of;
 pub use running::Ran;
 pub use standing::{Configuration, Move, Standing};
-pub use table::{Inner, Parts, RegionRow, Scene, StateRow, Table};
+pub use table::{RegionRow, StateRow, StatesRows, SubtreeRows, Table, TablePosition};
 pub use table_fault::TableFault;

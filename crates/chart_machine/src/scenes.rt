@@ -5,17 +5,17 @@ ghost use Rattle.chart_machine.specs.Table.{with_region, past_states, behind, wi
 ghost use Rattle.chart_machine.specs.Table.{piece_of_state};
 
 use crate::numbering::{past_region, past_states, past_states_of_region};
-use crate::table::Scene;
+use crate::table::TablePosition;
 use crate::table_fault::TableFault;
 use core_charts::{Region, State};
 use sqlite_items::Items;
 use std::alloc::{AllocError, Global};
 
-impl Scene {
-    pub(crate) fn copied(&self, alloc: Global) -> Result<Scene, AllocError>
+impl TablePosition {
+    pub(crate) fn copied(&self, alloc: Global) -> Result<TablePosition, AllocError>
         ensures { IfOk result (λ copy. copy ≡ self.now) }
     {
-        Ok(Scene {
+        Ok(TablePosition {
             state: self.state,
             region: self.region,
             holder: self.holder,
@@ -24,7 +24,7 @@ impl Scene {
     }
 
     // What is inside a superstate of this scene.
-    pub(crate) fn within(&self, alloc: Global) -> Result<Scene, TableFault>
+    pub(crate) fn within(&self, alloc: Global) -> Result<TablePosition, TableFault>
         ensures { IfOk result (λ at. at ≡ within self.now) }
     {
         let Some(state) = self.state.checked_add(1) else {
@@ -33,7 +33,7 @@ impl Scene {
         let mut around = Items::new(alloc);
         around.push(self.state)?;
         around.append(Items::from_slice(alloc, self.around.as_slice())?)?;
-        Ok(Scene {
+        Ok(TablePosition {
             state,
             region: self.region,
             holder: self.holder,
@@ -42,13 +42,13 @@ impl Scene {
     }
 
     // Inside the region that comes next.
-    pub(crate) fn inside_region(&self, alloc: Global) -> Result<Scene, TableFault>
+    pub(crate) fn inside_region(&self, alloc: Global) -> Result<TablePosition, TableFault>
         ensures { IfOk result (λ at. at ≡ inside_region self.now) }
     {
         let Some(region) = self.region.checked_add(1) else {
             return Err(TableFault::Limit);
         };
-        Ok(Scene {
+        Ok(TablePosition {
             state: self.state,
             region,
             holder: self.region,
@@ -57,10 +57,14 @@ impl Scene {
     }
 
     // The same with this number for the next region.
-    pub(crate) fn with_region(&self, alloc: Global, region: usize) -> Result<Scene, AllocError>
+    pub(crate) fn with_region(
+        &self,
+        alloc: Global,
+        region: usize,
+    ) -> Result<TablePosition, AllocError>
         ensures { IfOk result (λ at. at ≡ with_region region self.now) }
     {
-        Ok(Scene {
+        Ok(TablePosition {
             state: self.state,
             region,
             holder: self.holder,
@@ -69,11 +73,11 @@ impl Scene {
     }
 
     // Where the next state of the region stands.
-    pub(crate) fn past(self, state: &State) -> Result<Scene, TableFault>
+    pub(crate) fn past(self, state: &State) -> Result<TablePosition, TableFault>
         ensures { IfOk result (λ at. at ≡ past_states (piece_of_state state.now).states self) }
     {
         let state = past_states(state, self.state)?;
-        Ok(Scene {
+        Ok(TablePosition {
             state,
             region: self.region,
             holder: self.holder,
@@ -82,12 +86,12 @@ impl Scene {
     }
 
     // Where the next region of the superstate stands.
-    pub(crate) fn behind(self, region: &Region) -> Result<Scene, TableFault>
+    pub(crate) fn behind(self, region: &Region) -> Result<TablePosition, TableFault>
         ensures { IfOk result (λ at. at ≡ behind (piece_of_region region.now) self) }
     {
         let state = past_states_of_region(region, self.state)?;
         let region = past_region(region, self.region)?;
-        Ok(Scene {
+        Ok(TablePosition {
             state,
             region,
             holder: self.holder,

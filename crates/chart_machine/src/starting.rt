@@ -5,7 +5,7 @@ ghost use Rattle.std.specs.List.{list_all};
 ghost use Rattle.sc_values.specs.Operator.{initial_value};
 ghost use Rattle.sc_graph.specs.Tick.{given, value_at_start, values_at_start};
 ghost use Rattle.chart_machine.specs.declared.standing.Standing.TheVariants as at;
-ghost use Rattle.core_charts.specs.Standing.{strong_aborts, closing_tests};
+ghost use Rattle.core_charts.specs.Tests.{strong_aborts, closing_tests};
 ghost use Rattle.chart_machine.specs.Turns.{standing_of};
 ghost use Rattle.chart_machine.specs.Machine.{initial, guarded_first, woken, is_outside, regions_at_start, start};
 ghost use Rattle.chart_machine.specs.Machine.{stands_in, is_active};

@@ -44,7 +44,7 @@ pub struct Table {
 /// Where a piece of a chart stands: the numbers of the next state and of the next region, the region that holds
 /// it, and the superstates around it, the innermost first.
 #[derive(Debug, Drop)]
-pub struct Scene {
+pub struct TablePosition {
     pub state: usize,
     pub region: usize,
     pub holder: usize,
@@ -54,7 +54,7 @@ pub struct Scene {
 /// What a piece of a chart gives: the rows of its states and of its regions, and what entering it makes of
 /// regions.
 #[derive(Debug, Drop)]
-pub struct Parts {
+pub struct SubtreeRows {
     pub states: Items<StateRow>,
     pub regions: Items<RegionRow>,
     pub entered: Items<Move>,
@@ -63,7 +63,7 @@ pub struct Parts {
 /// What the states of a region give. The regions inside its initial state have the first numbers, those inside
 /// the others come behind.
 #[derive(Debug, Drop)]
-pub struct Inner {
+pub struct StatesRows {
     pub states: Items<StateRow>,
     pub first: Items<RegionRow>,
     pub others: Items<RegionRow>,

@@ -1,14 +1,14 @@
 //! The table of a chart.
 
 ghost use Rattle.std.specs.Prelude.{◌≡◌, ◌++◌, IfOk, OnOk, map};
-ghost use Rattle.chart_machine.specs.Table.{both, joined, alone, next_behind, side_by_side, in_region, piece_of_region};
+ghost use Rattle.chart_machine.specs.Table.{both, followed_by, alone, next_behind, side_by_side, in_region, piece_of_region};
 ghost use Rattle.chart_machine.specs.Table.{piece_of_state, table_of, table};
 
 use crate::copies::copied_moves;
 use crate::entering::entered_state;
 use crate::numbering::{past_regions, region_numbers, state_numbers};
 use crate::sizes::regions_in_initial;
-use crate::table::{Inner, Parts, RegionRow, Scene, StateRow, Table};
+use crate::table::{RegionRow, StateRow, StatesRows, SubtreeRows, Table, TablePosition};
 use crate::table_fault::TableFault;
 use core_charts::{Chart, CoreChart, Region, State, copied_transitions, copied_variables};
 use sc_graph::Variable;
@@ -35,7 +35,7 @@ impl Table {
 fn table_of(alloc: Global, variables: &[Variable], regions: &[Region]) -> Result<Table, TableFault>
     ensures { IfOk result (λ k. k ≡ table_of variables.now regions.now) }
 {
-    let whole = Scene {
+    let whole = TablePosition {
         state: 0,
         region: 1,
         holder: 0,
@@ -51,9 +51,9 @@ fn table_of(alloc: Global, variables: &[Variable], regions: &[Region]) -> Result
     })
 }
 
-impl Parts {
+impl SubtreeRows {
     // These, and others behind them.
-    fn put(&mut self, more: Parts) -> Result<(), AllocError>
+    fn put(&mut self, more: SubtreeRows) -> Result<(), AllocError>
         ensures { OnOk result (self.new ≡ both self.old more) }
     {
         self.states.append(more.states)?;
@@ -64,11 +64,15 @@ impl Parts {
 
 // The regions of a superstate, side by side.
 #[cycle(parts)]
-fn side_by_side(alloc: Global, regions: &[Region], at: &Scene) -> Result<Parts, TableFault>
+fn side_by_side(
+    alloc: Global,
+    regions: &[Region],
+    at: &TablePosition,
+) -> Result<SubtreeRows, TableFault>
     ensures { IfOk result (λ parts. parts ≡ side_by_side (map piece_of_region regions.now) at.now) }
 {
     let mut here = at.copied(alloc)?;
-    let mut parts = Parts {
+    let mut parts = SubtreeRows {
         states: Items::new(alloc),
         regions: Items::new(alloc),
         entered: Items::new(alloc),
@@ -81,7 +85,7 @@ fn side_by_side(alloc: Global, regions: &[Region], at: &Scene) -> Result<Parts, 
 }
 
 #[cycle(parts)]
-fn state_parts(alloc: Global, state: &State, at: &Scene) -> Result<Parts, TableFault>
+fn state_parts(alloc: Global, state: &State, at: &TablePosition) -> Result<SubtreeRows, TableFault>
     ensures { IfOk result (λ parts. parts ≡ (piece_of_state state.now).parts at.now) }
 {
     let regions = state.regions.as_slice();
@@ -96,7 +100,7 @@ fn state_parts(alloc: Global, state: &State, at: &Scene) -> Result<Parts, TableF
         opened: inside.entered,
     })?;
     states.append(inside.states)?;
-    Ok(Parts {
+    Ok(SubtreeRows {
         states,
         regions: inside.regions,
         entered,
@@ -104,7 +108,11 @@ fn state_parts(alloc: Global, state: &State, at: &Scene) -> Result<Parts, TableF
 }
 
 #[cycle(parts)]
-fn region_parts(alloc: Global, region: &Region, at: &Scene) -> Result<Parts, TableFault>
+fn region_parts(
+    alloc: Global,
+    region: &Region,
+    at: &TablePosition,
+) -> Result<SubtreeRows, TableFault>
     ensures { IfOk result (λ parts. parts ≡ (piece_of_region region.now).parts at.now) }
 {
     let states = region.states.as_slice();
@@ -123,16 +131,16 @@ fn region_parts(alloc: Global, region: &Region, at: &Scene) -> Result<Parts, Tab
     })?;
     regions.append(inner.first)?;
     regions.append(inner.others)?;
-    Ok(Parts {
+    Ok(SubtreeRows {
         states: inner.states,
         regions,
         entered: inner.entered,
     })
 }
 
-impl Inner {
+impl StatesRows {
     // These, and an initial state behind them.
-    fn lead(&mut self, more: Parts) -> Result<(), AllocError>
+    fn lead(&mut self, more: SubtreeRows) -> Result<(), AllocError>
         ensures states { OnOk result (self.new.states ≡ self.old.states ++ more.states) }
         ensures first { OnOk result (self.new.first ≡ self.old.first ++ more.regions) }
         ensures others { OnOk result (self.new.others ≡ self.old.others) }
@@ -144,7 +152,7 @@ impl Inner {
     }
 
     // These, and another state behind them.
-    fn trail(&mut self, more: Parts) -> Result<(), AllocError>
+    fn trail(&mut self, more: SubtreeRows) -> Result<(), AllocError>
         ensures states { OnOk result (self.new.states ≡ self.old.states ++ more.states) }
         ensures first { OnOk result (self.new.first ≡ self.old.first) }
         ensures others { OnOk result (self.new.others ≡ self.old.others ++ more.regions) }
@@ -157,12 +165,17 @@ impl Inner {
 
 // The states of a region, where the regions inside all but the initial one have the numbers from next on.
 #[cycle(parts)]
-fn in_region(alloc: Global, states: &[State], next: usize, at: &Scene) -> Result<Inner, TableFault>
+fn in_region(
+    alloc: Global,
+    states: &[State],
+    next: usize,
+    at: &TablePosition,
+) -> Result<StatesRows, TableFault>
     ensures { IfOk result (λ inner. inner ≡ in_region (map piece_of_state states.now) next at.now) }
 {
     let mut here = at.copied(alloc)?;
     let mut next = next;
-    let mut inner = Inner {
+    let mut inner = StatesRows {
         states: Items::new(alloc),
         first: Items::new(alloc),
         others: Items::new(alloc),
@@ -181,11 +194,11 @@ fn put_state(
     alloc: Global,
     state: &State,
     next: usize,
-    here: &Scene,
-    inner: &mut Inner,
+    here: &TablePosition,
+    inner: &mut StatesRows,
 ) -> Result<usize, TableFault>
     ensures next { IfOk result (λ n. n ≡ next_behind (piece_of_state state.now) next) }
-    ensures inner { OnOk result (inner.new ≡ joined inner.old (alone (piece_of_state state.now) next here.now)) }
+    ensures inner { OnOk result (inner.new ≡ followed_by inner.old (alone (piece_of_state state.now) next here.now)) }
 {
     if state.is_initial {
         inner.lead(state_parts(alloc, state, here)?)?;

@@ -1,24 +1,16 @@
--- What private functions alone say of themselves. It is proved, and no public contract rests on what it means.
-use Rattle.std.specs.Prelude.{ℕ, ◌≡◌, IsTrue, List, ◌++◌}
-use Rattle.grammar.specs.Predictive.{first}
-use Rattle.grammar.specs.Read.{Outcome, Got, next, starts, read, read_each}
-use Rattle.sc_text.specs.declared.token.Token.{Token}
-use Rattle.sc_text.specs.declared.token.TokenKind.{TokenKind}
-use Rattle.sc_text.specs.Classes.{Class, AName, class_of, same_class}
-use Rattle.sc_text.specs.Expression.{text_tokens}
-use Rattle.draft_parts.specs.Parts.{name_of}
-use Rattle.chart_reader.specs.ChartText.{Grows}
+-- What private functions alone ask for. It is proved, and no public contract rests on what it means.
+use Rattle.std.specs.Prelude.{ℕ, zero, suc, ◌≡◌, ◌≤◌, Some, List, [], length, slice_get}
+use Rattle.chart_drafts.specs.declared.draft.DraftRegion.{DraftRegion}
+use Rattle.chart_drafts.specs.declared.draft.DraftRegion.TheViews.{out-DraftRegion, out-DraftState}
+use Rattle.chart_drafts.specs.declared.draft.DraftState.{DraftState}
 
--- a phrase was read, and the text goes on at the rest
-pub record Gives {A : Type 0} (o : Outcome Token A) (x : A) (rest : List Token) : Type 0 where
-  pub is : o ≡ Got x rest
+-- no more than 256 states of one region, of which the own regions keep this
+pub record AreStatesFew (AreInside : List DraftRegion → Type 0) (states : List DraftState) : Type 0 where
+  pub count : length states ≤ 256
+  pub inside : (i : ℕ) (s : DraftState) → slice_get states i ≡ Some s → AreInside (out-DraftState s).regions
 
--- some phrases of a row were read; so many more may follow, each beginning with a token of these classes
-pub record IsGoing {A : Type 0} (o : Outcome Token (List A)) (g : Grows A) (ks : List Class) (found : List A) (left : ℕ) (rest : List Token) : Type 0 where
-  pub begins : first g ≡ ks
-  pub is : o ≡ next (read_each (starts text_tokens (first g)) (read g) left rest) (λ xs end. Got (found ++ xs) end)
-
--- the name that a token is
-pub record IsNameOf (k : TokenKind) (name : List ℕ) : Type 0 where
-  pub is : IsTrue (same_class AName (class_of k))
-  pub names : name ≡ name_of k
+-- regions that nest this many levels deep at most, none of which has more than 256 states
+abbrev pub AreNarrow : ℕ → List DraftRegion → Type 0
+AreNarrow zero regions = regions ≡ []
+AreNarrow (suc levels) regions =
+    (i : ℕ) (r : DraftRegion) → slice_get regions i ≡ Some r → AreStatesFew (AreNarrow levels) (out-DraftRegion r).states

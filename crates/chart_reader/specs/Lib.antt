@@ -1,8 +1,3 @@
-pub mod Draft
-pub mod ChartText
-pub mod Flaws
+pub mod Resolved
+pub mod Read
 pub mod Inside
-pub mod Laws
-pub mod Reading
-pub mod Shape
-pub mod Checked

@@ -1,20 +1,12 @@
-//! Reading chart text.
+//! Reading chart text: from a draft in which nothing is wrong to the chart that the text spells. `specs/Resolved` says
+//! which chart that is, and `specs/Read` what a text is read into.
 #![tactic(auto)]
 
-mod ahead;
-mod checked;
-mod draft;
-mod laws;
-mod names;
-mod region_flaws;
+mod chart;
+mod read;
 mod regions;
-mod transition_flaws;
+mod states;
 mod transitions;
-mod whole;
-mod words;
 
-pub use checked::read_checked;
-pub use draft::{DraftChart, DraftEffect, DraftRegion, DraftState, DraftTransition};
-pub use laws::{chart_drafts_are_shaped, chart_texts_are_told};
-pub use region_flaws::state_names;
-pub use whole::read_draft;
+pub use chart::chart_of;
+pub use read::read_chart;

@@ -1,186 +1,105 @@
-//! Reading states and regions, which stand in one another.
+//! The regions and states of a draft, which stand in one another, with their names looked up.
 
-ghost use Rattle.std.specs.Prelude.{◌≡◌, MatchResult};
-ghost use Rattle.grammar.specs.Read.{read, starts};
-ghost use Rattle.sc_text.specs.Expression.{text_tokens, expression};
-ghost use Rattle.sc_text.specs.Reading.{Stops};
-ghost use Rattle.chart_reader.specs.ChartText.{state_first, listed, inside, body, state, states, region, braced};
-ghost use Rattle.chart_reader.specs.ChartText.{within};
-ghost use Rattle.chart_reader.specs.Inside.{Gives};
+ghost use Rattle.std.specs.Prelude.{◌≡◌, ◌≤◌, IfOk, length};
+ghost use Rattle.sc_graph.specs.Limits.{variable_limit};
+ghost use Rattle.drafts.specs.Flaws.{variable_names};
+ghost use Rattle.chart_drafts.specs.declared.draft.DraftRegion.TheViews.{out-DraftRegion, out-DraftState};
+ghost use Rattle.chart_drafts.specs.Flaws.{state_names};
+ghost use Rattle.chart_reader.specs.Inside.{AreNarrow, AreStatesFew};
+ghost use Rattle.chart_reader.specs.Resolved.{region_of, regions_of, state_of, states_of};
 
-use crate::ahead::{Ahead, skip_sign};
-use crate::draft::{DraftRegion, DraftState, DraftTransition};
-use crate::transitions::leaving;
-use crate::words::{flag, title};
-use sc_text::ahead::{behind, sign_follows, too_deep, word_follows};
-use sc_text::{ReadFault, Sign, Token, Word};
+use crate::states::StateScope;
+use crate::transitions::transitions;
+use chart_drafts::{DraftRegion, DraftState};
+use core_charts::{Region, State};
+use drafts::Scope;
 use sqlite_items::Items;
-use std::alloc::Global;
+use std::alloc::{AllocError, Global};
 
-/// Regions of one superstate, inside which so many more levels of regions may stand.
-#[cycle(regions)]
-#[tactic(auto, using(crate::proofs::Nesting::regions_go, crate::proofs::Nesting::no_first_region, crate::proofs::Going::going_ends, crate::proofs::Going::going_over, crate::proofs::Going::going_stops, crate::proofs::Going::going_on))]
+/// The regions, over these variables, which nest so many levels deep at most. Err: memory was refused.
+#[cycle(resolving)]
 pub(crate) fn regions(
     alloc: Global,
-    depth: u8,
-    ahead: &mut Ahead,
-    end: usize,
-) -> Result<Items<DraftRegion>, ReadFault>
-    ensures { MatchResult result
-        (λ x. Gives (read (listed (region (expression 0) (within (expression 0) depth))
-        (region (expression 0) (within (expression 0) depth))) ahead.old.tokens.now) x ahead.new.tokens.now)
-        (λ fault. Stops end (read (listed (region (expression 0) (within (expression 0) depth))
-        (region (expression 0) (within (expression 0) depth))) ahead.old.tokens.now) fault) }
+    scope: &Scope,
+    levels: u8,
+    texts: &[DraftRegion],
+) -> Result<Items<Region>, AllocError>
+    requires few_variables { length scope.now.variables.now ≤ variable_limit }
+    requires narrow { AreNarrow levels texts.now }
+    ensures { IfOk result (λ all. all ≡ regions_of (variable_names scope.now.variables.now) texts.now) }
 {
-    let mut found = Items::new(alloc);
-    let first = region(alloc, depth, ahead, end)?;
-    found.push(first)?;
-    let most = ahead.tokens.len();
-    for used in 0..most {
-        if !word_follows(ahead.tokens, Word::Region) {
-            return Ok(found);
-        }
-        let next = region(alloc, depth, ahead, end)?;
-        found.push(next)?;
+    let mut all = Items::new(alloc);
+    if levels == 0 {
+        return Ok(all);
     }
-    Ok(found)
-}
-
-#[cycle(regions)]
-#[tactic(auto, using(crate::proofs::Nesting::region_gives, crate::proofs::Parts::made_stops, crate::proofs::Parts::seq_stops_first, crate::proofs::Parts::seq_stops_second), unfolding(crate::specs::ChartText::region))]
-fn region(alloc: Global, depth: u8, ahead: &mut Ahead, end: usize) -> Result<DraftRegion, ReadFault>
-    ensures { MatchResult result
-        (λ x. Gives (read
-        (region (expression 0) (within (expression 0) depth)) ahead.old.tokens.now) x ahead.new.tokens.now)
-        (λ fault. Stops end (read (region (expression 0) (within (expression 0) depth)) ahead.old.tokens.now) fault) }
-{
-    let named = title(ahead, end, Word::Region)?;
-    let states = braced_states(alloc, depth, ahead, end)?;
-    Ok(DraftRegion { named, states })
-}
-
-#[cycle(regions)]
-#[tactic(auto, using(crate::proofs::Parts::after_stops_first, crate::proofs::Nesting::braced_stops_inside, crate::proofs::Nesting::braced_stops_last, crate::proofs::Nesting::braced_gives))]
-fn braced_states(
-    alloc: Global,
-    depth: u8,
-    ahead: &mut Ahead,
-    end: usize,
-) -> Result<Items<DraftState>, ReadFault>
-    ensures { MatchResult result
-        (λ x. Gives (read (braced (states (expression 0) (within
-        (expression 0) depth))) ahead.old.tokens.now) x ahead.new.tokens.now)
-        (λ fault. Stops end (read (braced (states (expression 0)
-        (within (expression 0) depth))) ahead.old.tokens.now) fault) }
-{
-    skip_sign(ahead, end, Sign::OpenBrace)?;
-    let states = states(alloc, depth, ahead, end)?;
-    skip_sign(ahead, end, Sign::CloseBrace)?;
-    Ok(states)
-}
-
-#[cycle(regions)]
-#[tactic(auto, using(crate::proofs::Nesting::states_go, crate::proofs::Nesting::no_first_state, crate::proofs::Going::going_ends, crate::proofs::Going::going_over, crate::proofs::Going::going_stops, crate::proofs::Going::going_on))]
-fn states(
-    alloc: Global,
-    depth: u8,
-    ahead: &mut Ahead,
-    end: usize,
-) -> Result<Items<DraftState>, ReadFault>
-    ensures { MatchResult result
-        (λ x. Gives (read
-        (states (expression 0) (within (expression 0) depth)) ahead.old.tokens.now) x ahead.new.tokens.now)
-        (λ fault. Stops end (read (states (expression 0) (within (expression 0) depth)) ahead.old.tokens.now) fault) }
-{
-    let mut found = Items::new(alloc);
-    let first = state(alloc, depth, ahead, end)?;
-    found.push(first)?;
-    let most = ahead.tokens.len();
-    for used in 0..most {
-        if !state_follows(ahead.tokens) {
-            return Ok(found);
-        }
-        let next = state(alloc, depth, ahead, end)?;
-        found.push(next)?;
+    for text in texts {
+        all.push(region(alloc, scope, levels - 1, text)?)?;
     }
-    Ok(found)
+    Ok(all)
 }
 
-// Whether a state is next.
-fn state_follows(tokens: &[Token]) -> bool
-    ensures { result ≡ starts text_tokens state_first tokens.now }
+// A region, in whose states regions nest so many levels deep at most.
+#[cycle(resolving)]
+#[tactic(auto, using(crate::proofs::Looking::region_is))]
+fn region(
+    alloc: Global,
+    scope: &Scope,
+    levels: u8,
+    text: &DraftRegion,
+) -> Result<Region, AllocError>
+    requires few_variables { length scope.now.variables.now ≤ variable_limit }
+    requires few_states { AreStatesFew (AreNarrow levels) (out-DraftRegion text.now).states }
+    ensures { IfOk result (λ one. one ≡ region_of (variable_names scope.now.variables.now) text.now) }
 {
-    word_follows(tokens, Word::Initial)
-        || word_follows(tokens, Word::Final)
-        || word_follows(tokens, Word::State)
-}
-
-#[cycle(regions)]
-#[tactic(auto, using(crate::proofs::Nesting::state_gives, crate::proofs::Parts::made_stops, crate::proofs::Parts::seq_stops_first, crate::proofs::Parts::seq_stops_second), unfolding(crate::specs::ChartText::state))]
-fn state(alloc: Global, depth: u8, ahead: &mut Ahead, end: usize) -> Result<DraftState, ReadFault>
-    ensures { MatchResult result
-        (λ x. Gives (read
-        (state (expression 0) (within (expression 0) depth)) ahead.old.tokens.now) x ahead.new.tokens.now)
-        (λ fault. Stops end (read (state (expression 0) (within (expression 0) depth)) ahead.old.tokens.now) fault) }
-{
-    let is_initial = flag(ahead, Word::Initial);
-    let is_final = flag(ahead, Word::Final);
-    let named = title(ahead, end, Word::State)?;
-    let (regions, transitions) = body(alloc, depth, ahead, end)?;
-    Ok(DraftState {
-        is_initial,
-        is_final,
-        named,
-        regions,
-        transitions,
+    let states = states(alloc, scope, levels, text.states.as_slice())?;
+    Ok(Region {
+        name: text.named.name,
+        states,
     })
 }
 
-// What is in a state, or the semicolon where nothing is.
-#[cycle(regions)]
-#[tactic(auto, using(crate::proofs::Nesting::simple_gives, crate::proofs::Nesting::brace_stops, crate::proofs::Nesting::inside_stops, crate::proofs::Nesting::inside_gives))]
-fn body(
+// The states of one region.
+#[cycle(resolving)]
+fn states(
     alloc: Global,
-    depth: u8,
-    ahead: &mut Ahead,
-    end: usize,
-) -> Result<(Items<DraftRegion>, Items<DraftTransition>), ReadFault>
-    ensures { MatchResult result
-        (λ x. Gives (read
-        (body (expression 0) (within (expression 0) depth)) ahead.old.tokens.now) x ahead.new.tokens.now)
-        (λ fault. Stops end (read (body (expression 0) (within (expression 0) depth)) ahead.old.tokens.now) fault) }
+    scope: &Scope,
+    levels: u8,
+    texts: &[DraftState],
+) -> Result<Items<State>, AllocError>
+    requires few_variables { length scope.now.variables.now ≤ variable_limit }
+    requires few_states { AreStatesFew (AreNarrow levels) texts.now }
+    ensures { IfOk result (λ all. all ≡
+        states_of (variable_names scope.now.variables.now) (state_names texts.now) texts.now) }
 {
-    if sign_follows(ahead.tokens, Sign::Semicolon) {
-        ahead.tokens = behind(ahead.tokens);
-        return Ok((Items::new(alloc), Items::new(alloc)));
+    let own = StateScope::of(alloc, texts)?;
+    let mut all = Items::new(alloc);
+    for text in texts {
+        all.push(state(alloc, scope, &own, levels, text)?)?;
     }
-    skip_sign(ahead, end, Sign::OpenBrace)?;
-    let (regions, transitions) = inside(alloc, depth, ahead, end)?;
-    Ok((regions, transitions))
+    Ok(all)
 }
 
-// The regions and the transitions of a state, up to the brace that closes it.
-#[cycle(regions)]
-#[tactic(auto, using(crate::proofs::Nesting::bare_gives, crate::proofs::Nesting::bare_stops, crate::proofs::Nesting::too_deep_stops, crate::proofs::Nesting::regions_stop, crate::proofs::Nesting::leaving_stops, crate::proofs::Nesting::nested_gives))]
-fn inside(
+#[cycle(resolving)]
+#[tactic(auto, using(crate::proofs::Looking::state_is))]
+fn state(
     alloc: Global,
-    depth: u8,
-    ahead: &mut Ahead,
-    end: usize,
-) -> Result<(Items<DraftRegion>, Items<DraftTransition>), ReadFault>
-    ensures { MatchResult result
-        (λ x. Gives (read
-        (inside (expression 0) (within (expression 0) depth)) ahead.old.tokens.now) x ahead.new.tokens.now)
-        (λ fault. Stops end (read (inside (expression 0) (within (expression 0) depth)) ahead.old.tokens.now) fault) }
+    scope: &Scope,
+    own: &StateScope,
+    levels: u8,
+    text: &DraftState,
+) -> Result<State, AllocError>
+    requires few_variables { length scope.now.variables.now ≤ variable_limit }
+    requires narrow { AreNarrow levels (out-DraftState text.now).regions }
+    ensures { IfOk result (λ one. one ≡
+        state_of (variable_names scope.now.variables.now) (state_names own.now.states.now) text.now) }
 {
-    if !word_follows(ahead.tokens, Word::Region) {
-        let transitions = leaving(alloc, ahead, end)?;
-        return Ok((Items::new(alloc), transitions));
-    }
-    if depth == 0 {
-        return Err(too_deep(ahead.tokens, end));
-    }
-    let regions = regions(alloc, depth - 1, ahead, end)?;
-    let transitions = leaving(alloc, ahead, end)?;
-    Ok((regions, transitions))
+    let regions = regions(alloc, scope, levels, text.regions.as_slice())?;
+    let transitions = transitions(alloc, scope, own, text.transitions.as_slice())?;
+    Ok(State {
+        name: text.named.name,
+        is_initial: text.is_initial,
+        is_final: text.is_final,
+        regions,
+        transitions,
+    })
 }

@@ -1,286 +1,91 @@
-//! Reading declarations and transitions.
+//! The transitions of a draft, with their names looked up.
 
-ghost use Rattle.std.specs.Prelude.{◌≡◌, MatchResult};
-ghost use Rattle.grammar.specs.Grammar.{many};
-ghost use Rattle.grammar.specs.Read.{read, starts};
-ghost use Rattle.sc_text.specs.Expression.{text_tokens, after, expression};
-ghost use Rattle.sc_text.specs.Reading.{Stops};
-ghost use Rattle.chart_reader.specs.ChartText.{the_sign, declaration, placed, effect, next_effect, some_effects};
-ghost use Rattle.chart_reader.specs.ChartText.{effects, target, trigger, deed, termination, tested, transition_first};
-ghost use Rattle.chart_reader.specs.ChartText.{transition, leaving};
-ghost use Rattle.chart_reader.specs.Inside.{Gives};
+ghost use Rattle.std.specs.Prelude.{◌≡◌, ◌≤◌, IfOk, length, map, option_map};
+ghost use Rattle.sc_graph.specs.Limits.{variable_limit};
+ghost use Rattle.drafts.specs.Flaws.{variable_names};
+ghost use Rattle.drafts.specs.Resolved.{expression_of};
+ghost use Rattle.chart_drafts.specs.Flaws.{state_names};
+ghost use Rattle.chart_reader.specs.Resolved.{effect_of, transition_of};
 
-use crate::ahead::{Ahead, skip_sign};
-use crate::draft::{DraftEffect, DraftTransition};
-use crate::words::{
-    declared_kind, declared_role, flag, join_word, last_name, name, role_follows, tested_word,
-    tested_word_follows,
-};
-use draft_parts::{Declaration, Named, TextExpression};
-use sc_text::ahead::{behind, place, sign_follows, word_follows};
-use sc_text::{ReadFault, Sign, Token, Word, expression};
+use crate::states::StateScope;
+use chart_drafts::{DraftEffect, DraftTransition};
+use core_charts::{Effect, Transition};
+use drafts::{Scope, TextExpression};
+use sc_values::Expr;
 use sqlite_items::Items;
-use std::alloc::Global;
+use std::alloc::{AllocError, Global};
 
-/// The declarations of a chart.
-#[tactic(auto, using(crate::proofs::Pieces::declarations_go, crate::proofs::Going::going_ends, crate::proofs::Going::going_over, crate::proofs::Going::going_stops, crate::proofs::Going::going_on))]
-pub(crate) fn declarations(
+/// The transitions of a state of a region with these states, over these variables. Err: memory was refused.
+pub(crate) fn transitions(
     alloc: Global,
-    ahead: &mut Ahead,
-    end: usize,
-) -> Result<Items<Declaration>, ReadFault>
-    ensures { MatchResult result
-        (λ x. Gives (read (many declaration) ahead.old.tokens.now) x ahead.new.tokens.now)
-        (λ fault. Stops end (read (many declaration) ahead.old.tokens.now) fault) }
+    scope: &Scope,
+    states: &StateScope,
+    texts: &[DraftTransition],
+) -> Result<Items<Transition>, AllocError>
+    requires { length scope.now.variables.now ≤ variable_limit }
+    ensures { IfOk result (λ all. all ≡
+        map (transition_of (variable_names scope.now.variables.now) (state_names states.now.states.now)) texts.now) }
 {
-    let mut found = Items::new(alloc);
-    let most = ahead.tokens.len();
-    for used in 0..most {
-        if !role_follows(ahead.tokens) {
-            return Ok(found);
-        }
-        let next = declaration(ahead, end)?;
-        found.push(next)?;
+    let mut all = Items::new(alloc);
+    for text in texts {
+        all.push(transition(alloc, scope, states, text)?)?;
     }
-    Ok(found)
+    Ok(all)
 }
 
-#[tactic(auto, using(crate::proofs::Pieces::declaration_gives, crate::proofs::Parts::made_stops, crate::proofs::Parts::seq_stops_first, crate::proofs::Parts::seq_stops_second), unfolding(crate::specs::ChartText::declaration))]
-fn declaration(ahead: &mut Ahead, end: usize) -> Result<Declaration, ReadFault>
-    ensures { MatchResult result
-        (λ x. Gives (read declaration ahead.old.tokens.now) x ahead.new.tokens.now)
-        (λ fault. Stops end (read declaration ahead.old.tokens.now) fault) }
-{
-    let role = declared_role(ahead, end)?;
-    let kind = declared_kind(ahead, end)?;
-    let named = last_name(ahead, end)?;
-    Ok(Declaration { role, kind, named })
-}
-
-// An expression with its place.
-#[tactic(auto, using(crate::proofs::Pieces::placed_stops, crate::proofs::Pieces::placed_gives))]
-fn placed(alloc: Global, ahead: &mut Ahead, end: usize) -> Result<TextExpression, ReadFault>
-    ensures { MatchResult result
-        (λ x. Gives (read (placed (expression 0)) ahead.old.tokens.now) x ahead.new.tokens.now)
-        (λ fault. Stops end (read (placed (expression 0)) ahead.old.tokens.now) fault) }
-{
-    let start = place(ahead.tokens, end);
-    let mut operations = Items::new(alloc);
-    ahead.tokens = expression(ahead.tokens, end, &mut operations)?;
-    Ok(TextExpression { start, operations })
-}
-
-// What a variable becomes.
-#[tactic(auto, using(crate::proofs::Parts::after_stops_first, crate::proofs::Parts::after_stops_second, crate::proofs::Parts::after_gives))]
-fn value(alloc: Global, ahead: &mut Ahead, end: usize) -> Result<TextExpression, ReadFault>
-    ensures { MatchResult result
-        (λ x. Gives (read (after (the_sign Sign.Becomes) (placed
-        (expression 0))) ahead.old.tokens.now) x ahead.new.tokens.now)
-        (λ fault. Stops end (read (after (the_sign Sign.Becomes) (placed (expression 0))) ahead.old.tokens.now) fault) }
-{
-    skip_sign(ahead, end, Sign::Becomes)?;
-    let value = placed(alloc, ahead, end)?;
-    Ok(value)
-}
-
-#[tactic(auto, using(crate::proofs::Pieces::effect_gives, crate::proofs::Parts::made_stops, crate::proofs::Parts::seq_stops_first, crate::proofs::Parts::seq_stops_second), unfolding(crate::specs::ChartText::effect))]
-fn effect(alloc: Global, ahead: &mut Ahead, end: usize) -> Result<DraftEffect, ReadFault>
-    ensures { MatchResult result
-        (λ x. Gives (read (effect (expression 0)) ahead.old.tokens.now) x ahead.new.tokens.now)
-        (λ fault. Stops end (read (effect (expression 0)) ahead.old.tokens.now) fault) }
-{
-    let variable = name(ahead, end)?;
-    let value = value(alloc, ahead, end)?;
-    Ok(DraftEffect { variable, value })
-}
-
-#[tactic(auto, using(crate::proofs::Parts::after_stops_first, crate::proofs::Parts::after_stops_second, crate::proofs::Parts::after_gives), unfolding(crate::specs::ChartText::next_effect))]
-fn next_effect(alloc: Global, ahead: &mut Ahead, end: usize) -> Result<DraftEffect, ReadFault>
-    ensures { MatchResult result
-        (λ x. Gives (read (next_effect (expression 0)) ahead.old.tokens.now) x ahead.new.tokens.now)
-        (λ fault. Stops end (read (next_effect (expression 0)) ahead.old.tokens.now) fault) }
-{
-    skip_sign(ahead, end, Sign::Comma)?;
-    let effect = effect(alloc, ahead, end)?;
-    Ok(effect)
-}
-
-#[tactic(auto, using(crate::proofs::Pieces::effects_go, crate::proofs::Pieces::no_first_effect, crate::proofs::Going::going_ends, crate::proofs::Going::going_over, crate::proofs::Going::going_stops, crate::proofs::Going::going_on))]
-fn some_effects(
+fn transition(
     alloc: Global,
-    ahead: &mut Ahead,
-    end: usize,
-) -> Result<Items<DraftEffect>, ReadFault>
-    ensures { MatchResult result
-        (λ x. Gives (read (some_effects (expression 0)) ahead.old.tokens.now) x ahead.new.tokens.now)
-        (λ fault. Stops end (read (some_effects (expression 0)) ahead.old.tokens.now) fault) }
+    scope: &Scope,
+    states: &StateScope,
+    text: &DraftTransition,
+) -> Result<Transition, AllocError>
+    requires { length scope.now.variables.now ≤ variable_limit }
+    ensures { IfOk result (λ one. one ≡
+        transition_of (variable_names scope.now.variables.now) (state_names states.now.states.now) text.now) }
 {
-    let mut found = Items::new(alloc);
-    let first = effect(alloc, ahead, end)?;
-    found.push(first)?;
-    let most = ahead.tokens.len();
-    for used in 0..most {
-        if !sign_follows(ahead.tokens, Sign::Comma) {
-            return Ok(found);
-        }
-        let next = next_effect(alloc, ahead, end)?;
-        found.push(next)?;
-    }
-    Ok(found)
-}
-
-#[tactic(auto, using(crate::proofs::Pieces::effects_missing, crate::proofs::Pieces::effects_there, crate::proofs::Pieces::effects_stop))]
-fn effects(alloc: Global, ahead: &mut Ahead, end: usize) -> Result<Items<DraftEffect>, ReadFault>
-    ensures { MatchResult result
-        (λ x. Gives (read (effects (expression 0)) ahead.old.tokens.now) x ahead.new.tokens.now)
-        (λ fault. Stops end (read (effects (expression 0)) ahead.old.tokens.now) fault) }
-{
-    if !word_follows(ahead.tokens, Word::Do) {
-        return Ok(Items::new(alloc));
-    }
-    ahead.tokens = behind(ahead.tokens);
-    let effects = some_effects(alloc, ahead, end)?;
-    Ok(effects)
-}
-
-#[tactic(auto, using(crate::proofs::Parts::after_stops_first, crate::proofs::Parts::after_stops_second, crate::proofs::Parts::after_gives), unfolding(crate::specs::ChartText::target))]
-fn target(ahead: &mut Ahead, end: usize) -> Result<Named, ReadFault>
-    ensures { MatchResult result
-        (λ x. Gives (read target ahead.old.tokens.now) x ahead.new.tokens.now)
-        (λ fault. Stops end (read target ahead.old.tokens.now) fault) }
-{
-    skip_sign(ahead, end, Sign::Arrow)?;
-    let target = last_name(ahead, end)?;
-    Ok(target)
-}
-
-#[tactic(auto, using(crate::proofs::Pieces::trigger_missing, crate::proofs::Pieces::trigger_there, crate::proofs::Pieces::trigger_stops))]
-fn trigger(
-    alloc: Global,
-    ahead: &mut Ahead,
-    end: usize,
-) -> Result<Option<TextExpression>, ReadFault>
-    ensures { MatchResult result
-        (λ x. Gives (read (trigger (expression 0)) ahead.old.tokens.now) x ahead.new.tokens.now)
-        (λ fault. Stops end (read (trigger (expression 0)) ahead.old.tokens.now) fault) }
-{
-    if !word_follows(ahead.tokens, Word::If) {
-        return Ok(None);
-    }
-    ahead.tokens = behind(ahead.tokens);
-    let condition = placed(alloc, ahead, end)?;
-    Ok(Some(condition))
-}
-
-// What is done, and where a transition leads.
-#[tactic(auto, using(crate::proofs::Parts::seq_stops_first, crate::proofs::Parts::seq_stops_second, crate::proofs::Parts::seq_gives), unfolding(crate::specs::ChartText::deed))]
-fn deed(
-    alloc: Global,
-    ahead: &mut Ahead,
-    end: usize,
-) -> Result<(Items<DraftEffect>, Named), ReadFault>
-    ensures { MatchResult result
-        (λ x. Gives (read (deed (expression 0)) ahead.old.tokens.now) x ahead.new.tokens.now)
-        (λ fault. Stops end (read (deed (expression 0)) ahead.old.tokens.now) fault) }
-{
-    let effects = effects(alloc, ahead, end)?;
-    let target = target(ahead, end)?;
-    Ok((effects, target))
-}
-
-#[tactic(auto, using(crate::proofs::Pieces::termination_made, crate::proofs::Parts::made_stops, crate::proofs::Parts::seq_stops_first, crate::proofs::Parts::seq_stops_second), unfolding(crate::specs::ChartText::termination))]
-fn termination(alloc: Global, ahead: &mut Ahead, end: usize) -> Result<DraftTransition, ReadFault>
-    ensures { MatchResult result
-        (λ x. Gives (read (termination (expression 0)) ahead.old.tokens.now) x ahead.new.tokens.now)
-        (λ fault. Stops end (read (termination (expression 0)) ahead.old.tokens.now) fault) }
-{
-    let (kind, at) = join_word(ahead, end)?;
-    let (effects, target) = deed(alloc, ahead, end)?;
-    Ok(DraftTransition {
-        kind,
-        at,
-        immediate: false,
-        trigger: None,
-        effects,
-        target,
-    })
-}
-
-#[tactic(auto, using(crate::proofs::Pieces::tested_made, crate::proofs::Parts::made_stops, crate::proofs::Parts::seq_stops_first, crate::proofs::Parts::seq_stops_second), unfolding(crate::specs::ChartText::tested))]
-fn tested(alloc: Global, ahead: &mut Ahead, end: usize) -> Result<DraftTransition, ReadFault>
-    ensures { MatchResult result
-        (λ x. Gives (read (tested (expression 0)) ahead.old.tokens.now) x ahead.new.tokens.now)
-        (λ fault. Stops end (read (tested (expression 0)) ahead.old.tokens.now) fault) }
-{
-    let (kind, at) = tested_word(ahead, end)?;
-    let immediate = flag(ahead, Word::Immediate);
-    let trigger = trigger(alloc, ahead, end)?;
-    let (effects, target) = deed(alloc, ahead, end)?;
-    Ok(DraftTransition {
-        kind,
-        at,
-        immediate,
+    let trigger = trigger(alloc, scope, &text.trigger)?;
+    let effects = effects(alloc, scope, text.effects.as_slice())?;
+    Ok(Transition {
+        kind: text.kind,
+        immediate: text.immediate,
         trigger,
         effects,
-        target,
+        target: states.number(text.target.name),
     })
 }
 
-#[tactic(auto, using(crate::proofs::Pieces::termination_stops, crate::proofs::Pieces::termination_gives, crate::proofs::Pieces::tested_stops, crate::proofs::Pieces::tested_gives))]
-fn transition(alloc: Global, ahead: &mut Ahead, end: usize) -> Result<DraftTransition, ReadFault>
-    ensures { MatchResult result
-        (λ x. Gives (read (transition (expression 0)) ahead.old.tokens.now) x ahead.new.tokens.now)
-        (λ fault. Stops end (read (transition (expression 0)) ahead.old.tokens.now) fault) }
-{
-    if word_follows(ahead.tokens, Word::Join) {
-        let ends = termination(alloc, ahead, end)?;
-        return Ok(ends);
-    }
-    let leads = tested(alloc, ahead, end)?;
-    Ok(leads)
-}
-
-// Whether a transition is next.
-fn transition_follows(tokens: &[Token]) -> bool
-    ensures { result ≡ starts text_tokens transition_first tokens.now }
-{
-    word_follows(tokens, Word::Join) || tested_word_follows(tokens)
-}
-
-#[tactic(auto, using(crate::proofs::Pieces::transitions_go, crate::proofs::Going::going_ends, crate::proofs::Going::going_over, crate::proofs::Going::going_stops, crate::proofs::Going::going_on))]
-fn transitions(
+fn trigger(
     alloc: Global,
-    ahead: &mut Ahead,
-    end: usize,
-) -> Result<Items<DraftTransition>, ReadFault>
-    ensures { MatchResult result
-        (λ x. Gives (read (many (transition (expression 0))) ahead.old.tokens.now) x ahead.new.tokens.now)
-        (λ fault. Stops end (read (many (transition (expression 0))) ahead.old.tokens.now) fault) }
+    scope: &Scope,
+    text: &Option<TextExpression>,
+) -> Result<Option<Expr>, AllocError>
+    requires { length scope.now.variables.now ≤ variable_limit }
+    ensures { IfOk result (λ one. one ≡
+        option_map (λ e. expression_of (variable_names scope.now.variables.now) e.operations) text.now) }
 {
-    let mut found = Items::new(alloc);
-    let most = ahead.tokens.len();
-    for used in 0..most {
-        if !transition_follows(ahead.tokens) {
-            return Ok(found);
-        }
-        let next = transition(alloc, ahead, end)?;
-        found.push(next)?;
+    match text {
+        Some(condition) => Ok(Some(scope.resolved(alloc, condition)?)),
+        None => Ok(None),
     }
-    Ok(found)
 }
 
-/// The transitions of a state, up to the brace that closes it.
-#[tactic(auto, using(crate::proofs::Parts::before_stops_first, crate::proofs::Parts::before_stops_second, crate::proofs::Parts::before_gives), unfolding(crate::specs::ChartText::leaving))]
-pub(crate) fn leaving(
-    alloc: Global,
-    ahead: &mut Ahead,
-    end: usize,
-) -> Result<Items<DraftTransition>, ReadFault>
-    ensures { MatchResult result
-        (λ x. Gives (read (leaving (expression 0)) ahead.old.tokens.now) x ahead.new.tokens.now)
-        (λ fault. Stops end (read (leaving (expression 0)) ahead.old.tokens.now) fault) }
+fn effects(alloc: Global, scope: &Scope, texts: &[DraftEffect]) -> Result<Items<Effect>, AllocError>
+    requires { length scope.now.variables.now ≤ variable_limit }
+    ensures { IfOk result (λ all. all ≡ map (effect_of (variable_names scope.now.variables.now)) texts.now) }
 {
-    let transitions = transitions(alloc, ahead, end)?;
-    skip_sign(ahead, end, Sign::CloseBrace)?;
-    Ok(transitions)
+    let mut all = Items::new(alloc);
+    for text in texts {
+        all.push(effect(alloc, scope, text)?)?;
+    }
+    Ok(all)
+}
+
+fn effect(alloc: Global, scope: &Scope, text: &DraftEffect) -> Result<Effect, AllocError>
+    requires { length scope.now.variables.now ≤ variable_limit }
+    ensures { IfOk result (λ one. one ≡ effect_of (variable_names scope.now.variables.now) text.now) }
+{
+    Ok(Effect {
+        variable: scope.number(text.variable.name),
+        value: scope.resolved(alloc, &text.value)?,
+    })
 }

@@ -6,13 +6,13 @@ use Rattle.sc_text.specs.declared.read_fault.ReadFault.{ReadFault}
 use Rattle.sc_text.specs.declared.read_fault.ReadFault.TheVariants as read
 use Rattle.sc_text.specs.declared.language.Language.{Language}
 use Rattle.sc_text.specs.declared.language.Language.TheVariants as language
-use Rattle.source_language.specs.First.{IsIn}
+use Rattle.sc_text.specs.FirstToken.{IsIn}
 use Rattle.scl.specs.declared.program.Scl.{Scl}
-use Rattle.scl_reader.specs.Checked as programs
-use Rattle.scl_programs.specs.Read as programs_read
+use Rattle.scl_drafts.specs.Checked as programs
+use Rattle.scl_reader.specs.Read as programs_read
 use Rattle.core_charts.specs.Chart.{Chart}
-use Rattle.chart_reader.specs.Checked as charts
-use Rattle.resolved_charts.specs.Read as charts_read
+use Rattle.chart_drafts.specs.Checked as charts
+use Rattle.chart_reader.specs.Read as charts_read
 use Rattle.bytecode.specs.Image.{Image}
 use Rattle.compiler.specs.Charts.{IsSclOf, HasNoScl}
 use Rattle.compiler.specs.declared.fault.CompileFault.{CompileFault}

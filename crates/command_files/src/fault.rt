@@ -1,3 +1,5 @@
+//! The faults of the program, and how they print.
+
 ghost use Rattle.std.specs.Prelude.{◌≡◌};
 ghost use Rattle.command_files.specs.declared.fault.Fault.TheVariants.{Memory};
 

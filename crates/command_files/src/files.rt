@@ -1,3 +1,5 @@
+//! Files by name: what is read from them, and how they are written.
+
 ghost use Rattle.std.specs.Prelude.{◌≡◌, Option, None, IfOk, OnOk, OnErr, IsErrOf};
 ghost use Rattle.command_files.specs.Files.{Contents, HasBytes, LacksFile, Stores};
 

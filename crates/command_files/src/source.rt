@@ -3,18 +3,17 @@
 ghost use Rattle.std.specs.Prelude.{◌≡◌, IfErr, IfOk};
 ghost use Rattle.sc_text.specs.declared.language.Language.TheVariants as language;
 ghost use Rattle.command_files.specs.Sources.{IsNoSource, IsNoText, IsSource, SpellsNone, SpellsProgram};
-ghost use Rattle.source_language.specs.First.{IsIn};
+ghost use Rattle.sc_text.specs.FirstToken.{IsIn};
 ghost use Rattle.std.specs.Str.{IsUtf8};
 
 use crate::fault::Fault;
 use crate::files::Files;
 use crate::load::bytes_of;
+use chart_reader::read_chart;
 use compiler::scl_of_chart;
-use resolved_charts::read_chart;
-use sc_text::{Broken, Language, ReadFault};
+use sc_text::{Broken, Language, ReadFault, language_of};
 use scl::Scl;
-use scl_programs::read_scl;
-use source_language::language_of;
+use scl_reader::read_scl;
 use std::alloc::Global;
 use std::str;
 

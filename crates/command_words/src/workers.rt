@@ -1,3 +1,5 @@
+//! How many threads serve in a run.
+
 ghost use Rattle.std.specs.Prelude.{◌≤◌};
 
 /// How many threads serve in a run: 1 to 8.

@@ -10,7 +10,7 @@ use Rattle.scl.specs.Numbering.{numbered}
 use Rattle.scl.specs.Rules.{KeepsRules}
 use Rattle.scl_graph.specs.Answers.{IsGraph}
 use Rattle.scl_graph_laws.specs.Keeps.{Keeps}
-use Rattle.scl_graph_laws.proofs.Keeping.{program_keeps_runs}
+use Rattle.scl_graph_laws.proofs.RunsKept.{program_keeps_runs}
 use Rattle.scl_graph_laws.proofs.Forming.{program_is_formed}
 use Rattle.compiler.specs.Compiled.{IsCompiled, IsRefused}
 use Rattle.compiler.specs.Texts.{IsImageOf, IsNotCompiled}

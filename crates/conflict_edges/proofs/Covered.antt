@@ -14,9 +14,9 @@ use Rattle.sc_graph.specs.Threads.{ConcurrentNodes, AreConcurrent}
 use Rattle.sc_graph.specs.Accesses.{accesses}
 use Rattle.sc_graph.specs.Valid.{IsFormed}
 use Rattle.sc_graph.proofs.Formed.{concurrent_swapped, never_own}
-use Rattle.variable_users.specs.Users.{InitsAt, UpdatesAt, Lists, NoneConflict}
+use Rattle.program_edges.specs.Users.{InitsAt, UpdatesAt, Lists, NoneConflict}
 use Rattle.conflict_edges.specs.Inside.Candidates.{AreAlike, SameThread, IsCovered, by_one, by_two, IsKept, added, left_out, Disagree, IsStoodFor, StandFor}
-use Rattle.variable_users.proofs.Variables.{of_each}
+use Rattle.program_edges.proofs.Variables.{of_each}
 
 concurrent_turned : (p : Program) (m n : ℕ) → ConcurrentNodes p m n → ConcurrentNodes p n m
 concurrent_turned p m n c = record { first = c.second; second = c.first; first_owner = c.second_owner; second_owner = c.first_owner; concurrent = concurrent_swapped p c.first c.second c.concurrent }

@@ -6,8 +6,8 @@ use Rattle.sc_graph.specs.Program.{Program}
 use Rattle.sc_graph.specs.Valid.{IsFormed}
 use Rattle.sc_graph.specs.Accesses.{accesses}
 use Rattle.sc_graph.specs.Protocol.{WriteConflict}
-use Rattle.variable_users.specs.Users.{NoConflictOn}
-use Rattle.variable_users.proofs.Variables.{init_variable, update_variable}
+use Rattle.program_edges.specs.Users.{NoConflictOn}
+use Rattle.program_edges.proofs.Variables.{init_variable, update_variable}
 use Rattle.conflict_edges.specs.Conflicts.{HasNoConflict}
 
 -- the answer of a helper, said in other words

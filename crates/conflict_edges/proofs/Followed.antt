@@ -11,10 +11,10 @@ use Rattle.sc_graph.specs.Program.{Program, step_at}
 use Rattle.sc_graph.specs.Accesses.{accesses, access_of}
 use Rattle.conflict_edges.specs.declared.edges.Followers.{Followers}
 use Rattle.conflict_edges.specs.Conflicts.{AreFollowers, IsListed}
-use Rattle.variable_users.specs.Users.{InitsAt, UpdatesAt, ReadsAt}
-use Rattle.variable_users.specs.declared.users.Users.{Users}
+use Rattle.program_edges.specs.Users.{InitsAt, UpdatesAt, ReadsAt}
+use Rattle.program_edges.specs.declared.users.Users.{Users}
 use Rattle.conflict_edges.specs.Inside.Held.{AreHeld}
-use Rattle.variable_users.proofs.Variables.{access_is, step_or_none, init_variable, update_variable}
+use Rattle.program_edges.proofs.Variables.{access_is, step_or_none, init_variable, update_variable}
 
 nothing_in : (n : ℕ) → ¬ Contains [] n
 nothing_in n c = let lt = c.1 in omega (arith, lt)

@@ -6,7 +6,7 @@ ghost use Rattle.sc_values.specs.Access.{Clash};
 ghost use Rattle.sc_graph.specs.Accesses.{accesses};
 ghost use Rattle.sc_graph.specs.Valid.{IsFormed};
 ghost use Rattle.conflict_edges.specs.Inside.Candidates.{AreAlike, IsCovered, IsKept, SameThread};
-ghost use Rattle.variable_users.specs.Users.{NoneConflict};
+ghost use Rattle.program_edges.specs.Users.{NoneConflict};
 
 use crate::pairs::nodes_clash;
 use sc_graph::{NodeId, Program};

@@ -10,10 +10,10 @@ ghost use Rattle.sc_graph.specs.Valid.{IsFormed};
 
 use crate::fault::ConflictFault;
 use crate::pairs::find_conflict;
+use program_edges::Users;
 use sc_graph::{ConcurrentThreads, NodeId, Program, Step};
 use std::alloc::Global;
 use std::marker::Model;
-use variable_users::Users;
 
 /// The protocol edges of a program without write conflicts. Contracts see the program.
 #[derive(Drop)]

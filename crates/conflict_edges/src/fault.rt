@@ -1,3 +1,5 @@
+//! Why a program has no edges.
+
 ghost use Rattle.std.specs.Prelude.{◌≡◌};
 
 use sc_graph::NodeId;

@@ -9,12 +9,12 @@ ghost use Rattle.sc_graph.specs.Threads.{ConcurrentNodes};
 ghost use Rattle.sc_graph.specs.Valid.{IsFormed};
 ghost use Rattle.conflict_edges.specs.Conflicts.{HasNoConflict};
 ghost use Rattle.conflict_edges.specs.Inside.Candidates.{AreAlike};
-ghost use Rattle.variable_users.specs.Users.{InitsAt, Lists, NoConflictOn, NoneConflict, UpdatesAt, UsersOf};
+ghost use Rattle.program_edges.specs.Users.{InitsAt, Lists, NoConflictOn, NoneConflict, UpdatesAt, UsersOf};
 
 use crate::choosing::candidates;
+use program_edges::Users;
 use sc_graph::{ConcurrentThreads, NodeId, Program, VariableId};
 use std::alloc::{AllocError, Global};
-use variable_users::Users;
 
 /// Two nodes of a formed program, the smaller first, that conflict. None: there are none.
 pub(crate) fn find_conflict(

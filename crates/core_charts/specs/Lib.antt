@@ -1,3 +1,3 @@
 pub mod Chart
-pub mod Standing
+pub mod Tests
 pub mod Rules

@@ -18,7 +18,7 @@ use Rattle.core_charts.specs.declared.region.Region.{Region}
 use Rattle.core_charts.specs.declared.region.State.{State}
 use Rattle.core_charts.specs.declared.region.Region.TheViews.{out-Region, out-State}
 use Rattle.core_charts.specs.Chart.{Chart}
-use Rattle.core_charts.specs.Standing.{is_join}
+use Rattle.core_charts.specs.Tests.{is_join}
 
 -- charts that expansion leaves have names of its own, which begin with `_` as those of SCL may
 abbrev pub language : Features → Language

@@ -1,3 +1,5 @@
+//! Charts and core charts.
+
 ghost use Rattle.std.specs.Prelude.{◌≡◌, IfOk, SomeIff};
 ghost use Rattle.core_charts.specs.declared.features.Features.TheVariants as features;
 ghost use Rattle.core_charts.specs.Rules.{IsChart};

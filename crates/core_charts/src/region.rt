@@ -1,7 +1,9 @@
+//! Regions, states, transitions and effects.
+
 ghost use Rattle.std.specs.Prelude.{◌≡◌};
 ghost use Rattle.core_charts.specs.declared.region.Region.TheViews.{out-State};
 ghost use Rattle.core_charts.specs.Rules.{has_regions};
-ghost use Rattle.core_charts.specs.Standing.{is_strong, is_weak, is_join};
+ghost use Rattle.core_charts.specs.Tests.{is_strong, is_weak, is_join};
 
 use sc_graph::VariableId;
 use sc_values::{Expr, Name};

@@ -11,7 +11,7 @@ ghost use Rattle.core_charts.specs.declared.region.TransitionKind.TheVariants as
 ghost use Rattle.core_charts.specs.declared.region.State.{State};
 ghost use Rattle.core_charts.specs.declared.region.Region.{Region};
 ghost use Rattle.core_charts.specs.declared.region.Region.TheViews.{out-Region, out-State};
-ghost use Rattle.core_charts.specs.Standing.{is_join};
+ghost use Rattle.core_charts.specs.Tests.{is_join};
 ghost use Rattle.core_charts.specs.Rules.{IsWithin, kinds_of, IsEffect, IsBareIfFinal, fits_state, IsTransition};
 ghost use Rattle.core_charts.specs.Rules.{IsState, IsRegion, AreRegions, IsChart};
 

@@ -6,8 +6,8 @@ ghost use Rattle.drawing.specs.Labels.{effect_text, effects_text, further_text, 
 ghost use Rattle.drawing.specs.Labels.{transition_text, trigger_text};
 
 use core_charts::{Effect, Transition, TransitionKind};
-use expression_texts::text_of;
 use sc_graph::{Variable, VariableId};
+use scl_printer::text_of;
 use sqlite_items::at;
 use std::alloc::{AllocError, Global};
 

@@ -4,9 +4,9 @@ ghost use Rattle.std.specs.Prelude.{◌≡◌, IfOk, List, string_bytes};
 ghost use Rattle.scl_printer.specs.Expressions.{variable_text};
 ghost use Rattle.image_listing.specs.Steps.{assigned_text, code_text, numbers_text, step_text, updated_text};
 
-use expression_texts::{text_of, tree_of};
 use sc_graph::{Step, Variable, VariableId};
-use sc_values::{Code, Combination, Expr};
+use sc_values::{Code, Combination, Expr, tree_of};
+use scl_printer::text_of;
 use sqlite_items::{Boxed, at};
 use std::alloc::{AllocError, Global};
 

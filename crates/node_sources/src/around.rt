@@ -1,7 +1,7 @@
 //! Superstates, and the aborts by which what is inside them may be left.
 
 use crate::origin::{Origin, Part, Scene};
-use chart_reader::DraftTransition;
+use chart_drafts::DraftTransition;
 use core_charts::TransitionKind;
 
 /// Which aborts are meant.

@@ -5,7 +5,7 @@ use crate::around::{Around, are_aborts, are_weak_aborts, termination};
 use crate::marks::{Marks, StateMark};
 use crate::origin::{Origin, Part, Scene};
 use crate::superstate_marks::{as_it_is, continuation, fork, monitor, prepared, simple};
-use chart_reader::{DraftRegion, DraftState};
+use chart_drafts::{DraftRegion, DraftState};
 use sqlite_items::Items;
 use std::alloc::{AllocError, Global};
 

@@ -3,9 +3,8 @@
 use crate::origin::Origin;
 use crate::piece::{Piece, Whole};
 use crate::sources::whole_of;
-use sc_text::{Language, ReadFault, Sign, Token, TokenKind, tokens};
+use sc_text::{Language, ReadFault, Sign, Token, TokenKind, language_of, tokens};
 use sc_values::Name;
-use source_language::language_of;
 use sqlite_items::{Items, at};
 use std::alloc::{AllocError, Global};
 

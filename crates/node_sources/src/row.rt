@@ -4,7 +4,7 @@
 use crate::around::{Around, Sort, are_weak_aborts, termination};
 use crate::marks::{Mark, StateMark};
 use crate::origin::{Origin, Part, Scene};
-use chart_reader::{DraftEffect, DraftTransition};
+use chart_drafts::{DraftEffect, DraftTransition};
 use sqlite_items::Items;
 use std::alloc::{AllocError, Global};
 

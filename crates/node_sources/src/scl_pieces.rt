@@ -4,7 +4,7 @@ use crate::origin::Origin;
 use crate::piece::{Piece, Whole};
 use crate::words::Words;
 use sc_text::Token;
-use scl_reader::TextStatement;
+use scl_drafts::TextStatement;
 use sqlite_items::{Items, at};
 use std::alloc::{AllocError, Global};
 

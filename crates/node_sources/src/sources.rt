@@ -11,14 +11,13 @@ use crate::piece::Whole;
 use crate::scl_pieces::scl_pieces;
 use abort_expansion::{ExpandFault, expand};
 use chart_lowering::lower;
+use chart_reader::read_chart;
 use core_charts::CoreChart;
-use resolved_charts::read_chart;
 use sc_graph::Program;
-use sc_text::{Language, ReadFault, tokens};
+use sc_text::{Language, ReadFault, language_of, tokens};
 use scl::Scl;
 use scl_graph::{GraphFault, graph_of};
-use scl_programs::read_scl;
-use source_language::language_of;
+use scl_reader::read_scl;
 use sqlite_items::Items;
 use std::alloc::{AllocError, Global};
 
@@ -110,7 +109,7 @@ pub(crate) fn whole_of(alloc: Global, text: &str) -> Result<Option<Whole>, Alloc
 }
 
 fn whole_of_scl(alloc: Global, text: &str) -> Result<Option<Whole>, AllocError> {
-    let Some(draft) = read(scl_reader::read_draft(alloc, text))? else {
+    let Some(draft) = read(scl_drafts::read_draft(alloc, text))? else {
         return Ok(None);
     };
     let Some(tokens) = read(tokens(alloc, Language::Scl, text))? else {
@@ -124,7 +123,7 @@ fn whole_of_chart(alloc: Global, text: &str) -> Result<Option<Whole>, AllocError
     let Some(core) = core_of(alloc, text)? else {
         return Ok(None);
     };
-    let Some(draft) = read(chart_reader::read_draft(alloc, text))? else {
+    let Some(draft) = read(chart_drafts::read_draft(alloc, text))? else {
         return Ok(None);
     };
     let marks = chart_marks(alloc, draft.regions.as_slice())?;

@@ -4,7 +4,7 @@ use crate::around::{Around, Sort};
 use crate::marks::StateMark;
 use crate::origin::{Origin, Part, Scene};
 use crate::row::{Chosen, Row};
-use chart_reader::DraftTransition;
+use chart_drafts::DraftTransition;
 use std::alloc::{AllocError, Global};
 
 /// A simple state with these transitions, within these superstates.

@@ -2,8 +2,8 @@
 use Rattle.std.proofs.Common.{ℕ, ◌≡◌, ◌<◌, ◌≤◌, ◌+◌, ◌⊎◌, inl, inr, max, Option, Some, None, MatchOption, List, length, get_or, refl, sym, ◌∙◌, subst, arith}
 use Rattle.std.specs.Prelude.{slice_index, ◌↔◌, Contains}
 use Rattle.std.proofs.lemmas.List.{get_or_default}
-use Rattle.least.specs.Least.{IsLeast, IsNeeded}
-use Rattle.least.specs.Walks.{Falls}
+use Rattle.least_or_cycle.specs.Least.{IsLeast, IsNeeded}
+use Rattle.least_or_cycle.specs.Walks.{Falls}
 use Rattle.priority_weights.specs.Inside.Next.{IsAsked}
 
 less_or_not : (a b : ℕ) → (a ≤ b) ⊎ (b ≤ a)

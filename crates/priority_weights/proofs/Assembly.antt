@@ -17,8 +17,8 @@ use Rattle.sc_graph.specs.Costs.{BoundAt, BoundHolds, BudgetHolds, entry_weight}
 use Rattle.sc_graph.specs.Structure.{StepStays}
 use Rattle.sc_graph.specs.Valid.{IsFormed}
 use Rattle.sc_graph.proofs.Nodes.{step_within}
-use Rattle.least.specs.Least.{Keeps, IsLeast, IsWithin}
-use Rattle.least.specs.Walks.{Falls}
+use Rattle.least_or_cycle.specs.Least.{Keeps, IsLeast, IsWithin}
+use Rattle.least_or_cycle.specs.Walks.{Falls}
 use Rattle.priority_weights.specs.Edges.{InOrder}
 use Rattle.priority_weights.specs.LeastTables.{AreLeast}
 use Rattle.priority_weights.specs.Inside.Bounds.{step_cost, AreCovering}
@@ -26,7 +26,7 @@ use Rattle.priority_weights.specs.Inside.Entries.{entry_number}
 use Rattle.priority_weights.specs.Inside.Parts.{AreParts}
 use Rattle.priority_weights.proofs.Bridging.{bits_below, bits_kept, end_bit_is, weights_keep, weights_kept, bound_sum_is, entry_number_is}
 use Rattle.priority_weights.proofs.Bounding.{bounds_more}
-use Rattle.instant_edges.proofs.Instantly.{owner_within}
+use Rattle.program_edges.proofs.Instantly.{owner_within}
 use Rattle.priority_weights.proofs.Rooms.{step_placed, join_owned}
 use Rattle.priority_weights.proofs.Weighing.{number_more}
 

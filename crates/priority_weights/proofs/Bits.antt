@@ -4,7 +4,7 @@ use Rattle.std.specs.Prelude.{slice_index, nat_lt}
 use Rattle.sc_graph.specs.declared.program.Step.{Step}
 use Rattle.sc_graph.specs.declared.program.Step.TheVariants as step
 use Rattle.sc_graph.specs.Program.{Program, step_at, entry_of}
-use Rattle.least.specs.Least.{Keeps, Exceeds, IsNeeded}
+use Rattle.least_or_cycle.specs.Least.{Keeps, Exceeds, IsNeeded}
 use Rattle.priority_weights.specs.Inside.Entries.{bits, entry_bit, entry_bits, step_bit, BitKept}
 
 and_more : (a b c d : Bool) → (a ≡ true → c ≡ true) → (b ≡ true → d ≡ true) → (a && b) ≡ true → (c && d) ≡ true

@@ -14,9 +14,9 @@ use Rattle.sc_graph.specs.Program.{Program, step_at, owner_of, parent_of}
 use Rattle.sc_graph.specs.Size.{StepFits, AreDistinct}
 use Rattle.sc_graph.specs.Valid.{IsFormed}
 use Rattle.sc_graph.proofs.Formed.{parent_is_owner, falls_upwards}
-use Rattle.least.specs.Least.{IsWithin}
+use Rattle.least_or_cycle.specs.Least.{IsWithin}
 use Rattle.priority_weights.specs.Inside.Bounds.{bound_sum, step_cost, IsCovered, AreCovering, AreUnder, IsRaised}
-use Rattle.instant_edges.proofs.Instantly.{owner_within}
+use Rattle.program_edges.proofs.Instantly.{owner_within}
 use Rattle.priority_weights.proofs.Rooms.{step_placed, distinct_none}
 use Rattle.priority_weights.proofs.Sums.{sum_over, total, AllOf, all_of, all_map, apart_of, total_small, same_or_not}
 use Rattle.priority_weights.proofs.Chains.{IsTree, reach, reach_small, parts}

@@ -10,7 +10,7 @@ use Rattle.sc_graph.specs.Program.{Program, entry_of}
 use Rattle.sc_graph.specs.Tables.{weight, end_bit, bound}
 use Rattle.sc_graph.specs.Costs.{entry_end_bit, entries_end, may_end, EndBitAt, entry_weight, entry_weights, needed_weight, WeightAt, child_bounds}
 use Rattle.sc_graph.proofs.Nodes.{step_within}
-use Rattle.least.specs.Least.{Keeps, IsLeast}
+use Rattle.least_or_cycle.specs.Least.{Keeps, IsLeast}
 use Rattle.priority_weights.specs.Inside.Entries.{bits, entry_bit, entry_bits, step_bit, BitKept, entry_number, entry_sum, join_weight, step_weight, WeightKept}
 use Rattle.priority_weights.specs.Inside.Bounds.{bound_sum}
 use Rattle.priority_weights.proofs.Bits.{step_more}

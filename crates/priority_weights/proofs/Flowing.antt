@@ -5,8 +5,8 @@ use Rattle.sc_graph.specs.declared.program.Step.{Step}
 use Rattle.sc_graph.specs.declared.program.Step.TheVariants as step
 use Rattle.sc_graph.specs.Program.{Program, step_at}
 use Rattle.sc_graph.specs.Protocol.{successors}
-use Rattle.least.specs.Least.{IsNeeded}
-use Rattle.least.specs.Walks.{Falls, LeadsTo, LeadsStrictlyTo}
+use Rattle.least_or_cycle.specs.Least.{IsNeeded}
+use Rattle.least_or_cycle.specs.Walks.{Falls, LeadsTo, LeadsStrictlyTo}
 use Rattle.priority_weights.specs.Inside.Entries.{bits, entry_bits}
 use Rattle.priority_weights.specs.Inside.Next.{IsAsked, IsRanked, FlowBy, FlowLeads, successor, over, join_at_once}
 use Rattle.priority_weights.proofs.Asking.{falls_needed, answer_turned}

@@ -5,8 +5,8 @@ use Rattle.sc_graph.specs.Program.{Program}
 use Rattle.sc_graph.specs.Protocol.{Instant, ProtocolEdge}
 use Rattle.conflict_edges.specs.declared.edges.Followers.{Followers}
 use Rattle.conflict_edges.specs.Conflicts.{AreFollowers}
-use Rattle.least.specs.Least.{IsNeeded}
-use Rattle.least.specs.Walks.{Falls, LeadsTo, LeadsStrictlyTo}
+use Rattle.least_or_cycle.specs.Least.{IsNeeded}
+use Rattle.least_or_cycle.specs.Walks.{Falls, LeadsTo, LeadsStrictlyTo}
 use Rattle.priority_weights.specs.Edges.{InOrder}
 use Rattle.priority_weights.specs.Inside.Ordered.{IsFollower}
 use Rattle.priority_weights.specs.Inside.Next.{IsAsked, IsRanked}

@@ -11,11 +11,11 @@ use Rattle.sc_graph.specs.Size.{StepFits, AreDistinct}
 use Rattle.sc_graph.specs.Structure.{StepStays, ForksChild}
 use Rattle.sc_graph.specs.Valid.{IsFormed}
 use Rattle.sc_graph.proofs.Formed.{node_at, owner_at, parent_is_owner, forked_once, falls_upwards}
-use Rattle.least.specs.Least.{Exceeds}
-use Rattle.least.specs.Walks.{HasRanks}
+use Rattle.least_or_cycle.specs.Least.{Exceeds}
+use Rattle.least_or_cycle.specs.Walks.{HasRanks}
 use Rattle.priority_weights.specs.Inside.Entries.{bits, entry_bits, entry_number, entry_sum, join_weight, step_weight, WeightKept}
 use Rattle.priority_weights.specs.Inside.Next.{FlowBy, FlowLeads, successor, over}
-use Rattle.instant_edges.proofs.Instantly.{owner_within, fork_owned}
+use Rattle.program_edges.proofs.Instantly.{owner_within, fork_owned}
 use Rattle.priority_weights.proofs.Sums.{sum_over, total, AllOf, all_of, apart_of, total_small}
 use Rattle.priority_weights.proofs.Chains.{IsTree, reach, reach_small, parts}
 

@@ -6,9 +6,9 @@ use Rattle.sc_graph.specs.declared.tables.Tables.{Tables}
 use Rattle.sc_graph.specs.Program.{Program}
 use Rattle.sc_graph.specs.Tables.{end_bit}
 use Rattle.sc_graph.proofs.Nodes.{step_within}
-use Rattle.least.specs.Least.{IsLeast}
-use Rattle.least.specs.Walks.{Walk, Closes, Falls}
-use Rattle.least.proofs.Closing.{no_cycle}
+use Rattle.least_or_cycle.specs.Least.{IsLeast}
+use Rattle.least_or_cycle.specs.Walks.{Walk, Closes, Falls}
+use Rattle.least_or_cycle.proofs.Closing.{no_cycle}
 use Rattle.priority_weights.specs.declared.falling.Falling.{Falling}
 use Rattle.priority_weights.specs.declared.falling.Falling.TheVariants as falling
 use Rattle.priority_weights.specs.Edges.{MayAllEnd, FlowEdge, to_successor, over_fork, InTick, InOrder, IsInstantLoop, IsOrderCycle}

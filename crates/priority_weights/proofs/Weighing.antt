@@ -4,7 +4,7 @@ use Rattle.std.specs.Prelude.{slice_index, if◌then◌else◌}
 use Rattle.sc_graph.specs.declared.program.Step.{Step}
 use Rattle.sc_graph.specs.declared.program.Step.TheVariants as step
 use Rattle.sc_graph.specs.Program.{Program, step_at, entry_of}
-use Rattle.least.specs.Least.{IsNeeded}
+use Rattle.least_or_cycle.specs.Least.{IsNeeded}
 use Rattle.priority_weights.specs.Inside.Entries.{entry_bits, entry_number, entry_sum, step_weight, WeightKept}
 use Rattle.priority_weights.proofs.Bits.{entries_more}
 

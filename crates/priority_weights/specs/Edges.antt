@@ -7,7 +7,7 @@ use Rattle.sc_graph.specs.declared.place.Place.{Place}
 use Rattle.sc_graph.specs.Program.{Program, step_at}
 use Rattle.sc_graph.specs.Protocol.{Instant, ProtocolEdge, successors}
 use Rattle.sc_graph.specs.Costs.{EndBitAt, entries_end}
-use Rattle.least.specs.Walks.{IsCycle}
+use Rattle.least_or_cycle.specs.Walks.{IsCycle}
 
 -- all these threads may end in the tick in which they are forked: all tables that keep the end-bit rule say so
 pub record MayAllEnd (p : Program) (children : List ℕ) : Type 0 where

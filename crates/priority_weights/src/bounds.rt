@@ -1,7 +1,7 @@
 //! Bounds: how many steps a thread, and what stands below it, may take in a tick that it does not begin.
 
 ghost use Rattle.std.specs.Prelude.{◌≡◌, ◌≤◌, ◌<◌, ◌*◌, IfOk, ℕ, length, slice_index};
-ghost use Rattle.least.specs.Least.{IsWithin};
+ghost use Rattle.least_or_cycle.specs.Least.{IsWithin};
 ghost use Rattle.sc_graph.specs.Limits.{child_limit};
 ghost use Rattle.sc_graph.specs.Size.{StepFits};
 ghost use Rattle.sc_graph.specs.Valid.{IsFormed};

@@ -1,11 +1,11 @@
 //! End bits: from which nodes a thread may end in the tick.
 
 ghost use Rattle.std.specs.Prelude.{◌≡◌, IfOk, nat_lt, length, slice_index};
-ghost use Rattle.least.specs.Least.{IsLeast};
+ghost use Rattle.least_or_cycle.specs.Least.{IsLeast};
 ghost use Rattle.sc_graph.specs.Program.{entry_of};
 ghost use Rattle.priority_weights.specs.Inside.Entries.{BitKept, bits, entry_bit, entry_bits, step_bit};
 
-use least::{Rule, least};
+use least_or_cycle::{Rule, least};
 use sc_graph::{NodeId, Program, Step, ThreadId};
 use std::alloc::{AllocError, Global};
 
@@ -41,8 +41,8 @@ impl<'a> Rule for BitRule<'a> {
     }
 }
 
-// Whether a thread at such a step may end in this tick.
-fn step_bit(program: &Program, table: &[u32], step: &Step) -> bool
+/// Whether a thread at such a step may end in this tick.
+pub(crate) fn step_bit(program: &Program, table: &[u32], step: &Step) -> bool
     ensures { result ≡ step_bit program.now (bits (slice_index table.now)) step.now }
 {
     match step {

@@ -1,11 +1,11 @@
 //! The least table that falls along edges, or a cycle along them.
 
 ghost use Rattle.std.specs.Prelude.{◌↔◌, ℕ, IfOk, slice_index};
-ghost use Rattle.least.specs.Least.{IsLeast, IsWithin};
-ghost use Rattle.least.specs.Walks.{Falls, IsCycle};
+ghost use Rattle.least_or_cycle.specs.Least.{IsLeast, IsWithin};
+ghost use Rattle.least_or_cycle.specs.Walks.{Falls, IsCycle};
 ghost use Rattle.priority_weights.specs.Inside.Falling.{IsFalling};
 
-use least::{Graph, Rule, cycle, least};
+use least_or_cycle::{Graph, Rule, cycle, cycle_along, least};
 use sc_graph::NodeId;
 use std::alloc::{AllocError, Global};
 
@@ -25,7 +25,8 @@ pub(crate) struct Hints<'a> {
 }
 
 /// The least table, of as many numbers as there are nodes, that falls along the edges of a graph; or a cycle
-/// along them. Err: memory was refused.
+/// along them. The suspects are asked first: where they lie on a cycle, numbers would rise to the top before
+/// they told so. Err: memory was refused.
 pub(crate) fn table_or_cycle<G: Graph + Rule>(
     alloc: Global,
     graph: &G,
@@ -35,6 +36,10 @@ pub(crate) fn table_or_cycle<G: Graph + Rule>(
     requires { (q : ℕ → ℕ) (m : ℕ) → G.Rule.keeps graph.now q m ↔ Falls (G.Graph.leads graph.now) q m }
     ensures { IfOk result (IsFalling (G.Graph.leads graph.now) count) }
 {
+    match cycle_along(alloc, graph, count, hints.suspects, hints.order)? {
+        Some(walk) => return Ok(Falling::Cycle(walk)),
+        None => {}
+    }
     match least(alloc, graph, count, u32::from(count), hints.order)? {
         Some(table) => Ok(Falling::Table(table)),
         None => match cycle(alloc, graph, count, hints.suspects, hints.order)? {

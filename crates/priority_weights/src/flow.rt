@@ -3,18 +3,18 @@
 ghost use Rattle.std.specs.Prelude.{◌≡◌, ◌↔◌, IfOk, ℕ, length, slice_index};
 ghost use Rattle.std.proofs.Common.{rules};
 ghost use Rattle.priority_weights.specs.Inside.Entries.{BitKept, bits};
-ghost use Rattle.least.specs.Least.{IsLeast};
-ghost use Rattle.least.specs.Walks.{Falls};
+ghost use Rattle.least_or_cycle.specs.Least.{IsLeast};
+ghost use Rattle.least_or_cycle.specs.Walks.{Falls};
 ghost use Rattle.priority_weights.specs.Edges.{InTick};
 ghost use Rattle.priority_weights.specs.Inside.Falling.{IsFalling};
-ghost use Rattle.instant_edges.specs.Sorts.{IsNext};
+ghost use Rattle.program_edges.specs.Sorts.{IsNext};
 ghost use Rattle.priority_weights.specs.Inside.Next.{FlowBy, FlowLeads, join_at_once};
 
 use crate::ends::entry_bits;
 use crate::falling::{Falling, Hints, table_or_cycle};
 use crate::next::{asked_by_next, ranked_next};
-use instant_edges::{NextNodes, successors};
-use least::{Graph, Rule};
+use least_or_cycle::{Graph, Rule};
+use program_edges::{NextNodes, successors};
 use sc_graph::{NodeId, Program, Step};
 use std::alloc::{AllocError, Global};
 
@@ -36,17 +36,17 @@ pub(crate) fn flow_ranks(
     table_or_cycle(alloc, &Flow { program, ends }, program.node_count(), hints)
 }
 
-// The edges to where a thread goes on in the same tick, and over each fork whose children may all end at once,
-// by end bits. Each has weight 1.
+/// The edges to where a thread goes on in the same tick, and over each fork whose children may all end at once,
+/// by end bits. Each has weight 1.
 #[derive(Clone, Copy)]
-struct Flow<'a> {
-    program: &'a Program,
-    ends: &'a [u32],
+pub(crate) struct Flow<'a> {
+    pub(crate) program: &'a Program,
+    pub(crate) ends: &'a [u32],
 }
 
 impl<'a> Flow<'a> {
-    // Where the edges from a node lead.
-    fn next(&self, node: NodeId) -> NextNodes
+    /// Where the edges from a node lead.
+    pub(crate) fn next(&self, node: NodeId) -> NextNodes
         ensures { (n : ℕ) → IsNext result n ↔ FlowBy self.now.program.now (slice_index self.now.ends.now) node n }
     {
         match self.program.step(node) {

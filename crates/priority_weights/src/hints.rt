@@ -1,292 +1,258 @@
-//! Hints for the searches, for speed alone: nothing is said of them. Nodes are visited in depth along all edges, and
-//! numbered by their strongly connected components, which come in an order in which what edges lead to stands first.
+//! Hints for the searches, for speed alone: nothing is said of them. Each search has an order of its own, in which the
+//! table that it makes is right after one pass, or a suspect and the way on which it comes back to itself.
 
+use crate::arcs::{Arcs, number_at};
+use crate::ends::step_bit;
 use crate::falling::Hints;
+use crate::flow::Flow;
+use crate::groups::{add_next, add_to, order_arcs};
 use crate::next::entry;
+use crate::visit::Visited;
+use crate::ways::{settling_order, way_to};
 use conflict_edges::Edges;
-use instant_edges::next_nodes;
-use sc_graph::{Links, NodeId, Program, Step};
+use program_edges::{children_of, successors};
+use sc_graph::{NodeId, Program, Step};
 use std::alloc::{AllocError, Global};
 
-/// An order of the nodes, and nodes that are likely to lie on a cycle.
+/// An order of the nodes, and nodes that are likely to lie on a cycle: one at most, and then the order is the way on
+/// which it comes back to itself, the last node first.
 #[derive(Drop)]
 pub(crate) struct Search {
     order: Vec<NodeId>,
-    loops: Vec<NodeId>,
-    cycles: Vec<NodeId>,
+    suspects: Vec<NodeId>,
 }
 
 impl Search {
-    /// Of a program. Err: memory was refused.
-    pub(crate) fn of(
+    /// For the search for a flow that closes, and for weights: flow within one tick, by end bits, and from each fork
+    /// to where its children begin. Err: memory was refused.
+    pub(crate) fn of_flow(
+        alloc: Global,
+        program: &Program,
+        ends: &[u32],
+    ) -> Result<Search, AllocError> {
+        let count = program.node_count();
+        let flow = Flow { program, ends };
+        let mut arcs = Arcs::none(alloc, u32::from(count))?;
+        for node in 0..count {
+            add_next(&mut arcs, node, flow.next(node))?;
+            add_entries(program, &mut arcs, node)?;
+        }
+        let visited = Visited::of(alloc, &arcs)?;
+        match find_joined(&arcs, &visited, count, 0) {
+            Some(suspect) => Search::back_to(alloc, &arcs, &visited, count, suspect),
+            None => Search::along(alloc, visited.left.as_slice(), count),
+        }
+    }
+
+    /// For the search for a cycle with a protocol edge, and for priorities. Err: memory was refused.
+    pub(crate) fn of_order(
         alloc: Global,
         program: &Program,
         edges: &Edges,
     ) -> Result<Search, AllocError> {
-        let links = Links::of(alloc, program)?;
-        let mut visit = Visit::none(alloc, program.node_count())?;
-        for node in 0..program.node_count() {
-            if entry(visit.found.as_slice(), node) == 0 {
-                visit.enter(node)?;
-                visit.run(program, &links, edges)?;
+        let count = program.node_count();
+        let arcs = order_arcs(alloc, program, edges)?;
+        let visited = Visited::of(alloc, &arcs)?;
+        match find_joined(&arcs, &visited, count, u32::from(count)) {
+            Some(suspect) => Search::back_to(alloc, &arcs, &visited, count, suspect),
+            None => {
+                let order = settling_order(alloc, &arcs, &visited)?;
+                Search::along(alloc, order.as_slice(), count)
             }
         }
-        let Visit {
-            component,
-            order,
-            ..
-        } = visit;
-        let mut loops = Vec::new(alloc);
-        let mut cycles = Vec::new(alloc);
-        for node in 0..program.node_count() {
-            if goes_round(program, &links, component.as_slice(), node) {
-                loops.push(node)?;
-            }
-            if is_followed(edges, component.as_slice(), node) {
-                cycles.push(node)?;
-            }
-        }
+    }
+
+    // An order, and no suspect.
+    fn along(alloc: Global, order: &[u32], count: u16) -> Result<Search, AllocError> {
         Ok(Search {
-            order,
-            loops,
-            cycles,
+            order: of_program(alloc, order, count)?,
+            suspects: Vec::new(alloc),
         })
+    }
+
+    // A suspect, and the way on which it comes back to itself.
+    fn back_to(
+        alloc: Global,
+        arcs: &Arcs,
+        visited: &Visited,
+        count: u16,
+        suspect: Suspect,
+    ) -> Result<Search, AllocError> {
+        let way = way_to(alloc, arcs, visited, suspect.next, u32::from(suspect.node))?;
+        let mut suspects = Vec::new(alloc);
+        suspects.push(suspect.node)?;
+        Ok(Search {
+            order: of_program(alloc, way.as_slice(), count)?,
+            suspects,
+        })
+    }
+
+    /// The order and the suspects.
+    pub(crate) fn hints(&self) -> Hints<'_> {
+        Hints {
+            order: self.order.as_slice(),
+            suspects: self.suspects.as_slice(),
+        }
     }
 
     /// The order alone.
     pub(crate) fn order(&self) -> &[NodeId] {
         self.order.as_slice()
     }
-
-    /// For the search for an instant loop.
-    pub(crate) fn loop_hints(&self) -> Hints<'_> {
-        Hints {
-            order: self.order.as_slice(),
-            suspects: self.loops.as_slice(),
-        }
-    }
-
-    /// For the search for a cycle with a protocol edge.
-    pub(crate) fn order_hints(&self) -> Hints<'_> {
-        Hints {
-            order: self.order.as_slice(),
-            suspects: self.cycles.as_slice(),
-        }
-    }
 }
 
-// A visit in depth. Each list but the last three has a number for each node, 0 where there is none yet: when it was
-// found, the least such number that is known to be in its component, its component, and how many edges were followed.
-#[derive(Drop)]
-struct Visit {
-    found: Vec<u32>,
-    low: Vec<u32>,
-    component: Vec<u32>,
-    cursor: Vec<u32>,
-    path: Vec<NodeId>,
-    open: Vec<NodeId>,
-    order: Vec<NodeId>,
-    time: u32,
-}
-
-impl Visit {
-    fn none(alloc: Global, count: u16) -> Result<Visit, AllocError> {
-        Ok(Visit {
-            found: vec![in alloc; 0; count as usize]?,
-            low: vec![in alloc; 0; count as usize]?,
-            component: vec![in alloc; 0; count as usize]?,
-            cursor: vec![in alloc; 0; count as usize]?,
-            path: Vec::new(alloc),
-            open: Vec::new(alloc),
-            order: Vec::new(alloc),
-            time: 0,
-        })
+/// The nodes from which a thread may end in the tick, each behind those by which it does. Err: memory was refused.
+pub(crate) fn end_order(alloc: Global, program: &Program) -> Result<Vec<NodeId>, AllocError> {
+    let count = program.node_count();
+    let mut behind = Arcs::none(alloc, u32::from(count))?;
+    for node in 0..count {
+        add_behind(program, &mut behind, node)?;
     }
-
-    // Visits a node for the first time.
-    fn enter(&mut self, node: NodeId) -> Result<(), AllocError> {
-        self.time = self.time.saturating_add(1);
-        put(self.found.as_mut_slice(), node, self.time);
-        put(self.low.as_mut_slice(), node, self.time);
-        self.path.push(node)?;
-        self.open.push(node)?;
-        Ok(())
+    let mut bits = vec![in alloc; 0; count as usize]?;
+    let mut order = Vec::new(alloc);
+    for node in 0..count {
+        give_bit(program, &mut bits, &mut order, node)?;
     }
-
-    // Goes on until the path is left.
-    fn run(&mut self, program: &Program, links: &Links, edges: &Edges) -> Result<(), AllocError> {
-        for _ in 0..u64::MAX {
-            let node = match self.path.last() {
-                Some(last) => *last,
-                None => return Ok(()),
-            };
-            let at = entry(self.cursor.as_slice(), node);
-            put(self.cursor.as_mut_slice(), node, at.saturating_add(1));
-            match candidate_at(program, links, edges, node, at) {
-                Candidate::Node(next, is_sure) => self.meet(edges, node, next, is_sure)?,
-                Candidate::Nothing => {}
-                Candidate::End => self.leave(node)?,
+    let mut at: usize = 0;
+    for _ in 0..count {
+        match order.get(at) {
+            Some(next) => {
+                let node = *next;
+                give_bits(program, &behind, &mut bits, &mut order, node)?;
             }
+            None => return Ok(order),
         }
-        Ok(())
+        at = at.saturating_add(1);
     }
+    Ok(order)
+}
 
-    // Follows an edge, or what is one where the two nodes are concurrent.
-    fn meet(
-        &mut self,
-        edges: &Edges,
-        node: NodeId,
-        next: NodeId,
-        is_sure: bool,
-    ) -> Result<(), AllocError> {
-        if entry(self.component.as_slice(), next) != 0 {
-            return Ok(());
-        }
-        if !is_sure && !edges.are_concurrent(node, next) {
-            return Ok(());
-        }
-        let found = entry(self.found.as_slice(), next);
-        if found == 0 {
-            self.enter(next)
-        } else {
-            self.lower(node, found);
+// Gives a node its end bit, if it has none and its step says that it has one.
+fn give_bit(
+    program: &Program,
+    bits: &mut Vec<u32>,
+    order: &mut Vec<NodeId>,
+    node: NodeId,
+) -> Result<(), AllocError> {
+    match program.step(node) {
+        Some(step)
+            if entry(bits.as_slice(), node) == 0 && step_bit(program, bits.as_slice(), step) => {
+            crate::arcs::put(bits.as_mut_slice(), u32::from(node), 1);
+            order.push(node)?;
             Ok(())
         }
+        _ => Ok(()),
     }
+}
 
-    fn lower(&mut self, node: NodeId, low: u32) {
-        let least = entry(self.low.as_slice(), node).min(low);
-        put(self.low.as_mut_slice(), node, least);
-    }
-
-    // Leaves a node all of whose edges were followed, and closes its component, where it was found first of it.
-    fn leave(&mut self, node: NodeId) -> Result<(), AllocError> {
-        let _last = self.path.pop();
-        let low = entry(self.low.as_slice(), node);
-        if low == entry(self.found.as_slice(), node) {
-            return self.close(node, low);
-        }
-        match self.path.last() {
-            Some(before) => {
-                let before = *before;
-                self.lower(before, low);
+// Gives their end bits to nodes behind which a node stands.
+fn give_bits(
+    program: &Program,
+    behind: &Arcs,
+    bits: &mut Vec<u32>,
+    order: &mut Vec<NodeId>,
+    node: NodeId,
+) -> Result<(), AllocError> {
+    let mut number = behind.first(u32::from(node));
+    for _ in 0..behind.count() {
+        match behind.arc(number) {
+            Some(arc) => {
+                if arc.to < u32::from(program.node_count()) {
+                    give_bit(program, bits, order, arc.to as NodeId)?;
+                }
+                number = arc.next;
             }
+            None => return Ok(()),
+        }
+    }
+    Ok(())
+}
+
+// Adds arcs to a node from those on which its end bit depends.
+fn add_behind(program: &Program, arcs: &mut Arcs, node: NodeId) -> Result<(), AllocError> {
+    match program.step(node) {
+        Some(step) => {
+            let next = successors(step);
+            add_from(arcs, next.first, node)?;
+            add_from(arcs, next.second, node)?;
+            for child in children_of(step) {
+                add_from(arcs, program.entry(*child), node)?;
+            }
+            add_from(arcs, join_of(step), node)
+        }
+        None => Ok(()),
+    }
+}
+
+fn add_from(arcs: &mut Arcs, from: Option<NodeId>, node: NodeId) -> Result<(), AllocError> {
+    match from {
+        Some(other) => arcs.add(u32::from(other), u32::from(node)),
+        None => Ok(()),
+    }
+}
+
+fn join_of(step: &Step) -> Option<NodeId> {
+    match step {
+        Step::Fork { join, .. } => Some(*join),
+        _ => None,
+    }
+}
+
+// Adds arcs from a node to where the children begin that it forks.
+fn add_entries(program: &Program, arcs: &mut Arcs, node: NodeId) -> Result<(), AllocError> {
+    match program.step(node) {
+        Some(step) => {
+            for child in children_of(step) {
+                add_to(arcs, node, program.entry(*child))?;
+            }
+            Ok(())
+        }
+        None => Ok(()),
+    }
+}
+
+// A node that lies on a cycle, and where the edge of weight 1 leads.
+#[derive(Clone, Copy)]
+struct Suspect {
+    node: NodeId,
+    next: u32,
+}
+
+// The first node of a program from which an arc leads within its component to a node from a number on.
+fn find_joined(arcs: &Arcs, visited: &Visited, count: u16, from: u32) -> Option<Suspect> {
+    for node in 0..count {
+        match joined(arcs, visited, u32::from(node), from) {
+            Some(next) => return Some(Suspect { node, next }),
             None => {}
         }
-        Ok(())
     }
+    None
+}
 
-    // Closes the component of which a node was found first.
-    fn close(&mut self, first: NodeId, number: u32) -> Result<(), AllocError> {
-        for _ in 0..u64::MAX {
-            let node = match self.open.pop() {
-                Some(last) => last,
-                None => return Ok(()),
-            };
-            put(self.component.as_mut_slice(), node, number);
-            self.order.push(node)?;
-            if node == first {
-                return Ok(());
+// A node from a number on to which an arc leads from a node within its component.
+fn joined(arcs: &Arcs, visited: &Visited, node: u32, from: u32) -> Option<u32> {
+    let mut number = arcs.first(node);
+    for _ in 0..arcs.count() {
+        match arcs.arc(number) {
+            Some(arc) => {
+                if from <= arc.to && visited.are_joined(node, arc.to) {
+                    return Some(arc.to);
+                }
+                number = arc.next;
             }
-        }
-        Ok(())
-    }
-}
-
-// What may follow a node.
-#[derive(Clone, Copy)]
-enum Candidate {
-    // A node to which an edge leads: surely, or where the two are concurrent.
-    Node(NodeId, bool),
-    Nothing,
-    End,
-}
-
-// What may follow a node, by its place among all such.
-fn candidate_at(
-    program: &Program,
-    links: &Links,
-    edges: &Edges,
-    node: NodeId,
-    at: u32,
-) -> Candidate {
-    let step = match program.step(node) {
-        Some(step) => step,
-        None => return Candidate::End,
-    };
-    let next = next_nodes(program, links, node, step);
-    if at == 0 {
-        return sure(next.first);
-    }
-    if at == 1 {
-        return sure(next.second);
-    }
-    let mut left = (at - 2) as usize;
-    if let Step::Fork { children, .. } = step {
-        match children.as_slice().get(left) {
-            Some(child) => return sure(program.entry(*child)),
-            None => left = left.saturating_sub(children.len()),
+            None => return None,
         }
     }
-    let followers = edges.followers(node);
-    match followers.updates.get(left) {
-        Some(follower) => return Candidate::Node(*follower, false),
-        None => left = left.saturating_sub(followers.updates.len()),
-    }
-    match followers.reads.get(left) {
-        Some(follower) => Candidate::Node(*follower, false),
-        None => Candidate::End,
-    }
+    None
 }
 
-fn sure(node: Option<NodeId>) -> Candidate {
-    match node {
-        Some(node) => Candidate::Node(node, true),
-        None => Candidate::Nothing,
-    }
-}
-
-// Whether a thread may go on from a node within its component.
-fn goes_round(program: &Program, links: &Links, component: &[u32], node: NodeId) -> bool {
-    match program.step(node) {
-        Some(Step::Fork { join, .. }) => entry(component, *join) == entry(component, node),
-        Some(step) => {
-            let next = next_nodes(program, links, node, step);
-            is_within(component, next.first, node) || is_within(component, next.second, node)
-        }
-        None => false,
-    }
-}
-
-fn is_within(component: &[u32], other: Option<NodeId>, node: NodeId) -> bool {
-    match other {
-        Some(other) => entry(component, other) == entry(component, node),
-        None => false,
-    }
-}
-
-// Whether a protocol edge leads from a node to another of its component.
-fn is_followed(edges: &Edges, component: &[u32], node: NodeId) -> bool {
-    let followers = edges.followers(node);
-    is_followed_by(edges, component, node, followers.updates)
-        || is_followed_by(edges, component, node, followers.reads)
-}
-
-fn is_followed_by(edges: &Edges, component: &[u32], node: NodeId, followers: &[NodeId]) -> bool {
-    for follower in followers {
-        if entry(component, *follower) == entry(component, node)
-            && edges.are_concurrent(node, *follower)
-        {
-            return true;
+// Those of these nodes that are of the program.
+fn of_program(alloc: Global, nodes: &[u32], count: u16) -> Result<Vec<NodeId>, AllocError> {
+    let mut kept = Vec::with_capacity(alloc, nodes.len())?;
+    for node in nodes {
+        if *node < u32::from(count) {
+            kept.push(*node as NodeId)?;
         }
     }
-    false
-}
-
-// Writes a number, where there is a place for it.
-fn put(list: &mut [u32], node: NodeId, number: u32) {
-    let at = node as usize;
-    if at < list.len() {
-        list[at] = number;
-    }
+    Ok(kept)
 }

@@ -1,14 +1,14 @@
 //! What instantaneous edges ask of the node before, and which of the nodes to which they lead has a rank.
 
 ghost use Rattle.std.specs.Prelude.{◌≡◌, ℕ, MatchOption};
-ghost use Rattle.instant_edges.specs.Sorts.{IsEntry};
+ghost use Rattle.program_edges.specs.Sorts.{IsEntry};
 ghost use Rattle.sc_graph.specs.Links.{Tells};
 ghost use Rattle.sc_graph.specs.Protocol.{Instant};
 ghost use Rattle.sc_graph.specs.Valid.{IsFormed};
 ghost use Rattle.priority_weights.specs.Inside.Next.{IsAsked, IsRanked};
 
 use crate::next::{asked_by, asked_by_next, is_ranked};
-use instant_edges::{Wanted, children_of, find_instant, next_nodes};
+use program_edges::{Wanted, children_of, find_instant, next_nodes};
 use sc_graph::{Links, NodeId, Program, ThreadId};
 
 /// What the instantaneous edges from a node ask for.

@@ -1,3 +1,5 @@
+//! The law of least tables.
+
 ghost use Rattle.std.specs.Prelude.{◌≤◌};
 ghost use Rattle.conflict_edges.specs.Conflicts.{HasNoConflict};
 ghost use Rattle.sc_graph.specs.Codes.{AssignmentAt, CodeAt};

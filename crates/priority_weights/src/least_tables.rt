@@ -12,7 +12,7 @@ use crate::ends::end_bits;
 use crate::falling::Falling;
 use crate::fault::TablesFault;
 use crate::flow::flow_ranks;
-use crate::hints::Search;
+use crate::hints::{Search, end_order};
 use crate::order::priorities;
 use crate::weights::weights;
 use conflict_edges::Edges;
@@ -33,17 +33,19 @@ pub fn tables(alloc: Global, program: &Program, edges: &Edges) -> Result<Tables,
     ensures cyclic { (walk : _) → result ≡ Err (Cyclic walk) → IsOrderCycle program.now walk }
     ensures no_loop { (walk other : _) → result ≡ Err (Cyclic walk) → ¬ IsInstantLoop program.now other }
 {
-    let search = Search::of(alloc, program, edges)?;
-    let ends = end_bits(alloc, program, search.order())?;
-    match flow_ranks(alloc, program, ends.as_slice(), search.loop_hints())? {
+    let ending = end_order(alloc, program)?;
+    let ends = end_bits(alloc, program, ending.as_slice())?;
+    let flowing = Search::of_flow(alloc, program, ends.as_slice())?;
+    match flow_ranks(alloc, program, ends.as_slice(), flowing.hints())? {
         Falling::Cycle(walk) => return Err(TablesFault::InstantLoop(Items::from_vec(walk))),
         Falling::Table(_ranks) => {}
     }
-    let priorities = match priorities(alloc, program, edges, search.order_hints())? {
+    let ordered = Search::of_order(alloc, program, edges)?;
+    let priorities = match priorities(alloc, program, edges, ordered.hints())? {
         Falling::Cycle(walk) => return Err(TablesFault::Cyclic(Items::from_vec(walk))),
         Falling::Table(priorities) => priorities,
     };
-    let weights = weights(alloc, program, ends.as_slice(), search.order())?;
+    let weights = weights(alloc, program, ends.as_slice(), flowing.order())?;
     let bounds = bounds(alloc, program, weights.as_slice())?;
     Ok(assembled(
         alloc,

@@ -1,12 +1,14 @@
 //! The least tables of a program, or a closed walk that shows why it has none.
 #![tactic(auto)]
 
+mod arcs;
 mod assembling;
 mod bounds;
 mod ends;
 mod falling;
 mod fault;
 mod flow;
+mod groups;
 mod hints;
 mod instants;
 mod laws;
@@ -14,6 +16,8 @@ mod least_tables;
 mod next;
 mod order;
 mod protocol;
+mod visit;
+mod ways;
 mod weights;
 
 pub use fault::TablesFault;

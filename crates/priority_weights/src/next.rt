@@ -1,10 +1,10 @@
 //! The nodes to which edges lead: what they ask of the node before, and which of them has a rank.
 
 ghost use Rattle.std.specs.Prelude.{◌≡◌, ◌≤◌, ◌↔◌, ℕ, IsTrue, Some, MatchOption, slice_index};
-ghost use Rattle.instant_edges.specs.Sorts.{IsNext};
+ghost use Rattle.program_edges.specs.Sorts.{IsNext};
 ghost use Rattle.priority_weights.specs.Inside.Next.{IsAsked, IsRanked};
 
-use instant_edges::NextNodes;
+use program_edges::NextNodes;
 use sc_graph::NodeId;
 
 /// What edges of a weight to these nodes ask for.

@@ -2,7 +2,7 @@
 
 ghost use Rattle.std.specs.Prelude.{◌≡◌, IfOk, length};
 ghost use Rattle.std.proofs.Common.{arith, inl, inr};
-ghost use Rattle.least.specs.Walks.{Falls};
+ghost use Rattle.least_or_cycle.specs.Walks.{Falls};
 ghost use Rattle.sc_graph.specs.Valid.{IsFormed};
 ghost use Rattle.priority_weights.specs.Edges.{InOrder};
 ghost use Rattle.priority_weights.specs.Inside.Falling.{IsFalling};
@@ -11,7 +11,7 @@ use crate::falling::{Falling, Hints, table_or_cycle};
 use crate::instants::{asked_by_instants, ranked_instant};
 use crate::protocol::{asked_by_protocol, ranked_behind};
 use conflict_edges::Edges;
-use least::{Graph, Rule};
+use least_or_cycle::{Graph, Rule};
 use sc_graph::{Links, NodeId, Program};
 use std::alloc::{AllocError, Global};
 use std::marker::Model;

@@ -1,8 +1,8 @@
 //! Weights: how many steps a thread at a node, and what it forks, may still take in the tick.
 
 ghost use Rattle.std.specs.Prelude.{◌≡◌, ◌≤◌, ◌*◌, IfOk, length, slice_index};
-ghost use Rattle.least.specs.Least.{IsLeast, IsWithin};
-ghost use Rattle.least.specs.Walks.{HasRanks};
+ghost use Rattle.least_or_cycle.specs.Least.{IsLeast, IsWithin};
+ghost use Rattle.least_or_cycle.specs.Walks.{HasRanks};
 ghost use Rattle.sc_graph.specs.Limits.{child_limit};
 ghost use Rattle.sc_graph.specs.Program.{entry_of};
 ghost use Rattle.sc_graph.specs.Size.{StepFits};
@@ -13,7 +13,7 @@ ghost use Rattle.priority_weights.specs.Inside.Next.{FlowLeads};
 
 use crate::ends::entry_bits;
 use crate::next::entry;
-use least::{Rule, least};
+use least_or_cycle::{Rule, least};
 use sc_graph::{NodeId, Program, Step, ThreadId};
 use std::alloc::{AllocError, Global};
 use std::marker::Model;

@@ -1,3 +1,5 @@
+//! The two copies of what is shown, and the seats of those who look.
+
 ghost use Rattle.std.specs.Prelude.{◌≡◌, Some, [], ◌∷◌, ◌++◌, if◌then◌else◌, drop, IfOk, IfSome, MatchResult};
 ghost use Rattle.left_right.specs.Sides.{view};
 ghost use Rattle.probe.specs.Progress.{Extends};

@@ -1,3 +1,5 @@
+//! The history of published ticks.
+
 ghost use Rattle.std.specs.Prelude.{◌≡◌, ◌+◌, ◌-◌, ◌^◌, ◌<◌, ◌++◌, ◌∷◌, [], MatchBool, IsTrue, length, min};
 ghost use mathlib.Core.List.{IsPrefix};
 ghost use Rattle.probe.specs.Progress.{count_of};

@@ -1,3 +1,5 @@
+//! Notes: what was published so far.
+
 ghost use Rattle.std.specs.Prelude.{◌≡◌, ◌++◌, ◌∷◌, [], Some};
 ghost use Rattle.probe.specs.Progress.{Extends, count_of, last_of};
 

@@ -1,3 +1,5 @@
+//! Observers of a publisher's ticks.
+
 ghost use Rattle.std.specs.Prelude.{◌≡◌, Some};
 ghost use Rattle.probe.specs.Progress.{Extends, count_of, last_of};
 ghost use Rattle.probe.specs.Inside.Copies.{Sits};

@@ -1,3 +1,5 @@
+//! The publisher of the ticks of a machine.
+
 ghost use Rattle.std.specs.Prelude.{◌≡◌, ◌++◌, ◌∷◌, [], Some, None, IfOk, IfSome, MatchResult};
 ghost use Rattle.sc_graph.specs.Tick.{initial};
 ghost use Rattle.probe.specs.Outputs.{Outputs, IsRowOf};

@@ -1,2 +1,2 @@
-pub mod Giving
-pub mod Keeping
+pub mod PutCounts
+pub mod RuleKept

@@ -1,3 +1,5 @@
+//! What a step reads and writes, and which of two concurrent steps comes first.
+
 ghost use Rattle.std.specs.Prelude.{◌≡◌, ◌↔◌, IsTrue, Contains};
 ghost use Rattle.std.specs.List.{list_any};
 ghost use Rattle.sc_values.specs.declared.operator.Combination.{Combination as Operator};

@@ -1,3 +1,5 @@
+//! Whether two threads are concurrent, and which thread forks them apart.
+
 ghost use Rattle.std.specs.Prelude.{◌≡◌, ◌<◌, ◌↔◌, ℕ, IsTrue, IsSome, IfSome, MatchOption, length};
 ghost use Rattle.sc_graph.specs.Links.{Tells};
 ghost use Rattle.sc_graph.specs.Threads.{ForkedApart, AreConcurrent};

@@ -1,3 +1,5 @@
+//! A table of the concurrent threads of a program.
+
 ghost use Rattle.std.specs.Prelude.{◌≡◌, ◌↔◌, IsTrue, IfOk};
 ghost use Rattle.sc_graph.specs.Threads.{AreConcurrent};
 ghost use Rattle.sc_graph.specs.Valid.{IsFormed};

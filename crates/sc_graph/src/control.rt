@@ -1,3 +1,5 @@
+//! Configurations, and where threads stand.
+
 ghost use Rattle.std.specs.Prelude.{◌≡◌, ◌↔◌, IsTrue};
 ghost use Rattle.sc_graph.specs.Control.{status_of, has_ended};
 ghost use Rattle.sc_graph.specs.Tick.{IsPresent};

@@ -1,3 +1,5 @@
+//! The laws of concurrency and of tables.
+
 ghost use Rattle.std.specs.Prelude.{◌≡◌, ℕ, List, Some};
 ghost use Rattle.sc_values.specs.Runs.{replay};
 ghost use Rattle.sc_graph.specs.declared.control.Control.{Control};

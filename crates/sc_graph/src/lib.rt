@@ -12,6 +12,7 @@ mod lookups;
 mod place;
 mod program;
 mod resting;
+mod same;
 mod size;
 mod structure;
 mod tables;
@@ -30,4 +31,5 @@ pub use place::Place;
 pub use program::{
     Node, NodeId, Program, ProgramFault, Role, Step, Thread, ThreadId, Variable, VariableId,
 };
+pub use same::are_same;
 pub use tables::Tables;

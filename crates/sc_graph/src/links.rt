@@ -1,3 +1,5 @@
+//! The only fork of each thread and of each join, and the only pause of each depth.
+
 ghost use Rattle.std.specs.Prelude.{◌≡◌, ℕ, IfOk, OnOk, length};
 ghost use Rattle.sc_graph.specs.Links.{Tells, found_at, only_at};
 ghost use Rattle.sc_graph.specs.Inside.Linking.{noted, noted_at, noted_all, after_step, IsBlank, only_link};

@@ -1,3 +1,5 @@
+//! Look-ups in a program, which give nothing past its ends.
+
 ghost use Rattle.std.specs.Prelude.{◌≡◌, ◌&&◌};
 ghost use Rattle.std.specs.Option.{option_copied};
 ghost use Rattle.sc_graph.specs.Program.{step_at, owner_of, parent_of, entry_of, kind_at, role_at, owns, is_join};

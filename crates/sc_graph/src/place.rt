@@ -1,3 +1,5 @@
+//! Places of an image, at which a rule is kept or broken.
+
 use crate::program::{NodeId, ThreadId, VariableId};
 
 /// A place in an image, at which a rule is kept or broken.

@@ -1,3 +1,5 @@
+//! Programs: variables, threads and nodes.
+
 ghost use Rattle.std.specs.Prelude.{◌≡◌, ◌≤◌, ◌≢◌, ◌↔◌, ℕ, IsTrue, Some, length, slice_get};
 ghost use Rattle.std.specs.Result.{OkIff};
 ghost use Rattle.sc_graph.specs.Layout.{FitsLayout, CountsChildren};

@@ -1,3 +1,5 @@
+//! Resting configurations, and the one before the first tick.
+
 ghost use Rattle.std.specs.Prelude.{◌≡◌, ◌↔◌, ℕ, map, length, IsTrue, IfOk, Contains};
 ghost use Rattle.sc_values.specs.Operator.{initial_value};
 ghost use Rattle.sc_graph.specs.Tick.{initial, Rests, IsPresent};

@@ -1,3 +1,5 @@
+//! The size and range rule.
+
 ghost use Rattle.std.specs.Prelude.{◌≡◌, ◌≢◌, ◌≤◌, ◌<◌, ◌+◌, ◌↔◌, ℕ, IsTrue, Some, MatchOption, All, Contains, ⊤};
 ghost use Rattle.std.specs.Prelude.{length, slice_get, take, count_by};
 ghost use Rattle.sc_values.specs.Code.{loaded};

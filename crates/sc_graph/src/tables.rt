@@ -1,3 +1,5 @@
+//! The certificate of a program.
+
 ghost use Rattle.std.specs.Prelude.{◌≡◌};
 ghost use Rattle.sc_graph.specs.Tables.{priority, weight, end_bit, bound};
 

@@ -14,3 +14,5 @@ pub mod WritablePhrases
 pub mod Meanings
 pub mod AddedNames
 pub mod EachItem
+mod FirstToken
+pub mod OneLongest

@@ -7,6 +7,7 @@ pub mod FaultText
 pub mod Classes
 pub mod Phrases
 pub mod Expression
+pub mod FirstToken
 pub mod Reading
 pub mod Levels
 pub mod Laws

@@ -3,6 +3,7 @@
 
 pub mod ahead;
 mod expressions;
+mod first_token;
 mod language;
 mod laws;
 mod leaf;
@@ -17,6 +18,7 @@ mod token;
 mod word;
 
 pub use expressions::{OPEN_LIMIT, expression};
+pub use first_token::language_of;
 pub use language::Language;
 pub use laws::expressions_are_told;
 pub use operation::TextOperation;

@@ -1,5 +1,5 @@
 -- Postfix codes: the tree that a code spells, and what a code needs to be well formed.
-use Rattle.std.specs.Prelude.{ℕ, ◌≡◌, ◌≤◌, Option, Some, None, List, [], ◌∷◌, length, take, option_and_then, filter_map}
+use Rattle.std.specs.Prelude.{ℕ, ◌≡◌, ◌≤◌, Option, Some, None, List, [], ◌∷◌, length, take, option_and_then, filter_map, Bool, true, false}
 use Rattle.sc_values.specs.declared.value.Value.{Value}
 use Rattle.sc_values.specs.declared.value.Kind.{Kind}
 use Rattle.sc_values.specs.declared.operation.Operation.{Operation}
@@ -69,3 +69,8 @@ pub record IsWellFormed (kinds : List Kind) (code : List Operation) : Type 0 whe
   pub gives : Kind
   pub kinded : kind spelt kinds ≡ Some gives
   pub within : IsWithinLimits code
+
+-- a value, where there is one
+abbrev pub some_if : {A : Type 0} → Bool → A → Option A
+some_if false x = None
+some_if true x = Some x

@@ -1,3 +1,5 @@
+//! Codes that are well formed under the kinds of the variables.
+
 ghost use Rattle.std.specs.Prelude.{◌≡◌, List, MatchOption};
 ghost use Rattle.sc_values.specs.declared.value.Kind.{Kind};
 ghost use Rattle.sc_values.specs.Code.{IsWellFormed};

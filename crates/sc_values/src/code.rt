@@ -1,3 +1,5 @@
+//! Postfix codes.
+
 ghost use Rattle.std.specs.Prelude.{◌≡◌, ◌<◌, ◌≤◌, [], ◌∷◌, ◌++◌, ◌↔◌, IfOk, IfSome, IsSome, List, MatchBool, SomeIff};
 ghost use Rattle.std.specs.Prelude.{None, length};
 ghost use Rattle.std.specs.Result.{IsErrOf};

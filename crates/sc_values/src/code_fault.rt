@@ -1,3 +1,5 @@
+//! Why an expression has no code.
+
 ghost use Rattle.std.specs.Prelude.{Some};
 ghost use Rattle.sc_values.specs.FaultText.{fault_text};
 

@@ -1,3 +1,5 @@
+//! The value of a code over its operands.
+
 ghost use Rattle.std.specs.Prelude.{◌≡◌, ◌<◌, ◌≤◌, ◌^◌, List, map, length, IsSome};
 ghost use Rattle.sc_values.specs.declared.value.Value.{Value};
 ghost use Rattle.sc_values.specs.declared.value.Kind.{Kind};

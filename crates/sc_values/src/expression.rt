@@ -1,3 +1,5 @@
+//! Expressions, as trees.
+
 ghost use Rattle.std.specs.Prelude.{◌≡◌, ◌+◌, ◌<◌, ◌++◌, ◌∷◌, [], length, slice_get, IfOk, MatchBool};
 ghost use Rattle.sc_values.specs.Limits.{operation_limit};
 ghost use Rattle.sc_values.specs.Assignment.{is_read};

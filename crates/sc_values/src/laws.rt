@@ -1,3 +1,5 @@
+//! The law of codes: each spells one tree, or none.
+
 ghost use Rattle.std.specs.Prelude.{◌≡◌, ◌↔◌, List, Some};
 ghost use Rattle.sc_values.specs.declared.expression.Expr.{Expr};
 ghost use Rattle.sc_values.specs.declared.operation.Operation.{Operation};

@@ -1,3 +1,5 @@
+//! The operands of a code: a value for each load.
+
 ghost use Rattle.std.specs.Prelude.{◌≡◌, ◌<◌, ◌≤◌, [], ◌∷◌, ◌++◌, SomeIff, length, option_and_then, slice_get};
 ghost use Rattle.sc_values.specs.Limits.{load_limit};
 ghost use Rattle.sc_values.specs.Code.{loaded, loads};

@@ -1,3 +1,5 @@
+//! The operations of postfix codes.
+
 ghost use Rattle.std.specs.Prelude.{◌≡◌, false};
 
 use crate::operator::{BinaryOperator, UnaryOperator};

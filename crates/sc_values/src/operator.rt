@@ -1,3 +1,5 @@
+//! Operators.
+
 ghost use Rattle.std.specs.Prelude.{◌≡◌};
 ghost use Rattle.sc_values.specs.Operator.{operator_of, kind_combined, combined, unary_value, binary_value, int_value};
 ghost use Rattle.sc_values.specs.Operator.{truth_value, unary_kind, binary_kind, int_kind, truth_kind};

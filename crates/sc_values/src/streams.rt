@@ -1,3 +1,5 @@
+//! Sources and sinks of bytes.
+
 ghost use Rattle.std.specs.Prelude.{ℕ, List, Option, None, ◌≡◌, ◌+◌, ◌≤◌, OnOk, OnErr, length, option_map};
 ghost use Rattle.std.specs.Io.{ReadsAtMost, WritesAtMost};
 ghost use Rattle.std.specs.Io.KnownBytes.{Appends, ReadConsumes, WriteAppends};

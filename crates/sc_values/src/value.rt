@@ -1,3 +1,5 @@
+//! Kinds and values.
+
 ghost use Rattle.std.specs.Prelude.{◌≡◌, false};
 ghost use Rattle.sc_values.specs.Operator.{kind_of, initial_value};
 

@@ -1,3 +1,5 @@
+//! SCL programs.
+
 ghost use Rattle.scl.specs.Rules.{KeepsRules};
 
 use crate::statement::Statement;

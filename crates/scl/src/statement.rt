@@ -1,3 +1,5 @@
+//! The statements of SCL.
+
 use sc_graph::VariableId;
 use sc_values::{Expr, Name};
 use sqlite_items::Items;

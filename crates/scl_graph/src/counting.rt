@@ -1,3 +1,5 @@
+//! What the statements of a text count.
+
 ghost use Rattle.std.specs.Prelude.{◌≡◌};
 ghost use Rattle.std.specs.Option.{SomeIff};
 ghost use Rattle.scl_graph.specs.Counting.{AreSmall, branches_counts, counts_of, counts_of_all};

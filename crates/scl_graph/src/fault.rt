@@ -1,3 +1,5 @@
+//! Why a text has no graph.
+
 ghost use Rattle.std.specs.Prelude.{◌≡◌};
 
 use sc_values::Name;

@@ -1,3 +1,5 @@
+//! The graph of an SCL program.
+
 ghost use Rattle.std.specs.Prelude.{◌≡◌, IfOk, MatchResult};
 ghost use Rattle.scl_graph.specs.Answers.{IsGraph, IsReason};
 ghost use Rattle.scl_graph.specs.Counting.{counts_of_all};

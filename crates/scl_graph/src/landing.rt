@@ -1,3 +1,5 @@
+//! What stands at a place of a thread's text, past labels.
+
 ghost use Rattle.std.specs.Prelude.{◌≡◌};
 ghost use Rattle.scl_graph.specs.Inside.Gathering.{landing_in};
 

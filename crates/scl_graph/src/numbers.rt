@@ -1,3 +1,5 @@
+//! How many nodes and threads a text has.
+
 ghost use Rattle.std.specs.Prelude.{◌≡◌, ◌+◌, ◌≤◌};
 ghost use Rattle.sc_graph.specs.Limits.{count_limit};
 ghost use Rattle.scl_graph.specs.Inside.Laying.{HasRoom, after, past};

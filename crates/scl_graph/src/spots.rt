@@ -1,3 +1,5 @@
+//! The numbers that come next at a place of a text.
+
 ghost use Rattle.std.specs.Prelude.{◌≡◌, ◌+◌, ◌≤◌};
 ghost use Rattle.scl_graph.specs.Inside.Totals.{HasBranchRoom, HasRoom, after, inside, past, past_branch, spot_limit};
 

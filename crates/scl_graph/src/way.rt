@@ -1,3 +1,5 @@
+//! Where a thread goes on.
+
 ghost use Rattle.std.specs.Prelude.{◌≡◌, ℕ};
 ghost use Rattle.scl.specs.declared.statement.Statement.TheViews.{out-Statement};
 ghost use Rattle.scl_graph.specs.Inside.Laying.{way_behind, way_in};

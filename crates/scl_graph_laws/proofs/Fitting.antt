@@ -17,7 +17,7 @@ use Rattle.scl_graph.specs.Graph.{assigns, node}
 use Rattle.scl_graph_laws.specs.Mirrors.{HasNode}
 use Rattle.scl_graph_laws.proofs.Spreading.{OfThreads}
 use Rattle.scl_graph_laws.proofs.Scopes.{Distinct}
-use Rattle.scl_graph_laws.proofs.Keeping.{name_stands}
+use Rattle.scl_graph_laws.proofs.RunsKept.{name_stands}
 
 -- ---- lists
 

@@ -49,7 +49,7 @@ use Rattle.scl_graph_laws.proofs.Gathering.{Gathers, text_gathers, distinct_name
 use Rattle.scl_graph_laws.proofs.Scopes.{stay_within}
 use Rattle.scl_graph_laws.proofs.Jumping.{places_settle}
 use Rattle.scl_graph_laws.proofs.Looping.{no_loop_settles}
-use Rattle.scl_graph_laws.proofs.Keeping.{keeps_scopes}
+use Rattle.scl_graph_laws.proofs.RunsKept.{keeps_scopes}
 use Rattle.scl_graph_laws.proofs.Levels.{branch_parent, few_ancestors}
 use Rattle.scl_graph_laws.proofs.Forkers.{forkers, forked_in, forker_of}
 use Rattle.scl_graph_laws.proofs.Sources.{NodeFrom, at_statement, at_depth, at_join, node_sources, Pauses, nodes_pause}

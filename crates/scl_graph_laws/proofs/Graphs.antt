@@ -15,7 +15,7 @@ use Rattle.scl_graph_laws.specs.Keeps.{Corresponds, HaveOwnNames, Keeps}
 use Rattle.scl_graph_laws.proofs.Alike.{both_then}
 use Rattle.scl_graph_laws.proofs.Inputs.{Fit, accepted_fit}
 use Rattle.scl_graph_laws.proofs.Beginning.{begins, starts}
-use Rattle.scl_graph_laws.proofs.Going.{goes_on}
+use Rattle.scl_graph_laws.proofs.StepsAlike.{goes_on}
 
 module _ (p : Numbered) (q : Program) (begin : (inputs : Inputs) (s : State) (c : Control) → AreAccepted q inputs → Corresponds p s c → Corresponds p (start p inputs s) (start_of_nodes q inputs c))
     (runs : RunsAlike (machine p) (machine_of_nodes q) (Corresponds p)) where

@@ -5,31 +5,31 @@ mod Assigning
 mod Targets
 mod Forking
 mod Stepping
-mod Going
+mod StepsAlike
 mod Inputs
 mod Beginning
 pub mod Graphs
-mod Members
-mod Numbers
-mod Segments
+pub mod Members
+pub mod Numbers
+pub mod Segments
 mod Ways
 mod Laying
 mod Reaching
 mod Spreading
-mod Coming
-mod Whole
-mod Jumping
-mod Searching
-mod Scopes
-mod Texts
-mod Contents
-mod Gathering
-pub mod Keeping
-mod Looping
-mod Forkers
+pub mod Coming
+pub mod Whole
+pub mod Jumping
+pub mod Searching
+pub mod Scopes
+pub mod Texts
+pub mod Contents
+pub mod Gathering
+pub mod RunsKept
+pub mod Looping
+pub mod Forkers
 mod Sources
 mod Operands
 mod Levels
-mod Fitting
+pub mod Fitting
 pub mod Forming
 mod Rows

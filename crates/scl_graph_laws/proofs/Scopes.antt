@@ -16,16 +16,16 @@ abbrev pub Distinct : List (List ℕ) → Type 0
 Distinct [] = Unit {0}
 Distinct (x ∷ xs) = (¬ Contains xs x) × Distinct xs
 
-distinct_first : (xs ys : List (List ℕ)) → Distinct (xs ++ ys) → Distinct xs
+pub distinct_first : (xs ys : List (List ℕ)) → Distinct (xs ++ ys) → Distinct xs
 distinct_first [] ys h = tt
 distinct_first (x ∷ xs) ys h = (λ i. h.0 (Contains-append_left xs ys x i), distinct_first xs ys h.1)
 
-distinct_second : (xs ys : List (List ℕ)) → Distinct (xs ++ ys) → Distinct ys
+pub distinct_second : (xs ys : List (List ℕ)) → Distinct (xs ++ ys) → Distinct ys
 distinct_second [] ys h = h
 distinct_second (x ∷ xs) ys h = distinct_second xs ys h.1
 
 -- nothing stands in both of two lists in a row
-distinct_apart : (xs ys : List (List ℕ)) (x : List ℕ) → Distinct (xs ++ ys) → Contains xs x → Contains ys x → ⊥
+pub distinct_apart : (xs ys : List (List ℕ)) (x : List ℕ) → Distinct (xs ++ ys) → Contains xs x → Contains ys x → ⊥
 distinct_apart [] ys x h i j = contains_none x i
 distinct_apart (z ∷ xs) ys x h i j =
     ⊎_elim (λ same. h.0 (subst (Contains (xs ++ ys)) (sym same) (Contains-append_right xs ys x j))) (λ tail. distinct_apart xs ys x h.1 tail j) (contains_cons z x xs i)
@@ -147,7 +147,7 @@ module _ (root : Block) where
         (own_none body name (λ i. distinct_apart (own_labels body) (lower_labels body) name distinct i h));
   }
 
-  all_found : (b : Block) (name : List ℕ) → Contains (own_labels b ++ lower_labels b) name → Found (behind_label b name)
+  pub all_found : (b : Block) (name : List ℕ) → Contains (own_labels b ++ lower_labels b) name → Found (behind_label b name)
   all_found b name h =
       ⊎_elim
       (λ i. let k : Found (behind_own_label b name) = own_found b name i in (k.0, found_first (behind_own_label b name) (behind_lower_label b name) k ∙ k.1))
@@ -163,11 +163,11 @@ module _ (root : Block) where
       found_second (behind_own_label b name) (behind_lower_label b name) (own_none b name (λ i. without (Contains-append_left (own_labels b) (lower_labels b) name i)))
       ∙ lower_none b name (λ i. without (Contains-append_right (own_labels b) (lower_labels b) name i))
 
-  among_branch : (branches : Branches) (u : ℕ) (body : Block) → IsBranch branches u body → (name : List ℕ) → Contains (own_labels body ++ lower_labels body) name → Contains (labels_among branches) name
+  pub among_branch : (branches : Branches) (u : ℕ) (body : Block) → IsBranch branches u body → (name : List ℕ) → Contains (own_labels body ++ lower_labels body) name → Contains (labels_among branches) name
   among_branch branches u body (here t first more) name h = Contains-append_left (own_labels first ++ lower_labels first) (labels_among more) name h
   among_branch branches u body (later t other more v last at) name h = Contains-append_right (own_labels other ++ lower_labels other) (labels_among more) name (among_branch more v last at name h)
 
-  distinct_branch : (branches : Branches) (u : ℕ) (body : Block) → IsBranch branches u body → Distinct (labels_among branches) → Distinct (own_labels body ++ lower_labels body)
+  pub distinct_branch : (branches : Branches) (u : ℕ) (body : Block) → IsBranch branches u body → Distinct (labels_among branches) → Distinct (own_labels body ++ lower_labels body)
   distinct_branch branches u body (here t first more) h = distinct_first (own_labels first ++ lower_labels first) (labels_among more) h
   distinct_branch branches u body (later t other more v last at) h = distinct_branch more v last at (distinct_second (own_labels other ++ lower_labels other) (labels_among more) h)
 
@@ -176,7 +176,7 @@ module _ (root : Block) where
   branch_finds branches u body (later t other more v last at) h = branch_finds more v last at h.2
 
   -- a label of a branch is found in the branch
-  found_in_branch : (branches : Branches) (u : ℕ) (body : Block) → IsBranch branches u body → Distinct (labels_among branches) → (name : List ℕ) → Contains (own_labels body ++ lower_labels body) name → behind_label_among branches name ≡ behind_label body name
+  pub found_in_branch : (branches : Branches) (u : ℕ) (body : Block) → IsBranch branches u body → Distinct (labels_among branches) → (name : List ℕ) → Contains (own_labels body ++ lower_labels body) name → behind_label_among branches name ≡ behind_label body name
   found_in_branch branches u body (here t first more) distinct name h = found_first (behind_label first name) (behind_label_among more name) (all_found first name h)
   found_in_branch branches u body (later t other more v last at) distinct name h =
       let elsewhere : ¬ Contains (own_labels other ++ lower_labels other) name = λ i. distinct_apart (own_labels other ++ lower_labels other) (labels_among more) name distinct i (among_branch more v last at name h) in
@@ -309,7 +309,7 @@ module _ (root : Block) where
       part_scope t todo s rest gotos none_lost (subst Distinct same s.distinct) (λ name h. (subst (λ xs. Contains xs name) (sym same) h, found name))
 
   module _ (keeps : KeepsScopes root) where
-    scope_at : (t : ℕ) (todo : Block) → Place root t todo → Scope root t todo
+    pub scope_at : (t : ℕ) (todo : Block) → Place root t todo → Scope root t todo
     scope_at t todo whole = whole_scope 0 root whole keeps.distinct keeps.found keeps.none_lost (λ name h. refl)
     scope_at t todo (after_assign v n x e rest place) =
         let s : Scope root v (Assign n x e rest) = scope_at v (Assign n x e rest) place in

@@ -2,3 +2,4 @@ mod Written
 mod Shown
 mod Nested
 mod Rows
+mod ShownTrees

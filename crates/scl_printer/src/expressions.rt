@@ -7,7 +7,7 @@ ghost use Rattle.scl_printer.specs.Expressions.{value_text, variable_text, prefi
 ghost use Rattle.scl_printer.specs.Expressions.{infix_text, closing_text, is_infix, shown, expression_text};
 ghost use Rattle.scl_printer.specs.Inside.Writing.{Writes, page};
 
-use crate::pen::Pen;
+use crate::buffered::Buffered;
 use itoa::Buffer;
 use sc_graph::{Variable, VariableId};
 use sc_values::{BinaryOperator, Expr, Sink, UnaryOperator, Value};
@@ -15,92 +15,92 @@ use sqlite_items::at;
 
 /// Writes an expression over these variables.
 pub(crate) fn write_expression<W: Sink>(
-    pen: &mut Pen,
+    buffered: &mut Buffered,
     sink: &mut W,
     variables: &[Variable],
     expression: &Expr,
 )
-    ensures { Writes (page (W.taken sink.old) (W.failures sink.old) pen.old)
-        (page (W.taken sink.new) (W.failures sink.new) pen.new) (expression_text variables.now expression.now) }
+    ensures { Writes (page (W.taken sink.old) (W.failures sink.old) buffered.old)
+        (page (W.taken sink.new) (W.failures sink.new) buffered.new) (expression_text variables.now expression.now) }
 {
     match expression {
-        Expr::Literal(value) => write_value(pen, sink, *value),
-        Expr::Load(variable) => write_variable(pen, sink, variables, *variable),
+        Expr::Literal(value) => write_value(buffered, sink, *value),
+        Expr::Load(variable) => write_variable(buffered, sink, variables, *variable),
         Expr::Unary(operator, operand) => {
             let operand = operand.get();
             let is_inner = is_operation(operand);
-            pen.put_text(sink, prefix_text(*operator));
-            pen.put_if(sink, is_inner, "(");
-            write_expression(pen, sink, variables, operand);
-            pen.put_if(sink, is_inner, ")");
-            write_divisor(pen, sink, *operator);
+            buffered.put_text(sink, prefix_text(*operator));
+            buffered.put_if(sink, is_inner, "(");
+            write_expression(buffered, sink, variables, operand);
+            buffered.put_if(sink, is_inner, ")");
+            write_divisor(buffered, sink, *operator);
         }
         Expr::Binary(operator, left, right) => {
             let left = left.get();
             let is_left = is_operation(left);
             let right = right.get();
             let is_right = is_operation(right);
-            pen.put_text(sink, opening_text(*operator));
-            pen.put_if(sink, is_left, "(");
-            write_expression(pen, sink, variables, left);
-            pen.put_if(sink, is_left, ")");
-            pen.put_text(sink, infix_text(*operator));
-            pen.put_if(sink, is_right, "(");
-            write_expression(pen, sink, variables, right);
-            pen.put_if(sink, is_right, ")");
-            pen.put_text(sink, closing_text(*operator));
+            buffered.put_text(sink, opening_text(*operator));
+            buffered.put_if(sink, is_left, "(");
+            write_expression(buffered, sink, variables, left);
+            buffered.put_if(sink, is_left, ")");
+            buffered.put_text(sink, infix_text(*operator));
+            buffered.put_if(sink, is_right, "(");
+            write_expression(buffered, sink, variables, right);
+            buffered.put_if(sink, is_right, ")");
+            buffered.put_text(sink, closing_text(*operator));
         }
     }
 }
 
 /// Writes the name of the variable of this number.
 pub(crate) fn write_variable<W: Sink>(
-    pen: &mut Pen,
+    buffered: &mut Buffered,
     sink: &mut W,
     variables: &[Variable],
     variable: VariableId,
 )
-    ensures { Writes (page (W.taken sink.old) (W.failures sink.old) pen.old)
-        (page (W.taken sink.new) (W.failures sink.new) pen.new) (variable_text variables.now variable) }
+    ensures { Writes (page (W.taken sink.old) (W.failures sink.old) buffered.old)
+        (page (W.taken sink.new) (W.failures sink.new) buffered.new) (variable_text variables.now variable) }
 {
     match at(variables, variable as usize) {
-        Some(variable) => pen.put(sink, variable.name.as_bytes()),
+        Some(variable) => buffered.put(sink, variable.name.as_bytes()),
         None => {}
     }
 }
 
-fn write_value<W: Sink>(pen: &mut Pen, sink: &mut W, value: Value)
-    ensures { Writes (page (W.taken sink.old) (W.failures sink.old) pen.old)
-        (page (W.taken sink.new) (W.failures sink.new) pen.new) (value_text value) }
+fn write_value<W: Sink>(buffered: &mut Buffered, sink: &mut W, value: Value)
+    ensures { Writes (page (W.taken sink.old) (W.failures sink.old) buffered.old)
+        (page (W.taken sink.new) (W.failures sink.new) buffered.new) (value_text value) }
 {
     match value {
-        Value::Bool(true) => pen.put_text(sink, "true"),
-        Value::Bool(false) => pen.put_text(sink, "false"),
-        Value::Int(number) => write_number(pen, sink, number),
+        Value::Bool(true) => buffered.put_text(sink, "true"),
+        Value::Bool(false) => buffered.put_text(sink, "false"),
+        Value::Int(number) => write_number(buffered, sink, number),
     }
 }
 
-fn write_number<W: Sink>(pen: &mut Pen, sink: &mut W, number: i32)
-    ensures { Writes (page (W.taken sink.old) (W.failures sink.old) pen.old)
-        (page (W.taken sink.new) (W.failures sink.new) pen.new) (signed_decimal number) }
+fn write_number<W: Sink>(buffered: &mut Buffered, sink: &mut W, number: i32)
+    ensures { Writes (page (W.taken sink.old) (W.failures sink.old) buffered.old)
+        (page (W.taken sink.new) (W.failures sink.new) buffered.new) (signed_decimal number) }
 {
     let mut buffer = Buffer::new();
-    pen.put_text(sink, buffer.format(number));
+    buffered.put_text(sink, buffer.format(number));
 }
 
 // Writes what stands behind the operand of an operator: where it divides, its sign and the divisor.
-fn write_divisor<W: Sink>(pen: &mut Pen, sink: &mut W, operator: UnaryOperator)
-    ensures { Writes (page (W.taken sink.old) (W.failures sink.old) pen.old)
-        (page (W.taken sink.new) (W.failures sink.new) pen.new) (divisor_text operator) }
+fn write_divisor<W: Sink>(buffered: &mut Buffered, sink: &mut W, operator: UnaryOperator)
+    ensures { Writes (page (W.taken sink.old) (W.failures sink.old) buffered.old)
+        (page (W.taken sink.new) (W.failures sink.new) buffered.new) (divisor_text operator) }
 {
     match operator {
         UnaryOperator::Divide(divisor) => {
-            pen.put_text(sink, " / ");
-            write_number(pen, sink, divisor.number());
+            buffered.put_text(sink, " / ");
+            write_number(buffered, sink, divisor.number());
         }
         UnaryOperator::Remainder(divisor) => {
-            pen.put_text(sink, " % ");
-            write_number(pen, sink, divisor.number());
+            buffered.put_text(sink, " % ");
+            write_number(buffered, sink, divisor.number());
         }
         UnaryOperator::Negate | UnaryOperator::Not => {}
     }

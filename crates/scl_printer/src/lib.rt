@@ -1,13 +1,16 @@
 //! Printing SCL text.
 #![tactic(auto)]
 
+mod buffered;
 mod expressions;
 mod lines;
-mod pen;
+mod operation_texts;
 mod print_fault;
 mod program;
 mod statements;
+mod tree_texts;
 
 pub use expressions::{closing_text, infix_text, is_infix, opening_text, prefix_text};
 pub use print_fault::PrintFault;
 pub use program::print;
+pub use tree_texts::text_of;

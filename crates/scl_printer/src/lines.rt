@@ -5,129 +5,129 @@ ghost use Rattle.scl_printer.specs.Expressions.{variable_text, expression_text};
 ghost use Rattle.scl_printer.specs.Layout.{indentation, line, role_text, kind_text, declaration_text};
 ghost use Rattle.scl_printer.specs.Inside.Writing.{Writes, page, when, has_any};
 
+use crate::buffered::Buffered;
 use crate::expressions::{write_expression, write_variable};
-use crate::pen::Pen;
 use sc_graph::{Role, Variable, VariableId};
 use sc_values::{Expr, Kind, Name, Sink};
 use scl::Statement;
 
 // Writes two spaces for each level.
-fn indent<W: Sink>(pen: &mut Pen, sink: &mut W, level: usize)
-    ensures { Writes (page (W.taken sink.old) (W.failures sink.old) pen.old)
-        (page (W.taken sink.new) (W.failures sink.new) pen.new) (indentation level) }
+fn indent<W: Sink>(buffered: &mut Buffered, sink: &mut W, level: usize)
+    ensures { Writes (page (W.taken sink.old) (W.failures sink.old) buffered.old)
+        (page (W.taken sink.new) (W.failures sink.new) buffered.new) (indentation level) }
 {
     for _ in 0..level {
-        pen.put_text(sink, "  ");
+        buffered.put_text(sink, "  ");
     }
 }
 
 /// Writes a line of this text.
-pub(crate) fn write_line<W: Sink>(pen: &mut Pen, sink: &mut W, text: &str, level: usize)
-    ensures { Writes (page (W.taken sink.old) (W.failures sink.old) pen.old)
-        (page (W.taken sink.new) (W.failures sink.new) pen.new) (line text.now level) }
+pub(crate) fn write_line<W: Sink>(buffered: &mut Buffered, sink: &mut W, text: &str, level: usize)
+    ensures { Writes (page (W.taken sink.old) (W.failures sink.old) buffered.old)
+        (page (W.taken sink.new) (W.failures sink.new) buffered.new) (line text.now level) }
 {
-    indent(pen, sink, level);
-    pen.put_text(sink, text);
-    pen.put_text(sink, "\n");
+    indent(buffered, sink, level);
+    buffered.put_text(sink, text);
+    buffered.put_text(sink, "\n");
 }
 
 /// Writes a line of this text where the condition holds.
 pub(crate) fn write_line_if<W: Sink>(
-    pen: &mut Pen,
+    buffered: &mut Buffered,
     sink: &mut W,
     condition: bool,
     text: &str,
     level: usize,
 )
-    ensures { Writes (page (W.taken sink.old) (W.failures sink.old) pen.old)
-        (page (W.taken sink.new) (W.failures sink.new) pen.new) (when condition (line text.now level)) }
+    ensures { Writes (page (W.taken sink.old) (W.failures sink.old) buffered.old)
+        (page (W.taken sink.new) (W.failures sink.new) buffered.new) (when condition (line text.now level)) }
 {
     if condition {
-        write_line(pen, sink, text, level);
+        write_line(buffered, sink, text, level);
     }
 }
 
 /// Writes the line by which a variable becomes the value of an expression.
 pub(crate) fn write_assignment<W: Sink>(
-    pen: &mut Pen,
+    buffered: &mut Buffered,
     sink: &mut W,
     variables: &[Variable],
     variable: VariableId,
     value: &Expr,
     level: usize,
 )
-    ensures { Writes (page (W.taken sink.old) (W.failures sink.old) pen.old)
-        (page (W.taken sink.new) (W.failures sink.new) pen.new)
+    ensures { Writes (page (W.taken sink.old) (W.failures sink.old) buffered.old)
+        (page (W.taken sink.new) (W.failures sink.new) buffered.new)
         (line (variable_text variables.now variable
         ++ (codes " = " ++ (expression_text variables.now value.now ++ codes ";"))) level) }
 {
-    indent(pen, sink, level);
-    write_variable(pen, sink, variables, variable);
-    pen.put_text(sink, " = ");
-    write_expression(pen, sink, variables, value);
-    pen.put_text(sink, ";\n");
+    indent(buffered, sink, level);
+    write_variable(buffered, sink, variables, variable);
+    buffered.put_text(sink, " = ");
+    write_expression(buffered, sink, variables, value);
+    buffered.put_text(sink, ";\n");
 }
 
 /// Writes the line that opens an if of this test.
 pub(crate) fn write_test<W: Sink>(
-    pen: &mut Pen,
+    buffered: &mut Buffered,
     sink: &mut W,
     variables: &[Variable],
     test: &Expr,
     level: usize,
 )
-    ensures { Writes (page (W.taken sink.old) (W.failures sink.old) pen.old)
-        (page (W.taken sink.new) (W.failures sink.new) pen.new)
+    ensures { Writes (page (W.taken sink.old) (W.failures sink.old) buffered.old)
+        (page (W.taken sink.new) (W.failures sink.new) buffered.new)
         (line (codes "if (" ++ (expression_text variables.now test.now ++ codes ") {")) level) }
 {
-    indent(pen, sink, level);
-    pen.put_text(sink, "if (");
-    write_expression(pen, sink, variables, test);
-    pen.put_text(sink, ") {\n");
+    indent(buffered, sink, level);
+    buffered.put_text(sink, "if (");
+    write_expression(buffered, sink, variables, test);
+    buffered.put_text(sink, ") {\n");
 }
 
 /// Writes the line of a label.
-pub(crate) fn write_label<W: Sink>(pen: &mut Pen, sink: &mut W, name: &Name, level: usize)
-    ensures { Writes (page (W.taken sink.old) (W.failures sink.old) pen.old)
-        (page (W.taken sink.new) (W.failures sink.new) pen.new) (line (name.now ++ codes ":") level) }
+pub(crate) fn write_label<W: Sink>(buffered: &mut Buffered, sink: &mut W, name: &Name, level: usize)
+    ensures { Writes (page (W.taken sink.old) (W.failures sink.old) buffered.old)
+        (page (W.taken sink.new) (W.failures sink.new) buffered.new) (line (name.now ++ codes ":") level) }
 {
-    indent(pen, sink, level);
-    pen.put(sink, name.as_bytes());
-    pen.put_text(sink, ":\n");
+    indent(buffered, sink, level);
+    buffered.put(sink, name.as_bytes());
+    buffered.put_text(sink, ":\n");
 }
 
 /// Writes the line of a goto.
-pub(crate) fn write_goto<W: Sink>(pen: &mut Pen, sink: &mut W, name: &Name, level: usize)
-    ensures { Writes (page (W.taken sink.old) (W.failures sink.old) pen.old)
-        (page (W.taken sink.new) (W.failures sink.new) pen.new)
+pub(crate) fn write_goto<W: Sink>(buffered: &mut Buffered, sink: &mut W, name: &Name, level: usize)
+    ensures { Writes (page (W.taken sink.old) (W.failures sink.old) buffered.old)
+        (page (W.taken sink.new) (W.failures sink.new) buffered.new)
         (line (codes "goto " ++ (name.now ++ codes ";")) level) }
 {
-    indent(pen, sink, level);
-    pen.put_text(sink, "goto ");
-    pen.put(sink, name.as_bytes());
-    pen.put_text(sink, ";\n");
+    indent(buffered, sink, level);
+    buffered.put_text(sink, "goto ");
+    buffered.put(sink, name.as_bytes());
+    buffered.put_text(sink, ";\n");
 }
 
 /// Writes the line that opens a program of this name.
-pub(crate) fn write_head<W: Sink>(pen: &mut Pen, sink: &mut W, name: &Name)
-    ensures { Writes (page (W.taken sink.old) (W.failures sink.old) pen.old)
-        (page (W.taken sink.new) (W.failures sink.new) pen.new) (line (codes "scl " ++ (name.now ++ codes " {")) 0) }
+pub(crate) fn write_head<W: Sink>(buffered: &mut Buffered, sink: &mut W, name: &Name)
+    ensures { Writes (page (W.taken sink.old) (W.failures sink.old) buffered.old)
+        (page (W.taken sink.new) (W.failures sink.new) buffered.new) (line (codes "scl " ++ (name.now ++ codes " {")) 0) }
 {
-    pen.put_text(sink, "scl ");
-    pen.put(sink, name.as_bytes());
-    pen.put_text(sink, " {\n");
+    buffered.put_text(sink, "scl ");
+    buffered.put(sink, name.as_bytes());
+    buffered.put_text(sink, " {\n");
 }
 
 /// Writes the line that declares a variable.
-pub(crate) fn write_declaration<W: Sink>(pen: &mut Pen, sink: &mut W, variable: &Variable)
-    ensures { Writes (page (W.taken sink.old) (W.failures sink.old) pen.old)
-        (page (W.taken sink.new) (W.failures sink.new) pen.new) (declaration_text variable.now) }
+pub(crate) fn write_declaration<W: Sink>(buffered: &mut Buffered, sink: &mut W, variable: &Variable)
+    ensures { Writes (page (W.taken sink.old) (W.failures sink.old) buffered.old)
+        (page (W.taken sink.new) (W.failures sink.new) buffered.new) (declaration_text variable.now) }
 {
-    indent(pen, sink, 1);
-    pen.put_text(sink, role_text(variable.role));
-    pen.put_text(sink, kind_text(variable.kind));
-    pen.put(sink, variable.name.as_bytes());
-    pen.put_text(sink, ";\n");
+    indent(buffered, sink, 1);
+    buffered.put_text(sink, role_text(variable.role));
+    buffered.put_text(sink, kind_text(variable.kind));
+    buffered.put(sink, variable.name.as_bytes());
+    buffered.put_text(sink, ";\n");
 }
 
 fn role_text(role: Role) -> &'static str

@@ -6,8 +6,8 @@ ghost use Rattle.sc_values.specs.Streams.{GrowsInto};
 ghost use Rattle.scl_printer.specs.Layout.{declarations_text, text_of};
 ghost use Rattle.scl_printer.specs.Inside.Writing.{Writes, page};
 
+use crate::buffered::Buffered;
 use crate::lines::{write_declaration, write_head, write_line};
-use crate::pen::Pen;
 use crate::print_fault::PrintFault;
 use crate::statements::write_statements;
 use sc_graph::Variable;
@@ -23,27 +23,27 @@ pub fn print<W: Sink>(scl: &Scl, sink: &mut W) -> Result<(), PrintFault>
     ensures some { GrowsInto (W.taken sink.old) (W.taken sink.new) (text_of scl.now) }
     ensures failed { OnErr result (W.failures sink.new ≡ W.failures sink.old + 1) }
 {
-    let mut pen = Pen::new();
-    write_program(&mut pen, sink, scl);
-    pen.finish(sink)
+    let mut buffered = Buffered::new();
+    write_program(&mut buffered, sink, scl);
+    buffered.finish(sink)
 }
 
-fn write_program<W: Sink>(pen: &mut Pen, sink: &mut W, scl: &Scl)
-    ensures { Writes (page (W.taken sink.old) (W.failures sink.old) pen.old)
-        (page (W.taken sink.new) (W.failures sink.new) pen.new) (text_of scl.now) }
+fn write_program<W: Sink>(buffered: &mut Buffered, sink: &mut W, scl: &Scl)
+    ensures { Writes (page (W.taken sink.old) (W.failures sink.old) buffered.old)
+        (page (W.taken sink.new) (W.failures sink.new) buffered.new) (text_of scl.now) }
 {
     let variables = scl.variables.as_slice();
-    write_head(pen, sink, &scl.name);
-    write_declarations(pen, sink, variables);
-    write_statements(pen, sink, variables, scl.body.as_slice(), 1);
-    write_line(pen, sink, "}", 0);
+    write_head(buffered, sink, &scl.name);
+    write_declarations(buffered, sink, variables);
+    write_statements(buffered, sink, variables, scl.body.as_slice(), 1);
+    write_line(buffered, sink, "}", 0);
 }
 
-fn write_declarations<W: Sink>(pen: &mut Pen, sink: &mut W, variables: &[Variable])
-    ensures { Writes (page (W.taken sink.old) (W.failures sink.old) pen.old)
-        (page (W.taken sink.new) (W.failures sink.new) pen.new) (declarations_text variables.now) }
+fn write_declarations<W: Sink>(buffered: &mut Buffered, sink: &mut W, variables: &[Variable])
+    ensures { Writes (page (W.taken sink.old) (W.failures sink.old) buffered.old)
+        (page (W.taken sink.new) (W.failures sink.new) buffered.new) (declarations_text variables.now) }
 {
     for variable in variables {
-        write_declaration(pen, sink, variable);
+        write_declaration(buffered, sink, variable);
     }
 }

@@ -1,9 +1,2 @@
-pub mod Statements
-pub mod Program
-pub mod Laws
-pub mod Draft
-pub mod Shape
-pub mod Inside
-pub mod Flaws
-pub mod Checked
-pub mod Survey
+pub mod Resolved
+pub mod Read

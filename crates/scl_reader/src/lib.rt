@@ -1,21 +1,10 @@
-//! Reading SCL text.
+//! Reading SCL text: from a draft in which nothing is wrong to the program that the text spells. `specs/Resolved` says
+//! which program that is, and `specs/Read` what a text is read into.
 #![tactic(auto)]
 
-mod checked;
-mod declarations;
-mod draft;
-mod labels;
-mod laws;
-mod name;
 mod program;
-mod simple;
-mod statement;
+mod read;
 mod statements;
-mod survey;
-mod value;
 
-pub use checked::read_checked;
-pub use draft::Draft;
-pub use laws::{scl_drafts_are_shaped, scl_texts_are_told};
-pub use program::read_draft;
-pub use statement::TextStatement;
+pub use program::program_of;
+pub use read::read_scl;

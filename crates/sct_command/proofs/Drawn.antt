@@ -2,11 +2,11 @@
 use Rattle.std.proofs.Common.{ℕ, List, inr}
 use Rattle.sc_graph.specs.Program.{Program}
 use Rattle.sc_text.specs.declared.language.Language.TheVariants as language
-use Rattle.source_language.specs.First.{IsIn}
+use Rattle.sc_text.specs.FirstToken.{IsIn}
 use Rattle.scl.specs.declared.program.Scl.{Scl}
-use Rattle.scl_programs.specs.Read.{IsRead}
+use Rattle.scl_reader.specs.Read.{IsRead}
 use Rattle.core_charts.specs.Chart.{Chart}
-use Rattle.resolved_charts.specs.Read as charts_read
+use Rattle.chart_reader.specs.Read as charts_read
 use Rattle.compiler.specs.Charts.{IsSclOf}
 use Rattle.scl_graph.specs.Answers.{IsGraph, IsReason}
 use Rattle.scl_graph.specs.declared.fault.GraphFault.{GraphFault}

@@ -6,9 +6,9 @@ use Rattle.sc_values.specs.Streams.{GrowsInto}
 use Rattle.sc_graph.specs.Program.{Program}
 use Rattle.sc_text.specs.declared.language.Language.{Language}
 use Rattle.sc_text.specs.declared.language.Language.TheVariants as language
-use Rattle.source_language.specs.First.{IsIn}
+use Rattle.sc_text.specs.FirstToken.{IsIn}
 use Rattle.scl.specs.declared.program.Scl.{Scl}
-use Rattle.scl_programs.specs.Read.{IsRead}
+use Rattle.scl_reader.specs.Read.{IsRead}
 use Rattle.scl_graph.specs.Answers.{IsGraph, IsReason}
 use Rattle.scl_graph.specs.declared.fault.GraphFault.{GraphFault}
 use Rattle.compiler.specs.declared.fault.CompileFault.TheVariants as compiling

@@ -9,7 +9,7 @@ use Rattle.command_files.specs.FaultText.{shown_name}
 use Rattle.command_files.specs.Files.{Contents}
 use Rattle.command_files.specs.Sources.{IsCompiledFrom, IsNoCompiled}
 use Rattle.compiler.specs.FaultText.{fault_text}
-use Rattle.explaining.specs.Reports.{Tells, text_fault}
+use Rattle.diagnostics.specs.Reports.{Tells, text_fault}
 use Rattle.sct_command.specs.Summary.{summary_of}
 use Rattle.sct_command.specs.Writing.{WritesPart, WritesSome}
 

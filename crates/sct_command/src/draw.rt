@@ -2,20 +2,19 @@
 
 ghost use Rattle.std.specs.Prelude.{◌≡◌, ◌+◌, IfErr, IfOk, OnOk};
 ghost use Rattle.sc_text.specs.declared.language.Language.TheVariants as language;
-ghost use Rattle.source_language.specs.First.{IsIn};
+ghost use Rattle.sc_text.specs.FirstToken.{IsIn};
 ghost use Rattle.sct_command.specs.Answer.{reads_failed, writes_failed};
 ghost use Rattle.sct_command.specs.Drawing.{Draws, HasDrawing, HasNoDrawing, LacksDrawing, RefusesDrawing};
 ghost use Rattle.std.specs.Str.{IsUtf8};
 
+use chart_reader::read_chart;
 use command_files::{Fault, Files, bytes_of, text_of};
 use compiler::{CompileFault, scl_of_chart};
 use drawing::{chart_drawing, graph_drawing};
-use resolved_charts::read_chart;
-use sc_text::Language;
+use sc_text::{Language, language_of};
 use sc_values::{Sink, write_all};
 use scl_graph::graph_of;
-use scl_programs::read_scl;
-use source_language::language_of;
+use scl_reader::read_scl;
 use std::alloc::Global;
 
 // The drawing of the chart that a text spells.

@@ -1,14 +1,14 @@
 //! The verb `explain`.
 
 ghost use Rattle.std.specs.Prelude.{◌≡◌, ◌+◌, IfErr, IfOk, OnOk, string_bytes};
-ghost use Rattle.explaining.specs.Reports.{Tells, text_fault};
+ghost use Rattle.diagnostics.specs.Reports.{Tells, text_fault};
 ghost use Rattle.sct_command.specs.Answer.{reads_failed, writes_failed};
 ghost use Rattle.sct_command.specs.Explaining.{FindsImage, IsTold, RefusesExplaining, RefusesTelling};
 ghost use Rattle.sct_command.specs.Explaining.{WritesReport, told_fault};
 
 use crate::summary::sum_up;
 use command_files::{Fault, Files, bytes_of, compile_bytes, shown_name, text_of};
-use explaining::{program_fault_explained, text_fault_explained, told_nowhere};
+use diagnostics::{program_fault_explained, text_fault_explained, told_nowhere};
 use sc_text::ReadFault;
 use sc_values::{Sink, write_all};
 use std::alloc::{AllocError, Global};

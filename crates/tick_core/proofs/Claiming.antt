@@ -22,7 +22,7 @@ use Rattle.tick_core.specs.State.{InTick, Holds, IsFresh}
 use Rattle.tick_core.specs.Turns.{IsOpen, GivesClaim}
 use Rattle.tick_core.specs.Inside.Turns.{IsUnclaimed, IsNew, MayCommit}
 use Rattle.tick_core.proofs.Fresh.{values_are, code_formed}
-use Rattle.tick_core.proofs.Keeping.{leads_at, within_budget, budget_fits, open_value}
+use Rattle.tick_core.proofs.StateKept.{leads_at, within_budget, budget_fits, open_value}
 
 stands_at : (p : Program) (c : Control) (st : Status) → status_enabled p c st ≡ true → IsSome (node_of st)
 stands_at p c (status.At n) enabled = refl

@@ -1,7 +1,7 @@
 -- What the rows and the number of open claims are after a claim was opened or closed, or a step was taken.
 use Rattle.std.proofs.Common.{◌≡◌, ◌≢◌, ℕ, ◌+◌, ◌<◌, ◌⊎◌, List, length, Option, Some, None, slice_get, slice_set, sym, ap, subst, ◌∙◌, inl, inr, arith}
 use Rattle.std.specs.Prelude.{count_by, is_some}
-use Rattle.ready_rows.specs.Rows.{Rows}
+use Rattle.buckets.specs.Rows.{Rows}
 use Rattle.sc_graph.specs.declared.control.Control.{Control}
 use Rattle.sc_graph.specs.declared.tables.Tables.{Tables}
 use Rattle.sc_graph.specs.Program.{Program}
@@ -17,7 +17,7 @@ use Rattle.tick_core.specs.Claims.{Claim}
 use Rattle.tick_core.specs.State.{InTick, Holds, Advances}
 use Rattle.tick_core.specs.Inside.Sorting.{step_priority, unless_claimed, ready_row, OwnRows, AreSorted, sorted_one}
 use Rattle.tick_core.specs.Inside.Turns.{OpenAt}
-use Rattle.tick_core.proofs.Keeping.{still_open, configuration}
+use Rattle.tick_core.proofs.StateKept.{still_open, configuration}
 use Rattle.tick_core.proofs.Opened.{none_counted, count_opened}
 use Rattle.tick_core.proofs.OwnRoom.{kept_out}
 use Rattle.tick_core.proofs.Unmoved.{one_at, one_other}

@@ -19,7 +19,7 @@ use Rattle.tick_core.specs.Turns.{Answers, GivesClaim, Commits, GivesBack}
 use Rattle.tick_core.specs.Whole.{WholeTick}
 use Rattle.tick_core.specs.Events.{Event, Asks, Brings, Returns, Happens, Happen, begun, Replays, EveryOrderReplays}
 use Rattle.tick_core.specs.Events.{Played, Plays, PlayAll, AreWhole, AllTicksEndAlike}
-use Rattle.tick_core.proofs.Keeping.{holds_begun, kept_claimed, kept_closed, kept_advanced, enabled_defined, Finished, finished, SoFar, shown}
+use Rattle.tick_core.proofs.StateKept.{holds_begun, kept_claimed, kept_closed, kept_advanced, enabled_defined, Finished, finished, SoFar, shown}
 
 -- what no event changes
 record Keeps (s s' : InTick) : Type 0 where

@@ -2,17 +2,17 @@ pub mod Accepted
 mod Layouts
 mod OwnRoom
 mod Unmoved
-mod Led
+mod LeadingThreads
 mod Opened
-mod Giving
-mod Going
+mod InputValues
+mod StartKept
 mod Starts
 mod Counts
 mod LivingChildren
 pub mod Reports
 pub mod Taken
 pub mod Fresh
-pub mod Keeping
+pub mod StateKept
 pub mod Claiming
 pub mod SameClaim
 pub mod EveryOrder

@@ -2,7 +2,7 @@
 use Rattle.std.proofs.Common.{◌≡◌, ◌≢◌, ℕ, zero, suc, ◌+◌, ◌<◌, ◌⊎◌, List, [], ◌∷◌, length, Option, Some, None, slice_get, slice_set, refl, inl, inr, arith}
 use Rattle.std.specs.Prelude.{count_by, is_some}
 use Rattle.std.proofs.lemmas.List.Sums.{sum_by-cons}
-use Rattle.ready_rows.proofs.Lists.{count_set, counts_one}
+use Rattle.buckets.proofs.Lists.{count_set, counts_one}
 use Rattle.tick_laws.proofs.Lists.{slice_get_there}
 use Rattle.tick_core.specs.Claims.{Claim}
 

@@ -1,9 +1,9 @@
 -- A row has room for each enabled thread, since each stands at a node of its own.
 use Rattle.std.proofs.Common.{◌≡◌, ◌≢◌, ℕ, ◌<◌, ◌≤◌, ◌⊎◌, Bool, true, false, List, length, length-set, set, Option, Some, None, slice_get, slice_set, refl, sym, subst, ◌∙◌, inl, inr, arith}
 use Rattle.std.proofs.lemmas.Option.{slice_get_within, same_Some}
-use Rattle.ready_rows.specs.Rows.{Rows, IsIn, HasRoom, members}
-use Rattle.ready_rows.proofs.Fitting.{Owns, fits_in}
-use Rattle.ready_rows.proofs.Classes.{entered, left}
+use Rattle.buckets.specs.Rows.{Rows, IsIn, HasRoom, members}
+use Rattle.buckets.proofs.Fitting.{Owns, fits_in}
+use Rattle.buckets.proofs.Classes.{entered, left}
 use Rattle.sc_graph.specs.declared.program.Node.{Node}
 use Rattle.sc_graph.specs.declared.control.Control.{Control}
 use Rattle.sc_graph.specs.declared.tables.Tables.{Tables}

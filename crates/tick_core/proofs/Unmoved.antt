@@ -1,7 +1,7 @@
 -- Whom a step leaves as enabled as they were: all but its thread, the parent, and the children that it forks or leaves.
 use Rattle.std.proofs.Common.{◌≡◌, ◌≢◌, ℕ, ◌+◌, ◌<◌, ◌⊎◌, ◌&&◌, Bool, List, [], ◌∷◌, length, length-set, All, Option, Some, None, slice_get, slice_set, Contains, refl, sym, ap, subst, ◌∙◌, inl, inr, ⊎_elim, arith}
 use Rattle.std.specs.List.{list_all}
-use Rattle.ready_rows.specs.Rows.{Rows}
+use Rattle.buckets.specs.Rows.{Rows}
 use Rattle.sc_graph.specs.declared.program.Step.{Step}
 use Rattle.sc_graph.specs.declared.program.Step.TheVariants as steps
 use Rattle.sc_graph.specs.declared.control.Control.{Control}

@@ -1,3 +1,5 @@
+//! Claims: steps that workers are to evaluate.
+
 ghost use Rattle.std.specs.Prelude.{◌≡◌, ◌↔◌, IsTrue};
 ghost use Rattle.std.specs.Option.{option_copied};
 ghost use Rattle.tick_core.specs.Claims.{value_by, HasOperands};

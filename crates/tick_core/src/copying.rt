@@ -1,3 +1,5 @@
+//! Copies of configurations.
+
 ghost use Rattle.std.specs.Prelude.{◌≡◌, IfOk, length};
 
 use sc_graph::Control;

@@ -1,3 +1,5 @@
+//! The law of events.
+
 ghost use Rattle.tick_core.specs.Events.{AllTicksEndAlike, EveryOrderReplays};
 
 /// The law of events: whatever workers 0 to 8 claim, commit and give back, in whatever order, the

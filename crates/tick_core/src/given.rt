@@ -1,3 +1,5 @@
+//! What the inputs of a tick give to each variable.
+
 ghost use Rattle.std.specs.Prelude.{◌≡◌, ◌↔◌, ◌<◌, ℕ, IfOk, IsTrue, Some, None, length, slice_get, slice_set};
 ghost use Rattle.std.specs.Bool.{OnTrue};
 ghost use Rattle.sc_graph.specs.Tick.{AreAccepted};
@@ -28,7 +30,7 @@ impl Model for Given {
 }
 
 impl Given {
-    /// Room for what is given to the variables of a program.
+    /// TickSpace for what is given to the variables of a program.
     pub(crate) fn of(alloc: Global, program: &Program) -> Result<Given, AllocError>
         ensures { IfOk result (λ g. length g ≡ length program.now.variables) }
     {

@@ -1,3 +1,5 @@
+//! Guesses of where an input stands among the variables.
+
 use sc_graph::{Role, Variable};
 use sc_values::Name;
 use std::alloc::{AllocError, Global};

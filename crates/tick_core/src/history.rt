@@ -1,3 +1,5 @@
+//! The history of a tick, and its report.
+
 ghost use Rattle.std.specs.Prelude.{◌≡◌, ◌<◌, ◌==◌, ◌^◌, ℕ, count_by, length, slice_index};
 
 use sc_graph::ThreadId;

@@ -1,3 +1,5 @@
+//! The inputs of a tick.
+
 ghost use Rattle.std.specs.Prelude.{◌≡◌, ◌≢◌, ◌↔◌, ◌<◌, ℕ, List, IsTrue, MatchOption, Some, length, slice_get};
 ghost use Rattle.sc_values.specs.declared.value.Value.{Value};
 ghost use Rattle.sc_graph.specs.Tick.{AreAccepted};

@@ -1,3 +1,5 @@
+//! What a given list of threads is to a tick.
+
 ghost use Rattle.std.specs.Prelude.{◌↔◌, IfOk, OnOk};
 ghost use Rattle.std.specs.Result.{IsErrOf};
 ghost use Rattle.sc_graph.specs.Tick.{Rests, AreAccepted, IsConfiguration, start};

@@ -1,3 +1,5 @@
+//! The fork of each join, found once.
+
 ghost use Rattle.std.specs.Prelude.{◌≡◌, ◌<◌, Some, IfOk, length, slice_get, slice_set};
 ghost use Rattle.std.specs.Option.{option_copied};
 ghost use Rattle.sc_graph.specs.Program.{step_at};

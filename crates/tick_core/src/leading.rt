@@ -1,3 +1,5 @@
+//! The enabled threads of the greatest priority.
+
 ghost use Rattle.std.specs.Prelude.{◌≡◌, ◌+◌, MatchOption, Some, length};
 ghost use Rattle.sc_values.specs.Runs.{IsOver};
 ghost use Rattle.sc_graph.specs.Machine.{machine};

@@ -26,4 +26,4 @@ pub use history::{Entry, Report};
 pub use inputs::Inputs;
 pub use judging::{Judged, judge};
 pub use sc_graph::{Control, Status};
-pub use state::{BeginFault, NextStep, Receipt, Room, StaleClaim, TickState, Turn, begin};
+pub use state::{BeginFault, NextStep, Receipt, StaleClaim, TickSpace, TickState, Turn, begin};

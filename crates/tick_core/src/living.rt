@@ -1,3 +1,5 @@
+//! For each thread that waits, how many of its children have not ended.
+
 ghost use Rattle.std.specs.Prelude.{ℕ, ◌≡◌, ◌-◌, length, count_by, slice_index, slice_set};
 ghost use Rattle.sc_graph.specs.declared.control.Status.TheVariants.{Waiting};
 ghost use Rattle.sc_graph.specs.Control.{status_of, joined_at};

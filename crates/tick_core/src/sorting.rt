@@ -1,3 +1,5 @@
+//! The rows of ready threads, sorted anew after a step.
+
 ghost use Rattle.std.specs.Prelude.{◌≡◌, ◌<◌, All, IfOk, length};
 ghost use Rattle.sc_graph.specs.Control.{status_of};
 ghost use Rattle.sc_graph.specs.Program.{Program, parent_of};
@@ -11,7 +13,7 @@ ghost use Rattle.tick_core.specs.Inside.Sorting.{sorted_parent, sorted_all, chil
 use crate::claim::Claim;
 use crate::layout::Layout;
 use crate::living::left;
-use ready_rows::Rows;
+use buckets::Rows;
 use sc_graph::{Control, Program, Status, Step, Tables, ThreadId};
 use std::alloc::{AllocError, Global};
 use verifier::Verified;

@@ -1,3 +1,5 @@
+//! The start of a tick.
+
 ghost use Rattle.std.specs.Prelude.{◌≡◌, IfOk, length, map};
 ghost use Rattle.sc_graph.specs.Tick.{Inputs, AreAccepted, given, value_at_start, values_at_start, woken, root_started};
 ghost use Rattle.sc_graph.specs.Tick.{statuses_at_start, start};

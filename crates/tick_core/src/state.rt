@@ -1,3 +1,5 @@
+//! Ticks under way, and the space that they keep.
+
 ghost use Rattle.std.specs.Prelude.{◌≡◌, ◌≢◌, ◌≤◌, ◌↔◌, ℕ, IfOk, OnErr, IsSome, length, map, slice_get, Some, None};
 ghost use Rattle.std.specs.Result.{IsErrOf};
 ghost use Rattle.sc_values.specs.Runs.{IsAdmissible};
@@ -27,11 +29,11 @@ use crate::layout::Layout;
 use crate::living::count_every;
 use crate::sorting::{rows_of, sort_every};
 use crate::starting::start;
+use buckets::Rows;
 use bytecode::Image;
 pub(crate) use ending::present_value;
 pub(crate) use first_rows::kinds_of;
 use first_rows::no_claims;
-use ready_rows::Rows;
 use sc_graph::{Control, Program, ThreadId};
 use sc_values::{Kind, Name, Value};
 use sqlite_items::Items;
@@ -134,7 +136,7 @@ impl<'a> Model for TickState<'a> {
 /// of its variables and where its inputs stand, and room for the history, for claims and for a
 /// configuration. Contracts see the image.
 #[derive(Drop)]
-pub struct Room<'a> {
+pub struct TickSpace<'a> {
     verified: &'a Verified,
     layout: Layout,
     rows: Rows,
@@ -150,7 +152,7 @@ pub struct Room<'a> {
     spare: Control,
 }
 
-impl<'a> Model for Room<'a> {
+impl<'a> Model for TickSpace<'a> {
     ghost use Rattle.std.specs.Prelude.{◌≡◌, ◌≤◌, length, map, None, vec_capacity};
     ghost use Rattle.sc_graph.specs.Program.{kinds};
     ghost use Rattle.bytecode.specs.Image.{Image};
@@ -191,7 +193,7 @@ pub struct Receipt {
     pub at: u32,
 }
 
-/// Begins a tick of a verified image from a configuration that rests. Room for all that later calls
+/// Begins a tick of a verified image from a configuration that rests. TickSpace for all that later calls
 /// fill is made here. `Input` where the inputs are not accepted, else `Memory` where memory was
 /// refused. The configuration is untouched.
 pub fn begin<'a>(
@@ -205,7 +207,7 @@ pub fn begin<'a>(
     ensures start { IfOk result (λ s. s ≡ begun verified.now inputs.now control.now) }
     ensures refused { IsErrOf result BeginFault.Input ↔ ¬ (AreAccepted verified.now.program inputs.now) }
 {
-    match Room::of(alloc, verified) {
+    match TickSpace::of(alloc, verified) {
         Ok(room) => room.begin(alloc, control, inputs),
         Err(_) => Err(refused(verified.image().program(), inputs.as_slice())),
     }
@@ -222,9 +224,9 @@ fn refused(program: &Program, inputs: &[(Name, Value)]) -> BeginFault
     }
 }
 
-impl<'a> Room<'a> {
-    /// Room for the ticks of a verified image.
-    pub fn of(alloc: Global, verified: &'a Verified) -> Result<Room<'a>, AllocError>
+impl<'a> TickSpace<'a> {
+    /// TickSpace for the ticks of a verified image.
+    pub fn of(alloc: Global, verified: &'a Verified) -> Result<TickSpace<'a>, AllocError>
         ensures { IfOk result (λ r. r ≡ verified.now) }
     {
         let program = verified.image().program();
@@ -236,7 +238,7 @@ impl<'a> Room<'a> {
         let living = vec![in alloc; 0; program.threads().len()]?;
         let given = Given::of(alloc, program)?;
         let spare = Control::initial(alloc, program)?;
-        Ok(Room {
+        Ok(TickSpace {
             verified,
             layout,
             rows,
@@ -292,7 +294,7 @@ impl<'a> Room<'a> {
         requires { BeginsTick self.program begun }
         ensures { result ≡ begun_again self.entry begun }
     {
-        let Room {
+        let TickSpace {
             verified,
             layout,
             mut rows,

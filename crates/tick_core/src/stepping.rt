@@ -1,3 +1,5 @@
+//! One step of a thread.
+
 ghost use Rattle.std.specs.Prelude.{◌≡◌, [], ◌∷◌, map, IsSome, Some, option_map, slice_set};
 ghost use Rattle.std.specs.Option.{option_copied};
 ghost use Rattle.sc_graph.specs.Program.{entry_of};

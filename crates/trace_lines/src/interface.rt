@@ -1,3 +1,5 @@
+//! The inputs and outputs of a program, as lines name them.
+
 ghost use Rattle.std.specs.Prelude.{◌≡◌, IfOk, OnOk, IsErrOf, length, Some, None};
 ghost use Rattle.serde_json.specs.Data.{Members};
 ghost use Rattle.trace_lines.specs.Line.{IsObjectOf, inputs_of};

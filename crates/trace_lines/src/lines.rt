@@ -1,3 +1,5 @@
+//! How an input is cut into lines.
+
 ghost use Rattle.std.specs.Prelude.{◌≡◌, ◌≢◌, ◌+◌, ◌<◌, ◌≤◌, ◌↔◌, ◌++◌, [], false, true, Some, length, position};
 ghost use Rattle.std.specs.Prelude.{IfOk, OnOk, OnErr, IfSome, IfNone, IsErrOf, IsTrue};
 ghost use Rattle.std.specs.Bool.{OnFalse};

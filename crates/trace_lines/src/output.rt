@@ -1,3 +1,5 @@
+//! The output line of a tick.
+
 ghost use Rattle.std.specs.Prelude.{◌≡◌, ◌++◌, OnOk};
 ghost use Rattle.serde_json.specs.Written.{compact_text};
 ghost use Rattle.trace_lines.specs.Output.{data_of};

@@ -1,3 +1,5 @@
+//! The outputs of a program, as lines show them.
+
 ghost use Rattle.std.specs.Prelude.{◌≡◌, ◌++◌, ◌∷◌, [], false, List, IfOk, OnOk, length, string_bytes};
 ghost use Rattle.json.specs.Print.{quoted};
 ghost use Rattle.serde_json.specs.Written.{members_text};

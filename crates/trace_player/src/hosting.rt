@@ -1,95 +1,97 @@
+//! The workers of a trace, who are kept until it ends.
+
 ghost use Rattle.std.specs.Prelude.{◌≡◌, ◌≤◌};
 ghost use Rattle.trace_player.specs.Inside.Playing.{CameTo};
 
+use crate::channels::Channels;
 use crate::player::PlayFault;
-use crate::ports::Ports;
-use crate::shift::Shift;
+use crate::session::Session;
 use crate::turns::play_lines;
 use std::alloc::Global;
 use std::sync::Wait;
 use std::thread;
 use std::thread::{Scope, Threads};
 use verifier::Verified;
-use worker_pool::{Crew, Gate, Hall, Picture};
+use worker_pool::{Gate, OfImage, Shared, Team};
 
-/// Opens a hall for so many workers, who are kept until the trace ends, and plays the lines of an input.
+/// Starts what so many workers share, who are kept until the trace ends, and plays the lines of an input.
 pub(crate) fn host<'x, J, R, G, P>(
     rt: &R,
     alloc: Global,
     verified: &'x Verified,
     workers: u8,
     gate: &'x G,
-    ports: &mut P,
+    channels: &mut P,
 ) -> Result<u64, PlayFault>
 where
-    J: Picture + Send + Sync,
+    J: OfImage + Send + Sync,
     R: Threads + Wait + Sync,
     G: Gate + Sync,
-    P: Ports,
+    P: Channels,
     requires image { verified.now ≡ J.image }
     requires workers { workers ≤ 8 }
-    ensures came { CameTo J.image (P.to_come ports.old) (P.taken ports.old) (P.taken ports.new)
-        (P.published ports.old) (P.published ports.new)
-        (P.failed_reads ports.old) (P.failed_reads ports.new)
-        (P.failed_writes ports.old) (P.failed_writes ports.new)
-        (P.progress ports.old) (P.progress ports.new) result }
-    ensures same { P.names ports.new ≡ P.names ports.old }
+    ensures came { CameTo J.image (P.to_come channels.old) (P.taken channels.old) (P.taken channels.new)
+        (P.published channels.old) (P.published channels.new)
+        (P.failed_reads channels.old) (P.failed_reads channels.new)
+        (P.failed_writes channels.old) (P.failed_writes channels.new)
+        (P.progress channels.old) (P.progress channels.new) result }
+    ensures same { P.names channels.new ≡ P.names channels.old }
 {
-    let (hall, passes) = Hall::<'x, J, G>::open(alloc, verified, gate)?;
-    let Some(crew) = Crew::of(&hall, passes, workers) else {
+    let (shared, passes) = Shared::<'x, J, G>::open(alloc, verified, gate)?;
+    let Some(team) = Team::of(&shared, passes, workers) else {
         return Err(PlayFault::Memory);
     };
-    let party = Party {
+    let work = TraceWork {
         alloc,
         verified,
-        crew,
+        team,
     };
-    let (result, _) = meet(rt, party, ports);
+    let (result, _) = meet(rt, work, channels);
     result
 }
 
-// A crew, and the image on whose ticks it is to work.
+// A team, and the image on whose ticks it is to work.
 #[derive(Drop)]
-struct Party<'r, 'x, J: Picture, G: Gate> {
+struct TraceWork<'r, 'x, J: OfImage, G: Gate> {
     alloc: Global,
     verified: &'x Verified,
-    crew: Crew<'r, 'x, J, G>,
+    team: Team<'r, 'x, J, G>,
     ghost of_image: { verified.now ≡ J.image },
 }
 
 // Plays the lines, and waits for all workers.
 fn meet<'r, 'x, 'p, J, R, G, P>(
     rt: &R,
-    party: Party<'r, 'x, J, G>,
-    ports: &'p mut P,
+    work: TraceWork<'r, 'x, J, G>,
+    channels: &'p mut P,
 ) -> (Result<u64, PlayFault>, &'p mut P)
 where
-    J: Picture + Send + Sync,
+    J: OfImage + Send + Sync,
     R: Threads + Wait + Sync,
     G: Gate + Sync,
-    P: Ports,
-    ensures name { result.1.ghost_name ≡ ports.entry.ghost_name }
-    ensures came { CameTo J.image (P.to_come ports.entry.now) (P.taken ports.entry.now) (P.taken result.1.now)
-        (P.published ports.entry.now) (P.published result.1.now)
-        (P.failed_reads ports.entry.now) (P.failed_reads result.1.now)
-        (P.failed_writes ports.entry.now) (P.failed_writes result.1.now)
-        (P.progress ports.entry.now) (P.progress result.1.now) result.0 }
-    ensures same { P.names result.1.now ≡ P.names ports.entry.now }
+    P: Channels,
+    ensures name { result.1.ghost_name ≡ channels.entry.ghost_name }
+    ensures came { CameTo J.image (P.to_come channels.entry.now) (P.taken channels.entry.now) (P.taken result.1.now)
+        (P.published channels.entry.now) (P.published result.1.now)
+        (P.failed_reads channels.entry.now) (P.failed_reads result.1.now)
+        (P.failed_writes channels.entry.now) (P.failed_writes result.1.now)
+        (P.progress channels.entry.now) (P.progress result.1.now) result.0 }
+    ensures same { P.names result.1.now ≡ P.names channels.entry.now }
 {
     thread::scope(
         thread::scope_env(),
         rt,
         move |scope| -> (Result<u64, PlayFault>, &mut P)
-            ensures name { result.1.ghost_name ≡ ports.entry.ghost_name }
-            ensures came { CameTo J.image (P.to_come ports.entry.now) (P.taken ports.entry.now) (P.taken result.1.now)
-                (P.published ports.entry.now) (P.published result.1.now)
-                (P.failed_reads ports.entry.now) (P.failed_reads result.1.now)
-                (P.failed_writes ports.entry.now) (P.failed_writes result.1.now)
-                (P.progress ports.entry.now) (P.progress result.1.now) result.0 }
-            ensures same { P.names result.1.now ≡ P.names ports.entry.now }
+            ensures name { result.1.ghost_name ≡ channels.entry.ghost_name }
+            ensures came { CameTo J.image (P.to_come channels.entry.now) (P.taken channels.entry.now) (P.taken result.1.now)
+                (P.published channels.entry.now) (P.published result.1.now)
+                (P.failed_reads channels.entry.now) (P.failed_reads result.1.now)
+                (P.failed_writes channels.entry.now) (P.failed_writes result.1.now)
+                (P.progress channels.entry.now) (P.progress result.1.now) result.0 }
+            ensures same { P.names result.1.now ≡ P.names channels.entry.now }
         {
-            let result = meet_in(rt, scope, party, ports);
-            (result, ports)
+            let result = meet_in(rt, scope, work, channels);
+            (result, channels)
         },
     )
 }
@@ -97,32 +99,32 @@ where
 fn meet_in<'s, 'r: 's, 'x: 's, E: 's, J, R, G, P>(
     rt: &'s R,
     scope: &'s Scope<'s, E>,
-    party: Party<'r, 'x, J, G>,
-    ports: &mut P,
+    work: TraceWork<'r, 'x, J, G>,
+    channels: &mut P,
 ) -> Result<u64, PlayFault>
 where
-    J: Picture + Send + Sync + 's,
+    J: OfImage + Send + Sync + 's,
     R: Wait + Sync,
     G: Gate + Sync + 's,
-    P: Ports,
-    ensures came { CameTo J.image (P.to_come ports.old) (P.taken ports.old) (P.taken ports.new)
-        (P.published ports.old) (P.published ports.new)
-        (P.failed_reads ports.old) (P.failed_reads ports.new)
-        (P.failed_writes ports.old) (P.failed_writes ports.new)
-        (P.progress ports.old) (P.progress ports.new) result }
-    ensures same { P.names ports.new ≡ P.names ports.old }
+    P: Channels,
+    ensures came { CameTo J.image (P.to_come channels.old) (P.taken channels.old) (P.taken channels.new)
+        (P.published channels.old) (P.published channels.new)
+        (P.failed_reads channels.old) (P.failed_reads channels.new)
+        (P.failed_writes channels.old) (P.failed_writes channels.new)
+        (P.progress channels.old) (P.progress channels.new) result }
+    ensures same { P.names channels.new ≡ P.names channels.old }
 {
-    let Party {
+    let TraceWork {
         alloc,
         verified,
-        crew,
-    } = party;
-    let shift = Shift {
+        team,
+    } = work;
+    let session = Session {
         rt,
         scope,
         alloc,
         verified,
-        crew,
+        team,
     };
-    play_lines(shift, ports)
+    play_lines(session, channels)
 }

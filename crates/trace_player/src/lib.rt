@@ -1,12 +1,12 @@
 //! The player of traces: for each line of an input a tick, and a line of output.
 #![tactic(auto)]
 
+mod channels;
 mod fault_text;
 mod hosting;
 mod laws;
 mod player;
-mod ports;
-mod shift;
+mod session;
 mod turns;
 
 pub use laws::one_trace;

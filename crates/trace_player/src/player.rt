@@ -1,3 +1,5 @@
+//! Playing an input.
+
 ghost use Rattle.std.specs.Prelude.{◌≡◌, ◌≢◌, ◌+◌, ◌≤◌, min, ℕ, List, length};
 ghost use Rattle.std.specs.Prelude.{Some, IfOk, IfErr, IsErrOf};
 ghost use Rattle.sc_values.specs.Streams.{IsNotReadBehind};
@@ -5,8 +7,8 @@ ghost use Rattle.trace_player.specs.declared.player.PlayFault.TheVariants.{Memor
 ghost use Rattle.trace_player.specs.Trace.{Plays, Leaves, Good, greatest};
 ghost use Rattle.trace_player.specs.Published.{PlaysAllTo, LeavesTo};
 
+use crate::channels::{Streams, Watched};
 use crate::hosting::host;
-use crate::ports::{Streams, Watched};
 use probe::Publisher;
 use sc_values::{Sink, Source};
 use std::alloc::{AllocError, Global};
@@ -45,8 +47,8 @@ impl From<AllocError> for PlayFault {
 /// `Input` and `NotJson` name the line at which the trace ends, and all before it was written; else
 /// the lines of output of some first lines were, each whole, or at `Write` the last one perhaps in
 /// part. Numbers stay at the greatest of 64 bits; after 2^128 lines it gives up as at `Memory`.
-/// The caller's thread serves as worker 1; others are started when two threads can step at once, and live until the
-/// trace ends. Each step passes the gate.
+/// The caller's thread serves as worker 1; the others are started at the first round that is worth sharing, and live
+/// until the trace ends. Each step passes the gate.
 pub fn play<'x, R: Threads + Wait + Sync, S: Source, W: Sink, G: Gate + Sync>(
     rt: &R,
     alloc: Global,

@@ -1,16 +1,18 @@
+//! The lines of an input, one after another.
+
 ghost use Rattle.std.specs.Prelude.{◌≡◌, ◌↔◌, [], IsTrue};
 ghost use Rattle.sc_graph.specs.Tick.{Rests, initial};
 ghost use Rattle.trace_player.specs.Trace.{next_number};
 ghost use Rattle.trace_player.specs.Inside.Faults.{unread};
 ghost use Rattle.trace_player.specs.Inside.Playing.{CameTo};
 
+use crate::channels::Channels;
 use crate::player::PlayFault;
-use crate::ports::Ports;
-use crate::shift::Shift;
+use crate::session::Session;
 use std::sync::Wait;
-use tick_core::{Control, Room};
+use tick_core::{Control, TickSpace};
 use trace_lines::{Interface, LineEnd, Lines, LinesFault};
-use worker_pool::{Gate, Picture};
+use worker_pool::{Gate, OfImage};
 
 // The fault where the line of this number could not be had.
 fn unread_line(fault: LinesFault, line: u64) -> PlayFault
@@ -39,93 +41,93 @@ fn is_last(end: LineEnd) -> bool
 
 /// Plays the lines of an input from the first configuration on. When it returns, no tick will be shared any more.
 pub(crate) fn play_lines<'s, 'r: 's, 'x: 's, E: 's, R, J, G, P>(
-    shift: Shift<'s, 'r, 'x, E, R, J, G>,
-    ports: &mut P,
+    session: Session<'s, 'r, 'x, E, R, J, G>,
+    channels: &mut P,
 ) -> Result<u64, PlayFault>
 where
     R: Wait + Sync,
-    J: Picture + Send + Sync + 's,
+    J: OfImage + Send + Sync + 's,
     G: Gate + Sync + 's,
-    P: Ports,
-    ensures came { CameTo J.image (P.to_come ports.old) (P.taken ports.old) (P.taken ports.new)
-        (P.published ports.old) (P.published ports.new)
-        (P.failed_reads ports.old) (P.failed_reads ports.new)
-        (P.failed_writes ports.old) (P.failed_writes ports.new)
-        (P.progress ports.old) (P.progress ports.new) result }
-    ensures same { P.names ports.new ≡ P.names ports.old }
+    P: Channels,
+    ensures came { CameTo J.image (P.to_come channels.old) (P.taken channels.old) (P.taken channels.new)
+        (P.published channels.old) (P.published channels.new)
+        (P.failed_reads channels.old) (P.failed_reads channels.new)
+        (P.failed_writes channels.old) (P.failed_writes channels.new)
+        (P.progress channels.old) (P.progress channels.new) result }
+    ensures same { P.names channels.new ≡ P.names channels.old }
 {
-    let mut shift = shift;
-    let result = begin(&mut shift, ports);
-    shift.crew.close(shift.rt);
+    let mut session = session;
+    let result = begin(&mut session, channels);
+    session.team.close(session.rt);
     result
 }
 
 // Makes what is kept from line to line, and plays the lines.
 fn begin<'s, 'r: 's, 'x: 's, E: 's, R, J, G, P>(
-    shift: &mut Shift<'s, 'r, 'x, E, R, J, G>,
-    ports: &mut P,
+    session: &mut Session<'s, 'r, 'x, E, R, J, G>,
+    channels: &mut P,
 ) -> Result<u64, PlayFault>
 where
     R: Wait + Sync,
-    J: Picture + Send + Sync + 's,
+    J: OfImage + Send + Sync + 's,
     G: Gate + Sync + 's,
-    P: Ports,
-    ensures came { CameTo J.image (P.to_come ports.old) (P.taken ports.old) (P.taken ports.new)
-        (P.published ports.old) (P.published ports.new)
-        (P.failed_reads ports.old) (P.failed_reads ports.new)
-        (P.failed_writes ports.old) (P.failed_writes ports.new)
-        (P.progress ports.old) (P.progress ports.new) result }
-    ensures same { P.names ports.new ≡ P.names ports.old }
+    P: Channels,
+    ensures came { CameTo J.image (P.to_come channels.old) (P.taken channels.old) (P.taken channels.new)
+        (P.published channels.old) (P.published channels.new)
+        (P.failed_reads channels.old) (P.failed_reads channels.new)
+        (P.failed_writes channels.old) (P.failed_writes channels.new)
+        (P.progress channels.old) (P.progress channels.new) result }
+    ensures same { P.names channels.new ≡ P.names channels.old }
 {
-    let program = shift.verified.image().program();
-    let control = Control::initial(shift.alloc, program)?;
-    let interface = Interface::of(shift.alloc, program.variables())?;
-    let mut lines = Lines::new(shift.alloc)?;
-    let room = Room::of(shift.alloc, shift.verified)?;
-    go_on(shift, &interface, room, control, &mut lines, ports)
+    let program = session.verified.image().program();
+    let control = Control::initial(session.alloc, program)?;
+    let interface = Interface::of(session.alloc, program.variables())?;
+    let mut lines = Lines::new(session.alloc)?;
+    let room = TickSpace::of(session.alloc, session.verified)?;
+    go_on(session, &interface, room, control, &mut lines, channels)
 }
 
 // Plays the lines of an input, none of which was read.
 fn go_on<'s, 'r: 's, 'x: 's, E: 's, R, J, G, P>(
-    shift: &mut Shift<'s, 'r, 'x, E, R, J, G>,
+    session: &mut Session<'s, 'r, 'x, E, R, J, G>,
     interface: &Interface<'_>,
-    room: Room<'x>,
+    room: TickSpace<'x>,
     control: Control,
     lines: &mut Lines,
-    ports: &mut P,
+    channels: &mut P,
 ) -> Result<u64, PlayFault>
 where
     R: Wait + Sync,
-    J: Picture + Send + Sync + 's,
+    J: OfImage + Send + Sync + 's,
     G: Gate + Sync + 's,
-    P: Ports,
+    P: Channels,
     requires interface { interface.now ≡ J.image.program.variables }
     requires room { room ≡ J.image }
     requires initial { control ≡ initial J.image.program }
     requires rests { Rests J.image.program control }
     requires lines { lines.old ≡ [] }
-    ensures came { CameTo J.image (P.to_come ports.old) (P.taken ports.old) (P.taken ports.new)
-        (P.published ports.old) (P.published ports.new)
-        (P.failed_reads ports.old) (P.failed_reads ports.new)
-        (P.failed_writes ports.old) (P.failed_writes ports.new)
-        (P.progress ports.old) (P.progress ports.new) result }
-    ensures same { P.names ports.new ≡ P.names ports.old }
+    ensures came { CameTo J.image (P.to_come channels.old) (P.taken channels.old) (P.taken channels.new)
+        (P.published channels.old) (P.published channels.new)
+        (P.failed_reads channels.old) (P.failed_reads channels.new)
+        (P.failed_writes channels.old) (P.failed_writes channels.new)
+        (P.progress channels.old) (P.progress channels.new) result }
+    ensures same { P.names channels.new ≡ P.names channels.old }
 {
     let mut room = room;
     let mut control = control;
-    let mut line = Vec::new(shift.alloc);
-    let mut shown = Vec::new(shift.alloc);
+    let mut line = Vec::new(session.alloc);
+    let mut shown = Vec::new(session.alloc);
     let mut number = 0;
     for _turn in 0..u128::MAX {
         let next = next_number(number);
-        let end = match ports.next(lines, &mut line) {
+        let end = match channels.next(lines, &mut line) {
             Ok(Some(end)) => end,
             Ok(None) => return Ok(number),
             Err(fault) => return Err(unread_line(fault, next)),
         };
-        let (after, left) = shift.react(interface, room, control, next, &line, &mut shown)?;
-        ports.publish(shift.rt, shift.verified, &after)?;
-        if !ports.write(shown.as_slice()) {
+        let (after, left) = session.react(interface, room, control, next, &line, &mut shown)?;
+        channels.publish(session.rt, session.verified, &after)?;
+        if !channels.write(shown.as_slice()) {
             return Err(PlayFault::Write);
         }
         control = after;

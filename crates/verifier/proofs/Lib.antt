@@ -7,4 +7,4 @@ pub mod Rising
 pub mod Each
 pub mod Standing
 pub mod Sampling
-pub mod Giving
+pub mod CodeKinds

@@ -8,9 +8,9 @@ use Rattle.sc_graph.specs.Program.{Program}
 use Rattle.sc_graph.specs.Valid.{IsFormed}
 use Rattle.sc_graph.specs.Accesses.{accesses}
 use Rattle.sc_graph.specs.Protocol.{NoConflictAt, WriteConflict, ProtocolAt}
-use Rattle.variable_users.specs.Users.{InitsAt, UpdatesAt, ReadsAt, Lists, NoConflictOn}
+use Rattle.program_edges.specs.Users.{InitsAt, UpdatesAt, ReadsAt, Lists, NoConflictOn}
 use Rattle.verifier.specs.Inside.Pairs.{Falls, AllFall, NoFallBetween, FallsOn}
-use Rattle.variable_users.proofs.Variables.{init_variable, update_variable}
+use Rattle.program_edges.proofs.Variables.{init_variable, update_variable}
 
 pub no_conflicts_kept : (p : Program) → IsFormed p → ((x : ℕ) → x < length p.variables → NoConflictOn p x) → (at : Place) → NoConflictAt p at
 no_conflicts_kept p formed h place.Image = tt

@@ -13,9 +13,9 @@ use Rattle.sc_graph.specs.Valid.{IsFormed}
 use Rattle.sc_graph.specs.Threads.{AreConcurrent, ConcurrentNodes}
 use Rattle.sc_graph.proofs.Each.{below_or_at}
 use Rattle.sc_graph.proofs.Formed.{concurrent_swapped, never_own}
-use Rattle.variable_users.proofs.Variables.{of_each}
+use Rattle.program_edges.proofs.Variables.{of_each}
 use Rattle.verifier.specs.Inside.Extremes.{OwnedAlike}
-use Rattle.variable_users.specs.Users.{InitsAt, UpdatesAt, NoneConflict}
+use Rattle.program_edges.specs.Users.{InitsAt, UpdatesAt, NoneConflict}
 use Rattle.verifier.specs.Inside.Samples.{AreAlike, ClashThrough, IsSample, HasUnlike, IsSampled, SamplesToo}
 use Rattle.verifier.proofs.Standing.{owned_too}
 

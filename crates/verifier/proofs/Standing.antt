@@ -11,11 +11,11 @@ use Rattle.sc_graph.specs.Threads.{ConcurrentNodes}
 use Rattle.verifier.specs.declared.extremes.Extreme.{Extreme}
 use Rattle.verifier.specs.declared.extremes.Extreme.TheVariants as extreme
 use Rattle.verifier.specs.declared.extremes.Extremes.{Extremes}
-use Rattle.variable_users.specs.declared.users.Users.{Users}
+use Rattle.program_edges.specs.declared.users.Users.{Users}
 use Rattle.verifier.specs.Inside.Chosen.{ExtremesOf, StandOver}
 use Rattle.verifier.specs.Inside.Extremes.{Beats, IsAsExtreme, StoodFor, StandFor, TakesIn, OwnedAlike}
 use Rattle.verifier.specs.Inside.Pairs.{AllFall}
-use Rattle.variable_users.proofs.Variables.{of_each}
+use Rattle.program_edges.proofs.Variables.{of_each}
 
 itself : (q : Tables) (e : Extreme) (n : ℕ) → IsAsExtreme q e n n
 itself q extreme.Least n = omega arith

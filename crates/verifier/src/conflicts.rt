@@ -5,7 +5,7 @@ ghost use Rattle.std.specs.Prelude.{◌<◌, ◌↔◌, IsTrue, MatchOption, ℕ
 ghost use Rattle.sc_values.specs.Access.{Clash};
 ghost use Rattle.sc_graph.specs.Accesses.{accesses};
 ghost use Rattle.sc_graph.specs.Protocol.{NoConflictAt, WriteConflict};
-ghost use Rattle.variable_users.specs.Users.{NoConflictOn, NoneConflict, UsersOf};
+ghost use Rattle.program_edges.specs.Users.{NoConflictOn, NoneConflict, UsersOf};
 ghost use Rattle.verifier.specs.Inside.Faults.{IsFault};
 ghost use Rattle.verifier.specs.Inside.Chosen.{SamplesOf};
 ghost use Rattle.verifier.specs.Inside.Samples.{IsSample};
@@ -14,8 +14,8 @@ ghost use Rattle.verifier.specs.Inside.Linked.{IsLinked};
 use crate::concurrency::are_concurrent;
 use crate::extremes::list_of;
 use crate::samples::Samples;
+use program_edges::Users;
 use sc_graph::{Links, NodeId, Place, Program, VariableId};
-use variable_users::Users;
 
 /// A place where the rule is broken, where it is.
 pub(crate) fn no_conflict_fault(

@@ -7,10 +7,10 @@ ghost use Rattle.verifier.specs.Inside.Extremes.{Beats, OwnedAlike, StandFor, Ta
 ghost use Rattle.verifier.specs.Inside.Each.{EachOf};
 
 use crate::places::Places;
+use program_edges::{NodeLists, Users};
 use sc_graph::{NodeId, Program, Tables};
 use sqlite_items::Items;
 use std::alloc::{AllocError, Global};
-use variable_users::{NodeLists, Users};
 
 /// A way to choose a node by its priority.
 #[derive(Clone, Copy)]

@@ -6,7 +6,7 @@ ghost use Rattle.sc_graph.specs.Tables.{priority};
 ghost use Rattle.verifier.specs.Inside.Faults.{IsFault};
 ghost use Rattle.verifier.specs.Inside.Linked.{IsLinked};
 
-use instant_edges::{Wanted, find_instant};
+use program_edges::{Wanted, find_instant};
 use sc_graph::{Links, NodeId, Place, Program, Tables};
 
 /// A place where the rule is broken, where it is.

@@ -6,11 +6,11 @@ ghost use Rattle.verifier.specs.Inside.Known.{KnownOf};
 use crate::extremes::Extremes;
 use crate::kinds::kinds_of;
 use crate::samples::Samples;
+use program_edges::Users;
 use sc_graph::{Links, Program, Tables};
 use sc_values::Kind;
 use sqlite_items::Items;
 use std::alloc::{AllocError, Global};
-use variable_users::Users;
 
 /// What is made once of an image: the links of its program, the kinds of its variables, the nodes that
 /// use each variable, and what is chosen of these.

@@ -6,7 +6,7 @@ ghost use Rattle.sc_graph.specs.Protocol.{ProtocolAt};
 ghost use Rattle.sc_graph.specs.Valid.{IsFormed};
 ghost use Rattle.sc_graph.specs.declared.place.Place.TheVariants as place;
 ghost use Rattle.verifier.specs.Inside.Pairs.{AllFall, Falls, FallsOn, NoFallBetween};
-ghost use Rattle.variable_users.specs.Users.{InitsAt, Lists, ReadsAt, UpdatesAt};
+ghost use Rattle.program_edges.specs.Users.{InitsAt, Lists, ReadsAt, UpdatesAt};
 ghost use Rattle.verifier.specs.Inside.Faults.{IsFault};
 ghost use Rattle.verifier.specs.Inside.Known.{KnownOf};
 ghost use Rattle.verifier.specs.Inside.Linked.{IsLinked};

@@ -1,3 +1,5 @@
+//! The rules of a valid image, and where one is broken.
+
 ghost use Rattle.std.specs.Prelude.{◌≡◌};
 
 use sc_graph::Place;

@@ -7,15 +7,15 @@ ghost use Rattle.sc_graph.specs.Accesses.{accesses};
 ghost use Rattle.verifier.specs.Inside.Samples.{AreAlike, ClashThrough, HasUnlike, IsSample, IsSampled, SamplesToo};
 ghost use Rattle.verifier.specs.Inside.Chosen.{SamplesOf};
 ghost use Rattle.verifier.specs.Inside.Each.{EachOf};
-ghost use Rattle.variable_users.specs.Users.{UsersOf};
+ghost use Rattle.program_edges.specs.Users.{UsersOf};
 
 use crate::conflicts::nodes_clash;
 use crate::extremes::owned_alike;
 use crate::places::Places;
+use program_edges::{NodeLists, Users};
 use sc_graph::{NodeId, Program};
 use sqlite_items::Items;
 use std::alloc::{AllocError, Global};
-use variable_users::{NodeLists, Users};
 
 /// For each variable, samples of its inits and of its updates.
 #[derive(Drop)]

@@ -1,3 +1,5 @@
+//! Valid images.
+
 ghost use Rattle.std.specs.Prelude.{◌≡◌};
 ghost use Rattle.sc_graph.specs.Links.{Tells};
 ghost use Rattle.sc_graph.specs.Valid.{IsValid};

@@ -1,3 +1,3 @@
 pub mod Ticks
-pub mod Halls
+pub mod Passes
 pub mod Inside

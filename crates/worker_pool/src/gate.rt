@@ -1,3 +1,5 @@
+//! The hook at each step of a tick.
+
 use sc_graph::ThreadId;
 
 /// A hook at each step of a tick, between its evaluation and its commit. No lock is held there.

@@ -1,22 +1,22 @@
 //! The workers of a tick: whoever of them takes which step, it comes to its one end.
 #![tactic(auto)]
 
-mod crew;
-mod desk;
 mod gate;
-mod hall;
+mod locked;
+mod of_image;
 mod one_tick;
-mod picture;
-mod seat;
 mod serving;
 mod settling;
-mod table;
+mod shared;
+mod shared_tick;
+mod team;
 mod ticking;
 mod weighing;
+mod worker;
 mod working;
 
-pub use crew::Crew;
 pub use gate::{Gate, NoGate};
-pub use hall::Hall;
+pub use of_image::OfImage;
 pub use one_tick::run_tick;
-pub use picture::Picture;
+pub use shared::Shared;
+pub use team::Team;

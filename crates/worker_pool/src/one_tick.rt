@@ -1,16 +1,18 @@
+//! One tick by several workers.
+
 ghost use Rattle.std.specs.Prelude.{◌≡◌, ◌≤◌, ◌↔◌, IfOk};
 ghost use Rattle.std.specs.Result.{IsErrOf};
 ghost use Rattle.sc_graph.specs.Tick.{Rests, AreAccepted};
 ghost use Rattle.worker_pool.specs.Ticks.{IsTick};
 ghost use Rattle.worker_pool.specs.Inside.Stretches.{EndsTick};
 
-use crate::crew::Crew;
-use crate::desk::Desk;
 use crate::gate::Gate;
-use crate::hall::Hall;
-use crate::picture::Picture;
+use crate::of_image::OfImage;
 use crate::serving::{alone, stretch};
 use crate::settling::settle;
+use crate::shared::Shared;
+use crate::shared_tick::SharedTick;
+use crate::team::Team;
 use std::alloc::{AllocError, Global};
 use std::marker::Brand;
 use std::sync::Wait;
@@ -20,8 +22,8 @@ use tick_core::{BeginFault, Control, Inputs, Report, TickState, begin, copied};
 use verifier::Verified;
 
 /// Runs a tick from a configuration that rests to its one end, with 1 to 8 workers: the configuration after it, and
-/// the report of its steps. The caller's thread serves as worker 1, and others are started when two threads can step at
-/// once. Each step passes the gate. `Input` and `Memory` as of `begin`; the configuration is untouched.
+/// the report of its steps. The caller's thread serves as worker 1, and the others are started at the first round that is
+/// worth sharing. Each step passes the gate. `Input` and `Memory` as of `begin`; the configuration is untouched.
 pub fn run_tick<'x, R: Threads + Wait + Sync, G: Gate + Sync>(
     rt: &R,
     alloc: Global,
@@ -51,10 +53,10 @@ fn complete<'x, J, R, G>(
     gate: &'x G,
 ) -> Result<TickState<'x>, AllocError>
 where
-    J: Picture + Send + Sync,
+    J: OfImage + Send + Sync,
     R: Threads + Wait + Sync,
     G: Gate + Sync,
-    requires picture { verified.now ≡ J.image }
+    requires of_image { verified.now ≡ J.image }
     requires image { state.image ≡ J.image }
     requires workers { workers ≤ 8 }
     ensures { IfOk result (EndsTick state.entry) }
@@ -77,10 +79,10 @@ fn share<'x, J, R, G>(
     gate: &'x G,
 ) -> Result<TickState<'x>, AllocError>
 where
-    J: Picture + Send + Sync,
+    J: OfImage + Send + Sync,
     R: Threads + Wait + Sync,
     G: Gate + Sync,
-    requires picture { verified.now ≡ J.image }
+    requires of_image { verified.now ≡ J.image }
     requires image { state.image ≡ J.image }
     requires workers { workers ≤ 8 }
     ensures { IfOk result (EndsTick state.entry) }
@@ -88,49 +90,49 @@ where
     let Ok(begun) = copied(alloc, state.begun()) else {
         return Ok(alone(state, gate));
     };
-    let Ok((hall, passes)) = Hall::<'x, J, G>::open(alloc, verified, gate) else {
+    let Ok((shared, passes)) = Shared::<'x, J, G>::open(alloc, verified, gate) else {
         return Ok(alone(state, gate));
     };
-    let Some(crew) = Crew::of(&hall, passes, workers) else {
+    let Some(team) = Team::of(&shared, passes, workers) else {
         return Ok(alone(state, gate));
     };
-    let party = Party {
-        crew,
-        desk: Desk::of(state),
+    let work = TickWork {
+        team,
+        shared_tick: SharedTick::of(state),
     };
-    settle(alloc, verified, meet(rt, party), begun)
+    settle(alloc, verified, meet(rt, work), begun)
 }
 
-// A crew, and the tick that it is to share.
+// A team, and the tick that it is to share.
 #[derive(Drop)]
-struct Party<'r, 'x, J: Picture, G: Gate> {
-    crew: Crew<'r, 'x, J, G>,
-    desk: Desk<'x, J>,
+struct TickWork<'r, 'x, J: OfImage, G: Gate> {
+    team: Team<'r, 'x, J, G>,
+    shared_tick: SharedTick<'x, J>,
 }
 
 // Shares the tick, and waits for all workers.
-fn meet<'r, 'x, J, R, G>(rt: &R, party: Party<'r, 'x, J, G>) -> Option<Desk<'x, J>>
+fn meet<'r, 'x, J, R, G>(rt: &R, work: TickWork<'r, 'x, J, G>) -> Option<SharedTick<'x, J>>
 where
-    J: Picture + Send + Sync,
+    J: OfImage + Send + Sync,
     R: Threads + Wait + Sync,
     G: Gate + Sync,
 {
-    thread::scope(thread::scope_env(), rt, |scope| meet_in(rt, scope, party))
+    thread::scope(thread::scope_env(), rt, |scope| meet_in(rt, scope, work))
 }
 
 fn meet_in<'s, 'r: 's, 'x: 's, E: 's, J, R, G>(
     rt: &'s R,
     scope: &'s Scope<'s, E>,
-    party: Party<'r, 'x, J, G>,
-) -> Option<Desk<'x, J>>
+    work: TickWork<'r, 'x, J, G>,
+) -> Option<SharedTick<'x, J>>
 where
-    J: Picture + Send + Sync + 's,
+    J: OfImage + Send + Sync + 's,
     R: Wait + Sync,
     G: Gate + Sync + 's,
 {
-    let Party { crew, desk } = party;
-    let mut crew = crew;
-    let back = crew.share(rt, scope, desk);
-    crew.close(rt);
+    let TickWork { team, shared_tick } = work;
+    let mut team = team;
+    let back = team.share(rt, scope, shared_tick);
+    team.close(rt);
     back
 }

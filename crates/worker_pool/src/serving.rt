@@ -1,3 +1,5 @@
+//! The steps that the first worker takes alone.
+
 ghost use Rattle.std.specs.Prelude.{◌≡◌, false};
 ghost use Rattle.sc_values.specs.Runs.{IsOver};
 ghost use Rattle.sc_graph.specs.Machine.{machine};
@@ -41,8 +43,8 @@ fn lead<G: Gate>(state: &mut TickState<'_>, gate: &G) -> bool
 
 // Whether the round in which this thread leads is worth sharing.
 fn is_to_share<G: Gate>(state: &TickState<'_>, thread: ThreadId, gate: &G) -> bool {
-    let round = round_of(state, thread);
-    round.len() > 1 && (gate.waits() || is_much(state, round, gate))
+    let ready = round_of(state, thread);
+    ready.len() > 1 && (gate.waits() || is_much(state, ready, gate))
 }
 
 // The threads that can step at the priority of this one.

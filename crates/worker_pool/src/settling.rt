@@ -1,25 +1,27 @@
+//! What is made of a tick that comes back from under the lock.
+
 ghost use Rattle.std.specs.Prelude.{◌≡◌, IfOk, IfSome, IsTrue};
 ghost use Rattle.sc_values.specs.Runs.{IsOver};
 ghost use Rattle.sc_graph.specs.Machine.{machine};
 ghost use Rattle.tick_core.specs.State.{BeginsTick};
 
-use crate::desk::Desk;
-use crate::picture::Picture;
+use crate::of_image::OfImage;
+use crate::shared_tick::SharedTick;
 use sc_graph::Status;
 use sc_values::Value;
 use std::alloc::{AllocError, Global};
-use tick_core::{Control, Room, TickState};
+use tick_core::{Control, TickSpace, TickState};
 use verifier::Verified;
 
 /// What came back of a tick that began so, run to its end. Where nothing came back, or another tick, it is the same
 /// tick begun again, all of whose steps the caller takes. Err: memory was refused for that.
-pub(crate) fn settle<'x, J: Picture>(
+pub(crate) fn settle<'x, J: OfImage>(
     alloc: Global,
     verified: &'x Verified,
-    back: Option<Desk<'x, J>>,
+    back: Option<SharedTick<'x, J>>,
     begun: Control,
 ) -> Result<TickState<'x>, AllocError>
-    requires picture { verified.now ≡ J.image }
+    requires of_image { verified.now ≡ J.image }
     requires begins { BeginsTick J.image.program begun }
     ensures image { IfOk result (λ s. s.image ≡ J.image) }
     ensures begun { IfOk result (λ s. s.begun ≡ begun) }
@@ -27,14 +29,17 @@ pub(crate) fn settle<'x, J: Picture>(
 {
     let mut state = match returned(back, &begun) {
         Some(state) => state,
-        None => Room::of(alloc, verified)?.begin_again(begun),
+        None => TickSpace::of(alloc, verified)?.begin_again(begun),
     };
     state.run_alone();
     Ok(state)
 }
 
 // What came back of a tick that began so. None: nothing came back, or another tick.
-fn returned<'x, J: Picture>(back: Option<Desk<'x, J>>, begun: &Control) -> Option<TickState<'x>>
+fn returned<'x, J: OfImage>(
+    back: Option<SharedTick<'x, J>>,
+    begun: &Control,
+) -> Option<TickState<'x>>
     ensures image { IfSome result (λ s. s.image ≡ J.image) }
     ensures begun { IfSome result (λ s. s.begun ≡ begun.now) }
 {

@@ -1,22 +1,24 @@
+//! A tick after the other, by workers that are kept.
+
 ghost use Rattle.std.specs.Prelude.{◌≡◌, ◌↔◌, IfOk};
 ghost use Rattle.std.specs.Result.{IsErrOf};
 ghost use Rattle.sc_graph.specs.Tick.{Rests, AreAccepted};
 ghost use Rattle.worker_pool.specs.Ticks.{Ended};
 ghost use Rattle.worker_pool.specs.Inside.Stretches.{EndsTick};
 
-use crate::crew::Crew;
-use crate::desk::Desk;
 use crate::gate::Gate;
-use crate::picture::Picture;
+use crate::of_image::OfImage;
 use crate::serving::{alone, stretch};
 use crate::settling::settle;
+use crate::shared_tick::SharedTick;
+use crate::team::Team;
 use std::alloc::{AllocError, Global};
 use std::sync::Wait;
 use std::thread::Scope;
-use tick_core::{BeginFault, Control, Inputs, Room, TickState, copied};
+use tick_core::{BeginFault, Control, Inputs, TickSpace, TickState, copied};
 
-impl<'r, 'x, J: Picture, G: Gate> Crew<'r, 'x, J, G> {
-    /// Runs a tick of the hall's image from a configuration that rests and is given up, in the room that an earlier one
+impl<'r, 'x, J: OfImage, G: Gate> Team<'r, 'x, J, G> {
+    /// Runs a tick of the shared image from a configuration that rests and is given up, in the space that an earlier one
     /// left, to where nobody is enabled. Each step passes the gate. `Input` as of `begin`. A tick that is not shared
     /// takes no memory; one is shared with others where there is memory for it.
     pub fn tick<'s, R, E>(
@@ -24,7 +26,7 @@ impl<'r, 'x, J: Picture, G: Gate> Crew<'r, 'x, J, G> {
         rt: &'s R,
         scope: &'s Scope<'s, E>,
         alloc: Global,
-        room: Room<'x>,
+        room: TickSpace<'x>,
         control: Control,
         inputs: &Inputs,
     ) -> Result<TickState<'x>, BeginFault>
@@ -64,7 +66,7 @@ impl<'r, 'x, J: Picture, G: Gate> Crew<'r, 'x, J, G> {
         ensures { IfOk result (EndsTick state.entry) }
     {
         let mut state = state;
-        if stretch(&mut state, self.workers, self.hall.gate) {
+        if stretch(&mut state, self.workers, self.shared.gate) {
             self.complete_wide(rt, scope, alloc, state)
         } else {
             Ok(state)
@@ -90,9 +92,9 @@ impl<'r, 'x, J: Picture, G: Gate> Crew<'r, 'x, J, G> {
         ensures { IfOk result (EndsTick state.entry) }
     {
         let Ok(begun) = copied(alloc, state.begun()) else {
-            return Ok(alone(state, self.hall.gate));
+            return Ok(alone(state, self.shared.gate));
         };
-        let back = self.share(rt, scope, Desk::of(state));
-        settle(alloc, self.hall.verified, back, begun)
+        let back = self.share(rt, scope, SharedTick::of(state));
+        settle(alloc, self.shared.verified, back, begun)
     }
 }

@@ -12,12 +12,12 @@ pub(crate) const SHARE: u64 = 256;
 const HEAVY: u64 = 48;
 
 /// Whether a round of these threads has work for a second worker, as far as the first two show.
-pub(crate) fn is_much<G: Gate>(state: &TickState<'_>, round: &[ThreadId], gate: &G) -> bool {
+pub(crate) fn is_much<G: Gate>(state: &TickState<'_>, ready: &[ThreadId], gate: &G) -> bool {
     let mut work: u64 = gate.work().saturating_mul(2);
-    for thread in round.iter().take(2) {
+    for thread in ready.iter().take(2) {
         work = work.saturating_add(operations_at(state, *thread));
     }
-    work >= 2 * HEAVY && work.saturating_mul(round.len() as u64 / 2) >= 2 * SHARE
+    work >= 2 * HEAVY && work.saturating_mul(ready.len() as u64 / 2) >= 2 * SHARE
 }
 
 // The operations that are evaluated for the step of a thread, and one for the step.

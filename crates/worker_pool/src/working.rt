@@ -1,17 +1,19 @@
+//! What workers do until there is nothing left.
+
 use crate::gate::Gate;
-use crate::picture::Picture;
-use crate::seat::{Next, Seat};
+use crate::of_image::OfImage;
+use crate::worker::{Next, Worker};
 use std::sync::Wait;
 use std::thread::Scope;
 
-// What another worker does, until the hall is closed.
-fn work<R: Wait, J: Picture, G: Gate>(rt: &R, seat: Seat<'_, '_, J, G>) {
-    let mut seat = seat;
+// What another worker does, until what it shares is closed.
+fn work<R: Wait, J: OfImage, G: Gate>(rt: &R, worker: Worker<'_, '_, J, G>) {
+    let mut worker = worker;
     let mut next = Next::new();
     for _ in rt.forever() {
-        next = match seat.find(rt) {
-            Some(claim) => seat.serve(rt, claim, next.standing),
-            None => match seat.hall.rest(rt, next.puts) {
+        next = match worker.find(rt) {
+            Some(claim) => worker.serve(rt, claim, next.standing),
+            None => match worker.shared.rest(rt, next.puts) {
                 Some(next) => next,
                 None => return,
             },
@@ -20,9 +22,9 @@ fn work<R: Wait, J: Picture, G: Gate>(rt: &R, seat: Seat<'_, '_, J, G>) {
 }
 
 /// What the first worker does, until the tick is over.
-pub(crate) fn attend<R: Wait, J: Picture, G: Gate>(
+pub(crate) fn attend<R: Wait, J: OfImage, G: Gate>(
     rt: &R,
-    seat: &mut Seat<'_, '_, J, G>,
+    worker: &mut Worker<'_, '_, J, G>,
     next: Next,
 ) {
     let mut next = next;
@@ -30,9 +32,9 @@ pub(crate) fn attend<R: Wait, J: Picture, G: Gate>(
         if next.over {
             return;
         }
-        next = match seat.find(rt) {
-            Some(claim) => seat.serve(rt, claim, next.standing),
-            None => seat.hall.rest_first(rt, next.puts),
+        next = match worker.find(rt) {
+            Some(claim) => worker.serve(rt, claim, next.standing),
+            None => worker.shared.rest_first(rt, next.puts),
         };
     }
 }
@@ -41,12 +43,12 @@ pub(crate) fn attend<R: Wait, J: Picture, G: Gate>(
 pub(crate) fn start<'s, 'r: 's, 'x: 's, E: 's, R, J, G>(
     scope: &'s Scope<'s, E>,
     rt: &'s R,
-    seat: Seat<'r, 'x, J, G>,
+    worker: Worker<'r, 'x, J, G>,
 )
 where
     R: Wait + Sync,
-    J: Picture + Send + Sync + 's,
+    J: OfImage + Send + Sync + 's,
     G: Gate + Sync + 's,
 {
-    let _ = scope.spawn(move || work(rt, seat));
+    let _ = scope.spawn(move || work(rt, worker));
 }

@@ -2,7 +2,7 @@
 use Rattle.std.specs.Prelude.{Bool, false, List, filter}
 use Rattle.core_charts.specs.declared.region.Transition.{Transition}
 use Rattle.core_charts.specs.declared.region.TransitionKind.{TransitionKind}
-use Rattle.core_charts.specs.Standing.{is_strong, is_weak}
+use Rattle.core_charts.specs.Tests.{is_strong, is_weak}
 use Rattle.abort_expansion.specs.declared.checks.Sort.{Sort}
 use Rattle.abort_expansion.specs.declared.checks.Sort.TheVariants as sort
 

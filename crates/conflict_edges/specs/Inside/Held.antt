@@ -2,8 +2,8 @@
 use Rattle.std.specs.Prelude.{◌≡◌}
 use Rattle.sc_graph.specs.Program.{Program}
 use Rattle.sc_graph.specs.Valid.{IsFormed}
-use Rattle.variable_users.specs.declared.users.Users.{Users}
-use Rattle.variable_users.specs.Users.{UsersOf}
+use Rattle.program_edges.specs.declared.users.Users.{Users}
+use Rattle.program_edges.specs.Users.{UsersOf}
 
 -- of a formed program a table of its concurrent threads, and the users of its variables
 pub record AreHeld (p threads : Program) (users : Users) : Type 0 where

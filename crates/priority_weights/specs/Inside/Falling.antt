@@ -1,7 +1,7 @@
 -- The answer of a search for the least table that falls along edges.
 use Rattle.std.specs.Prelude.{ℕ, slice_index}
-use Rattle.least.specs.Least.{IsLeast, IsWithin}
-use Rattle.least.specs.Walks.{Falls, IsCycle}
+use Rattle.least_or_cycle.specs.Least.{IsLeast, IsWithin}
+use Rattle.least_or_cycle.specs.Walks.{Falls, IsCycle}
 use Rattle.priority_weights.specs.declared.falling.Falling.{Falling}
 use Rattle.priority_weights.specs.declared.falling.Falling.TheVariants as falling
 

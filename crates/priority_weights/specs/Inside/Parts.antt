@@ -1,8 +1,8 @@
 -- The parts of the least tables, each by the one before.
 use Rattle.std.specs.Prelude.{ℕ, List, length, slice_index}
 use Rattle.sc_graph.specs.Program.{Program}
-use Rattle.least.specs.Least.{IsLeast, IsWithin}
-use Rattle.least.specs.Walks.{Falls}
+use Rattle.least_or_cycle.specs.Least.{IsLeast, IsWithin}
+use Rattle.least_or_cycle.specs.Walks.{Falls}
 use Rattle.priority_weights.specs.Edges.{InOrder}
 use Rattle.priority_weights.specs.Inside.Bounds.{AreLeastBounds}
 use Rattle.priority_weights.specs.Inside.Entries.{BitKept, WeightKept, bits}

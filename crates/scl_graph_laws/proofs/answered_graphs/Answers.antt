@@ -2,7 +2,7 @@ use Rattle.std.proofs.Common.{sym, subst}
 use Rattle.sc_graph.specs.Valid.{IsFormed}
 use Rattle.scl.specs.Numbering.{numbered}
 use Rattle.scl_graph_laws.specs.Keeps.{Keeps}
-use Rattle.scl_graph_laws.proofs.Keeping.{program_keeps_runs}
+use Rattle.scl_graph_laws.proofs.RunsKept.{program_keeps_runs}
 use Rattle.scl_graph_laws.proofs.Forming.{program_is_formed}
 use Rattle.scl_graph_laws.proofs.answered_graphs.Goals as goal
 

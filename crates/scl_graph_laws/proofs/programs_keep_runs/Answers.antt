@@ -1,5 +1,5 @@
 use Rattle.scl_graph_laws.proofs.Texts.{program_mirrors}
-use Rattle.scl_graph_laws.proofs.Keeping.{program_keeps_runs}
+use Rattle.scl_graph_laws.proofs.RunsKept.{program_keeps_runs}
 use Rattle.scl_graph_laws.proofs.programs_keep_runs.Goals as goal
 
 pub returns : goal.returns

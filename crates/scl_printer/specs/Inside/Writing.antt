@@ -1,7 +1,7 @@
 -- What private functions say of a text that is being written. No public contract rests on it.
 use Rattle.std.specs.Prelude.{ℕ, ◌≡◌, ◌+◌, Bool, true, false, if◌then◌else◌, Option, List, [], ◌∷◌, ◌++◌}
 use Rattle.std.specs.Io.KnownBytes.{Appends}
-use Rattle.scl_printer.specs.declared.pen.Pen.{Pen}
+use Rattle.scl_printer.specs.declared.buffered.Buffered.{Buffered}
 
 -- where writing stands: what the sink took and how often it failed, and what is held back for it, unless it failed
 pub record Page : Type 0 where
@@ -10,8 +10,8 @@ pub record Page : Type 0 where
   pub held : List ℕ
   pub failed : Bool
 
-abbrev pub page : Option (List ℕ) → ℕ → Pen → Page
-page taken failures pen = record { taken = taken; failures = failures; held = pen.held.items; failed = pen.failed }
+abbrev pub page : Option (List ℕ) → ℕ → Buffered → Page
+page taken failures buffered = record { taken = taken; failures = failures; held = buffered.held.items; failed = buffered.failed }
 
 -- since a sink had taken `start`, and had failed so often, this text was written: the sink took `done` of it, and the
 -- rest is held, unless the sink failed, which it did once

@@ -1,6 +1,6 @@
 -- Threads in rows by the priority at which they can step, and be claimed.
 use Rattle.std.specs.Prelude.{ℕ, ◌≡◌, ◌<◌, Bool, true, false, Option, Some, None, List, [], ◌∷◌, length, slice_get, slice_index, slice_set}
-use Rattle.ready_rows.specs.Rows.{Rows, IsIn, HasRooms}
+use Rattle.buckets.specs.Rows.{Rows, IsIn, HasRooms}
 use Rattle.sc_graph.specs.declared.program.Step.{Step}
 use Rattle.sc_graph.specs.declared.program.Step.TheVariants as step
 use Rattle.sc_graph.specs.declared.control.Control.{Control}

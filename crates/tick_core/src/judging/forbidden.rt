@@ -1,3 +1,5 @@
+//! The first pair of steps that stand in a forbidden order.
+
 ghost use Rattle.std.specs.Prelude.{◌<◌, ◌↔◌, ℕ, IsTrue, MatchOption, length};
 ghost use Rattle.sc_values.specs.Access.{MayPrecede};
 ghost use Rattle.sc_values.specs.Runs.{ConcurrentSteps, IsOrdered};

@@ -1,3 +1,5 @@
+//! The steps of a given list of threads.
+
 ghost use Rattle.std.specs.Prelude.{◌≡◌, false, IfOk, IsSome, MatchOption};
 ghost use Rattle.sc_graph.specs.Program.{kinds as variable_kinds};
 ghost use Rattle.sc_graph.specs.Control.{is_enabled, IsEnabled};

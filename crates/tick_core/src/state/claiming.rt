@@ -1,3 +1,5 @@
+//! Claims on a tick, and what is committed and given back.
+
 ghost use Rattle.std.specs.Prelude.{ℕ, ◌≡◌, ◌↔◌, ◌<◌, ◌≤◌, IsTrue, IsSome, IfOk, OnOk, OnErr, MatchOption, Some, None};
 ghost use Rattle.std.specs.Prelude.{length, slice_get, slice_set, count_by, is_some};
 ghost use Rattle.sc_graph.specs.Control.{status_of};

@@ -1,3 +1,5 @@
+//! The end of a tick.
+
 ghost use Rattle.std.specs.Prelude.{◌≡◌, ◌↔◌, ◌<◌, ◌≤◌, ◌==◌, ◌≢◌, List, Some, ℕ, IsTrue, count_by, length, slice_get};
 ghost use Rattle.std.specs.Prelude.{slice_index};
 ghost use Rattle.sc_values.specs.Runs.{IsOver};
@@ -18,7 +20,7 @@ use crate::history::{Entry, Report};
 use crate::living::count_after;
 use crate::sorting::{children_at, sort_after, sort_every};
 use crate::state::claiming::close_one;
-use crate::state::{Room, TickState};
+use crate::state::{TickSpace, TickState};
 use crate::stepping::{code_at, take_step};
 use sc_graph::{Control, ThreadId};
 use sc_values::{CheckedCode, Kind, Operands, Value, eval};
@@ -127,7 +129,7 @@ impl<'a> TickState<'a> {
 
     /// Of a tick that is over: the configuration in which it ended, as of `finish`, and the room for the
     /// next tick of the image. The room keeps that of the history, which is to be read before.
-    pub fn hand_over(self) -> (Control, Room<'a>)
+    pub fn hand_over(self) -> (Control, TickSpace<'a>)
         requires { IsOver (machine self.image.program) self.present }
         ensures present { result.0 ≡ self.entry.present }
         ensures rests { Rests self.entry.image.program result.0 }
@@ -150,7 +152,7 @@ impl<'a> TickState<'a> {
             living,
             given,
         } = self;
-        let room = Room {
+        let room = TickSpace {
             verified,
             layout,
             rows,

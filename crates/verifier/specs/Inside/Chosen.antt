@@ -5,7 +5,7 @@ use Rattle.sc_graph.specs.Program.{Program}
 use Rattle.verifier.specs.declared.extremes.Extreme.TheVariants as extreme
 use Rattle.verifier.specs.declared.extremes.Extremes.{Extremes}
 use Rattle.verifier.specs.declared.samples.Samples.{Samples}
-use Rattle.variable_users.specs.declared.users.Users.{Users}
+use Rattle.program_edges.specs.declared.users.Users.{Users}
 use Rattle.verifier.specs.Inside.Each.{EachOf}
 use Rattle.verifier.specs.Inside.Extremes.{StandFor}
 use Rattle.verifier.specs.Inside.Samples.{IsSample}

@@ -4,7 +4,7 @@ use Rattle.sc_graph.specs.declared.tables.Tables.{Tables}
 use Rattle.sc_graph.specs.Program.{Program, kinds}
 use Rattle.sc_graph.specs.Links.{Tells}
 use Rattle.verifier.specs.declared.known.Known.{Known}
-use Rattle.variable_users.specs.Users.{UsersOf}
+use Rattle.program_edges.specs.Users.{UsersOf}
 use Rattle.verifier.specs.Inside.Chosen.{ExtremesOf, SamplesOf}
 
 pub record KnownOf (p : Program) (q : Tables) (k : Known) : Type 0 where

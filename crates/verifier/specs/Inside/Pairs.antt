@@ -6,7 +6,7 @@ use Rattle.sc_graph.specs.declared.tables.Tables.{Tables}
 use Rattle.sc_graph.specs.Program.{Program}
 use Rattle.sc_graph.specs.Threads.{ConcurrentNodes}
 use Rattle.sc_graph.specs.Tables.{priority}
-use Rattle.variable_users.specs.Users.{InitsAt, UpdatesAt, ReadsAt}
+use Rattle.program_edges.specs.Users.{InitsAt, UpdatesAt, ReadsAt}
 
 -- priority falls from node m to node n, if they are concurrent
 pub record Falls (p : Program) (q : Tables) (m n : ℕ) : Type 0 where

@@ -4,7 +4,7 @@ use Rattle.sc_values.specs.Access.{Clash}
 use Rattle.sc_graph.specs.Program.{Program, owner_of}
 use Rattle.sc_graph.specs.Accesses.{accesses}
 use Rattle.sc_graph.specs.Valid.{IsFormed}
-use Rattle.variable_users.specs.Users.{NoneConflict}
+use Rattle.program_edges.specs.Users.{NoneConflict}
 
 -- no two of these nodes clash
 abbrev pub AreAlike : Program → List ℕ → Type 0

@@ -1,5 +1,5 @@
 use Rattle.std.proofs.Common.{◌≡◌, ◌++◌, map, drop}
-use Rattle.core_charts.specs.Standing.{at_once, strong_aborts}
+use Rattle.core_charts.specs.Tests.{at_once, strong_aborts}
 use Rattle.abort_expansion.specs.Transitions.{led_by}
 use Rattle.abort_expansion.proofs.checks.entry_aborts.Given as goal
 

@@ -1,5 +1,5 @@
 use Rattle.std.proofs.Common.{◌≡◌, drop}
-use Rattle.core_charts.specs.Standing.{terminations}
+use Rattle.core_charts.specs.Tests.{terminations}
 use Rattle.abort_expansion.specs.Superstates.{closing}
 use Rattle.abort_expansion.proofs.states.closing.Given as goal
 

@@ -1,5 +1,5 @@
 use Rattle.std.proofs.Common.{◌≡◌, drop}
-use Rattle.core_charts.specs.Standing.{terminations}
+use Rattle.core_charts.specs.Tests.{terminations}
 use Rattle.chart_lowering.proofs.states.behind.Given as goal
 
 abbrev pub invariant-loop-transition : goal.invariant-loop-transition

@@ -1,5 +1,5 @@
 use Rattle.std.proofs.Common.{◌≡◌, ◌++◌, drop}
-use Rattle.core_charts.specs.Standing.{at_once}
+use Rattle.core_charts.specs.Tests.{at_once}
 use Rattle.chart_lowering.specs.Lowering.{transitions}
 use Rattle.chart_lowering.proofs.transitions.immediate_transitions.Given as goal
 

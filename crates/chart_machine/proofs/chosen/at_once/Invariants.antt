@@ -1,5 +1,5 @@
 use Rattle.std.proofs.Common.{◌≡◌, ◌++◌, drop}
-use Rattle.core_charts.specs.Standing.{at_once}
+use Rattle.core_charts.specs.Tests.{at_once}
 use Rattle.chart_machine.proofs.chosen.at_once.Given as goal
 
 abbrev pub invariant-loop-transition : goal.invariant-loop-transition

@@ -1,5 +1,5 @@
 use Rattle.std.proofs.Common.{◌≡◌, ◌++◌, drop}
-use Rattle.core_charts.specs.Standing.{strong_aborts}
+use Rattle.core_charts.specs.Tests.{strong_aborts}
 use Rattle.chart_machine.proofs.chosen.strong_aborts.Given as goal
 
 abbrev pub invariant-loop-transition : goal.invariant-loop-transition

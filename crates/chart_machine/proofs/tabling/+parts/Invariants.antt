@@ -1,5 +1,5 @@
 use Rattle.std.proofs.Common.{◌≡◌, ◌++◌, ◌+◌, map, drop}
-use Rattle.chart_machine.specs.Table.{piece_of_region, piece_of_state, both, joined, side_by_side, in_region}
+use Rattle.chart_machine.specs.Table.{piece_of_region, piece_of_state, both, followed_by, side_by_side, in_region}
 use Rattle.chart_machine.proofs.tabling.+parts.Given as goal
 
 abbrev pub invariant-side_by_side-loop-region : goal.invariant-side_by_side-loop-region
@@ -8,5 +8,5 @@ invariant-side_by_side-loop-region l =
 
 abbrev pub invariant-in_region-loop-state : goal.invariant-in_region-loop-state
 invariant-in_region-loop-state l =
-    joined l.inner (in_region (map piece_of_state (drop l.state-index l.states)) l.next l.here) ≡
+    followed_by l.inner (in_region (map piece_of_state (drop l.state-index l.states)) l.next l.here) ≡
     in_region (map piece_of_state l.states) l.initial.next l.at

@@ -1,11 +1,10 @@
-use Rattle.std.proofs.Common.{◌-◌}
-use Rattle.grammar.specs.Grammar.{many}
-use Rattle.grammar.specs.Read.{read}
-use Rattle.sc_text.specs.Expression.{expression}
-use Rattle.chart_reader.specs.ChartText.{transition_first, transition}
-use Rattle.chart_reader.specs.Inside.{IsGoing}
+use Rattle.std.proofs.Common.{◌≡◌, ◌++◌, map, drop}
+use Rattle.drafts.specs.Flaws.{variable_names}
+use Rattle.chart_drafts.specs.Flaws.{state_names}
+use Rattle.chart_reader.specs.Resolved.{transition_of}
 use Rattle.chart_reader.proofs.transitions.transitions.Given as goal
 
-abbrev pub invariant-loop-used : goal.invariant-loop-used
-invariant-loop-used l =
-    IsGoing (read (many (transition (expression 0))) l.fn.ahead.tokens.now) (transition (expression 0)) transition_first l.found (l.most - l.used) l.ahead.tokens.now
+abbrev pub invariant-loop-text : goal.invariant-loop-text
+invariant-loop-text l =
+    l.all ++ map (transition_of (variable_names l.scope.variables.now) (state_names l.states.states.now)) (drop l.text-index l.texts)
+    ≡ map (transition_of (variable_names l.scope.variables.now) (state_names l.states.states.now)) l.texts

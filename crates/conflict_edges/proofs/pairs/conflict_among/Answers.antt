@@ -1,7 +1,7 @@
 use Rattle.std.proofs.Common.{ℕ, get_or, arith, below_more}
 use Rattle.std.specs.Prelude.{Contains}
 use Rattle.sc_graph.specs.Protocol.{WriteConflict}
-use Rattle.variable_users.proofs.Variables.{of_each}
+use Rattle.program_edges.proofs.Variables.{of_each}
 use Rattle.conflict_edges.proofs.pairs.conflict_among.Goals as goal
 
 pub loop-m-preserved : goal.loop-m-preserved

@@ -1,5 +1,5 @@
 use Rattle.std.proofs.Common.{ℕ, List, subst}
-use Rattle.variable_users.specs.Users.{NoneConflict}
+use Rattle.program_edges.specs.Users.{NoneConflict}
 use Rattle.conflict_edges.proofs.pairs.conflict_in.Goals as goal
 
 pub returns : goal.returns

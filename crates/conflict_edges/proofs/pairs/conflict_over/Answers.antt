@@ -1,4 +1,4 @@
-use Rattle.variable_users.proofs.Variables.{no_conflict_on}
+use Rattle.program_edges.proofs.Variables.{no_conflict_on}
 use Rattle.conflict_edges.proofs.Covered.{inits_alike, updates_alike}
 use Rattle.conflict_edges.proofs.pairs.conflict_over.Goals as goal
 

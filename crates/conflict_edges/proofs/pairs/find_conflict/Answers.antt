@@ -1,5 +1,5 @@
 use Rattle.std.proofs.Common.{arith, below_more}
-use Rattle.variable_users.specs.Users.{NoConflictOn}
+use Rattle.program_edges.specs.Users.{NoConflictOn}
 use Rattle.conflict_edges.proofs.Finding.{no_conflicts}
 use Rattle.conflict_edges.proofs.pairs.find_conflict.Goals as goal
 

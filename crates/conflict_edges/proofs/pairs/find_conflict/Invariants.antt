@@ -1,5 +1,5 @@
 use Rattle.std.proofs.Common.{ℕ, ◌<◌}
-use Rattle.variable_users.specs.Users.{NoConflictOn}
+use Rattle.program_edges.specs.Users.{NoConflictOn}
 use Rattle.conflict_edges.proofs.pairs.find_conflict.Given as goal
 
 abbrev pub invariant-loop-x : goal.invariant-loop-x

@@ -3,7 +3,7 @@ use Rattle.std.specs.Bool.{IsTrue}
 use Rattle.std.specs.Prelude.{◌↔◌}
 use Rattle.sc_values.specs.Access.{Access, Clash}
 use Rattle.sc_graph.specs.Accesses.{accesses, access_of}
-use Rattle.variable_users.proofs.Within.{access_there}
+use Rattle.program_edges.proofs.Within.{access_there}
 use Rattle.conflict_edges.proofs.pairs.nodes_clash.Goals as goal
 
 pub returns-in-Some-Some : goal.returns-in-Some-Some

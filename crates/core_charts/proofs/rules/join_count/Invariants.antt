@@ -1,5 +1,5 @@
 use Rattle.std.proofs.Common.{◌≡◌, ◌+◌, ◌≤◌, count_by, drop}
-use Rattle.core_charts.specs.Standing.{is_join}
+use Rattle.core_charts.specs.Tests.{is_join}
 use Rattle.core_charts.proofs.rules.join_count.Given as goal
 
 abbrev pub invariant-loop-transition : goal.invariant-loop-transition

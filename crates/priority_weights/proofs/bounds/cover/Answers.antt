@@ -1,7 +1,7 @@
 use Rattle.std.proofs.Common.{sym, arith}
 use Rattle.std.specs.Prelude.{slice_index}
 use Rattle.sc_graph.proofs.Nodes.{step_within}
-use Rattle.instant_edges.proofs.Instantly.{owner_within}
+use Rattle.program_edges.proofs.Instantly.{owner_within}
 use Rattle.priority_weights.proofs.Rooms.{step_placed}
 use Rattle.priority_weights.proofs.Bounding.{cost_small, bound_raised}
 use Rattle.priority_weights.proofs.bounds.cover.Goals as goal

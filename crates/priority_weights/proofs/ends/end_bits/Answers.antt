@@ -1,5 +1,5 @@
 use Rattle.std.proofs.Common.{ℕ, subst}
-use Rattle.least.specs.Least.{IsLeast}
+use Rattle.least_or_cycle.specs.Least.{IsLeast}
 use Rattle.priority_weights.specs.Inside.Entries.{BitKept}
 use Rattle.priority_weights.proofs.Bits.{ones_kept}
 use Rattle.priority_weights.proofs.ends.end_bits.Goals as goal

@@ -1,10 +1,10 @@
 use Rattle.std.proofs.Common.{ℕ, List, ◌⊎◌, subst, sym}
 use Rattle.sc_graph.specs.Protocol.{Instant}
-use Rattle.instant_edges.specs.Sorts.{IsOn, IsEntry, children_of}
-use Rattle.instant_edges.specs.Sorts.{IsNext}
+use Rattle.program_edges.specs.Sorts.{IsOn, IsEntry, children_of}
+use Rattle.program_edges.specs.Sorts.{IsNext}
 use Rattle.priority_weights.specs.Inside.Next.{IsAsked}
 use Rattle.priority_weights.proofs.Asking.{asked_alike, asked_either}
-use Rattle.instant_edges.proofs.Instantly.{instants_are}
+use Rattle.program_edges.proofs.Instantly.{instants_are}
 use Rattle.priority_weights.proofs.instants.asked_by_instants.Goals as goal
 
 pub returns-in-Some : goal.returns-in-Some

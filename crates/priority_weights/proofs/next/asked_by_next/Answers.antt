@@ -1,5 +1,5 @@
 use Rattle.std.proofs.Common.{ℕ, ◌≡◌, Some, subst, sym}
-use Rattle.instant_edges.specs.Sorts.{IsNext}
+use Rattle.program_edges.specs.Sorts.{IsNext}
 use Rattle.priority_weights.specs.Inside.Next.{IsAsked}
 use Rattle.priority_weights.proofs.Asking.{asked_either}
 use Rattle.priority_weights.proofs.next.asked_by_next.Goals as goal

@@ -1,6 +1,6 @@
 use Rattle.std.proofs.Common.{ℕ, subst}
 use Rattle.std.specs.Prelude.{slice_index}
-use Rattle.least.specs.Least.{Exceeds}
+use Rattle.least_or_cycle.specs.Least.{Exceeds}
 use Rattle.priority_weights.specs.Inside.Entries.{bits, WeightKept}
 use Rattle.priority_weights.proofs.Rooms.{weights_within}
 use Rattle.priority_weights.proofs.weights.weights.Goals as goal

@@ -3,7 +3,7 @@ use Rattle.std.proofs.lemmas.Option.{slice_get_read, slice_get_within}
 use Rattle.tick_core.specs.Inside.Inputs.{IsForAt}
 use Rattle.tick_core.specs.Inside.Given.{Gives, IsGiven}
 use Rattle.tick_core.proofs.Accepted.{accepted_from, accepted_below}
-use Rattle.tick_core.proofs.Giving.{gives_next, accepted_next, given_twice, not_given, place_within}
+use Rattle.tick_core.proofs.InputValues.{gives_next, accepted_next, given_twice, not_given, place_within}
 use Rattle.tick_core.proofs.given.take_all.Goals as goal
 
 pub returns-then-is_given-clause-accepted : goal.returns-then-is_given-clause-accepted

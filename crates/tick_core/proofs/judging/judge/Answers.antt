@@ -6,7 +6,7 @@ use Rattle.tick_core.specs.declared.judging.Judged.TheVariants as judged
 use Rattle.tick_core.specs.Judging.{IsNotRun}
 use Rattle.tick_core.specs.Inside.Judging.{ReplaysTo, RunsBy}
 use Rattle.tick_core.specs.Inside.Given.{HasOwnNames}
-use Rattle.tick_core.proofs.Giving.{own_names}
+use Rattle.tick_core.proofs.InputValues.{own_names}
 use Rattle.tick_core.proofs.OneJudgement.{one_judgement}
 use Rattle.tick_core.proofs.Replaying.{reached_by}
 use Rattle.tick_core.proofs.JudgedBySteps.{judged_run}

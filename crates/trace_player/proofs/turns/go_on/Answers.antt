@@ -17,7 +17,7 @@ use Rattle.trace_player.proofs.turns.go_on.Goals as goal
 pub loop-turn-init : goal.loop-turn-init
 loop-turn-init g c = record {
   played =
-      none_played g.J.Picture.image (g.P.Ports.to_come c.args.ports.now) (g.P.Ports.taken c.args.ports.now) (g.P.Ports.published c.args.ports.now) c.args.lines.now c.args.control
+      none_played g.J.OfImage.image (g.P.Channels.to_come c.args.channels.now) (g.P.Channels.taken c.args.channels.now) (g.P.Channels.published c.args.channels.now) c.args.lines.now c.args.control
       c.requires.lines c.requires.initial;
   rests = c.requires.rests;
   room = c.requires.room;
@@ -30,31 +30,31 @@ loop-turn-init g c = record {
 pub returns-in-Ok-None-clause-came : goal.returns-in-Ok-None-clause-came
 returns-in-Ok-None-clause-came g c =
     let l = c.loop-turn in
-    let start = g.P.Ports.to_come c.args.ports.now in
-    let old = g.P.Ports.taken c.args.ports.now in
-    let rows = g.P.Ports.published c.args.ports.now in
-    let now = ahead l.lines (g.P.Ports.to_come l.ports) in
+    let start = g.P.Channels.to_come c.args.channels.now in
+    let old = g.P.Channels.taken c.args.channels.now in
+    let rows = g.P.Channels.published c.args.channels.now in
+    let now = ahead l.lines (g.P.Channels.to_come l.channels) in
     let ended : IsAtEnd now = rw c.in-Ok-None.field-0-is at c.in-Ok-None.ensures.end in
-    let reads : g.P.Ports.failed_reads c.next.new.self ≡ g.P.Ports.failed_reads l.ports = search rules in
-    came_well g.J.Picture.image start old (g.P.Ports.taken c.next.new.self) rows (g.P.Ports.published c.next.new.self) _ _ _ _ _ _ l.number
+    let reads : g.P.Channels.failed_reads c.next.new.self ≡ g.P.Channels.failed_reads l.channels = search rules in
+    came_well g.J.OfImage.image start old (g.P.Channels.taken c.next.new.self) rows (g.P.Channels.published c.next.new.self) _ _ _ _ _ _ l.number
     (rw (c.next.ensures.taken, c.next.ensures.published)
-    (all_played g.J.Picture.image start now l.number l.control old (g.P.Ports.taken l.ports) rows (g.P.Ports.published l.ports) l.invariant.played ended))
+    (all_played g.J.OfImage.image start now l.number l.control old (g.P.Channels.taken l.channels) rows (g.P.Channels.published l.channels) l.invariant.played ended))
     (reads ∙ l.invariant.none_read) (c.next.ensures.no_write ∙ l.invariant.none_write)
     (λ e. c.next.ensures.not_behind (l.invariant.going e))
 
 pub returns-in-Err-clause-came : goal.returns-in-Err-clause-came
 returns-in-Err-clause-came g c =
     let l = c.loop-turn in
-    let i = g.J.Picture.image in
-    let start = g.P.Ports.to_come c.args.ports.now in
-    let old = g.P.Ports.taken c.args.ports.now in
-    let rows = g.P.Ports.published c.args.ports.now in
-    let now = ahead l.lines (g.P.Ports.to_come l.ports) in
+    let i = g.J.OfImage.image in
+    let start = g.P.Channels.to_come c.args.channels.now in
+    let old = g.P.Channels.taken c.args.channels.now in
+    let rows = g.P.Channels.published c.args.channels.now in
+    let now = ahead l.lines (g.P.Channels.to_come l.channels) in
     let long : c.in-Err.fault ≡ lines_fault.TooLong → IsTooLong now = λ e. c.in-Err.ensures.too_long (ap Err e) in
-    let left : LeavesTo i start old (g.P.Ports.taken c.next.new.self) rows (g.P.Ports.published c.next.new.self) c.unread_line.result =
+    let left : LeavesTo i start old (g.P.Channels.taken c.next.new.self) rows (g.P.Channels.published c.next.new.self) c.unread_line.result =
     rw (c.unread_line.ensures, c.next_number-next.ensures, c.next.ensures.taken, c.next.ensures.published)
-    (stopped_reading i start now l.number l.control old (g.P.Ports.taken l.ports) rows (g.P.Ports.published l.ports) c.in-Err.fault l.invariant.played long) in
-    came_off i start old (g.P.Ports.taken c.next.new.self) rows (g.P.Ports.published c.next.new.self) _ _ _ _ _ _ c.unread_line.result left
+    (stopped_reading i start now l.number l.control old (g.P.Channels.taken l.channels) rows (g.P.Channels.published l.channels) c.in-Err.fault l.invariant.played long) in
+    came_off i start old (g.P.Channels.taken c.next.new.self) rows (g.P.Channels.published c.next.new.self) _ _ _ _ _ _ c.unread_line.result left
     (λ is.
     let read = unread_read c.in-Err.fault _ (sym c.unread_line.ensures ∙ is) in
     c.in-Err.ensures.failed (ap Err read) ∙ ap (λ n. n + 1) l.invariant.none_read)
@@ -70,25 +70,25 @@ returns-in-Err-clause-came g c =
 pub returns-in_err-after-clause-came : goal.returns-in_err-after-clause-came
 returns-in_err-after-clause-came g c =
     let l = c.loop-turn in
-    let i = g.J.Picture.image in
-    let start = g.P.Ports.to_come c.args.ports.now in
-    let old = g.P.Ports.taken c.args.ports.now in
-    let rows = g.P.Ports.published c.args.ports.now in
-    let now = ahead l.lines (g.P.Ports.to_come l.ports) in
-    let now' = ahead c.next.new.lines (g.P.Ports.to_come c.next.new.self) in
+    let i = g.J.OfImage.image in
+    let start = g.P.Channels.to_come c.args.channels.now in
+    let old = g.P.Channels.taken c.args.channels.now in
+    let rows = g.P.Channels.published c.args.channels.now in
+    let now = ahead l.lines (g.P.Channels.to_come l.channels) in
+    let now' = ahead c.next.new.lines (g.P.Channels.to_come c.next.new.self) in
     let fault = c.in_err-after.field-0.0 in
     let line = c.next.new.line.items in
     let tells : Tells i.program (next_number l.number) line fault =
     subst (λ k. Tells i.program k line fault) c.next_number-next.ensures
     (subst (λ bytes. Tells i.program c.next_number-next.result bytes fault) c.deref.ensures.value c.in_err-after.ensures.fault) in
     let takes : TakesLine now now' line = search rules in
-    let reads : g.P.Ports.failed_reads c.next.new.self ≡ g.P.Ports.failed_reads l.ports = search rules in
+    let reads : g.P.Channels.failed_reads c.next.new.self ≡ g.P.Channels.failed_reads l.channels = search rules in
     let exit = err_from_is_err_and c.from_residual.result c.from_residual.ensures.1 in
-    let left : LeavesTo i start old (g.P.Ports.taken c.next.new.self) rows (g.P.Ports.published c.next.new.self) fault =
+    let left : LeavesTo i start old (g.P.Channels.taken c.next.new.self) rows (g.P.Channels.published c.next.new.self) fault =
     rw (c.next.ensures.taken, c.next.ensures.published)
-    (stopped_reacting i start now now' l.number l.control old (g.P.Ports.taken l.ports) rows (g.P.Ports.published l.ports) line fault l.invariant.played takes tells) in
+    (stopped_reacting i start now now' l.number l.control old (g.P.Channels.taken l.channels) rows (g.P.Channels.published l.channels) line fault l.invariant.played takes tells) in
     rw (exit.1, exit.2)
-    (came_off i start old (g.P.Ports.taken c.next.new.self) rows (g.P.Ports.published c.next.new.self) _ _ _ _ _ _ fault left
+    (came_off i start old (g.P.Channels.taken c.next.new.self) rows (g.P.Channels.published c.next.new.self) _ _ _ _ _ _ fault left
     (λ is. absurd (tells_no_read i.program (next_number l.number) line fault tells is))
     (λ _. reads ∙ l.invariant.none_read)
     (λ is. absurd (tells_no_write i.program (next_number l.number) line fault tells is))
@@ -98,18 +98,18 @@ returns-in_err-after-clause-came g c =
 pub returns-in_err-publish-clause-came : goal.returns-in_err-publish-clause-came
 returns-in_err-publish-clause-came g c =
     let l = c.loop-turn in
-    let i = g.J.Picture.image in
-    let start = g.P.Ports.to_come c.args.ports.now in
-    let old = g.P.Ports.taken c.args.ports.now in
-    let rows = g.P.Ports.published c.args.ports.now in
-    let now = ahead l.lines (g.P.Ports.to_come l.ports) in
-    let none : g.P.Ports.published c.publish.new.self ≡ g.P.Ports.published c.next.new.self = search rules in
-    let reads : g.P.Ports.failed_reads c.next.new.self ≡ g.P.Ports.failed_reads l.ports = search rules in
+    let i = g.J.OfImage.image in
+    let start = g.P.Channels.to_come c.args.channels.now in
+    let old = g.P.Channels.taken c.args.channels.now in
+    let rows = g.P.Channels.published c.args.channels.now in
+    let now = ahead l.lines (g.P.Channels.to_come l.channels) in
+    let none : g.P.Channels.published c.publish.new.self ≡ g.P.Channels.published c.next.new.self = search rules in
+    let reads : g.P.Channels.failed_reads c.next.new.self ≡ g.P.Channels.failed_reads l.channels = search rules in
     let exit = err_from_is_err_and c.from_residual-in_err-publish.result c.from_residual-in_err-publish.ensures.1 in
     rw (exit.1, exit.2)
-    (came_short i start old (g.P.Ports.taken c.publish.new.self) rows (g.P.Ports.published c.publish.new.self) _ _ _ _ _ _
+    (came_short i start old (g.P.Channels.taken c.publish.new.self) rows (g.P.Channels.published c.publish.new.self) _ _ _ _ _ _
     (rw (c.publish.ensures.taken ∙ c.next.ensures.taken, none ∙ c.next.ensures.published)
-    (stopped i start now l.number l.control old (g.P.Ports.taken l.ports) rows (g.P.Ports.published l.ports) l.invariant.played))
+    (stopped i start now l.number l.control old (g.P.Channels.taken l.channels) rows (g.P.Channels.published l.channels) l.invariant.played))
     (c.publish.ensures.no_read ∙ reads ∙ l.invariant.none_read)
     (c.publish.ensures.no_write ∙ c.next.ensures.no_write ∙ l.invariant.none_write)
     (λ e b. c.next.ensures.not_behind (l.invariant.going e) (sym c.publish.ensures.progress ∙ b)))
@@ -117,35 +117,35 @@ returns-in_err-publish-clause-came g c =
 pub returns-then-not-write-clause-came : goal.returns-then-not-write-clause-came
 returns-then-not-write-clause-came g c =
     let l = c.loop-turn in
-    let i = g.J.Picture.image in
-    let start = g.P.Ports.to_come c.args.ports.now in
-    let old = g.P.Ports.taken c.args.ports.now in
-    let rows = g.P.Ports.published c.args.ports.now in
-    let now = ahead l.lines (g.P.Ports.to_come l.ports) in
-    let now' = ahead c.next.new.lines (g.P.Ports.to_come c.next.new.self) in
+    let i = g.J.OfImage.image in
+    let start = g.P.Channels.to_come c.args.channels.now in
+    let old = g.P.Channels.taken c.args.channels.now in
+    let rows = g.P.Channels.published c.args.channels.now in
+    let now = ahead l.lines (g.P.Channels.to_come l.channels) in
+    let now' = ahead c.next.new.lines (g.P.Channels.to_come c.next.new.self) in
     let line = c.next.new.line.items in
     let written = c.react.new.shown.items in
     let given : c.as_slice.result.now ≡ written = search rules in
     let after = c.in_ok-after.after in
     let next = c.next_number-next.result in
-    let taken = g.P.Ports.taken c.write.new.self in
-    let before : g.P.Ports.taken c.publish.new.self ≡ g.P.Ports.taken l.ports = c.publish.ensures.taken ∙ c.next.ensures.taken in
+    let taken = g.P.Channels.taken c.write.new.self in
+    let before : g.P.Channels.taken c.publish.new.self ≡ g.P.Channels.taken l.channels = c.publish.ensures.taken ∙ c.next.ensures.taken in
     let shows : Shows i (next_number l.number) l.control line after written =
     subst (λ k. Shows i k l.control line after written) c.next_number-next.ensures
     (subst (λ bytes. Shows i next l.control bytes after written) c.deref.ensures.value c.in_ok-after.ensures.shows) in
     let takes : TakesLine now now' line = search rules in
-    let row : Gains (g.P.Ports.published c.next.new.self) (g.P.Ports.published c.publish.new.self) c.react.new.self.verified.now.program.variables after.variables = search rules in
-    let gains : Gains (g.P.Ports.published l.ports) (g.P.Ports.published c.write.new.self) i.program.variables after.variables =
-    subst (λ (image : Image). Gains (g.P.Ports.published l.ports) (g.P.Ports.published c.write.new.self) image.program.variables after.variables) c.react.new.self.of_image
-    (subst (λ rs. Gains (g.P.Ports.published l.ports) rs c.react.new.self.verified.now.program.variables after.variables) (sym c.write.ensures.published)
-    (subst (λ rs. Gains rs (g.P.Ports.published c.publish.new.self) c.react.new.self.verified.now.program.variables after.variables) c.next.ensures.published row)) in
-    let reads : g.P.Ports.failed_reads c.next.new.self ≡ g.P.Ports.failed_reads l.ports = search rules in
-    let some : GrowsInto (g.P.Ports.taken l.ports) taken written =
+    let row : Gains (g.P.Channels.published c.next.new.self) (g.P.Channels.published c.publish.new.self) c.react.new.self.verified.now.program.variables after.variables = search rules in
+    let gains : Gains (g.P.Channels.published l.channels) (g.P.Channels.published c.write.new.self) i.program.variables after.variables =
+    subst (λ (image : Image). Gains (g.P.Channels.published l.channels) (g.P.Channels.published c.write.new.self) image.program.variables after.variables) c.react.new.self.of_image
+    (subst (λ rs. Gains (g.P.Channels.published l.channels) rs c.react.new.self.verified.now.program.variables after.variables) (sym c.write.ensures.published)
+    (subst (λ rs. Gains rs (g.P.Channels.published c.publish.new.self) c.react.new.self.verified.now.program.variables after.variables) c.next.ensures.published row)) in
+    let reads : g.P.Channels.failed_reads c.next.new.self ≡ g.P.Channels.failed_reads l.channels = search rules in
+    let some : GrowsInto (g.P.Channels.taken l.channels) taken written =
     subst (λ t. GrowsInto t taken written) before
-    (subst (GrowsInto (g.P.Ports.taken c.publish.new.self) taken) given c.write.ensures.some) in
+    (subst (GrowsInto (g.P.Channels.taken c.publish.new.self) taken) given c.write.ensures.some) in
     let failed = c.write.ensures.failed c.if-not-write.true in
-    came_cut i start old taken rows (g.P.Ports.published c.write.new.self) _ _ _ _ _ _
-    (stopped_writing i start now now' l.number l.control after old (g.P.Ports.taken l.ports) taken rows (g.P.Ports.published l.ports) (g.P.Ports.published c.write.new.self) line written
+    came_cut i start old taken rows (g.P.Channels.published c.write.new.self) _ _ _ _ _ _
+    (stopped_writing i start now now' l.number l.control after old (g.P.Channels.taken l.channels) taken rows (g.P.Channels.published l.channels) (g.P.Channels.published c.write.new.self) line written
     l.invariant.played takes shows some gains)
     (c.write.ensures.no_read ∙ c.publish.ensures.no_read ∙ reads ∙ l.invariant.none_read)
     (failed ∙ ap (λ n. n + 1) (c.publish.ensures.no_write ∙ c.next.ensures.no_write ∙ l.invariant.none_write))
@@ -154,36 +154,36 @@ returns-then-not-write-clause-came g c =
 pub returns-then-is_last-clause-came : goal.returns-then-is_last-clause-came
 returns-then-is_last-clause-came g c =
     let l = c.loop-turn in
-    let i = g.J.Picture.image in
-    let start = g.P.Ports.to_come c.args.ports.now in
-    let old = g.P.Ports.taken c.args.ports.now in
-    let rows = g.P.Ports.published c.args.ports.now in
-    let now = ahead l.lines (g.P.Ports.to_come l.ports) in
-    let now' = ahead c.next.new.lines (g.P.Ports.to_come c.next.new.self) in
+    let i = g.J.OfImage.image in
+    let start = g.P.Channels.to_come c.args.channels.now in
+    let old = g.P.Channels.taken c.args.channels.now in
+    let rows = g.P.Channels.published c.args.channels.now in
+    let now = ahead l.lines (g.P.Channels.to_come l.channels) in
+    let now' = ahead c.next.new.lines (g.P.Channels.to_come c.next.new.self) in
     let line = c.next.new.line.items in
     let written = c.react.new.shown.items in
     let given : c.as_slice.result.now ≡ written = search rules in
     let after = c.in_ok-after.after in
     let next = c.next_number-next.result in
-    let taken = g.P.Ports.taken c.write.new.self in
-    let before : g.P.Ports.taken c.publish.new.self ≡ g.P.Ports.taken l.ports = c.publish.ensures.taken ∙ c.next.ensures.taken in
+    let taken = g.P.Channels.taken c.write.new.self in
+    let before : g.P.Channels.taken c.publish.new.self ≡ g.P.Channels.taken l.channels = c.publish.ensures.taken ∙ c.next.ensures.taken in
     let shows : Shows i (next_number l.number) l.control line after written =
     subst (λ k. Shows i k l.control line after written) c.next_number-next.ensures
     (subst (λ bytes. Shows i next l.control bytes after written) c.deref.ensures.value c.in_ok-after.ensures.shows) in
     let takes : TakesLine now now' line = search rules in
-    let row : Gains (g.P.Ports.published c.next.new.self) (g.P.Ports.published c.publish.new.self) c.react.new.self.verified.now.program.variables after.variables = search rules in
-    let gains : Gains (g.P.Ports.published l.ports) (g.P.Ports.published c.write.new.self) i.program.variables after.variables =
-    subst (λ (image : Image). Gains (g.P.Ports.published l.ports) (g.P.Ports.published c.write.new.self) image.program.variables after.variables) c.react.new.self.of_image
-    (subst (λ rs. Gains (g.P.Ports.published l.ports) rs c.react.new.self.verified.now.program.variables after.variables) (sym c.write.ensures.published)
-    (subst (λ rs. Gains rs (g.P.Ports.published c.publish.new.self) c.react.new.self.verified.now.program.variables after.variables) c.next.ensures.published row)) in
-    let reads : g.P.Ports.failed_reads c.next.new.self ≡ g.P.Ports.failed_reads l.ports = search rules in
-    let appends : Appends (g.P.Ports.taken l.ports) taken written =
+    let row : Gains (g.P.Channels.published c.next.new.self) (g.P.Channels.published c.publish.new.self) c.react.new.self.verified.now.program.variables after.variables = search rules in
+    let gains : Gains (g.P.Channels.published l.channels) (g.P.Channels.published c.write.new.self) i.program.variables after.variables =
+    subst (λ (image : Image). Gains (g.P.Channels.published l.channels) (g.P.Channels.published c.write.new.self) image.program.variables after.variables) c.react.new.self.of_image
+    (subst (λ rs. Gains (g.P.Channels.published l.channels) rs c.react.new.self.verified.now.program.variables after.variables) (sym c.write.ensures.published)
+    (subst (λ rs. Gains rs (g.P.Channels.published c.publish.new.self) c.react.new.self.verified.now.program.variables after.variables) c.next.ensures.published row)) in
+    let reads : g.P.Channels.failed_reads c.next.new.self ≡ g.P.Channels.failed_reads l.channels = search rules in
+    let appends : Appends (g.P.Channels.taken l.channels) taken written =
     subst (λ t. Appends t taken written) before
-    (subst (Appends (g.P.Ports.taken c.publish.new.self) taken) given (c.write.ensures.whole c.if-not-write.false)) in
-    let published = g.P.Ports.published c.write.new.self in
+    (subst (Appends (g.P.Channels.taken c.publish.new.self) taken) given (c.write.ensures.whole c.if-not-write.false)) in
+    let published = g.P.Channels.published c.write.new.self in
     let played : Played i start now' next after old taken rows published =
     subst (λ k. Played i start now' k after old taken rows published) (sym c.next_number-next.ensures)
-    (one_played i start now now' l.number l.control after old (g.P.Ports.taken l.ports) taken rows (g.P.Ports.published l.ports) published line written
+    (one_played i start now now' l.number l.control after old (g.P.Channels.taken l.channels) taken rows (g.P.Channels.published l.channels) published line written
     l.invariant.played takes shows appends gains) in
     let last : c.in-Ok-Some.end ≡ line_end.Input = c.is_last.ensures.0 c.if-is_last.true in
     let ended : IsAtEnd now' = c.in-Ok-Some.ensures.last (c.in-Ok-Some.field-0-is ∙ ap Some last) in
@@ -196,38 +196,38 @@ returns-then-is_last-clause-came g c =
 pub loop-turn-preserved : goal.loop-turn-preserved
 loop-turn-preserved g c =
     let l = c.loop-turn in
-    let i = g.J.Picture.image in
-    let start = g.P.Ports.to_come c.args.ports.now in
-    let old = g.P.Ports.taken c.args.ports.now in
-    let rows = g.P.Ports.published c.args.ports.now in
-    let now = ahead l.lines (g.P.Ports.to_come l.ports) in
-    let now' = ahead c.next.new.lines (g.P.Ports.to_come c.next.new.self) in
+    let i = g.J.OfImage.image in
+    let start = g.P.Channels.to_come c.args.channels.now in
+    let old = g.P.Channels.taken c.args.channels.now in
+    let rows = g.P.Channels.published c.args.channels.now in
+    let now = ahead l.lines (g.P.Channels.to_come l.channels) in
+    let now' = ahead c.next.new.lines (g.P.Channels.to_come c.next.new.self) in
     let line = c.next.new.line.items in
     let written = c.react.new.shown.items in
     let given : c.as_slice.result.now ≡ written = search rules in
     let after = c.in_ok-after.after in
     let next = c.next_number-next.result in
-    let taken = g.P.Ports.taken c.write.new.self in
-    let before : g.P.Ports.taken c.publish.new.self ≡ g.P.Ports.taken l.ports = c.publish.ensures.taken ∙ c.next.ensures.taken in
+    let taken = g.P.Channels.taken c.write.new.self in
+    let before : g.P.Channels.taken c.publish.new.self ≡ g.P.Channels.taken l.channels = c.publish.ensures.taken ∙ c.next.ensures.taken in
     let shows : Shows i (next_number l.number) l.control line after written =
     subst (λ k. Shows i k l.control line after written) c.next_number-next.ensures
     (subst (λ bytes. Shows i next l.control bytes after written) c.deref.ensures.value c.in_ok-after.ensures.shows) in
     let takes : TakesLine now now' line = search rules in
-    let row : Gains (g.P.Ports.published c.next.new.self) (g.P.Ports.published c.publish.new.self) c.react.new.self.verified.now.program.variables after.variables = search rules in
-    let gains : Gains (g.P.Ports.published l.ports) (g.P.Ports.published c.write.new.self) i.program.variables after.variables =
-    subst (λ (image : Image). Gains (g.P.Ports.published l.ports) (g.P.Ports.published c.write.new.self) image.program.variables after.variables) c.react.new.self.of_image
-    (subst (λ rs. Gains (g.P.Ports.published l.ports) rs c.react.new.self.verified.now.program.variables after.variables) (sym c.write.ensures.published)
-    (subst (λ rs. Gains rs (g.P.Ports.published c.publish.new.self) c.react.new.self.verified.now.program.variables after.variables) c.next.ensures.published row)) in
-    let reads : g.P.Ports.failed_reads c.next.new.self ≡ g.P.Ports.failed_reads l.ports = search rules in
-    let appends : Appends (g.P.Ports.taken l.ports) taken written =
+    let row : Gains (g.P.Channels.published c.next.new.self) (g.P.Channels.published c.publish.new.self) c.react.new.self.verified.now.program.variables after.variables = search rules in
+    let gains : Gains (g.P.Channels.published l.channels) (g.P.Channels.published c.write.new.self) i.program.variables after.variables =
+    subst (λ (image : Image). Gains (g.P.Channels.published l.channels) (g.P.Channels.published c.write.new.self) image.program.variables after.variables) c.react.new.self.of_image
+    (subst (λ rs. Gains (g.P.Channels.published l.channels) rs c.react.new.self.verified.now.program.variables after.variables) (sym c.write.ensures.published)
+    (subst (λ rs. Gains rs (g.P.Channels.published c.publish.new.self) c.react.new.self.verified.now.program.variables after.variables) c.next.ensures.published row)) in
+    let reads : g.P.Channels.failed_reads c.next.new.self ≡ g.P.Channels.failed_reads l.channels = search rules in
+    let appends : Appends (g.P.Channels.taken l.channels) taken written =
     subst (λ t. Appends t taken written) before
-    (subst (Appends (g.P.Ports.taken c.publish.new.self) taken) given (c.write.ensures.whole c.if-not-write.false)) in
-    let published = g.P.Ports.published c.write.new.self in
+    (subst (Appends (g.P.Channels.taken c.publish.new.self) taken) given (c.write.ensures.whole c.if-not-write.false)) in
+    let published = g.P.Channels.published c.write.new.self in
     let played : Played i start now' next after old taken rows published =
     subst (λ k. Played i start now' k after old taken rows published) (sym c.next_number-next.ensures)
-    (one_played i start now now' l.number l.control after old (g.P.Ports.taken l.ports) taken rows (g.P.Ports.published l.ports) published line written
+    (one_played i start now now' l.number l.control after old (g.P.Channels.taken l.channels) taken rows (g.P.Channels.published l.channels) published line written
     l.invariant.played takes shows appends gains) in
-    let ahead_same : ahead c.next.new.lines (g.P.Ports.to_come c.write.new.self) ≡ now' = ap (ahead c.next.new.lines) (c.write.ensures.to_come ∙ c.publish.ensures.to_come) in
+    let ahead_same : ahead c.next.new.lines (g.P.Channels.to_come c.write.new.self) ≡ now' = ap (ahead c.next.new.lines) (c.write.ensures.to_come ∙ c.publish.ensures.to_come) in
     let feed : c.in-Ok-Some.end ≡ line_end.Feed = feed_of c.in-Ok-Some.end (λ i. let yes = c.is_last.ensures.1 i in let no = c.if-is_last.false in absurd cc) in
     record {
       played = subst (λ ys. Played i start ys next after old taken rows published) (sym ahead_same) played;
@@ -242,8 +242,8 @@ loop-turn-preserved g c =
 pub returns-clause-came : goal.returns-clause-came
 returns-clause-came g c =
     let l = c.loop-turn in
-    came_short g.J.Picture.image (g.P.Ports.to_come c.args.ports.now) (g.P.Ports.taken c.args.ports.now) (g.P.Ports.taken l.ports)
-    (g.P.Ports.published c.args.ports.now) (g.P.Ports.published l.ports) _ _ _ _ _ _
-    (stopped g.J.Picture.image (g.P.Ports.to_come c.args.ports.now) (ahead l.lines (g.P.Ports.to_come l.ports)) l.number l.control
-    (g.P.Ports.taken c.args.ports.now) (g.P.Ports.taken l.ports) (g.P.Ports.published c.args.ports.now) (g.P.Ports.published l.ports) l.invariant.played)
+    came_short g.J.OfImage.image (g.P.Channels.to_come c.args.channels.now) (g.P.Channels.taken c.args.channels.now) (g.P.Channels.taken l.channels)
+    (g.P.Channels.published c.args.channels.now) (g.P.Channels.published l.channels) _ _ _ _ _ _
+    (stopped g.J.OfImage.image (g.P.Channels.to_come c.args.channels.now) (ahead l.lines (g.P.Channels.to_come l.channels)) l.number l.control
+    (g.P.Channels.taken c.args.channels.now) (g.P.Channels.taken l.channels) (g.P.Channels.published c.args.channels.now) (g.P.Channels.published l.channels) l.invariant.played)
     l.invariant.none_read l.invariant.none_write (open_not_behind _ _ l.invariant.going)

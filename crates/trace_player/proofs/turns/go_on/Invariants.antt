@@ -7,13 +7,13 @@ use Rattle.trace_player.proofs.turns.go_on.Given as goal
 
 abbrev pub invariant-loop-turn : goal.invariant-loop-turn
 invariant-loop-turn g l = record {
-  played : Played g.J.Picture.image (g.P.Ports.to_come l.fn.ports) (ahead l.lines (g.P.Ports.to_come l.ports)) l.number l.control (g.P.Ports.taken l.fn.ports) (g.P.Ports.taken l.ports) (g.P.Ports.published l.fn.ports) (g.P.Ports.published l.ports);
-  rests : Rests g.J.Picture.image.program l.control;
-  room : l.room ≡ g.J.Picture.image;
-  none_read : g.P.Ports.failed_reads l.ports ≡ g.P.Ports.failed_reads l.fn.ports;
-  none_write : g.P.Ports.failed_writes l.ports ≡ g.P.Ports.failed_writes l.fn.ports;
-  going : StaysOpen (g.P.Ports.progress l.fn.ports) (g.P.Ports.progress l.ports);
-  same : g.P.Ports.names l.ports ≡ g.P.Ports.names l.fn.ports;
+  played : Played g.J.OfImage.image (g.P.Channels.to_come l.fn.channels) (ahead l.lines (g.P.Channels.to_come l.channels)) l.number l.control (g.P.Channels.taken l.fn.channels) (g.P.Channels.taken l.channels) (g.P.Channels.published l.fn.channels) (g.P.Channels.published l.channels);
+  rests : Rests g.J.OfImage.image.program l.control;
+  room : l.room ≡ g.J.OfImage.image;
+  none_read : g.P.Channels.failed_reads l.channels ≡ g.P.Channels.failed_reads l.fn.channels;
+  none_write : g.P.Channels.failed_writes l.channels ≡ g.P.Channels.failed_writes l.fn.channels;
+  going : StaysOpen (g.P.Channels.progress l.fn.channels) (g.P.Channels.progress l.channels);
+  same : g.P.Channels.names l.channels ≡ g.P.Channels.names l.fn.channels;
 }
 
 abbrev pub decreases-loop-turn : goal.decreases-loop-turn

@@ -1,8 +1,8 @@
 use Rattle.std.proofs.Common.{ℕ, List, sym, subst}
 use Rattle.sc_graph.specs.Protocol.{NoConflictAt}
-use Rattle.variable_users.specs.Users.{InitsAt, UpdatesAt, Lists, NoneConflict, NoConflictOn}
+use Rattle.program_edges.specs.Users.{InitsAt, UpdatesAt, Lists, NoneConflict, NoConflictOn}
 use Rattle.verifier.proofs.Answer.{answer_turned}
-use Rattle.variable_users.proofs.Variables.{no_conflict_on}
+use Rattle.program_edges.proofs.Variables.{no_conflict_on}
 use Rattle.verifier.proofs.conflicts.conflict_over.Goals as goal
 
 pub returns-in-None : goal.returns-in-None

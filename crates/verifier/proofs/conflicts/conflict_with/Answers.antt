@@ -1,6 +1,6 @@
 use Rattle.std.proofs.Common.{ℕ, ◌≡◌, get_or, arith, below_more, true}
 use Rattle.sc_graph.specs.Protocol.{WriteConflict}
-use Rattle.variable_users.proofs.Variables.{of_each}
+use Rattle.program_edges.proofs.Variables.{of_each}
 use Rattle.verifier.proofs.conflicts.conflict_with.Goals as goal
 
 pub returns-then-is_conflict : goal.returns-then-is_conflict

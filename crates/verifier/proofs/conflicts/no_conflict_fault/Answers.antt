@@ -1,5 +1,5 @@
 use Rattle.std.proofs.Common.{arith, below_more}
-use Rattle.variable_users.specs.Users.{NoConflictOn}
+use Rattle.program_edges.specs.Users.{NoConflictOn}
 use Rattle.verifier.proofs.Ordering.{no_conflicts_kept}
 use Rattle.verifier.proofs.conflicts.no_conflict_fault.Goals as goal
 

@@ -1,6 +1,6 @@
 use Rattle.std.proofs.Common.{ℕ, ◌≡◌, ◌++◌, ◌∷◌, List, [], true, sym, subst}
 use Rattle.verifier.specs.Inside.Extremes.{OwnedAlike, TakesIn}
-use Rattle.variable_users.proofs.Gaining.{on_ok}
+use Rattle.program_edges.proofs.Gaining.{on_ok}
 use Rattle.verifier.proofs.Standing.{takes_last, takes_none, takes_place}
 use Rattle.verifier.proofs.extremes.take_in.Goals as goal
 

@@ -1,4 +1,4 @@
-use Rattle.verifier.proofs.Giving.{checked_gives}
+use Rattle.verifier.proofs.CodeKinds.{checked_gives}
 use Rattle.verifier.proofs.kinds.kind_given.Goals as goal
 
 pub returns-in-Some : goal.returns-in-Some

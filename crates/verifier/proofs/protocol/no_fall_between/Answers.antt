@@ -1,7 +1,7 @@
 use Rattle.std.proofs.Common.{ℕ, get_or, arith, below_more}
 use Rattle.std.specs.Prelude.{Contains}
 use Rattle.verifier.specs.Inside.Pairs.{Falls}
-use Rattle.variable_users.proofs.Variables.{of_each}
+use Rattle.program_edges.proofs.Variables.{of_each}
 use Rattle.verifier.proofs.protocol.no_fall_between.Goals as goal
 
 pub loop-m-preserved : goal.loop-m-preserved

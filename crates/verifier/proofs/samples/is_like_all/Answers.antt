@@ -1,7 +1,7 @@
 use Rattle.std.proofs.Common.{ℕ, ◌≡◌, true, get_or, arith, below_more}
 use Rattle.sc_values.specs.Access.{Clash}
 use Rattle.sc_graph.specs.Accesses.{accesses}
-use Rattle.variable_users.proofs.Variables.{of_each}
+use Rattle.program_edges.proofs.Variables.{of_each}
 use Rattle.verifier.proofs.samples.is_like_all.Goals as goal
 
 pub loop-n-preserved : goal.loop-n-preserved

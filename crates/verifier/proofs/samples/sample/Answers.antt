@@ -1,6 +1,6 @@
 use Rattle.std.proofs.Common.{ℕ, ◌≡◌, ◌++◌, ◌∷◌, List, [], sym, subst}
 use Rattle.verifier.specs.Inside.Samples.{IsSampled, SamplesToo}
-use Rattle.variable_users.proofs.Gaining.{on_ok}
+use Rattle.program_edges.proofs.Gaining.{on_ok}
 use Rattle.verifier.proofs.Sampling.{samples_last, samples_same}
 use Rattle.verifier.proofs.samples.sample.Goals as goal
 

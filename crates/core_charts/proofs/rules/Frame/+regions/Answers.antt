@@ -3,7 +3,7 @@ use Rattle.sc_text.specs.Parts.{IsNameIn, are_distinct}
 use Rattle.core_charts.specs.declared.region.State.{State}
 use Rattle.core_charts.specs.declared.region.Transition.{Transition}
 use Rattle.core_charts.specs.declared.region.Region.TheViews.{out-Region, out-State}
-use Rattle.core_charts.specs.Standing.{is_join}
+use Rattle.core_charts.specs.Tests.{is_join}
 use Rattle.core_charts.specs.Rules.{IsTransition, IsState, IsRegion, AreSideBySide, AreRegions, IsWithin, state_limit, transition_limit, has_regions}
 use Rattle.sc_graph.proofs.Each.{each_more, each_of_all}
 use Rattle.core_charts.proofs.rules.Frame.+regions.Goals as goal

@@ -1,6 +1,6 @@
 use Rattle.std.proofs.Common.{sym, ◌∙◌}
 use Rattle.std.specs.Prelude.{slice_index}
-use Rattle.instant_edges.specs.Sorts.{IsNext}
+use Rattle.program_edges.specs.Sorts.{IsNext}
 use Rattle.priority_weights.proofs.Flowing.{next_over, next_on}
 use Rattle.priority_weights.proofs.flow.Flow.next.Goals as goal
 

@@ -1,6 +1,6 @@
 use Rattle.std.proofs.Common.{arith}
 use Rattle.std.specs.Prelude.{slice_index}
-use Rattle.instant_edges.specs.Sorts.{IsNext}
+use Rattle.program_edges.specs.Sorts.{IsNext}
 use Rattle.priority_weights.proofs.Flowing.{flow_strictly}
 use Rattle.priority_weights.proofs.flow.FlowGraph.strictly_towards.Goals as goal
 

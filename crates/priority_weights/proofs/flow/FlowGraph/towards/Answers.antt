@@ -1,5 +1,5 @@
 use Rattle.std.specs.Prelude.{slice_index}
-use Rattle.instant_edges.specs.Sorts.{IsNext}
+use Rattle.program_edges.specs.Sorts.{IsNext}
 use Rattle.priority_weights.proofs.Flowing.{flow_towards}
 use Rattle.priority_weights.proofs.flow.FlowGraph.towards.Goals as goal
 

@@ -1,5 +1,5 @@
 use Rattle.std.specs.Prelude.{slice_index}
-use Rattle.instant_edges.specs.Sorts.{IsNext}
+use Rattle.program_edges.specs.Sorts.{IsNext}
 use Rattle.priority_weights.proofs.Flowing.{flow_needed}
 use Rattle.priority_weights.proofs.flow.FlowRule.need.Goals as goal
 

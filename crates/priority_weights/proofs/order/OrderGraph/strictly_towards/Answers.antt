@@ -1,7 +1,7 @@
 use Rattle.std.proofs.Common.{ℕ, MatchOption, subst, arith}
 use Rattle.sc_graph.specs.Program.{Program}
 use Rattle.sc_graph.specs.Protocol.{ProtocolEdge}
-use Rattle.least.specs.Walks.{LeadsStrictlyTo}
+use Rattle.least_or_cycle.specs.Walks.{LeadsStrictlyTo}
 use Rattle.priority_weights.specs.Edges.{InOrder}
 use Rattle.priority_weights.specs.Inside.Next.{IsRanked}
 use Rattle.priority_weights.proofs.Ordering.{order_strictly}

@@ -1,7 +1,7 @@
 use Rattle.std.proofs.Common.{ℕ, MatchOption, subst}
 use Rattle.sc_graph.specs.Program.{Program}
 use Rattle.sc_graph.specs.Protocol.{ProtocolEdge}
-use Rattle.least.specs.Walks.{LeadsTo}
+use Rattle.least_or_cycle.specs.Walks.{LeadsTo}
 use Rattle.priority_weights.specs.Edges.{InOrder}
 use Rattle.priority_weights.specs.Inside.Next.{IsRanked}
 use Rattle.priority_weights.proofs.Ordering.{order_towards, order_instantly}

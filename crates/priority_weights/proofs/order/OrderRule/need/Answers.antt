@@ -1,8 +1,8 @@
 use Rattle.std.proofs.Common.{ℕ, sym, subst}
 use Rattle.sc_graph.specs.Program.{Program}
 use Rattle.sc_graph.specs.Protocol.{ProtocolEdge}
-use Rattle.least.specs.Least.{IsNeeded}
-use Rattle.least.specs.Walks.{Falls}
+use Rattle.least_or_cycle.specs.Least.{IsNeeded}
+use Rattle.least_or_cycle.specs.Walks.{Falls}
 use Rattle.priority_weights.specs.Edges.{InOrder}
 use Rattle.priority_weights.specs.Inside.Next.{IsAsked}
 use Rattle.priority_weights.proofs.Ordering.{order_needed}

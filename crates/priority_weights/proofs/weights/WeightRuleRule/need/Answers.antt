@@ -1,7 +1,7 @@
 use Rattle.std.proofs.Common.{ℕ, List, sym, subst}
 use Rattle.std.specs.Prelude.{slice_index}
 use Rattle.sc_graph.specs.Program.{Program}
-use Rattle.least.specs.Least.{IsNeeded}
+use Rattle.least_or_cycle.specs.Least.{IsNeeded}
 use Rattle.priority_weights.specs.Inside.Entries.{bits, WeightKept}
 use Rattle.priority_weights.proofs.Rooms.{step_placed}
 use Rattle.priority_weights.proofs.Weighing.{weight_needed}

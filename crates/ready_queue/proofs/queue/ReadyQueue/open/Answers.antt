@@ -1,6 +1,6 @@
 use Rattle.std.proofs.Common.{arith}
 use Rattle.sc_graph.specs.declared.place.Place.TheVariants as place
-use Rattle.ready_queue.proofs.Keeping.{begins}
+use Rattle.ready_queue.proofs.RuleKept.{begins}
 use Rattle.ready_queue.proofs.queue.ReadyQueue.open.Goals as goal
 
 pub ruled-requires-clause-cap : goal.ruled-requires-clause-cap

@@ -1,4 +1,4 @@
-use Rattle.ready_queue.proofs.Keeping.{forks}
+use Rattle.ready_queue.proofs.RuleKept.{forks}
 use Rattle.ready_queue.proofs.queue.ReadyQueue.passes.Goals as goal
 
 pub another-requires-clause-rule : goal.another-requires-clause-rule

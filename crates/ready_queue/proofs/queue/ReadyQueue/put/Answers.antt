@@ -1,4 +1,4 @@
-use Rattle.ready_queue.proofs.Keeping.{puts, learns}
+use Rattle.ready_queue.proofs.RuleKept.{puts, learns}
 use Rattle.ready_queue.proofs.queue.ReadyQueue.put.Goals as goal
 
 pub push_as-requires-clause-rule : goal.push_as-requires-clause-rule

@@ -5,7 +5,7 @@ use Rattle.sc_graph.specs.Tick.{IsConfiguration}
 use Rattle.sc_graph.specs.Valid.{IsValid}
 use Rattle.tick_core.specs.Inside.Living.{CountsLiving}
 use Rattle.tick_core.specs.Inside.Sorting.{OwnRows, AreSorted}
-use Rattle.tick_core.proofs.Keeping.{configuration, leads_at, step_is_defined, has_room, has_place, kept_advanced}
+use Rattle.tick_core.proofs.StateKept.{configuration, leads_at, step_is_defined, has_room, has_place, kept_advanced}
 use Rattle.tick_core.proofs.Counts.{open_advanced}
 use Rattle.tick_core.proofs.Unmoved.{sorted_after_at, stays_configuration, children_in_at}
 use Rattle.tick_core.proofs.LivingChildren.{counts_after}

@@ -1,7 +1,7 @@
 use Rattle.std.proofs.Common.{◌∙◌, length, None, sym, ap, subst, arith}
 use Rattle.sc_graph.specs.Tick.{IsConfiguration}
 use Rattle.tick_core.specs.Inside.Living.{CountsLiving}
-use Rattle.tick_core.proofs.Keeping.{configuration, kept_closed_at}
+use Rattle.tick_core.proofs.StateKept.{configuration, kept_closed_at}
 use Rattle.tick_core.proofs.Counts.{sorted_with_at, open_closed}
 use Rattle.tick_core.proofs.state.TickState.close.Goals as goal
 

@@ -2,9 +2,9 @@ use Rattle.std.proofs.Common.{◌∙◌, refl, sym, ap, subst, arith}
 use Rattle.sc_graph.specs.Tick.{IsConfiguration}
 use Rattle.tick_core.specs.Inside.Living.{CountsLiving}
 use Rattle.tick_core.specs.Inside.Turns.{DropsClaims}
-use Rattle.tick_core.proofs.Keeping.{configuration, kept_dropped}
+use Rattle.tick_core.proofs.StateKept.{configuration, kept_dropped}
 use Rattle.tick_core.proofs.Counts.{sorted_every_at, none_open_at}
-use Rattle.tick_core.proofs.Led.{nobody_open}
+use Rattle.tick_core.proofs.LeadingThreads.{nobody_open}
 use Rattle.tick_core.proofs.state.TickState.drop_claims.Goals as goal
 
 pub sort_every-requires-clause-configuration : goal.sort_every-requires-clause-configuration

@@ -1,4 +1,4 @@
-use Rattle.tick_core.proofs.Keeping.{configuration}
+use Rattle.tick_core.proofs.StateKept.{configuration}
 use Rattle.tick_core.proofs.state.TickState.evaluated.Goals as goal
 
 pub present_value-value-requires-clause-configuration : goal.present_value-value-requires-clause-configuration

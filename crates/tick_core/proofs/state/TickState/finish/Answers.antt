@@ -1,5 +1,5 @@
 use Rattle.std.proofs.Common.{◌∙◌, ap}
-use Rattle.tick_core.proofs.Keeping.{few_entries, finished}
+use Rattle.tick_core.proofs.StateKept.{few_entries, finished}
 use Rattle.tick_core.proofs.state.TickState.finish.Goals as goal
 
 pub of-requires : goal.of-requires

@@ -1,6 +1,6 @@
 use Rattle.std.proofs.Common.{ap, refl}
-use Rattle.tick_core.proofs.Keeping.{finished, none_open}
-use Rattle.tick_core.proofs.Going.{begun_places}
+use Rattle.tick_core.proofs.StateKept.{finished, none_open}
+use Rattle.tick_core.proofs.StartKept.{begun_places}
 use Rattle.tick_core.proofs.state.TickState.hand_over.Goals as goal
 
 pub invariant_of-room : goal.invariant_of-room

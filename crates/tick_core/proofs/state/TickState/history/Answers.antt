@@ -1,5 +1,5 @@
 use Rattle.std.proofs.Common.{◌∙◌, ap}
-use Rattle.tick_core.proofs.Keeping.{shown}
+use Rattle.tick_core.proofs.StateKept.{shown}
 use Rattle.tick_core.proofs.state.TickState.history.Goals as goal
 
 pub returns-clause-by_priority : goal.returns-clause-by_priority

@@ -2,7 +2,7 @@ use Rattle.std.proofs.Common.{sym, subst, eqb-true}
 use Rattle.sc_values.specs.Runs.{IsOver}
 use Rattle.sc_graph.specs.Machine.{machine}
 use Rattle.tick_core.specs.State.{InTick}
-use Rattle.tick_core.proofs.Led.{over_is, answer_no}
+use Rattle.tick_core.proofs.LeadingThreads.{over_is, answer_no}
 use Rattle.tick_core.proofs.state.TickState.is_over.Goals as goal
 
 pub returns-then-self-eq0 : goal.returns-then-self-eq0

@@ -2,7 +2,7 @@ use Rattle.std.proofs.Common.{subst, sym, ap, ◌∙◌}
 use Rattle.sc_graph.specs.Tick.{IsConfiguration}
 use Rattle.tick_core.specs.Stepping.{code_at}
 use Rattle.tick_core.specs.Inside.Work.{HasFormedCode}
-use Rattle.tick_core.proofs.Keeping.{configuration}
+use Rattle.tick_core.proofs.StateKept.{configuration}
 use Rattle.tick_core.proofs.Claiming.{has_formed, is_new_at}
 use Rattle.tick_core.proofs.state.TickState.new_claim.Goals as goal
 

@@ -2,7 +2,7 @@ use Rattle.std.proofs.Common.{◌+◌, ◌<◌, ◌∙◌, length, slice_get, re
 use Rattle.sc_graph.specs.Control.{status_of}
 use Rattle.sc_graph.specs.Tables.{priority_of}
 use Rattle.tick_core.specs.State.{InTick}
-use Rattle.tick_core.proofs.Keeping.{kept_claimed, has_place}
+use Rattle.tick_core.proofs.StateKept.{kept_claimed, has_place}
 use Rattle.tick_core.proofs.Claiming.{fresh_at}
 use Rattle.tick_core.proofs.Counts.{sorted_opened, open_opened_at}
 use Rattle.tick_core.proofs.state.TickState.open.Goals as goal

@@ -1,5 +1,5 @@
 use Rattle.std.proofs.Common.{◌∙◌, ap}
-use Rattle.tick_core.proofs.Keeping.{places_shown, fresh_shown}
+use Rattle.tick_core.proofs.StateKept.{places_shown, fresh_shown}
 use Rattle.tick_core.proofs.state.TickState.open_claims.Goals as goal
 
 pub returns-clause-places : goal.returns-clause-places

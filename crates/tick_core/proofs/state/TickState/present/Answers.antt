@@ -3,7 +3,7 @@ use Rattle.std.specs.Prelude.{IsSome}
 use Rattle.sc_graph.specs.Control.{IsEnabled}
 use Rattle.sc_graph.specs.Steps.{step}
 use Rattle.sc_graph.specs.Tick.{IsConfiguration}
-use Rattle.tick_core.proofs.Keeping.{configuration, enabled_defined}
+use Rattle.tick_core.proofs.StateKept.{configuration, enabled_defined}
 use Rattle.tick_core.proofs.state.TickState.present.Goals as goal
 
 pub returns-clause-configuration : goal.returns-clause-configuration

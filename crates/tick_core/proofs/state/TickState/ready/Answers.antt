@@ -1,7 +1,7 @@
 use Rattle.std.proofs.Common.{subst}
 use Rattle.tick_core.specs.State.{InTick}
 use Rattle.tick_core.specs.Turns.{AreReady}
-use Rattle.tick_core.proofs.Led.{row_ready}
+use Rattle.tick_core.proofs.LeadingThreads.{row_ready}
 use Rattle.tick_core.proofs.state.TickState.ready.Goals as goal
 
 pub returns : goal.returns

@@ -1,4 +1,4 @@
-use Rattle.tick_core.proofs.Keeping.{alone_goes_on}
+use Rattle.tick_core.proofs.StateKept.{alone_goes_on}
 use Rattle.tick_core.proofs.state.TickState.run_alone.Goals as goal
 
 pub loop-thread-preserved : goal.loop-thread-preserved

@@ -1,4 +1,4 @@
-use Rattle.tick_core.proofs.Keeping.{configuration, room_left}
+use Rattle.tick_core.proofs.StateKept.{configuration, room_left}
 use Rattle.tick_core.proofs.state.TickState.step_alone.Goals as goal
 
 pub present_value-value-requires-clause-configuration : goal.present_value-value-requires-clause-configuration

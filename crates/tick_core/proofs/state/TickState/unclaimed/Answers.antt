@@ -3,7 +3,7 @@ use Rattle.sc_graph.specs.Control.{status_of}
 use Rattle.sc_graph.specs.Tables.{priority_of}
 use Rattle.tick_core.specs.State.{InTick}
 use Rattle.tick_core.specs.Inside.Turns.{NothingToClaim, IsUnclaimed}
-use Rattle.tick_core.proofs.Led.{nothing_in, first_leads, first_waits}
+use Rattle.tick_core.proofs.LeadingThreads.{nothing_in, first_leads, first_waits}
 use Rattle.tick_core.proofs.state.TickState.unclaimed.Goals as goal
 
 pub returns-in_default : goal.returns-in_default

@@ -1,5 +1,5 @@
 use Rattle.std.proofs.Common.{◌∙◌, ap, sym, ◌++◌, ◌∷◌, [], None}
-use Rattle.tick_core.proofs.Keeping.{none_more}
+use Rattle.tick_core.proofs.StateKept.{none_more}
 use Rattle.tick_core.proofs.state.first_rows.no_claims.Goals as goal
 
 pub loop-thread-preserved : goal.loop-thread-preserved

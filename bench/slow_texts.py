@@ -1,0 +1,114 @@
+"""SCL texts that are small and ordinary to look at, and on which a compiler may spend more than its share: each function
+makes one of about as many nodes as it is given. bench/compile times them beside ordinary ones."""
+HEAD = "scl P { input bool A; output int x; output int y; output int z; local int w; "
+OWN = "".join(f"local int v{i}; " for i in range(59))
+MANY = "".join(f"local int v{i}; " for i in range(240))
+CIRCLE = ["y = z + 1; ", "z = y + 1; "]
+
+
+def branches(bodies):
+    return "fork { " + " } par { ".join(bodies) + " } join; "
+
+
+def loop_before_row(n):
+    """A loop of one node in an if, before a row."""
+    return HEAD + "if (A) { L: x = 1; goto L; } " + "x = 1; " * (n - 3) + "}"
+
+
+def circle_beside_row(n):
+    """A row beside two branches that each read what the other writes."""
+    return HEAD + branches(["x = x + 1; " * (n - 10)] + CIRCLE) + "}"
+
+
+def circle_beside_pairs(n):
+    """Half write a variable that the others read, beside two branches that each read what the other writes."""
+    readers = [f"v{i} = x; " * (n // 118) for i in range(59)]
+    return HEAD + OWN + branches(["x = x + 1; " * (n // 2)] + readers + CIRCLE) + "}"
+
+
+def jumps(n, row):
+    k = (n - 12) // 2
+    tests = "".join(f"if (A) {{ goto A{i}; }} " for i in range(1, k + 1))
+    body = tests + "".join(f"A{i}: " + (row if i > 1 else "x = 1; ") for i in range(k, 0, -1))
+    return HEAD + branches(["L: " + branches([body, "pause; "]) + "goto L; ", "y = x; "]) + "}"
+
+
+def jumps_into_row(n):
+    """Gotos into a row, from its first place to its last, in a loop that pauses beside."""
+    return jumps(n, "w = 1; ")
+
+
+def jumps_into_reads(n):
+    """The same, where each statement of the row reads what it writes."""
+    return jumps(n, "w = 1 + w; ")
+
+
+def forks_of_one(n):
+    """Chains of forks of one branch, all of which use one variable."""
+    row = "x = 1 + x; " * max(1, n // 993 - 3)
+    chain = row
+    for _ in range(31):
+        chain = row + "fork { " + chain + "} join; "
+    return HEAD + ("fork { " + chain + "} join; ") * 31 + "}"
+
+
+def labels(n):
+    """Ifs and forks in one another, as deep as may be, and so many labels in the innermost."""
+    text = "".join(f"L{i}: " for i in range(n))
+    for k in range(33):
+        text = "if (A) { " * 32 + text + "} " * 32
+        if k < 32:
+            text = "fork { " + text + "} join; "
+    return HEAD + text + "}"
+
+
+def sums_of_each_other(n):
+    """A chart of 60 regions in rings, where two variables are each summed up from the other."""
+    k = max(2, n // 295)
+
+    def ring(p, e):
+        states = (f"{'' if i else 'initial '}state {p}{i} {{ go if A do {e} -> {p}{(i + 1) % k}; go if B -> {p}0; }} "
+                  for i in range(k))
+        return "".join(states)
+
+    first = "".join(f"region R{r} {{ {ring(f'S{r}_', 'x = x + 1')}}} " for r in range(30))
+    second = "".join(f"region Q{r} {{ {ring(f'Q{r}_', 'y = y + x')}}} " for r in range(29))
+    last = "region Z { initial state Z { go do x = x + y -> Z; } } "
+    return "chart C { input bool A; input bool B; output int x; output int y; " + first + second + last + "}"
+
+
+def deep_forks(n):
+    """Forks in one another, 16 deep, of eight branches each, beside which each branch reads what the others write."""
+    def level(left):
+        rows = ["x = x + y; " * (n // 600)] * 3 + ["w = x; " * (n // 600)] * 4
+        return branches(rows + [level(left - 1)]) if left else "x = x + 1; "
+    return HEAD + level(16) * 5 + "}"
+
+
+def few_users_each(n):
+    """240 variables, each written by one branch and read by the one behind."""
+    each = max(1, n // 240)
+    rows = ["".join(f"v{4 * b + k} = {f'v{4 * b + k - 4}' if b else '1'} + v{4 * b + k}; " * each for k in range(4))
+            for b in range(60)]
+    return HEAD + MANY + branches(rows) + "}"
+
+
+def last_circle_alone(n):
+    """Many forks of two branches that share a variable one way, and behind them one that does so both ways."""
+    count = min(n // 9, 500)
+    small = branches(["w = x + 1; ", "z = w; "])
+    return HEAD + small * count + "x = x + 1; " * (n - 7 * count) + branches(CIRCLE) + "}"
+
+
+def gotos_into_loops(n):
+    """A chain of gotos, each of which may lead into the next of many loops that pause."""
+    loops = "".join(f"L{i}: if (A) {{ goto M{i + 1}; }} M{i}: pause; goto L{i}; " for i in range(n // 4))
+    return HEAD + "if (A) { goto M0; } " + loops + f"M{n // 4}: x = 1; }}"
+
+
+SLOW = [("a loop of one node before a row", loop_before_row), ("a row beside a circle of two", circle_beside_row),
+        ("half write what the others read, beside a circle of two", circle_beside_pairs),
+        ("gotos into a row, in a loop", jumps_into_row), ("the same, where the row reads itself", jumps_into_reads),
+        ("chains of forks of one branch", forks_of_one), ("a chart of sums of each other", sums_of_each_other),
+        ("deep forks of eight branches", deep_forks), ("240 variables of few users each", few_users_each),
+        ("many forks, the last of which alone is a circle", last_circle_alone), ("gotos into loops", gotos_into_loops)]

@@ -1,0 +1,31 @@
+# Completions of sct for bash.
+_sct() {
+  local word=${COMP_WORDS[COMP_CWORD]} command=${COMP_WORDS[1]:-} before=${COMP_WORDS[COMP_CWORD - 1]}
+  COMPREPLY=()
+  if ((COMP_CWORD == 1)); then
+    mapfile -t COMPREPLY < <(compgen -W 'compile scl explain dot check list run migrate --help --version' -- "$word")
+    return
+  fi
+  if [[ $before == --workers ]]; then
+    mapfile -t COMPREPLY < <(compgen -W '1 2 3 4 5 6 7 8' -- "$word")
+    return
+  fi
+  if [[ $word == -* ]]; then
+    local options=--help
+    case $command in
+      list) options='--source --help' ;;
+      run) options='--workers --help' ;;
+    esac
+    mapfile -t COMPREPLY < <(compgen -W "$options" -- "$word")
+    return
+  fi
+  local ending='*.image'
+  case $command in
+    compile | scl | explain | dot) ending='*.@(chart|scl)' ;;
+  esac
+  [[ $before == --source ]] && ending='*.@(chart|scl)'
+  [[ $command == compile && $COMP_CWORD -gt 2 ]] && ending='*.image'
+  mapfile -t COMPREPLY < <(shopt -s extglob; compgen -f -X "!$ending" -- "$word"; compgen -d -- "$word")
+  compopt -o filenames 2> /dev/null
+}
+complete -F _sct sct

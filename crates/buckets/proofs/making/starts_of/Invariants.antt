@@ -1,0 +1,6 @@
+use Rattle.std.proofs.Common.{◌≡◌, ◌+◌, ◌<◌, ℕ, length, take}
+use Rattle.buckets.proofs.Counting.{Begun}
+use Rattle.buckets.proofs.making.starts_of.Given as goal
+
+abbrev pub invariant-loop-room : goal.invariant-loop-room
+invariant-loop-room l = Begun l.starts.items l.rooms l.room-index l.next

@@ -1,0 +1,10 @@
+pub mod Shapes
+pub mod Deepens
+pub mod Parts
+pub mod RowReading
+pub mod Pieces
+pub mod Nesting
+pub mod Drafting
+pub mod ShapedDrafts
+pub mod Flawed
+pub mod Checking

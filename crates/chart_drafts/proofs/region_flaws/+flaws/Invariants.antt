@@ -1,0 +1,20 @@
+use Rattle.std.proofs.Common.{◌≡◌, ◌+◌, ◌-◌, ◌*◌, drop}
+use Rattle.drafts.specs.Inside.{first_behind}
+use Rattle.chart_drafts.specs.Flaws.{state_names, state_flaws, region_names, region_flaws, nested_flaws}
+use Rattle.chart_drafts.proofs.region_flaws.+flaws.Given as goal
+
+abbrev pub decreases-region_flaws : goal.decreases-region_flaws
+decreases-region_flaws l = 2 * l.levels
+
+abbrev pub decreases-state_flaws : goal.decreases-state_flaws
+decreases-state_flaws l = 2 * l.levels + 1
+
+abbrev pub invariant-region_flaws-loop-at : goal.invariant-region_flaws-loop-at
+invariant-region_flaws-loop-at l =
+    first_behind l.first (region_flaws l.scope.variables.now (nested_flaws l.scope.variables.now (l.levels - 1)) (region_names l.regions) l.at (drop l.at l.regions))
+    ≡ first_behind l.fn.first (nested_flaws l.scope.variables.now l.levels l.regions)
+
+abbrev pub invariant-state_flaws-loop-at : goal.invariant-state_flaws-loop-at
+invariant-state_flaws-loop-at l =
+    first_behind l.first (state_flaws l.scope.variables.now (nested_flaws l.scope.variables.now l.levels) (state_names l.states) l.at (drop l.at l.states))
+    ≡ first_behind l.fn.first (state_flaws l.scope.variables.now (nested_flaws l.scope.variables.now l.levels) (state_names l.states) 0 l.states)

@@ -1,0 +1,24 @@
+-- What private functions alone say of themselves. It is proved, and no public contract rests on what it means.
+use Rattle.std.specs.Prelude.{ℕ, ◌≡◌, IsTrue, List, ◌++◌}
+use Rattle.grammar.specs.Predictive.{first}
+use Rattle.grammar.specs.Read.{Outcome, Got, next, starts, read, read_each}
+use Rattle.sc_text.specs.declared.token.Token.{Token}
+use Rattle.sc_text.specs.declared.token.TokenKind.{TokenKind}
+use Rattle.sc_text.specs.Classes.{Class, AName, class_of, same_class}
+use Rattle.sc_text.specs.Expression.{text_tokens}
+use Rattle.drafts.specs.Parts.{name_of}
+use Rattle.chart_drafts.specs.ChartText.{Grows}
+
+-- a phrase was read, and the text goes on at the rest
+pub record Gives {A : Type 0} (o : Outcome Token A) (x : A) (rest : List Token) : Type 0 where
+  pub is : o ≡ Got x rest
+
+-- some phrases of a row were read; so many more may follow, each beginning with a token of these classes
+pub record IsGoing {A : Type 0} (o : Outcome Token (List A)) (g : Grows A) (ks : List Class) (found : List A) (left : ℕ) (rest : List Token) : Type 0 where
+  pub begins : first g ≡ ks
+  pub is : o ≡ next (read_each (starts text_tokens (first g)) (read g) left rest) (λ xs end. Got (found ++ xs) end)
+
+-- the name that a token is
+pub record IsNameOf (k : TokenKind) (name : List ℕ) : Type 0 where
+  pub is : IsTrue (same_class AName (class_of k))
+  pub names : name ≡ name_of k

@@ -1,0 +1,20 @@
+//! Reading chart text.
+#![tactic(auto)]
+
+mod ahead;
+mod checked;
+mod draft;
+mod laws;
+mod names;
+mod region_flaws;
+mod regions;
+mod transition_flaws;
+mod transitions;
+mod whole;
+mod words;
+
+pub use checked::read_checked;
+pub use draft::{DraftChart, DraftEffect, DraftRegion, DraftState, DraftTransition};
+pub use laws::{chart_drafts_are_shaped, chart_texts_are_told};
+pub use region_flaws::state_names;
+pub use whole::read_draft;

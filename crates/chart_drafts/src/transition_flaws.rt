@@ -1,0 +1,113 @@
+//! What is wrong with the transitions of a state.
+
+ghost use Rattle.std.specs.Prelude.{◌≡◌, ◌||◌, OnOk, false};
+ghost use Rattle.core_charts.specs.Rules.{fits_state};
+ghost use Rattle.core_charts.specs.Tests.{is_join};
+ghost use Rattle.drafts.specs.Inside.{first_behind};
+ghost use Rattle.chart_drafts.specs.Flaws.{effect_flaws, trigger_flaws, kind_flaws, transition_flaws};
+
+use crate::draft::{DraftEffect, DraftTransition};
+use crate::names::Names;
+use core_charts::{EFFECT_LIMIT, TRANSITION_LIMIT, TransitionKind};
+use drafts::{Flaw, Scope, is_full, note_if};
+use sc_text::Broken;
+use sc_values::Kind;
+use std::alloc::{AllocError, Global};
+
+/// Notes the flaws of the transitions of a state, a superstate or a simple one, of a region with these states. Err:
+/// memory was refused.
+#[tactic(auto, using(crate::proofs::Flawed::transitions_over))]
+pub(crate) fn transition_flaws(
+    alloc: Global,
+    scope: &Scope,
+    states: &Names,
+    is_superstate: bool,
+    transitions: &[DraftTransition],
+    first: &mut Option<Flaw>,
+) -> Result<(), AllocError>
+    ensures { OnOk result (first.new ≡ first_behind first.old
+        (transition_flaws scope.now.variables.now states.now.names is_superstate false 0 transitions.now)) }
+{
+    let mut is_behind_join = false;
+    for (at, transition) in transitions.iter().enumerate() {
+        note_if(
+            first,
+            is_full(TRANSITION_LIMIT, at),
+            Broken::Limit,
+            transition.at,
+        );
+        kind_flaws(is_superstate, is_behind_join, transition, first);
+        trigger_flaws(alloc, scope, transition, first)?;
+        effect_flaws(alloc, scope, transition.effects.as_slice(), first)?;
+        let is_unknown = !states.has(transition.target.name);
+        note_if(first, is_unknown, Broken::Unknown, transition.target.at);
+        is_behind_join = is_past_join(is_behind_join, transition);
+    }
+    Ok(())
+}
+
+// Whether a termination stands before what follows.
+fn is_past_join(is_behind_join: bool, transition: &DraftTransition) -> bool
+    ensures { result ≡ (is_behind_join || is_join transition.now.kind) }
+{
+    is_behind_join || transition.kind.is_join()
+}
+
+fn kind_flaws(
+    is_superstate: bool,
+    is_behind_join: bool,
+    transition: &DraftTransition,
+    first: &mut Option<Flaw>,
+)
+    ensures { first.new ≡ first_behind first.old (kind_flaws is_superstate is_behind_join transition.now) }
+{
+    let is_second = transition.kind.is_join() && is_behind_join;
+    let is_broken = !fits_state(is_superstate, transition.kind) || is_second;
+    note_if(first, is_broken, Broken::Rule, transition.at);
+}
+
+// Simple states have transitions by `go`, superstates aborts and terminations.
+fn fits_state(is_superstate: bool, kind: TransitionKind) -> bool
+    ensures { result ≡ fits_state is_superstate kind }
+{
+    match kind {
+        TransitionKind::Go => !is_superstate,
+        TransitionKind::Strong | TransitionKind::Weak | TransitionKind::Join => is_superstate,
+    }
+}
+
+fn trigger_flaws(
+    alloc: Global,
+    scope: &Scope,
+    transition: &DraftTransition,
+    first: &mut Option<Flaw>,
+) -> Result<(), AllocError>
+    ensures { OnOk result (first.new ≡ first_behind first.old
+        (trigger_flaws scope.now.variables.now transition.now.trigger)) }
+{
+    match &transition.trigger {
+        Some(trigger) => scope.expression(alloc, Some(Kind::Bool), trigger, first),
+        None => Ok(()),
+    }
+}
+
+#[tactic(auto, using(crate::proofs::Flawed::effects_over))]
+fn effect_flaws(
+    alloc: Global,
+    scope: &Scope,
+    effects: &[DraftEffect],
+    first: &mut Option<Flaw>,
+) -> Result<(), AllocError>
+    ensures { OnOk result (first.new ≡ first_behind first.old (effect_flaws scope.now.variables.now 0 effects.now)) }
+{
+    for (at, effect) in effects.iter().enumerate() {
+        note_if(
+            first,
+            is_full(EFFECT_LIMIT, at),
+            Broken::Limit,
+            effect.variable.at,
+        );
+        scope.assignment(alloc, effect.variable, &effect.value, first)?;
+    }
+    Ok(())
+}

@@ -1,0 +1,286 @@
+//! Reading declarations and transitions.
+
+ghost use Rattle.std.specs.Prelude.{◌≡◌, MatchResult};
+ghost use Rattle.grammar.specs.Grammar.{many};
+ghost use Rattle.grammar.specs.Read.{read, starts};
+ghost use Rattle.sc_text.specs.Expression.{text_tokens, after, expression};
+ghost use Rattle.sc_text.specs.Reading.{Stops};
+ghost use Rattle.chart_drafts.specs.ChartText.{the_sign, declaration, placed, effect, next_effect, some_effects};
+ghost use Rattle.chart_drafts.specs.ChartText.{effects, target, trigger, deed, termination, tested, transition_first};
+ghost use Rattle.chart_drafts.specs.ChartText.{transition, leaving};
+ghost use Rattle.chart_drafts.specs.Inside.{Gives};
+
+use crate::ahead::{Ahead, skip_sign};
+use crate::draft::{DraftEffect, DraftTransition};
+use crate::words::{
+    declared_kind, declared_role, flag, join_word, last_name, name, role_follows, tested_word,
+    tested_word_follows,
+};
+use drafts::{Declaration, Named, TextExpression};
+use sc_text::ahead::{behind, place, sign_follows, word_follows};
+use sc_text::{ReadFault, Sign, Token, Word, expression};
+use sqlite_items::Items;
+use std::alloc::Global;
+
+/// The declarations of a chart.
+#[tactic(auto, using(crate::proofs::Pieces::declarations_go, crate::proofs::RowReading::going_ends, crate::proofs::RowReading::going_over, crate::proofs::RowReading::going_stops, crate::proofs::RowReading::going_on))]
+pub(crate) fn declarations(
+    alloc: Global,
+    ahead: &mut Ahead,
+    end: usize,
+) -> Result<Items<Declaration>, ReadFault>
+    ensures { MatchResult result
+        (λ x. Gives (read (many declaration) ahead.old.tokens.now) x ahead.new.tokens.now)
+        (λ fault. Stops end (read (many declaration) ahead.old.tokens.now) fault) }
+{
+    let mut found = Items::new(alloc);
+    let most = ahead.tokens.len();
+    for used in 0..most {
+        if !role_follows(ahead.tokens) {
+            return Ok(found);
+        }
+        let next = declaration(ahead, end)?;
+        found.push(next)?;
+    }
+    Ok(found)
+}
+
+#[tactic(auto, using(crate::proofs::Pieces::declaration_gives, crate::proofs::Parts::made_stops, crate::proofs::Parts::seq_stops_first, crate::proofs::Parts::seq_stops_second), unfolding(crate::specs::ChartText::declaration))]
+fn declaration(ahead: &mut Ahead, end: usize) -> Result<Declaration, ReadFault>
+    ensures { MatchResult result
+        (λ x. Gives (read declaration ahead.old.tokens.now) x ahead.new.tokens.now)
+        (λ fault. Stops end (read declaration ahead.old.tokens.now) fault) }
+{
+    let role = declared_role(ahead, end)?;
+    let kind = declared_kind(ahead, end)?;
+    let named = last_name(ahead, end)?;
+    Ok(Declaration { role, kind, named })
+}
+
+// An expression with its place.
+#[tactic(auto, using(crate::proofs::Pieces::placed_stops, crate::proofs::Pieces::placed_gives))]
+fn placed(alloc: Global, ahead: &mut Ahead, end: usize) -> Result<TextExpression, ReadFault>
+    ensures { MatchResult result
+        (λ x. Gives (read (placed (expression 0)) ahead.old.tokens.now) x ahead.new.tokens.now)
+        (λ fault. Stops end (read (placed (expression 0)) ahead.old.tokens.now) fault) }
+{
+    let start = place(ahead.tokens, end);
+    let mut operations = Items::new(alloc);
+    ahead.tokens = expression(ahead.tokens, end, &mut operations)?;
+    Ok(TextExpression { start, operations })
+}
+
+// What a variable becomes.
+#[tactic(auto, using(crate::proofs::Parts::after_stops_first, crate::proofs::Parts::after_stops_second, crate::proofs::Parts::after_gives))]
+fn value(alloc: Global, ahead: &mut Ahead, end: usize) -> Result<TextExpression, ReadFault>
+    ensures { MatchResult result
+        (λ x. Gives (read (after (the_sign Sign.Becomes) (placed
+        (expression 0))) ahead.old.tokens.now) x ahead.new.tokens.now)
+        (λ fault. Stops end (read (after (the_sign Sign.Becomes) (placed (expression 0))) ahead.old.tokens.now) fault) }
+{
+    skip_sign(ahead, end, Sign::Becomes)?;
+    let value = placed(alloc, ahead, end)?;
+    Ok(value)
+}
+
+#[tactic(auto, using(crate::proofs::Pieces::effect_gives, crate::proofs::Parts::made_stops, crate::proofs::Parts::seq_stops_first, crate::proofs::Parts::seq_stops_second), unfolding(crate::specs::ChartText::effect))]
+fn effect(alloc: Global, ahead: &mut Ahead, end: usize) -> Result<DraftEffect, ReadFault>
+    ensures { MatchResult result
+        (λ x. Gives (read (effect (expression 0)) ahead.old.tokens.now) x ahead.new.tokens.now)
+        (λ fault. Stops end (read (effect (expression 0)) ahead.old.tokens.now) fault) }
+{
+    let variable = name(ahead, end)?;
+    let value = value(alloc, ahead, end)?;
+    Ok(DraftEffect { variable, value })
+}
+
+#[tactic(auto, using(crate::proofs::Parts::after_stops_first, crate::proofs::Parts::after_stops_second, crate::proofs::Parts::after_gives), unfolding(crate::specs::ChartText::next_effect))]
+fn next_effect(alloc: Global, ahead: &mut Ahead, end: usize) -> Result<DraftEffect, ReadFault>
+    ensures { MatchResult result
+        (λ x. Gives (read (next_effect (expression 0)) ahead.old.tokens.now) x ahead.new.tokens.now)
+        (λ fault. Stops end (read (next_effect (expression 0)) ahead.old.tokens.now) fault) }
+{
+    skip_sign(ahead, end, Sign::Comma)?;
+    let effect = effect(alloc, ahead, end)?;
+    Ok(effect)
+}
+
+#[tactic(auto, using(crate::proofs::Pieces::effects_go, crate::proofs::Pieces::no_first_effect, crate::proofs::RowReading::going_ends, crate::proofs::RowReading::going_over, crate::proofs::RowReading::going_stops, crate::proofs::RowReading::going_on))]
+fn some_effects(
+    alloc: Global,
+    ahead: &mut Ahead,
+    end: usize,
+) -> Result<Items<DraftEffect>, ReadFault>
+    ensures { MatchResult result
+        (λ x. Gives (read (some_effects (expression 0)) ahead.old.tokens.now) x ahead.new.tokens.now)
+        (λ fault. Stops end (read (some_effects (expression 0)) ahead.old.tokens.now) fault) }
+{
+    let mut found = Items::new(alloc);
+    let first = effect(alloc, ahead, end)?;
+    found.push(first)?;
+    let most = ahead.tokens.len();
+    for used in 0..most {
+        if !sign_follows(ahead.tokens, Sign::Comma) {
+            return Ok(found);
+        }
+        let next = next_effect(alloc, ahead, end)?;
+        found.push(next)?;
+    }
+    Ok(found)
+}
+
+#[tactic(auto, using(crate::proofs::Pieces::effects_missing, crate::proofs::Pieces::effects_there, crate::proofs::Pieces::effects_stop))]
+fn effects(alloc: Global, ahead: &mut Ahead, end: usize) -> Result<Items<DraftEffect>, ReadFault>
+    ensures { MatchResult result
+        (λ x. Gives (read (effects (expression 0)) ahead.old.tokens.now) x ahead.new.tokens.now)
+        (λ fault. Stops end (read (effects (expression 0)) ahead.old.tokens.now) fault) }
+{
+    if !word_follows(ahead.tokens, Word::Do) {
+        return Ok(Items::new(alloc));
+    }
+    ahead.tokens = behind(ahead.tokens);
+    let effects = some_effects(alloc, ahead, end)?;
+    Ok(effects)
+}
+
+#[tactic(auto, using(crate::proofs::Parts::after_stops_first, crate::proofs::Parts::after_stops_second, crate::proofs::Parts::after_gives), unfolding(crate::specs::ChartText::target))]
+fn target(ahead: &mut Ahead, end: usize) -> Result<Named, ReadFault>
+    ensures { MatchResult result
+        (λ x. Gives (read target ahead.old.tokens.now) x ahead.new.tokens.now)
+        (λ fault. Stops end (read target ahead.old.tokens.now) fault) }
+{
+    skip_sign(ahead, end, Sign::Arrow)?;
+    let target = last_name(ahead, end)?;
+    Ok(target)
+}
+
+#[tactic(auto, using(crate::proofs::Pieces::trigger_missing, crate::proofs::Pieces::trigger_there, crate::proofs::Pieces::trigger_stops))]
+fn trigger(
+    alloc: Global,
+    ahead: &mut Ahead,
+    end: usize,
+) -> Result<Option<TextExpression>, ReadFault>
+    ensures { MatchResult result
+        (λ x. Gives (read (trigger (expression 0)) ahead.old.tokens.now) x ahead.new.tokens.now)
+        (λ fault. Stops end (read (trigger (expression 0)) ahead.old.tokens.now) fault) }
+{
+    if !word_follows(ahead.tokens, Word::If) {
+        return Ok(None);
+    }
+    ahead.tokens = behind(ahead.tokens);
+    let condition = placed(alloc, ahead, end)?;
+    Ok(Some(condition))
+}
+
+// What is done, and where a transition leads.
+#[tactic(auto, using(crate::proofs::Parts::seq_stops_first, crate::proofs::Parts::seq_stops_second, crate::proofs::Parts::seq_gives), unfolding(crate::specs::ChartText::deed))]
+fn deed(
+    alloc: Global,
+    ahead: &mut Ahead,
+    end: usize,
+) -> Result<(Items<DraftEffect>, Named), ReadFault>
+    ensures { MatchResult result
+        (λ x. Gives (read (deed (expression 0)) ahead.old.tokens.now) x ahead.new.tokens.now)
+        (λ fault. Stops end (read (deed (expression 0)) ahead.old.tokens.now) fault) }
+{
+    let effects = effects(alloc, ahead, end)?;
+    let target = target(ahead, end)?;
+    Ok((effects, target))
+}
+
+#[tactic(auto, using(crate::proofs::Pieces::termination_made, crate::proofs::Parts::made_stops, crate::proofs::Parts::seq_stops_first, crate::proofs::Parts::seq_stops_second), unfolding(crate::specs::ChartText::termination))]
+fn termination(alloc: Global, ahead: &mut Ahead, end: usize) -> Result<DraftTransition, ReadFault>
+    ensures { MatchResult result
+        (λ x. Gives (read (termination (expression 0)) ahead.old.tokens.now) x ahead.new.tokens.now)
+        (λ fault. Stops end (read (termination (expression 0)) ahead.old.tokens.now) fault) }
+{
+    let (kind, at) = join_word(ahead, end)?;
+    let (effects, target) = deed(alloc, ahead, end)?;
+    Ok(DraftTransition {
+        kind,
+        at,
+        immediate: false,
+        trigger: None,
+        effects,
+        target,
+    })
+}
+
+#[tactic(auto, using(crate::proofs::Pieces::tested_made, crate::proofs::Parts::made_stops, crate::proofs::Parts::seq_stops_first, crate::proofs::Parts::seq_stops_second), unfolding(crate::specs::ChartText::tested))]
+fn tested(alloc: Global, ahead: &mut Ahead, end: usize) -> Result<DraftTransition, ReadFault>
+    ensures { MatchResult result
+        (λ x. Gives (read (tested (expression 0)) ahead.old.tokens.now) x ahead.new.tokens.now)
+        (λ fault. Stops end (read (tested (expression 0)) ahead.old.tokens.now) fault) }
+{
+    let (kind, at) = tested_word(ahead, end)?;
+    let immediate = flag(ahead, Word::Immediate);
+    let trigger = trigger(alloc, ahead, end)?;
+    let (effects, target) = deed(alloc, ahead, end)?;
+    Ok(DraftTransition {
+        kind,
+        at,
+        immediate,
+        trigger,
+        effects,
+        target,
+    })
+}
+
+#[tactic(auto, using(crate::proofs::Pieces::termination_stops, crate::proofs::Pieces::termination_gives, crate::proofs::Pieces::tested_stops, crate::proofs::Pieces::tested_gives))]
+fn transition(alloc: Global, ahead: &mut Ahead, end: usize) -> Result<DraftTransition, ReadFault>
+    ensures { MatchResult result
+        (λ x. Gives (read (transition (expression 0)) ahead.old.tokens.now) x ahead.new.tokens.now)
+        (λ fault. Stops end (read (transition (expression 0)) ahead.old.tokens.now) fault) }
+{
+    if word_follows(ahead.tokens, Word::Join) {
+        let ends = termination(alloc, ahead, end)?;
+        return Ok(ends);
+    }
+    let leads = tested(alloc, ahead, end)?;
+    Ok(leads)
+}
+
+// Whether a transition is next.
+fn transition_follows(tokens: &[Token]) -> bool
+    ensures { result ≡ starts text_tokens transition_first tokens.now }
+{
+    word_follows(tokens, Word::Join) || tested_word_follows(tokens)
+}
+
+#[tactic(auto, using(crate::proofs::Pieces::transitions_go, crate::proofs::RowReading::going_ends, crate::proofs::RowReading::going_over, crate::proofs::RowReading::going_stops, crate::proofs::RowReading::going_on))]
+fn transitions(
+    alloc: Global,
+    ahead: &mut Ahead,
+    end: usize,
+) -> Result<Items<DraftTransition>, ReadFault>
+    ensures { MatchResult result
+        (λ x. Gives (read (many (transition (expression 0))) ahead.old.tokens.now) x ahead.new.tokens.now)
+        (λ fault. Stops end (read (many (transition (expression 0))) ahead.old.tokens.now) fault) }
+{
+    let mut found = Items::new(alloc);
+    let most = ahead.tokens.len();
+    for used in 0..most {
+        if !transition_follows(ahead.tokens) {
+            return Ok(found);
+        }
+        let next = transition(alloc, ahead, end)?;
+        found.push(next)?;
+    }
+    Ok(found)
+}
+
+/// The transitions of a state, up to the brace that closes it.
+#[tactic(auto, using(crate::proofs::Parts::before_stops_first, crate::proofs::Parts::before_stops_second, crate::proofs::Parts::before_gives), unfolding(crate::specs::ChartText::leaving))]
+pub(crate) fn leaving(
+    alloc: Global,
+    ahead: &mut Ahead,
+    end: usize,
+) -> Result<Items<DraftTransition>, ReadFault>
+    ensures { MatchResult result
+        (λ x. Gives (read (leaving (expression 0)) ahead.old.tokens.now) x ahead.new.tokens.now)
+        (λ fault. Stops end (read (leaving (expression 0)) ahead.old.tokens.now) fault) }
+{
+    let transitions = transitions(alloc, ahead, end)?;
+    skip_sign(ahead, end, Sign::CloseBrace)?;
+    Ok(transitions)
+}

@@ -1,0 +1,103 @@
+//! Reading a whole chart.
+
+ghost use Rattle.std.specs.Prelude.{[], IfOk, IfErr, MatchResult};
+ghost use Rattle.grammar.specs.Grammar.{seq, many};
+ghost use Rattle.grammar.specs.Read.{read, read_all};
+ghost use Rattle.sc_text.specs.Expression.{expression};
+ghost use Rattle.sc_text.specs.Reading.{Stops};
+ghost use Rattle.chart_drafts.specs.ChartText.{listed, declaration, region, braced, within, chart_text};
+ghost use Rattle.chart_drafts.specs.Reading.{IsDraft, IsDraftFault};
+ghost use Rattle.chart_drafts.specs.Inside.{Gives};
+
+use crate::ahead::{Ahead, skip_sign};
+use crate::draft::{DraftChart, DraftRegion};
+use crate::regions::regions;
+use crate::transitions::declarations;
+use crate::words::title;
+use drafts::Declaration;
+use sc_text::ahead::wrong;
+use sc_text::{Language, ReadFault, Sign, Token, Word, tokens};
+use sqlite_items::Items;
+use std::alloc::Global;
+
+/// The levels of regions that may stand inside a region of the chart.
+pub(crate) const INNER_LEVELS: u8 = 31;
+
+/// The draft of a text: what its tokens spell by the grammar. Err: the first place where no token stands; else
+/// the first token that can't go on, or with which only charts go on that are nested too deep, or the end of the
+/// text, where none may end; or memory was refused.
+#[tactic(auto, using(crate::proofs::Drafting::scanned, crate::proofs::Drafting::drafted, crate::proofs::Drafting::stopped))]
+pub fn read_draft(alloc: Global, text: &str) -> Result<DraftChart, ReadFault>
+    ensures ok { IfOk result (λ draft. IsDraft text.now draft) }
+    ensures fault { IfErr result (λ fault. IsDraftFault text.now fault) }
+{
+    let tokens = tokens(alloc, Language::Chart, text)?;
+    let draft = whole(alloc, tokens.as_slice(), text.len())?;
+    Ok(draft)
+}
+
+// A chart that ends where the tokens do.
+#[tactic(auto, using(crate::proofs::Drafting::whole_gives, crate::proofs::Drafting::chart_stops, crate::proofs::Drafting::more_stops))]
+fn whole(alloc: Global, tokens: &[Token], end: usize) -> Result<DraftChart, ReadFault>
+    ensures { MatchResult result
+        (λ draft. Gives (read_all (chart_text 0) tokens.now) draft [])
+        (λ fault. Stops end (read_all (chart_text 0) tokens.now) fault) }
+{
+    let mut ahead = Ahead { tokens };
+    let draft = chart(alloc, &mut ahead, end)?;
+    if !ahead.tokens.is_empty() {
+        return Err(wrong(ahead.tokens, end));
+    }
+    Ok(draft)
+}
+
+#[tactic(auto, using(crate::proofs::Nesting::chart_gives, crate::proofs::Nesting::title_stops, crate::proofs::Nesting::parts_stop))]
+fn chart(alloc: Global, ahead: &mut Ahead, end: usize) -> Result<DraftChart, ReadFault>
+    ensures { MatchResult result
+        (λ x. Gives (read (chart_text 0) ahead.old.tokens.now) x ahead.new.tokens.now)
+        (λ fault. Stops end (read (chart_text 0) ahead.old.tokens.now) fault) }
+{
+    let named = title(ahead, end, Word::Chart)?;
+    let (variables, regions) = braced_parts(alloc, ahead, end)?;
+    Ok(DraftChart {
+        named,
+        variables,
+        regions,
+    })
+}
+
+#[tactic(auto, using(crate::proofs::Parts::after_stops_first, crate::proofs::Nesting::braced_stops_inside, crate::proofs::Nesting::braced_stops_last, crate::proofs::Nesting::braced_gives))]
+fn braced_parts(
+    alloc: Global,
+    ahead: &mut Ahead,
+    end: usize,
+) -> Result<(Items<Declaration>, Items<DraftRegion>), ReadFault>
+    ensures { MatchResult result
+        (λ x. Gives (read (braced (seq (many declaration) (listed (region (expression 0) (within (expression 0) 31))
+        (region (expression 0) (within (expression 0) 31))))) ahead.old.tokens.now) x ahead.new.tokens.now)
+        (λ fault. Stops end (read (braced (seq (many declaration)
+        (listed (region (expression 0) (within (expression 0) 31))
+        (region (expression 0) (within (expression 0) 31))))) ahead.old.tokens.now) fault) }
+{
+    skip_sign(ahead, end, Sign::OpenBrace)?;
+    let (variables, regions) = parts(alloc, ahead, end)?;
+    skip_sign(ahead, end, Sign::CloseBrace)?;
+    Ok((variables, regions))
+}
+
+#[tactic(auto, using(crate::proofs::Parts::seq_stops_first, crate::proofs::Parts::seq_stops_second, crate::proofs::Parts::seq_gives))]
+fn parts(
+    alloc: Global,
+    ahead: &mut Ahead,
+    end: usize,
+) -> Result<(Items<Declaration>, Items<DraftRegion>), ReadFault>
+    ensures { MatchResult result
+        (λ x. Gives (read (seq (many declaration) (listed (region (expression 0) (within (expression 0) 31))
+        (region (expression 0) (within (expression 0) 31)))) ahead.old.tokens.now) x ahead.new.tokens.now)
+        (λ fault. Stops end (read (seq (many declaration) (listed (region (expression 0) (within (expression 0) 31))
+        (region (expression 0) (within (expression 0) 31)))) ahead.old.tokens.now) fault) }
+{
+    let variables = declarations(alloc, ahead, end)?;
+    let regions = regions(alloc, INNER_LEVELS, ahead, end)?;
+    Ok((variables, regions))
+}

@@ -1,0 +1,9 @@
+pub mod Shown
+pub mod Follows
+pub mod Layout
+pub mod WhichShow
+pub mod Corresponds
+pub mod Keeps
+pub mod Active
+pub mod Marks
+pub mod Laws

@@ -1,9 +1,0 @@
-use Rattle.std.proofs.Common.{◌≡◌, drop}
-use Rattle.draft_parts.specs.Inside.{first_behind}
-use Rattle.chart_reader.specs.Flaws.{effect_flaws}
-use Rattle.chart_reader.proofs.transition_flaws.effect_flaws.Given as goal
-
-abbrev pub invariant-loop-at : goal.invariant-loop-at
-invariant-loop-at l =
-    first_behind l.first (effect_flaws l.scope.variables.now l.at (drop l.at l.effects))
-    ≡ first_behind l.fn.first (effect_flaws l.scope.variables.now 0 l.effects)

@@ -1,9 +1,0 @@
-//! Tests of the reader of chart text: what texts are read into, and the faults of others.
-#![tactic(auto)]
-
-#[cfg(test)]
-mod drafts;
-#[cfg(test)]
-mod flaws;
-#[cfg(test)]
-mod limits;

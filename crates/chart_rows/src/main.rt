@@ -1,0 +1,19 @@
+//! Rows about charts, each answered by a line. A row that begins with `chart` is the text of a chart, and the rows
+//! behind it ask what the machine of its table does. The rows stand in tests/cases/charts.
+#![tactic(auto)]
+
+mod playing;
+mod reading;
+mod rows;
+mod tables;
+mod telling;
+
+use std::io;
+
+fn main(rt: HostRuntime) -> io::Result<()> {
+    let text = io::read_to_string(rt.alloc(), rt.stdin())?;
+    let mut told = String::new(rt.alloc());
+    let answered = rows::answer(rt.alloc(), text.as_str(), &mut told);
+    print!(rt; "{told}")?;
+    answered
+}

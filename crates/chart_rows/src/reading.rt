@@ -1,0 +1,50 @@
+//! What the words of a row stand for.
+
+use sc_values::{Name, Value};
+use std::alloc::Global;
+use std::io;
+
+/// What it holds; else the row means nothing.
+pub(crate) fn known<T>(answer: Option<T>) -> io::Result<T> {
+    match answer {
+        Some(it) => Ok(it),
+        None => Err(io::Error::from(io::ErrorKind::InvalidData)),
+    }
+}
+
+/// The text before a sign, and the text behind it.
+pub(crate) fn halves(text: &str, sign: char) -> (&str, &str) {
+    let mut parts = text.splitn(2, sign);
+    match (parts.next(), parts.next()) {
+        (Some(first), Some(second)) => (first, second),
+        _ => (text, ""),
+    }
+}
+
+/// Numbers, each a word.
+pub(crate) fn numbers(alloc: Global, text: &str) -> io::Result<Vec<usize>> {
+    let mut numbers = Vec::new(alloc);
+    for word in text.split_whitespace() {
+        numbers.push(known(word.parse::<usize>().ok())?)?;
+    }
+    Ok(numbers)
+}
+
+// A value: `false`, a number, or, where there is no word, `true`.
+fn value(word: &str) -> io::Result<Value> {
+    match word {
+        "" => Ok(Value::Bool(true)),
+        "false" => Ok(Value::Bool(false)),
+        _ => Ok(Value::Int(known(word.parse::<i32>().ok())?)),
+    }
+}
+
+/// Inputs, each as `NAME=VALUE`, or as `NAME` where it is `true`.
+pub(crate) fn inputs(alloc: Global, text: &str) -> io::Result<Vec<(Name, Value)>> {
+    let mut inputs = Vec::new(alloc);
+    for word in text.split_whitespace() {
+        let (name, given) = halves(word, '=');
+        inputs.push((known(Name::of(name))?, value(given)?))?;
+    }
+    Ok(inputs)
+}

@@ -1,0 +1,160 @@
+//! The report of a fault of a program.
+
+ghost use Rattle.std.specs.Prelude.{IfOk, string_bytes};
+ghost use Rattle.compiler.specs.FaultText.{fault_text};
+ghost use Rattle.diagnostics.specs.Reports.{Tells};
+
+use crate::lines::marked_line;
+use crate::nodes::{Shown, scene_text};
+use crate::program_words::in_words;
+use crate::report::spot_text;
+use crate::spots::spot_of;
+use crate::walks::{conflict_text, first_node, place_text, walk_text};
+use compiler::CompileFault;
+use conflict_edges::ConflictFault;
+use node_sources::{Origin, label_origin, sources_of};
+use priority_weights::TablesFault;
+use sc_graph::NodeId;
+use sc_values::Name;
+use scl_graph::GraphFault;
+use sqlite_items::at;
+use std::alloc::{AllocError, Global};
+use verifier::Refusal;
+
+/// A fault of a program for people: the name of the file, with the line and the column of what is named first, the
+/// fault as it prints, and what is wrong; then each node of the fault, in its order, with its place, what it does, the
+/// line of the text with a mark under the place, and why it has to come before the next; then what helps. The text is
+/// that from which the program was compiled; where it is another, no place is told. Err: memory was refused.
+pub fn program_fault_explained(
+    alloc: Global,
+    name: &str,
+    text: &str,
+    fault: &CompileFault,
+) -> Result<String, AllocError>
+    ensures { IfOk result (λ report. Tells name.now (fault_text fault.now) (string_bytes report)) }
+{
+    let shown = shown_fault(alloc, text, fault)?;
+    let told = in_words(fault);
+    let cause = told.cause;
+    let help = help(alloc, told.cure)?;
+    let place = shown.place;
+    let body = shown.body;
+    format!(in alloc; "{name}{place}: {fault}: {cause}\n{body}{help}")
+}
+
+// What a report says of places: that of the whole, and the lines behind its first.
+#[derive(Drop)]
+struct Report {
+    place: String,
+    body: String,
+}
+
+// The line of what helps, where something does.
+fn help(alloc: Global, cure: &str) -> Result<String, AllocError> {
+    if cure.is_empty() {
+        Ok(String::new(alloc))
+    } else {
+        format!(in alloc; "help: {cure}\n")
+    }
+}
+
+// A report without places.
+fn nowhere(alloc: Global) -> Report {
+    Report {
+        place: String::new(alloc),
+        body: String::new(alloc),
+    }
+}
+
+// What of a fault is shown in its text.
+fn shown_fault(alloc: Global, text: &str, fault: &CompileFault) -> Result<Report, AllocError> {
+    match fault {
+        CompileFault::Graph(GraphFault::EmptyLoop(label)) => shown_label(alloc, text, *label),
+        CompileFault::Expansion(_) | CompileFault::Graph(_) => Ok(nowhere(alloc)),
+        CompileFault::Conflict(_) | CompileFault::Tables(_) | CompileFault::Rule(_) => {
+            shown_nodes(alloc, text, fault)
+        }
+    }
+}
+
+// The place of an origin, with what stands before it.
+fn place_of(alloc: Global, text: &str, origin: Option<Origin>) -> Result<String, AllocError> {
+    match origin {
+        Some(origin) => spot_text(alloc, spot_of(text, origin.at)),
+        None => Ok(String::new(alloc)),
+    }
+}
+
+// A label, at its place.
+fn shown_label(alloc: Global, text: &str, label: Name) -> Result<Report, AllocError> {
+    let Some(origin) = label_origin(alloc, text, label)? else {
+        return Ok(nowhere(alloc));
+    };
+    let place = place_of(alloc, text, Some(origin))?;
+    let body = label_text(alloc, text, label, origin)?;
+    Ok(Report { place, body })
+}
+
+// A label with its line.
+fn label_text(
+    alloc: Global,
+    text: &str,
+    label: Name,
+    origin: Origin,
+) -> Result<String, AllocError> {
+    let scene = scene_text(alloc, text, origin)?;
+    let marked = marked_line(alloc, text, spot_of(text, origin.at))?;
+    format!(in alloc; "label {label}{scene}\n{marked}")
+}
+
+// The nodes of a fault.
+fn shown_nodes(alloc: Global, text: &str, fault: &CompileFault) -> Result<Report, AllocError> {
+    let Some(sources) = sources_of(alloc, text)? else {
+        return Ok(nowhere(alloc));
+    };
+    let shown = Shown::of(alloc, text, sources)?;
+    let body = nodes_of(alloc, &shown, fault)?;
+    let place = first_place(alloc, &shown, fault)?;
+    Ok(Report { place, body })
+}
+
+// The lines of the nodes of a fault.
+fn nodes_of(alloc: Global, shown: &Shown<'_>, fault: &CompileFault) -> Result<String, AllocError> {
+    match fault {
+        CompileFault::Conflict(ConflictFault::WriteWrite(first, second)) => {
+            conflict_text(alloc, shown, *first, *second)
+        }
+        CompileFault::Tables(TablesFault::InstantLoop(walk) | TablesFault::Cyclic(walk)) => {
+            walk_text(alloc, shown, walk.as_slice())
+        }
+        CompileFault::Rule(Refusal::Broken(broken)) => place_text(alloc, shown, broken.place),
+        _ => Ok(String::new(alloc)),
+    }
+}
+
+// The place of the first node of a fault.
+fn first_place(
+    alloc: Global,
+    shown: &Shown<'_>,
+    fault: &CompileFault,
+) -> Result<String, AllocError> {
+    match first_of(shown, fault) {
+        Some(node) => place_of(alloc, shown.text, shown.origin(node)),
+        None => Ok(String::new(alloc)),
+    }
+}
+
+// The first node of a fault.
+fn first_of(shown: &Shown<'_>, fault: &CompileFault) -> Option<NodeId> {
+    match fault {
+        CompileFault::Conflict(ConflictFault::WriteWrite(first, _)) => Some(*first),
+        CompileFault::Tables(TablesFault::InstantLoop(walk) | TablesFault::Cyclic(walk)) => {
+            match at(walk.as_slice(), 0) {
+                Some(node) => Some(*node),
+                None => None,
+            }
+        }
+        CompileFault::Rule(Refusal::Broken(broken)) => first_node(shown, broken.place),
+        _ => None,
+    }
+}

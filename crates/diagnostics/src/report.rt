@@ -1,0 +1,70 @@
+//! The whole report.
+
+ghost use Rattle.std.specs.Prelude.{IfOk, ◌++◌, codes, string_bytes};
+ghost use Rattle.std.specs.Fmt.{decimal};
+ghost use Rattle.sc_text.specs.FaultText.{broken_number};
+ghost use Rattle.diagnostics.specs.Reports.{Tells, text_fault};
+
+use crate::lines::marked_line;
+use crate::spots::{Spot, spot_of};
+use crate::words::{cause, cure};
+use sc_text::{Broken, ReadFault};
+use std::alloc::{AllocError, Global};
+
+/// A place as it stands behind the name of a file: its line and its column. Err: memory was refused.
+pub(crate) fn spot_text(alloc: Global, spot: Spot) -> Result<String, AllocError> {
+    let line = spot.line;
+    let column = spot.column;
+    format!(in alloc; ":{line}:{column}")
+}
+
+/// A fault of a reader for people: the name of the file with line and column, the number of the fault and what is
+/// wrong, the line of the text with a mark under the place, and what helps. The place is that of a byte, from 0; the
+/// length of the text is its end. Err: memory was refused.
+pub fn explained(
+    alloc: Global,
+    name: &str,
+    text: &str,
+    broken: Broken,
+    at: usize,
+) -> Result<String, AllocError>
+    ensures { IfOk result (λ report.
+        Tells name.now (codes "E0" ++ decimal (broken_number broken)) (string_bytes report)) }
+{
+    let spot = spot_of(text, at);
+    let place = spot_text(alloc, spot)?;
+    let number = broken.number();
+    let cause = cause(broken);
+    let cure = cure(broken);
+    let marked = marked_line(alloc, text, spot)?;
+    format!(in alloc; "{name}{place}: E0{number}: {cause}\n{marked}help: {cure}\n")
+}
+
+/// A fault for people of which no place is known: the name of the file, the fault, and what is said of it. Err: memory
+/// was refused.
+pub fn told_nowhere(
+    alloc: Global,
+    name: &str,
+    fault: &str,
+    said: &str,
+) -> Result<String, AllocError>
+    ensures { IfOk result (λ report. Tells name.now fault.now (string_bytes report)) }
+{
+    format!(in alloc; "{name}: {fault}: {said}\n")
+}
+
+/// Why a text is refused, for people: as `explained` says it. Where memory was refused there is no place. Err: memory
+/// was refused to the explanation.
+pub fn text_fault_explained(
+    alloc: Global,
+    name: &str,
+    text: &str,
+    fault: &ReadFault,
+) -> Result<String, AllocError>
+    ensures { IfOk result (λ report. Tells name.now (text_fault fault.now) (string_bytes report)) }
+{
+    match fault {
+        ReadFault::Text(broken, at) => explained(alloc, name, text, *broken, *at),
+        ReadFault::Memory => told_nowhere(alloc, name, "E52", "memory was refused"),
+    }
+}

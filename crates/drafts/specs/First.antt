@@ -1,0 +1,14 @@
+-- The first of some flaws.
+use Rattle.std.specs.Prelude.{ℕ, ◌≡◌, nat_lt, nat_eq, Bool, false, ◌&&◌, ◌||◌, Some, List, slice_get}
+use Rattle.sc_text.specs.FaultText.{broken_number}
+use Rattle.drafts.specs.declared.flaw.Flaw.{Flaw}
+
+-- it stands before the other, or at the same place with a smaller number
+abbrev pub comes_before : Flaw → Flaw → Bool
+comes_before f g = nat_lt f.at g.at || (nat_eq f.at g.at && nat_lt (broken_number f.broken) (broken_number g.broken))
+
+-- it is one of the flaws, and none of them comes before it
+pub record IsFirst (flaws : List Flaw) (f : Flaw) : Type 0 where
+  pub index : ℕ
+  pub stands : slice_get flaws index ≡ Some f
+  pub first : (i : ℕ) (g : Flaw) → slice_get flaws i ≡ Some g → comes_before g f ≡ false

@@ -1,2 +1,0 @@
-pub mod Instantly
-pub mod Answer

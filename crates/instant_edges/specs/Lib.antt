@@ -1,2 +1,0 @@
-pub mod Sorts
-pub mod Inside

@@ -1,0 +1,12 @@
+use Rattle.std.proofs.Common.{ℕ, List, subst}
+use Rattle.least_or_cycle.specs.Walks.{LeadsStrictlyTo}
+use Rattle.least_or_cycle.proofs.Cutting.{cut}
+use Rattle.least_or_cycle.proofs.cycles.cycle_through.Goals as goal
+
+pub returns : goal.returns
+returns g c =
+    let leads = g.G.Graph.leads c.args.graph.now in
+    let found = c.in_ok-ranks.ensures in
+    let P : List ℕ → Type 0 = λ xs. (n : ℕ) → ¬ LeadsStrictlyTo leads xs c.args.node n in
+    cut leads c.args.count c.args.node c.in_ok-ranks.ranks.items found.long found.ranks found.complete
+    (subst P c.as_slice.ensures.value (λ n. c.in-None.ensures n))

@@ -1,0 +1,125 @@
+//! Searches in breadth, for hints: from where a component comes back to a node.
+
+use crate::arcs::{Arcs, number_at, put};
+use crate::visit::Visited;
+use std::alloc::{AllocError, Global};
+
+/// An order in which what arcs lead to stands first: the nodes in the order in which they are left, and where the first
+/// one of a component of several nodes is left, all of them once more, each behind one to which an arc leads. So a number
+/// that grows against the arcs comes to all nodes of a component in one pass. Err: memory was refused.
+pub(crate) fn settling_order(
+    alloc: Global,
+    arcs: &Arcs,
+    visited: &Visited,
+) -> Result<Vec<u32>, AllocError> {
+    let turned = arcs.turned_within(alloc, visited.component.as_slice())?;
+    let mut spread = Spread::none(alloc, arcs.nodes())?;
+    let mut order = Vec::new(alloc);
+    for node in visited.left.as_slice() {
+        order.push(*node)?;
+        if visited.is_first(*node) && turned.first(*node) != 0 {
+            spread.begin(*node)?;
+            spread.run(&turned)?;
+            spread.take_all(&mut order)?;
+        }
+    }
+    Ok(order)
+}
+
+/// The nodes of a shortest way from a node to another along arcs within their component, without the other: the last
+/// one first. Err: memory was refused.
+pub(crate) fn way_to(
+    alloc: Global,
+    arcs: &Arcs,
+    visited: &Visited,
+    from: u32,
+    to: u32,
+) -> Result<Vec<u32>, AllocError> {
+    let turned = arcs.turned_within(alloc, visited.component.as_slice())?;
+    let mut spread = Spread::none(alloc, arcs.nodes())?;
+    spread.begin(to)?;
+    spread.run(&turned)?;
+    let mut way = Vec::new(alloc);
+    let mut at = from;
+    for _ in 0..arcs.nodes() {
+        if at == to {
+            break;
+        }
+        way.push(at)?;
+        at = number_at(spread.before.as_slice(), at);
+    }
+    way.reverse();
+    Ok(way)
+}
+
+// A search in breadth: which nodes it came to, from where, and these nodes in the order in which it did.
+#[derive(Drop)]
+struct Spread {
+    reached: Vec<u32>,
+    before: Vec<u32>,
+    queue: Vec<u32>,
+    at: usize,
+}
+
+impl Spread {
+    fn none(alloc: Global, nodes: u32) -> Result<Spread, AllocError> {
+        Ok(Spread {
+            reached: vec![in alloc; 0; nodes as usize]?,
+            before: vec![in alloc; 0; nodes as usize]?,
+            queue: Vec::new(alloc),
+            at: 0,
+        })
+    }
+
+    // Begins at a node.
+    fn begin(&mut self, node: u32) -> Result<(), AllocError> {
+        self.reach(node, node)
+    }
+
+    // Comes to a node from another, where it has not been yet.
+    fn reach(&mut self, node: u32, before: u32) -> Result<(), AllocError> {
+        if number_at(self.reached.as_slice(), node) != 0 {
+            return Ok(());
+        }
+        put(self.reached.as_mut_slice(), node, 1);
+        put(self.before.as_mut_slice(), node, before);
+        self.queue.push(node)?;
+        Ok(())
+    }
+
+    // Goes on until there is nowhere left to go.
+    fn run(&mut self, arcs: &Arcs) -> Result<(), AllocError> {
+        for _ in 0..arcs.nodes() {
+            let node = match self.queue.get(self.at) {
+                Some(next) => *next,
+                None => return Ok(()),
+            };
+            self.at = self.at.saturating_add(1);
+            self.reach_all(arcs, node)?;
+        }
+        Ok(())
+    }
+
+    // Comes to all nodes to which arcs lead from a node.
+    fn reach_all(&mut self, arcs: &Arcs, node: u32) -> Result<(), AllocError> {
+        let mut number = arcs.first(node);
+        for _ in 0..arcs.count() {
+            match arcs.arc(number) {
+                Some(arc) => {
+                    self.reach(arc.to, node)?;
+                    number = arc.next;
+                }
+                None => return Ok(()),
+            }
+        }
+        Ok(())
+    }
+
+    // Puts the nodes of the queue behind an order, and leaves it.
+    fn take_all(&mut self, order: &mut Vec<u32>) -> Result<(), AllocError> {
+        order.extend_from_slice(self.queue.as_slice())?;
+        self.queue.clear();
+        self.at = 0;
+        Ok(())
+    }
+}

@@ -1,0 +1,6 @@
+pub mod Within
+pub mod Listing
+pub mod Gaining
+pub mod Variables
+pub mod Instantly
+pub mod Answer

@@ -1,0 +1,3 @@
+pub mod Users
+pub mod Sorts
+pub mod Inside

@@ -1,6 +1,0 @@
-use Rattle.std.proofs.Common.{◌≡◌, ◌+◌, ◌<◌, ℕ, length, take}
-use Rattle.ready_rows.proofs.Counting.{Begun}
-use Rattle.ready_rows.proofs.making.starts_of.Given as goal
-
-abbrev pub invariant-loop-room : goal.invariant-loop-room
-invariant-loop-room l = Begun l.starts.items l.rooms l.room-index l.next

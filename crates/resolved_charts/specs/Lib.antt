@@ -1,3 +1,0 @@
-pub mod Resolved
-pub mod Read
-pub mod Inside

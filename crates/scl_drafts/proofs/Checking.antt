@@ -1,0 +1,36 @@
+-- The first flaw of a draft is told, or it has none.
+use Rattle.std.proofs.Common.{◌≡◌, ℕ, Option, Some, None, List, [], ◌++◌, inl, inr, sym, ◌∙◌, ap}
+use Rattle.sc_text.specs.declared.read_fault.ReadFault.{ReadFault}
+use Rattle.sc_text.specs.declared.read_fault.ReadFault.TheVariants as fault
+use Rattle.drafts.specs.declared.flaw.Flaw.{Flaw}
+use Rattle.drafts.specs.Flaws.{variable_names, variable_flaws}
+use Rattle.drafts.specs.Inside.{first_behind}
+use Rattle.drafts.proofs.Firsts.{behind_both, first_found, none_found}
+use Rattle.scl_drafts.specs.declared.draft.Draft.{Draft}
+use Rattle.scl_drafts.specs.declared.survey.Found.{Found}
+use Rattle.scl_drafts.specs.Draft.{IsDraft, IsDraftFault}
+use Rattle.scl_drafts.specs.Flaws.{Part, names, root, repeated, scl_flaws}
+use Rattle.scl_drafts.specs.Survey.{found_behind}
+use Rattle.scl_drafts.specs.Checked.{IsFlawless, IsTextFault}
+
+pub all_noted : (d : Draft) (noted told : Option Flaw) (after : Found) → noted ≡ first_behind None (variable_flaws (variable_names d.declarations) 0 0 d.declarations) → after ≡ found_behind (record { labels = []; first = noted }) (root d.declarations d.statements) → told ≡ first_behind after.first (repeated (names after.labels) 0 after.labels) → told ≡ first_behind None (scl_flaws d)
+all_noted d noted told after e f g =
+    let variables : List Flaw = variable_flaws (variable_names d.declarations) 0 0 d.declarations in
+    let p : Part = root d.declarations d.statements in
+    g
+    ∙ ap (λ a. first_behind a.first (repeated (names a.labels) 0 a.labels)) f
+    ∙ ap (λ n. first_behind (first_behind n p.flaws) (repeated (names p.all) 0 p.all)) e
+    ∙ sym (behind_both (first_behind None variables) p.flaws (repeated (names p.all) 0 p.all))
+    ∙ sym (behind_both None variables (p.flaws ++ repeated (names p.all) 0 p.all))
+
+module _ (text : List ℕ) where
+  pub flawless : (d : Draft) (first : Option Flaw) → IsDraft text d → first ≡ first_behind None (scl_flaws d) → first ≡ None → IsFlawless text d
+  flawless d first is e none = record { drafted = is; flawless = none_found (scl_flaws d) (sym e ∙ none) }
+
+  pub flawed : (d : Draft) (first : Option Flaw) (flaw : Flaw) → IsDraft text d → first ≡ first_behind None (scl_flaws d) → first ≡ Some flaw → IsTextFault text (fault.Text flaw.broken flaw.at)
+  flawed d first flaw is e some =
+      inr (record { draft = d; drafted = is; first = first_found (scl_flaws d) flaw (sym e ∙ some) })
+
+  pub undrafted : (f : ReadFault) → IsDraftFault text f → IsTextFault text f
+  undrafted (fault.Text b at) is = inl is
+  undrafted fault.Memory is = tt

@@ -1,0 +1,63 @@
+use Rattle.std.proofs.Common.{◌≡◌, ◌-◌, ◌<◌, true, length, [], ◌∷◌, arith, rules}
+use Rattle.grammar.specs.Grammar.{one, many}
+use Rattle.grammar.specs.Read.{read, starts}
+use Rattle.sc_text.specs.declared.word.Word.TheVariants as word
+use Rattle.sc_text.specs.declared.sign.Sign.TheVariants as sign
+use Rattle.sc_text.specs.declared.read_fault.ReadFault.{ReadFault}
+use Rattle.sc_text.specs.Classes.{TheWord, TheSign}
+use Rattle.sc_text.specs.Expression.{text_tokens}
+use Rattle.sc_text.specs.Reading.{Stops}
+use Rattle.scl_drafts.specs.Program.{block, branch, fork}
+use Rattle.scl_drafts.specs.Inside.{statement_classes, within}
+use Rattle.scl_drafts.proofs.Blocks.{close_stops}
+use Rattle.scl_drafts.proofs.Forks.{join_stops, join_end_stops}
+use Rattle.scl_drafts.proofs.Loops.{within_ends, within_stops, branches_end, branch_stops}
+use Rattle.scl_drafts.proofs.statements.+statement.Goals as goal
+
+pub statements-returns-then-not-statement_follows : goal.statements-returns-then-not-statement_follows
+statements-returns-then-not-statement_follows t c =
+    let over = c.if-not-statement_follows.true in
+    within_ends _ _ _ _ _ _ _ c.loop-used.invariant (search (rules, over, c.statement_follows.ensures))
+
+pub statements-returns-in_err-rest : goal.statements-returns-in_err-rest
+statements-returns-in_err-rest t c =
+    let within_most = c.loop-used-test.true in
+    let some : 0 < length c.args.tokens.now - c.loop-used.used = omega arith in
+    let on = c.if-not-statement_follows.false in
+    let more : starts text_tokens statement_classes c.loop-used.rest.now ≡ true = search (rules, on, c.statement_follows.ensures) in
+    let stops : (f : ReadFault) → Stops c.args.end (read (within c.args.forks c.args.ifs) c.loop-used.rest.now) f → Stops c.args.end (read (many (within c.args.forks c.args.ifs)) c.args.tokens.now) f =
+    λ f. within_stops _ _ _ _ _ _ _ c.args.end f some c.loop-used.invariant more in
+    search (rules, stops)
+
+pub branches-returns-then-not-word_follows : goal.branches-returns-then-not-word_follows
+branches-returns-then-not-word_follows t c =
+    let over = c.if-not-word_follows.true in
+    branches_end _ _ _ _ _ _ c.loop-used.invariant (search (rules, over, c.word_follows.ensures))
+
+pub branches-returns-in_err-rest : goal.branches-returns-in_err-rest
+branches-returns-in_err-rest t c =
+    let within_most = c.loop-used-test.true in
+    let some : 0 < length c.args.tokens.now - c.loop-used.used = omega arith in
+    let on = c.if-not-word_follows.false in
+    let more : starts text_tokens (TheWord word.Par ∷ []) c.loop-used.rest.now ≡ true = search (rules, on, c.word_follows.ensures) in
+    let stops : (f : ReadFault) → Stops c.args.end (read (branch word.Par (within c.args.forks 32)) c.loop-used.rest.now) f → Stops c.args.end (read (many (branch word.Par (within c.args.forks 32))) c.args.tokens.now) f =
+    λ f. branch_stops _ _ _ _ _ _ c.args.end f some c.loop-used.invariant more in
+    search (rules, stops)
+
+pub block-returns-in_err-after : goal.block-returns-in_err-after
+block-returns-in_err-after t c =
+    let stops : (f : ReadFault) → Stops c.args.end (read (one {L = text_tokens} (TheSign sign.CloseBrace ∷ [])) c.in_ok-rest.rest.now) f → Stops c.args.end (read (block (within c.args.forks c.args.ifs)) c.args.tokens.now) f =
+    λ f. close_stops _ _ _ c.in_ok-body.ensures _ _ _ c.in_ok-rest.ensures c.args.end f in
+    search (rules, stops)
+
+pub fork-returns-in_err-join : goal.fork-returns-in_err-join
+fork-returns-in_err-join t c =
+    let stops : (f : ReadFault) → Stops c.args.end (read (one {L = text_tokens} (TheWord word.Join ∷ [])) c.in_ok-rest.rest.now) f → Stops c.args.end (read (fork (within c.args.forks 32)) c.args.tokens.now) f =
+    λ f. join_stops _ _ _ _ _ c.in_ok-more.ensures _ _ c.in_ok-rest.ensures c.args.end f in
+    search (rules, stops)
+
+pub fork-returns-in_err-after : goal.fork-returns-in_err-after
+fork-returns-in_err-after t c =
+    let stops : (f : ReadFault) → Stops c.args.end (read (one {L = text_tokens} (TheSign sign.Semicolon ∷ [])) c.in_ok-join.join.now) f → Stops c.args.end (read (fork (within c.args.forks 32)) c.args.tokens.now) f =
+    λ f. join_end_stops _ _ _ _ _ c.in_ok-more.ensures _ _ c.in_ok-rest.ensures _ c.in_ok-join.ensures c.args.end f in
+    search (rules, stops)

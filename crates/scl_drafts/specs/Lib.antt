@@ -1,0 +1,9 @@
+pub mod Statements
+pub mod Program
+pub mod Laws
+pub mod Draft
+pub mod Shape
+pub mod Inside
+pub mod Flaws
+pub mod Checked
+pub mod Survey

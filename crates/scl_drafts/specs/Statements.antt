@@ -1,0 +1,40 @@
+-- What the parts of an SCL text mean: its statements.
+use Rattle.std.specs.Prelude.{ℕ, Option, Some, None, List, [], ◌∷◌, map}
+use Rattle.sc_text.specs.declared.token.Token.{Token}
+use Rattle.sc_text.specs.Phrases.{Phrase}
+use Rattle.drafts.specs.Parts.{named, expressed}
+use Rattle.scl_drafts.specs.declared.statement.TextStatement.{TextStatement}
+use Rattle.scl_drafts.specs.declared.statement.TextStatement.TheVariants as text
+
+abbrev pub Statements : Type 0
+Statements = List TextStatement
+
+-- what stands behind a name: an expression with its first token, or a colon
+pub data AfterName : Type 0 where
+  Becomes : (first : Token) (value : Phrase) → AfterName
+  IsLabel : AfterName
+
+abbrev pub named_statement : Token → AfterName → TextStatement
+named_statement t (Becomes first value) = text.Assign (named t) (expressed (first, value))
+named_statement t IsLabel = text.Label (named t)
+
+abbrev pub goto_statement : Token → TextStatement
+goto_statement t = text.Goto (named t)
+
+abbrev pub pause_statement : TextStatement
+pause_statement = text.Pause
+
+abbrev pub none_or_them : Option Statements → Statements
+none_or_them None = []
+none_or_them (Some statements) = statements
+
+-- a test with its first token, the first list, and the second one if it is there
+abbrev pub if_statement : Token × Phrase → Statements → Option Statements → TextStatement
+if_statement test first second = text.If (expressed test) first (none_or_them second)
+
+-- a branch by the word that opens it
+abbrev pub branch_of : Token × Statements → ℕ × Statements
+branch_of b = (b.0.at, b.1)
+
+abbrev pub fork_statement : Token × Statements → List (Token × Statements) → TextStatement
+fork_statement first more = text.Fork (branch_of first ∷ map branch_of more)

@@ -1,0 +1,57 @@
+//! Labels that stand twice, and gotos to no label of their thread.
+
+ghost use Rattle.std.specs.Prelude.{◌≡◌, IfOk, OnOk};
+ghost use Rattle.drafts.specs.Inside.{first_behind};
+ghost use Rattle.scl_drafts.specs.Flaws.{names, lost, repeated};
+
+use drafts::{Flaw, Index, Named, note_if};
+use sc_text::Broken;
+use sc_values::Name;
+use std::alloc::{AllocError, Global};
+
+/// Notes the gotos to none of these labels. Err: memory was refused.
+#[tactic(auto, using(crate::proofs::Labelled::lost_step, crate::proofs::Labelled::lost_over))]
+pub(crate) fn note_lost(
+    alloc: Global,
+    labels: &[Named],
+    gotos: &[Named],
+    first: &mut Option<Flaw>,
+) -> Result<(), AllocError>
+    ensures { OnOk result (first.new ≡ first_behind first.old (lost (names labels.now) gotos.now)) }
+{
+    let names = names(alloc, labels)?;
+    let index = Index::of(alloc, names.as_slice())?;
+    for target in gotos {
+        let is_lost = index.place(target.name).is_none();
+        note_if(first, is_lost, Broken::Unknown, target.at);
+    }
+    Ok(())
+}
+
+/// Notes each label whose name stands before it too. Err: memory was refused.
+#[tactic(auto, using(crate::proofs::Labelled::repeated_step, crate::proofs::Labelled::repeated_over))]
+pub(crate) fn note_repeated(
+    alloc: Global,
+    labels: &[Named],
+    first: &mut Option<Flaw>,
+) -> Result<(), AllocError>
+    ensures { OnOk result (first.new ≡ first_behind first.old (repeated (names labels.now) 0 labels.now)) }
+{
+    let names = names(alloc, labels)?;
+    let index = Index::of(alloc, names.as_slice())?;
+    for at in 0..labels.len() {
+        let is_repeated = index.place(labels[at].name) != Some(at);
+        note_if(first, is_repeated, Broken::Repeated, labels[at].at);
+    }
+    Ok(())
+}
+
+fn names(alloc: Global, labels: &[Named]) -> Result<Vec<Name>, AllocError>
+    ensures { IfOk result (λ found. found.items ≡ names labels.now) }
+{
+    let mut names = Vec::with_capacity(alloc, labels.len())?;
+    for label in labels {
+        names.push(label.name)?;
+    }
+    Ok(names)
+}

@@ -1,0 +1,21 @@
+//! Reading SCL text.
+#![tactic(auto)]
+
+mod checked;
+mod declarations;
+mod draft;
+mod labels;
+mod laws;
+mod name;
+mod program;
+mod simple;
+mod statement;
+mod statements;
+mod survey;
+mod value;
+
+pub use checked::read_checked;
+pub use draft::Draft;
+pub use laws::{scl_drafts_are_shaped, scl_texts_are_told};
+pub use program::read_draft;
+pub use statement::TextStatement;

@@ -1,0 +1,67 @@
+//! Names among the tokens that are still to be read.
+
+ghost use Rattle.std.specs.Prelude.{◌≡◌, [], ◌∷◌, IsTrue, MatchResult};
+ghost use Rattle.grammar.specs.Read.{read, starts};
+ghost use Rattle.sc_text.specs.Classes.{AName, class_of, same_class};
+ghost use Rattle.sc_text.specs.Expression.{text_tokens};
+ghost use Rattle.sc_text.specs.Reading.{Stops};
+ghost use Rattle.drafts.specs.Parts.{name_of};
+ghost use Rattle.scl_drafts.specs.Program.{name};
+ghost use Rattle.scl_drafts.specs.Inside.{TakesName};
+
+use drafts::Named;
+use sc_text::ahead::wrong;
+use sc_text::{ReadFault, Token, TokenKind};
+use sc_values::Name;
+
+/// Whether a name is next.
+pub fn name_follows(tokens: &[Token]) -> bool
+    ensures { result ≡ starts text_tokens (AName ∷ []) tokens.now }
+{
+    match tokens {
+        [] => false,
+        [next, ..] => is_name(next.kind),
+    }
+}
+
+#[tactic(auto, using(crate::proofs::Names::number_is_no_name))]
+fn is_name(kind: TokenKind) -> bool
+    ensures { result ≡ same_class AName (class_of kind) }
+{
+    match kind {
+        TokenKind::Name(_) => true,
+        TokenKind::Number(_) => false,
+        TokenKind::Word(_) => false,
+        TokenKind::Sign(_) => false,
+    }
+}
+
+/// The name that is next, with its place. Err: none is next.
+#[tactic(auto, using(crate::proofs::Names::no_name, crate::proofs::Names::name_taken))]
+pub fn name(tokens: &[Token], end: usize) -> Result<Named, ReadFault>
+    ensures { MatchResult result
+        (λ called. TakesName tokens.now called)
+        (λ fault. Stops end (read name tokens.now) fault) }
+{
+    if !name_follows(tokens) {
+        return Err(wrong(tokens, end));
+    }
+    match tokens {
+        [] => Err(wrong(tokens, end)),
+        [next, ..] => Ok(Named {
+            name: name_of(next.kind),
+            at: next.at,
+        }),
+    }
+}
+
+// The name that a token is.
+fn name_of(kind: TokenKind) -> Name
+    requires { IsTrue (same_class AName (class_of kind)) }
+    ensures { result ≡ name_of kind }
+{
+    match kind {
+        TokenKind::Name(name) => name,
+        _ => unreachable!(),
+    }
+}

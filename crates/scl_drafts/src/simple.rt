@@ -1,0 +1,102 @@
+//! The statements in which no other statement stands.
+
+ghost use Rattle.std.specs.Prelude.{MatchResult};
+ghost use Rattle.grammar.specs.Read.{read};
+ghost use Rattle.sc_text.specs.Expression.{expression};
+ghost use Rattle.sc_text.specs.Reading.{Stops};
+ghost use Rattle.scl_drafts.specs.Program.{named, goto, pause, simple};
+ghost use Rattle.scl_drafts.specs.Inside.{Adds, alone};
+
+use crate::name::{name, name_follows};
+use crate::statement::TextStatement;
+use crate::value::value;
+use sc_text::ahead::{behind, past_sign, past_word, sign_follows, word_follows};
+use sc_text::{ReadFault, Sign, Token, Word};
+use sqlite_items::Items;
+use std::alloc::Global;
+
+/// Reads a statement that is no if and no fork, and puts it behind the others. Gives the tokens behind
+/// it. Err: the fault at the first token that can't go on, or memory was refused.
+#[tactic(auto, using(crate::proofs::Single::simple_named_stops, crate::proofs::Single::simple_named_reads, crate::proofs::Single::simple_goto_stops, crate::proofs::Single::simple_goto_reads, crate::proofs::Single::simple_pause_stops, crate::proofs::Single::simple_pause_reads))]
+pub fn simple<'a>(
+    alloc: Global,
+    tokens: &'a [Token],
+    end: usize,
+    statements: &mut Items<TextStatement>,
+) -> Result<&'a [Token], ReadFault>
+    ensures { MatchResult result
+        (λ rest. Adds alone (read (simple (expression 0)) tokens.now) statements.old statements.new rest.now)
+        (λ fault. Stops end (read (simple (expression 0)) tokens.now) fault) }
+{
+    if name_follows(tokens) {
+        let rest = named(alloc, tokens, end, statements)?;
+        return Ok(rest);
+    }
+    if word_follows(tokens, Word::Goto) {
+        let rest = goto(tokens, end, statements)?;
+        return Ok(rest);
+    }
+    let rest = pause(tokens, end, statements)?;
+    Ok(rest)
+}
+
+// An assignment or a label.
+#[tactic(auto, using(crate::proofs::Single::name_stops, crate::proofs::Single::assigned_stops, crate::proofs::Single::assigned_reads, crate::proofs::Single::colon_stops, crate::proofs::Single::labelled_reads))]
+fn named<'a>(
+    alloc: Global,
+    tokens: &'a [Token],
+    end: usize,
+    statements: &mut Items<TextStatement>,
+) -> Result<&'a [Token], ReadFault>
+    ensures { MatchResult result
+        (λ rest. Adds alone (read (named (expression 0)) tokens.now) statements.old statements.new rest.now)
+        (λ fault. Stops end (read (named (expression 0)) tokens.now) fault) }
+{
+    let called = name(tokens, end)?;
+    let rest = behind(tokens);
+    if sign_follows(rest, Sign::Becomes) {
+        let (value, after) = value(alloc, Sign::Semicolon, behind(rest), end)?;
+        statements.push(TextStatement::Assign {
+            target: called,
+            value,
+        })?;
+        return Ok(after);
+    }
+    let after = past_sign(rest, end, Sign::Colon)?;
+    statements.push(TextStatement::Label(called))?;
+    Ok(after)
+}
+
+#[tactic(auto, using(crate::proofs::Single::goto_stops, crate::proofs::Single::target_stops, crate::proofs::Single::goto_end_stops, crate::proofs::Single::goto_reads))]
+fn goto<'a>(
+    tokens: &'a [Token],
+    end: usize,
+    statements: &mut Items<TextStatement>,
+) -> Result<&'a [Token], ReadFault>
+    ensures { MatchResult result
+        (λ rest. Adds alone (read goto tokens.now) statements.old statements.new rest.now)
+        (λ fault. Stops end (read goto tokens.now) fault) }
+{
+    let target = past_word(tokens, end, Word::Goto)?;
+    let called = name(target, end)?;
+    let rest = behind(target);
+    let after = past_sign(rest, end, Sign::Semicolon)?;
+    statements.push(TextStatement::Goto(called))?;
+    Ok(after)
+}
+
+#[tactic(auto, using(crate::proofs::Single::pause_stops, crate::proofs::Single::pause_end_stops, crate::proofs::Single::pause_reads))]
+fn pause<'a>(
+    tokens: &'a [Token],
+    end: usize,
+    statements: &mut Items<TextStatement>,
+) -> Result<&'a [Token], ReadFault>
+    ensures { MatchResult result
+        (λ rest. Adds alone (read pause tokens.now) statements.old statements.new rest.now)
+        (λ fault. Stops end (read pause tokens.now) fault) }
+{
+    let rest = past_word(tokens, end, Word::Pause)?;
+    let after = past_sign(rest, end, Sign::Semicolon)?;
+    statements.push(TextStatement::Pause)?;
+    Ok(after)
+}

@@ -1,0 +1,28 @@
+//! The statements of an SCL text.
+
+use drafts::{Named, TextExpression};
+use sqlite_items::Items;
+
+/// A statement of a program's text. Names are not yet resolved. A place is that of a first byte in the text.
+#[derive(Debug, Drop)]
+pub enum TextStatement {
+    /// The variable of this name becomes the value.
+    Assign {
+        target: Named,
+        value: TextExpression,
+    },
+    Label(Named),
+    /// A goto of this label.
+    Goto(Named),
+    Pause,
+    /// An if. Where it has no `else` the second list is empty.
+    If {
+        test: TextExpression,
+        first: Items<TextStatement>,
+        second: Items<TextStatement>,
+    },
+    /// A fork of these branches, each with the place of the word that opens it.
+    Fork {
+        branches: Items<(usize, Items<TextStatement>)>,
+    },
+}

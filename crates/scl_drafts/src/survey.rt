@@ -1,0 +1,130 @@
+//! Going over the statements of a draft, thread by thread, for what is wrong with them.
+
+ghost use Rattle.std.specs.Prelude.{◌≡◌, OnOk};
+ghost use Rattle.sc_graph.specs.Limits.{child_limit};
+ghost use Rattle.drafts.specs.Flaws.{flaw_if, is_full};
+ghost use Rattle.scl_drafts.specs.Flaws.{in_row, thread, only_flaws, part_of, parts_of};
+ghost use Rattle.scl_drafts.specs.Survey.{survey, behind, found_behind, label_part};
+
+use crate::labels::note_lost;
+use crate::statement::TextStatement;
+use drafts::{Flaw, Named, Scope, note_if};
+use sc_graph::CHILD_LIMIT;
+use sc_text::Broken;
+use sc_values::Kind;
+use sqlite_items::Items;
+use std::alloc::{AllocError, Global};
+
+/// The labels and the gotos of one thread.
+#[derive(Drop)]
+struct Thread {
+    labels: Items<Named>,
+    gotos: Items<Named>,
+}
+
+/// What was found in all threads: their labels in the order of the text, and the first flaw.
+#[derive(Drop)]
+pub(crate) struct Found {
+    pub(crate) labels: Items<Named>,
+    pub(crate) first: Option<Flaw>,
+}
+
+/// Goes over a whole thread. Err: memory was refused.
+#[cycle(survey)]
+pub(crate) fn survey_thread(
+    alloc: Global,
+    scope: &Scope,
+    body: &[TextStatement],
+    found: &mut Found,
+) -> Result<(), AllocError>
+    ensures { OnOk result (found.new ≡ found_behind found.old
+        (thread (in_row (parts_of scope.now.variables.now body.now)))) }
+{
+    let mut own = Thread {
+        labels: Items::new(alloc),
+        gotos: Items::new(alloc),
+    };
+    survey_statements(alloc, scope, body, &mut own, found)?;
+    note_lost(
+        alloc,
+        own.labels.as_slice(),
+        own.gotos.as_slice(),
+        &mut found.first,
+    )?;
+    Ok(())
+}
+
+#[cycle(survey)]
+fn survey_statements(
+    alloc: Global,
+    scope: &Scope,
+    statements: &[TextStatement],
+    own: &mut Thread,
+    found: &mut Found,
+) -> Result<(), AllocError>
+    ensures { OnOk result (survey own.new found.new ≡ behind (survey own.old found.old)
+        (in_row (parts_of scope.now.variables.now statements.now))) }
+{
+    for statement in statements {
+        survey_statement(alloc, scope, statement, own, found)?;
+    }
+    Ok(())
+}
+
+#[cycle(survey)]
+fn survey_statement(
+    alloc: Global,
+    scope: &Scope,
+    statement: &TextStatement,
+    own: &mut Thread,
+    found: &mut Found,
+) -> Result<(), AllocError>
+    ensures { OnOk result (survey own.new found.new ≡ behind (survey own.old found.old)
+        (part_of scope.now.variables.now statement.now)) }
+{
+    match statement {
+        TextStatement::Assign { target, value } => scope.assignment(
+            alloc,
+            *target,
+            value,
+            &mut found.first,
+        ),
+        TextStatement::Label(label) => note_label(label, own, found),
+        TextStatement::Goto(label) => own.gotos.push(*label),
+        TextStatement::Pause => Ok(()),
+        TextStatement::If {
+            test,
+            first,
+            second,
+        } => {
+            scope.expression(alloc, Some(Kind::Bool), test, &mut found.first)?;
+            survey_statements(alloc, scope, first.as_slice(), own, found)?;
+            survey_statements(alloc, scope, second.as_slice(), own, found)?;
+            Ok(())
+        }
+        TextStatement::Fork { branches } => {
+            let all = branches.as_slice();
+            for (before, branch) in all.iter().enumerate() {
+                note_branch(before, branch.0, found);
+                survey_thread(alloc, scope, branch.1.as_slice(), found)?;
+            }
+            Ok(())
+        }
+    }
+}
+
+fn note_label(label: &Named, own: &mut Thread, found: &mut Found) -> Result<(), AllocError>
+    ensures { OnOk result (survey own.new found.new ≡ behind (survey own.old found.old) (label_part label.now)) }
+{
+    own.labels.push(*label)?;
+    found.labels.push(*label)?;
+    Ok(())
+}
+
+// What is too many at the word of a branch behind so many others.
+#[tactic(auto, using(crate::proofs::Surveyed::branch_noted))]
+fn note_branch(before: usize, at: usize, found: &mut Found)
+    ensures { found.new ≡ found_behind found.old (only_flaws (flaw_if (is_full child_limit before) Broken.Limit at)) }
+{
+    note_if(&mut found.first, before >= CHILD_LIMIT, Broken::Limit, at);
+}

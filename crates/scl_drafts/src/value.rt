@@ -1,0 +1,35 @@
+//! Expressions within a statement.
+
+ghost use Rattle.std.specs.Prelude.{[], ◌∷◌, MatchResult};
+ghost use Rattle.grammar.specs.Grammar.{headed};
+ghost use Rattle.grammar.specs.Read.{read};
+ghost use Rattle.sc_text.specs.Classes.{TheSign};
+ghost use Rattle.sc_text.specs.Expression.{before, expression};
+ghost use Rattle.sc_text.specs.Reading.{Stops};
+ghost use Rattle.scl_drafts.specs.Inside.{TakesValue};
+
+use drafts::TextExpression;
+use sc_text::ahead::{past_sign, place};
+use sc_text::{ReadFault, Sign, Token, expression};
+use sqlite_items::Items;
+use std::alloc::Global;
+
+/// An expression up to the sign that closes it, and the tokens behind the sign.
+/// Err: the fault at the first token that can't go on, or memory was refused.
+#[tactic(auto, using(crate::proofs::Values::value_stops, crate::proofs::Values::closing_stops, crate::proofs::Values::value_taken))]
+pub fn value(
+    alloc: Global,
+    closing: Sign,
+    tokens: &[Token],
+    end: usize,
+) -> Result<(TextExpression, &[Token]), ReadFault>
+    ensures { MatchResult result
+        (λ p. TakesValue (read (before (headed (expression 0)) (TheSign closing ∷ [])) tokens.now) p.0 p.1.now)
+        (λ fault. Stops end (read (before (headed (expression 0)) (TheSign closing ∷ [])) tokens.now) fault) }
+{
+    let start = place(tokens, end);
+    let mut operations = Items::new(alloc);
+    let rest = expression(tokens, end, &mut operations)?;
+    let after = past_sign(rest, end, closing)?;
+    Ok((TextExpression { start, operations }, after))
+}

@@ -1,4 +1,0 @@
-pub mod Pieces
-pub mod Keeping
-pub mod Looking
-pub mod Reading

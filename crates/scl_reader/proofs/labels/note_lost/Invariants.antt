@@ -1,8 +1,0 @@
-use Rattle.std.proofs.Common.{◌≡◌, drop}
-use Rattle.draft_parts.specs.Inside.{first_behind}
-use Rattle.scl_reader.specs.Flaws.{names, lost}
-use Rattle.scl_reader.proofs.labels.note_lost.Given as goal
-
-abbrev pub invariant-loop-target : goal.invariant-loop-target
-invariant-loop-target l =
-    first_behind l.first (lost (names l.labels) (drop l.target-index l.gotos)) ≡ first_behind l.fn.first (lost (names l.labels) l.gotos)

@@ -1,8 +1,0 @@
-use Rattle.std.proofs.Common.{◌≡◌, drop}
-use Rattle.draft_parts.specs.Inside.{first_behind}
-use Rattle.scl_reader.specs.Flaws.{names, repeated}
-use Rattle.scl_reader.proofs.labels.note_repeated.Given as goal
-
-abbrev pub invariant-loop-at : goal.invariant-loop-at
-invariant-loop-at l =
-    first_behind l.first (repeated (names l.labels) l.at (drop l.at l.labels)) ≡ first_behind l.fn.first (repeated (names l.labels) 0 l.labels)

@@ -1,0 +1,13 @@
+use Rattle.std.proofs.Common.{◌∙◌, ap}
+use Rattle.drafts.specs.Flaws.{variable_names}
+use Rattle.drafts.specs.Resolved.{variables_of}
+use Rattle.scl_reader.specs.Resolved.{statements_of}
+use Rattle.scl_reader.proofs.SclRulesKept.{parts_kept}
+use Rattle.scl_reader.proofs.program.program_of.Goals as goal
+
+pub known-requires : goal.known-requires
+known-requires c =
+    parts_kept c.args.draft.now c.in_ok-scope.scope.variables.now c.requires.flawless (c.in_ok-scope.ensures ∙ c.as_slice-2.ensures)
+    c.in_ok-variables.variables c.in_ok-body.body c.requires.shaped
+    (c.in_ok-variables.ensures ∙ ap variables_of c.as_slice.ensures)
+    (c.in_ok-body.ensures ∙ ap (statements_of (variable_names c.in_ok-scope.scope.variables.now)) c.as_slice-3.ensures)

@@ -1,0 +1,23 @@
+//! Reading a text of SCL.
+
+ghost use Rattle.std.specs.Prelude.{IfErr, IfOk};
+ghost use Rattle.scl_drafts.specs.Checked.{IsTextFault};
+ghost use Rattle.scl_reader.specs.Read.{IsRead};
+
+use crate::program::program_of;
+use sc_text::ReadFault;
+use scl::Scl;
+use scl_drafts::read_checked;
+use std::alloc::Global;
+
+/// The program that a text spells by the grammar of SCL and its rules. Err: the first place where no token stands;
+/// else the fault of its grammar; else the first of what is wrong with its draft; or memory was refused.
+#[tactic(auto, using(crate::proofs::Reading::unflawed, crate::proofs::Reading::shaped, crate::proofs::Reading::is_read))]
+pub fn read_scl(alloc: Global, text: &str) -> Result<Scl, ReadFault>
+    ensures ok { IfOk result (λ program. IsRead text.now program) }
+    ensures fault { IfErr result (λ fault. IsTextFault text.now fault) }
+{
+    let draft = read_checked(alloc, text)?;
+    let program = program_of(alloc, &draft)?;
+    Ok(program)
+}

@@ -1,9 +1,0 @@
-use Rattle.std.proofs.Common.{◌∙◌, ap, sym, subst}
-use Rattle.tick_core.specs.Inside.Given.{HasOwnNames}
-use Rattle.tick_core.proofs.Giving.{own_names}
-use Rattle.tick_core.proofs.state.Room.go_on.Goals as goal
-
-pub take-requires-clause-names : goal.take-requires-clause-names
-take-requires-clause-names c =
-    subst (λ p. HasOwnNames p.variables) (sym (c.program-program.ensures ∙ ap (λ i. i.program) c.image.ensures.value))
-    (own_names c.room.inside.verified.now.program c.room.inside.verified.now.tables c.image.ensures.valid)

@@ -1,5 +1,0 @@
-use Rattle.std.proofs.Common.{Err, refl, ap, inr}
-use Rattle.trace_player.proofs.shift.Shift.react.Goals as goal
-
-pub returns-in-Err-NotJson-clause-fault : goal.returns-in-Err-NotJson-clause-fault
-returns-in-Err-NotJson-clause-fault g c = (refl, inr (c.in-Err-NotJson.ensures.not_json (ap Err c.in-Err-NotJson.field-0-is)))

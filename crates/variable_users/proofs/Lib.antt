@@ -1,4 +1,0 @@
-pub mod Within
-pub mod Listing
-pub mod Gaining
-pub mod Variables

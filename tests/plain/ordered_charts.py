@@ -1,0 +1,94 @@
+"""The plain machine of charts where the regions come to step in a given order, and what the rows of tests/cases/charts ask of
+it. Regions have their numbers, from 1: what lies inside an initial state comes before what lies inside the others."""
+from chart_machine import ChartMachine
+from charts import states_of
+
+BUDGET = 20000
+
+
+def regions_in_order(regions):
+    """Each region before what lies inside it, and what lies inside its initial state first."""
+    for region in regions:
+        yield region
+        for state in sorted(region.states, key=lambda s: not s.is_initial):
+            yield from regions_in_order(state.regions)
+
+
+def shown(value):
+    return str(value).lower() if isinstance(value, bool) else str(value)
+
+
+class OrderedMachine(ChartMachine):
+    def __init__(self, chart):
+        super().__init__(chart, None)
+        self.ordered = list(regions_in_order(chart.regions))
+        self.states = list(states_of(chart.regions))
+        self.first = []
+
+    def row(self, row):
+        """What a row is answered."""
+        word, _, rest = row.partition(" ")
+        return {"order": self.order, "again": self.again, "tick": self.row_of_tick, "run": self.row_of_run, "play": self.play_row,
+                "standings": self.row_of_standings, "table": self.row_of_table}[word](rest)
+
+    def order(self, rest):
+        self.first = [int(word) for word in rest.split()]
+        return ""
+
+    def again(self, _):
+        self.__init__(self.chart)
+        return ""
+
+    def inputs(self, text):
+        """What is given by `NAME=VALUE`, or by `NAME` where it is true."""
+        pairs = (word.partition("=") for word in text.split())
+        return {name: value != "false" if value in ("", "false") else int(value) for name, _, value in pairs}
+
+    def told(self):
+        active = sorted(self.states.index(s) for s in self.active())
+        return " ".join(["values", *map(shown, self.values)]) + "; " + " ".join(["active", *map(str, active)])
+
+    def next_region(self):
+        """The number of the first region whose turn it is, or None."""
+        order = self.first + list(range(1, len(self.ordered) + 1))
+        return next((n for n in order if self.is_enabled(self.ordered[n - 1])), None)
+
+    def row_of_tick(self, rest):
+        self.begin(self.inputs(rest))
+        steps = []
+        while (number := self.next_region()) is not None and len(steps) < BUDGET:
+            steps.append(number)
+            self.step(self.ordered[number - 1])
+        return " ".join(["steps", *map(str, steps)]) + "; " + self.told()
+
+    def play_row(self, rest):
+        """A tick in which these regions step, if they can one after the other."""
+        given, _, regions = rest.partition(":")
+        before = self.saved()
+        self.begin(self.inputs(given))
+        for number in map(int, regions.split()):
+            if not 0 < number <= len(self.ordered) or not self.is_enabled(self.ordered[number - 1]):
+                self.values, self.standing = before
+                return "no run"
+            self.step(self.ordered[number - 1])
+        return ("run; " if self.next_region() else "whole run; ") + self.told()
+
+    def row_of_run(self, rest):
+        """The same, but the tick is not played."""
+        before = self.saved()
+        answer = self.play_row(rest)
+        self.values, self.standing = before
+        return answer
+
+    def row_of_standings(self, _):
+        def word(standing):
+            return "outside" if standing is None else "ended" if standing[0] == "ended" else str(self.states.index(standing[1]))
+        return " ".join(["stand", *(word(self.standing[r]) for r in self.ordered)])
+
+    def row_of_table(self, _):
+        number = {r: n for n, r in enumerate(self.ordered, 1)}
+        parts = [" ".join(["state", str(n), "in", str(number[self.holder[s]]), "has", *(str(number[r]) for r in s.regions)])
+                 for n, s in enumerate(self.states)]
+        parts += [" ".join(["region", str(number[r]), "has", *(str(self.states.index(s)) for s in r.states), "in",
+                            *(str(self.states.index(s)) for s in reversed(self.around(r)))]) for r in self.ordered]
+        return "; ".join(parts) + ";"
