@@ -2,6 +2,7 @@
 use Rattle.std.specs.Prelude.{ℕ, ◌≡◌, List, ◌++◌, codes}
 use Rattle.std.specs.Fmt.{decimal}
 use Rattle.sc_text.specs.FaultText.{broken_number}
+use Rattle.diagnostics.specs.Spots.{place_shown}
 use Rattle.sc_text.specs.declared.read_fault.ReadFault.{ReadFault}
 use Rattle.sc_text.specs.declared.read_fault.ReadFault.TheVariants as read
 
@@ -16,3 +17,13 @@ pub record Tells (name fault report : List ℕ) : Type 0 where
 abbrev pub text_fault : ReadFault → List ℕ
 text_fault (read.Text b at) = codes "E0" ++ decimal (broken_number b)
 text_fault read.Memory = codes "E52"
+
+-- the report begins with this name, this place and this fault. What else is said is left open
+pub record TellsAt (name place fault report : List ℕ) : Type 0 where
+  pub rest : List ℕ
+  pub is : report ≡ name ++ (place ++ (codes ": " ++ (fault ++ (codes ": " ++ rest))))
+
+-- the report of a fault of this text tells its line and column
+abbrev pub TellsPlace : (name text : List ℕ) → ReadFault → List ℕ → Type 0
+TellsPlace name text (read.Text b at) report = TellsAt name (place_shown text at) (text_fault (read.Text b at)) report
+TellsPlace name text read.Memory report = Tells name (text_fault read.Memory) report

@@ -1,9 +1,10 @@
 //! The whole report.
 
-ghost use Rattle.std.specs.Prelude.{IfOk, ◌++◌, codes, string_bytes};
+ghost use Rattle.std.specs.Prelude.{IfOk, ◌≡◌, ◌++◌, codes, string_bytes};
 ghost use Rattle.std.specs.Fmt.{decimal};
 ghost use Rattle.sc_text.specs.FaultText.{broken_number};
-ghost use Rattle.diagnostics.specs.Reports.{Tells, text_fault};
+ghost use Rattle.diagnostics.specs.Reports.{Tells, TellsAt, TellsPlace, text_fault};
+ghost use Rattle.diagnostics.specs.Spots.{place_shown};
 
 use crate::lines::marked_line;
 use crate::spots::{Spot, spot_of};
@@ -12,7 +13,10 @@ use sc_text::{Broken, ReadFault};
 use std::alloc::{AllocError, Global};
 
 /// A place as it stands behind the name of a file: its line and its column. Err: memory was refused.
-pub(crate) fn spot_text(alloc: Global, spot: Spot) -> Result<String, AllocError> {
+pub(crate) fn spot_text(alloc: Global, spot: Spot) -> Result<String, AllocError>
+    ensures { IfOk result (λ text.
+        string_bytes text ≡ codes ":" ++ (decimal spot.line ++ (codes ":" ++ decimal spot.column))) }
+{
     let line = spot.line;
     let column = spot.column;
     format!(in alloc; ":{line}:{column}")
@@ -28,8 +32,10 @@ pub fn explained(
     broken: Broken,
     at: usize,
 ) -> Result<String, AllocError>
-    ensures { IfOk result (λ report.
+    ensures begins { IfOk result (λ report.
         Tells name.now (codes "E0" ++ decimal (broken_number broken)) (string_bytes report)) }
+    ensures place { IfOk result (λ report.
+        TellsAt name.now (place_shown text.now at) (codes "E0" ++ decimal (broken_number broken)) (string_bytes report)) }
 {
     let spot = spot_of(text, at);
     let place = spot_text(alloc, spot)?;
@@ -61,7 +67,8 @@ pub fn text_fault_explained(
     text: &str,
     fault: &ReadFault,
 ) -> Result<String, AllocError>
-    ensures { IfOk result (λ report. Tells name.now (text_fault fault.now) (string_bytes report)) }
+    ensures begins { IfOk result (λ report. Tells name.now (text_fault fault.now) (string_bytes report)) }
+    ensures place { IfOk result (λ report. TellsPlace name.now text.now fault.now (string_bytes report)) }
 {
     match fault {
         ReadFault::Text(broken, at) => explained(alloc, name, text, *broken, *at),

@@ -1,5 +1,8 @@
 //! Lines and columns.
 
+ghost use Rattle.std.specs.Prelude.{◌≡◌, ◌<◌, ◌+◌, length, take};
+ghost use Rattle.diagnostics.specs.Spots.{begins_character, IsSpot};
+
 /// A place in a text: its line and its column, each from 1. Columns count characters; a tab is one.
 #[derive(Clone, Copy, Debug, PartialEq, Eq)]
 pub struct Spot {
@@ -27,16 +30,44 @@ impl Spot {
 /// Where a text begins.
 pub(crate) const START: Spot = Spot { line: 1, column: 1 };
 
+// Whether a character begins by this byte.
+fn begins_character(byte: u8) -> bool
+    ensures { result ≡ begins_character byte }
+{
+    !(128 <= byte && byte <= 191)
+}
+
 /// The place of the byte of this number, from 0; of the end, where the text has no more than that.
-pub fn spot_of(text: &str, at: usize) -> Spot {
+// The place behind one byte more of a text.
+#[tactic(auto, using(crate::proofs::LineColumns::line_fits, crate::proofs::LineColumns::column_fits))]
+fn behind_byte(spot: Spot, text: &[u8], i: usize) -> Spot
+    requires within { i < length text.now }
+    requires is { IsSpot (take i text.now) spot }
+    ensures { IsSpot (take (i + 1) text.now) result }
+{
+    let byte = text[i];
+    if byte == b'\n' {
+        let line = spot.line + 1;
+        return Spot { line, column: 1 };
+    }
+    if begins_character(byte) {
+        let column = spot.column + 1;
+        return Spot {
+            line: spot.line,
+            column,
+        };
+    }
+    spot
+}
+
+/// The place of the byte of this number, from 0; of the end, where the text has no more than that.
+pub fn spot_of(text: &str, at: usize) -> Spot
+    ensures { IsSpot (take at text.now) result }
+{
+    let bytes = text.as_bytes();
     let mut spot = START;
-    let mut offset: usize = 0;
-    for letter in text.chars() {
-        if offset >= at {
-            return spot;
-        }
-        offset = offset.saturating_add(letter.len_utf8());
-        spot = spot.behind(letter);
+    for i in 0..at.min(bytes.len()) {
+        spot = behind_byte(spot, bytes, i);
     }
     spot
 }
