@@ -1,5 +1,6 @@
 -- The line and the column behind one byte more.
-use Rattle.std.proofs.Common.{◌≡◌, ℕ, ◌+◌, ◌<◌, ◌≤◌, cond, get_or, Bool, true, false, ◌||◌, List, [], ◌∷◌, ◌++◌, length, length-append, take, drop, count_by, refl, sym, ◌∙◌, ap, arith}
+use Rattle.std.proofs.Common.{◌≡◌, ℕ, ◌+◌, ◌<◌, ◌≤◌, cond, get_or, Bool, true, false, ◌||◌, List, [], ◌∷◌, ◌++◌, length, length-append, take, drop}
+use Rattle.std.proofs.Common.{count_by, refl, sym, ◌∙◌, ap, arith}
 use Rattle.std.specs.Cmp.{unsigned_Decides}
 use Rattle.std.proofs.lemmas.List.{take_more, take-append-drop}
 use Rattle.std.proofs.lemmas.List.Sums.{sum_by-append, count_by_more_yes, count_by_more_no, count_by-le-length}
@@ -49,18 +50,21 @@ module _ (bytes : List ℕ) (i d : ℕ) (within : i < length bytes) where
   pub column_new : is_line_feed (get_or bytes i d) ≡ true → column_behind (take (i + 1) bytes) ≡ 1
   column_new is = ap (λ l. 1 + count_by begins_character l) (ap last_line more ∙ new_line (take i bytes) (get_or bytes i d) is)
 
-  in_line : is_line_feed (get_or bytes i d) ≡ false → column_behind (take (i + 1) bytes) ≡ 1 + (count_by begins_character (last_line (take i bytes)) + count_by begins_character (get_or bytes i d ∷ []))
+  in_line : is_line_feed (get_or bytes i d) ≡ false
+      → column_behind (take (i + 1) bytes) ≡ 1 + (count_by begins_character (last_line (take i bytes)) + count_by begins_character (get_or bytes i d ∷ []))
   in_line is =
       ap (λ l. 1 + count_by begins_character l) (ap last_line more ∙ same_line (take i bytes) (get_or bytes i d) is)
       ∙ ap (λ n. 1 + n) (sum_by-append (λ b. cond (begins_character b) 1 0) (last_line (take i bytes)) (get_or bytes i d ∷ []))
 
-  pub column_more : is_line_feed (get_or bytes i d) ≡ false → begins_character (get_or bytes i d) ≡ true → column_behind (take (i + 1) bytes) ≡ column_behind (take i bytes) + 1
+  pub column_more : is_line_feed (get_or bytes i d) ≡ false → begins_character (get_or bytes i d) ≡ true
+      → column_behind (take (i + 1) bytes) ≡ column_behind (take i bytes) + 1
   column_more is begins =
       let one : count_by begins_character (get_or bytes i d ∷ []) ≡ 1 = ap (λ b. 0 + cond b 1 0) begins in
       let all = in_line is in
       omega arith
 
-  pub column_same : is_line_feed (get_or bytes i d) ≡ false → begins_character (get_or bytes i d) ≡ false → column_behind (take (i + 1) bytes) ≡ column_behind (take i bytes)
+  pub column_same : is_line_feed (get_or bytes i d) ≡ false → begins_character (get_or bytes i d) ≡ false
+      → column_behind (take (i + 1) bytes) ≡ column_behind (take i bytes)
   column_same is begins =
       let none : count_by begins_character (get_or bytes i d ∷ []) ≡ 0 = ap (λ b. 0 + cond b 1 0) begins in
       let all = in_line is in
@@ -76,7 +80,8 @@ last_line_short (b ∷ bytes) = go (has_line_feed (b ∷ bytes)) (last_line_shor
 
 take_short : (bytes : List ℕ) (i : ℕ) → length (take i bytes) ≤ length bytes
 take_short bytes i =
-    let e : length bytes ≡ length (take i bytes) + length (drop i bytes) = ap length (sym (take-append-drop i bytes)) ∙ length-append (take i bytes) (drop i bytes) in
+    let e : length bytes ≡ length (take i bytes) + length (drop i bytes) =
+        ap length (sym (take-append-drop i bytes)) ∙ length-append (take i bytes) (drop i bytes) in
     omega arith
 
 pub line_fits : (bytes : List ℕ) (i : ℕ) → line_behind (take i bytes) ≤ 1 + length bytes
@@ -102,7 +107,8 @@ module _ (bytes : List ℕ) (i d : ℕ) (spot next : Spot) (within : i < length 
         column = column ∙ sym (column_new bytes i d within feed);
       }
 
-  pub more_column : is_line_feed (get_or bytes i d) ≡ false → begins_character (get_or bytes i d) ≡ true → next.line ≡ spot.line → next.column ≡ spot.column + 1 → IsSpot (take (i + 1) bytes) next
+  pub more_column : is_line_feed (get_or bytes i d) ≡ false → begins_character (get_or bytes i d) ≡ true → next.line ≡ spot.line
+      → next.column ≡ spot.column + 1 → IsSpot (take (i + 1) bytes) next
   more_column feed begins line column =
       record {
         line = line ∙ is.line ∙ sym (line_same bytes i d within feed);
