@@ -22,7 +22,8 @@ no_draft_fault : (text : List ℕ) (d : DraftChart) (b : Broken) (at : ℕ) → 
 no_draft_fault text d b at a (inl f) = cut.no_fault language.Chart text a.tokens b at a.cut f
 no_draft_fault text d b at a (inr f) = no_stop language.Chart chart_text is_language text a.tokens f.tokens a.cut f.cut d f.flaw f.rest a.spelled f.faulty
 
-one_draft_fault : (text : List ℕ) (b c : Broken) (at place : ℕ) → IsDraftFault text (fault.Text b at) → IsDraftFault text (fault.Text c place) → (b ≡ c) × (at ≡ place)
+one_draft_fault : (text : List ℕ) (b c : Broken) (at place : ℕ) → IsDraftFault text (fault.Text b at) → IsDraftFault text (fault.Text c place)
+    → (b ≡ c) × (at ≡ place)
 one_draft_fault text b c at place (inl f) (inl h) = cut.one_fault language.Chart text b c at place f h
 one_draft_fault text b c at place (inl f) (inr h) = absurd (cut.no_fault language.Chart text h.tokens b at h.cut f)
 one_draft_fault text b c at place (inr f) (inl h) = absurd (cut.no_fault language.Chart text f.tokens c place f.cut h)
@@ -35,7 +36,8 @@ no_fault text d b at a none (inl f) = no_draft_fault text d b at a f
 no_fault text d b at a none (inr f) =
     no_first b at (chart_flaws f.draft) (ap chart_flaws (one_draft text f.draft d f.drafted a) ∙ none) f.first
 
-pub one_fault : (text : List ℕ) (b c : Broken) (at place : ℕ) → IsTextFault text (fault.Text b at) → IsTextFault text (fault.Text c place) → (b ≡ c) × (at ≡ place)
+pub one_fault : (text : List ℕ) (b c : Broken) (at place : ℕ) → IsTextFault text (fault.Text b at) → IsTextFault text (fault.Text c place)
+    → (b ≡ c) × (at ≡ place)
 one_fault text b c at place (inl f) (inl h) = one_draft_fault text b c at place f h
 one_fault text b c at place (inl f) (inr h) = absurd (no_draft_fault text h.draft b at h.drafted f)
 one_fault text b c at place (inr f) (inl h) = absurd (no_draft_fault text f.draft c place f.drafted h)

@@ -10,4 +10,5 @@ use Rattle.chart_reader.specs.Read.{IsRead}
 pub record ChartTextsHaveOneAnswer : Type 0 where
   pub one_chart : (text : List ℕ) (c d : Chart) → IsRead text c → IsRead text d → c ≡ d
   pub no_fault : (text : List ℕ) (c : Chart) (b : Broken) (at : ℕ) → IsRead text c → ¬ IsTextFault text (fault.Text b at)
-  pub one_fault : (text : List ℕ) (b c : Broken) (at place : ℕ) → IsTextFault text (fault.Text b at) → IsTextFault text (fault.Text c place) → (b ≡ c) × (at ≡ place)
+  pub one_fault : (text : List ℕ) (b c : Broken) (at place : ℕ) → IsTextFault text (fault.Text b at) → IsTextFault text (fault.Text c place)
+      → (b ≡ c) × (at ≡ place)

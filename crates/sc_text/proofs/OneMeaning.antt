@@ -1,6 +1,7 @@
 -- What a piece means is one: a token, nothing where it is passed, or nothing that is allowed. It is told by a function of
 -- its bytes, with which each of the three relations agrees.
-use Rattle.std.proofs.Common.{◌≡◌, ◌≢◌, ℕ, ◌<◌, ◌≤◌, Bool, true, false, not, ◌&&◌, ◌||◌, ◌==◌, List, [], ◌∷◌, length, nat_eq, nat_le, nat_lt, refl, sym, ◌∙◌, ap, subst, arith, pos}
+use Rattle.std.proofs.Common.{◌≡◌, ◌≢◌, ℕ, ◌<◌, ◌≤◌, Bool, true, false, not, ◌&&◌, ◌||◌, ◌==◌, List, [], ◌∷◌, length, nat_eq, nat_le, nat_lt, refl}
+use Rattle.std.proofs.Common.{sym, ◌∙◌, ap, subst, arith, pos}
 use Rattle.std.specs.Prelude.{Option, Some, None}
 use Rattle.std.specs.List.{list_all}
 use Rattle.std.specs.Cmp.{unsigned_Decides}
@@ -19,7 +20,8 @@ use Rattle.sc_text.specs.declared.read_fault.Broken.{Broken}
 use Rattle.sc_text.specs.declared.read_fault.Broken.TheVariants as broken
 use Rattle.sc_text.specs.Words.{word_text, sign_text}
 use Rattle.sc_text.specs.Pieces.{IsPiece, is_blank, slash}
-use Rattle.sc_text.specs.Tokens.{allows, has_idle_zero, number_limit, written, IsReserved, Spells, a_sign, a_word, a_name, a_number, IsPassed, a_blank, a_comment, IsRefused, under_bar, long_name, idle_zero, large_number}
+use Rattle.sc_text.specs.Tokens.{allows, has_idle_zero, number_limit, written, IsReserved, Spells, a_sign, a_word, a_name, a_number, IsPassed}
+use Rattle.sc_text.specs.Tokens.{a_blank, a_comment, IsRefused, under_bar, long_name, idle_zero, large_number}
 use Rattle.sc_text.proofs.Faces.{no_empty, no_slashes, signed}
 
 -- what a piece means
@@ -58,7 +60,8 @@ abbrev pub spelled_so : {X : Type 0} → (X → List ℕ) → List X → List �
 spelled_so text [] bytes = None
 spelled_so text (x ∷ xs) bytes = pick (same_bytes (text x) bytes) x (spelled_so text xs bytes)
 
-picked : {X : Type 0} (text : X → List ℕ) (bytes : List ℕ) (x y : X) (later : Option X) → (later ≡ Some x → text x ≡ bytes) → (b : Bool) → same_bytes (text y) bytes ≡ b → pick b y later ≡ Some x → text x ≡ bytes
+picked : {X : Type 0} (text : X → List ℕ) (bytes : List ℕ) (x y : X) (later : Option X) → (later ≡ Some x → text x ≡ bytes) → (b : Bool)
+    → same_bytes (text y) bytes ≡ b → pick b y later ≡ Some x → text x ≡ bytes
 picked text bytes x y later h true is e =
     let same : x ≡ y = cc in
     ap text same ∙ are_same (text y) bytes is
@@ -77,10 +80,12 @@ none_spelled {X = X} text xs bytes h = go (spelled_so text xs bytes) refl
     go (Some x) e = absurd (h x (is_spelled_so text xs bytes x e))
 
 abbrev pub signs : List Sign
-signs = sign.OpenBrace ∷ sign.CloseBrace ∷ sign.OpenParenthesis ∷ sign.CloseParenthesis ∷ sign.Semicolon ∷ sign.Colon ∷ sign.Comma ∷ sign.Becomes ∷ sign.Equal ∷ sign.NotEqual ∷ sign.Less ∷ sign.LessOrEqual ∷ sign.Greater ∷ sign.GreaterOrEqual ∷ sign.Plus ∷ sign.Minus ∷ sign.Star ∷ sign.Slash ∷ sign.Percent ∷ sign.Arrow ∷ []
+signs =
+    sign.OpenBrace ∷ sign.CloseBrace ∷ sign.OpenParenthesis ∷ sign.CloseParenthesis ∷ sign.Semicolon ∷ sign.Colon ∷ sign.Comma ∷ sign.Becomes ∷ sign.Equal ∷ sign.NotEqual ∷ sign.Less ∷ sign.LessOrEqual ∷ sign.Greater ∷ sign.GreaterOrEqual ∷ sign.Plus ∷ sign.Minus ∷ sign.Star ∷ sign.Slash ∷ sign.Percent ∷ sign.Arrow ∷ []
 
 abbrev pub words : List Word
-words = word.Chart ∷ word.Scl ∷ word.Input ∷ word.Output ∷ word.Local ∷ word.Bool ∷ word.Int ∷ word.Region ∷ word.Initial ∷ word.Final ∷ word.State ∷ word.Go ∷ word.Strong ∷ word.Weak ∷ word.Join ∷ word.Immediate ∷ word.If ∷ word.Else ∷ word.Do ∷ word.Goto ∷ word.Fork ∷ word.Par ∷ word.Pause ∷ word.True ∷ word.False ∷ word.Not ∷ word.And ∷ word.Or ∷ word.Min ∷ word.Max ∷ []
+words =
+    word.Chart ∷ word.Scl ∷ word.Input ∷ word.Output ∷ word.Local ∷ word.Bool ∷ word.Int ∷ word.Region ∷ word.Initial ∷ word.Final ∷ word.State ∷ word.Go ∷ word.Strong ∷ word.Weak ∷ word.Join ∷ word.Immediate ∷ word.If ∷ word.Else ∷ word.Do ∷ word.Goto ∷ word.Fork ∷ word.Par ∷ word.Pause ∷ word.True ∷ word.False ∷ word.Not ∷ word.And ∷ word.Or ∷ word.Min ∷ word.Max ∷ []
 
 -- ---- what the bytes of a piece mean
 
@@ -128,7 +133,8 @@ module _ (l : Language) (first : ℕ) (rest : List ℕ) where
   of_letters : is_letter first ≡ true → meaning l bytes ≡ letters_mean l first bytes
   of_letters i = ap (λ b. by_first b (is_digit first) (letters_mean l first bytes) (digits_mean bytes) (sign_means bytes)) i
 
-  of_no_letter : is_letter first ≡ false → meaning l bytes ≡ by_first false (is_digit first) (letters_mean l first bytes) (digits_mean bytes) (sign_means bytes)
+  of_no_letter : is_letter first ≡ false
+    → meaning l bytes ≡ by_first false (is_digit first) (letters_mean l first bytes) (digits_mean bytes) (sign_means bytes)
   of_no_letter i = ap (λ b. by_first b (is_digit first) (letters_mean l first bytes) (digits_mean bytes) (sign_means bytes)) i
 
   of_digits : is_letter first ≡ false → is_digit first ≡ true → meaning l bytes ≡ digits_mean bytes
@@ -137,7 +143,8 @@ module _ (l : Language) (first : ℕ) (rest : List ℕ) where
   of_others : is_letter first ≡ false → is_digit first ≡ false → meaning l bytes ≡ sign_means bytes
   of_others i j = of_no_letter i ∙ ap (λ b. by_first false b (letters_mean l first bytes) (digits_mean bytes) (sign_means bytes)) j
 
-  of_allowed : (long : Bool) → allows l first ≡ true → nat_lt name_limit (length bytes) ≡ long → letters_mean l first bytes ≡ by_letters true long bytes (spelled_so word_text words bytes)
+  of_allowed : (long : Bool) → allows l first ≡ true → nat_lt name_limit (length bytes) ≡ long
+    → letters_mean l first bytes ≡ by_letters true long bytes (spelled_so word_text words bytes)
   of_allowed long a s =
       ap (λ b. by_letters b (nat_lt name_limit (length bytes)) bytes (spelled_so word_text words bytes)) a
       ∙ ap (λ b. by_letters true b bytes (spelled_so word_text words bytes)) s
@@ -165,14 +172,16 @@ lettered word.Local = record { first = 108; rest = 111 ∷ 99 ∷ 97 ∷ 108 ∷
 lettered word.Bool = record { first = 98; rest = 111 ∷ 111 ∷ 108 ∷ []; parts = refl; letter = refl; no_bar = refl; short = refl; found = refl }
 lettered word.Int = record { first = 105; rest = 110 ∷ 116 ∷ []; parts = refl; letter = refl; no_bar = refl; short = refl; found = refl }
 lettered word.Region = record { first = 114; rest = 101 ∷ 103 ∷ 105 ∷ 111 ∷ 110 ∷ []; parts = refl; letter = refl; no_bar = refl; short = refl; found = refl }
-lettered word.Initial = record { first = 105; rest = 110 ∷ 105 ∷ 116 ∷ 105 ∷ 97 ∷ 108 ∷ []; parts = refl; letter = refl; no_bar = refl; short = refl; found = refl }
+lettered word.Initial = record { first = 105; rest = 110 ∷ 105 ∷ 116 ∷ 105 ∷ 97 ∷ 108 ∷ []; parts = refl; letter = refl; no_bar = refl; short = refl; found =
+    refl }
 lettered word.Final = record { first = 102; rest = 105 ∷ 110 ∷ 97 ∷ 108 ∷ []; parts = refl; letter = refl; no_bar = refl; short = refl; found = refl }
 lettered word.State = record { first = 115; rest = 116 ∷ 97 ∷ 116 ∷ 101 ∷ []; parts = refl; letter = refl; no_bar = refl; short = refl; found = refl }
 lettered word.Go = record { first = 103; rest = 111 ∷ []; parts = refl; letter = refl; no_bar = refl; short = refl; found = refl }
 lettered word.Strong = record { first = 115; rest = 116 ∷ 114 ∷ 111 ∷ 110 ∷ 103 ∷ []; parts = refl; letter = refl; no_bar = refl; short = refl; found = refl }
 lettered word.Weak = record { first = 119; rest = 101 ∷ 97 ∷ 107 ∷ []; parts = refl; letter = refl; no_bar = refl; short = refl; found = refl }
 lettered word.Join = record { first = 106; rest = 111 ∷ 105 ∷ 110 ∷ []; parts = refl; letter = refl; no_bar = refl; short = refl; found = refl }
-lettered word.Immediate = record { first = 105; rest = 109 ∷ 109 ∷ 101 ∷ 100 ∷ 105 ∷ 97 ∷ 116 ∷ 101 ∷ []; parts = refl; letter = refl; no_bar = refl; short = refl; found = refl }
+lettered word.Immediate = record { first = 105; rest = 109 ∷ 109 ∷ 101 ∷ 100 ∷ 105 ∷ 97 ∷ 116 ∷ 101 ∷ []; parts = refl; letter = refl; no_bar = refl; short =
+    refl; found = refl }
 lettered word.If = record { first = 105; rest = 102 ∷ []; parts = refl; letter = refl; no_bar = refl; short = refl; found = refl }
 lettered word.Else = record { first = 101; rest = 108 ∷ 115 ∷ 101 ∷ []; parts = refl; letter = refl; no_bar = refl; short = refl; found = refl }
 lettered word.Do = record { first = 100; rest = 111 ∷ []; parts = refl; letter = refl; no_bar = refl; short = refl; found = refl }
@@ -246,7 +255,8 @@ word_spelled l w =
     ap (meaning l) g.parts ∙ of_letters l g.first g.rest g.letter
     ∙ of_allowed l g.first g.rest false (no_bar_allows l g.first g.no_bar) g.short ∙ ap (by_word (g.first ∷ g.rest)) g.found
 
-name_spelled : (l : Language) (first : ℕ) (rest : List ℕ) → is_name (first ∷ rest) ≡ true → allows l first ≡ true → ¬ IsReserved (first ∷ rest) → meaning l (first ∷ rest) ≡ goes_on (Some (kind.Name (first ∷ rest)))
+name_spelled : (l : Language) (first : ℕ) (rest : List ℕ) → is_name (first ∷ rest) ≡ true → allows l first ≡ true → ¬ IsReserved (first ∷ rest)
+    → meaning l (first ∷ rest) ≡ goes_on (Some (kind.Name (first ∷ rest)))
 name_spelled l first rest i a free =
     let b = both_true (is_letter first && list_all (λ byte. is_letter byte || is_digit byte) rest) (nat_le (length (first ∷ rest)) name_limit) i in
     let c = both_true (is_letter first) (list_all (λ byte. is_letter byte || is_digit byte) rest) b.0 in
@@ -257,7 +267,8 @@ name_spelled l first rest i a free =
 first_digit : (first : ℕ) (rest : List ℕ) → list_all is_digit (first ∷ rest) ≡ true → is_digit first ≡ true
 first_digit first rest e = (both_true (is_digit first) (list_all is_digit rest) e).0
 
-number_spelled : (l : Language) (digits : List ℕ) → IsPiece digits → list_all is_digit digits ≡ true → (idle large : Bool) → has_idle_zero digits ≡ idle → nat_lt number_limit (written digits) ≡ large → meaning l digits ≡ by_digits idle large digits
+number_spelled : (l : Language) (digits : List ℕ) → IsPiece digits → list_all is_digit digits ≡ true → (idle large : Bool) → has_idle_zero digits ≡ idle
+    → nat_lt number_limit (written digits) ≡ large → meaning l digits ≡ by_digits idle large digits
 number_spelled l [] p a idle large i s = absurd (no_empty [] p refl)
 number_spelled l (first ∷ rest) p a idle large i s =
     let d = first_digit first rest a in

@@ -16,14 +16,16 @@ pub record SameStop (flaw other : Flaw) (rest left : List Token) : Type 0 where
   pub flaws : flaw ≡ other
   pub rests : rest ≡ left
 
-same_stop : {A : Type 0} (flaw other : Flaw) (rest left : List Token) (o : Outcome Token A) → o ≡ Failed flaw rest → o ≡ Failed other left → SameStop flaw other rest left
+same_stop : {A : Type 0} (flaw other : Flaw) (rest left : List Token) (o : Outcome Token A) → o ≡ Failed flaw rest → o ≡ Failed other left
+    → SameStop flaw other rest left
 same_stop flaw other rest left o e f =
     let same : Failed flaw rest ≡ Failed other left = sym e ∙ f in
     let flaws : flaw ≡ other = cc in
     let rests : rest ≡ left = cc in
     record { flaws = flaws; rests = rests }
 
-module _ {A : Type 0} (l : Language) (g : ℕ → Grammar text_tokens A) (is : IsLanguage g) (text : List ℕ) (tokens others : List Token) (cut : AreTokens l 0 text tokens) (other_cut : AreTokens l 0 text others) where
+module _ {A : Type 0} (l : Language) (g : ℕ
+    → Grammar text_tokens A) (is : IsLanguage g) (text : List ℕ) (tokens others : List Token) (cut : AreTokens l 0 text tokens) (other_cut : AreTokens l 0 text others) where
   same : tokens ≡ others
   same = one_list l text tokens others cut other_cut
 

@@ -23,4 +23,5 @@ pub record ExpressionsAreTold : Type 0 where
 pub record TextsAreCutOnce : Type 0 where
   pub one_list : (l : Language) (text : List ℕ) (tokens others : List Token) → AreTokens l 0 text tokens → AreTokens l 0 text others → tokens ≡ others
   pub no_fault : (l : Language) (text : List ℕ) (tokens : List Token) (b : Broken) (at : ℕ) → AreTokens l 0 text tokens → ¬ IsFirstFault l 0 text b at
-  pub one_fault : (l : Language) (text : List ℕ) (b c : Broken) (at place : ℕ) → IsFirstFault l 0 text b at → IsFirstFault l 0 text c place → (b ≡ c) × (at ≡ place)
+  pub one_fault : (l : Language) (text : List ℕ) (b c : Broken) (at place : ℕ) → IsFirstFault l 0 text b at → IsFirstFault l 0 text c place
+      → (b ≡ c) × (at ≡ place)

@@ -25,7 +25,8 @@ no_draft_fault : (text : List ℕ) (d : Draft) (b : Broken) (at : ℕ) → IsDra
 no_draft_fault text d b at a (inl f) = cut.no_fault language.Scl text a.tokens b at a.cut f
 no_draft_fault text d b at a (inr f) = no_stop language.Scl scl is_language text a.tokens f.tokens a.cut f.cut a.program f.flaw f.rest a.spelled f.faulty
 
-one_draft_fault : (text : List ℕ) (b c : Broken) (at place : ℕ) → IsDraftFault text (fault.Text b at) → IsDraftFault text (fault.Text c place) → (b ≡ c) × (at ≡ place)
+one_draft_fault : (text : List ℕ) (b c : Broken) (at place : ℕ) → IsDraftFault text (fault.Text b at) → IsDraftFault text (fault.Text c place)
+    → (b ≡ c) × (at ≡ place)
 one_draft_fault text b c at place (inl f) (inl h) = cut.one_fault language.Scl text b c at place f h
 one_draft_fault text b c at place (inl f) (inr h) = absurd (cut.no_fault language.Scl text h.tokens b at h.cut f)
 one_draft_fault text b c at place (inr f) (inl h) = absurd (cut.no_fault language.Scl text f.tokens c place f.cut h)
@@ -38,7 +39,8 @@ no_fault text d b at a none (inl f) = no_draft_fault text d b at a f
 no_fault text d b at a none (inr f) =
     no_first b at (scl_flaws f.draft) (ap scl_flaws (one_draft text f.draft d f.drafted a) ∙ none) f.first
 
-pub one_fault : (text : List ℕ) (b c : Broken) (at place : ℕ) → IsTextFault text (fault.Text b at) → IsTextFault text (fault.Text c place) → (b ≡ c) × (at ≡ place)
+pub one_fault : (text : List ℕ) (b c : Broken) (at place : ℕ) → IsTextFault text (fault.Text b at) → IsTextFault text (fault.Text c place)
+    → (b ≡ c) × (at ≡ place)
 one_fault text b c at place (inl f) (inl h) = one_draft_fault text b c at place f h
 one_fault text b c at place (inl f) (inr h) = absurd (no_draft_fault text h.draft b at h.drafted f)
 one_fault text b c at place (inr f) (inl h) = absurd (no_draft_fault text f.draft c place f.drafted h)

@@ -16,4 +16,5 @@ pub record AreAlike (p q : Scl) : Type 0 where
 pub record SclTextsHaveOneAnswer : Type 0 where
   pub one_program : (text : List ℕ) (p q : Scl) → IsRead text p → IsRead text q → AreAlike p q
   pub no_fault : (text : List ℕ) (p : Scl) (b : Broken) (at : ℕ) → IsRead text p → ¬ IsTextFault text (fault.Text b at)
-  pub one_fault : (text : List ℕ) (b c : Broken) (at place : ℕ) → IsTextFault text (fault.Text b at) → IsTextFault text (fault.Text c place) → (b ≡ c) × (at ≡ place)
+  pub one_fault : (text : List ℕ) (b c : Broken) (at place : ℕ) → IsTextFault text (fault.Text b at) → IsTextFault text (fault.Text c place)
+      → (b ≡ c) × (at ≡ place)
