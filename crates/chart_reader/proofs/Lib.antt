@@ -9,3 +9,4 @@ pub mod Narrow
 pub mod Inner
 pub mod Whole
 pub mod Reading
+mod OneAnswer

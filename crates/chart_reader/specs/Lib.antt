@@ -1,3 +1,4 @@
 pub mod Resolved
 pub mod Read
 pub mod Inside
+pub mod Laws

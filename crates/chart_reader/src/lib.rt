@@ -3,10 +3,12 @@
 #![tactic(auto)]
 
 mod chart;
+mod laws;
 mod read;
 mod regions;
 mod states;
 mod transitions;
 
 pub use chart::chart_of;
+pub use laws::chart_texts_have_one_answer;
 pub use read::read_chart;

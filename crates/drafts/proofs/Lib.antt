@@ -9,3 +9,4 @@ pub mod Distinct
 pub mod Declared
 pub mod EachName
 pub mod Assigned
+pub mod OneFirst

@@ -16,3 +16,6 @@ pub mod AddedNames
 pub mod EachItem
 mod FirstToken
 pub mod OneLongest
+pub mod OneMeaning
+pub mod OneCut
+pub mod OneReading

@@ -1,9 +1,12 @@
 -- What holds of the grammar of expressions as a whole.
-use Rattle.std.specs.Prelude.{◌≡◌, List, []}
+use Rattle.std.specs.Prelude.{ℕ, ◌≡◌, List, []}
 use Rattle.grammar.specs.Grammar.{spells}
 use Rattle.grammar.specs.Read.{Flaw, Got, Failed, read_all}
 use Rattle.grammar.specs.Fault.{Fault, Told}
 use Rattle.sc_text.specs.declared.token.Token.{Token}
+use Rattle.sc_text.specs.declared.language.Language.{Language}
+use Rattle.sc_text.specs.declared.read_fault.Broken.{Broken}
+use Rattle.sc_text.specs.Tokens.{AreTokens, IsFirstFault}
 use Rattle.sc_text.specs.Phrases.{Phrase}
 use Rattle.sc_text.specs.Expression.{expression}
 
@@ -15,3 +18,10 @@ pub record ExpressionsAreTold : Type 0 where
       → read_all (expression 0) text ≡ Got p []
   pub faulty : (text rest : List Token) (flaw : Flaw) → Fault expression text flaw rest
       → read_all (expression 0) text ≡ Failed flaw rest
+
+-- a text has one list of tokens, or one first place where no token stands, and not both
+pub record TextsAreCutOnce : Type 0 where
+  pub one_list : (l : Language) (text : List ℕ) (tokens others : List Token) → AreTokens l 0 text tokens → AreTokens l 0 text others → tokens ≡ others
+  pub no_fault : (l : Language) (text : List ℕ) (tokens : List Token) (b : Broken) (at : ℕ) → AreTokens l 0 text tokens → ¬ IsFirstFault l 0 text b at
+  pub one_fault : (l : Language) (text : List ℕ) (b c : Broken) (at place : ℕ) → IsFirstFault l 0 text b at → IsFirstFault l 0 text c place
+      → (b ≡ c) × (at ≡ place)

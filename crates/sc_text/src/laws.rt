@@ -1,6 +1,6 @@
 //! Laws that no single function says.
 
-ghost use Rattle.sc_text.specs.Laws.{ExpressionsAreTold};
+ghost use Rattle.sc_text.specs.Laws.{ExpressionsAreTold, TextsAreCutOnce};
 
 /// Reading the tokens of a text by the grammar of expressions tells the one expression that they spell,
 /// exactly where they spell one, and else their one fault: a token after which no expression can go on,
@@ -8,4 +8,10 @@ ghost use Rattle.sc_text.specs.Laws.{ExpressionsAreTold};
 /// This function does nothing; its contract is the law.
 pub fn expressions_are_told()
     ensures { ExpressionsAreTold }
+{}
+
+/// A text has one list of tokens, or one first place where no token stands, and not both. This function
+/// does nothing; its contract is the law.
+pub fn texts_are_cut_once()
+    ensures { TextsAreCutOnce }
 {}

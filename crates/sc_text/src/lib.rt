@@ -20,7 +20,7 @@ mod word;
 pub use expressions::{OPEN_LIMIT, expression};
 pub use first_token::language_of;
 pub use language::Language;
-pub use laws::expressions_are_told;
+pub use laws::{expressions_are_told, texts_are_cut_once};
 pub use operation::TextOperation;
 pub use parts::{are_distinct, is_expression, is_writable};
 pub use read_fault::{Broken, ReadFault};

@@ -2,3 +2,4 @@ pub mod Pieces
 pub mod SclRulesKept
 pub mod Looking
 pub mod Reading
+mod OneAnswer

@@ -1,2 +1,3 @@
 pub mod Resolved
 pub mod Read
+pub mod Laws

@@ -2,9 +2,11 @@
 //! which program that is, and `specs/Read` what a text is read into.
 #![tactic(auto)]
 
+mod laws;
 mod program;
 mod read;
 mod statements;
 
+pub use laws::scl_texts_have_one_answer;
 pub use program::program_of;
 pub use read::read_scl;

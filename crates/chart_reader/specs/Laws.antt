@@ -1,0 +1,14 @@
+-- What holds of reading a text of a chart.
+use Rattle.std.specs.Prelude.{ℕ, ◌≡◌, List}
+use Rattle.core_charts.specs.Chart.{Chart}
+use Rattle.sc_text.specs.declared.read_fault.Broken.{Broken}
+use Rattle.sc_text.specs.declared.read_fault.ReadFault.TheVariants as fault
+use Rattle.chart_drafts.specs.Checked.{IsTextFault}
+use Rattle.chart_reader.specs.Read.{IsRead}
+
+-- each text has one answer: the chart that it spells, or its fault, and not both
+pub record ChartTextsHaveOneAnswer : Type 0 where
+  pub one_chart : (text : List ℕ) (c d : Chart) → IsRead text c → IsRead text d → c ≡ d
+  pub no_fault : (text : List ℕ) (c : Chart) (b : Broken) (at : ℕ) → IsRead text c → ¬ IsTextFault text (fault.Text b at)
+  pub one_fault : (text : List ℕ) (b c : Broken) (at place : ℕ) → IsTextFault text (fault.Text b at) → IsTextFault text (fault.Text c place)
+      → (b ≡ c) × (at ≡ place)

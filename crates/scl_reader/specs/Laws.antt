@@ -1,0 +1,20 @@
+-- What holds of reading a text of SCL.
+use Rattle.std.specs.Prelude.{ℕ, ◌≡◌, List}
+use Rattle.scl.specs.declared.program.Scl.{Scl}
+use Rattle.sc_text.specs.declared.read_fault.Broken.{Broken}
+use Rattle.sc_text.specs.declared.read_fault.ReadFault.TheVariants as fault
+use Rattle.scl_drafts.specs.Checked.{IsTextFault}
+use Rattle.scl_reader.specs.Read.{IsRead}
+
+-- two programs that are written alike
+pub record AreAlike (p q : Scl) : Type 0 where
+  pub names : p.name ≡ q.name
+  pub variables : p.variables ≡ q.variables
+  pub bodies : p.body ≡ q.body
+
+-- each text has one answer: the program that it spells, or its fault, and not both
+pub record SclTextsHaveOneAnswer : Type 0 where
+  pub one_program : (text : List ℕ) (p q : Scl) → IsRead text p → IsRead text q → AreAlike p q
+  pub no_fault : (text : List ℕ) (p : Scl) (b : Broken) (at : ℕ) → IsRead text p → ¬ IsTextFault text (fault.Text b at)
+  pub one_fault : (text : List ℕ) (b c : Broken) (at place : ℕ) → IsTextFault text (fault.Text b at) → IsTextFault text (fault.Text c place)
+      → (b ≡ c) × (at ≡ place)
