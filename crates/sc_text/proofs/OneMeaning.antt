@@ -81,11 +81,15 @@ none_spelled {X = X} text xs bytes h = go (spelled_so text xs bytes) refl
 
 abbrev pub signs : List Sign
 signs =
-    sign.OpenBrace ∷ sign.CloseBrace ∷ sign.OpenParenthesis ∷ sign.CloseParenthesis ∷ sign.Semicolon ∷ sign.Colon ∷ sign.Comma ∷ sign.Becomes ∷ sign.Equal ∷ sign.NotEqual ∷ sign.Less ∷ sign.LessOrEqual ∷ sign.Greater ∷ sign.GreaterOrEqual ∷ sign.Plus ∷ sign.Minus ∷ sign.Star ∷ sign.Slash ∷ sign.Percent ∷ sign.Arrow ∷ []
+    sign.OpenBrace ∷ sign.CloseBrace ∷ sign.OpenParenthesis ∷ sign.CloseParenthesis ∷ sign.Semicolon ∷ sign.Colon ∷ sign.Comma ∷ sign.Becomes ∷
+    sign.Equal ∷ sign.NotEqual ∷ sign.Less ∷ sign.LessOrEqual ∷ sign.Greater ∷ sign.GreaterOrEqual ∷ sign.Plus ∷ sign.Minus ∷ sign.Star ∷
+    sign.Slash ∷ sign.Percent ∷ sign.Arrow ∷ []
 
 abbrev pub words : List Word
 words =
-    word.Chart ∷ word.Scl ∷ word.Input ∷ word.Output ∷ word.Local ∷ word.Bool ∷ word.Int ∷ word.Region ∷ word.Initial ∷ word.Final ∷ word.State ∷ word.Go ∷ word.Strong ∷ word.Weak ∷ word.Join ∷ word.Immediate ∷ word.If ∷ word.Else ∷ word.Do ∷ word.Goto ∷ word.Fork ∷ word.Par ∷ word.Pause ∷ word.True ∷ word.False ∷ word.Not ∷ word.And ∷ word.Or ∷ word.Min ∷ word.Max ∷ []
+    word.Chart ∷ word.Scl ∷ word.Input ∷ word.Output ∷ word.Local ∷ word.Bool ∷ word.Int ∷ word.Region ∷ word.Initial ∷ word.Final ∷ word.State ∷
+    word.Go ∷ word.Strong ∷ word.Weak ∷ word.Join ∷ word.Immediate ∷ word.If ∷ word.Else ∷ word.Do ∷ word.Goto ∷ word.Fork ∷ word.Par ∷ word.Pause ∷
+    word.True ∷ word.False ∷ word.Not ∷ word.And ∷ word.Or ∷ word.Min ∷ word.Max ∷ []
 
 -- ---- what the bytes of a piece mean
 
