@@ -90,7 +90,19 @@ takes pass v x items hands h at =
     } in (
       w,
       after,
-      record { items = items; hands = hands; number = pass; among = at; before = h; after = after; first = e; claim_is = cut.3; stood = cut.2; goes = refl; hand_is = refl },
+      record {
+        items = items;
+        hands = hands;
+        number = pass;
+        among = at;
+        before = h;
+        after = after;
+        first = e;
+        claim_is = cut.3;
+        stood = cut.2;
+        goes = refl;
+        hand_is = refl;
+      },
     )
 
 at_end : (hands : List Hand) (a u : Hand) (p : ℕ) → get_elem? (hands ++ a ∷ []) p ≡ some u → (get_elem? hands p ≡ some u) ⊎ ((p ≡ length hands) × (a ≡ u))
