@@ -4,8 +4,8 @@ use mathlib.Core.Option.{some}
 use lib.ListN.{get_elem?}
 use Rattle.left_right.specs.Register.{Admits, TurnsAt, Forks, Merges}
 use Rattle.atomic_table.proofs.Lists.{at_set, at_snoc}
-use Rattle.probe.specs.Progress.{Progress, Extends}
-use Rattle.probe.specs.Inside.Copies.{Fits, AllFit, Sees, Shows, origin_of}
+use Rattle.probe.specs.Progress.{Progress, Extends, origin_of}
+use Rattle.probe.specs.Published.{Fits, AllFit, Sees, Shows}
 use Rattle.probe.proofs.Prefixes.{prefix_self, prefix_trans, prefix_take}
 
 pub extends_self : (p : Progress) → Extends p p
@@ -30,10 +30,14 @@ all_fit_set x views seat w h f j u e =
     ⊎_elim (λ (t : (j ≡ seat) × (w ≡ u)). subst (Fits x) t.1 f) (λ (t : (j ≢ seat) × (get_elem? views j ≡ some u)). h j u t.1) (at_set views seat j w u e)
 
 pub shows : (x y : Progress) → Extends x y → (seat : ℕ) (v : Option Progress) → TurnsAt AllFit seat v x y Shows
-shows x y up seat v views h at = (Some y, all_fit_set y views seat (Some y) (all_fit_on x y up views h) (extends_self y), refl)
+shows x y up seat v views h at =
+    let after : AllFit y (set views seat (Some y)) = all_fit_set y views seat (Some y) (all_fit_on x y up views h) (extends_self y) in
+    (Some y, after, record { seats = views; number = seat; among = at; before = h; after = after; knows = refl })
 
 pub sees : (seat : ℕ) (v : Option Progress) (x : Progress) → TurnsAt AllFit seat v x x Sees
-sees seat v x views h at = (Some x, all_fit_set x views seat (Some x) h (extends_self x), (h seat v at, refl))
+sees seat v x views h at =
+    let after : AllFit x (set views seat (Some x)) = all_fit_set x views seat (Some x) h (extends_self x) in
+    (Some x, after, record { seats = views; number = seat; among = at; before = h; after = after; fits = h seat v at; same = refl; knows = refl })
 
 origin_fits : (x : Progress) (v : Option Progress) → Fits x v → Fits x (option_map origin_of v)
 origin_fits x None f = tt

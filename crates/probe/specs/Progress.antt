@@ -1,5 +1,5 @@
 -- What is known of a publisher's ticks.
-use Rattle.std.specs.Prelude.{ℕ, ◌≡◌, ◌-◌, ◌^◌, Option, None, List, length, min}
+use Rattle.std.specs.Prelude.{ℕ, ◌≡◌, ◌-◌, ◌^◌, Option, None, List, length, min, take}
 use Rattle.std.specs.List.{last_or}
 use mathlib.Core.List.{IsPrefix}
 use Rattle.logbook.specs.Pages.{Book}
@@ -15,6 +15,10 @@ pub record Progress : Type 0 where
 pub record Extends (p q : Progress) : Type 0 where
   pub publisher : q.publisher ≡ p.publisher
   pub rows : IsPrefix p.rows q.rows
+
+-- the same publisher, before its first tick
+abbrev pub origin_of : Progress → Progress
+origin_of p = record p { rows = take 1 p.rows }
 
 -- how many ticks there are, the opening row aside. The number stays at its greatest
 abbrev pub count_of : Progress → ℕ

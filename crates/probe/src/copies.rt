@@ -1,9 +1,9 @@
 //! The two copies of what is shown, and the seats of those who look.
 
-ghost use Rattle.std.specs.Prelude.{◌≡◌, Some, [], ◌∷◌, ◌++◌, if◌then◌else◌, drop, IfOk, IfSome, MatchResult};
+ghost use Rattle.std.specs.Prelude.{◌≡◌, Some, [], ◌∷◌, ◌++◌, if◌then◌else◌, drop, IfOk, IfSome, OnOk, MatchResult};
 ghost use Rattle.left_right.specs.Sides.{view};
-ghost use Rattle.probe.specs.Progress.{Extends};
-ghost use Rattle.probe.specs.Inside.Copies.{Sits, origin_of};
+ghost use Rattle.probe.specs.Progress.{Extends, origin_of};
+ghost use Rattle.probe.specs.Published.{Looks, Shows, Sits};
 
 use crate::note::Note;
 use atomic_table::{Join, Split};
@@ -43,7 +43,7 @@ pub(crate) struct Beginnings;
 
 impl Protocol<Note, Option<Note>> for Beginnings {
     ghost use Rattle.std.specs.Prelude.{None};
-    ghost use Rattle.probe.specs.Inside.Copies.{AllFit};
+    ghost use Rattle.probe.specs.Published.{AllFit};
 
     ghost holds = { AllFit };
 
@@ -53,7 +53,7 @@ impl Protocol<Note, Option<Note>> for Beginnings {
 struct Seeing;
 
 impl Outcome<Note, Option<Note>> for Seeing {
-    ghost use Rattle.probe.specs.Inside.Copies.{Sees};
+    ghost use Rattle.probe.specs.Published.{Sees};
 
     ghost then = { Sees };
 }
@@ -61,7 +61,7 @@ impl Outcome<Note, Option<Note>> for Seeing {
 struct Showing;
 
 impl Outcome<Note, Option<Note>> for Showing {
-    ghost use Rattle.probe.specs.Inside.Copies.{Shows};
+    ghost use Rattle.probe.specs.Published.{Shows};
 
     ghost then = { Shows };
 }
@@ -71,7 +71,7 @@ struct Opening;
 
 impl Split<Option<Note>> for Opening {
     ghost use Rattle.std.specs.Prelude.{option_map};
-    ghost use Rattle.probe.specs.Inside.Copies.{origin_of};
+    ghost use Rattle.probe.specs.Progress.{origin_of};
 
     ghost left = { λ v. v };
 
@@ -110,6 +110,8 @@ fn show<R: Wait>(rt: &R, writer: Shared, next: Note) -> (Shared, Result<(), Allo
         (λ _. (result.0.desk.shown.value ≡ next) × (view result.0.desk.place ≡ Some next))
         (λ _. (result.0.desk.shown.value ≡ writer.desk.shown.value)
         × (view result.0.desk.place ≡ view writer.desk.place)) }
+    ensures step { OnOk result.1
+        (Shows (view writer.desk.place) writer.desk.shown.value next (view result.0.desk.place)) }
 {
     let mut writer = writer;
     if !log(&mut writer, next) {
@@ -171,7 +173,8 @@ impl Copies {
     /// changed.
     pub fn show<R: Wait>(self, rt: &R, next: Note) -> (Copies, Result<(), AllocError>)
         requires { Extends self next }
-        ensures { MatchResult result.1 (λ _. result.0 ≡ next) (λ _. result.0 ≡ self) }
+        ensures shown { MatchResult result.1 (λ _. result.0 ≡ next) (λ _. result.0 ≡ self) }
+        ensures step { OnOk result.1 (Shows (Some self) self next (Some next)) }
     {
         let Copies { writer } = self;
         let (writer, done) = show(rt, writer, next);
@@ -216,6 +219,7 @@ impl Seat {
     pub fn look(self, note: &mut Note) -> Seat
         requires { Sits self note.old }
         ensures note { Extends note.old note.new }
+        ensures shown { Looks note.old note.new }
         ensures seat { Sits result note.new }
     {
         match self.reader.enter_as::<Seeing>() {

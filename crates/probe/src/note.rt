@@ -1,6 +1,6 @@
 //! Notes: what was published so far.
 
-ghost use Rattle.std.specs.Prelude.{◌≡◌, ◌++◌, ◌∷◌, [], Some};
+ghost use Rattle.std.specs.Prelude.{◌≡◌, ◌⊎◌, ◌++◌, ◌∷◌, [], Some};
 ghost use Rattle.probe.specs.Progress.{Extends, count_of, last_of};
 
 use crate::history::Beginning;
@@ -60,6 +60,7 @@ impl Note {
         requires { other.now.publisher ≡ self.old.publisher }
         ensures own { Extends self.old self.new }
         ensures other { Extends other.now self.new }
+        ensures one { (self.new ≡ self.old) ⊎ (self.new ≡ other.now) }
     {
         if other.beginning.begins_with(&self.beginning) {
             *self = other.again();

@@ -1,10 +1,10 @@
 //! The publisher of the ticks of a machine.
 
-ghost use Rattle.std.specs.Prelude.{◌≡◌, ◌++◌, ◌∷◌, [], Some, None, IfOk, IfSome, MatchResult};
+ghost use Rattle.std.specs.Prelude.{◌≡◌, ◌++◌, ◌∷◌, [], Some, None, IfOk, IfSome, OnOk, MatchResult};
 ghost use Rattle.sc_graph.specs.Tick.{initial};
 ghost use Rattle.probe.specs.Outputs.{Outputs, IsRowOf};
-ghost use Rattle.probe.specs.Progress.{Progress, Extends};
-ghost use Rattle.probe.specs.Inside.Copies.{origin_of};
+ghost use Rattle.probe.specs.Progress.{Progress, Extends, origin_of};
+ghost use Rattle.probe.specs.Published.{Shows};
 
 use crate::copies::Copies;
 use crate::history::History;
@@ -46,8 +46,8 @@ pub struct Publisher {
 
 impl Model for Publisher {
     ghost use Rattle.std.specs.Prelude.{◌≡◌, ◌≤◌, Some, length};
-    ghost use Rattle.probe.specs.Progress.{Progress};
-    ghost use Rattle.probe.specs.Inside.Copies.{origin_of, IsAt};
+    ghost use Rattle.probe.specs.Progress.{Progress, origin_of};
+    ghost use Rattle.probe.specs.Inside.Copies.{IsAt};
 
     ghost Value = { Progress };
 
@@ -115,11 +115,13 @@ impl Publisher {
         }
     }
 
-    /// Publishes a tick by its end. It waits for observers that are inside a look, and takes no memory for the tick.
+    /// Publishes a tick by its end: in one step what is shown becomes what it has published now, of which all that was known
+    /// at any seat is a beginning. It waits for observers that are inside a look, and takes no memory for the tick.
     /// Err: memory was refused, and every later look shows what it would have shown without the call.
     pub fn publish<R: Wait>(&mut self, rt: &R, end: TickEnd) -> Result<(), AllocError>
         ensures publisher { self.new.publisher ≡ self.old.publisher }
         ensures rows { MatchResult result (λ _. self.new.rows ≡ self.old.rows ++ end ∷ []) (λ _. self.new ≡ self.old) }
+        ensures shown { OnOk result (Shows (Some self.old) self.old self.new (Some self.new)) }
     {
         let Some(mut history) = self.history.take() else {
             return Err(AllocError);
@@ -162,7 +164,9 @@ impl Publisher {
 // Shows the next note at the copies. Err: memory was refused, and nothing changed.
 fn show<R: Wait>(rt: &R, place: &mut Option<Copies>, next: Note) -> Result<(), AllocError>
     requires { (shown : Progress) × (place.old ≡ Some shown) × Extends shown next }
-    ensures { MatchResult result (λ _. place.new ≡ Some next) (λ _. place.new ≡ place.old) }
+    ensures shown { MatchResult result (λ _. place.new ≡ Some next) (λ _. place.new ≡ place.old) }
+    ensures step { OnOk result ((shown : Progress) × (place.old ≡ Some shown)
+        × Shows (Some shown) shown next (Some next)) }
 {
     let (copies, done) = place.take().unwrap().show(rt, next);
     put_back(place, copies);

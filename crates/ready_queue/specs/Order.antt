@@ -1,5 +1,5 @@
 -- What has gone through a queue, and what stands in it.
-use Rattle.std.specs.Prelude.{ℕ, ◌≡◌, ◌≤◌, nat_eq, if◌then◌else◌, List, [], ◌∷◌, ◌++◌, length, map}
+use Rattle.std.specs.Prelude.{ℕ, ◌≡◌, ◌≤◌, nat_eq, if◌then◌else◌, List, [], ◌∷◌, ◌++◌, length, map, slice_set}
 use Rattle.std.specs.List.{sum_by}
 use mathlib.Core.Option.{some}
 use lib.ListN.{get_elem?}
@@ -39,3 +39,29 @@ pub record Stands (v : Hand) (items : List Claim) : Type 0 where
   pub number : ℕ
   pub among : get_elem? hands number ≡ some v
   pub keeps : Keeps items hands
+
+-- one step of a queue, in which this pass, that had put and taken v and then w, put a claim behind all that stood
+pub record PutBehind (v : Hand) (x : Claim) (w : Hand) : Type 0 where
+  pub items : List Claim
+  pub hands : List Hand
+  pub number : ℕ
+  pub among : get_elem? hands number ≡ some v
+  pub before : Keeps items hands
+  pub after : Keeps (items ++ x ∷ []) (slice_set hands number w)
+  pub gone_stays : after.gone ≡ before.gone
+  pub behind : after.stand ≡ before.stand ++ (number, x) ∷ []
+  pub hand_is : w ≡ hand (v.put ++ x ∷ []) v.taken
+
+-- one step of a queue, in which this pass, that had put and taken v and then w, took the claim that stood before all others
+pub record TakenFirst (v : Hand) (x : Claim) (w : Hand) : Type 0 where
+  pub items : List Claim
+  pub hands : List Hand
+  pub number : ℕ
+  pub among : get_elem? hands number ≡ some v
+  pub before : Keeps (x ∷ items) hands
+  pub after : Keeps items (slice_set hands number w)
+  pub first : ℕ × Claim
+  pub claim_is : first.1 ≡ x
+  pub stood : before.stand ≡ first ∷ after.stand
+  pub goes : after.gone ≡ before.gone ++ first ∷ []
+  pub hand_is : w ≡ hand v.put (v.taken ++ x ∷ [])

@@ -3,7 +3,7 @@
 ghost use Rattle.std.specs.Prelude.{◌≡◌, ◌≤◌, ◌<◌, ◌++◌, ◌∷◌, [], All, IfOk, MatchOption, MatchResult, length};
 ghost use Rattle.crossbeam_queue.specs.Fifo.{Held};
 ghost use Rattle.crossbeam_queue.specs.Passes.{IsSamePass};
-ghost use Rattle.ready_queue.specs.Order.{hand, Stands};
+ghost use Rattle.ready_queue.specs.Order.{hand, Stands, PutBehind, TakenFirst};
 ghost use Rattle.ready_queue.specs.Rule.{hand_of, IsPassOf, places_of};
 
 use crossbeam_queue::RuledArrayQueue;
@@ -38,10 +38,9 @@ impl<'a> Protocol<Claim<'a>, Hand<'a>> for InOrder {
 struct Puts;
 
 impl<'a> Outcome<Claim<'a>, Hand<'a>> for Puts {
-    ghost use Rattle.std.specs.Prelude.{◌≡◌, ◌++◌, ◌∷◌, []};
-    ghost use Rattle.ready_queue.specs.Order.{hand};
+    ghost use Rattle.ready_queue.specs.Order.{PutBehind};
 
-    ghost then = { λ v x w. w ≡ hand (v.put ++ x ∷ []) v.taken };
+    ghost then = { PutBehind };
 }
 
 impl<'a> Lesson<Claim<'a>, Hand<'a>> for Puts {
@@ -53,10 +52,9 @@ impl<'a> Lesson<Claim<'a>, Hand<'a>> for Puts {
 struct Takes;
 
 impl<'a> Outcome<Claim<'a>, Hand<'a>> for Takes {
-    ghost use Rattle.std.specs.Prelude.{◌≡◌, ◌++◌, ◌∷◌, []};
-    ghost use Rattle.ready_queue.specs.Order.{hand};
+    ghost use Rattle.ready_queue.specs.Order.{TakenFirst};
 
-    ghost then = { λ v x w. w ≡ hand v.put (v.taken ++ x ∷ []) };
+    ghost then = { TakenFirst };
 }
 
 impl<'a> Lesson<Claim<'a>, Hand<'a>> for Takes {
@@ -132,7 +130,7 @@ impl<'a> ReadyQueue<'a> {
         requires { IsPassOf self.now pass.old }
         ensures pass { IsSamePass pass.old pass.new }
         ensures put { MatchResult result
-            (λ _. hand_of pass.new ≡ hand ((hand_of pass.old).put ++ claim.entry ∷ []) (hand_of pass.old).taken)
+            (λ _. PutBehind (hand_of pass.old) claim.entry (hand_of pass.new))
             (λ back. (back ≡ claim.entry) × (hand_of pass.new ≡ hand_of pass.old)
             × Held (places_of self.now) (Stands (hand_of pass.old))) }
     {
@@ -145,7 +143,7 @@ impl<'a> ReadyQueue<'a> {
         ensures pass { IsSamePass pass.old pass.new }
         ensures taken { MatchOption result
             ((hand_of pass.new ≡ hand_of pass.old) × Held 0 (Stands (hand_of pass.old)))
-            (λ claim. hand_of pass.new ≡ hand (hand_of pass.old).put ((hand_of pass.old).taken ++ claim ∷ [])) }
+            (λ claim. TakenFirst (hand_of pass.old) claim (hand_of pass.new)) }
     {
         self.line.pop_as::<Takes, R>(rt, pass)
     }

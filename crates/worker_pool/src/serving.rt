@@ -7,25 +7,25 @@ ghost use Rattle.tick_core.specs.Taking.{IsNextStep};
 ghost use Rattle.worker_pool.specs.Inside.Stretches.{SameTick, EndsTick};
 
 use crate::gate::Gate;
-use crate::weighing::is_much;
+use crate::weighing::{is_worth, may_share};
 use sc_graph::{Status, ThreadId};
 use tick_core::{NextStep, TickState};
 
 /// The steps of a tick that the first worker takes before it shares the tick with others: all of them where there are
-/// no others, else as long as there is nothing to share. Whether it is to be shared; if not, nobody is enabled.
+/// no others or nothing is worth sharing, else as long as there is no round to share. Whether it is to be shared; if not,
+/// nobody is enabled.
 pub(crate) fn stretch<G: Gate>(state: &mut TickState<'_>, workers: u8, gate: &G) -> bool
     ensures same { SameTick state.old state.new }
     ensures over { result ≡ false → IsOver (machine state.new.image.program) state.new.present }
 {
-    if workers > 1 && lead(state, gate) {
+    if workers > 1 && may_share(gate) && lead(state, gate) {
         return true;
     }
     serve(state, gate);
     false
 }
 
-// Takes steps of a tick as long as one thread alone can step, or several have little work. Whether there is a round to
-// share then.
+// Takes steps of a tick as long as one thread alone can step, or too few. Whether there is a round to share then.
 fn lead<G: Gate>(state: &mut TickState<'_>, gate: &G) -> bool
     ensures { SameTick state.old state.new }
 {
@@ -43,8 +43,7 @@ fn lead<G: Gate>(state: &mut TickState<'_>, gate: &G) -> bool
 
 // Whether the round in which this thread leads is worth sharing.
 fn is_to_share<G: Gate>(state: &TickState<'_>, thread: ThreadId, gate: &G) -> bool {
-    let ready = round_of(state, thread);
-    ready.len() > 1 && (gate.waits() || is_much(state, ready, gate))
+    is_worth(round_of(state, thread).len(), gate)
 }
 
 // The threads that can step at the priority of this one.

@@ -71,16 +71,16 @@ impl Gate for Meeting {
     }
 }
 
-// It counts passings, by worker.
+/// It counts passings, by worker.
 #[derive(Drop)]
-struct Counting {
+pub(crate) struct Counting {
     first: AtomicU64,
     second: AtomicU64,
     others: AtomicU64,
 }
 
 impl Counting {
-    fn new() -> Counting {
+    pub(crate) fn new() -> Counting {
         Counting {
             first: AtomicU64::new(0),
             second: AtomicU64::new(0),
@@ -88,8 +88,8 @@ impl Counting {
         }
     }
 
-    // Whether the report counts the same.
-    fn agrees(&self, report: &Report) -> bool {
+    /// Whether the report counts the same.
+    pub(crate) fn agrees(&self, report: &Report) -> bool {
         let by = report.by;
         let first = u64::from(by[1]);
         let second = u64::from(by[2]);

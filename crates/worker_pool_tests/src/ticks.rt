@@ -112,8 +112,8 @@ fn end_so<R: Threads + Wait + Sync, G: Gate + Sync>(
     Ok(true)
 }
 
-// Fails where these ticks are not as wanted with each number of workers.
-fn expect_ticks<R: Threads + Wait + Sync>(
+/// Fails where these ticks are not as wanted with each number of workers.
+pub(crate) fn expect_ticks<R: Threads + Wait + Sync>(
     rt: &R,
     alloc: Global,
     image: Image,

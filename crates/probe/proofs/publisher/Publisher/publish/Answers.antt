@@ -23,4 +23,4 @@ invariant_of-self-in-Ok g c =
     let next : c.of-next.result ≡ c.add.new.self = c.of-next.ensures ∙ c.beginning.ensures in
     let rows : c.of-next.result.rows ≡ note.rows ++ c.args.end ∷ [] = ap (λ p. p.rows) next ∙ (c.if-not-add.ensures.added ∙ ap (λ (p : Progress). p.rows ++ c.args.end ∷ []) same) in
     let publisher : c.of-next.result.publisher ≡ note.publisher = ap (λ p. p.publisher) next ∙ (c.if-not-add.ensures.publisher ∙ ap (λ (p : Progress). p.publisher) same) in
-    (c.in-Ok.ensures ∙ ap Some c.again.ensures, sym next, c.self.invariant.2 ∙ cc (publisher, ap (take 1) rows, first_snoc note.rows c.args.end c.self.invariant.3), omega (arith, ap length rows, length-append note.rows (c.args.end ∷ [])))
+    (c.in-Ok.ensures.shown ∙ ap Some c.again.ensures, sym next, c.self.invariant.2 ∙ cc (publisher, ap (take 1) rows, first_snoc note.rows c.args.end c.self.invariant.3), omega (arith, ap length rows, length-append note.rows (c.args.end ∷ [])))
