@@ -279,6 +279,14 @@ module _ (k core : Table) (i : Images) (rows : CoreRows k core i) (tree : IsTree
   flags_behind : (zs : List Value) × (slice_set (c.variables ++ p.more) x (value_is.Int (pos m)) ≡ c.variables ++ zs)
   flags_behind = set_behind c.variables p.more x (value_is.Int (pos m)) (let le = declared in let size = sound.values in omega (le, size, arith))
 
+  -- who is outside stays there
+  still_empty : (t : ℕ) → standing_of d t ≡ at.Outside → standing_of next t ≡ at.Outside
+  still_empty t out =
+      ⊎_elim
+      (λ e.
+      let wrong : at.Trying st.first (go true None (count_down x ∷ []) st.place ∷ []) ≡ at.Outside = sym st.counting ∙ (ap (standing_of d) (sym e) ∙ out) in
+      absurd cc) (λ ne. same m t ne ∙ out) (same_or_not t g)
+
   still_pending : Pending k core i c r next
   still_pending =
       record {
@@ -301,6 +309,9 @@ module _ (k core : Table) (i : Images) (rows : CoreRows k core i) (tree : IsTree
         flags = λ u u_there inside_u.
             ⊎_elim (λ down. inl (flagged_now u down)) (λ covered. inr (covered_on k core i rows c d next r (same m) st.over_in_chart u covered)) (p.flags u u_there inside_u);
         late = λ u o. p.late u (opening_on k core i rows c next d r back st.over_in_chart u o);
+        ready = λ u o.
+            let before = p.ready u (opening_on k core i rows c next d r back st.over_in_chart u o) in
+            (before.0, (λ t h. still_empty t (before.1.0 t h), before.1.1));
         joinable = λ u o.
             let before = p.joinable u (joining_on k core i rows c next d r back st.over_in_chart u o) in
             record {

@@ -56,5 +56,8 @@ pub mod OpensFork
 pub mod JoinsFork
 pub mod WaitsAfterJoin
 pub mod ForkJoined
+pub mod OpenedRows
+pub mod AfterOpening
+pub mod ForkOpened
 pub mod EnteredSettles
 pub mod Proved

@@ -43,7 +43,7 @@ not_empty None None None n x (inl e) = absurd cc
 not_empty None None None n x (inr (inl e)) = absurd cc
 not_empty None None None n x (inr (inr e)) = absurd cc
 
-every_one : (P : ℕ × ℕ → Type 0) (o : Option ℕ) (n : ℕ) (rest : List (ℕ × ℕ)) → ((x : ℕ) → o ≡ Some x → P (x, n)) → Every P rest → Every P (one_of o n rest)
+pub every_one : (P : ℕ × ℕ → Type 0) (o : Option ℕ) (n : ℕ) (rest : List (ℕ × ℕ)) → ((x : ℕ) → o ≡ Some x → P (x, n)) → Every P rest → Every P (one_of o n rest)
 every_one P None n rest own others = others
 every_one P (Some x) n rest own others = (own x refl, others)
 
@@ -63,7 +63,7 @@ has_stores k core i values (Some x) n has = has
 module _ (k core : Table) (i : Images) (rows : CoreRows k core i) (tree : IsTree k) (counts : ℕ → Bool) (written_at : ℕ → ℕ) (Told : Configuration → Entry → Type 0)
     (told : (d : Configuration) (t : ℕ) (stage : Option (ℕ × ℕ)) (a : Access) → Told d (Silent t stage a)) (more : OpeningRows k core i rows) (c : Configuration)
     (r : ℕ) (d : Configuration) (p : Pending k core i c r d) (there : IsThere k r) (s : ℕ) (held : holder k s ≡ r) (o : IsOpening k core i c d s) where
-  abbrev g : ℕ
+  abbrev pub g : ℕ
   g = i.thread_of (holder k s)
 
   abbrev corr : Correspondence
@@ -72,10 +72,10 @@ module _ (k core : Table) (i : Images) (rows : CoreRows k core i) (tree : IsTree
   abbrev n : ℕ
   n = length (state_at k s).regions
 
-  abbrev list : List (ℕ × ℕ)
+  abbrev pub list : List (ℕ × ℕ)
   list = reset_list (i.flags_of s).strong (i.flags_of s).weak (i.flags_of s).counter n
 
-  image : SplitImage k core i s
+  abbrev pub image : SplitImage k core i s
   image = rows.split s o.there o.super o.split
 
   in_core : g < length d.regions
@@ -96,7 +96,7 @@ module _ (k core : Table) (i : Images) (rows : CoreRows k core i) (tree : IsTree
       (every_one (IsOwn core corr Told told g o.fork (Reached k core i c d)) (i.flags_of s).counter n [] (λ x e. own_flag x n (inr (inr e))) tt))
 
   -- what is entered begins with the fork
-  forks : (state_at core (state_in core g o.fork)).entered ≡ to g (at.Within (i.main_of s) (joins image.join ∷ [])) ∷ (state_at core (i.main_of s)).opened
+  pub forks : (state_at core (state_in core g o.fork)).entered ≡ to g (at.Within (i.main_of s) (joins image.join ∷ [])) ∷ (state_at core (i.main_of s)).opened
   forks = ap (λ z. (state_at core z).entered) o.leads ∙ ap (λ row. row.entered) image.row
 
   overwrites : (zs : List Standing) (x : Standing) → moved (state_at core (state_in core g o.fork)).entered (slice_set zs g x) ≡ moved (state_at core (state_in core g o.fork)).entered zs

@@ -9,7 +9,8 @@ use Rattle.chart_machine.specs.declared.standing.Configuration.{Configuration}
 use Rattle.chart_machine.specs.declared.table.Table.{Table}
 use Rattle.chart_machine.specs.Table.{state_at}
 use Rattle.chart_machine.specs.Turns.{standing_of, has_ended, guards as has_to_guard, is_guarded, inside}
-use Rattle.chart_machine.specs.Steps.{to, state_in}
+use Rattle.chart_machine.specs.Steps.{to, moved, state_in}
+use Rattle.abort_expansion_laws.proofs.Leaving.{at_number}
 use Rattle.abort_expansion.specs.Flags.{has_aborts, has_join}
 use Rattle.abort_expansion.specs.Transitions.{go, count_down}
 use Rattle.abort_expansion.specs.Superstates.{stays, is_prepared, resets}
@@ -106,6 +107,16 @@ module _ (k core : Table) (i : Images) (c : Configuration) where
     pub weak : Stores k core i d.variables (i.flags_of s).weak 0
     pub counter : Stores k core i d.variables (i.flags_of s).counter (still_going d (state_at k s).regions)
 
+  -- the inside of the superstate is what its own moves make of an empty inside
+  abbrev pub IsFresh : ℕ → Type 0
+  IsFresh s =
+      (zs : List Standing) → length zs ≡ length c.regions → ((q : ℕ) → Contains (around k q) s → at_number zs q ≡ at.Outside) →
+      (q : ℕ) → Contains (around k q) s → standing_of c q ≡ at_number (moved (state_at k s).opened zs) q
+
+  -- nobody is inside of its fork yet
+  abbrev pub IsEmpty : Configuration → ℕ → Type 0
+  IsEmpty d s = (t : ℕ) → Contains (around core t) (i.main_of s) → standing_of d t ≡ at.Outside
+
   -- regions below number n are settled
   pub record Pending (n : ℕ) (d : Configuration) : Type 0 where
     pub more : List Value
@@ -120,6 +131,8 @@ module _ (k core : Table) (i : Images) (c : Configuration) where
     pub flags : (s : ℕ) → IsState k s → IsInside k core i s (standing_of c (holder k s)) → Flagged d s ⊎ Covered d s
     pub late : (s : ℕ) → IsOpening d s → n ≤ holder k s
     pub joinable : (s : ℕ) → IsJoining d s → Over d s
+    -- nobody guards around what is opened
+    pub ready : (s : ℕ) → IsOpening d s → IsFresh s × (IsEmpty d s × (is_guarded k c (around k (holder k s)) ≡ false))
 
   -- a region whose thread has still to step, and the superstate for which
   pub data IsBusy (d : Configuration) (r s : ℕ) : Type 0 where

@@ -57,7 +57,7 @@ pub use Rattle.abort_expansion_laws.proofs.OpensFork.{opens_fork, strong_down, w
 pub use Rattle.abort_expansion_laws.proofs.JoinsFork.{continues_with, joins_fork}
 pub use Rattle.abort_expansion_laws.proofs.WaitsAfterJoin.{joined_pending, reached_then}
 pub use Rattle.abort_expansion_laws.proofs.ForkJoined.{joined_up}
-pub use Rattle.abort_expansion_laws.proofs.EnteredSettles.{OpenedRows, entered_settles}
+pub use Rattle.abort_expansion_laws.proofs.EnteredSettles.{entered_settles}
 
 pub checked : ◌≡◌ {A = ℕ} 0 0
 checked = refl

@@ -129,6 +129,7 @@ module _ (k core : Table) (i : Images) (rows : CoreRows k core i) (tree : IsTree
         watchers = p.watchers;
         flags = p.flags;
         joinable = p.joinable;
+        ready = p.ready;
         late = λ s o.
             later (holder k s) n (p.late s o)
             (λ e.

@@ -253,6 +253,15 @@ module _ (k core : Table) (i : Images) (rows : CoreRows k core i) (tree : IsTree
       stays_ended t h is =
           same t (λ e. let wrong : at.Within (i.main_of s) (joins o.join ∷ []) ≡ at.Ended = sym forked ∙ (ap (standing_of d) (sym e) ∙ is) in absurd cc) (not_in t h) ∙ is
 
+  -- who is outside stays there
+  still_empty : (t : ℕ) → standing_of d t ≡ at.Outside → standing_of z t ≡ at.Outside
+  still_empty t out =
+      ⊎_elim
+      (λ e.
+      let wrong : at.Within (i.main_of s) (joins o.join ∷ []) ≡ at.Outside = sym forked ∙ (ap (standing_of d) (sym e) ∙ out) in
+      absurd cc)
+      (λ ne. ⊎_elim (λ inner. dropped t ne inner) (λ other. same t ne other ∙ out) (contained (inside core (i.main_of s)) t)) (same_or_not t g)
+
   still_pending : Pending k core i c r z
   still_pending =
       record {
@@ -275,6 +284,9 @@ module _ (k core : Table) (i : Images) (rows : CoreRows k core i) (tree : IsTree
         flags = λ u u_there inside_u. ⊎_elim (λ f. inl (flagged_z u f)) (λ covered. inr (covered_z u covered)) (p.flags u u_there inside_u);
         late = λ u a. p.late u (opening_back u a);
         joinable = λ u a. over_z u a (p.joinable u (joining_back u a));
+        ready = λ u a.
+            let before = p.ready u (opening_back u a) in
+            (before.0, (λ t h. still_empty t (before.1.0 t h), before.1.1));
       }
 
   pub joined_pending : Pending k core i c (suc r) z
