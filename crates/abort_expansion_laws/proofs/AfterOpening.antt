@@ -1,5 +1,6 @@
 -- What waits still does after the fork of a prepared superstate was entered, and its region is settled.
-use Rattle.std.proofs.Common.{◌≡◌, ◌≢◌, ℕ, zero, suc, pos, ◌+◌, ◌<◌, ◌≤◌, ◌⊎◌, inl, inr, ⊎_elim, Bool, true, false, not, ◌||◌, Option, Some, None, List, [], ◌∷◌, ◌++◌, map, length, slice_get, slice_set, Contains, refl, sym, ap, subst, ◌∙◌, arith, if◌then◌else◌}
+use Rattle.std.proofs.Common.{◌≡◌, ◌≢◌, ℕ, zero, suc, pos, ◌+◌, ◌<◌, ◌≤◌, ◌⊎◌, inl, inr, ⊎_elim, Bool, true, false, not, ◌||◌, Option, Some, None, List, []}
+use Rattle.std.proofs.Common.{◌∷◌, ◌++◌, map, length, slice_get, slice_set, Contains, refl, sym, ap, subst, ◌∙◌, arith, if◌then◌else◌}
 use Rattle.sc_values.specs.declared.value.Value.{Value}
 use Rattle.sc_values.specs.declared.value.Value.TheVariants as value_is
 use Rattle.sc_values.specs.Access.{Access}
@@ -26,7 +27,9 @@ use Rattle.abort_expansion_laws.proofs.Leaving.{at_number, set_here, set_other, 
 use Rattle.abort_expansion_laws.proofs.AllLeave.{inside_around}
 use Rattle.abort_expansion_laws.proofs.StageReached.{Stage, stage_of, inside_in}
 use Rattle.abort_expansion_laws.proofs.StartingRegions.{set_behind}
-use Rattle.abort_expansion_laws.proofs.Pending.{is_trying, Sound, IsOpening, IsStarting, IsJoining, Over, Waits, settled, opening, starting, joining, ending, hidden, Covered, goes_in, still_going, Flagged, IsFresh, IsEmpty, Pending, IsBusy, starts, opens, joins_then, Reached, behind_unprepared}
+use Rattle.abort_expansion_laws.proofs.Pending.{is_trying, Sound, IsOpening, IsStarting, IsJoining, Over, Waits, settled, opening, starting, joining, ending}
+use Rattle.abort_expansion_laws.proofs.Pending.{hidden, Covered, goes_in, still_going, Flagged, IsFresh, IsEmpty, Pending, IsBusy, starts, opens, joins_then}
+use Rattle.abort_expansion_laws.proofs.Pending.{Reached, behind_unprepared}
 use Rattle.abort_expansion_laws.proofs.SettledInOrder.{skips, there_in}
 use Rattle.abort_expansion_laws.proofs.Resets.{Every, But, set_all, set_all_other, set_all_size, one_of}
 use Rattle.abort_expansion_laws.proofs.OpensFork.{OpeningRows, every_one, forked, forks, image, list, g, strong_down, weak_down, counter_full}
@@ -36,7 +39,8 @@ moved_size : (ms : List Move) (zs : List Standing) → length (moved ms zs) ≡ 
 moved_size [] zs = refl
 moved_size (m ∷ ms) zs = moved_size ms (slice_set zs m.region m.standing) ∙ set_length zs m.region m.standing
 
-set_all_behind : (xs : List (ℕ × ℕ)) (vs more : List Value) → Every (λ (x : ℕ × ℕ). length vs ≤ x.0) xs → (zs : List Value) × (set_all xs (vs ++ more) ≡ vs ++ zs)
+set_all_behind : (xs : List (ℕ × ℕ)) (vs more : List Value) → Every (λ (x : ℕ × ℕ). length vs ≤ x.0) xs →
+    (zs : List Value) × (set_all xs (vs ++ more) ≡ vs ++ zs)
 set_all_behind [] vs more high = (more, refl)
 set_all_behind (x ∷ xs) vs more high =
     let one = set_behind vs more x.0 (value_is.Int (pos x.1)) high.0 in
@@ -188,7 +192,8 @@ module _ (k core : Table) (i : Images) (rows : CoreRows k core i) (tree : IsTree
 
   opening_not_here : (u : ℕ) → IsOpening k core i c z u → i.thread_of (holder k u) ≢ h
   opening_not_here u a e =
-      let wrong : at.Trying (i.entry_of u) (go true None (resets (i.flags_of u) (length (state_at k u).regions)) a.fork ∷ []) ≡ W = sym a.preparing ∙ (ap (standing_of z) e ∙ here) in
+      let wrong : at.Trying (i.entry_of u) (go true None (resets (i.flags_of u) (length (state_at k u).regions)) a.fork ∷ []) ≡ W = sym a.preparing ∙
+      (ap (standing_of z) e ∙ here) in
       absurd cc
 
   opening_back : (u : ℕ) → ¬ Contains (around k (holder k u)) s → IsOpening k core i c z u → IsOpening k core i c d u
@@ -274,7 +279,8 @@ module _ (k core : Table) (i : Images) (rows : CoreRows k core i) (tree : IsTree
         open_in_chart = a.open_in_chart;
         leads = a.leads;
         forked =
-            sym (same (i.thread_of (holder k u)) (λ e. not_joining u a.over (same_super u a.tests a.open_in_chart e)) (λ inner. out (thread_in (holder k u) inner))) ∙ a.forked;
+            sym (same (i.thread_of (holder k u)) (λ e. not_joining u a.over (same_super u a.tests a.open_in_chart e))
+            (λ inner. out (thread_in (holder k u) inner))) ∙ a.forked;
       }
 
   -- ---- each region
@@ -293,7 +299,8 @@ module _ (k core : Table) (i : Images) (rows : CoreRows k core i) (tree : IsTree
       (within s fork.join o.tests o.super held (subst (λ q. stays (flags_around k core i q) (own k s) ≡ false) held o.split) still
       (subst (λ q. state_in core (i.thread_of q) fork.join ≡ i.behind_of s) held fork.joined)))
 
-  waits_other : (q : ℕ) → q ≢ r → ¬ Contains (around k q) s → standing_of z (i.thread_of q) ≡ standing_of d (i.thread_of q) → Waits k core i c d q → Waits k core i c z q
+  waits_other : (q : ℕ) → q ≢ r → ¬ Contains (around k q) s → standing_of z (i.thread_of q) ≡ standing_of d (i.thread_of q) → Waits k core i c d q →
+      Waits k core i c z q
   waits_other q ne out is (settled stands) = settled (subst (Stands k core i c q (standing_of c q)) (sym is) stands)
   waits_other q ne out is (opening u its a) = opening u its (opening_z u (λ e. ne (sym its ∙ (ap (holder k) e ∙ held))) a)
   waits_other q ne out is (starting u a) = starting u (starting_z q u ne a)
@@ -344,7 +351,8 @@ module _ (k core : Table) (i : Images) (rows : CoreRows k core i) (tree : IsTree
   differs : (u y : ℕ) → u ≢ s → Which u y → Every (λ (x : ℕ × ℕ). y ≢ x.0) resets_list
   differs u y ne its = each_reset (λ (x : ℕ × ℕ). y ≢ x.0) (λ x m which e. ne (sym (more.flag_of u y its).0 ∙ (ap rows.of_flag e ∙ (more.flag_of s x which).0)))
 
-  stored_other : (u : ℕ) → u ≢ s → (flag : Option ℕ) (m : ℕ) → ((y : ℕ) → flag ≡ Some y → Which u y) → Stores k core i d.variables flag m → Stores k core i z.variables flag m
+  stored_other : (u : ℕ) → u ≢ s → (flag : Option ℕ) (m : ℕ) → ((y : ℕ) → flag ≡ Some y → Which u y) → Stores k core i d.variables flag m →
+      Stores k core i z.variables flag m
   stored_other u ne None m its stores = tt
   stored_other u ne (Some y) m its stores = set_all_other resets_list d.variables y (differs u y ne (its y refl)) ∙ stores
 
@@ -381,12 +389,14 @@ module _ (k core : Table) (i : Images) (rows : CoreRows k core i) (tree : IsTree
       (head_or_tail (i.main_of u) (i.main_of s) (around core (i.thread_of (holder k u))) (subst (λ zs. Contains zs (i.main_of s)) w.encloses inner)))
 
   watchers_now : (u : ℕ) → IsState k u → has_aborts (own k u) ≡ true →
-      Watches k core i u (standing_of c (holder k u)) (standing_of z (i.watcher_of u)) ⊎ ((standing_of z (i.watcher_of u) ≡ at.Outside) × Covered k core i c z u)
+      Watches k core i u (standing_of c (holder k u)) (standing_of z (i.watcher_of u)) ⊎
+      ((standing_of z (i.watcher_of u) ≡ at.Outside) × Covered k core i c z u)
   watchers_now u u_there has =
       ⊎_elim (λ w. opened_rows.watchers c d1 z s opens_it u u_there has w)
       (λ out.
       let kept = watcher_same u u_there has out in
-      ⊎_elim (λ w. inl (subst (Watches k core i u (standing_of c (holder k u))) (sym kept) w)) (λ hides. inr (kept ∙ hides.0, covered_z u out hides.1)) (p.watchers u u_there has))
+      ⊎_elim (λ w. inl (subst (Watches k core i u (standing_of c (holder k u))) (sym kept) w)) (λ hides. inr (kept ∙ hides.0, covered_z u out hides.1))
+      (p.watchers u u_there has))
       (within_or_not u)
 
   flags_now : (u : ℕ) → IsState k u → IsInside k core i u (standing_of c (holder k u)) → Flagged k core i c z u ⊎ Covered k core i c z u
@@ -428,7 +438,8 @@ module _ (k core : Table) (i : Images) (rows : CoreRows k core i) (tree : IsTree
             ⊎_elim (λ is. inl (keeps t at.Ended (not_preparing t at.Ended is (λ tests e. absurd cc)) is (λ e. absurd cc)))
             (λ is.
             let ne = not_preparing t at.Outside is (λ tests e. absurd cc) in
-            ⊎_elim (λ in_s. absurd (apart t in_s (inside_around core (i.main_of u) t inner))) (λ out_s. inr (same t ne out_s ∙ is)) (contained (around core t) (i.main_of s)))
+            ⊎_elim (λ in_s. absurd (apart t in_s (inside_around core (i.main_of u) t inner))) (λ out_s. inr (same t ne out_s ∙ is))
+            (contained (around core t) (i.main_of s)))
             (before.over_inside t inner);
       }
     where
@@ -450,12 +461,14 @@ module _ (k core : Table) (i : Images) (rows : CoreRows k core i) (tree : IsTree
       preparing_here round = let wrong = sym o.preparing ∙ before h (in_thread u (holder k s) round) in absurd cc
 
       apart : Contains (around core t) (i.main_of s) → ⊥
-      apart in_s = ⊎_elim (λ e. opening_not_here u a (ap (λ v. i.thread_of (holder k v)) (sym e))) (λ other. ⊎_elim preparing_here out other) (both_forks t u in_s inner)
+      apart in_s = ⊎_elim (λ e. opening_not_here u a (ap (λ v. i.thread_of (holder k v)) (sym e))) (λ other. ⊎_elim preparing_here out other)
+          (both_forks t u in_s inner)
 
   still_pending : Pending k core i c r z
   still_pending =
       let behind = set_all_behind resets_list c.variables p.more
-          (each_reset (λ (x : ℕ × ℕ). length c.variables ≤ x.0) (λ x m which. let le = added x which in let values = sound.values in omega (le, values, arith))) in
+      (each_reset (λ (x : ℕ × ℕ). length c.variables ≤ x.0) (λ x m which. let le = added x which in let values = sound.values in
+      omega (le, values, arith))) in
       record {
         more = behind.0;
         variables = ap (set_all resets_list) p.variables ∙ behind.1;
@@ -469,7 +482,8 @@ module _ (k core : Table) (i : Images) (rows : CoreRows k core i) (tree : IsTree
             (contained (around k q) s)) (same_or_not q r);
         done = λ q q_there lt.
             subst (Stands k core i c q (standing_of c q))
-            (sym (thread_same q (λ e. absurd (omega (lt, e, arith))) (λ inner. let up = deeper q s inner in let its = held in absurd (omega (up, its, lt, arith)))))
+            (sym (thread_same q (λ e. absurd (omega (lt, e, arith))) (λ inner. let up = deeper q s inner in let its = held in
+            absurd (omega (up, its, lt, arith)))))
             (p.done q q_there lt);
         watchers = watchers_now;
         flags = flags_now;
@@ -532,6 +546,7 @@ module _ (k core : Table) (i : Images) (rows : CoreRows k core i) (tree : IsTree
       by_place q v u q_there b round e (inr (inl outer)) = before.1.busy (holder k s) s u holder_there (opens refl o) outer e
       by_place q v u q_there b round e (inr (inr inner)) =
           let inside_u = sound.enclosed q u q_there (busy_present q v b) round in
-          let holds : IsThere k (holder k u) = there_in k core i rows tree counts written_at Told deeper c sound (holder k u) (inside_present u (standing_of c (holder k u)) inside_u) in
+          let holds : IsThere k (holder k u) = there_in k core i rows tree counts written_at Told deeper c sound (holder k u)
+          (inside_present u (standing_of c (holder k u)) inside_u) in
           let le = before.1.staged.regions (holder k u) holds e in
           let low = plain_stage u (standing_of c (holder k u)) (fork_rows.plain_inside s u o.prepared inner) inside_u in omega (le, low, arith)

@@ -1,5 +1,6 @@
 -- Once a flag is raised, everything inside its superstate leaves, what lies deeper first.
-use Rattle.std.proofs.Common.{◌≡◌, ◌≢◌, ℕ, zero, suc, ◌<◌, ◌≤◌, ◌⊎◌, inl, inr, ⊎_elim, Bool, true, false, not, ◌||◌, nat_eq, Option, Some, None, List, [], ◌∷◌, length, slice_set, unwrap_or, Contains, refl, sym, ap, subst, ◌∙◌, arith, if◌then◌else◌}
+use Rattle.std.proofs.Common.{◌≡◌, ◌≢◌, ℕ, zero, suc, ◌<◌, ◌≤◌, ◌⊎◌, inl, inr, ⊎_elim, Bool, true, false, not, ◌||◌, nat_eq, Option, Some, None, List, []}
+use Rattle.std.proofs.Common.{◌∷◌, length, slice_set, unwrap_or, Contains, refl, sym, ap, subst, ◌∙◌, arith, if◌then◌else◌}
 use Rattle.std.specs.Prelude.{filter}
 use Rattle.std.specs.List.{list_all, list_any}
 use Rattle.std.proofs.lemmas.Bool.Decides.{Decides-eqb}
@@ -26,7 +27,8 @@ use Rattle.abort_expansion_laws.proofs.Leaving.{drops, set_here, set_other, set_
 
 -- ---- who is inside has the superstate around it
 
-kept_head : (b : Bool) (x : ℕ) (xs : List ℕ) (P : ℕ → Type 0) → (b ≡ true → P x) → ((y : ℕ) → Contains xs y → P y) → (y : ℕ) → Contains (if b then x ∷ xs else xs) y → P y
+kept_head : (b : Bool) (x : ℕ) (xs : List ℕ) (P : ℕ → Type 0) → (b ≡ true → P x) → ((y : ℕ) → Contains xs y → P y) → (y : ℕ) →
+    Contains (if b then x ∷ xs else xs) y → P y
 kept_head true x xs P own rest y h = ⊎_elim (λ same. subst P same (own refl)) (λ tail. rest y tail) (head_or_tail x y xs h)
 kept_head false x xs P own rest y h = rest y h
 
@@ -41,7 +43,8 @@ either false c e = inr e
 any_at : (s : ℕ) (zs : List ℕ) → list_any (nat_eq s) zs ≡ true → Contains zs s
 any_at s [] e = absurd cc
 any_at s (z ∷ zs) e =
-    ⊎_elim (λ head. let same : s ≡ z = (Decides-eqb s z).0 head in subst (λ w. Contains (w ∷ zs) s) same (head_in s zs)) (λ tail. tail_in z s zs (any_at s zs tail))
+    ⊎_elim (λ head. let same : s ≡ z = (Decides-eqb s z).0 head in subst (λ w. Contains (w ∷ zs) s) same (head_in s zs))
+    (λ tail. tail_in z s zs (any_at s zs tail))
     (either (nat_eq s z) (list_any (nat_eq s) zs) e)
 
 pub inside_around : (k : Table) (s r : ℕ) → Contains (inside k s) r → Contains (around k r) s
@@ -62,7 +65,8 @@ pub record LeavesBy (core : Table) (corr : Correspondence) (home stage : ℕ) (t
   pub silent : IsSilent corr q (Some (home, stage)) (access_of_trigger trigger)
 
 module _ (core : Table) (tree : IsTree core) (deeper : (q s : ℕ) → Contains (around core q) s → holder core s < q)
-    (corr : Correspondence) (Told : Configuration → Entry → Type 0) (told : (d : Configuration) (t : ℕ) (stage : Option (ℕ × ℕ)) (a : Access) → Told d (Silent t stage a))
+    (corr : Correspondence) (Told : Configuration → Entry → Type 0) (told : (d : Configuration) (t : ℕ) (stage : Option (ℕ × ℕ)) (a : Access) →
+    Told d (Silent t stage a))
     (Others : ℕ → ℕ → Type 0) (home stage f : ℕ) (trigger : Option Expr) (first : Configuration) (raised : verdict first.variables trigger ≡ Some true)
     (free : (t : ℕ) → guards (standing_of first t) ≡ false) where
   -- region q lies in the superstate
@@ -74,15 +78,18 @@ module _ (core : Table) (tree : IsTree core) (deeper : (q s : ℕ) → Contains 
     over : MayLeave q at.Ended
     tries : (s : ℕ) (w : Transition) (rest : List Transition) → LeavesBy core corr home stage trigger q s w → MayLeave q (at.Trying s (w ∷ rest))
     -- all regions of its superstate are there, and behind its fork it leaves
-    forks : (s j b : ℕ) (w : Transition) (rest : List Transition) → holder core s ≡ q → (state_at core (state_in core q j)).entered ≡ to q (at.Trying b (w ∷ rest)) ∷ [] →
+    forks : (s j b : ℕ) (w : Transition) (rest : List Transition) → holder core s ≡ q →
+        (state_at core (state_in core q j)).entered ≡ to q (at.Trying b (w ∷ rest)) ∷ [] →
         LeavesBy core corr home stage trigger q b w →
-        ((r : ℕ) → Contains (state_at core s).regions r → (around core r ≡ s ∷ around core q) × (standing_of first r ≢ at.Outside)) → MayLeave q (at.Within s (joins j ∷ []))
+        ((r : ℕ) → Contains (state_at core s).regions r → (around core r ≡ s ∷ around core q) × (standing_of first r ≢ at.Outside)) →
+        MayLeave q (at.Within s (joins j ∷ []))
 
   -- it has left; or it was dropped by a superstate around it, whose region has left
   abbrev pub Gone : Configuration → ℕ → ℕ → Type 0
   Gone d n q =
       (standing_of d q ≡ at.Ended)
-      ⊎ ((standing_of d q ≡ at.Outside) × ((standing_of first q ≡ at.Outside) ⊎ ((s : ℕ) × Contains (around core q) s × (n ≤ holder core s) × In (holder core s))))
+      ⊎ ((standing_of d q ≡ at.Outside) × ((standing_of first q ≡ at.Outside) ⊎
+      ((s : ℕ) × Contains (around core q) s × (n ≤ holder core s) × In (holder core s))))
 
   pub record Left (n : ℕ) (d : Configuration) : Type 0 where
     pub variables : d.variables ≡ first.variables
@@ -124,8 +131,10 @@ module _ (core : Table) (tree : IsTree core) (deeper : (q s : ℕ) → Contains 
   unguarded d none (s ∷ zs) = rw (none (holder core s), unguarded d none zs) refl
 
   -- region n has left, and what lies in these was dropped
-  left_after : (n : ℕ) (d e : Configuration) (rs : List ℕ) → Left (suc n) d → ((q : ℕ) → Contains rs q → (s : ℕ) × Contains (around core q) s × (holder core s ≡ n)) →
-      ((q : ℕ) → q ≢ n → ¬ Contains rs q → standing_of e q ≡ standing_of d q) → ((q : ℕ) → q ≢ n → Contains rs q → standing_of e q ≡ at.Outside) → Gone e n n → In n →
+  left_after : (n : ℕ) (d e : Configuration) (rs : List ℕ) → Left (suc n) d →
+      ((q : ℕ) → Contains rs q → (s : ℕ) × Contains (around core q) s × (holder core s ≡ n)) →
+      ((q : ℕ) → q ≢ n → ¬ Contains rs q → standing_of e q ≡ standing_of d q) → ((q : ℕ) → q ≢ n → Contains rs q → standing_of e q ≡ at.Outside) →
+      Gone e n n → In n →
       ((q : ℕ) → Contains rs q → In q) → e.variables ≡ d.variables → length e.regions ≡ length d.regions → Left n e
   left_after n d e rs left inner same outside own in_n in_rs values size =
       record {
@@ -134,12 +143,17 @@ module _ (core : Table) (tree : IsTree core) (deeper : (q s : ℕ) → Contains 
         waits = λ q in_q lt.
             same q (λ e. omega (lt, e, arith)) (λ h. let s = inner q h in let up = deeper q s.0 s.1 in let held = s.2 in absurd (omega (up, held, lt, arith)))
             ∙ left.waits q in_q (omega (lt, arith));
-        gone = λ q in_q le. ⊎_elim (λ same_q. subst (λ p. Gone e n p) (sym same_q) own) (λ ne. by_place q in_q (later n q le (λ e. ne (sym e))) ne (contained rs q)) (same_or_not q n);
+        gone = λ q in_q le. ⊎_elim (λ same_q. subst (λ p. Gone e n p) (sym same_q) own)
+            (λ ne. by_place q in_q (later n q le (λ e. ne (sym e))) ne (contained rs q)) (same_or_not q n);
         others = λ q out_q. same q (λ e. out_q (subst In (sym e) in_n)) (λ h. out_q (in_rs q h)) ∙ left.others q out_q;
       }
     where
       by_place : (q : ℕ) → In q → suc n ≤ q → q ≢ n → Contains rs q ⊎ ¬ Contains rs q → Gone e n q
-      by_place q in_q le ne (inl h) = let s = inner q h in inr (outside q ne h, inr (s.0, s.1, (let held = s.2 in omega (held, arith)), subst In (sym s.2) in_n))
+      by_place q in_q le ne (inl h) = let s = inner q h in inr (
+        outside q ne h,
+        inr
+            (s.0, s.1, (let held = s.2 in omega (held, arith)), subst In (sym s.2) in_n),
+      )
       by_place q in_q le ne (inr none) = gone_alike d e n q (same q ne none) (weaker d n q (left.gone q in_q le))
 
   out_past : (d : Configuration) (q : ℕ) → length d.regions ≤ q → standing_of d q ≡ at.Outside
@@ -155,7 +169,8 @@ module _ (core : Table) (tree : IsTree core) (deeper : (q s : ℕ) → Contains 
         variables = left.variables;
         size = left.size;
         waits = λ q in_q lt. left.waits q in_q (omega (lt, arith));
-        gone = λ q in_q le. ⊎_elim (λ e. subst (λ p. Gone d n p) (sym e) (own (subst In e in_q))) (λ ne. weaker d n q (left.gone q in_q (later n q le (λ e. ne (sym e))))) (same_or_not q n);
+        gone = λ q in_q le. ⊎_elim (λ e. subst (λ p. Gone d n p) (sym e) (own (subst In e in_q)))
+            (λ ne. weaker d n q (left.gone q in_q (later n q le (λ e. ne (sym e))))) (same_or_not q n);
         others = left.others;
       }
 
@@ -164,18 +179,21 @@ module _ (core : Table) (tree : IsTree core) (deeper : (q s : ℕ) → Contains 
     Piece d n = Segment (machine core) corr Told d (AtHome Others home stage) (λ last. AtHome Others home stage) [] (Left n)
 
     -- the last step of each: the flag is seen
-    sees : (n : ℕ) (d e : Configuration) (s : ℕ) (w : Transition) (rest : List Transition) → d.variables ≡ first.variables → ((t : ℕ) → guards (standing_of d t) ≡ false) →
+    sees : (n : ℕ) (d e : Configuration) (s : ℕ) (w : Transition) (rest : List Transition) → d.variables ≡ first.variables →
+        ((t : ℕ) → guards (standing_of d t) ≡ false) →
         standing_of d n ≡ at.Trying s (w ∷ rest) → LeavesBy core corr home stage trigger n s w →
         e ≡ record { variables = d.variables; regions = slice_set d.regions n at.Ended } → Left n e → Piece d n
     sees n d e s w rest values none stands leaves_by is reaches =
-        silent_step (machine core) corr Told told d e n (Some (home, stage)) (access_of_trigger trigger) (AtHome Others home stage) (AtHome Others home stage) (Left n)
+        silent_step (machine core) corr Told told d e n (Some (home, stage)) (access_of_trigger trigger) (AtHome Others home stage) (AtHome Others home stage)
+        (Left n)
         (leaves core d n s w rest (unguarded d none (around core n)) stands
         (subst (λ z. verdict d.variables z ≡ Some true) (sym leaves_by.triggered) (subst (λ vs. verdict vs trigger ≡ Some true) (sym values) raised))
         leaves_by.effects leaves_by.simple leaves_by.ends ∙ ap Some (sym is))
         (ap access_of stands ∙ ap access_of_trigger leaves_by.triggered) leaves_by.silent
         (λ more climbs. climbs_at corr Others home stage stage n (access_of_trigger trigger) more (omega arith) climbs) reaches
 
-    by_trying : (n : ℕ) (d : Configuration) (s : ℕ) (w : Transition) (rest : List Transition) → In n → Left (suc n) d → standing_of d n ≡ at.Trying s (w ∷ rest) →
+    by_trying : (n : ℕ) (d : Configuration) (s : ℕ) (w : Transition) (rest : List Transition) → In n → Left (suc n) d →
+        standing_of d n ≡ at.Trying s (w ∷ rest) →
         LeavesBy core corr home stage trigger n s w → Piece d n
     by_trying n d s w rest in_n left stands leaves_by =
         let e : Configuration = record { variables = d.variables; regions = slice_set d.regions n at.Ended } in
@@ -184,11 +202,13 @@ module _ (core : Table) (tree : IsTree core) (deeper : (q s : ℕ) → Contains 
         (left_after n d e [] left (λ q h. absurd (none_in q h)) (λ q ne none. set_other d.regions n q at.Ended ne) (λ q ne h. absurd (none_in q h))
         (inl (set_here d.regions n at.Ended lt)) in_n (λ q h. absurd (none_in q h)) refl (set_length d.regions n at.Ended))
 
-    by_fork : (n : ℕ) (d : Configuration) (s j b : ℕ) (w : Transition) (rest : List Transition) → In n → Left (suc n) d → standing_of d n ≡ at.Within s (joins j ∷ []) →
+    by_fork : (n : ℕ) (d : Configuration) (s j b : ℕ) (w : Transition) (rest : List Transition) → In n → Left (suc n) d → standing_of d n ≡ at.Within
+        s (joins j ∷ []) →
         holder core s ≡ n → (state_at core (state_in core n j)).entered ≡ to n (at.Trying b (w ∷ rest)) ∷ [] → LeavesBy core corr home stage trigger n b w →
         ((r : ℕ) → Contains (state_at core s).regions r → (around core r ≡ s ∷ around core n) × (standing_of first r ≢ at.Outside)) → Piece d n
     by_fork n d s j b w rest in_n left stands held enters leaves_by direct =
-        segment_on (machine core) corr Told d (AtHome Others home stage) (λ last. AtHome Others home stage) (λ last. AtHome Others home stage) [] [] (λ z. z ≡ e1) (Left n) join_step
+        segment_on (machine core) corr Told d (AtHome Others home stage) (λ last. AtHome Others home stage) (λ last. AtHome Others home stage) [] []
+        (λ z. z ≡ e1) (Left n) join_step
         (subst (λ z. Piece z n) (sym join_step.reaches) (sees n e1 e2 b w rest left.variables quiet1 here1 leaves_by refl left2))
       where
         x : Standing
@@ -231,7 +251,8 @@ module _ (core : Table) (tree : IsTree core) (deeper : (q s : ℕ) → Contains 
             by_outer : (u : ℕ) → Contains (around core r) u → suc n ≤ holder core u → ⊥
             by_outer u inner le =
                 ⊎_elim (λ same. let at_n : holder core u ≡ n = ap (holder core) (sym same) ∙ held in omega (at_n, le, arith))
-                (λ tail. let up = deeper n u tail in omega (up, le, arith)) (head_or_tail s u (around core n) (subst (λ zs. Contains zs u) (direct r h).0 inner))
+                (λ tail. let up = deeper n u tail in omega (up, le, arith))
+                (head_or_tail s u (around core n) (subst (λ zs. Contains zs u) (direct r h).0 inner))
 
             by_gone : Gone d (suc n) r → standing_of d r ≡ at.Ended
             by_gone (inl is) = is
@@ -272,7 +293,8 @@ module _ (core : Table) (tree : IsTree core) (deeper : (q s : ℕ) → Contains 
             left_after n d e2 (inside core s) left (λ q h. (s, inside_around core s q h, held))
             (λ q ne out_q. set_other e1.regions n q at.Ended ne ∙ same1 q ne out_q) (λ q ne h. set_other e1.regions n q at.Ended ne ∙ dropped1 q ne h)
             (inl (set_here e1.regions n at.Ended lt2)) in_n in_it refl
-            (set_length e1.regions n at.Ended ∙ (set_length (moved (drops (inside core s)) d.regions) n (at.Trying b (w ∷ rest)) ∙ drops_length (inside core s) d.regions))
+            (set_length e1.regions n at.Ended ∙ (set_length (moved (drops (inside core s)) d.regions) n (at.Trying b (w ∷ rest)) ∙
+            drops_length (inside core s) d.regions))
 
     stands_still : (n : ℕ) (d : Configuration) → Left n d → Piece d n
     stands_still n d left = no_step (machine core) corr Told told d (AtHome Others home stage) (Left n) left
@@ -281,7 +303,8 @@ module _ (core : Table) (tree : IsTree core) (deeper : (q s : ℕ) → Contains 
     by_standing n d _ out stands was in_n left = stands_still n d (skips n d left (λ inner. inr (stands, inl was)))
     by_standing n d _ over stands was in_n left = stands_still n d (skips n d left (λ inner. inl stands))
     by_standing n d _ (tries s w rest leaves_by) stands was in_n left = by_trying n d s w rest in_n left stands leaves_by
-    by_standing n d _ (forks s j b w rest held enters leaves_by direct) stands was in_n left = by_fork n d s j b w rest in_n left stands held enters leaves_by direct
+    by_standing n d _ (forks s j b w rest held enters leaves_by direct) stands was in_n left =
+        by_fork n d s j b w rest in_n left stands held enters leaves_by direct
 
     one : (n : ℕ) (d : Configuration) → Left (suc n) d → Piece d n
     one n d left =
@@ -292,7 +315,8 @@ module _ (core : Table) (tree : IsTree core) (deeper : (q s : ℕ) → Contains 
     all_from_number zero d left = stands_still zero d left
     all_from_number (suc n) d left =
         let step : Piece d n = one n d left in
-        segment_on (machine core) corr Told d (AtHome Others home stage) (λ last. AtHome Others home stage) (λ last. AtHome Others home stage) [] [] (Left n) (Left 0) step
+        segment_on (machine core) corr Told d (AtHome Others home stage) (λ last. AtHome Others home stage) (λ last. AtHome Others home stage) [] [] (Left n)
+        (Left 0) step
         (all_from_number n step.last step.reaches)
 
     begins : Left (length first.regions) first

@@ -1,5 +1,6 @@
 -- An assignment whose expression has a value touches its variable, and what the expression reads.
-use Rattle.std.proofs.Common.{◌≡◌, ℕ, ◌<◌, ◌⊎◌, inl, inr, ⊎_elim, Bool, true, false, not, ◌&&◌, Some, List, [], ◌∷◌, ◌++◌, length, unwrap_or, Contains, sym, subst, if◌then◌else◌}
+use Rattle.std.proofs.Common.{◌≡◌, ℕ, ◌<◌, ◌⊎◌, inl, inr, ⊎_elim, Bool, true, false, not, ◌&&◌, Some, List, [], ◌∷◌, ◌++◌, length, unwrap_or, Contains, sym}
+use Rattle.std.proofs.Common.{subst, if◌then◌else◌}
 use Rattle.sc_values.specs.declared.value.Value.{Value}
 use Rattle.sc_values.specs.declared.operator.BinaryOperator.{BinaryOperator}
 use Rattle.sc_values.specs.declared.operator.BinaryOperator.TheVariants as binary
@@ -11,7 +12,8 @@ use Rattle.sc_values.specs.declared.expression.Expr.TheOpen.{Expr-F}
 use Rattle.sc_values.specs.declared.expression.Expr.TheOpen as tree
 use Rattle.sc_values.specs.declared.expression.Expr.TheViews.{roll-Expr, out-Expr, out-roll-Expr}
 use Rattle.sc_values.specs.Expr.{value}
-use Rattle.sc_values.specs.Assignment.{Assignment, Inits, Combines, reads, is_read, is_variable, combination_of, assignment_of, assignment_of_root, access_of_assignment}
+use Rattle.sc_values.specs.Assignment.{Assignment, Inits, Combines, reads, is_read, is_variable, combination_of, assignment_of, assignment_of_root}
+use Rattle.sc_values.specs.Assignment.{access_of_assignment}
 use Rattle.sc_values.proofs.Induction.{induct}
 use Rattle.sc_values.proofs.Loading.{loads-unary, loads-binary}
 use Rattle.abort_expansion_laws.specs.Stages.{Touches}
@@ -40,7 +42,8 @@ behind_in : (xs ys : List ℕ) (y : ℕ) → Contains ys y → Contains (xs ++ y
 behind_in [] ys y h = h
 behind_in (z ∷ xs) ys y h = tail_in z y (xs ++ ys) (behind_in xs ys y h)
 
-combined_within : (x : ℕ) (f : BinaryOperator) (a b : Expr) → ReadsWithin x (roll-Expr (tree.Binary f a b)) (unwrap_or (combination_of f b) (Inits (roll-Expr (tree.Binary f a b))))
+combined_within : (x : ℕ) (f : BinaryOperator) (a b : Expr) → ReadsWithin
+    x (roll-Expr (tree.Binary f a b)) (unwrap_or (combination_of f b) (Inits (roll-Expr (tree.Binary f a b))))
 combined_within x f a b = by_operator f
   where
     fewer : (g : BinaryOperator) (y : ℕ) → Contains (reads b) y → Contains (reads (roll-Expr (tree.Binary g a b))) y
@@ -51,7 +54,8 @@ combined_within x f a b = by_operator f
 
     by_operator : (g : BinaryOperator) → ReadsWithin x (roll-Expr (tree.Binary g a b)) (unwrap_or (combination_of g b) (Inits (roll-Expr (tree.Binary g a b))))
     by_operator binary.Add = combines_within x (roll-Expr (tree.Binary binary.Add a b)) b combine.Add (fewer binary.Add)
-    by_operator binary.Subtract = combines_within x (roll-Expr (tree.Binary binary.Subtract a b)) (roll-Expr (tree.Unary unary.Negate b)) combine.Add (negated binary.Subtract)
+    by_operator binary.Subtract = combines_within x (roll-Expr (tree.Binary binary.Subtract a b)) (roll-Expr (tree.Unary unary.Negate b)) combine.Add
+        (negated binary.Subtract)
     by_operator binary.Multiply = combines_within x (roll-Expr (tree.Binary binary.Multiply a b)) b combine.Multiply (fewer binary.Multiply)
     by_operator binary.Min = combines_within x (roll-Expr (tree.Binary binary.Min a b)) b combine.Min (fewer binary.Min)
     by_operator binary.Max = combines_within x (roll-Expr (tree.Binary binary.Max a b)) b combine.Max (fewer binary.Max)
@@ -76,10 +80,12 @@ assigned_within = induct Within (record {
   of_load = λ z. rolled (tree.Load z) (λ x. inits_within x (roll-Expr (tree.Load z)));
   of_unary = λ f a h. rolled (tree.Unary f a) (λ x. inits_within x (roll-Expr (tree.Unary f a)));
   of_binary = λ f a b h g. rolled (tree.Binary f a b) (λ x.
-      by_test (is_variable x (out-Expr a) && not (is_read x b)) x (roll-Expr (tree.Binary f a b)) (unwrap_or (combination_of f b) (Inits (roll-Expr (tree.Binary f a b)))) (Inits (roll-Expr (tree.Binary f a b)))
+      by_test (is_variable x (out-Expr a) && not (is_read x b)) x (roll-Expr (tree.Binary f a b))
+      (unwrap_or (combination_of f b) (Inits (roll-Expr (tree.Binary f a b)))) (Inits (roll-Expr (tree.Binary f a b)))
       (combined_within x f a b) (inits_within x (roll-Expr (tree.Binary f a b))));
 })
 
-pub assigned_known : (x : ℕ) (e : Expr) (values : List Value) (v : Value) → value e values ≡ Some v → x < length values → (y : ℕ) → Touches (access_of_assignment x (assignment_of x e)) y → y < length values
+pub assigned_known : (x : ℕ) (e : Expr) (values : List Value) (v : Value) → value e values ≡ Some v → x < length values → (y : ℕ) →
+    Touches (access_of_assignment x (assignment_of x e)) y → y < length values
 assigned_known x e values v is there y touches =
     ⊎_elim (λ same. subst (λ z. z < length values) (sym same) there) (λ r. known e values v is y r) (assigned_within e x y touches)

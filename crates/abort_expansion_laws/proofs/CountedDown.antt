@@ -1,5 +1,6 @@
 -- A region that ended on entry counts down: the first of the steps by which what was entered settles.
-use Rattle.std.proofs.Common.{◌≡◌, ◌≢◌, ℕ, zero, suc, pos, ◌+◌, ◌<◌, ◌≤◌, ◌⊎◌, inl, inr, ⊎_elim, Bool, true, false, Option, Some, None, List, [], ◌∷◌, ◌++◌, map, length, slice_get, slice_set, unwrap_or, Contains, refl, sym, ap, subst, ◌∙◌, arith, if◌then◌else◌}
+use Rattle.std.proofs.Common.{◌≡◌, ◌≢◌, ℕ, zero, suc, pos, ◌+◌, ◌<◌, ◌≤◌, ◌⊎◌, inl, inr, ⊎_elim, Bool, true, false, Option, Some, None, List, [], ◌∷◌, ◌++◌}
+use Rattle.std.proofs.Common.{map, length, slice_get, slice_set, unwrap_or, Contains, refl, sym, ap, subst, ◌∙◌, arith, if◌then◌else◌}
 use Rattle.std.proofs.lemmas.Option.{same_Some, slice_get_past}
 use Rattle.sc_values.specs.declared.value.Value.{Value}
 use Rattle.sc_values.specs.declared.value.Value.TheVariants as value_is
@@ -22,14 +23,16 @@ use Rattle.abort_expansion_laws.proofs.Supplying.{climbs_step, silent_idle, sile
 use Rattle.abort_expansion_laws.proofs.LyingIn.{IsTree, around, holder, head_in, tail_in}
 use Rattle.abort_expansion_laws.proofs.TablesCorrespond.{IsThere}
 use Rattle.abort_expansion_laws.specs.CoreRows.{own, IsState, Images, CoreRows}
-use Rattle.abort_expansion_laws.specs.Related.{is_behind, Stands, outside, ended, left, trying, acting, entering, guarding, staying, within, behind, Watches, guards as watch_guards, waits, elsewhere, IsInside, open_inside, Stores}
+use Rattle.abort_expansion_laws.specs.Related.{is_behind, Stands, outside, ended, left, trying, acting, entering, guarding, staying, within, behind, Watches}
+use Rattle.abort_expansion_laws.specs.Related.{guards as watch_guards, waits, elsewhere, IsInside, open_inside, Stores}
 use Rattle.abort_expansion_laws.proofs.Unchanged.{get_same, get_other, stands_same, stands_other}
 use Rattle.abort_expansion_laws.proofs.Leaving.{set_length}
 use Rattle.abort_expansion_laws.proofs.StageReached.{stage_of, one_at_least}
 use Rattle.abort_expansion_laws.proofs.ImageSteps.{pair}
 use Rattle.abort_expansion_laws.proofs.CoreSteps.{takes, writes_last}
 use Rattle.abort_expansion_laws.proofs.CounterValues.{counted_value, counted_access}
-use Rattle.abort_expansion_laws.proofs.Pending.{Sound, IsStarting, Waits, settled, opening, starting, joining, ending, hidden, Covered, goes_in, still_going, Flagged, Pending, IsBusy, starts, opens, joins_then, Reached, behind_parts}
+use Rattle.abort_expansion_laws.proofs.Pending.{Sound, IsStarting, Waits, settled, opening, starting, joining, ending, hidden, Covered, goes_in, still_going}
+use Rattle.abort_expansion_laws.proofs.Pending.{Flagged, Pending, IsBusy, starts, opens, joins_then, Reached, behind_parts}
 use Rattle.abort_expansion_laws.proofs.SettledInOrder.{skips, Piece}
 use Rattle.abort_expansion_laws.proofs.StartingRegions.{Once, CounterRows, set_behind, opening_on, joining_on, starting_on, covered_on, waits_on}
 
@@ -63,7 +66,8 @@ module _ (k core : Table) (i : Images) (rows : CoreRows k core i) (c : Configura
 
   past_or_there : (t : ℕ) → (t ≡ 0) ⊎ (IsThere core t ⊎ (suc (length core.regions) ≤ t))
   past_or_there zero = inl refl
-  past_or_there (suc t) = ⊎_elim (λ lt. inr (inl (omega arith, omega (lt, arith)))) (λ past. inr (inr (omega (past, arith)))) (in_or_past t (length core.regions))
+  past_or_there (suc t) = ⊎_elim (λ lt. inr (inl (omega arith, omega (lt, arith)))) (λ past. inr (inr (omega (past, arith))))
+      (in_or_past t (length core.regions))
     where
       in_or_past : (m n : ℕ) → (m < n) ⊎ (n ≤ m)
       in_or_past m n = grind arith
@@ -71,11 +75,13 @@ module _ (k core : Table) (i : Images) (rows : CoreRows k core i) (c : Configura
   pub all_calm : (t : ℕ) → has_to_guard (standing_of d t) ≡ false
   all_calm t = by_place (past_or_there t)
     where
-      by_sort : ((r : ℕ) × IsThere k r × (t ≡ i.thread_of r)) ⊎ ((o : ℕ) × IsState k o × (has_aborts (own k o) ≡ true) × (t ≡ i.watcher_of o)) → has_to_guard (standing_of d t) ≡ false
+      by_sort : ((r : ℕ) × IsThere k r × (t ≡ i.thread_of r)) ⊎ ((o : ℕ) × IsState k o × (has_aborts (own k o) ≡ true) × (t ≡ i.watcher_of o)) →
+          has_to_guard (standing_of d t) ≡ false
       by_sort (inl r) = ap (λ z. has_to_guard (standing_of d z)) r.2 ∙ waits_calm r.0 (p.waits r.0 r.1)
       by_sort (inr o) =
           ap (λ z. has_to_guard (standing_of d z)) o.3
-          ∙ ⊎_elim (λ w. watch_calm o.0 (standing_of c (holder k o.0)) (standing_of d (i.watcher_of o.0)) w) (λ hides. ap has_to_guard hides.0) (p.watchers o.0 o.1 o.2)
+          ∙ ⊎_elim (λ w. watch_calm o.0 (standing_of c (holder k o.0)) (standing_of d (i.watcher_of o.0)) w) (λ hides. ap has_to_guard hides.0)
+          (p.watchers o.0 o.1 o.2)
 
       by_place : (t ≡ 0) ⊎ (IsThere core t ⊎ (suc (length core.regions) ≤ t)) → has_to_guard (standing_of d t) ≡ false
       by_place (inl e) = ap (λ z. has_to_guard (standing_of d z)) e ∙ ap has_to_guard p.no_core
@@ -88,7 +94,8 @@ unguarded : (core : Table) (d : Configuration) → ((t : ℕ) → has_to_guard (
 unguarded core d none [] = refl
 unguarded core d none (s ∷ zs) = rw (none (holder core s), unguarded core d none zs) refl
 
-module _ (k core : Table) (i : Images) (rows : CoreRows k core i) (tree : IsTree k) (counts : ℕ → Bool) (written_at : ℕ → ℕ) (Told : Configuration → Entry → Type 0)
+module _ (k core : Table) (i : Images) (rows : CoreRows k core i) (tree : IsTree k) (counts : ℕ → Bool) (written_at : ℕ → ℕ)
+    (Told : Configuration → Entry → Type 0)
     (told : (d : Configuration) (t : ℕ) (stage : Option (ℕ × ℕ)) (a : Access) → Told d (Silent t stage a))
     (deeper : (q s : ℕ) → Contains (around k q) s → holder k s < q)
     (children : (s r : ℕ) → Contains (state_at k s).regions r → around k r ≡ s ∷ around k (holder k s))
@@ -136,7 +143,11 @@ module _ (k core : Table) (i : Images) (rows : CoreRows k core i) (tree : IsTree
   d1 = record { variables = d.variables; regions = slice_set d.regions g (at.Acting st.first (count_down x ∷ []) st.place) }
 
   abbrev after_counting : ℕ → Configuration
-  after_counting m = record { variables = slice_set d.variables x (value_is.Int (pos m)); regions = slice_set (slice_set d.regions g (at.Acting st.first (count_down x ∷ []) st.place)) g at.Ended }
+  after_counting m = record {
+    variables = slice_set d.variables x (value_is.Int (pos m));
+    regions =
+        slice_set (slice_set d.regions g (at.Acting st.first (count_down x ∷ []) st.place)) g at.Ended;
+  }
 
   image_there : IsThere core g
   image_there = (rows.region r there).there
@@ -149,7 +160,8 @@ module _ (k core : Table) (i : Images) (rows : CoreRows k core i) (tree : IsTree
     e = after_counting m
 
     here : standing_of e g ≡ at.Ended
-    here = stands_same d1 e g at.Ended refl (let lt = in_core in let size = set_length d.regions g (at.Acting st.first (count_down x ∷ []) st.place) in omega (lt, size, arith))
+    here = stands_same d1 e g at.Ended refl (let lt = in_core in let size = set_length d.regions g (at.Acting st.first (count_down x ∷ []) st.place) in
+        omega (lt, size, arith))
 
     same : (t : ℕ) → t ≢ g → standing_of e t ≡ standing_of d t
     same t ne = stands_other d1 e g t at.Ended refl ne ∙ stands_other d d1 g t (at.Acting st.first (count_down x ∷ []) st.place) refl ne
@@ -245,7 +257,8 @@ module _ (k core : Table) (i : Images) (rows : CoreRows k core i) (tree : IsTree
         counter =
             ⊎_elim
             (λ f. subst (λ z. Stores k core i next.variables (i.flags_of z).counter (still_going k core i c next (state_at k z).regions)) (sym f)
-            (subst (λ o. Stores k core i next.variables o (still_going k core i c next regions)) (sym st.counts) (now_stored ∙ ap (λ z. Some (value_is.Int (pos z))) (sym left_now))))
+            (subst (λ o. Stores k core i next.variables o (still_going k core i c next regions)) (sym st.counts)
+            (now_stored ∙ ap (λ z. Some (value_is.Int (pos z))) (sym left_now))))
             (λ ne. subst (Stores k core i next.variables (i.flags_of u).counter) (sym (none_less m (state_at k u).regions (not_child u ne)))
             (other_stored (i.flags_of u).counter (still_going k core i c d (state_at k u).regions)
             (λ y is f. ne (sym (counters.counter_of u y is) ∙ (ap rows.of_flag f ∙ counters.counter_of s x st.counts))) down.counter)) (same_or_not u s);
@@ -271,7 +284,8 @@ module _ (k core : Table) (i : Images) (rows : CoreRows k core i) (tree : IsTree
           let wrong : true ≡ false = sym (counters.counter_joins s x st.counts) ∙ parts.2 in absurd cc
 
   settled_now : Stands k core i c r (standing_of c r) (standing_of next g)
-  settled_now = subst (λ z. Stands k core i c r z (standing_of next g)) (sym st.over_in_chart) (subst (Stands k core i c r at.Ended) (sym (here m)) (ended not_behind))
+  settled_now = subst (λ z. Stands k core i c r z (standing_of next g)) (sym st.over_in_chart)
+      (subst (Stands k core i c r at.Ended) (sym (here m)) (ended not_behind))
 
   back : (t : ℕ) → t ≢ g → standing_of d t ≡ standing_of next t
   back t ne = sym (same m t ne)
@@ -303,11 +317,13 @@ module _ (k core : Table) (i : Images) (rows : CoreRows k core i) (tree : IsTree
         done = λ q q_there lt.
             subst (Stands k core i c q (standing_of c q)) (sym (thread_other m q (λ e. absurd (omega (lt, e, arith))))) (p.done q q_there lt);
         watchers = λ o o_there has.
-            let kept : standing_of next (i.watcher_of o) ≡ standing_of d (i.watcher_of o) = same m (i.watcher_of o) (λ e. (rows.watcher o o_there has).no_thread r (sym e)) in
+            let kept : standing_of next (i.watcher_of o) ≡ standing_of d (i.watcher_of o) =
+            same m (i.watcher_of o) (λ e. (rows.watcher o o_there has).no_thread r (sym e)) in
             ⊎_elim (λ watching. inl (subst (Watches k core i o (standing_of c (holder k o))) (sym kept) watching))
             (λ hides. inr (kept ∙ hides.0, covered_on k core i rows c d next r (same m) st.over_in_chart o hides.1)) (p.watchers o o_there has);
         flags = λ u u_there inside_u.
-            ⊎_elim (λ down. inl (flagged_now u down)) (λ covered. inr (covered_on k core i rows c d next r (same m) st.over_in_chart u covered)) (p.flags u u_there inside_u);
+            ⊎_elim (λ down. inl (flagged_now u down)) (λ covered. inr (covered_on k core i rows c d next r (same m) st.over_in_chart u covered))
+            (p.flags u u_there inside_u);
         late = λ u o. p.late u (opening_on k core i rows c next d r back st.over_in_chart u o);
         ready = λ u o.
             let before = p.ready u (opening_on k core i rows c next d r back st.over_in_chart u o) in
@@ -332,7 +348,8 @@ module _ (k core : Table) (i : Images) (rows : CoreRows k core i) (tree : IsTree
   calm_too : (t : ℕ) → has_to_guard (standing_of d1 t) ≡ false
   calm_too t =
       ⊎_elim (λ e. ap (λ z. has_to_guard (standing_of d1 z)) e ∙ ap has_to_guard here1)
-      (λ ne. ap has_to_guard (stands_other d d1 g t (at.Acting st.first (count_down x ∷ []) st.place) refl ne) ∙ all_calm k core i rows c r d p t) (same_or_not t g)
+      (λ ne. ap has_to_guard (stands_other d d1 g t (at.Acting st.first (count_down x ∷ []) st.place) refl ne) ∙ all_calm k core i rows c r d p t)
+      (same_or_not t g)
     where
       here1 : standing_of d1 g ≡ at.Acting st.first (count_down x ∷ []) st.place
       here1 = stands_same d d1 g (at.Acting st.first (count_down x ∷ []) st.place) refl in_core
@@ -383,7 +400,8 @@ module _ (k core : Table) (i : Images) (rows : CoreRows k core i) (tree : IsTree
   busy_before : (q u : ℕ) → IsBusy k core i c next q u → IsBusy k core i c d q u
   busy_before q u (starts o) =
       starts (starting_on k core i rows c next d r back q u
-      (λ e. let wrong : at.Trying o.first (go true None (count_down o.counter ∷ []) o.place ∷ []) ≡ at.Ended = sym o.counting ∙ (ap (λ z. standing_of next (i.thread_of z)) e ∙ here m) in absurd cc) o)
+      (λ e. let wrong : at.Trying o.first (go true None (count_down o.counter ∷ []) o.place ∷ []) ≡ at.Ended = sym o.counting ∙
+      (ap (λ z. standing_of next (i.thread_of z)) e ∙ here m) in absurd cc) o)
   busy_before q u (opens held o) = opens held (opening_on k core i rows c next d r back st.over_in_chart u o)
   busy_before q u (joins_then held o) = joins_then held (joining_on k core i rows c next d r back st.over_in_chart u o)
 
@@ -420,7 +438,8 @@ module _ (k core : Table) (i : Images) (rows : CoreRows k core i) (tree : IsTree
         charted = refl;
         fits = (silent_idle corr g None, (fits, tt));
         climbs = λ rest climbs.
-            climbs_step corr (Reached k core i c d) Mid (Silent g None no_access) (Silent g at_one (combines x combine.Add) ∷ rest) (λ h n e. absurd cc) (λ h n ne before. (ne, before))
+            climbs_step corr (Reached k core i c d) Mid (Silent g None no_access) (Silent g at_one (combines x combine.Add) ∷ rest) (λ h n e. absurd cc)
+            (λ h n ne before. (ne, before))
             (climbs_step corr Mid (Reached k core i c next) (Silent g at_one (combines x combine.Add)) rest own_stage others_stay climbs);
         reaches = skips k core i rows tree counts written_at Told deeper c sound r next still_pending (λ _. settled_now);
       }

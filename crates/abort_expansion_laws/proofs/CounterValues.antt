@@ -29,7 +29,8 @@ use Rattle.abort_expansion_laws.proofs.FlagAccess.{number_reads}
 pub one_below : (m : ℕ) → m < 2147483648 → int_wrap w32 (pos (suc m) -ℤ pos 1) ≡ pos m
 one_below m few = ap (int_wrap w32) (-ℤ_one (pos (suc m))) ∙ int_wrap_fits w32 (pos m) (fits_signed_from_abs w32 (pos m) few)
 
-pub counted_value : (x m : ℕ) (values : List Value) → m < 2147483648 → slice_get values x ≡ Some (value_is.Int (pos (suc m))) → value_of (count_down x).value values ≡ Some (value_is.Int (pos m))
+pub counted_value : (x m : ℕ) (values : List Value) → m < 2147483648 → slice_get values x ≡ Some (value_is.Int (pos (suc m))) →
+    value_of (count_down x).value values ≡ Some (value_is.Int (pos m))
 counted_value x m values few is = of_flag binary.Subtract x (suc m) 1 values is ∙ ap (λ z. Some (value_is.Int z)) (one_below m few)
 
 minus_reads : reads (roll-Expr (tree.Unary unary.Negate (number 1))) ≡ []
@@ -49,7 +50,8 @@ rolled x = roll-Expr (tree.Binary binary.Subtract (expr.Load x) (number 1))
 
 pub counted_access : (x : ℕ) → access_of_assignment x (assignment_of x (count_down x).value) ≡ combines x combine.Add
 counted_access x =
-    let one : assignment_of_root x (rolled x) (tree.Binary binary.Subtract (expr.Load x) (number 1)) ≡ decreased (number 1) = rw (is_itself x, not_read x) refl in
+    let one : assignment_of_root x (rolled x) (tree.Binary binary.Subtract (expr.Load x) (number 1)) ≡ decreased (number 1) =
+    rw (is_itself x, not_read x) refl in
     ap (λ e. access_of_assignment x (assignment_of x e)) (sym (rolls-Binary binary.Subtract (expr.Load x) (number 1)))
     ∙ (ap (λ y. access_of_assignment x (assignment_of_root x (rolled x) y)) (out-roll-Expr (tree.Binary binary.Subtract (expr.Load x) (number 1)))
     ∙ (ap (access_of_assignment x) one ∙ ap (λ rs. record { reads = rs; writes = Update x combine.Add }) minus_reads))

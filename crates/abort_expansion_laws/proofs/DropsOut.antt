@@ -1,5 +1,6 @@
 -- An abort is taken: all that is inside its superstate is dropped, in the chart and in the core. What corresponds still does.
-use Rattle.std.proofs.Common.{◌≡◌, ◌≢◌, ℕ, zero, suc, ◌<◌, ◌≤◌, ◌⊎◌, inl, inr, ⊎_elim, Bool, true, false, List, [], ◌∷◌, ◌++◌, map, length, slice_set, Contains, refl, sym, ap, subst, ◌∙◌, arith}
+use Rattle.std.proofs.Common.{◌≡◌, ◌≢◌, ℕ, zero, suc, ◌<◌, ◌≤◌, ◌⊎◌, inl, inr, ⊎_elim, Bool, true, false, List, [], ◌∷◌, ◌++◌, map, length, slice_set}
+use Rattle.std.proofs.Common.{Contains, refl, sym, ap, subst, ◌∙◌, arith}
 use Rattle.std.specs.List.{list_all, list_any}
 use Rattle.sc_values.specs.declared.value.Value.{Value}
 use Rattle.core_charts.specs.declared.region.Transition.{Transition}
@@ -17,7 +18,9 @@ use Rattle.abort_expansion_laws.proofs.LyingIn.{IsTree, around, holder, none_in,
 use Rattle.abort_expansion_laws.proofs.TablesCorrespond.{IsThere, contains_map}
 use Rattle.abort_expansion_laws.specs.CoreRows.{own, IsState, Images, CoreRows, WatcherImage}
 use Rattle.abort_expansion_laws.proofs.Unchanged.{none_among, both_ways}
-use Rattle.abort_expansion_laws.specs.Related.{IsCalm, calm_outside, front, held_back, is_behind, Stands, outside, ended, left, trying, acting, entering, guarding, staying, within, behind, Watches, elsewhere, IsInside, guarded, open_inside, Stores, FlagsAreDown, still_in, not_ended, Related}
+use Rattle.abort_expansion_laws.specs.Related.{IsCalm, calm_outside, front, held_back, is_behind, Stands, outside, ended, left, trying, acting, entering}
+use Rattle.abort_expansion_laws.specs.Related.{guarding, staying, within, behind, Watches, elsewhere, IsInside, guarded, open_inside, Stores, FlagsAreDown}
+use Rattle.abort_expansion_laws.specs.Related.{still_in, not_ended, Related}
 use Rattle.abort_expansion_laws.proofs.StageReached.{inside_in, holds_other}
 use Rattle.abort_expansion_laws.proofs.Leaving.{drops, at_number, set_here, set_other, set_length, drops_in, drops_out, drops_length}
 use Rattle.abort_expansion_laws.proofs.AllLeave.{inside_around}
@@ -32,7 +35,8 @@ any_alike : (p q : ℕ → Bool) (xs : List ℕ) → ((x : ℕ) → Contains xs 
 any_alike p q [] h = refl
 any_alike p q (x ∷ xs) h = rw (h x (head_in x xs), any_alike p q xs (λ y tail. h y (tail_in x y xs tail))) refl
 
-module _ (k core : Table) (i : Images) (rows : CoreRows k core i) (tree : IsTree k) (children : (s r : ℕ) → Contains (state_at k s).regions r → around k r ≡ s ∷ around k (holder k s)) where
+module _ (k core : Table) (i : Images) (rows : CoreRows k core i) (tree : IsTree k)
+    (children : (s r : ℕ) → Contains (state_at k s).regions r → around k r ≡ s ∷ around k (holder k s)) where
   -- region r leaves superstate o for y, its thread for z; whatever is inside of o or of its fork is dropped
   pub record DropsOut (c d : Configuration) (r o : ℕ) (y z : Standing) (c' d' : Configuration) : Type 0 where
     pub there : IsThere k r
@@ -80,11 +84,13 @@ module _ (k core : Table) (i : Images) (rows : CoreRows k core i) (tree : IsTree
 
     gone : (q : ℕ) → IsThere k q → In q → standing_of c' q ≡ at.Outside
     gone q there h =
-        ap (λ zs. at_number zs q) go.chart ∙ (set_other (moved (drops (inside k o)) c.regions) r q y (not_r q h) ∙ drops_in (inside k o) c.regions q (inside_in k o q there h))
+        ap (λ zs. at_number zs q) go.chart ∙ (set_other (moved (drops (inside k o)) c.regions) r q y (not_r q h) ∙ drops_in
+        (inside k o) c.regions q (inside_in k o q there h))
 
     same : (q : ℕ) → q ≢ r → ¬ In q → standing_of c' q ≡ standing_of c q
     same q ne out_q =
-        ap (λ zs. at_number zs q) go.chart ∙ (set_other (moved (drops (inside k o)) c.regions) r q y ne ∙ drops_out (inside k o) c.regions q (out_of_it q out_q))
+        ap (λ zs. at_number zs q) go.chart ∙ (set_other (moved (drops (inside k o)) c.regions) r q y ne ∙
+        drops_out (inside k o) c.regions q (out_of_it q out_q))
 
     -- ---- the core's side
 
@@ -118,7 +124,8 @@ module _ (k core : Table) (i : Images) (rows : CoreRows k core i) (tree : IsTree
 
     ends_alike : (q : ℕ) → ¬ In q → has_ended (standing_of c' q) ≡ has_ended (standing_of c q)
     ends_alike q out_q =
-        ⊎_elim (λ e. ap (λ p. has_ended (standing_of c' p)) e ∙ (ap has_ended here ∙ (go.not_over ∙ (sym (inside_not_over (standing_of c r) go.was_inside) ∙ ap (λ p. has_ended (standing_of c p)) (sym e)))))
+        ⊎_elim (λ e. ap (λ p. has_ended (standing_of c' p)) e ∙ (ap has_ended here ∙
+        (go.not_over ∙ (sym (inside_not_over (standing_of c r) go.was_inside) ∙ ap (λ p. has_ended (standing_of c p)) (sym e)))))
         (λ ne. ap has_ended (same q ne out_q)) (same_or_not q r)
 
     -- the regions of a superstate that is neither o nor inside of it
@@ -128,7 +135,8 @@ module _ (k core : Table) (i : Images) (rows : CoreRows k core i) (tree : IsTree
 
     behind_far : (s : ℕ) → s ≢ o → ¬ In (holder k s) → is_behind k core i c' s ≡ is_behind k core i c s
     behind_far s ne out_s =
-        rw (all_alike (λ q. has_ended (standing_of c' q)) (λ q. has_ended (standing_of c q)) (state_at k s).regions (λ q child. ends_alike q (far s q ne out_s child))) refl
+        rw (all_alike (λ q. has_ended (standing_of c' q)) (λ q. has_ended (standing_of c q)) (state_at k s).regions
+        (λ q child. ends_alike q (far s q ne out_s child))) refl
 
     as_many : (rs : List ℕ) → ((q : ℕ) → Contains rs q → ¬ In q) → still_in k core i c' rs ≡ still_in k core i c rs
     as_many [] outs = refl
@@ -137,18 +145,21 @@ module _ (k core : Table) (i : Images) (rows : CoreRows k core i) (tree : IsTree
     -- who is there and not inside of o stands in no superstate that r holds
     not_by_r : (q s : ℕ) → IsThere k q → standing_of c q ≢ at.Outside → ¬ In q → Contains (around k q) s → holder k s ≢ r
     not_by_r q s there present out_q around_it e =
-        let inner : IsInside k core i s (standing_of c r) = subst (λ p. IsInside k core i s (standing_of c p)) e (related.enclosed q s there present around_it) in
+        let inner : IsInside k core i s (standing_of c r) = subst (λ p. IsInside k core i s (standing_of c p)) e
+        (related.enclosed q s there present around_it) in
         out_q (subst (Contains (around k q)) (only_o s (standing_of c r) go.was_inside inner) around_it)
 
     outer_out : (q s : ℕ) → ¬ In q → Contains (around k q) s → ¬ In (holder k s)
     outer_out q s out_q around_it h = out_q (around_around k tree (around k q) q s o refl around_it h)
 
-    holder_same : (q s : ℕ) → IsThere k q → standing_of c q ≢ at.Outside → ¬ In q → Contains (around k q) s → standing_of c' (holder k s) ≡ standing_of c (holder k s)
+    holder_same : (q s : ℕ) → IsThere k q → standing_of c q ≢ at.Outside → ¬ In q → Contains (around k q) s →
+        standing_of c' (holder k s) ≡ standing_of c (holder k s)
     holder_same q s there present out_q around_it = same (holder k s) (not_by_r q s there present out_q around_it) (outer_out q s out_q around_it)
 
     guarded_alike : (q : ℕ) → IsThere k q → standing_of c q ≢ at.Outside → ¬ In q → is_guarded k c' (around k q) ≡ is_guarded k c (around k q)
     guarded_alike q there present out_q =
-        any_alike (λ s. guards (standing_of c' (holder k s))) (λ s. guards (standing_of c (holder k s))) (around k q) (λ s around_it. ap guards (holder_same q s there present out_q around_it))
+        any_alike (λ s. guards (standing_of c' (holder k s))) (λ s. guards (standing_of c (holder k s))) (around k q)
+        (λ s around_it. ap guards (holder_same q s there present out_q around_it))
 
     front_alike : (b : Bool) (q : ℕ) → IsThere k q → standing_of c q ≢ at.Outside → ¬ In q → front k core i b c' q ≡ front k core i b c q
     front_alike b q there present out_q = rw (guarded_alike q there present out_q) refl
@@ -221,9 +232,12 @@ module _ (k core : Table) (i : Images) (rows : CoreRows k core i) (tree : IsTree
 
         its : u ≡ o → Watches k core i u (standing_of c' (holder k u)) (standing_of d' (i.watcher_of u))
         its e =
-            subst (Watches k core i u (standing_of c' (holder k u))) (sym (go.dropped (i.watcher_of u) (subst (λ zs. Contains zs (i.main_of o)) (sym monitor.encloses)
-            (subst (λ v. Contains (i.main_of u ∷ around core (i.thread_of (holder k u))) (i.main_of v)) e (head_in (i.main_of u) (around core (i.thread_of (holder k u))))))))
-            (subst (λ w. Watches k core i u w at.Outside) (sym (ap (λ v. standing_of c' (holder k v)) e ∙ (ap (standing_of c') go.held ∙ here))) (elsewhere y (y_no_guard u) (y_no_within u)))
+            subst (Watches k core i u (standing_of c' (holder k u))) (sym
+            (go.dropped (i.watcher_of u) (subst (λ zs. Contains zs (i.main_of o)) (sym monitor.encloses)
+            (subst (λ v. Contains (i.main_of u ∷ around core (i.thread_of (holder k u))) (i.main_of v)) e
+            (head_in (i.main_of u) (around core (i.thread_of (holder k u))))))))
+            (subst (λ w. Watches k core i u w at.Outside) (sym (ap (λ v. standing_of c' (holder k v)) e ∙ (ap (standing_of c') go.held ∙ here)))
+            (elsewhere y (y_no_guard u) (y_no_within u)))
 
         watcher_out : u ≢ o → ¬ In (holder k u) → ¬ Contains (around core (i.watcher_of u)) (i.main_of o)
         watcher_out ne out_h h =
@@ -237,7 +251,8 @@ module _ (k core : Table) (i : Images) (rows : CoreRows k core i) (tree : IsTree
         by_r ne e =
             subst (Watches k core i u (standing_of c' (holder k u))) (sym (unmoved ne (λ h. r_out (subst In e h))))
             (subst (λ w. Watches k core i u w (standing_of d (i.watcher_of u))) (sym (ap (standing_of c') e ∙ here))
-            (watch_other k core i u (standing_of c r) (standing_of d (i.watcher_of u)) y (subst (λ p. Watches k core i u (standing_of c p) (standing_of d (i.watcher_of u))) e (related.watchers u there has))
+            (watch_other k core i u (standing_of c r) (standing_of d (i.watcher_of u)) y
+            (subst (λ p. Watches k core i u (standing_of c p) (standing_of d (i.watcher_of u))) e (related.watchers u there has))
             (guards_o u (standing_of c r) go.was_inside ne) (within_o u (standing_of c r) go.was_inside ne) (y_no_guard u) (y_no_within u)))
 
         out_no_guard : (v : ℕ) (tests : List Transition) → at.Outside ≢ at.Guarding v tests
@@ -247,7 +262,8 @@ module _ (k core : Table) (i : Images) (rows : CoreRows k core i) (tree : IsTree
         out_no_within v tests e = absurd cc
 
         holder_in_out : In (holder k u) → standing_of c' (holder k u) ≡ at.Outside
-        holder_in_out h = ⊎_elim (λ there_q. gone (holder k u) there_q h) (λ none. absurd (none_in o (subst (λ zs. Contains zs o) none h))) (there_or_bare (holder k u))
+        holder_in_out h = ⊎_elim (λ there_q. gone (holder k u) there_q h) (λ none. absurd (none_in o (subst (λ zs. Contains zs o) none h)))
+            (there_or_bare (holder k u))
           where
             there_or_bare : (q : ℕ) → IsThere k q ⊎ (around k q ≡ [])
             there_or_bare zero = inr refl
@@ -262,7 +278,8 @@ module _ (k core : Table) (i : Images) (rows : CoreRows k core i) (tree : IsTree
         inside_it : u ≢ o → In (holder k u) → Watches k core i u (standing_of c' (holder k u)) (standing_of d' (i.watcher_of u))
         inside_it ne h =
             subst (Watches k core i u (standing_of c' (holder k u)))
-            (sym (go.dropped (i.watcher_of u) (subst (λ zs. Contains zs (i.main_of o)) (sym monitor.encloses) (tail_in (i.main_of u) (i.main_of o) (around core (i.thread_of (holder k u))) (in_core (holder k u) h)))))
+            (sym (go.dropped (i.watcher_of u) (subst (λ zs. Contains zs (i.main_of o)) (sym monitor.encloses)
+            (tail_in (i.main_of u) (i.main_of o) (around core (i.thread_of (holder k u))) (in_core (holder k u) h)))))
             (subst (λ w. Watches k core i u w at.Outside) (sym (holder_in_out h)) (elsewhere at.Outside (out_no_guard u) (out_no_within u)))
 
         outside_it : u ≢ o → holder k u ≢ r → ¬ In (holder k u) → Watches k core i u (standing_of c' (holder k u)) (standing_of d' (i.watcher_of u))
@@ -285,7 +302,9 @@ module _ (k core : Table) (i : Images) (rows : CoreRows k core i) (tree : IsTree
       where
         gone_in : (q : ℕ) → In q → standing_of c' q ≡ at.Outside
         gone_in zero h = absurd (none_in o h)
-        gone_in (suc j) h = ⊎_elim (λ lt. gone (suc j) (omega arith, lt) h) (λ past. absurd (none_in o (subst (λ zs. Contains zs o) (nothing_around k j (omega (past, arith))) h))) (in_or_past (suc j) (suc (length k.regions)))
+        gone_in (suc j) h = ⊎_elim (λ lt. gone (suc j) (omega arith, lt) h)
+            (λ past. absurd (none_in o (subst (λ zs. Contains zs o) (nothing_around k j (omega (past, arith))) h)))
+            (in_or_past (suc j) (suc (length k.regions)))
           where
             in_or_past : (m n : ℕ) → (m < n) ⊎ (n ≤ m)
             in_or_past m n = grind arith
@@ -321,14 +340,16 @@ module _ (k core : Table) (i : Images) (rows : CoreRows k core i) (tree : IsTree
     enclosed_still : (q s : ℕ) → IsThere k q → standing_of c' q ≢ at.Outside → Contains (around k q) s → IsInside k core i s (standing_of c' (holder k s))
     enclosed_still q s there present around_it =
         ⊎_elim
-        (λ e. subst (IsInside k core i s) (sym (same (holder k s) (λ f. holds_other k tree q s around_it (f ∙ sym e)) (outer_out q s (λ h. present_there q present h) around_it)))
+        (λ e. subst (IsInside k core i s) (sym (same (holder k s) (λ f. holds_other k tree q s around_it (f ∙ sym e))
+        (outer_out q s (λ h. present_there q present h) around_it)))
         (related.enclosed q s there (λ was. r_was_there (ap (standing_of c) (sym e) ∙ was)) around_it))
         (λ ne.
         let out_q : ¬ In q = λ h. present_there q present h in
         let was : standing_of c q ≢ at.Outside = still_there q present ne in
         subst (IsInside k core i s) (sym (holder_same q s there was out_q around_it)) (related.enclosed q s there was around_it)) (same_or_not q r)
 
-    opened_still : (s q : ℕ) → IsState k s → IsInside k core i s (standing_of c' (holder k s)) → Contains (state_at k s).regions q → standing_of c' q ≢ at.Outside
+    opened_still : (s q : ℕ) → IsState k s → IsInside k core i s (standing_of c' (holder k s)) → Contains (state_at k s).regions q →
+        standing_of c' q ≢ at.Outside
     opened_still s q there inner child is =
         let holds : Holds s = holds_before s inner in
         ⊎_elim (λ e. go.is_there (sym here ∙ (ap (standing_of c') (sym e) ∙ is)))
@@ -346,8 +367,10 @@ module _ (k core : Table) (i : Images) (rows : CoreRows k core i) (tree : IsTree
         own_step : q ≡ r → ⊥
         own_step e =
             let around_r : Contains (around k r) s = subst (λ p. Contains (around k p) s) e around_it in
-            let kept : standing_of c' (holder k s) ≡ standing_of c (holder k s) = same (holder k s) (holds_other k tree r s around_r) (outer_out r s r_out around_r) in
-            both_ways (guards (standing_of c (holder k s))) (ap guards (sym kept) ∙ guarded_by) (none_among (λ v. guards (standing_of c (holder k v))) (around k r) s go.free around_r)
+            let kept : standing_of c' (holder k s) ≡ standing_of c (holder k s) =
+            same (holder k s) (holds_other k tree r s around_r) (outer_out r s r_out around_r) in
+            both_ways (guards (standing_of c (holder k s))) (ap guards (sym kept) ∙ guarded_by)
+            (none_among (λ v. guards (standing_of c (holder k v))) (around k r) s go.free around_r)
 
         inner : In q → IsCalm (standing_of c' q)
         inner h = subst IsCalm (sym (gone q q_there h)) calm_outside
@@ -369,7 +392,8 @@ module _ (k core : Table) (i : Images) (rows : CoreRows k core i) (tree : IsTree
           more = go.more;
           variables = go.variables;
           flag_count = go.flag_count;
-          chart_regions = ap length go.chart ∙ (set_length (moved (drops (inside k o)) c.regions) r y ∙ (drops_length (inside k o) c.regions ∙ related.chart_regions));
+          chart_regions = ap length go.chart ∙ (set_length (moved (drops (inside k o)) c.regions) r y ∙
+              (drops_length (inside k o) c.regions ∙ related.chart_regions));
           core_regions = go.size ∙ related.core_regions;
           values = go.values;
           no_chart = same 0 (not_zero r go.there.0) (λ h. none_in o h) ∙ related.no_chart;

@@ -30,6 +30,7 @@ module _ (n : Machine) (k : Correspondence) (Told : n.Configuration → Entry �
   each_spared (Image q b ∷ log) d e follows keeps = each_spared log follows.2.0 e follows.2.2 (kept d follows.2.0 (k.thread_of q) keeps follows.2.1)
   each_spared (Silent t at b ∷ log) d e follows keeps = each_spared log follows.2.0 e follows.2.2 (kept d follows.2.0 t keeps follows.2.1)
   each_spared (Watched r g stage a ∷ log) d e follows keeps = (
-    λ first. spared_along r a log follows.2.0 e follows.2.2 (begins r g a d follows.2.0 keeps (subst (λ s. Told d (Watched r g s a)) first follows.1) follows.2.1),
+    λ first. spared_along r a log follows.2.0 e follows.2.2 (begins r g a d follows.2.0 keeps (subst (λ s. Told d (Watched r g s a)) first follows.1)
+        follows.2.1),
     each_spared log follows.2.0 e follows.2.2 (kept d follows.2.0 g keeps follows.2.1),
   )

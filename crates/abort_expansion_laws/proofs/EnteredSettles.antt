@@ -33,12 +33,14 @@ use Rattle.abort_expansion_laws.proofs.ForkOpened.{opened_up}
 
 -- ---- what was entered settles
 
-module _ (k core : Table) (i : Images) (rows : CoreRows k core i) (tree : IsTree k) (core_tree : IsTree core) (counts : ℕ → Bool) (written_at : ℕ → ℕ) (Told : Configuration → Entry → Type 0)
+module _ (k core : Table) (i : Images) (rows : CoreRows k core i) (tree : IsTree k) (core_tree : IsTree core) (counts : ℕ → Bool) (written_at : ℕ → ℕ)
+    (Told : Configuration → Entry → Type 0)
     (told : (d : Configuration) (t : ℕ) (stage : Option (ℕ × ℕ)) (a : Access) → Told d (Silent t stage a))
     (deeper : (q s : ℕ) → Contains (around k q) s → holder k s < q)
     (children : (s r : ℕ) → Contains (state_at k s).regions r → around k r ≡ s ∷ around k (holder k s))
     (core_children : (s t : ℕ) → Contains (state_at core s).regions t → IsThere core t × (around core t ≡ s ∷ around core (holder core s)))
-    (more : OpeningRows k core i rows) (fork_rows : ForkRows k core i) (opened_rows : OpenedRows k core i) (counters : CounterRows k core i rows counts written_at)
+    (more : OpeningRows k core i rows) (fork_rows : ForkRows k core i) (opened_rows : OpenedRows k core i)
+    (counters : CounterRows k core i rows counts written_at)
     (strong_of : (s x : ℕ) → (i.flags_of s).strong ≡ Some x → rows.of_flag x ≡ s) (strong_at : (s x : ℕ) → (i.flags_of s).strong ≡ Some x → written_at x ≡ 0)
     (super_there : (q s : ℕ) → IsThere k q → Contains (around k q) s → IsState k s)
     (c : Configuration) (sound : Sound k core i c) where
@@ -46,7 +48,8 @@ module _ (k core : Table) (i : Images) (rows : CoreRows k core i) (tree : IsTree
   steps =
       record {
         starts = λ n d p there s o. counted_down k core i rows tree counts written_at Told told deeper children counters c sound n d p there s o;
-        joins = λ n d p there s held o. joined_up k core i rows tree counts written_at Told told deeper core_children counters strong_of strong_at super_there c sound n d p there s held o;
+        joins = λ n d p there s held o. joined_up k core i rows tree counts written_at Told told deeper core_children counters strong_of strong_at super_there
+            c sound n d p there s held o;
         opens = λ n d p there s held o.
             opened_up k core i rows tree core_tree counts written_at Told told deeper children more fork_rows opened_rows c sound n d p there s held o;
       }

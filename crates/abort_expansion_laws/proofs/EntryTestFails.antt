@@ -19,7 +19,8 @@ use Rattle.abort_expansion_laws.proofs.LyingIn.{IsTree, around, holder}
 use Rattle.abort_expansion_laws.proofs.TablesCorrespond.{IsThere}
 use Rattle.abort_expansion_laws.proofs.MoreValues.{verdict_over_more}
 use Rattle.abort_expansion_laws.specs.CoreRows.{IsSuper, Images, CoreRows}
-use Rattle.abort_expansion_laws.specs.Related.{Stands, outside, ended, left, trying, acting, entering, guarding, staying, within, behind, Watches, IsInside, guarded, open_inside, Related}
+use Rattle.abort_expansion_laws.specs.Related.{Stands, outside, ended, left, trying, acting, entering, guarding, staying, within, behind, Watches, IsInside}
+use Rattle.abort_expansion_laws.specs.Related.{guarded, open_inside, Related}
 use Rattle.abort_expansion_laws.proofs.Unchanged.{never_guarded}
 use Rattle.abort_expansion_laws.proofs.StageReached.{Stage}
 use Rattle.abort_expansion_laws.proofs.ImageSteps.{pair, ImageStep, image_segment}
@@ -33,11 +34,13 @@ pub record IsEntering (k core : Table) (i : Images) (r s : ℕ) (tests : List Tr
   pub super : IsSuper k s
   pub held : holder k s ≡ r
   pub leads : state_in core (i.thread_of r) fork ≡ i.main_of s
-  pub is : y ≡ at.Trying (i.entry_of s) (map (λ z. led_by (i.places_of r) z.trigger z) tests ++ go true None (resets (i.flags_of s) (length (state_at k s).regions)) fork ∷ [])
+  pub is : y ≡ at.Trying (i.entry_of s) (map (λ z. led_by (i.places_of r) z.trigger z) tests ++ go true None
+      (resets (i.flags_of s) (length (state_at k s).regions)) fork ∷ [])
 
 module _ (k core : Table) (i : Images) (c : Configuration) (r : ℕ) where
   abbrev opening_tests : ℕ → List Transition → ℕ → List Transition
-  opening_tests s tests fork = map (λ z. led_by (i.places_of r) z.trigger z) tests ++ go true None (resets (i.flags_of s) (length (state_at k s).regions)) fork ∷ []
+  opening_tests s tests fork = map (λ z. led_by (i.places_of r) z.trigger z) tests ++ go true None (resets (i.flags_of s) (length (state_at k s).regions))
+      fork ∷ []
 
   pub entering_back : (x y : Standing) → Stands k core i c r x y → (s : ℕ) (tests : List Transition) → x ≡ at.Entering s tests → IsEntering k core i r s tests y
   entering_back _ _ outside s tests e = absurd cc
@@ -65,7 +68,8 @@ module _ (k core : Table) (i : Images) (c : Configuration) (r : ℕ) where
   entering_no_inside o s tests _ e (open_inside others) = absurd cc
 
 module _ (k core : Table) (i : Images) (rows : CoreRows k core i) (tree : IsTree k) (counts : ℕ → Bool) (written_at : ℕ → ℕ)
-    (c d : Configuration) (related : Related k core i c d) (q s : ℕ) (t u : Transition) (tests : List Transition) (stands : standing_of c q ≡ at.Entering s (t ∷ u ∷ tests)) where
+    (c d : Configuration) (related : Related k core i c d) (q s : ℕ) (t u : Transition) (tests : List Transition)
+    (stands : standing_of c q ≡ at.Entering s (t ∷ u ∷ tests)) where
   there : IsThere k q
   there = present_there k core i c d related q (λ e. let wrong : at.Entering s (t ∷ u ∷ tests) ≡ at.Outside = sym stands ∙ e in absurd cc)
 
@@ -115,22 +119,27 @@ module _ (k core : Table) (i : Images) (rows : CoreRows k core i) (tree : IsTree
           works = works;
           free = free;
           steps =
-              fails core d (i.thread_of q) (i.entry_of s) (led_by (i.places_of q) t.trigger t) rest (never_guarded k core i rows c d related (around core (i.thread_of q))) core_stands
-              (subst (λ vs. verdict vs t.trigger ≡ Some false) (sym related.variables) (verdict_over_more related.more c.variables t.trigger false false_there));
+              fails core d (i.thread_of q) (i.entry_of s) (led_by (i.places_of q) t.trigger t) rest
+              (never_guarded k core i rows c d related (around core (i.thread_of q))) core_stands
+              (subst (λ vs. verdict vs t.trigger ≡ Some false) (sym related.variables)
+              (verdict_over_more related.more c.variables t.trigger false false_there));
           chart_access = ap access_of stands;
           core_access = ap access_of core_stands;
           declared = λ x touches. let lt = trigger_known c.variables t.trigger false false_there x touches in omega (lt, related.values, arith);
         }
 
   -- the whole of it
-  pub opening_on_followed : (Told : Configuration → Entry → Type 0) → Told d (Image q (access_of_trigger t.trigger)) → (next : Configuration) → step k q c ≡ Some next → verdict c.variables t.trigger ≡ Some false →
-      Segment (machine core) (pair k core i rows tree counts written_at) Told d (Stage k i.thread_of c d) (Stage k i.thread_of next) (act_of (machine k) c q ∷ []) (Related k core i next)
+  pub opening_on_followed : (Told : Configuration → Entry → Type 0) → Told d (Image q (access_of_trigger t.trigger)) → (next : Configuration) →
+      step k q c ≡ Some next → verdict c.variables t.trigger ≡ Some false →
+      Segment (machine core) (pair k core i rows tree counts written_at) Told d (Stage k i.thread_of c d) (Stage k i.thread_of next)
+      (act_of (machine k) c q ∷ []) (Related k core i next)
   opening_on_followed Told told next steps false_there =
       let parts : Stepped k q c next = stepped k q c next steps in
       let deed : record { write = None; moves = to q (at.Entering s (u ∷ tests)) ∷ [] } ≡ parts.deed =
       same_Some _ parts.deed (sym (ap (deed_of k c q) stands ∙ tested_is k c q s t (to q (at.Entering s (u ∷ tests)) ∷ []) false false_there) ∙ parts.does) in
       let is : record { variables = c.variables; regions = slice_set c.regions q (at.Entering s (u ∷ tests)) } ≡ next = ap (λ e. after e c) deed ∙ parts.is in
-      subst (λ c'. Segment (machine core) (pair k core i rows tree counts written_at) Told d (Stage k i.thread_of c d) (Stage k i.thread_of c') (act_of (machine k) c q ∷ []) (Related k core i c')) is
+      subst (λ c'. Segment (machine core) (pair k core i rows tree counts written_at) Told d (Stage k i.thread_of c d) (Stage k i.thread_of c')
+      (act_of (machine k) c q ∷ []) (Related k core i c')) is
       (image_segment k core i rows tree counts written_at c d related q (at.Entering s (u ∷ tests)) (at.Trying (i.entry_of s) rest)
       (record { variables = c.variables; regions = slice_set c.regions q (at.Entering s (u ∷ tests)) })
       (record { variables = d.variables; regions = slice_set d.regions (i.thread_of q) (at.Trying (i.entry_of s) rest) })

@@ -1,5 +1,6 @@
 -- In a continuation, the checks of flags that are not raised fail, one after the other.
-use Rattle.std.proofs.Common.{◌≡◌, ◌≢◌, ℕ, zero, suc, pos, ◌<◌, ◌≤◌, ⊎_elim, true, false, Option, Some, None, List, [], ◌∷◌, ◌++◌, length, slice_get, slice_set, refl, sym, ap, subst, ◌∙◌, arith}
+use Rattle.std.proofs.Common.{◌≡◌, ◌≢◌, ℕ, zero, suc, pos, ◌<◌, ◌≤◌, ⊎_elim, true, false, Option, Some, None, List, [], ◌∷◌, ◌++◌, length, slice_get}
+use Rattle.std.proofs.Common.{slice_set, refl, sym, ap, subst, ◌∙◌, arith}
 use Rattle.std.proofs.lemmas.Option.{same_Some}
 use Rattle.sc_values.specs.declared.value.Value.TheVariants as value_is
 use Rattle.sc_values.specs.Access.{Access}
@@ -33,7 +34,8 @@ set_again [] g x y = refl
 set_again (z ∷ zs) zero x y = refl
 set_again (z ∷ zs) (suc g) x y = ap (λ ws. z ∷ ws) (set_again zs g x y)
 
-module _ (core : Table) (corr : Correspondence) (Told : Configuration → Entry → Type 0) (told : (d : Configuration) (t : ℕ) (stage : Option (ℕ × ℕ)) (a : Access) → Told d (Silent t stage a))
+module _ (core : Table) (corr : Correspondence) (Told : Configuration → Entry → Type 0)
+    (told : (d : Configuration) (t : ℕ) (stage : Option (ℕ × ℕ)) (a : Access) → Told d (Silent t stage a))
     (g u left : ℕ) (Before : ℕ → ℕ → Type 0) where
   -- a strong flag that is not raised, and may be looked at now, at stage 1
   pub record IsDown (d : Configuration) (x : ℕ) : Type 0 where
@@ -51,7 +53,8 @@ module _ (core : Table) (corr : Correspondence) (Told : Configuration → Entry 
   placed d ts = record { variables = d.variables; regions = slice_set d.regions g (at.Trying u ts) }
 
   -- a test that fails
-  fails : (d : Configuration) (w : Transition) (rest : List Transition) → ((t : ℕ) → has_to_guard (standing_of d t) ≡ false) → standing_of d g ≡ at.Trying u (w ∷ rest) →
+  fails : (d : Configuration) (w : Transition) (rest : List Transition) → ((t : ℕ) → has_to_guard (standing_of d t) ≡ false) →
+      standing_of d g ≡ at.Trying u (w ∷ rest) →
       verdict d.variables w.trigger ≡ Some false → step core g d ≡ Some (placed d rest)
   fails d w rest none stands false_there =
       let on : is_enabled core d g ≡ true = rw (stands, unguarded core d none (around core g)) refl in
@@ -60,7 +63,8 @@ module _ (core : Table) (corr : Correspondence) (Told : Configuration → Entry 
       rw (on, does) refl
 
   -- stages are reached as before
-  climbs_down : (x : ℕ) (a : Access) (d : Configuration) (rest : List Entry) → IsDown d x → Climbs corr Before rest → Climbs corr Before (Silent g (Some (corr.home x, 1)) a ∷ rest)
+  climbs_down : (x : ℕ) (a : Access) (d : Configuration) (rest : List Entry) → IsDown d x → Climbs corr Before rest →
+      Climbs corr Before (Silent g (Some (corr.home x, 1)) a ∷ rest)
   climbs_down x a d rest down climbs =
       climbs_step corr Before Before (Silent g (Some (corr.home x, 1)) a) rest
       (λ h n e.
@@ -83,13 +87,22 @@ module _ (core : Table) (corr : Correspondence) (Told : Configuration → Entry 
   all_on : (a b : Configuration) → b.variables ≡ a.variables → (gs : List Flags) → AllDown a gs → AllDown b gs
   all_on a b same [] all = tt
   all_on a b same (h ∷ gs) all = (
-    λ y e. let it = all.0 y e in record { flag = it.flag; low = ap (λ vs. slice_get vs y) same ∙ it.low; reads = it.reads; reached = it.reached; reaches = it.reaches },
+    λ y e. let it = all.0 y e in record {
+      flag = it.flag;
+      low = ap (λ vs. slice_get vs y) same ∙ it.low;
+      reads = it.reads;
+      reached = it.reached;
+      reaches =
+          it.reaches;
+    },
     all_on a b same gs all.1,
   )
 
-  first_check : (o : Option ℕ) (f : Flags) (fs : List Flags) (rest : List Transition) (d : Configuration) → f.strong ≡ o → Calm d → g < length d.regions → AllDown d (f ∷ fs) →
+  first_check : (o : Option ℕ) (f : Flags) (fs : List Flags) (rest : List Transition) (d : Configuration) → f.strong ≡ o → Calm d → g < length d.regions →
+      AllDown d (f ∷ fs) →
       standing_of d g ≡ at.Trying u (strong_checks true left (f ∷ fs) ++ rest) →
-      ((e : Configuration) → Calm e → g < length e.regions → AllDown e fs → standing_of e g ≡ at.Trying u (strong_checks true left fs ++ rest) → Passed e rest) → Passed d rest
+      ((e : Configuration) → Calm e → g < length e.regions → AllDown e fs → standing_of e g ≡ at.Trying u (strong_checks true left fs ++ rest) →
+      Passed e rest) → Passed d rest
   first_check None f fs rest d is none lt down stands on_rest =
       on_rest d none lt down.1 (stands ∙ ap (λ z. at.Trying u ((check true left z ++ strong_checks true left fs) ++ rest)) is)
   first_check (Some x) f fs rest d is none lt down stands on_rest =
@@ -100,8 +113,10 @@ module _ (core : Table) (corr : Correspondence) (Told : Configuration → Entry 
       let d1 : Configuration = placed d more in
       let here : standing_of d1 g ≡ at.Trying u more = stands_same d d1 g (at.Trying u more) refl lt in
       let others : (t : ℕ) → t ≢ g → standing_of d1 t ≡ standing_of d t = λ t ne. stands_other d d1 g t (at.Trying u more) refl ne in
-      let calm : Calm d1 = λ t. ⊎_elim (λ e. ap (λ z. has_to_guard (standing_of d1 z)) e ∙ ap has_to_guard here) (λ ne. ap has_to_guard (others t ne) ∙ none t) (same_or_not t g) in
-      let s : Passed d1 rest = on_rest d1 calm (let size = set_length d.regions g (at.Trying u more) in omega (lt, size, arith)) (all_on d d1 refl fs down.1) here in
+      let calm : Calm d1 = λ t. ⊎_elim (λ e. ap (λ z. has_to_guard (standing_of d1 z)) e ∙ ap has_to_guard here)
+      (λ ne. ap has_to_guard (others t ne) ∙ none t) (same_or_not t g) in
+      let s : Passed d1 rest = on_rest d1 calm (let size = set_length d.regions g (at.Trying u more) in omega (lt, size, arith)) (all_on d d1 refl fs down.1)
+      here in
       record {
         log = Silent g (Some (corr.home x, 1)) (tests x) ∷ s.log;
         last = s.last;
@@ -116,7 +131,8 @@ module _ (core : Table) (corr : Correspondence) (Told : Configuration → Entry 
         reaches = (s.reaches.0, (s.reaches.1.0, (λ t ne. s.reaches.1.1.0 t ne ∙ others t ne, s.reaches.1.1.1 ∙ set_length d.regions g (at.Trying u more))));
       }
 
-  pub checks_fail : (fs : List Flags) (rest : List Transition) (d : Configuration) → Calm d → g < length d.regions → AllDown d fs → standing_of d g ≡ at.Trying u (strong_checks true left fs ++ rest) → Passed d rest
+  pub checks_fail : (fs : List Flags) (rest : List Transition) (d : Configuration) → Calm d → g < length d.regions → AllDown d fs →
+      standing_of d g ≡ at.Trying u (strong_checks true left fs ++ rest) → Passed d rest
   checks_fail [] rest d none lt down stands =
       record { log = []; last = d; follows = refl; charted = refl; fits = tt; climbs = λ more climbs. climbs; reaches = (refl, (stands, (λ t ne. refl, refl))) }
   checks_fail (f ∷ fs) rest d none lt down stands =

@@ -20,7 +20,8 @@ use Rattle.abort_expansion_laws.proofs.SettledInOrder.{Piece}
 use Rattle.abort_expansion_laws.proofs.JoinsFork.{joins_fork, after_join, Left}
 use Rattle.abort_expansion_laws.proofs.WaitsAfterJoin.{joined_pending, reached_then}
 
-module _ (k core : Table) (i : Images) (rows : CoreRows k core i) (tree : IsTree k) (counts : ℕ → Bool) (written_at : ℕ → ℕ) (Told : Configuration → Entry → Type 0)
+module _ (k core : Table) (i : Images) (rows : CoreRows k core i) (tree : IsTree k) (counts : ℕ → Bool) (written_at : ℕ → ℕ)
+    (Told : Configuration → Entry → Type 0)
     (told : (d : Configuration) (t : ℕ) (stage : Option (ℕ × ℕ)) (a : Access) → Told d (Silent t stage a))
     (deeper : (q s : ℕ) → Contains (around k q) s → holder k s < q)
     (core_children : (s t : ℕ) → Contains (state_at core s).regions t → IsThere core t × (around core t ≡ s ∷ around core (holder core s)))
@@ -50,8 +51,10 @@ module _ (k core : Table) (i : Images) (rows : CoreRows k core i) (tree : IsTree
   pub joined_up : Piece k core i rows tree counts written_at Told deeper c sound r d
   joined_up =
       let t = joins_fork k core i rows tree counts written_at Told told deeper counters strong_of strong_at super_there c sound r d p there s held o in
-      let dropped : (q : ℕ) → q ≢ g → Contains (inside core (i.main_of s)) q → standing_of t.last q ≡ at.Outside = λ q ne h. t.reaches.1.1.0 q ne ∙ in_drop q ne h in
-      let same : (q : ℕ) → q ≢ g → ¬ Contains (inside core (i.main_of s)) q → standing_of t.last q ≡ standing_of d q = λ q ne out. t.reaches.1.1.0 q ne ∙ out_drop q ne out in
+      let dropped : (q : ℕ) → q ≢ g → Contains (inside core (i.main_of s)) q → standing_of t.last q ≡ at.Outside = λ q ne h. t.reaches.1.1.0 q ne ∙
+      in_drop q ne h in
+      let same : (q : ℕ) → q ≢ g → ¬ Contains (inside core (i.main_of s)) q → standing_of t.last q ≡ standing_of d q = λ q ne out. t.reaches.1.1.0 q ne ∙
+      out_drop q ne out in
       let size : length t.last.regions ≡ length d.regions = t.reaches.1.1.1 ∙ size_after in
       record {
         log = t.log;
@@ -61,7 +64,10 @@ module _ (k core : Table) (i : Images) (rows : CoreRows k core i) (tree : IsTree
         fits = t.fits;
         climbs = λ rest climbs.
             t.climbs rest
-            (climbs_fewer corr (Reached k core i c t.last) (Left k core i rows tree counts written_at Told told deeper counters strong_of strong_at super_there c sound r d p there s held o) rest
-            (λ h n before. reached_then k core i rows tree counts written_at Told deeper core_children c sound r d p there s held o t.last t.reaches.0 t.reaches.1.0 dropped same size h n before.1) climbs);
-        reaches = joined_pending k core i rows tree counts written_at Told deeper core_children c sound r d p there s held o t.last t.reaches.0 t.reaches.1.0 dropped same size;
+            (climbs_fewer corr (Reached k core i c t.last) (Left k core i rows tree counts written_at Told told deeper counters strong_of strong_at
+            super_there c sound r d p there s held o) rest
+            (λ h n before. reached_then k core i rows tree counts written_at Told deeper core_children c sound r d p there s held o t.last t.reaches.0
+            t.reaches.1.0 dropped same size h n before.1) climbs);
+        reaches = joined_pending k core i rows tree counts written_at Told deeper core_children c sound r d p there s held o t.last t.reaches.0 t.reaches.1.0
+            dropped same size;
       }

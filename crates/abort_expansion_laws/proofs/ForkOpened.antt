@@ -39,7 +39,8 @@ module _ (k core : Table) (i : Images) (rows : CoreRows k core i) (tree : IsTree
             (climbs_fewer (pair k core i rows tree counts written_at) (Reached k core i c t.last)
             (But core (pair k core i rows tree counts written_at) Told told (i.thread_of (holder k s)) o.fork (Reached k core i c d)) rest
             (λ h n before. subst (λ e. Reached k core i c e h n) (sym t.reaches)
-            (reached_then k core i rows tree core_tree counts written_at Told told deeper children more fork_rows opened_rows c sound r d p there s held o h n before)) climbs);
+            (reached_then k core i rows tree core_tree counts written_at Told told deeper children more fork_rows opened_rows c sound r d p there s held o h n
+            before)) climbs);
         reaches =
             subst (Pending k core i c (suc r)) (sym t.reaches)
             (opened_pending k core i rows tree core_tree counts written_at Told told deeper children more fork_rows opened_rows c sound r d p there s held o);

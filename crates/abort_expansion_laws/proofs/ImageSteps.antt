@@ -1,5 +1,6 @@
 -- A step of a region that its thread takes as it is: it is followed by one step of the core.
-use Rattle.std.proofs.Common.{◌≡◌, ◌≢◌, ℕ, zero, suc, ◌<◌, ◌≤◌, ◌⊎◌, inl, inr, Bool, true, false, Some, [], ◌∷◌, length, unwrap_or, Contains, refl, sym, ap, subst, ◌∙◌, arith}
+use Rattle.std.proofs.Common.{◌≡◌, ◌≢◌, ℕ, zero, suc, ◌<◌, ◌≤◌, ◌⊎◌, inl, inr, Bool, true, false, Some, [], ◌∷◌, length, unwrap_or, Contains, refl, sym, ap}
+use Rattle.std.proofs.Common.{subst, ◌∙◌, arith}
 use Rattle.std.specs.List.{list_any}
 use Rattle.std.proofs.lemmas.Option.{slice_get_past}
 use Rattle.sc_values.specs.Access.{Access}
@@ -45,7 +46,8 @@ module _ (k core : Table) (i : Images) (rows : CoreRows k core i) (tree : IsTree
     pub core_access : access_of (standing_of d (i.thread_of q)) ≡ a
     pub declared : (x : ℕ) → Touches a x → x < length k.variables
 
-  module _ (c d : Configuration) (related : Related k core i c d) (q : ℕ) (y z : Standing) (c' d' : Configuration) (a : Access) (s : ImageMove c d q y z c' d' a) where
+  module _ (c d : Configuration) (related : Related k core i c d) (q : ℕ) (y z : Standing) (c' d' : Configuration) (a : Access)
+      (s : ImageMove c d q y z c' d' a) where
     elsewhere : (r : ℕ) → r ≢ q → standing_of c' r ≡ standing_of c r
     elsewhere r ne = stands_other c c' q r y s.goes.chart ne
 
@@ -90,7 +92,8 @@ module _ (k core : Table) (i : Images) (rows : CoreRows k core i) (tree : IsTree
 
       high_there : 1 ≤ stage_of k c' (standing_of c' (holder k u))
       high_there =
-          subst (λ x. 1 ≤ stage_of k c' x) (sym (elsewhere (holder k u) (holds_other k tree q u inner))) (high (standing_of c (holder k u)) stands_inside not_guarding)
+          subst (λ x. 1 ≤ stage_of k c' x) (sym (elsewhere (holder k u) (holds_other k tree q u inner)))
+          (high (standing_of c (holder k u)) stands_inside not_guarding)
 
     abbrev Inner : ℕ → ℕ → Type 0
     Inner h v = (b : ℕ) × LiesUnder k q b × (h ≡ i.thread_of b) × (v ≡ 1)
@@ -102,7 +105,8 @@ module _ (k core : Table) (i : Images) (rows : CoreRows k core i) (tree : IsTree
         by_kind (inr root) = (
           λ u before. let n = before.chart (is ∙ ap i.thread_of root) in omega (n, one, arith),
           record {
-            regions = λ r there e. let same : r ≡ 0 = rows.region_once r 0 (sym e ∙ (is ∙ ap i.thread_of root)) in let lt = there.0 in absurd (omega (same, lt, arith));
+            regions = λ r there e. let same : r ≡ 0 = rows.region_once r 0 (sym e ∙ (is ∙ ap i.thread_of root)) in let lt = there.0 in
+                absurd (omega (same, lt, arith));
             chart = λ e. omega (one, arith);
           },
         )
@@ -113,7 +117,8 @@ module _ (k core : Table) (i : Images) (rows : CoreRows k core i) (tree : IsTree
           record {
             regions = λ r there e.
                 let same : holder k inner.0 ≡ r = inner.2 ∙ rows.region_once b r (sym is ∙ e) in
-                let n : 1 ≤ stage_of k c' (standing_of c' r) = subst (λ x. 1 ≤ stage_of k c' (standing_of c' x)) same (high_there inner.0 inner.1) in omega (n, one, arith);
+                let n : 1 ≤ stage_of k c' (standing_of c' r) = subst (λ x. 1 ≤ stage_of k c' (standing_of c' x)) same (high_there inner.0 inner.1) in
+                omega (n, one, arith);
             chart = λ e. omega (one, arith);
           },
         )
@@ -123,14 +128,17 @@ module _ (k core : Table) (i : Images) (rows : CoreRows k core i) (tree : IsTree
       regions = λ r there e.
           let other : r ≢ q = λ same. ne (ap i.thread_of (sym same) ∙ sym e) in
           let n = before.regions r there e in
-          let m : stage_of k c (standing_of c r) ≤ stage_of k c' (standing_of c r) = stage_kept k core i c c' (same_shape k core i rows c d related q y z c' d' s.goes) q s.works elsewhere (standing_of c r) in
-          let w : stage_of k c' (standing_of c r) ≤ stage_of k c' (standing_of c' r) = subst (λ x. stage_of k c' (standing_of c r) ≤ stage_of k c' x) (sym (elsewhere r other)) (omega arith) in
+          let m : stage_of k c (standing_of c r) ≤ stage_of k c' (standing_of c r) =
+          stage_kept k core i c c' (same_shape k core i rows c d related q y z c' d' s.goes) q s.works elsewhere (standing_of c r) in
+          let w : stage_of k c' (standing_of c r) ≤ stage_of k c' (standing_of c' r) =
+          subst (λ x. stage_of k c' (standing_of c r) ≤ stage_of k c' x) (sym (elsewhere r other)) (omega arith) in
           omega (n, m, w, arith);
       chart = before.chart;
     }
 
     pub image_to : (f : Configuration) → step core (i.thread_of q) d ≡ Some f → (Told : Configuration → Entry → Type 0) → Told d (Image q a) →
-        Segment (machine core) (pair k core i rows tree counts written_at) Told d (Stage k i.thread_of c d) (Stage k i.thread_of c') (act_of (machine k) c q ∷ []) (λ e. e ≡ f)
+        Segment (machine core) (pair k core i rows tree counts written_at) Told d (Stage k i.thread_of c d) (Stage k i.thread_of c')
+        (act_of (machine k) c q ∷ []) (λ e. e ≡ f)
     image_to f steps Told told =
         record {
           log = Image q a ∷ [];
@@ -138,7 +146,8 @@ module _ (k core : Table) (i : Images) (rows : CoreRows k core i) (tree : IsTree
           follows = (ap (λ x. record { thread = i.thread_of q; access = x }) (sym s.core_access), told, (f, steps, refl));
           charted = ap (λ x. record { thread = q; access = x } ∷ []) (sym s.chart_access);
           fits = (s.declared, tt);
-          climbs = λ more climbs. climbs_step (pair k core i rows tree counts written_at) (Stage k i.thread_of c d) (Stage k i.thread_of c' f) (Image q a) more stages_any stays_any climbs;
+          climbs = λ more climbs. climbs_step (pair k core i rows tree counts written_at) (Stage k i.thread_of c d) (Stage k i.thread_of c' f) (Image q a)
+              more stages_any stays_any climbs;
           reaches = refl;
         }
       where
@@ -151,10 +160,20 @@ module _ (k core : Table) (i : Images) (rows : CoreRows k core i) (tree : IsTree
         stays_any : (h v : ℕ) → i.thread_of q ≢ h → Stage k i.thread_of c d h v → Stage k i.thread_of c' f h v
         stays_any h v ne before = elsewhere_stage h v (stays h v ne before)
 
-  pub image_segment : (c d : Configuration) (related : Related k core i c d) (q : ℕ) (y z : Standing) (c' d' : Configuration) (a : Access) (s : ImageStep c d q y z c' d' a) (Told : Configuration → Entry → Type 0) → Told d (Image q a) →
-      Segment (machine core) (pair k core i rows tree counts written_at) Told d (Stage k i.thread_of c d) (Stage k i.thread_of c') (act_of (machine k) c q ∷ []) (Related k core i c')
+  pub image_segment : (c d : Configuration) (related : Related k core i c d) (q : ℕ) (y z : Standing) (c' d' : Configuration) (a : Access)
+      (s : ImageStep c d q y z c' d' a) (Told : Configuration → Entry → Type 0) → Told d (Image q a) →
+      Segment (machine core) (pair k core i rows tree counts written_at) Told d (Stage k i.thread_of c d) (Stage k i.thread_of c')
+      (act_of (machine k) c q ∷ []) (Related k core i c')
   image_segment c d related q y z c' d' a s Told told =
-      let move : ImageMove c d q y z c' d' a = record { goes = s.goes; works = s.works; free = s.free; chart_access = s.chart_access; core_access = s.core_access; declared = s.declared } in
+      let move : ImageMove c d q y z c' d' a = record {
+        goes = s.goes;
+        works = s.works;
+        free = s.free;
+        chart_access = s.chart_access;
+        core_access =
+            s.core_access;
+        declared = s.declared;
+      } in
       let t = image_to c d related q y z c' d' a move d' s.steps Told told in
       record {
         log = t.log;
@@ -162,6 +181,7 @@ module _ (k core : Table) (i : Images) (rows : CoreRows k core i) (tree : IsTree
         follows = subst (λ e. Follows (machine core) (pair k core i rows tree counts written_at) Told d t.log e) t.reaches t.follows;
         charted = t.charted;
         fits = t.fits;
-        climbs = λ more climbs. t.climbs more (climbs_fewer (pair k core i rows tree counts written_at) (Stage k i.thread_of c' d') (Stage k i.thread_of c' t.last) more (λ h v stage. record { regions = stage.regions; chart = stage.chart }) climbs);
+        climbs = λ more climbs. t.climbs more (climbs_fewer (pair k core i rows tree counts written_at) (Stage k i.thread_of c' d')
+            (Stage k i.thread_of c' t.last) more (λ h v stage. record { regions = stage.regions; chart = stage.chart }) climbs);
         reaches = goes_on k core i rows c d related q y z c' d' s.goes;
       }

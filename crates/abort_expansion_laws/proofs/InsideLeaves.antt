@@ -1,5 +1,6 @@
 -- What is inside of a superstate whose holder guards can leave: each thread there sees the raised flag first.
-use Rattle.std.proofs.Common.{◌≡◌, ◌≢◌, ℕ, zero, suc, ◌<◌, ◌⊎◌, inl, inr, ⊎_elim, Bool, true, false, not, ◌||◌, Option, Some, None, List, [], ◌∷◌, ◌++◌, map, length, Contains, refl, sym, ap, subst, ◌∙◌, arith}
+use Rattle.std.proofs.Common.{◌≡◌, ◌≢◌, ℕ, zero, suc, ◌<◌, ◌⊎◌, inl, inr, ⊎_elim, Bool, true, false, not, ◌||◌, Option, Some, None, List, [], ◌∷◌, ◌++◌, map}
+use Rattle.std.proofs.Common.{length, Contains, refl, sym, ap, subst, ◌∙◌, arith}
 use Rattle.std.specs.Prelude.{reverse, flat_map}
 use Rattle.std.proofs.lemmas.List.{reverse-append, append-nil}
 use Rattle.std.proofs.lemmas.Grind.{flat_map-append}
@@ -25,8 +26,11 @@ use Rattle.abort_expansion_laws.proofs.StageReached.{holds_other, any_in}
 use Rattle.abort_expansion_laws.proofs.TablesCorrespond.{IsThere, contains_map}
 use Rattle.abort_expansion_laws.proofs.ChartTables.{no_regions_past, within_or_past, nothing_around}
 use Rattle.abort_expansion_laws.proofs.KnownVariables.{present_there}
-use Rattle.abort_expansion_laws.specs.CoreRows.{own, IsState, IsSimple, IsSuper, joins, Images, CoreRows, SplitImage, flags_around, watchers, behind_transitions}
-use Rattle.abort_expansion_laws.specs.Related.{IsCalm, calm_outside, calm_ended, calm_trying, calm_within, front, held_back, tests_of, is_behind, Stands, outside, ended, left, trying, acting, entering, guarding, staying, within, behind, IsInside, open_inside, Related}
+use Rattle.abort_expansion_laws.specs.CoreRows.{own, IsState, IsSimple, IsSuper, joins, Images, CoreRows, SplitImage, flags_around, watchers}
+use Rattle.abort_expansion_laws.specs.CoreRows.{behind_transitions}
+use Rattle.abort_expansion_laws.specs.Related.{IsCalm, calm_outside, calm_ended, calm_trying, calm_within, front, held_back, tests_of, is_behind, Stands}
+use Rattle.abort_expansion_laws.specs.Related.{outside, ended, left, trying, acting, entering, guarding, staying, within, behind, IsInside, open_inside}
+use Rattle.abort_expansion_laws.specs.Related.{Related}
 use Rattle.abort_expansion_laws.proofs.AllLeave.{LeavesBy, MayLeave, out, over, tries, forks}
 
 -- ---- one of the superstates around a region has aborts: then one check stands in front
@@ -90,7 +94,8 @@ no_checks b place (f ∷ fs) e =
     let rest : strong_checks b place fs ≡ [] = no_checks b place fs both.1 in rw (own, rest) refl
 
 module _ (k core : Table) (i : Images) (c : Configuration) where
-  pub there_too : (r : ℕ) (z y : Standing) → Stands k core i c r z y → z ≢ at.Outside → ((s : ℕ) (ss : List ℕ) → around k r ≡ s ∷ ss → is_behind k core i c s ≡ false) → y ≢ at.Outside
+  pub there_too : (r : ℕ) (z y : Standing) → Stands k core i c r z y → z ≢ at.Outside →
+      ((s : ℕ) (ss : List ℕ) → around k r ≡ s ∷ ss → is_behind k core i c s ≡ false) → y ≢ at.Outside
   there_too r _ _ outside present open_around e = present refl
   there_too r _ _ (ended inner) present open_around e = absurd cc
   there_too r _ _ (left s ss round over_it) present open_around e = let wrong : true ≡ false = sym over_it ∙ open_around s ss round in absurd cc
@@ -112,7 +117,8 @@ module _ (k core : Table) (i : Images) (rows : CoreRows k core i) (more : FlatRo
 
   others_none : (q : ℕ) → Contains (around k q) o → (b : Bool) (place : ℕ) (s : ℕ) → Contains (around k q) s → s ≢ o → check b place (i.flags_of s).strong ≡ []
   others_none q in_o b place s around_it differs =
-      ⊎_elim (λ e. absurd (differs (more.flat_around q o s in_o around_it has e))) (λ e. ap (check b place) (more.no_strong s e)) (true_or_false (has_aborts (own k s)))
+      ⊎_elim (λ e. absurd (differs (more.flat_around q o s in_o around_it has e))) (λ e. ap (check b place) (more.no_strong s e))
+      (true_or_false (has_aborts (own k s)))
 
   pub one_check : (q : ℕ) (b : Bool) → Contains (around k q) o → strong_checks b (i.places_of q).left (flags_around k core i q) ≡ sees b q ∷ []
   one_check q b in_o =
@@ -148,15 +154,19 @@ module _ (k core : Table) (i : Images) (rows : CoreRows k core i) (more : FlatRo
       Leaves t z = MayLeave core core_tree deep corr Told told Others home stage f (Some (is_raised x)) first raised free t z
 
       -- a simple state
-      by_trying : (q s : ℕ) (tests : List Transition) → IsThere k q → Contains (around k q) o → IsSimple k s → Leaves (i.thread_of q) (at.Trying (i.main_of s) (tests_of k core i c q tests))
+      by_trying : (q s : ℕ) (tests : List Transition) → IsThere k q → Contains (around k q) o → IsSimple k s →
+          Leaves (i.thread_of q) (at.Trying (i.main_of s) (tests_of k core i c q tests))
       by_trying q s tests there in_o simple =
           let fronts : front k core i false c q ≡ sees false q ∷ [] = rw (guarded_here q in_o) (one_check q false in_o) in
-          let all : tests_of k core i c q tests ≡ sees false q ∷ (map (led (i.places_of q)) tests ++ held_back k core i q) = ap (λ zs. zs ++ map (led (i.places_of q)) tests ++ held_back k core i q) fronts in
+          let all : tests_of k core i c q tests ≡ sees false q ∷ (map (led (i.places_of q)) tests ++ held_back k core i q) =
+          ap (λ zs. zs ++ map (led (i.places_of q)) tests ++ held_back k core i q) fronts in
           subst (λ zs. Leaves (i.thread_of q) (at.Trying (i.main_of s) zs)) (sym all)
-          (tries (i.main_of s) (sees false q) (map (led (i.places_of q)) tests ++ held_back k core i q) (leaves_by q (i.main_of s) false there in_o (more.simple_alone s simple)))
+          (tries (i.main_of s) (sees false q) (map (led (i.places_of q)) tests ++ held_back k core i q)
+          (leaves_by q (i.main_of s) false there in_o (more.simple_alone s simple)))
 
       -- behind a fork that is over
-      by_behind : (q s : ℕ) → IsThere k q → Contains (around k q) o → Leaves (i.thread_of q) (at.Trying (i.behind_of s) (front k core i true c q ++ held_back k core i q))
+      by_behind : (q s : ℕ) → IsThere k q → Contains (around k q) o → Leaves (i.thread_of q)
+          (at.Trying (i.behind_of s) (front k core i true c q ++ held_back k core i q))
       by_behind q s there in_o =
           let fronts : front k core i true c q ≡ sees true q ∷ [] = rw (guarded_here q in_o) (one_check q true in_o) in
           subst (λ zs. Leaves (i.thread_of q) (at.Trying (i.behind_of s) (zs ++ held_back k core i q))) (sym fronts)
@@ -170,21 +180,25 @@ module _ (k core : Table) (i : Images) (rows : CoreRows k core i) (more : FlatRo
       abbrev behind_it : ℕ → ℕ → List Transition
       behind_it q s =
           at_once (answers (i.places_of q) (i.flags_of s).strong 1 (strong_aborts (own k s))
-          ++ answers (i.places_of q) (i.flags_of s).weak 1 (weak_aborts (own k s)) ++ closing (flags_around k core i q) (i.flags_of s) (i.places_of q) (terminations (own k s)))
+          ++ answers (i.places_of q) (i.flags_of s).weak 1 (weak_aborts (own k s)) ++ closing (flags_around k core i q) (i.flags_of s) (i.places_of q)
+          (terminations (own k s)))
 
       continues : (q s : ℕ) → Contains (around k q) o → at_once (behind_transitions k core i q s) ≡ sees true q ∷ behind_it q s
       continues q s in_o =
           ap (λ zs. at_once (zs ++ answers (i.places_of q) (i.flags_of s).strong 1 (strong_aborts (own k s))
-          ++ answers (i.places_of q) (i.flags_of s).weak 1 (weak_aborts (own k s)) ++ closing (flags_around k core i q) (i.flags_of s) (i.places_of q) (terminations (own k s)))) (one_check q true in_o)
+          ++ answers (i.places_of q) (i.flags_of s).weak 1 (weak_aborts (own k s)) ++ closing (flags_around k core i q) (i.flags_of s) (i.places_of q)
+          (terminations (own k s)))) (one_check q true in_o)
 
       heads : (a b : ℕ) (xs ys : List ℕ) → a ∷ xs ≡ b ∷ ys → a ≡ b
       heads a b xs ys e = cc
 
-      by_within : (q s join : ℕ) (tests : List Transition) → IsThere k q → Contains (around k q) o → standing_of c q ≡ at.Within s tests → IsSuper k s → holder k s ≡ q →
+      by_within : (q s join : ℕ) (tests : List Transition) → IsThere k q → Contains (around k q) o → standing_of c q ≡ at.Within s tests → IsSuper k s →
+          holder k s ≡ q →
           stays (flags_around k core i q) (own k s) ≡ false → is_behind k core i c s ≡ false → state_in core (i.thread_of q) join ≡ i.behind_of s →
           Leaves (i.thread_of q) (at.Within (i.main_of s) (joins join ∷ []))
       by_within q s join tests there in_o stands super held not_staying open_still leads =
-          forks (i.main_of s) join (i.behind_of s) (sees true q) (behind_it q s) fork_held enters (leaves_by q (i.behind_of s) true there in_o (more.behind_alone s)) direct
+          forks (i.main_of s) join (i.behind_of s) (sees true q) (behind_it q s) fork_held enters
+          (leaves_by q (i.behind_of s) true there in_o (more.behind_alone s)) direct
         where
           split : SplitImage k core i s
           split = rows.split s (state_there s super) super (subst (λ p. stays (flags_around k core i p) (own k s) ≡ false) (sym held) not_staying)
@@ -192,7 +206,8 @@ module _ (k core : Table) (i : Images) (rows : CoreRows k core i) (more : FlatRo
           fork_held : holder core (i.main_of s) ≡ i.thread_of q
           fork_held = rows.held s ∙ ap i.thread_of held
 
-          enters : (state_at core (state_in core (i.thread_of q) join)).entered ≡ to (i.thread_of q) (at.Trying (i.behind_of s) (sees true q ∷ behind_it q s)) ∷ []
+          enters : (state_at core (state_in core (i.thread_of q) join)).entered ≡ to (i.thread_of q) (at.Trying (i.behind_of s) (sees true q ∷ behind_it q s))
+              ∷ []
           enters =
               ap (λ n. (state_at core n).entered) leads
               ∙ (ap (λ z. z.entered) split.behind
@@ -203,7 +218,8 @@ module _ (k core : Table) (i : Images) (rows : CoreRows k core i) (more : FlatRo
           no_monitor = let none : has_aborts (own k s) ≡ false = more.flat_held o s has (subst (λ p. Contains (around k p) o) (sym held) in_o) in rw (none) refl
 
           regions_are : (state_at core (i.main_of s)).regions ≡ map i.thread_of (state_at k s).regions
-          regions_are = ap (λ z. z.regions) split.row ∙ (ap (λ zs. map i.thread_of (state_at k s).regions ++ zs) no_monitor ∙ append-nil (map i.thread_of (state_at k s).regions))
+          regions_are = ap (λ z. z.regions) split.row ∙ (ap (λ zs. map i.thread_of (state_at k s).regions ++ zs) no_monitor ∙
+              append-nil (map i.thread_of (state_at k s).regions))
 
           inside_s : IsInside k core i s (standing_of c (holder k s))
           inside_s = subst (λ p. IsInside k core i s (standing_of c p)) (sym held) (subst (IsInside k core i s) (sym stands) (open_inside tests))
@@ -212,9 +228,11 @@ module _ (k core : Table) (i : Images) (rows : CoreRows k core i) (more : FlatRo
           present r child e =
               let was : standing_of c r ≢ at.Outside = related.opened s r (state_there s super) inside_s child in
               there_too k core i c r (standing_of c r) (standing_of d (i.thread_of r)) (related.regions r (present_there k core i c d related r was)) was
-              (λ u us round. subst (λ v. is_behind k core i c v ≡ false) (heads s u (around k (holder k s)) us (sym (children s r child) ∙ round)) open_still) (sym (same_first r) ∙ e)
+              (λ u us round. subst (λ v. is_behind k core i c v ≡ false) (heads s u (around k (holder k s)) us (sym (children s r child) ∙ round)) open_still)
+              (sym (same_first r) ∙ e)
 
-          direct : (t : ℕ) → Contains (state_at core (i.main_of s)).regions t → (around core t ≡ i.main_of s ∷ around core (i.thread_of q)) × (standing_of first t ≢ at.Outside)
+          direct : (t : ℕ) → Contains (state_at core (i.main_of s)).regions t →
+              (around core t ≡ i.main_of s ∷ around core (i.thread_of q)) × (standing_of first t ≢ at.Outside)
           direct t h =
               let r = contains_map i.thread_of (state_at k s).regions t (subst (λ zs. Contains zs t) regions_are h) in (
                 core_children (i.main_of s) t h ∙ ap (λ p. i.main_of s ∷ around core p) fork_held,
@@ -247,16 +265,20 @@ module _ (k core : Table) (i : Images) (rows : CoreRows k core i) (more : FlatRo
           by_aborts false true e f = absurd cc
           by_aborts false false e f = absurd cc
 
-      by_stands : (q : ℕ) → IsThere k q → Contains (around k q) o → (z y : Standing) → Stands k core i c q z y → standing_of c q ≡ z → IsCalm z → Leaves (i.thread_of q) y
+      by_stands : (q : ℕ) → IsThere k q → Contains (around k q) o → (z y : Standing) → Stands k core i c q z y → standing_of c q ≡ z → IsCalm z →
+          Leaves (i.thread_of q) y
       by_stands q there in_o _ _ outside is quiet = out
       by_stands q there in_o _ _ (ended inner) is quiet = over
       by_stands q there in_o _ _ (left s ss e over_it) is quiet = out
       by_stands q there in_o _ _ (trying s tests simple held) is quiet = by_trying q s tests there in_o simple
       by_stands q there in_o _ _ (acting s u p g effects lt) is quiet = absurd (calm_acting (at.Acting s (g ∷ effects) p) quiet s p (g ∷ effects) refl)
-      by_stands q there in_o _ _ (entering s fork t tests super held leads) is quiet = absurd (calm_entering (at.Entering s (t ∷ tests)) quiet s (t ∷ tests) refl)
-      by_stands q there in_o _ _ (guarding s join t tests has_some held leads) is quiet = absurd (calm_guarding (at.Guarding s (t ∷ tests)) quiet s (t ∷ tests) refl)
+      by_stands q there in_o _ _ (entering s fork t tests super held leads) is quiet =
+          absurd (calm_entering (at.Entering s (t ∷ tests)) quiet s (t ∷ tests) refl)
+      by_stands q there in_o _ _ (guarding s join t tests has_some held leads) is quiet =
+          absurd (calm_guarding (at.Guarding s (t ∷ tests)) quiet s (t ∷ tests) refl)
       by_stands q there in_o _ _ (staying s tests super held stay) is quiet = absurd (never_stays q s in_o stay)
-      by_stands q there in_o _ _ (within s join tests super held stay open_still leads) is quiet = by_within q s join tests there in_o is super held stay open_still leads
+      by_stands q there in_o _ _ (within s join tests super held stay open_still leads) is quiet = by_within q s join
+          tests there in_o is super held stay open_still leads
       by_stands q there in_o _ _ (behind s tests super held over_it) is quiet = by_behind q s there in_o
 
       from_core : (q : ℕ) → Contains (around core (i.thread_of q)) (i.main_of o) → Contains (around k q) o
@@ -267,7 +289,8 @@ module _ (k core : Table) (i : Images) (rows : CoreRows k core i) (more : FlatRo
       core_there : (t : ℕ) → Contains (around core t) (i.main_of o) → IsThere core t
       core_there zero h = absurd (none_in (i.main_of o) h)
       core_there (suc j) h =
-          ⊎_elim (λ lt. (omega arith, omega (lt, arith))) (λ past. absurd (none_in (i.main_of o) (subst (λ zs. Contains zs (i.main_of o)) (nothing_around core j past) h))) (within_or_past j (length core.regions))
+          ⊎_elim (λ lt. (omega arith, omega (lt, arith))) (λ past. absurd
+          (none_in (i.main_of o) (subst (λ zs. Contains zs (i.main_of o)) (nothing_around core j past) h))) (within_or_past j (length core.regions))
 
       -- each region of the fork can leave, where its monitor has ended
       pub may_leave : standing_of first (i.watcher_of o) ≡ at.Ended → (t : ℕ) → Contains (around core t) (i.main_of o) → Leaves t (standing_of first t)
@@ -277,16 +300,20 @@ module _ (k core : Table) (i : Images) (rows : CoreRows k core i) (more : FlatRo
           by_region q there e =
               let in_o : Contains (around k q) o = from_core q (subst (λ v. Contains (around core v) (i.main_of o)) e h) in
               subst (λ v. Leaves v (standing_of first v)) (sym e)
-              (subst (Leaves (i.thread_of q)) (sym (same_first q)) (by_stands q there in_o (standing_of c q) (standing_of d (i.thread_of q)) (related.regions q there) refl (calm q in_o)))
+              (subst (Leaves (i.thread_of q)) (sym (same_first q)) (by_stands q there in_o (standing_of c q) (standing_of d (i.thread_of q))
+              (related.regions q there) refl (calm q in_o)))
 
           by_monitor : (u : ℕ) → IsState k u → has_aborts (own k u) ≡ true → t ≡ i.watcher_of u → Leaves t (standing_of first t)
           by_monitor u there has_some e =
               ⊎_elim
-              (λ same. subst (λ v. Leaves v (standing_of first v)) (sym (e ∙ ap i.watcher_of (rows.main_once u o same))) (subst (Leaves (i.watcher_of o)) (sym monitor_over) over))
-              (λ tail. let none : has_aborts (own k u) ≡ false = more.flat_held o u has (from_core (holder k u) tail) in let wrong : true ≡ false = sym has_some ∙ none in absurd cc)
+              (λ same. subst (λ v. Leaves v (standing_of first v)) (sym (e ∙ ap i.watcher_of (rows.main_once u o same)))
+              (subst (Leaves (i.watcher_of o)) (sym monitor_over) over))
+              (λ tail. let none : has_aborts (own k u) ≡ false = more.flat_held o u has (from_core (holder k u) tail) in let wrong : true ≡ false =
+              sym has_some ∙ none in absurd cc)
               (head_or_tail (i.main_of u) (i.main_of o) (around core (i.thread_of (holder k u)))
               (subst (λ zs. Contains zs (i.main_of o)) ((rows.watcher u there has_some).encloses) (subst (λ v. Contains (around core v) (i.main_of o)) e h)))
 
-          by_sort : ((r : ℕ) × IsThere k r × (t ≡ i.thread_of r)) ⊎ ((s : ℕ) × IsState k s × (has_aborts (own k s) ≡ true) × (t ≡ i.watcher_of s)) → Leaves t (standing_of first t)
+          by_sort : ((r : ℕ) × IsThere k r × (t ≡ i.thread_of r)) ⊎ ((s : ℕ) × IsState k s × (has_aborts (own k s) ≡ true) × (t ≡ i.watcher_of s)) →
+              Leaves t (standing_of first t)
           by_sort (inl r) = by_region r.0 r.1 r.2
           by_sort (inr s) = by_monitor s.0 s.1 s.2 s.3

@@ -1,6 +1,7 @@
 -- A superstate that can only be left from outside, with all its regions ended: its fork is joined, and the continuation makes its
 -- strong checks.
-use Rattle.std.proofs.Common.{◌≡◌, ◌≢◌, ℕ, pos, ◌<◌, ◌≤◌, ◌⊎◌, inl, inr, ⊎_elim, Bool, true, false, not, ◌||◌, Option, Some, None, List, [], ◌∷◌, ◌++◌, map, length, slice_get, slice_set, Contains, refl, sym, ap, subst, ◌∙◌, arith}
+use Rattle.std.proofs.Common.{◌≡◌, ◌≢◌, ℕ, pos, ◌<◌, ◌≤◌, ◌⊎◌, inl, inr, ⊎_elim, Bool, true, false, not, ◌||◌, Option, Some, None, List, [], ◌∷◌, ◌++◌, map}
+use Rattle.std.proofs.Common.{length, slice_get, slice_set, Contains, refl, sym, ap, subst, ◌∙◌, arith}
 use Rattle.std.specs.Prelude.{reverse, filter}
 use Rattle.std.specs.List.{list_any}
 use Rattle.std.proofs.lemmas.List.{reverse-append, append-nil}
@@ -74,7 +75,8 @@ module _ (k core : Table) (i : Images) where
       let weak : weak_aborts (own k s) ≡ [] = no_chosen _ (own k s) two.1 in
       let join : terminations (own k s) ≡ [] = no_chosen _ (own k s) no_join in
       rw (strong, weak, join, no_answers (i.places_of r) (i.flags_of s).strong 1, no_answers (i.places_of r) (i.flags_of s).weak 1)
-      (ap (λ zs. zs ++ held_back k core i r) (append-nil (strong_checks true (i.places_of r).left (flags_around k core i r) ++ []) ∙ append-nil (strong_checks true (i.places_of r).left (flags_around k core i r))))
+      (ap (λ zs. zs ++ held_back k core i r) (append-nil (strong_checks true (i.places_of r).left (flags_around k core i r) ++ []) ∙
+      append-nil (strong_checks true (i.places_of r).left (flags_around k core i r))))
     where
       neither : (b c : Bool) → (b || c) ≡ false → (b ≡ false) × (c ≡ false)
       neither true c e = absurd cc
@@ -94,14 +96,16 @@ module _ (k core : Table) (i : Images) where
 in_reverse : (xs : List ℕ) (y : ℕ) → Contains (reverse xs) y → Contains xs y
 in_reverse [] y h = absurd (none_in y h)
 in_reverse (x ∷ xs) y h =
-    ⊎_elim (λ first. tail_in x y xs (in_reverse xs y first)) (λ last. ⊎_elim (λ e. subst (Contains (x ∷ xs)) e (head_in x xs)) (λ none. absurd (none_in y none)) (head_or_tail x y [] last))
+    ⊎_elim (λ first. tail_in x y xs (in_reverse xs y first)) (λ last. ⊎_elim (λ e. subst (Contains (x ∷ xs)) e (head_in x xs))
+    (λ none. absurd (none_in y none)) (head_or_tail x y [] last))
     (in_either (reverse xs) (x ∷ []) y (subst (λ zs. Contains zs y) (reverse-append (x ∷ []) xs) h))
 
 unguarded : (core : Table) (d : Configuration) → ((t : ℕ) → has_to_guard (standing_of d t) ≡ false) → (zs : List ℕ) → is_guarded core d zs ≡ false
 unguarded core d none [] = refl
 unguarded core d none (s ∷ zs) = rw (none (holder core s), unguarded core d none zs) refl
 
-module _ (k core : Table) (i : Images) (rows : CoreRows k core i) (tree : IsTree k) (counts : ℕ → Bool) (written_at : ℕ → ℕ) (Told : Configuration → Entry → Type 0)
+module _ (k core : Table) (i : Images) (rows : CoreRows k core i) (tree : IsTree k) (counts : ℕ → Bool) (written_at : ℕ → ℕ)
+    (Told : Configuration → Entry → Type 0)
     (told : (d : Configuration) (t : ℕ) (stage : Option (ℕ × ℕ)) (a : Access) → Told d (Silent t stage a))
     (deeper : (q s : ℕ) → Contains (around k q) s → holder k s < q)
     (counters : CounterRows k core i rows counts written_at)
@@ -145,7 +149,11 @@ module _ (k core : Table) (i : Images) (rows : CoreRows k core i) (tree : IsTree
       ∙ ap (λ ts. to g (at.Trying (i.behind_of s) ts) ∷ []) (continues_with k core i r s parts.1 parts.2))))
 
   abbrev pub after_join : Configuration
-  after_join = record { variables = d.variables; regions = slice_set (moved (drops (inside core (i.main_of s))) d.regions) g (at.Trying (i.behind_of s) checks) }
+  after_join = record {
+    variables = d.variables;
+    regions = slice_set (moved (drops (inside core (i.main_of s))) d.regions) g
+        (at.Trying (i.behind_of s) checks);
+  }
 
   no_work : (t : ℕ) → (standing_of d t ≡ at.Ended) ⊎ (standing_of d t ≡ at.Outside) → has_work core d (standing_of d t) ≡ false
   no_work t (inl e) = ap (has_work core d) e
@@ -167,8 +175,10 @@ module _ (k core : Table) (i : Images) (rows : CoreRows k core i) (tree : IsTree
   calm_after t =
       ⊎_elim (λ e. ap (λ z. has_to_guard (standing_of after_join z)) e ∙ ap has_to_guard here)
       (λ ne.
-      let other : standing_of after_join t ≡ at_number (moved (drops (inside core (i.main_of s))) d.regions) t = set_other (moved (drops (inside core (i.main_of s))) d.regions) g t (at.Trying (i.behind_of s) checks) ne in
-      ⊎_elim (λ h. ap has_to_guard (other ∙ drops_in (inside core (i.main_of s)) d.regions t h)) (λ out. ap has_to_guard (other ∙ drops_out (inside core (i.main_of s)) d.regions t out) ∙ all_calm k core i rows c r d p t)
+      let other : standing_of after_join t ≡ at_number (moved (drops (inside core (i.main_of s))) d.regions) t =
+      set_other (moved (drops (inside core (i.main_of s))) d.regions) g t (at.Trying (i.behind_of s) checks) ne in
+      ⊎_elim (λ h. ap has_to_guard (other ∙ drops_in (inside core (i.main_of s)) d.regions t h))
+      (λ out. ap has_to_guard (other ∙ drops_out (inside core (i.main_of s)) d.regions t out) ∙ all_calm k core i rows c r d p t)
       (contained (inside core (i.main_of s)) t)) (same_or_not t g)
 
   abbrev pub Left : ℕ → ℕ → Type 0
@@ -220,7 +230,9 @@ module _ (k core : Table) (i : Images) (rows : CoreRows k core i) (tree : IsTree
         staged = record {
           regions = λ q q_there e.
               let here_too : holder k u ≡ q = rows.region_once (holder k u) q (sym home_is ∙ e) in
-              let calm_there : has_to_guard (standing_of c (holder k u)) ≡ false = none_of (λ v. has_to_guard (standing_of c (holder k v))) (around k r) u (subst (λ z. is_guarded k c (around k z) ≡ false) held over_it.free) around_it in
+              let calm_there : has_to_guard (standing_of c (holder k u)) ≡ false =
+              none_of (λ v. has_to_guard (standing_of c (holder k v))) (around k r) u (subst (λ z. is_guarded k c (around k z) ≡ false) held over_it.free)
+              around_it in
               subst (λ z. 1 ≤ stage_of k c (standing_of c z)) here_too (at_least (standing_of c (holder k u)) inside_u calm_there);
           chart = λ e. omega arith;
         };
@@ -238,7 +250,8 @@ module _ (k core : Table) (i : Images) (rows : CoreRows k core i) (tree : IsTree
           reaches = one_reached;
         }
 
-  all_down : (zs : List ℕ) → ((u : ℕ) → Contains zs u → Contains (around k r) u) → AllDown core corr Told told g (i.behind_of s) (i.places_of r).left Left after_join (map i.flags_of zs)
+  all_down : (zs : List ℕ) → ((u : ℕ) → Contains zs u → Contains (around k r) u) →
+      AllDown core corr Told told g (i.behind_of s) (i.places_of r).left Left after_join (map i.flags_of zs)
   all_down [] within = tt
   all_down (u ∷ zs) within = ((λ x flag. is_down u x (within u (head_in u zs)) flag), all_down zs (λ v h. within v (tail_in u v zs h)))
 
@@ -248,7 +261,8 @@ module _ (k core : Table) (i : Images) (rows : CoreRows k core i) (tree : IsTree
       × (((t : ℕ) → t ≢ g → standing_of z t ≡ standing_of after_join t) × (length z.regions ≡ length after_join.regions))))
   joins_fork =
       let t = checks_fail core corr Told told g (i.behind_of s) (i.places_of r).left Left (flags_around k core i r) (held_back k core i r) after_join calm_after
-      (let lt = in_after in let size = set_length (moved (drops (inside core (i.main_of s))) d.regions) g (at.Trying (i.behind_of s) checks) in omega (lt, size, arith))
+      (let lt = in_after in let size = set_length (moved (drops (inside core (i.main_of s))) d.regions) g (at.Trying (i.behind_of s) checks) in
+      omega (lt, size, arith))
       (all_down (reverse (around k r)) (λ u h. in_reverse (around k r) u h)) here in
       record {
         log = Silent g None no_access ∷ t.log;
@@ -257,6 +271,7 @@ module _ (k core : Table) (i : Images) (rows : CoreRows k core i) (tree : IsTree
         charted = t.charted;
         fits = (silent_idle corr g None, t.fits);
         climbs = λ rest climbs.
-            climbs_step corr (Reached k core i c d) Left (Silent g None no_access) (t.log ++ rest) (λ h n e. absurd cc) (λ h n ne before. (ne, before)) (t.climbs rest climbs);
+            climbs_step corr (Reached k core i c d) Left (Silent g None no_access) (t.log ++ rest) (λ h n e. absurd cc) (λ h n ne before. (ne, before))
+            (t.climbs rest climbs);
         reaches = t.reaches;
       }

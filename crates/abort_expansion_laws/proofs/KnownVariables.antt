@@ -1,5 +1,6 @@
 -- What an expression that has a value reads is there; and what a step of a chart gives.
-use Rattle.std.proofs.Common.{◌≡◌, ◌≢◌, ℕ, zero, suc, ◌<◌, ◌≤◌, ◌⊎◌, inl, inr, ⊎_elim, Bool, true, false, not, ◌&&◌, Option, Some, None, List, [], ◌∷◌, ◌++◌, length, option_and_then, Contains, refl, sym, ap, subst, ◌∙◌, arith}
+use Rattle.std.proofs.Common.{◌≡◌, ◌≢◌, ℕ, zero, suc, ◌<◌, ◌≤◌, ◌⊎◌, inl, inr, ⊎_elim, Bool, true, false, not, ◌&&◌, Option, Some, None, List, [], ◌∷◌, ◌++◌}
+use Rattle.std.proofs.Common.{length, option_and_then, Contains, refl, sym, ap, subst, ◌∙◌, arith}
 use Rattle.std.proofs.lemmas.Option.{slice_get_within, slice_get_past}
 use Rattle.std.specs.Prelude.{option_map, unwrap_or}
 use Rattle.sc_values.specs.declared.value.Value.{Value}
@@ -64,7 +65,8 @@ known = induct Known (record {
 })
 
 -- a test that comes out touches only variables that are there
-pub trigger_known : (values : List Value) (trigger : Option Expr) (b : Bool) → verdict values trigger ≡ Some b → (x : ℕ) → Touches (access_of_trigger trigger) x → x < length values
+pub trigger_known : (values : List Value) (trigger : Option Expr) (b : Bool) → verdict values trigger ≡ Some b → (x : ℕ) →
+    Touches (access_of_trigger trigger) x → x < length values
 trigger_known values None b is x (inl r) = absurd (none_in x r)
 trigger_known values None b is x (inr (inl w)) = let e = w.1 in absurd cc
 trigger_known values None b is x (inr (inr w)) = let e = w.1 in absurd cc

@@ -41,14 +41,16 @@ use Rattle.abort_expansion_laws.proofs.EffectFollowed.{IsActing, acting_back, so
 use Rattle.abort_expansion_laws.proofs.TakenAtOnce.{BeginsAt, overwritten, not_counting, none_counted, any_same, staged}
 use Rattle.abort_expansion_laws.proofs.Owed.{Enters, chart_enters, core_enters}
 
-module _ (k core : Table) (i : Images) (rows : CoreRows k core i) (tree : IsTree k) (counts : ℕ → Bool) (written_at : ℕ → ℕ) (Told : Configuration → Entry → Type 0)
+module _ (k core : Table) (i : Images) (rows : CoreRows k core i) (tree : IsTree k) (counts : ℕ → Bool) (written_at : ℕ → ℕ)
+    (Told : Configuration → Entry → Type 0)
     (enters : Enters k core i rows tree counts written_at Told)
     (c d : Configuration) (related : Related k core i c d) (q s p : ℕ) (e : Effect) (stands : standing_of c q ≡ at.Acting s (e ∷ []) p)
     (goes_not_over : is_final k (state_in k q p) ≡ false)
     (chart_first : BeginsAt q (state_at k (state_in k q p)).entered)
     (core_first : BeginsAt (i.thread_of q) (state_at core (i.entry_of (state_in k q p))).entered)
     (free : is_guarded k c (around k q) ≡ false)
-    (v : Value) (is : value_of e.value c.variables ≡ Some v) (fits : takes_kind (option_map (λ z. z.kind) (slice_get k.variables e.variable)) (kind_of v) ≡ true) where
+    (v : Value) (is : value_of e.value c.variables ≡ Some v) (fits : takes_kind (option_map (λ z. z.kind) (slice_get k.variables e.variable)) (kind_of v) ≡
+    true) where
   there : IsThere k q
   there = present_there k core i c d related q (λ w. let wrong : at.Acting s (e ∷ []) p ≡ at.Outside = sym stands ∙ w in absurd cc)
 
@@ -66,7 +68,8 @@ module _ (k core : Table) (i : Images) (rows : CoreRows k core i) (tree : IsTree
 
   known_variable : (a : Variable) × (slice_get k.variables e.variable ≡ Some a)
   known_variable =
-      let z = some_kind (option_map (λ z. z.kind) (slice_get k.variables e.variable)) (kind_of v) fits in there_variable (slice_get k.variables e.variable) z.0 z.1
+      let z = some_kind (option_map (λ z. z.kind) (slice_get k.variables e.variable)) (kind_of v) fits in
+      there_variable (slice_get k.variables e.variable) z.0 z.1
 
   in_range : e.variable < length k.variables
   in_range = slice_get_within k.variables e.variable known_variable.0 known_variable.1
@@ -135,7 +138,8 @@ module _ (k core : Table) (i : Images) (rows : CoreRows k core i) (tree : IsTree
         chart_access = ap access_of stands;
         core_access = ap access_of core_stands;
         declared = λ x touches.
-            let lt = assigned_known e.variable e.value c.variables v is (omega (in_range, related.values, arith)) x touches in omega (lt, related.values, arith);
+            let lt = assigned_known e.variable e.value c.variables v is (omega (in_range, related.values, arith)) x touches in
+            omega (lt, related.values, arith);
       }
 
   abbrev f : Configuration
@@ -168,23 +172,31 @@ module _ (k core : Table) (i : Images) (rows : CoreRows k core i) (tree : IsTree
       (λ u. (same_shape k core i rows c d related q y z c1 d1 goes).guards_alike (holder k u)) ∙ free
 
   core_same : core_enters k core i d1 written q p ≡ f
-  core_same = ap (λ zs. record { variables = written; regions = zs }) (overwritten (i.thread_of q) (state_at core (i.entry_of (state_in k q p))).entered core_first d.regions z)
+  core_same = ap (λ zs. record { variables = written; regions = zs }) (overwritten (i.thread_of q) (state_at core (i.entry_of (state_in k q p))).entered
+      core_first d.regions z)
 
   abbrev pub next : Configuration
   next = record { variables = slice_set c.variables e.variable v; regions = moved (state_at k (state_in k q p)).entered c.regions }
 
   chart_same : chart_enters k core i c1 q p ≡ next
-  chart_same = ap (λ zs. record { variables = slice_set c.variables e.variable v; regions = zs }) (overwritten q (state_at k (state_in k q p)).entered chart_first c.regions y)
+  chart_same = ap (λ zs. record { variables = slice_set c.variables e.variable v; regions = zs })
+      (overwritten q (state_at k (state_in k q p)).entered chart_first c.regions y)
 
   -- the last effect is made, and leads to no final state
   pub last_effect : Told d (Image q (access_of_assignment e.variable (assignment_of e.variable e.value))) →
-      Segment (machine core) (pair k core i rows tree counts written_at) Told d (Stage k i.thread_of c d) (Stage k i.thread_of next) (act_of (machine k) c q ∷ []) (Related k core i next)
+      Segment (machine core) (pair k core i rows tree counts written_at) Told d (Stage k i.thread_of c d) (Stage k i.thread_of next)
+      (act_of (machine k) c q ∷ []) (Related k core i next)
   last_effect told =
-      let image_part = image_to k core i rows tree counts written_at c d related q y z c1 d1 (access_of_assignment e.variable (assignment_of e.variable e.value)) move f core_steps Told told in
-      let rest = enters c1 d1 related1 q s p e here1 free1 written (none_counted k core i (is_final k (state_in k q p)) (counter_over k core i (around k q)) written goes_not_over) in
-      subst (λ w. Segment (machine core) (pair k core i rows tree counts written_at) Told d (Stage k i.thread_of c d) (Stage k i.thread_of w) (act_of (machine k) c q ∷ []) (Related k core i w)) chart_same
-      (segment_on (machine core) (pair k core i rows tree counts written_at) Told d (Stage k i.thread_of c d) (Stage k i.thread_of c1) (Stage k i.thread_of (chart_enters k core i c1 q p)) (act_of (machine k) c q ∷ []) []
+      let image_part = image_to k core i rows tree counts written_at c d related q y z c1 d1
+      (access_of_assignment e.variable (assignment_of e.variable e.value)) move f core_steps Told told in
+      let rest = enters c1 d1 related1 q s p e here1 free1 written (none_counted k core i (is_final k (state_in k q p)) (counter_over k core i (around k q))
+      written goes_not_over) in
+      subst (λ w. Segment (machine core) (pair k core i rows tree counts written_at) Told d (Stage k i.thread_of c d) (Stage k i.thread_of w)
+      (act_of (machine k) c q ∷ []) (Related k core i w)) chart_same
+      (segment_on (machine core) (pair k core i rows tree counts written_at) Told d (Stage k i.thread_of c d) (Stage k i.thread_of c1)
+      (Stage k i.thread_of (chart_enters k core i c1 q p)) (act_of (machine k) c q ∷ []) []
       (λ w. w ≡ f) (Related k core i (chart_enters k core i c1 q p)) image_part
-      (subst (λ w. Segment (machine core) (pair k core i rows tree counts written_at) Told w (Stage k i.thread_of c1 w) (Stage k i.thread_of (chart_enters k core i c1 q p)) [] (Related k core i (chart_enters k core i c1 q p)))
+      (subst (λ w. Segment (machine core) (pair k core i rows tree counts written_at) Told w (Stage k i.thread_of c1 w)
+      (Stage k i.thread_of (chart_enters k core i c1 q p)) [] (Related k core i (chart_enters k core i c1 q p)))
       (core_same ∙ sym image_part.reaches)
       (staged k core i rows tree counts written_at Told c1 d1 (chart_enters k core i c1 q p) (core_enters k core i d1 written q p) rest)))

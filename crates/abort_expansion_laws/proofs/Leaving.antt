@@ -1,5 +1,6 @@
 -- Once a flag is raised, everything inside its superstate leaves, what lies deeper first.
-use Rattle.std.proofs.Common.{◌≡◌, ◌≢◌, ℕ, zero, suc, ◌<◌, ⊎_elim, true, false, not, Some, None, List, [], ◌∷◌, ◌++◌, map, length, slice_get, slice_set, unwrap_or, Contains, refl, sym, ap, subst, ◌∙◌, arith}
+use Rattle.std.proofs.Common.{◌≡◌, ◌≢◌, ℕ, zero, suc, ◌<◌, ⊎_elim, true, false, not, Some, None, List, [], ◌∷◌, ◌++◌, map, length, slice_get, slice_set}
+use Rattle.std.proofs.Common.{unwrap_or, Contains, refl, sym, ap, subst, ◌∙◌, arith}
 use Rattle.std.specs.List.{list_all}
 use Rattle.core_charts.specs.declared.region.Transition.{Transition}
 use Rattle.chart_machine.specs.declared.standing.Standing.{Standing}
@@ -49,7 +50,8 @@ pub stay_out : (rs : List ℕ) (zs : List Standing) (q : ℕ) → at_number zs q
 stay_out [] zs q e = e
 stay_out (r ∷ rs) zs q e =
     stay_out rs (slice_set zs r at.Outside) q
-    (⊎_elim (λ same. subst (λ p. at_number (slice_set zs r at.Outside) p ≡ at.Outside) (sym same) (set_out zs r)) (λ ne. set_other zs r q at.Outside ne ∙ e) (same_or_not q r))
+    (⊎_elim (λ same. subst (λ p. at_number (slice_set zs r at.Outside) p ≡ at.Outside) (sym same) (set_out zs r)) (λ ne. set_other zs r q at.Outside ne ∙ e)
+    (same_or_not q r))
 
 pub drops_in : (rs : List ℕ) (zs : List Standing) (q : ℕ) → Contains rs q → at_number (moved (drops rs) zs) q ≡ at.Outside
 drops_in [] zs q h = absurd (none_in q h)
@@ -74,24 +76,30 @@ moved_append (m ∷ a) b zs = moved_append a b (slice_set zs m.region m.standing
 -- ---- two steps of the core
 
 module _ (core : Table) where
-  pub leaves : (d : Configuration) (q s : ℕ) (w : Transition) (rest : List Transition) → is_guarded core d (around core q) ≡ false → standing_of d q ≡ at.Trying s (w ∷ rest) →
-      verdict d.variables w.trigger ≡ Some true → w.effects ≡ [] → inside core s ≡ [] → (state_at core (state_in core q w.target)).entered ≡ to q at.Ended ∷ [] →
+  pub leaves : (d : Configuration) (q s : ℕ) (w : Transition) (rest : List Transition) → is_guarded core d (around core q) ≡ false →
+      standing_of d q ≡ at.Trying s (w ∷ rest) →
+      verdict d.variables w.trigger ≡ Some true → w.effects ≡ [] → inside core s ≡ [] →
+      (state_at core (state_in core q w.target)).entered ≡ to q at.Ended ∷ [] →
       step core q d ≡ Some (record { variables = d.variables; regions = slice_set d.regions q at.Ended })
   leaves d q s w rest free stands true_there none simple ends =
       let on : is_enabled core d q ≡ true = rw (stands, free) refl in
       let moves : taken core q s w ≡ to q at.Ended ∷ [] = rw (simple, none, ends) refl in
       let does : deed_of core d q (standing_of d q) ≡ Some (record { write = None; moves = to q at.Ended ∷ [] }) =
-      ap (deed_of core d q) stands ∙ (tested_is core d q s w (to q (at.Trying s rest) ∷ []) true true_there ∙ ap (λ ms. Some (record { write = None; moves = ms })) moves) in
+      ap (deed_of core d q) stands ∙ (tested_is core d q s w (to q (at.Trying s rest) ∷ []) true true_there ∙
+      ap (λ ms. Some (record { write = None; moves = ms })) moves) in
       rw (on, does) refl
 
   pub joined : (d : Configuration) (q s j : ℕ) (x : Standing) → is_guarded core d (around core q) ≡ false → standing_of d q ≡ at.Within s (joins j ∷ []) →
-      list_all (λ r. has_ended (standing_of d r)) (state_at core s).regions ≡ true → list_all (λ r. not (has_work core d (standing_of d r))) (inside core s) ≡ true →
+      list_all (λ r. has_ended (standing_of d r)) (state_at core s).regions ≡ true →
+      list_all (λ r. not (has_work core d (standing_of d r))) (inside core s) ≡ true →
       (state_at core (state_in core q j)).entered ≡ to q x ∷ [] →
       step core q d ≡ Some (record { variables = d.variables; regions = slice_set (moved (drops (inside core s)) d.regions) q x })
   joined d q s j x free stands ended idle enters =
       let on : is_enabled core d q ≡ true = rw (stands, ended, free, idle) refl in
       let moves : taken core q s (joins j) ≡ drops (inside core s) ++ to q x ∷ [] = rw (enters) refl in
       let does : deed_of core d q (standing_of d q) ≡ Some (record { write = None; moves = drops (inside core s) ++ to q x ∷ [] }) =
-      ap (deed_of core d q) stands ∙ (tested_is core d q s (joins j) (to q (at.Within s []) ∷ []) true refl ∙ ap (λ ms. Some (record { write = None; moves = ms })) moves) in
-      let all : step core q d ≡ Some (record { variables = d.variables; regions = moved (drops (inside core s) ++ to q x ∷ []) d.regions }) = rw (on, does) refl in
+      ap (deed_of core d q) stands ∙ (tested_is core d q s (joins j) (to q (at.Within s []) ∷ []) true refl ∙
+      ap (λ ms. Some (record { write = None; moves = ms })) moves) in
+      let all : step core q d ≡ Some (record { variables = d.variables; regions = moved (drops (inside core s) ++ to q x ∷ []) d.regions }) =
+      rw (on, does) refl in
       all ∙ ap (λ zs. Some (record { variables = d.variables; regions = zs })) (moved_append (drops (inside core s)) (to q x ∷ []) d.regions)

@@ -8,11 +8,13 @@ use Rattle.abort_expansion_laws.specs.Ticks.{Reactive, Reaction, AllOf, HasAlike
 pub record KeepsTicks (m n : Reactive) (Accepted : Inputs → Type 0) (Alike : m.machine.Configuration → n.machine.Configuration → Type 0) : Type 1 where
   pub Rests : m.machine.Configuration → n.machine.Configuration → Type 0
   pub begins : Rests m.initial n.initial
-  pub tick : (inputs : Inputs) (c last : m.machine.Configuration) (d : n.machine.Configuration) → Accepted inputs → Rests c d → Ends m.machine (m.start inputs c) last →
+  pub tick : (inputs : Inputs) (c last : m.machine.Configuration) (d : n.machine.Configuration) → Accepted inputs → Rests c d →
+      Ends m.machine (m.start inputs c) last →
       (e : n.machine.Configuration) × Ends n.machine (n.start inputs d) e × Rests last e
   pub seen : (c : m.machine.Configuration) (d : n.machine.Configuration) → Rests c d → Alike c d
 
-module _ (m n : Reactive) (Accepted : Inputs → Type 0) (Alike : m.machine.Configuration → n.machine.Configuration → Type 0) (keeps : KeepsTicks m n Accepted Alike) where
+module _ (m n : Reactive) (Accepted : Inputs → Type 0) (Alike : m.machine.Configuration → n.machine.Configuration → Type 0)
+    (keeps : KeepsTicks m n Accepted Alike) where
   ticks_from : (ticks : List Inputs) (ends : List m.machine.Configuration) (c : m.machine.Configuration) (d : n.machine.Configuration) → keeps.Rests c d →
       AllOf Accepted ticks → Reaction m ticks c ends → HasAlike n m.machine.Configuration Alike ticks d ends
   ticks_from [] [] c d rests accepted reaction = record { others = []; reaction = tt; alike = tt }

@@ -38,13 +38,15 @@ module _ (p : Program) (formed : IsFormed p) (c : Control) (ok : IsConfiguration
   parent_once k a b x y = same_Some a b (sym x ∙ y)
 
   standing_near : (u n : ℕ) → status_of (after e c) u ≡ status.At n → Stays p c (after e c) u ⊎ Near p t u
-  standing_near u n at = ⊎_elim (λ same. inr (inl same)) (λ ne. ⊎_elim (λ child. inr (inr (inl (m.parent u child)))) (other ne) (contained m.children u)) (same_or_not u t)
+  standing_near u n at = ⊎_elim (λ same. inr (inl same)) (λ ne. ⊎_elim (λ child. inr (inr (inl (m.parent u child)))) (other ne) (contained m.children u))
+      (same_or_not u t)
     where
       other : u ≢ t → ¬ Contains m.children u → Stays p c (after e c) u ⊎ Near p t u
       other ne none = let same = after_other p formed c t e m u ne none in inl (stands n (sym same ∙ at), same)
 
   completing_near : (u : ℕ) → Completes p (after e c) u → Stays p c (after e c) u ⊎ Near p t u
-  completing_near u w = ⊎_elim (λ same. inr (inl same)) (λ ne. ⊎_elim (λ child. inr (inr (inl (m.parent u child)))) (other ne) (contained m.children u)) (same_or_not u t)
+  completing_near u w = ⊎_elim (λ same. inr (inl same)) (λ ne. ⊎_elim (λ child. inr (inr (inl (m.parent u child)))) (other ne) (contained m.children u))
+      (same_or_not u t)
     where
       other : u ≢ t → ¬ Contains m.children u → Stays p c (after e c) u ⊎ Near p t u
       other ne none = ⊎_elim last before (contained w.children t)
@@ -68,7 +70,17 @@ module _ (p : Program) (formed : IsFormed p) (c : Control) (ok : IsConfiguration
 
           before : ¬ Contains w.children t → Stays p c (after e c) u ⊎ Near p t u
           before out =
-              inl (completes (record { join = w.join; children = w.children; at = sym same ∙ w.at; joined = w.joined; ended = λ k h. sym (unmoved out k h) ∙ w.ended k h }), same)
+              inl (
+                completes (record {
+                  join = w.join;
+                  children = w.children;
+                  at = sym same ∙ w.at;
+                  joined = w.joined;
+                  ended = λ k h. sym (unmoved out k h) ∙
+                      w.ended k h;
+                }),
+                same,
+              )
 
   near : (u : ℕ) → Enabled p (after e c) u → Stays p c (after e c) u ⊎ Near p t u
   near u (stands n at) = standing_near u n at
@@ -90,7 +102,8 @@ abbrev pub LowUnder : Program → Tables → (In : ℕ → Type 0) (Excused : St
 LowUnder p q In Excused top c = (u : ℕ) → In u → Enabled p c u → (priority_of q (status_of c u) < top) ⊎ Excused (status_of c u)
 
 -- who is near a thread below them is below them too, or is r
-near_under : (p : Program) (Child : ℕ → Type 0) (r : ℕ) → ((k : ℕ) → Child k → parent_of p k ≡ Some r) → (t u : ℕ) → t ≢ r → Under p Child u → Near p t u → Under p Child t
+near_under : (p : Program) (Child : ℕ → Type 0) (r : ℕ) → ((k : ℕ) → Child k → parent_of p k ≡ Some r) → (t u : ℕ) → t ≢ r → Under p Child u → Near p t u →
+    Under p Child t
 near_under p Child r of_r t u ne in_u (inl same) = subst (Under p Child) same in_u
 near_under p Child r of_r t u ne in_u (inr (inl up)) = by_depth in_u.2.generations in_u.2.descends
   where
@@ -99,11 +112,17 @@ near_under p Child r of_r t u ne in_u (inr (inl up)) = by_depth in_u.2.generatio
     by_depth (suc n) d =
         let same : d.0 ≡ t = same_Some d.0 t (sym d.1 ∙ up) in
         (in_u.0, in_u.1, record { generations = n; descends = subst (λ z. Descends p n z in_u.0) same d.2 })
-near_under p Child r of_r t u ne in_u (inr (inr down)) = (in_u.0, in_u.1, record { generations = suc in_u.2.generations; descends = (u, down, in_u.2.descends) })
+near_under p Child r of_r t u ne in_u (inr (inr down)) = (
+  in_u.0,
+  in_u.1,
+  record
+      { generations = suc in_u.2.generations; descends = (u, down, in_u.2.descends) },
+)
 
 -- below them, while r takes no step, each enabled thread stays below `top`, or stands where it stood, excused: what an
 -- excused place leads to is below `top`
-pub low_under_kept : (p : Program) (q : Tables) → IsValid p q → (Child : ℕ → Type 0) (Excused : Status → Type 0) (r : ℕ) → ((k : ℕ) → Child k → parent_of p k ≡ Some r) →
+pub low_under_kept : (p : Program) (q : Tables) → IsValid p q → (Child : ℕ → Type 0) (Excused : Status → Type 0) (r : ℕ) →
+    ((k : ℕ) → Child k → parent_of p k ≡ Some r) →
     (c : Control) → IsConfiguration p c → (t : ℕ) (e : Effect) → effect p c t ≡ Some e → t ≢ r → (top : ℕ) →
     ((m n : ℕ) → Excused (status_of c t) → StandsAt (status_of c t) m → Instant p m n → priority q n < top) →
     LowUnder p q (Under p Child) Excused top c → LowUnder p q (Under p Child) Excused top (after e c)
@@ -119,7 +138,8 @@ low_under_kept p q valid Child Excused r of_r c ok t e h ne top excuse low u wit
     by_stays : Stays p c (after e c) u → Goal
     by_stays s = subst (λ z. (priority_of q z < top) ⊎ Excused z) (sym s.1) (low u within s.0)
 
-    by_edge : (m n : ℕ) → StandsAt (status_of c t) m → StandsAt (status_of (after e c) u) n → Instant p m n → (priority_of q (status_of c t) < top) ⊎ Excused (status_of c t) → Goal
+    by_edge : (m n : ℕ) → StandsAt (status_of c t) m → StandsAt (status_of (after e c) u) n → Instant p m n →
+        (priority_of q (status_of c t) < top) ⊎ Excused (status_of c t) → Goal
     by_edge m n at there edge (inl lt) =
         inl (omega (arith, (flow p q valid).falls m n edge, stands_priority q (status_of c t) m at, stands_priority q (status_of (after e c) u) n there, lt))
     by_edge m n at there edge (inr x) = inl (omega (arith, excuse m n x at edge, stands_priority q (status_of (after e c) u) n there))
@@ -134,7 +154,8 @@ low_under_kept p q valid Child Excused r of_r c ok t e h ne top excuse low u wit
 
 -- the test of a monitor at node g leads to node s, which raises the flag. A node w that stands below s and is to come
 -- before g cannot be: each thread inside reads the flag first
-pub never_before : (p : Program) (q : Tables) → IsValid p q → (g s w : ℕ) → Instant p g s → priority q w < priority q s → ConcurrentNodes p w g → Precedes (accesses p w) (accesses p g) → ⊥
+pub never_before : (p : Program) (q : Tables) → IsValid p q → (g s w : ℕ) → Instant p g s → priority q w < priority q s → ConcurrentNodes p w g →
+    Precedes (accesses p w) (accesses p g) → ⊥
 never_before p q valid g s w leads low both first =
     let falls : priority q g < priority q w = valid.protocol (place.Pair w g) (record { concurrent = both; precedes = first }) in
     let goes : priority q s ≤ priority q g = (flow p q valid).falls g s leads in

@@ -1,5 +1,6 @@
 -- A region goes on, and so does the monitor of the superstate in which it stands: what corresponds still does.
-use Rattle.std.proofs.Common.{◌≡◌, ◌≢◌, ℕ, zero, suc, ◌<◌, ◌≤◌, ⊎_elim, true, false, Option, Some, None, List, [], ◌∷◌, ◌++◌, length, slice_get, slice_set, Contains, refl, sym, ap, subst, ◌∙◌, arith}
+use Rattle.std.proofs.Common.{◌≡◌, ◌≢◌, ℕ, zero, suc, ◌<◌, ◌≤◌, ⊎_elim, true, false, Option, Some, None, List, [], ◌∷◌, ◌++◌, length, slice_get, slice_set}
+use Rattle.std.proofs.Common.{Contains, refl, sym, ap, subst, ◌∙◌, arith}
 use Rattle.sc_values.specs.declared.value.Value.{Value}
 use Rattle.core_charts.specs.declared.region.Transition.{Transition}
 use Rattle.chart_machine.specs.declared.standing.Standing.{Standing}
@@ -47,7 +48,8 @@ module _ (k core : Table) (i : Images) (rows : CoreRows k core i) where
     pub values : length c'.variables ≡ length k.variables
     pub flags : (x : ℕ) → length k.variables ≤ x → slice_get d'.variables x ≡ slice_get d.variables x
 
-  module _ (c d : Configuration) (related : Related k core i c d) (r o : ℕ) (y z : Standing) (c' d' : Configuration) (go : MonitorGoesOn c d r o y z c' d') where
+  module _ (c d : Configuration) (related : Related k core i c d) (r o : ℕ) (y z : Standing) (c' d' : Configuration)
+      (go : MonitorGoesOn c d r o y z c' d') where
     in_chart : r < length c.regions
     in_chart = let lt = go.there.1 in omega (lt, related.chart_regions, arith)
 
@@ -72,8 +74,10 @@ module _ (k core : Table) (i : Images) (rows : CoreRows k core i) where
     pub same_shape : SameShape c c'
     same_shape =
         record {
-          ends = λ q. ⊎_elim (λ e. ap (λ p. has_ended (standing_of c' p)) e ∙ (ap has_ended here ∙ (go.ends ∙ ap (λ p. has_ended (standing_of c p)) (sym e)))) (λ ne. ap has_ended (elsewhere q ne)) (same_or_not q r);
-          guards_alike = λ q. ⊎_elim (λ e. ap (λ p. guards (standing_of c' p)) e ∙ (ap guards here ∙ (go.guards_alike ∙ ap (λ p. guards (standing_of c p)) (sym e)))) (λ ne. ap guards (elsewhere q ne)) (same_or_not q r);
+          ends = λ q. ⊎_elim (λ e. ap (λ p. has_ended (standing_of c' p)) e ∙ (ap has_ended here ∙ (go.ends ∙ ap (λ p. has_ended (standing_of c p)) (sym e))))
+              (λ ne. ap has_ended (elsewhere q ne)) (same_or_not q r);
+          guards_alike = λ q. ⊎_elim (λ e. ap (λ p. guards (standing_of c' p)) e ∙
+              (ap guards here ∙ (go.guards_alike ∙ ap (λ p. guards (standing_of c p)) (sym e)))) (λ ne. ap guards (elsewhere q ne)) (same_or_not q r);
         }
 
     regions_kept : (q : ℕ) → IsThere k q → Stands k core i c' q (standing_of c' q) (standing_of d' (i.thread_of q))
@@ -82,7 +86,9 @@ module _ (k core : Table) (i : Images) (rows : CoreRows k core i) where
         same : q ≡ r → Stands k core i c' q (standing_of c' q) (standing_of d' (i.thread_of q))
         same e =
             subst (λ p. Stands k core i c' p (standing_of c' p) (standing_of d' (i.thread_of p))) (sym e)
-            (subst (λ w. Stands k core i c' r w (standing_of d' (i.thread_of r))) (sym here) (subst (Stands k core i c' r y) (sym (core_elsewhere (i.thread_of r) (monitor.no_thread r))) (stands_kept k core i c c' same_shape r y (standing_of d (i.thread_of r)) go.stands)))
+            (subst (λ w. Stands k core i c' r w (standing_of d' (i.thread_of r))) (sym here)
+            (subst (Stands k core i c' r y) (sym (core_elsewhere (i.thread_of r) (monitor.no_thread r)))
+            (stands_kept k core i c c' same_shape r y (standing_of d (i.thread_of r)) go.stands)))
 
         other : q ≢ r → Stands k core i c' q (standing_of c' q) (standing_of d' (i.thread_of q))
         other ne =
@@ -103,7 +109,8 @@ module _ (k core : Table) (i : Images) (rows : CoreRows k core i) where
         its_own : u ≡ o → Watches k core i u (standing_of c' (holder k u)) (standing_of d' (i.watcher_of u))
         its_own e =
             subst (λ v. Watches k core i v (standing_of c' (holder k v)) (standing_of d' (i.watcher_of v))) (sym e)
-            (subst (λ w. Watches k core i o w (standing_of d' (i.watcher_of o))) (sym (ap (standing_of c') go.held ∙ here)) (subst (Watches k core i o y) (sym core_here) go.watches))
+            (subst (λ w. Watches k core i o w (standing_of d' (i.watcher_of o))) (sym (ap (standing_of c') go.held ∙ here))
+            (subst (Watches k core i o y) (sym core_here) go.watches))
 
         other : u ≢ o → Watches k core i u (standing_of c' (holder k u)) (standing_of d' (i.watcher_of u))
         other differ = subst (Watches k core i u (standing_of c' (holder k u))) (sym core_same) (⊎_elim here_too there_still (same_or_not (holder k u) r))
@@ -112,7 +119,8 @@ module _ (k core : Table) (i : Images) (rows : CoreRows k core i) where
             core_same = core_elsewhere (i.watcher_of u) (λ e. differ (monitors_differ u there has e))
 
             here_too : holder k u ≡ r → Watches k core i u (standing_of c' (holder k u)) (standing_of d (i.watcher_of u))
-            here_too e = subst (λ w. Watches k core i u w (standing_of d (i.watcher_of u))) (sym (ap (standing_of c') e ∙ here)) (go.watches_others u there has e differ)
+            here_too e = subst (λ w. Watches k core i u w (standing_of d (i.watcher_of u))) (sym (ap (standing_of c') e ∙ here))
+                (go.watches_others u there has e differ)
 
             there_still : holder k u ≢ r → Watches k core i u (standing_of c' (holder k u)) (standing_of d (i.watcher_of u))
             there_still ne = subst (λ w. Watches k core i u w (standing_of d (i.watcher_of u))) (sym (elsewhere (holder k u) ne)) (related.watchers u there has)
@@ -121,7 +129,8 @@ module _ (k core : Table) (i : Images) (rows : CoreRows k core i) where
     back_inside s inner = ⊎_elim same other (same_or_not (holder k s) r)
       where
         same : holder k s ≡ r → IsInside k core i s (standing_of c (holder k s))
-        same e = subst (λ q. IsInside k core i s (standing_of c q)) (sym e) (go.inside_back s e (subst (IsInside k core i s) (ap (standing_of c') e ∙ here) inner))
+        same e = subst (λ q. IsInside k core i s (standing_of c q)) (sym e)
+            (go.inside_back s e (subst (IsInside k core i s) (ap (standing_of c') e ∙ here) inner))
 
         other : holder k s ≢ r → IsInside k core i s (standing_of c (holder k s))
         other ne = subst (IsInside k core i s) (elsewhere (holder k s) ne) inner
@@ -157,7 +166,8 @@ module _ (k core : Table) (i : Images) (rows : CoreRows k core i) where
     was_present q present = ⊎_elim (λ e was. go.was_there (ap (standing_of c) (sym e) ∙ was)) (λ ne was. present (elsewhere q ne ∙ was)) (same_or_not q r)
 
     is_present : (q : ℕ) → standing_of c q ≢ at.Outside → standing_of c' q ≢ at.Outside
-    is_present q present = ⊎_elim (λ e is. go.is_there (sym here ∙ (ap (standing_of c') (sym e) ∙ is))) (λ ne is. present (sym (elsewhere q ne) ∙ is)) (same_or_not q r)
+    is_present q present = ⊎_elim (λ e is. go.is_there (sym here ∙ (ap (standing_of c') (sym e) ∙ is))) (λ ne is. present (sym (elsewhere q ne) ∙ is))
+        (same_or_not q r)
 
     not_zero : (n : ℕ) → 0 < n → 0 ≢ n
     not_zero n lt e = absurd (omega (lt, e, arith))
@@ -179,11 +189,13 @@ module _ (k core : Table) (i : Images) (rows : CoreRows k core i) where
           enclosed = λ q s there present around_it. still_inside s (related.enclosed q s there (was_present q present) around_it);
           opened = λ s q there inner child. is_present q (related.opened s q there (back_inside s inner) child);
           closes_last = λ s tests is.
-              ⊎_elim (λ e. go.closes s tests e (sym here ∙ (ap (standing_of c') (sym e) ∙ is))) (λ ne. related.closes_last s tests (sym (elsewhere (holder k s) ne) ∙ is))
+              ⊎_elim (λ e. go.closes s tests e (sym here ∙ (ap (standing_of c') (sym e) ∙ is)))
+              (λ ne. related.closes_last s tests (sym (elsewhere (holder k s) ne) ∙ is))
               (same_or_not (holder k s) r);
           calm = λ q s there around_it guarded_by.
               let was : guards (standing_of c (holder k s)) ≡ true = sym (same_shape.guards_alike (holder k s)) ∙ guarded_by in
               ⊎_elim
-              (λ e. absurd (both_ways (guards (standing_of c (holder k s))) was (none_among (λ v. guards (standing_of c (holder k v))) (around k r) s go.free (subst (λ p. Contains (around k p) s) e around_it))))
+              (λ e. absurd (both_ways (guards (standing_of c (holder k s))) was
+              (none_among (λ v. guards (standing_of c (holder k v))) (around k r) s go.free (subst (λ p. Contains (around k p) s) e around_it))))
               (λ ne. subst IsCalm (sym (elsewhere q ne)) (related.calm q s there around_it was)) (same_or_not q r);
         }

@@ -1,5 +1,6 @@
 -- An abort test of a region that the monitor of its superstate makes: it is followed by one step of the core.
-use Rattle.std.proofs.Common.{◌≡◌, ◌≢◌, ℕ, zero, suc, ◌<◌, ◌≤◌, ◌⊎◌, inl, inr, ⊎_elim, Bool, true, false, Some, [], ◌∷◌, length, unwrap_or, Contains, refl, sym, ap, subst, ◌∙◌, arith}
+use Rattle.std.proofs.Common.{◌≡◌, ◌≢◌, ℕ, zero, suc, ◌<◌, ◌≤◌, ◌⊎◌, inl, inr, ⊎_elim, Bool, true, false, Some, [], ◌∷◌, length, unwrap_or, Contains, refl}
+use Rattle.std.proofs.Common.{sym, ap, subst, ◌∙◌, arith}
 use Rattle.std.specs.List.{list_any}
 use Rattle.std.proofs.lemmas.Option.{slice_get_past}
 use Rattle.sc_values.specs.Access.{Access, Nothing}
@@ -41,7 +42,8 @@ module _ (k core : Table) (i : Images) (rows : CoreRows k core i) (tree : IsTree
     pub core_access : access_of (standing_of d (i.watcher_of o)) ≡ a
     pub declared : (x : ℕ) → Touches a x → x < length k.variables
 
-  module _ (c d : Configuration) (related : Related k core i c d) (q o stage : ℕ) (y z : Standing) (c' d' : Configuration) (a : Access) (s : WatchedStep c d q o stage y z c' d' a) where
+  module _ (c d : Configuration) (related : Related k core i c d) (q o stage : ℕ) (y z : Standing) (c' d' : Configuration) (a : Access)
+      (s : WatchedStep c d q o stage y z c' d' a) where
     elsewhere : (r : ℕ) → r ≢ q → standing_of c' r ≡ standing_of c r
     elsewhere r ne = stands_other c c' q r y s.goes.chart ne
 
@@ -86,7 +88,8 @@ module _ (k core : Table) (i : Images) (rows : CoreRows k core i) (tree : IsTree
 
       high_there : 1 ≤ stage_of k c' (standing_of c' (holder k u))
       high_there =
-          subst (λ x. 1 ≤ stage_of k c' x) (sym (elsewhere (holder k u) (holds_other k tree q u inner))) (high (standing_of c (holder k u)) stands_inside not_guarding)
+          subst (λ x. 1 ≤ stage_of k c' x) (sym (elsewhere (holder k u) (holds_other k tree q u inner)))
+          (high (standing_of c (holder k u)) stands_inside not_guarding)
 
     abbrev Inner : ℕ → ℕ → Type 0
     Inner h v = (b : ℕ) × LiesUnder k q b × (h ≡ i.thread_of b) × (v ≡ 1)
@@ -98,7 +101,8 @@ module _ (k core : Table) (i : Images) (rows : CoreRows k core i) (tree : IsTree
         by_kind (inr root) = (
           λ u before. let n = before.chart (is ∙ ap i.thread_of root) in omega (n, one, arith),
           record {
-            regions = λ r there e. let same : r ≡ 0 = rows.region_once r 0 (sym e ∙ (is ∙ ap i.thread_of root)) in let lt = there.0 in absurd (omega (same, lt, arith));
+            regions = λ r there e. let same : r ≡ 0 = rows.region_once r 0 (sym e ∙ (is ∙ ap i.thread_of root)) in let lt = there.0 in
+                absurd (omega (same, lt, arith));
             chart = λ e. omega (one, arith);
           },
         )
@@ -109,7 +113,8 @@ module _ (k core : Table) (i : Images) (rows : CoreRows k core i) (tree : IsTree
           record {
             regions = λ r there e.
                 let same : holder k inner.0 ≡ r = inner.2 ∙ rows.region_once b r (sym is ∙ e) in
-                let n : 1 ≤ stage_of k c' (standing_of c' r) = subst (λ x. 1 ≤ stage_of k c' (standing_of c' x)) same (high_there inner.0 inner.1) in omega (n, one, arith);
+                let n : 1 ≤ stage_of k c' (standing_of c' r) = subst (λ x. 1 ≤ stage_of k c' (standing_of c' x)) same (high_there inner.0 inner.1) in
+                omega (n, one, arith);
             chart = λ e. omega (one, arith);
           },
         )
@@ -126,7 +131,8 @@ module _ (k core : Table) (i : Images) (rows : CoreRows k core i) (tree : IsTree
       record {
         regions = λ r there e.
             let one : q ≡ r = rows.region_once q r (sym is ∙ e) in
-            let n : stage ≤ stage_of k c' (standing_of c' r) = subst (λ x. stage ≤ stage_of k c' (standing_of c' x)) one (subst (λ x. stage ≤ stage_of k c' x) (sym here) s.not_below) in omega (n, same, arith);
+            let n : stage ≤ stage_of k c' (standing_of c' r) = subst (λ x. stage ≤ stage_of k c' (standing_of c' x)) one
+            (subst (λ x. stage ≤ stage_of k c' x) (sym here) s.not_below) in omega (n, same, arith);
         chart = λ e. let wrong : q ≡ 0 = rows.region_once q 0 (sym is ∙ e) in let lt = s.goes.there.0 in absurd (omega (wrong, lt, arith));
       },
     )
@@ -145,26 +151,40 @@ module _ (k core : Table) (i : Images) (rows : CoreRows k core i) (tree : IsTree
         by_own r there e same stage_before =
             let n = stage_before.regions r there e in
             let m : stage_of k c (standing_of c r) ≤ stage = subst (λ p. stage_of k c (standing_of c p) ≤ stage) (sym same) s.not_above in
-            let w : stage ≤ stage_of k c' (standing_of c' r) = subst (λ p. stage ≤ stage_of k c' (standing_of c' p)) (sym same) (subst (λ x. stage ≤ stage_of k c' x) (sym here) s.not_below) in
+            let w : stage ≤ stage_of k c' (standing_of c' r) = subst (λ p. stage ≤ stage_of k c' (standing_of c' p)) (sym same)
+            (subst (λ x. stage ≤ stage_of k c' x) (sym here) s.not_below) in
             omega (n, m, w, arith)
 
         by_other : (r : ℕ) → IsThere k r → h ≡ i.thread_of r → r ≢ q → Stage k i.thread_of c d h v → v ≤ stage_of k c' (standing_of c' r)
         by_other r there e other stage_before =
             let n = stage_before.regions r there e in
-            let m : stage_of k c (standing_of c r) ≤ stage_of k c' (standing_of c r) = stage_kept k core i c c' (same_shape k core i rows c d related q o y z c' d' s.goes) q s.works elsewhere (standing_of c r) in
-            let w : stage_of k c' (standing_of c r) ≤ stage_of k c' (standing_of c' r) = subst (λ x. stage_of k c' (standing_of c r) ≤ stage_of k c' x) (sym (elsewhere r other)) (omega arith) in
+            let m : stage_of k c (standing_of c r) ≤ stage_of k c' (standing_of c r) =
+            stage_kept k core i c c' (same_shape k core i rows c d related q o y z c' d' s.goes) q s.works elsewhere (standing_of c r) in
+            let w : stage_of k c' (standing_of c r) ≤ stage_of k c' (standing_of c' r) =
+            subst (λ x. stage_of k c' (standing_of c r) ≤ stage_of k c' x) (sym (elsewhere r other)) (omega arith) in
             omega (n, m, w, arith)
 
     pub watched_segment : (Told : Configuration → Entry → Type 0) → Told d (Watched q (i.watcher_of o) stage a) →
-        Segment (machine core) (pair k core i rows tree counts written_at) Told d (Stage k i.thread_of c d) (Stage k i.thread_of c') (act_of (machine k) c q ∷ []) (Related k core i c')
+        Segment (machine core) (pair k core i rows tree counts written_at) Told d (Stage k i.thread_of c d) (Stage k i.thread_of c')
+        (act_of (machine k) c q ∷ []) (Related k core i c')
     watched_segment Told told =
         record {
           log = Watched q (i.watcher_of o) stage a ∷ [];
           last = d';
           follows = (ap (λ x. record { thread = i.watcher_of o; access = x }) (sym s.core_access), told, (d', s.steps, refl));
           charted = ap (λ x. record { thread = q; access = x } ∷ []) (sym s.chart_access);
-          fits = (record { watches = (o, (s.goes.state_there, s.goes.has), refl, s.goes.held); staged = s.staged; writes_nothing = s.plain; no_flags = s.declared }, tt);
+          fits = (
+            record {
+              watches = (o, (s.goes.state_there, s.goes.has), refl, s.goes.held);
+              staged = s.staged;
+              writes_nothing = s.plain;
+              no_flags =
+                  s.declared;
+            },
+            tt,
+          );
           climbs = λ more climbs.
-              climbs_step (pair k core i rows tree counts written_at) (Stage k i.thread_of c d) (Stage k i.thread_of c' d') (Watched q (i.watcher_of o) stage a) more all_stages stays climbs;
+              climbs_step (pair k core i rows tree counts written_at) (Stage k i.thread_of c d) (Stage k i.thread_of c' d')
+              (Watched q (i.watcher_of o) stage a) more all_stages stays climbs;
           reaches = monitor_goes_on k core i rows c d related q o y z c' d' s.goes;
         }

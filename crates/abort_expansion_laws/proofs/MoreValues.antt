@@ -1,5 +1,6 @@
 -- An expression over some variables has the same value over more; what flags and counters give.
-use Rattle.std.proofs.Common.{◌≡◌, ◌≢◌, ℕ, zero, suc, Bool, true, false, not, pos, Option, Some, None, List, [], ◌∷◌, ◌++◌, slice_get, option_and_then, refl, ap, sym, ◌∙◌}
+use Rattle.std.proofs.Common.{◌≡◌, ◌≢◌, ℕ, zero, suc, Bool, true, false, not, pos, Option, Some, None, List, [], ◌∷◌, ◌++◌, slice_get, option_and_then, refl}
+use Rattle.std.proofs.Common.{ap, sym, ◌∙◌}
 use Rattle.std.specs.Ordering.{int_eq}
 use Rattle.std.proofs.lemmas.Bool.Decides.{Decides-int_eq}
 use Rattle.sc_values.specs.declared.value.Value.{Value}
@@ -60,7 +61,8 @@ value_over_more more = induct (Stays more) (record {
 })
 
 -- a test comes out the same
-pub verdict_over_more : (more values : List Value) (trigger : Option Expr) (b : Bool) → verdict values trigger ≡ Some b → verdict (values ++ more) trigger ≡ Some b
+pub verdict_over_more : (more values : List Value) (trigger : Option Expr) (b : Bool) → verdict values trigger ≡ Some b →
+    verdict (values ++ more) trigger ≡ Some b
 verdict_over_more more values None b is = is
 verdict_over_more more values (Some e) b is =
     let inner : Got truth (value e values) b = got truth (value e values) b is in
@@ -83,10 +85,12 @@ of_flag f x n m values is =
     ∙ ap (option_and_then (binary_value f (value_is.Int (pos n)))) (number_value m values)
 
 -- a flag is raised where it is not 0, and is number m where it is m
-pub raised_verdict : (x n : ℕ) (values : List Value) → slice_get values x ≡ Some (value_is.Int (pos n)) → verdict values (Some (is_raised x)) ≡ Some (not (int_eq (pos n) (pos 0)))
+pub raised_verdict : (x n : ℕ) (values : List Value) → slice_get values x ≡ Some (value_is.Int (pos n)) →
+    verdict values (Some (is_raised x)) ≡ Some (not (int_eq (pos n) (pos 0)))
 raised_verdict x n values is = ap (option_and_then truth) (of_flag binary.NotEqual x n 0 values is)
 
-pub number_verdict : (x n m : ℕ) (values : List Value) → slice_get values x ≡ Some (value_is.Int (pos n)) → verdict values (Some (is_number x m)) ≡ Some (int_eq (pos n) (pos m))
+pub number_verdict : (x n m : ℕ) (values : List Value) → slice_get values x ≡ Some (value_is.Int (pos n)) →
+    verdict values (Some (is_number x m)) ≡ Some (int_eq (pos n) (pos m))
 number_verdict x n m values is = ap (option_and_then truth) (of_flag binary.Equal x n m values is)
 
 pub lowered_verdict : (x : ℕ) (values : List Value) → slice_get values x ≡ Some (value_is.Int (pos 0)) → verdict values (Some (is_raised x)) ≡ Some false
@@ -105,5 +109,6 @@ up_verdict x n values is up = raised_verdict x n values is ∙ ap (λ b. Some (n
 pub same_verdict : (x n : ℕ) (values : List Value) → slice_get values x ≡ Some (value_is.Int (pos n)) → verdict values (Some (is_number x n)) ≡ Some true
 same_verdict x n values is = number_verdict x n n values is ∙ ap Some ((Decides-int_eq (pos n) (pos n)).1 refl)
 
-pub other_verdict : (x n m : ℕ) (values : List Value) → slice_get values x ≡ Some (value_is.Int (pos n)) → n ≢ m → verdict values (Some (is_number x m)) ≡ Some false
+pub other_verdict : (x n m : ℕ) (values : List Value) → slice_get values x ≡ Some (value_is.Int (pos n)) → n ≢ m →
+    verdict values (Some (is_number x m)) ≡ Some false
 other_verdict x n m values is differ = number_verdict x n m values is ∙ ap Some (unequal n m differ)

@@ -16,7 +16,6 @@ use Rattle.abort_expansion_laws.specs.Related.{Watches, IsInside}
 use Rattle.abort_expansion_laws.proofs.Leaving.{at_number}
 use Rattle.abort_expansion_laws.proofs.Pending.{IsOpening, IsJoining, Over, Waits, Covered, still_going, Flagged, IsFresh, IsEmpty}
 
-
 module _ (k core : Table) (i : Images) where
   -- e is d after the moves of the fork of s
   abbrev pub HasForked : Configuration → Configuration → ℕ → Type 0
@@ -42,16 +41,21 @@ module _ (k core : Table) (i : Images) where
   pub record OpenedRows : Type 0 where
     pub waits : (c d e : Configuration) (s : ℕ) → Opens c d e s → (q : ℕ) → IsThere k q → Contains (around k q) s → Waits k core i c e q
     pub watchers : (c d e : Configuration) (s : ℕ) → Opens c d e s → (o : ℕ) → IsState k o → has_aborts (own k o) ≡ true → WithinIt s o →
-        Watches k core i o (standing_of c (holder k o)) (standing_of e (i.watcher_of o)) ⊎ ((standing_of e (i.watcher_of o) ≡ at.Outside) × Covered k core i c e o)
-    pub flags : (c d e : Configuration) (s : ℕ) → Opens c d e s → (u : ℕ) → IsState k u → IsInside k core i u (standing_of c (holder k u)) → Contains (around k (holder k u)) s →
+        Watches k core i o (standing_of c (holder k o)) (standing_of e (i.watcher_of o)) ⊎
+        ((standing_of e (i.watcher_of o) ≡ at.Outside) × Covered k core i c e o)
+    pub flags : (c d e : Configuration) (s : ℕ) → Opens c d e s → (u : ℕ) → IsState k u → IsInside k core i u (standing_of c (holder k u)) →
+        Contains (around k (holder k u)) s →
         Flagged k core i c e u ⊎ Covered k core i c e u
-    pub all_go : (c d e : Configuration) (s x : ℕ) → Opens c d e s → (i.flags_of s).counter ≡ Some x → still_going k core i c e (state_at k s).regions ≡ length (state_at k s).regions
+    pub all_go : (c d e : Configuration) (s x : ℕ) → Opens c d e s → (i.flags_of s).counter ≡ Some x →
+        still_going k core i c e (state_at k s).regions ≡ length (state_at k s).regions
     pub within : (c d e : Configuration) (s : ℕ) → Opens c d e s → (u : ℕ) → IsOpening k core i c e u → Contains (around k (holder k u)) s →
         IsFresh k core i c u × (IsEmpty k core i c e u × (is_guarded k c (around k (holder k u)) ≡ false))
-    pub joinable : (c d e : Configuration) (s : ℕ) → Opens c d e s → (u : ℕ) → IsJoining k core i c e u → Contains (around k (holder k u)) s → Over k core i c e u
+    pub joinable : (c d e : Configuration) (s : ℕ) → Opens c d e s → (u : ℕ) → IsJoining k core i c e u → Contains (around k (holder k u)) s →
+        Over k core i c e u
 
 -- what the moves of a fork leave as it is, and what stands inside of a superstate that is prepared
 pub record ForkRows (k core : Table) (i : Images) : Type 0 where
   pub opens_inside : (s t : ℕ) (zs : List Standing) → IsState k s → IsSuper k s → ¬ Contains (around core t) (i.main_of s) →
       at_number (moved (state_at core (i.main_of s)).opened zs) t ≡ at_number zs t
-  pub plain_inside : (s o : ℕ) → is_prepared (flags_around k core i (holder k s)) (own k s) ≡ true → Contains (around k (holder k o)) s → has_aborts (own k o) ≡ false
+  pub plain_inside : (s o : ℕ) → is_prepared (flags_around k core i (holder k s)) (own k s) ≡ true → Contains (around k (holder k o)) s →
+      has_aborts (own k o) ≡ false

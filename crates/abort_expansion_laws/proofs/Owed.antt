@@ -36,9 +36,11 @@ module _ (k core : Table) (i : Images) where
     rests_trying : (s : ℕ) → IsSimple k s → holder k s ≡ r → RestsIn c r (at.Trying s []) (at.Trying (i.main_of s) [])
     rests_staying : (s : ℕ) (tests : List Transition) → IsSuper k s → holder k s ≡ r → stays (flags_around k core i r) (own k s) ≡ true →
         RestsIn c r (at.Within s tests) (at.Within (i.main_of s) (map (led (i.places_of r)) tests))
-    rests_within : (s join : ℕ) (tests : List Transition) → IsSuper k s → holder k s ≡ r → stays (flags_around k core i r) (own k s) ≡ false → is_behind k core i c s ≡ false →
+    rests_within : (s join : ℕ) (tests : List Transition) → IsSuper k s → holder k s ≡ r → stays (flags_around k core i r) (own k s) ≡ false →
+        is_behind k core i c s ≡ false →
         state_in core (i.thread_of r) join ≡ i.behind_of s → RestsIn c r (at.Within s tests) (at.Within (i.main_of s) (joins join ∷ []))
-    rests_behind : (s : ℕ) (tests : List Transition) → IsSuper k s → holder k s ≡ r → is_behind k core i c s ≡ true → RestsIn c r (at.Within s tests) (at.Trying (i.behind_of s) [])
+    rests_behind : (s : ℕ) (tests : List Transition) → IsSuper k s → holder k s ≡ r → is_behind k core i c s ≡ true →
+        RestsIn c r (at.Within s tests) (at.Trying (i.behind_of s) [])
 
   pub data WatchRests (o : ℕ) : Standing → Standing → Type 0 where
     watch_within : (tests : List Transition) → WatchRests o (at.Within o tests) (at.Trying (i.watching_of o) [])
@@ -64,7 +66,8 @@ module _ (k core : Table) (i : Images) where
 
   pub data Started (c d : Configuration) : Type 0 where
     first_tick : (inputs : Inputs) → c ≡ start k inputs (initial k) → d ≡ start core inputs (initial core) → Started c d
-    later_tick : (inputs : Inputs) (before core_before : Configuration) → Resting before core_before → c ≡ start k inputs before → d ≡ start core inputs core_before → Started c d
+    later_tick : (inputs : Inputs) (before core_before : Configuration) → Resting before core_before → c ≡ start k inputs before →
+        d ≡ start core inputs core_before → Started c d
 
   -- ---- entering
 
@@ -84,19 +87,22 @@ module _ (k core : Table) (i : Images) where
     -- transition without effects, after a configuration that nobody reaches
     abbrev pub Enters : Type 0
     Enters =
-        (c d : Configuration) → Related k core i c d → (r s p : ℕ) (e : Effect) → standing_of c r ≡ at.Acting s (e ∷ []) p → is_guarded k c (around k r) ≡ false →
+        (c d : Configuration) → Related k core i c d → (r s p : ℕ) (e : Effect) → standing_of c r ≡ at.Acting s (e ∷ []) p →
+        is_guarded k c (around k r) ≡ false →
         (values : List Value) → Counts (is_final k (state_in k r p)) (counter_over k core i (around k r)) d.variables values →
         Segment (machine core) (pair k core i rows tree counts written_at) Told (core_enters d values r p)
         (Stage k i.thread_of c d) (Stage k i.thread_of (chart_enters c r p)) [] (Related k core i (chart_enters c r p))
 
     -- the tick, and each step of the chart
     abbrev pub Begins : Type 0
-    Begins = (c d : Configuration) → Started c d → Segment (machine core) (pair k core i rows tree counts written_at) Told d NoneReached (Stage k i.thread_of c) [] (Related k core i c)
+    Begins = (c d : Configuration) → Started c d → Segment (machine core) (pair k core i rows tree counts written_at) Told d NoneReached
+        (Stage k i.thread_of c) [] (Related k core i c)
 
     abbrev pub Advances : Type 0
     Advances =
         (c d : Configuration) → Related k core i c d → (r : ℕ) (next : Configuration) → step k r c ≡ Some next →
-        Segment (machine core) (pair k core i rows tree counts written_at) Told d (Stage k i.thread_of c d) (Stage k i.thread_of next) (act_of (machine k) c r ∷ []) (Related k core i next)
+        Segment (machine core) (pair k core i rows tree counts written_at) Told d (Stage k i.thread_of c d) (Stage k i.thread_of next)
+        (act_of (machine k) c r ∷ []) (Related k core i next)
 
     abbrev pub Finishes : Type 0
     Finishes =

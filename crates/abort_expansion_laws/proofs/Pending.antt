@@ -1,6 +1,7 @@
 -- Entering, for many regions at once. The chart's configuration stays; the core has entered as much as it does in one step, and
 -- goes on by itself: it prepares what is opened, counts down in what ended on entry, and joins the forks of what is over.
-use Rattle.std.proofs.Common.{◌≡◌, ◌≢◌, ℕ, suc, ◌+◌, ◌<◌, ◌≤◌, ◌⊎◌, Bool, true, false, not, ◌&&◌, ◌||◌, Some, None, List, [], ◌∷◌, ◌++◌, length, Contains, refl, sym, subst, ◌∙◌, if◌then◌else◌}
+use Rattle.std.proofs.Common.{◌≡◌, ◌≢◌, ℕ, suc, ◌+◌, ◌<◌, ◌≤◌, ◌⊎◌, Bool, true, false, not, ◌&&◌, ◌||◌, Some, None, List, [], ◌∷◌, ◌++◌, length, Contains}
+use Rattle.std.proofs.Common.{refl, sym, subst, ◌∙◌, if◌then◌else◌}
 use Rattle.sc_values.specs.declared.value.Value.{Value}
 use Rattle.core_charts.specs.declared.region.Transition.{Transition}
 use Rattle.chart_machine.specs.declared.standing.Standing.{Standing}
@@ -17,7 +18,8 @@ use Rattle.abort_expansion.specs.Superstates.{stays, is_prepared, resets}
 use Rattle.abort_expansion_laws.proofs.LyingIn.{around, holder}
 use Rattle.abort_expansion_laws.proofs.TablesCorrespond.{IsThere}
 use Rattle.abort_expansion_laws.specs.CoreRows.{own, IsState, IsSuper, joins, Images, flags_around}
-use Rattle.abort_expansion_laws.specs.Related.{IsCalm, is_behind, Stands, outside, ended, left, trying, acting, entering, guarding, staying, within, behind, Watches, IsInside, Stores, Closes}
+use Rattle.abort_expansion_laws.specs.Related.{IsCalm, is_behind, Stands, outside, ended, left, trying, acting, entering, guarding, staying, within, behind}
+use Rattle.abort_expansion_laws.specs.Related.{Watches, IsInside, Stores, Closes}
 use Rattle.abort_expansion_laws.proofs.StageReached.{Stage}
 
 abbrev pub is_trying : Standing → Bool
@@ -45,7 +47,8 @@ module _ (k core : Table) (i : Images) (c : Configuration) where
     pub prepared : is_prepared (flags_around k core i (holder k s)) (own k s) ≡ true
     pub open_in_chart : standing_of c (holder k s) ≡ at.Within s tests
     pub leads : state_in core (i.thread_of (holder k s)) fork ≡ i.main_of s
-    pub preparing : standing_of d (i.thread_of (holder k s)) ≡ at.Trying (i.entry_of s) (go true None (resets (i.flags_of s) (length (state_at k s).regions)) fork ∷ [])
+    pub preparing : standing_of d (i.thread_of (holder k s)) ≡ at.Trying (i.entry_of s)
+        (go true None (resets (i.flags_of s) (length (state_at k s).regions)) fork ∷ [])
 
   -- region r, of superstate s, has ended in the chart, and its thread is in the new initial state, where it counts down
   pub record IsStarting (d : Configuration) (r s : ℕ) : Type 0 where
@@ -77,7 +80,8 @@ module _ (k core : Table) (i : Images) (c : Configuration) where
   -- then all is over inside of the fork
   pub record Over (d : Configuration) (s : ℕ) : Type 0 where
     pub free : is_guarded k c (around k (holder k s)) ≡ false
-    pub chart_inside : (q : ℕ) → IsThere k q → Contains (around k q) s → ((ss : List ℕ) × (around k q ≡ s ∷ ss) × (standing_of c q ≡ at.Ended)) ⊎ (standing_of c q ≡ at.Outside)
+    pub chart_inside : (q : ℕ) → IsThere k q → Contains (around k q) s →
+        ((ss : List ℕ) × (around k q ≡ s ∷ ss) × (standing_of c q ≡ at.Ended)) ⊎ (standing_of c q ≡ at.Outside)
     pub ended_there : (t : ℕ) → Contains (state_at core (i.main_of s)).regions t → standing_of d t ≡ at.Ended
     pub over_inside : (t : ℕ) → Contains (inside core (i.main_of s)) t → (standing_of d t ≡ at.Ended) ⊎ (standing_of d t ≡ at.Outside)
 
@@ -167,7 +171,8 @@ module _ (k core : Table) (i : Images) (c : Configuration) where
   behind_unprepared s over = let parts = behind_parts s over in rw (parts.1, parts.2) refl
 
   -- who stands in a preparation before its last test, while the chart is within, is not settled
-  pub never_settled : (d : Configuration) (s r : ℕ) (x y : Standing) (tests : List Transition) (u : ℕ) (t : Transition) → is_prepared (flags_around k core i (holder k s)) (own k s) ≡ true →
+  pub never_settled : (d : Configuration) (s r : ℕ) (x y : Standing) (tests : List Transition) (u : ℕ) (t : Transition) →
+      is_prepared (flags_around k core i (holder k s)) (own k s) ≡ true →
       Stands k core i c r x y → x ≡ at.Within s tests → y ≡ at.Trying u (t ∷ []) → ⊥
   never_settled d s r _ _ tests u t prepared outside e f = absurd cc
   never_settled d s r _ _ tests u t prepared (ended inner) e f = absurd cc

@@ -1,5 +1,6 @@
 -- A region goes on, and so does its thread: what corresponds still does.
-use Rattle.std.proofs.Common.{◌≡◌, ◌≢◌, ℕ, zero, suc, ◌<◌, ◌≤◌, ⊎_elim, true, false, Option, Some, None, List, [], ◌∷◌, ◌++◌, length, slice_get, slice_set, Contains, refl, sym, ap, subst, ◌∙◌, arith}
+use Rattle.std.proofs.Common.{◌≡◌, ◌≢◌, ℕ, zero, suc, ◌<◌, ◌≤◌, ⊎_elim, true, false, Option, Some, None, List, [], ◌∷◌, ◌++◌, length, slice_get, slice_set}
+use Rattle.std.proofs.Common.{Contains, refl, sym, ap, subst, ◌∙◌, arith}
 use Rattle.sc_values.specs.declared.value.Value.{Value}
 use Rattle.core_charts.specs.declared.region.Transition.{Transition}
 use Rattle.chart_machine.specs.declared.standing.Standing.{Standing}
@@ -68,8 +69,10 @@ module _ (k core : Table) (i : Images) (rows : CoreRows k core i) where
     pub same_shape : SameShape c c'
     same_shape =
         record {
-          ends = λ q. ⊎_elim (λ e. ap (λ p. has_ended (standing_of c' p)) e ∙ (ap has_ended here ∙ (go.ends ∙ ap (λ p. has_ended (standing_of c p)) (sym e)))) (λ ne. ap has_ended (elsewhere q ne)) (same_or_not q r);
-          guards_alike = λ q. ⊎_elim (λ e. ap (λ p. guards (standing_of c' p)) e ∙ (ap guards here ∙ (go.guards_alike ∙ ap (λ p. guards (standing_of c p)) (sym e)))) (λ ne. ap guards (elsewhere q ne)) (same_or_not q r);
+          ends = λ q. ⊎_elim (λ e. ap (λ p. has_ended (standing_of c' p)) e ∙ (ap has_ended here ∙ (go.ends ∙ ap (λ p. has_ended (standing_of c p)) (sym e))))
+              (λ ne. ap has_ended (elsewhere q ne)) (same_or_not q r);
+          guards_alike = λ q. ⊎_elim (λ e. ap (λ p. guards (standing_of c' p)) e ∙
+              (ap guards here ∙ (go.guards_alike ∙ ap (λ p. guards (standing_of c p)) (sym e)))) (λ ne. ap guards (elsewhere q ne)) (same_or_not q r);
         }
 
     regions_kept : (q : ℕ) → IsThere k q → Stands k core i c' q (standing_of c' q) (standing_of d' (i.thread_of q))
@@ -78,7 +81,8 @@ module _ (k core : Table) (i : Images) (rows : CoreRows k core i) where
         same : q ≡ r → Stands k core i c' q (standing_of c' q) (standing_of d' (i.thread_of q))
         same e =
             subst (λ p. Stands k core i c' p (standing_of c' p) (standing_of d' (i.thread_of p))) (sym e)
-            (subst (λ w. Stands k core i c' r w (standing_of d' (i.thread_of r))) (sym here) (subst (Stands k core i c' r y) (sym core_here) (stands_kept k core i c c' same_shape r y z go.stands)))
+            (subst (λ w. Stands k core i c' r w (standing_of d' (i.thread_of r))) (sym here)
+            (subst (Stands k core i c' r y) (sym core_here) (stands_kept k core i c c' same_shape r y z go.stands)))
 
         other : q ≢ r → Stands k core i c' q (standing_of c' q) (standing_of d' (i.thread_of q))
         other ne =
@@ -105,7 +109,8 @@ module _ (k core : Table) (i : Images) (rows : CoreRows k core i) where
     back_inside s inner = ⊎_elim same other (same_or_not (holder k s) r)
       where
         same : holder k s ≡ r → IsInside k core i s (standing_of c (holder k s))
-        same e = subst (λ q. IsInside k core i s (standing_of c q)) (sym e) (go.inside_back s e (subst (IsInside k core i s) (ap (standing_of c') e ∙ here) inner))
+        same e = subst (λ q. IsInside k core i s (standing_of c q)) (sym e)
+            (go.inside_back s e (subst (IsInside k core i s) (ap (standing_of c') e ∙ here) inner))
 
         other : holder k s ≢ r → IsInside k core i s (standing_of c (holder k s))
         other ne = subst (IsInside k core i s) (elsewhere (holder k s) ne) inner
@@ -141,7 +146,8 @@ module _ (k core : Table) (i : Images) (rows : CoreRows k core i) where
     was_present q present = ⊎_elim (λ e was. go.was_there (ap (standing_of c) (sym e) ∙ was)) (λ ne was. present (elsewhere q ne ∙ was)) (same_or_not q r)
 
     is_present : (q : ℕ) → standing_of c q ≢ at.Outside → standing_of c' q ≢ at.Outside
-    is_present q present = ⊎_elim (λ e is. go.is_there (sym here ∙ (ap (standing_of c') (sym e) ∙ is))) (λ ne is. present (sym (elsewhere q ne) ∙ is)) (same_or_not q r)
+    is_present q present = ⊎_elim (λ e is. go.is_there (sym here ∙ (ap (standing_of c') (sym e) ∙ is))) (λ ne is. present (sym (elsewhere q ne) ∙ is))
+        (same_or_not q r)
 
     not_zero : (n : ℕ) → 0 < n → 0 ≢ n
     not_zero n lt e = absurd (omega (lt, e, arith))
@@ -163,11 +169,13 @@ module _ (k core : Table) (i : Images) (rows : CoreRows k core i) where
           enclosed = λ q s there present around_it. still_inside s (related.enclosed q s there (was_present q present) around_it);
           opened = λ s q there inner child. is_present q (related.opened s q there (back_inside s inner) child);
           closes_last = λ s tests is.
-              ⊎_elim (λ e. go.closes s tests e (sym here ∙ (ap (standing_of c') (sym e) ∙ is))) (λ ne. related.closes_last s tests (sym (elsewhere (holder k s) ne) ∙ is))
+              ⊎_elim (λ e. go.closes s tests e (sym here ∙ (ap (standing_of c') (sym e) ∙ is)))
+              (λ ne. related.closes_last s tests (sym (elsewhere (holder k s) ne) ∙ is))
               (same_or_not (holder k s) r);
           calm = λ q s there around_it guarded_by.
               let was : guards (standing_of c (holder k s)) ≡ true = sym (same_shape.guards_alike (holder k s)) ∙ guarded_by in
               ⊎_elim
-              (λ e. absurd (both_ways (guards (standing_of c (holder k s))) was (none_among (λ v. guards (standing_of c (holder k v))) (around k r) s go.free (subst (λ p. Contains (around k p) s) e around_it))))
+              (λ e. absurd (both_ways (guards (standing_of c (holder k s))) was
+              (none_among (λ v. guards (standing_of c (holder k v))) (around k r) s go.free (subst (λ p. Contains (around k p) s) e around_it))))
               (λ ne. subst IsCalm (sym (elsewhere q ne)) (related.calm q s there around_it was)) (same_or_not q r);
         }

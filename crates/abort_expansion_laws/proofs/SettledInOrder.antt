@@ -1,5 +1,6 @@
 -- One region after the other is settled, from the least number up; then what corresponds does.
-use Rattle.std.proofs.Common.{◌≡◌, ◌≢◌, ℕ, zero, suc, ◌+◌, ◌<◌, ◌≤◌, ◌⊎◌, ⊎_elim, Bool, true, false, List, [], ◌∷◌, length, unwrap_or, Contains, refl, sym, ap, subst, ◌∙◌, arith, if◌then◌else◌}
+use Rattle.std.proofs.Common.{◌≡◌, ◌≢◌, ℕ, zero, suc, ◌+◌, ◌<◌, ◌≤◌, ◌⊎◌, ⊎_elim, Bool, true, false, List, [], ◌∷◌, length, unwrap_or, Contains, refl, sym}
+use Rattle.std.proofs.Common.{ap, subst, ◌∙◌, arith, if◌then◌else◌}
 use Rattle.std.proofs.lemmas.Option.{slice_get_past}
 use Rattle.core_charts.specs.declared.region.Transition.{Transition}
 use Rattle.chart_machine.specs.declared.standing.Standing.{Standing}
@@ -17,10 +18,12 @@ use Rattle.abort_expansion_laws.proofs.Simulation.{Segment, segment_on}
 use Rattle.abort_expansion_laws.proofs.LyingIn.{IsTree, around, holder, head_in}
 use Rattle.abort_expansion_laws.proofs.TablesCorrespond.{IsThere}
 use Rattle.abort_expansion_laws.specs.CoreRows.{own, Images, CoreRows, flags_around}
-use Rattle.abort_expansion_laws.specs.Related.{is_behind, Stands, outside, ended, left, trying, acting, entering, guarding, staying, within, behind, Stores, still_in, Related}
+use Rattle.abort_expansion_laws.specs.Related.{is_behind, Stands, outside, ended, left, trying, acting, entering, guarding, staying, within, behind, Stores}
+use Rattle.abort_expansion_laws.specs.Related.{still_in, Related}
 use Rattle.abort_expansion_laws.proofs.StageReached.{Stage}
 use Rattle.abort_expansion_laws.proofs.ImageSteps.{pair}
-use Rattle.abort_expansion_laws.proofs.Pending.{is_trying, Sound, IsOpening, IsStarting, IsJoining, Waits, settled, opening, starting, joining, ending, hidden, Covered, goes_in, still_going, Flagged, Pending, Reached, never_settled, behind_parts}
+use Rattle.abort_expansion_laws.proofs.Pending.{is_trying, Sound, IsOpening, IsStarting, IsJoining, Waits, settled, opening, starting, joining, ending}
+use Rattle.abort_expansion_laws.proofs.Pending.{hidden, Covered, goes_in, still_going, Flagged, Pending, Reached, never_settled, behind_parts}
 
 pub ended_back : (x : Standing) → has_ended x ≡ true → x ≡ at.Ended
 ended_back at.Outside e = absurd cc
@@ -31,7 +34,8 @@ ended_back (at.Guarding s tests) e = absurd cc
 ended_back (at.Within s tests) e = absurd cc
 ended_back (at.Acting s effects p) e = absurd cc
 
-module _ (k core : Table) (i : Images) (rows : CoreRows k core i) (tree : IsTree k) (counts : ℕ → Bool) (written_at : ℕ → ℕ) (Told : Configuration → Entry → Type 0)
+module _ (k core : Table) (i : Images) (rows : CoreRows k core i) (tree : IsTree k) (counts : ℕ → Bool) (written_at : ℕ → ℕ)
+    (Told : Configuration → Entry → Type 0)
     (deeper : (q s : ℕ) → Contains (around k q) s → holder k s < q) (c : Configuration) (sound : Sound k core i c) where
   abbrev pub all : ℕ
   all = suc (length k.regions)
@@ -114,7 +118,8 @@ module _ (k core : Table) (i : Images) (rows : CoreRows k core i) (tree : IsTree
   later : (m n : ℕ) → n ≤ m → m ≢ n → suc n ≤ m
   later m n le ne = grind arith
 
-  pub skips : (n : ℕ) (d : Configuration) → Pending k core i c n d → (IsThere k n → Stands k core i c n (standing_of c n) (standing_of d (i.thread_of n))) → Pending k core i c (suc n) d
+  pub skips : (n : ℕ) (d : Configuration) → Pending k core i c n d → (IsThere k n → Stands k core i c n (standing_of c n) (standing_of d (i.thread_of n))) →
+      Pending k core i c (suc n) d
   skips n d p own_one =
       record {
         more = p.more;
@@ -142,7 +147,8 @@ module _ (k core : Table) (i : Images) (rows : CoreRows k core i) (tree : IsTree
       below r n lt ne = grind arith
 
   -- whose superstate is joined is held by a region that is not settled
-  never_joined : (s r : ℕ) (x y : Standing) (tests joins_left : List Transition) → is_behind k core i c s ≡ true → Stands k core i c r x y → x ≡ at.Within s tests → y ≡ at.Within (i.main_of s) joins_left → ⊥
+  never_joined : (s r : ℕ) (x y : Standing) (tests joins_left : List Transition) → is_behind k core i c s ≡ true → Stands k core i c r x y → x ≡ at.Within
+      s tests → y ≡ at.Within (i.main_of s) joins_left → ⊥
   never_joined s r _ _ tests joins_left over outside e f = absurd cc
   never_joined s r _ _ tests joins_left over (ended inner) e f = absurd cc
   never_joined s r _ _ tests joins_left over (left v ss round over_it) e f = absurd cc
@@ -153,7 +159,8 @@ module _ (k core : Table) (i : Images) (rows : CoreRows k core i) (tree : IsTree
   never_joined s r _ _ tests joins_left over (staying v others super held stay) e f =
       let same : v ≡ s = cc in
       let parts = behind_parts k core i c s over in
-      let no : stays (flags_around k core i r) (own k s) ≡ false = subst (λ q. stays (flags_around k core i q) (own k s) ≡ false) (ap (holder k) (sym same) ∙ held) parts.0 in
+      let no : stays (flags_around k core i r) (own k s) ≡ false = subst (λ q. stays (flags_around k core i q) (own k s) ≡ false)
+      (ap (holder k) (sym same) ∙ held) parts.0 in
       let yes : stays (flags_around k core i r) (own k s) ≡ true = ap (λ z. stays (flags_around k core i r) (own k z)) (sym same) ∙ stay in
       let wrong : true ≡ false = sym yes ∙ no in absurd cc
   never_joined s r _ _ tests joins_left over (within v join others super held stay still leads) e f =
@@ -163,7 +170,8 @@ module _ (k core : Table) (i : Images) (rows : CoreRows k core i) (tree : IsTree
   -- ---- one region
 
   abbrev pub Piece : ℕ → Configuration → Type 0
-  Piece n d = Segment (machine core) (pair k core i rows tree counts written_at) Told d (Reached k core i c d) (λ last. Reached k core i c last) [] (Pending k core i c (suc n))
+  Piece n d = Segment (machine core) (pair k core i rows tree counts written_at) Told d (Reached k core i c d) (λ last. Reached k core i c last) []
+      (Pending k core i c (suc n))
 
   -- the three that make steps
   pub record Steps : Type 0 where
@@ -192,7 +200,8 @@ module _ (k core : Table) (i : Images) (rows : CoreRows k core i) (tree : IsTree
     by_sort n d p there (ending s ss direct o over idle) =
         let up = deeper n s (subst (λ zs. Contains zs s) (sym direct) (head_in s ss)) in
         let holds : IsThere k (holder k s) = there_in (holder k s) (λ e. let wrong : at.Within s o.tests ≡ at.Outside = sym o.open_in_chart ∙ e in absurd cc) in
-        absurd (never_joined s (holder k s) (standing_of c (holder k s)) (standing_of d (i.thread_of (holder k s))) o.tests _ o.over (p.done (holder k s) holds up) o.open_in_chart o.forked)
+        absurd (never_joined s (holder k s) (standing_of c (holder k s)) (standing_of d (i.thread_of (holder k s))) o.tests _ o.over
+        (p.done (holder k s) holds up) o.open_in_chart o.forked)
     by_sort n d p there (hidden s inner o out) =
         let up = deeper n s inner in let low = p.late s o in absurd (omega (up, low, arith))
 
@@ -201,7 +210,8 @@ module _ (k core : Table) (i : Images) (rows : CoreRows k core i) (tree : IsTree
     one (suc n) d lt p = by_sort (suc n) d p (omega arith, omega (lt, arith)) (p.waits (suc n) (omega arith, omega (lt, arith)))
 
     from_number : (m n : ℕ) (d : Configuration) → n + m ≡ all → Pending k core i c n d →
-        Segment (machine core) (pair k core i rows tree counts written_at) Told d (Reached k core i c d) (λ last. Reached k core i c last) [] (Pending k core i c all)
+        Segment (machine core) (pair k core i rows tree counts written_at) Told d (Reached k core i c d) (λ last. Reached k core i c last) []
+        (Pending k core i c all)
     from_number zero n d e p =
         let same : n ≡ all = omega (e, arith) in
         record {
@@ -215,7 +225,8 @@ module _ (k core : Table) (i : Images) (rows : CoreRows k core i) (tree : IsTree
         }
     from_number (suc m) n d e p =
         let step : Piece n d = one n d (omega (e, arith)) p in
-        segment_on (machine core) (pair k core i rows tree counts written_at) Told d (Reached k core i c d) (λ last. Reached k core i c last) (λ last. Reached k core i c last) [] []
+        segment_on (machine core) (pair k core i rows tree counts written_at) Told d (Reached k core i c d) (λ last. Reached k core i c last)
+        (λ last. Reached k core i c last) [] []
         (Pending k core i c (suc n)) (Pending k core i c all) step
         (from_number m (suc n) step.last (omega (e, arith)) step.reaches)
 
@@ -234,6 +245,7 @@ module _ (k core : Table) (i : Images) (rows : CoreRows k core i) (tree : IsTree
           charted = s.charted;
           fits = s.fits;
           climbs = λ rest climbs.
-              s.climbs rest (climbs_fewer (pair k core i rows tree counts written_at) (Stage k i.thread_of c s.last) (Reached k core i c s.last) rest (λ h n reached. reached.staged) climbs);
+              s.climbs rest (climbs_fewer (pair k core i rows tree counts written_at) (Stage k i.thread_of c s.last) (Reached k core i c s.last) rest
+              (λ h n reached. reached.staged) climbs);
           reaches = all_settled s.last s.reaches;
         }

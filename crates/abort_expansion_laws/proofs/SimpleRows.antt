@@ -15,11 +15,20 @@ module _ (name : List ℕ) (begins ends : Bool) (regions : List Region) (all : L
   abbrev pub rolled : State
   rolled = roll-State (record { name = name; is_initial = begins; is_final = ends; regions = regions; transitions = all })
 
-  pub rolled_piece : piece_of_state rolled ≡ state_piece (record { name = name; is_initial = begins; is_final = ends; regions = map piece_of_region regions; transitions = all })
-  rolled_piece = fold-roll-State Piece Piece region_piece state_piece (record { name = name; is_initial = begins; is_final = ends; regions = regions; transitions = all })
+  pub rolled_piece : piece_of_state rolled ≡ state_piece (record {
+    name = name;
+    is_initial = begins;
+    is_final = ends;
+    regions =
+        map piece_of_region regions;
+    transitions = all;
+  })
+  rolled_piece = fold-roll-State Piece Piece region_piece state_piece (record
+      { name = name; is_initial = begins; is_final = ends; regions = regions; transitions = all })
 
 -- a simple state
-pub simple_local : (core : Table) (name : List ℕ) (begins : Bool) (all : List Transition) (b : TablePosition) → Holds core b ((piece_of_state (rolled name begins false [] all)).parts b) →
+pub simple_local : (core : Table) (name : List ℕ) (begins : Bool) (all : List Transition) (b : TablePosition) →
+    Holds core b ((piece_of_state (rolled name begins false [] all)).parts b) →
     state_at core b.state ≡ simple_row b.holder b.state all
 simple_local core name begins all b holds =
     (subst (λ p. Holds core b (p.parts b)) (rolled_piece name begins false [] all) holds).states.0

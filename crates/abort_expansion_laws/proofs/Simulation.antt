@@ -3,7 +3,8 @@ use Rattle.std.proofs.Common.{◌≡◌, ℕ, List, [], ◌∷◌, ◌++◌, ref
 use Rattle.std.proofs.lemmas.List.{append_assoc, append-nil}
 use Rattle.std.proofs.lemmas.Option.{same_Some}
 use Rattle.sc_values.specs.Runs.{Machine, replay, IsOver, Act, act_of, acts, acts_after, IsOrdered, Ends}
-use Rattle.abort_expansion_laws.specs.Stages.{Entry, Image, Watched, Silent, Correspondence, IsCorrespondence, core_act, core_log, chart_log, EachFits, Climbs, NoneReached, EachSpared}
+use Rattle.abort_expansion_laws.specs.Stages.{Entry, Image, Watched, Silent, Correspondence, IsCorrespondence, core_act, core_log, chart_log, EachFits}
+use Rattle.abort_expansion_laws.specs.Stages.{Climbs, NoneReached, EachSpared}
 use Rattle.abort_expansion_laws.proofs.StagesKept.{stages_kept}
 pub use Rattle.abort_expansion_laws.specs.Segments.{threads, Follows, Segment, Simulation}
 
@@ -35,8 +36,10 @@ module _ (n : Machine) (k : Correspondence) (Told : n.Configuration → Entry �
   fits_on (y ∷ log) more fits others = (fits.0, fits_on log more fits.1 others)
 
   -- one segment after the other
-  pub segment_on : (d : n.Configuration) (Before : ℕ → ℕ → Type 0) (Between After : n.Configuration → ℕ → ℕ → Type 0) (steps more : List Act) (Reaches Later : n.Configuration → Type 0) →
-      (s : Segment n k Told d Before Between steps Reaches) → Segment n k Told s.last (Between s.last) After more Later → Segment n k Told d Before After (steps ++ more) Later
+  pub segment_on : (d : n.Configuration) (Before : ℕ → ℕ → Type 0) (Between After : n.Configuration → ℕ → ℕ → Type 0) (steps more : List Act)
+      (Reaches Later : n.Configuration → Type 0) →
+      (s : Segment n k Told d Before Between steps Reaches) → Segment n k Told s.last (Between s.last) After more Later →
+      Segment n k Told d Before After (steps ++ more) Later
   segment_on d Before Between After steps more Reaches Later s t =
       record {
         log = s.log ++ t.log;
@@ -68,13 +71,16 @@ module _ (m n : Machine) (k : Correspondence) (Told : n.Configuration → Entry 
   followed : (run : List ℕ) (c last : m.Configuration) (d : n.Configuration) → sim.Related c d → replay m run c ≡ Some last → IsOver m last →
       Segment n k Told d (sim.Stage c d) (sim.Stage last) (acts m run c) (sim.Rested last)
   followed [] c last d related runs over =
-      subst (λ z. Segment n k Told d (sim.Stage c d) (sim.Stage z) [] (sim.Rested z)) (same_Some c last runs) (sim.finish c d related (subst (IsOver m) (sym (same_Some c last runs)) over))
+      subst (λ z. Segment n k Told d (sim.Stage c d) (sim.Stage z) [] (sim.Rested z)) (same_Some c last runs)
+      (sim.finish c d related (subst (IsOver m) (sym (same_Some c last runs)) over))
   followed (r ∷ run) c last d related runs over =
       first_followed r run c last d related (λ next e. followed run next last e) (m.step r c) refl runs over
 
   -- an end of the chart's tick is an end of the core's: `spared` is what validity gives
-  pub ends_kept : IsCorrespondence k → ((steps : List Act) → IsOrdered m.ForkedApart steps → IsOrdered k.ChartApart steps) → ((steps : List Act) → IsOrdered k.CoreApart steps → IsOrdered n.ForkedApart steps) →
-      (c last : m.Configuration) (d : n.Configuration) → sim.Started c d → ((log : List Entry) (e : n.Configuration) → Follows n k Told d log e → EachFits k log → EachSpared k log) →
+  pub ends_kept : IsCorrespondence k → ((steps : List Act) → IsOrdered m.ForkedApart steps → IsOrdered k.ChartApart steps) →
+      ((steps : List Act) → IsOrdered k.CoreApart steps → IsOrdered n.ForkedApart steps) →
+      (c last : m.Configuration) (d : n.Configuration) → sim.Started c d →
+      ((log : List Entry) (e : n.Configuration) → Follows n k Told d log e → EachFits k log → EachSpared k log) →
       Ends m c last → (e : n.Configuration) × Ends n d e × sim.Rested last e
   ends_kept is chart_same core_same c last d started spared ends = (
     s.last,

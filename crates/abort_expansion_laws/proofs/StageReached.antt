@@ -1,5 +1,6 @@
 -- Which stages may be reached, by the chart's configuration alone; and the step of a thread that stands for one of its region.
-use Rattle.std.proofs.Common.{◌≡◌, ◌≢◌, ℕ, zero, suc, ◌+◌, ◌<◌, ◌≤◌, ⊎_elim, Bool, true, false, ◌||◌, nat_eq, List, [], ◌∷◌, length, Contains, refl, sym, ap, subst, ◌∙◌, arith, if◌then◌else◌}
+use Rattle.std.proofs.Common.{◌≡◌, ◌≢◌, ℕ, zero, suc, ◌+◌, ◌<◌, ◌≤◌, ⊎_elim, Bool, true, false, ◌||◌, nat_eq, List, [], ◌∷◌, length, Contains, refl, sym, ap}
+use Rattle.std.proofs.Common.{subst, ◌∙◌, arith, if◌then◌else◌}
 use Rattle.std.specs.Prelude.{filter}
 use Rattle.std.specs.List.{list_any}
 use Rattle.std.proofs.lemmas.Bool.Decides.{Decides-eqb}
@@ -66,7 +67,8 @@ module _ where
       none_more : (m : ℕ) → m ≡ m + 0
       none_more m = omega arith
   numbered_in (x ∷ rows) n (suc j) lt =
-      tail_in n (n + suc j) (numbered_from (n + 1) rows) (subst (Contains (numbered_from (n + 1) rows)) (one_more n j) (numbered_in rows (n + 1) j (omega (lt, arith))))
+      tail_in n (n + suc j) (numbered_from (n + 1) rows) (subst (Contains (numbered_from (n + 1) rows)) (one_more n j)
+      (numbered_in rows (n + 1) j (omega (lt, arith))))
     where
       one_more : (m i : ℕ) → m + 1 + i ≡ m + suc i
       one_more m i = omega arith
@@ -89,7 +91,8 @@ module _ where
   outer_shorter k tree [] r s e h = absurd (none_in s h)
   outer_shorter k tree (x ∷ ss) r s e h =
       ⊎_elim
-      (λ same. let n : length (around k (holder k s)) ≡ length ss = ap (λ z. length (around k (holder k z))) (sym same) ∙ ap length (sym (tree.upward r x ss e)) in omega (n, arith))
+      (λ same. let n : length (around k (holder k s)) ≡ length ss = ap (λ z. length (around k (holder k z))) (sym same) ∙
+      ap length (sym (tree.upward r x ss e)) in omega (n, arith))
       (λ tail. let n = outer_shorter k tree ss (holder k x) s (sym (tree.upward r x ss e)) tail in omega (n, arith)) (head_or_tail x s ss h)
 
   pub holds_other : (k : Table) → IsTree k → (r s : ℕ) → Contains (around k r) s → holder k s ≢ r
@@ -147,7 +150,8 @@ module _ (k core : Table) (i : Images) (c d : Configuration) (same : SameShape c
   has_work_same (at.Within s tests) = may_close_same s tests
 
   -- where a region with work steps, and no other one, no stage falls
-  pub stage_kept : (q : ℕ) → has_work k c (standing_of c q) ≡ true → ((r : ℕ) → r ≢ q → standing_of d r ≡ standing_of c r) → (x : Standing) → stage_of k c x ≤ stage_of k d x
+  pub stage_kept : (q : ℕ) → has_work k c (standing_of c q) ≡ true → ((r : ℕ) → r ≢ q → standing_of d r ≡ standing_of c r) → (x : Standing) →
+      stage_of k c x ≤ stage_of k d x
   stage_kept q works alike at.Outside = omega arith
   stage_kept q works alike at.Ended = omega arith
   stage_kept q works alike (at.Trying s tests) = omega arith
@@ -156,4 +160,5 @@ module _ (k core : Table) (i : Images) (c d : Configuration) (same : SameShape c
   stage_kept q works alike (at.Acting s effects target) = omega arith
   stage_kept q works alike (at.Within s tests) =
       either_rises (has_aborts (own k s)) (some_work k c s) (some_work k d s) (list_any (λ t. is_weak t.kind) tests)
-      (quiet_kept (λ r. has_work k c (standing_of c r)) (λ r. has_work k d (standing_of d r)) q works (λ r ne. has_work_same (standing_of d r) ∙ ap (has_work k c) (alike r ne)) (inside k s))
+      (quiet_kept (λ r. has_work k c (standing_of c r)) (λ r. has_work k d (standing_of d r)) q works
+      (λ r ne. has_work_same (standing_of d r) ∙ ap (has_work k c) (alike r ne)) (inside k s))

@@ -14,7 +14,8 @@ use Rattle.tick_laws.proofs.Lists.{same_or_not, contained}
 use Rattle.abort_expansion_laws.proofs.LyingIn.{IsTree, LiesUnder, around, holder, head_in, tail_in, around_around}
 use Rattle.abort_expansion_laws.proofs.TablesCorrespond.{IsThere}
 use Rattle.abort_expansion_laws.specs.CoreRows.{own, Images, CoreRows}
-use Rattle.abort_expansion_laws.specs.Related.{IsCalm, Stands, outside, ended, left, trying, acting, entering, guarding, staying, within, behind, IsInside, guarded, open_inside, Related}
+use Rattle.abort_expansion_laws.specs.Related.{IsCalm, Stands, outside, ended, left, trying, acting, entering, guarding, staying, within, behind, IsInside}
+use Rattle.abort_expansion_laws.specs.Related.{guarded, open_inside, Related}
 use Rattle.abort_expansion_laws.proofs.StageReached.{some_work, stage_of, Stage, none_of, holds_other, either_rises}
 use Rattle.abort_expansion_laws.proofs.InsideLeaves.{FlatRows, true_or_false}
 use Rattle.abort_expansion_laws.proofs.AllLeave.{inside_around}
@@ -29,7 +30,8 @@ neither_of false c e = (refl, e)
 module _ (k core : Table) (i : Images) (rows : CoreRows k core i) (more : FlatRows k core i) (tree : IsTree k)
     (children : (s r : ℕ) → Contains (state_at k s).regions r → around k r ≡ s ∷ around k (holder k s))
     (c d : Configuration) (related : Related k core i c d) (r o : ℕ) (there : IsThere k r) (has : has_aborts (own k o) ≡ true) (held : holder k o ≡ r)
-    (inside_o : IsInside k core i o (standing_of c r)) (free : is_guarded k c (around k r) ≡ false) (calm : (q : ℕ) → Contains (around k q) o → IsCalm (standing_of c q))
+    (inside_o : IsInside k core i o (standing_of c r)) (free : is_guarded k c (around k r) ≡ false)
+    (calm : (q : ℕ) → Contains (around k q) o → IsCalm (standing_of c q))
     (next : Configuration) (here : stage_of k next (standing_of next r) ≡ 1) (r_ends : has_ended (standing_of next r) ≡ has_ended (standing_of c r))
     (gone : (q : ℕ) → IsThere k q → Contains (around k q) o → standing_of next q ≡ at.Outside)
     (same : (q : ℕ) → q ≢ r → ¬ Contains (around k q) o → standing_of next q ≡ standing_of c q) where
@@ -40,7 +42,8 @@ module _ (k core : Table) (i : Images) (rows : CoreRows k core i) (more : FlatRo
   around_r : (s : ℕ) → Contains (around k r) s → has_aborts (own k s) ≡ false
   around_r s h =
       ⊎_elim
-      (λ e. let none : has_aborts (own k o) ≡ false = more.flat_held s o e (subst (λ p. Contains (around k p) s) (sym held) h) in let wrong : true ≡ false = sym has ∙ none in absurd cc)
+      (λ e. let none : has_aborts (own k o) ≡ false = more.flat_held s o e (subst (λ p. Contains (around k p) s) (sym held) h) in let wrong : true ≡ false =
+      sym has ∙ none in absurd cc)
       (λ e. e) (true_or_false (has_aborts (own k s)))
 
   r_out : ¬ In r
@@ -82,7 +85,8 @@ module _ (k core : Table) (i : Images) (rows : CoreRows k core i) (more : FlatRo
     high : stage_of k next (standing_of next (holder k s)) ≡ 1
     high = ap (stage_of k next) holder_same ∙ one_stage s (standing_of c (holder k s)) next (around_r s around_it) stands_inside not_guarding
 
-  pub outer_stage : (b : ℕ) → LiesUnder k r b → (i.thread_of b ≢ i.thread_of r) × (((u : ℕ) → Stage k i.thread_of c d (i.thread_of b) u → u ≤ 1) × Stage k i.thread_of next d (i.thread_of b) 1)
+  pub outer_stage : (b : ℕ) → LiesUnder k r b → (i.thread_of b ≢ i.thread_of r) ×
+      (((u : ℕ) → Stage k i.thread_of c d (i.thread_of b) u → u ≤ 1) × Stage k i.thread_of next d (i.thread_of b) 1)
   outer_stage b (inr root) = (
     (λ e. let zero_is : b ≡ r = rows.region_once b r e in let lt = there.0 in absurd (omega (root, zero_is, lt, arith))),
     (
@@ -119,22 +123,27 @@ module _ (k core : Table) (i : Images) (rows : CoreRows k core i) (more : FlatRo
   inside_low q in_o _ _ (acting s u p e effects lt) quiet = omega arith
   inside_low q in_o _ _ (entering s fork t tests super its leads) quiet = omega arith
   inside_low q in_o _ _ (guarding s join t tests some its leads) quiet = omega arith
-  inside_low q in_o _ _ (staying s tests super its stays) quiet = let none : has_aborts (own k s) ≡ false = more.flat_held o s has (subst In (sym its) in_o) in rw (none) (omega arith)
-  inside_low q in_o _ _ (within s join tests super its stays still leads) quiet = let none : has_aborts (own k s) ≡ false = more.flat_held o s has (subst In (sym its) in_o) in rw (none) (omega arith)
-  inside_low q in_o _ _ (behind s tests super its over) quiet = let none : has_aborts (own k s) ≡ false = more.flat_held o s has (subst In (sym its) in_o) in rw (none) (omega arith)
+  inside_low q in_o _ _ (staying s tests super its stays) quiet = let none : has_aborts (own k s) ≡ false =
+      more.flat_held o s has (subst In (sym its) in_o) in rw (none) (omega arith)
+  inside_low q in_o _ _ (within s join tests super its stays still leads) quiet = let none : has_aborts (own k s) ≡ false =
+      more.flat_held o s has (subst In (sym its) in_o) in rw (none) (omega arith)
+  inside_low q in_o _ _ (behind s tests super its over) quiet = let none : has_aborts (own k s) ≡ false = more.flat_held o s has (subst In (sym its) in_o) in
+      rw (none) (omega arith)
 
   -- a superstate with aborts that r neither holds nor lies in: nothing changes there
   module _ (u : ℕ) (some : has_aborts (own k u) ≡ true) (other : u ≢ o) where
     untouched : (q : ℕ) → Contains (around k q) u → (q ≢ r) × ¬ In q
     untouched q h = (
-      (λ e. let none : has_aborts (own k u) ≡ false = around_r u (subst (λ p. Contains (around k p) u) e h) in let wrong : true ≡ false = sym some ∙ none in absurd cc),
+      (λ e. let none : has_aborts (own k u) ≡ false = around_r u (subst (λ p. Contains (around k p) u) e h) in let wrong : true ≡ false = sym some ∙ none in
+          absurd cc),
       λ in_o. other (more.flat_around q o u in_o h has some),
     )
 
     unchanged : (q : ℕ) → Contains (around k q) u → standing_of next q ≡ standing_of c q
     unchanged q h = same q (untouched q h).0 (untouched q h).1
 
-    ends_same : (s q : ℕ) → Contains (around k (holder k s)) u → Contains (state_at k s).regions q → has_ended (standing_of next q) ≡ has_ended (standing_of c q)
+    ends_same : (s q : ℕ) → Contains (around k (holder k s)) u → Contains (state_at k s).regions q →
+        has_ended (standing_of next q) ≡ has_ended (standing_of c q)
     ends_same s q h child = ap has_ended (unchanged q (subst (λ zs. Contains zs u) (sym (children s q child)) (tail_in s u (around k (holder k s)) h)))
 
     close_same : (s : ℕ) (tests : List Transition) → Contains (around k (holder k s)) u → may_close k next s tests ≡ may_close k c s tests
@@ -158,7 +167,8 @@ module _ (k core : Table) (i : Images) (rows : CoreRows k core i) (more : FlatRo
     idle_there : (q : ℕ) → Contains (around k q) u → (IsThere k q → has_work k next (standing_of next q) ≡ has_work k c (standing_of c q))
     idle_there q h q_there = ap (has_work k next) (unchanged q h) ∙ work_same q h (standing_of c q) (standing_of d (i.thread_of q)) (related.regions q q_there)
 
-    still_idle : (xs : List ℕ) → ((q : ℕ) → Contains xs q → Contains (around k q) u × IsThere k q) → list_any (λ q. has_work k c (standing_of c q)) xs ≡ false → list_any (λ q. has_work k next (standing_of next q)) xs ≡ false
+    still_idle : (xs : List ℕ) → ((q : ℕ) → Contains xs q → Contains (around k q) u × IsThere k q) →
+        list_any (λ q. has_work k c (standing_of c q)) xs ≡ false → list_any (λ q. has_work k next (standing_of next q)) xs ≡ false
     still_idle [] each e = refl
     still_idle (q ∷ xs) each e =
         let both = neither_of (has_work k c (standing_of c q)) (list_any (λ p. has_work k c (standing_of c p)) xs) e in
@@ -172,7 +182,8 @@ module _ (k core : Table) (i : Images) (rows : CoreRows k core i) (more : FlatRo
 
   within_rises : (q u : ℕ) (tests : List Transition) → holder k u ≡ q → q ≢ r → stage_of k c (at.Within u tests) ≤ stage_of k next (at.Within u tests)
   within_rises q u tests its ne =
-      ⊎_elim (λ some. stage_same u some (λ e. ne (sym its ∙ (ap (holder k) e ∙ held))) tests) (λ none. rw (none) (omega arith)) (true_or_false (has_aborts (own k u)))
+      ⊎_elim (λ some. stage_same u some (λ e. ne (sym its ∙ (ap (holder k) e ∙ held))) tests) (λ none. rw (none) (omega arith))
+      (true_or_false (has_aborts (own k u)))
 
   outside_rises : (q : ℕ) → q ≢ r → (w y : Standing) → Stands k core i c q w y → stage_of k c w ≤ stage_of k next w
   outside_rises q ne _ _ outside = omega arith
@@ -192,19 +203,23 @@ module _ (k core : Table) (i : Images) (rows : CoreRows k core i) (more : FlatRo
     chart = before.chart;
   }
     where
-      by_place : (q : ℕ) → IsThere k q → h ≡ i.thread_of q → q ≢ r → s ≤ stage_of k c (standing_of c q) → Contains (around k q) o ⊎ ¬ Contains (around k q) o → s ≤ stage_of k next (standing_of next q)
+      by_place : (q : ℕ) → IsThere k q → h ≡ i.thread_of q → q ≢ r → s ≤ stage_of k c (standing_of c q) →
+          Contains (around k q) o ⊎ ¬ Contains (around k q) o → s ≤ stage_of k next (standing_of next q)
       by_place q q_there e other low (inl in_o) =
           let m = inside_low q in_o (standing_of c q) (standing_of d (i.thread_of q)) (related.regions q q_there) (calm q in_o) in
           let n : stage_of k next (standing_of next q) ≡ 1 = ap (stage_of k next) (gone q q_there in_o) in omega (low, m, n, arith)
       by_place q q_there e other low (inr out_o) =
           let m = outside_rises q other (standing_of c q) (standing_of d (i.thread_of q)) (related.regions q q_there) in
-          let n : stage_of k next (standing_of c q) ≤ stage_of k next (standing_of next q) = subst (λ w. stage_of k next (standing_of c q) ≤ stage_of k next w) (sym (same q other out_o)) (omega arith) in
+          let n : stage_of k next (standing_of c q) ≤ stage_of k next (standing_of next q) =
+          subst (λ w. stage_of k next (standing_of c q) ≤ stage_of k next w) (sym (same q other out_o)) (omega arith) in
           omega (low, m, n, arith)
 
   -- at the end: what is reached when the thread of r has just stepped
-  pub reached_now : (last : Configuration) (h s : ℕ) → (h ≢ i.thread_of r → Stage k i.thread_of next d h s) × (h ≡ i.thread_of r → s ≤ 0) → Stage k i.thread_of next last h s
+  pub reached_now : (last : Configuration) (h s : ℕ) → (h ≢ i.thread_of r → Stage k i.thread_of next d h s) × (h ≡ i.thread_of r → s ≤ 0) →
+      Stage k i.thread_of next last h s
   reached_now last h s reached = record {
     regions = λ q q_there e. ⊎_elim
         (λ own_thread. let low = reached.1 own_thread in omega (low, arith)) (λ other. (reached.0 other).regions q q_there e) (same_or_not h (i.thread_of r));
-    chart = λ e. ⊎_elim (λ own_thread. let low = reached.1 own_thread in omega (low, arith)) (λ other. (reached.0 other).chart e) (same_or_not h (i.thread_of r));
+    chart = λ e. ⊎_elim (λ own_thread. let low = reached.1 own_thread in omega (low, arith)) (λ other. (reached.0 other).chart e)
+        (same_or_not h (i.thread_of r));
   }

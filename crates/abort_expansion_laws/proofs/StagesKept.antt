@@ -5,7 +5,9 @@ use Rattle.sc_values.specs.declared.operator.Combination.{Combination}
 use Rattle.sc_values.specs.Access.{Access, Nothing, Precedes, init_update, init_read, update_read, Clash, two_inits, two_updates, MayPrecede}
 use Rattle.sc_values.specs.Runs.{IsOrdered}
 use Rattle.sc_values.proofs.Order.{Clear, EachIsOpen, Orderly, admissible_from_orderly, orderly_from_admissible}
-use Rattle.abort_expansion_laws.specs.Stages.{Entry, Image, Watched, Silent, Correspondence, IsCorrespondence, Meet, Inner, core_act, core_log, chart_log, Touches, InitsFlag, UpdatesFlag, ReaderOf, ReadsFlag, IsSilent, Fits, EachFits, HasStage, ReachedAfter, Climbs, NoneReached, Overwrites, IsSpared, EachSpared}
+use Rattle.abort_expansion_laws.specs.Stages.{Entry, Image, Watched, Silent, Correspondence, IsCorrespondence, Meet, Inner, core_act, core_log, chart_log}
+use Rattle.abort_expansion_laws.specs.Stages.{Touches, InitsFlag, UpdatesFlag, ReaderOf, ReadsFlag, IsSilent, Fits, EachFits, HasStage, ReachedAfter, Climbs}
+use Rattle.abort_expansion_laws.specs.Stages.{NoneReached, Overwrites, IsSpared, EachSpared}
 use Rattle.abort_expansion_laws.proofs.Commuting.{plain_second, plain_first, sharing_none}
 
 module _ (k : Correspondence) (is : IsCorrespondence k) where
@@ -166,7 +168,8 @@ module _ (k : Correspondence) (is : IsCorrespondence k) where
       apart_from : (b : Access) → ((x : ℕ) → Touches b x → x < k.declared) → MayPrecede a b
       apart_from b own = sharing_none a b (λ x flag its. let m = own x its in let n = fit.flags x flag in absurd (omega (m, n, arith)))
 
-      by_entry : (y : Entry) → Fits k y → ((h s s' : ℕ) → Reached h s → HasStage k y h s' → s ≤ s') → (c : ℕ) → k.CoreApart t (core_act k y).thread c → InCore c →
+      by_entry : (y : Entry) → Fits k y → ((h s s' : ℕ) → Reached h s → HasStage k y h s' → s ≤ s') → (c : ℕ) → k.CoreApart t (core_act k y).thread c →
+          InCore c →
           MayPrecede a (core_act k y).access
       by_entry (Image q b) its first c met is_open = apart_from b its
       by_entry (Watched q g stage b) its first c met is_open = plain_second a b its.writes_nothing
@@ -178,15 +181,18 @@ module _ (k : Correspondence) (is : IsCorrespondence k) where
   abbrev Goes : Entry → List Entry → (ℕ → ℕ → Type 0) → Type 0
   Goes y log Reached = Clear k.CoreApart (core_act k y) EachIsOpen (core_log k log)
 
-  core_orderly : (log : List Entry) (Reached : ℕ → ℕ → Type 0) → EachFits k log → EachSpared k log → Climbs k Reached log → Orderly k.ChartApart (chart_log log) → Orderly k.CoreApart (core_log k log)
+  core_orderly : (log : List Entry) (Reached : ℕ → ℕ → Type 0) → EachFits k log → EachSpared k log → Climbs k Reached log →
+      Orderly k.ChartApart (chart_log log) → Orderly k.CoreApart (core_log k log)
   core_orderly [] Reached fits spared climbs orderly = tt
   core_orderly (Image r a ∷ log) Reached fits spared climbs orderly = (
-    clear_after r (k.thread_of r) a ⊥ (λ q b met. inr (is.regions_apart r q b met)) (λ w. absurd w) fits.0 log EachIsOpen EachIsOpen (ReachedAfter k (Image r a) Reached) fits.1 orderly.0 climbs.1
+    clear_after r (k.thread_of r) a ⊥ (λ q b met. inr (is.regions_apart r q b met)) (λ w. absurd w) fits.0 log EachIsOpen EachIsOpen
+        (ReachedAfter k (Image r a) Reached) fits.1 orderly.0 climbs.1
         (λ h inside _. inl (tt, inr (h, inside, refl, refl))) (λ w. absurd w),
     core_orderly log (ReachedAfter k (Image r a) Reached) fits.1 spared climbs.1 orderly.1,
   )
   core_orderly (Watched r g stage a ∷ log) Reached fits spared climbs orderly = (
-    clear_after r g a (Unit {0}) (λ q b met. by_home q b (is.watcher_apart g r q b fits.0.watches met)) (λ w. fits.0.writes_nothing) fits.0.no_flags log EachIsOpen EachIsOpen
+    clear_after r g a (Unit {0}) (λ q b met. by_home q b (is.watcher_apart g r q b fits.0.watches met)) (λ w. fits.0.writes_nothing) fits.0.no_flags log
+        EachIsOpen EachIsOpen
         (ReachedAfter k (Watched r g stage a) Reached) fits.1 orderly.0 climbs.1
         (λ h inside _. inl (tt, inr (inr (h, inside, refl, refl)))) (λ w _. by_stage fits.0.staged),
     core_orderly log (ReachedAfter k (Watched r g stage a) Reached) fits.1 spared.1 climbs.1 orderly.1,
@@ -205,7 +211,8 @@ module _ (k : Correspondence) (is : IsCorrespondence k) where
   )
 
   -- the core's log is admissible where the chart's is
-  pub stages_kept : (log : List Entry) → EachFits k log → EachSpared k log → Climbs k NoneReached log → IsOrdered k.ChartApart (chart_log log) → IsOrdered k.CoreApart (core_log k log)
+  pub stages_kept : (log : List Entry) → EachFits k log → EachSpared k log → Climbs k NoneReached log → IsOrdered k.ChartApart (chart_log log) →
+      IsOrdered k.CoreApart (core_log k log)
   stages_kept log fits spared climbs ordered =
       admissible_from_orderly k.CoreApart (core_log k log)
       (core_orderly log NoneReached fits spared climbs (orderly_from_admissible k.ChartApart (chart_log log) ordered))

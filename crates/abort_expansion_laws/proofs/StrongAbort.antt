@@ -1,5 +1,6 @@
 -- A strong abort is taken: its monitor makes the test, raises the flag and ends, and everything inside leaves.
-use Rattle.std.proofs.Common.{◌≡◌, ◌≢◌, ℕ, zero, suc, ◌<◌, ◌≤◌, ◌⊎◌, inl, inr, ⊎_elim, Bool, true, false, not, ◌&&◌, ◌||◌, pos, Option, Some, None, List, [], ◌∷◌, ◌++◌, map, length, slice_get, slice_set, Contains, refl, sym, ap, subst, ◌∙◌, arith}
+use Rattle.std.proofs.Common.{◌≡◌, ◌≢◌, ℕ, zero, suc, ◌<◌, ◌≤◌, ◌⊎◌, inl, inr, ⊎_elim, Bool, true, false, not, ◌&&◌, ◌||◌, pos, Option, Some, None, List, []}
+use Rattle.std.proofs.Common.{◌∷◌, ◌++◌, map, length, slice_get, slice_set, Contains, refl, sym, ap, subst, ◌∙◌, arith}
 use Rattle.std.specs.Prelude.{option_map, reverse}
 use Rattle.std.specs.List.{list_all}
 use Rattle.std.proofs.lemmas.List.Folds.{flat_map-map}
@@ -32,7 +33,8 @@ use Rattle.abort_expansion_laws.proofs.LyingIn.{IsTree, LiesUnder, around, holde
 use Rattle.abort_expansion_laws.proofs.TablesCorrespond.{IsThere, contains_map}
 use Rattle.abort_expansion_laws.proofs.MoreValues.{number_value, up_verdict, verdict_over_more}
 use Rattle.abort_expansion_laws.proofs.FlagAccess.{put_access, raised_access}
-use Rattle.abort_expansion_laws.specs.CoreRows.{own, IsState, IsSuper, joins, Images, CoreRows, WatcherImage, SplitImage, flags_around, watchers, behind_transitions}
+use Rattle.abort_expansion_laws.specs.CoreRows.{own, IsState, IsSuper, joins, Images, CoreRows, WatcherImage, SplitImage, flags_around, watchers}
+use Rattle.abort_expansion_laws.specs.CoreRows.{behind_transitions}
 use Rattle.abort_expansion_laws.specs.Related.{IsCalm, raises, raise_each, is_behind, Stands, acting, IsInside, guarded, open_inside, Stores, Related}
 use Rattle.abort_expansion_laws.proofs.Unchanged.{not_calm_free, guards_no_calm, get_same, get_other, stands_same, stands_other, no_guards, never_guarded}
 use Rattle.abort_expansion_laws.proofs.StageReached.{Stage, stage_of, holds_other, inside_in}
@@ -48,8 +50,10 @@ use Rattle.abort_expansion_laws.proofs.ChartTables.{around_there}
 use Rattle.abort_expansion_laws.proofs.DropsOut.{DropsOut, dropped_out}
 
 -- a segment from fewer stages
-pub from_fewer : (n : Machine) (k : Correspondence) (Told : n.Configuration → Entry → Type 0) (d : n.Configuration) (Fewer Before : ℕ → ℕ → Type 0) (After : n.Configuration → ℕ → ℕ → Type 0)
-    (steps : List Act) (Reaches : n.Configuration → Type 0) → ((h s : ℕ) → Fewer h s → Before h s) → Segment n k Told d Before After steps Reaches → Segment n k Told d Fewer After steps Reaches
+pub from_fewer : (n : Machine) (k : Correspondence) (Told : n.Configuration → Entry → Type 0) (d : n.Configuration) (Fewer Before : ℕ → ℕ → Type 0)
+    (After : n.Configuration → ℕ → ℕ → Type 0)
+    (steps : List Act) (Reaches : n.Configuration → Type 0) → ((h s : ℕ) → Fewer h s → Before h s) → Segment n k Told d Before After steps Reaches →
+    Segment n k Told d Fewer After steps Reaches
 from_fewer n k Told d Fewer Before After steps Reaches fewer s =
     record {
       log = s.log;
@@ -65,8 +69,10 @@ module _ (k core : Table) (i : Images) (rows : CoreRows k core i) (more : FlatRo
     (deep : (q s : ℕ) → Contains (around core q) s → holder core s < q)
     (core_children : (s r : ℕ) → Contains (state_at core s).regions r → around core r ≡ s ∷ around core (holder core s))
     (children : (s r : ℕ) → Contains (state_at k s).regions r → around k r ≡ s ∷ around k (holder k s))
-    (counts : ℕ → Bool) (written_at : ℕ → ℕ) (Told : Configuration → Entry → Type 0) (told : (e : Configuration) (t : ℕ) (at_stage : Option (ℕ × ℕ)) (a : Access) → Told e (Silent t at_stage a))
-    (c d : Configuration) (related : Related k core i c d) (r o : ℕ) (o_there : IsState k o) (t : Transition) (others : List Transition) (stands : standing_of c r ≡ at.Guarding o (t ∷ others))
+    (counts : ℕ → Bool) (written_at : ℕ → ℕ) (Told : Configuration → Entry → Type 0)
+    (told : (e : Configuration) (t : ℕ) (at_stage : Option (ℕ × ℕ)) (a : Access) → Told e (Silent t at_stage a))
+    (c d : Configuration) (related : Related k core i c d) (r o : ℕ) (o_there : IsState k o) (t : Transition) (others : List Transition)
+    (stands : standing_of c r ≡ at.Guarding o (t ∷ others))
     (true_there : verdict c.variables t.trigger ≡ Some true) (calm : (q : ℕ) → Contains (around k q) o → IsCalm (standing_of c q))
     (x : ℕ) (flag : (i.flags_of o).strong ≡ Some x) (of_flag : rows.of_flag x ≡ o) (no_counter : counts x ≡ false) (at_none : written_at x ≡ 0)
     (is_int : takes_kind (option_map (λ z. z.kind) (slice_get core.variables x)) (kind_of (value_is.Int (pos 0))) ≡ true) (in_range : x < length core.variables)
@@ -82,7 +88,8 @@ module _ (k core : Table) (i : Images) (rows : CoreRows k core i) (more : FlatRo
   region = guarding_back k core i c r (standing_of c r) (standing_of d (i.thread_of r)) (related.regions r there) o (t ∷ others) stands
 
   pub monitor : MonitorGuards k core i o t others (standing_of d (i.watcher_of o))
-  monitor = guards_back k core i o (standing_of c (holder k o)) (standing_of d (i.watcher_of o)) (related.watchers o o_there region.has) t others (ap (standing_of c) region.held ∙ stands)
+  monitor = guards_back k core i o (standing_of c (holder k o)) (standing_of d (i.watcher_of o)) (related.watchers o o_there region.has) t others
+      (ap (standing_of c) region.held ∙ stands)
 
   image : WatcherImage k core i o
   image = rows.watcher o o_there region.has
@@ -97,9 +104,11 @@ module _ (k core : Table) (i : Images) (rows : CoreRows k core i) (more : FlatRo
   n = suc monitor.number
 
   abbrev pub behind_it : List Transition
-  behind_it = map (raises (λ z. false) x) monitor.others ++ (raising (λ z. z.immediate) 1 (i.flags_of o).weak 1 (weak_aborts (own k o)) ++ all_ended (i.flags_of o).counter)
+  behind_it = map (raises (λ z. false) x) monitor.others ++ (raising (λ z. z.immediate) 1 (i.flags_of o).weak 1 (weak_aborts (own k o)) ++ all_ended
+      (i.flags_of o).counter)
 
-  core_stands : standing_of d (i.watcher_of o) ≡ at.Trying (i.watching_of o) (raises (λ z. false) x (monitor.number, t) ∷ (map (raises (λ z. false) x) monitor.others
+  core_stands : standing_of d (i.watcher_of o) ≡ at.Trying (i.watching_of o)
+      (raises (λ z. false) x (monitor.number, t) ∷ (map (raises (λ z. false) x) monitor.others
       ++ (raising (λ z. z.immediate) 1 (i.flags_of o).weak 1 (weak_aborts (own k o)) ++ all_ended (i.flags_of o).counter)))
   core_stands =
       monitor.is
@@ -131,7 +140,8 @@ module _ (k core : Table) (i : Images) (rows : CoreRows k core i) (more : FlatRo
   here2 : standing_of d2 (i.watcher_of o) ≡ at.Ended
   here2 =
       stands_same d1 d2 (i.watcher_of o) at.Ended refl
-      (let size = set_size d.regions (i.watcher_of o) (at.Acting (i.watching_of o) (put x (suc monitor.number) ∷ []) 1) in let lt = in_core in omega (size, lt, arith))
+      (let size = set_size d.regions (i.watcher_of o) (at.Acting (i.watching_of o) (put x (suc monitor.number) ∷ []) 1) in let lt = in_core in
+      omega (size, lt, arith))
 
   other1 : (q : ℕ) → q ≢ i.watcher_of o → standing_of d1 q ≡ standing_of d q
   other1 q ne = stands_other d d1 (i.watcher_of o) q (at.Acting (i.watching_of o) (put x (suc monitor.number) ∷ []) 1) refl ne
@@ -180,14 +190,17 @@ module _ (k core : Table) (i : Images) (rows : CoreRows k core i) (more : FlatRo
   -- ---- the three parts
 
   module _ (told_test : Told d (Watched r (i.watcher_of o) 0 (access_of_trigger t.trigger)))
-      (outer_stage : (b : ℕ) → LiesUnder k r b → (i.thread_of b ≢ i.thread_of r) × (((u : ℕ) → Stage k i.thread_of c d (i.thread_of b) u → u ≤ 1) × Others (i.thread_of b) 1))
+      (outer_stage : (b : ℕ) → LiesUnder k r b → (i.thread_of b ≢ i.thread_of r) ×
+      (((u : ℕ) → Stage k i.thread_of c d (i.thread_of b) u → u ≤ 1) × Others (i.thread_of b) 1))
       (others_stay : (h s : ℕ) → h ≢ i.thread_of r → Stage k i.thread_of c d h s → Others h s) where
     abbrev pub Reached : ℕ → ℕ → ℕ → Type 0
     Reached m h s = AtHome Others (i.thread_of r) m h s
 
-    own_stages : (h s : ℕ) → HasStage corr (Watched r (i.watcher_of o) 0 (access_of_trigger t.trigger)) h s → ((u : ℕ) → Stage k i.thread_of c d h u → u ≤ s) × AtHome Others (i.thread_of r) 0 h s
+    own_stages : (h s : ℕ) → HasStage corr (Watched r (i.watcher_of o) 0 (access_of_trigger t.trigger)) h s →
+        ((u : ℕ) → Stage k i.thread_of c d h u → u ≤ s) × AtHome Others (i.thread_of r) 0 h s
     own_stages h s (inl here) = (
-      λ u before. let low = before.regions r there here.0 in let none : stage_of k c (standing_of c r) ≡ 0 = ap (stage_of k c) stands in omega (low, none, here.1, arith),
+      λ u before. let low = before.regions r there here.0 in let none : stage_of k c (standing_of c r) ≡ 0 = ap (stage_of k c) stands in
+          omega (low, none, here.1, arith),
       (λ ne. absurd (ne here.0), λ e. omega (here.1, arith)),
     )
     own_stages h s (inr (b, under, is, one)) =
@@ -202,7 +215,8 @@ module _ (k core : Table) (i : Images) (rows : CoreRows k core i) (more : FlatRo
       λ e. let low = before.regions r there e in let none : stage_of k c (standing_of c r) ≡ 0 = ap (stage_of k c) stands in omega (low, none, arith),
     )
 
-    test_step : Segment (machine core) corr Told d (Stage k i.thread_of c d) (λ last. AtHome Others (i.thread_of r) 0) (act_of (machine k) c r ∷ []) (λ z. z ≡ d1)
+    test_step : Segment (machine core) corr Told d (Stage k i.thread_of c d) (λ last. AtHome Others (i.thread_of r) 0) (act_of (machine k) c r ∷ [])
+        (λ z. z ≡ d1)
     test_step =
         record {
           log = Watched r (i.watcher_of o) 0 (access_of_trigger t.trigger) ∷ [];
@@ -219,7 +233,8 @@ module _ (k core : Table) (i : Images) (rows : CoreRows k core i) (more : FlatRo
             tt,
           );
           climbs = λ rest climbs.
-              climbs_step corr (Stage k i.thread_of c d) (AtHome Others (i.thread_of r) 0) (Watched r (i.watcher_of o) 0 (access_of_trigger t.trigger)) rest own_stages stays_there climbs;
+              climbs_step corr (Stage k i.thread_of c d) (AtHome Others (i.thread_of r) 0) (Watched r (i.watcher_of o) 0 (access_of_trigger t.trigger)) rest
+              own_stages stays_there climbs;
           reaches = refl;
         }
       where
@@ -227,7 +242,8 @@ module _ (k core : Table) (i : Images) (rows : CoreRows k core i) (more : FlatRo
         takes_it =
             takes core d (i.watcher_of o) (i.watching_of o) (raises (λ z. false) x (monitor.number, t)) behind_it (put x (suc monitor.number)) []
             (never_guarded k core i rows c d related (around core (i.watcher_of o))) core_stands
-            (subst (λ vs. verdict vs t.trigger ≡ Some true) (sym related.variables) (verdict_over_more related.more c.variables t.trigger true true_there)) alone refl
+            (subst (λ vs. verdict vs t.trigger ≡ Some true) (sym related.variables) (verdict_over_more related.more c.variables t.trigger true true_there))
+            alone refl
 
     unguarded1 : (zs : List ℕ) → is_guarded core d1 zs ≡ false
     unguarded1 [] = refl
@@ -235,14 +251,18 @@ module _ (k core : Table) (i : Images) (rows : CoreRows k core i) (more : FlatRo
 
     raise_step : Segment (machine core) corr Told d1 (AtHome Others (i.thread_of r) 0) (λ last. AtHome Others (i.thread_of r) 0) [] (λ z. z ≡ d2)
     raise_step =
-        silent_step (machine core) corr Told told d1 d2 (i.watcher_of o) (Some (i.thread_of r, 0)) (sets x (value_is.Int (pos (suc monitor.number)))) (AtHome Others (i.thread_of r) 0) (AtHome Others (i.thread_of r) 0) (λ z. z ≡ d2)
-        (writes_last core d1 (i.watcher_of o) (i.watching_of o) 1 (put x (suc monitor.number)) (value_is.Int (pos (suc monitor.number))) at.Ended (unguarded1 (around core (i.watcher_of o))) here1
+        silent_step (machine core) corr Told told d1 d2 (i.watcher_of o) (Some (i.thread_of r, 0)) (sets x (value_is.Int (pos (suc monitor.number))))
+        (AtHome Others (i.thread_of r) 0) (AtHome Others (i.thread_of r) 0) (λ z. z ≡ d2)
+        (writes_last core d1 (i.watcher_of o) (i.watching_of o) 1 (put x (suc monitor.number)) (value_is.Int (pos (suc monitor.number))) at.Ended
+        (unguarded1 (around core (i.watcher_of o))) here1
         (number_value (suc monitor.number) d.variables) is_int (ap (λ s. (state_at core s).entered) image.ended ∙ image.watched))
         (ap access_of here1 ∙ put_access x (suc monitor.number)) sets_flag
-        (λ rest climbs. climbs_at corr Others (i.thread_of r) 0 0 (i.watcher_of o) (sets x (value_is.Int (pos (suc monitor.number)))) rest (omega arith) climbs) refl
+        (λ rest climbs. climbs_at corr Others (i.thread_of r) 0 0 (i.watcher_of o) (sets x (value_is.Int (pos (suc monitor.number)))) rest (omega arith)
+        climbs) refl
 
     pub raised : verdict d2.variables (Some (is_raised x)) ≡ Some true
-    raised = up_verdict x (suc monitor.number) d2.variables (get_same d.variables x (value_is.Int (pos (suc monitor.number))) (omega (in_range, related.flag_count, arith))) (λ e. absurd cc)
+    raised = up_verdict x (suc monitor.number) d2.variables (get_same d.variables x (value_is.Int (pos (suc monitor.number)))
+        (omega (in_range, related.flag_count, arith))) (λ e. absurd cc)
 
     -- all have left: what is reached at the end
     abbrev pub AllLeft : Configuration → Type 0
@@ -251,7 +271,8 @@ module _ (k core : Table) (i : Images) (rows : CoreRows k core i) (more : FlatRo
     leave_steps : Segment (machine core) corr Told d2 (AtHome Others (i.thread_of r) 1) (λ last. AtHome Others (i.thread_of r) 1) [] AllLeft
     leave_steps =
         all_leave core core_tree deep corr Told told Others (i.thread_of r) 1 (i.main_of o) (Some (is_raised x)) d2 raised quiet2
-        (may_leave k core i rows more tree core_children children o x region.has flag c d related guards_now calm corr (i.thread_of r) 1 (i.main_of o) d2 sees_flag core_tree deep Told told Others raised quiet2
+        (may_leave k core i rows more tree core_children children o x region.has flag c d related guards_now calm corr (i.thread_of r) 1 (i.main_of o) d2
+        sees_flag core_tree deep Told told Others raised quiet2
         (λ q. other2 (i.thread_of q) (image.no_thread q)) here2)
       where
         guards_now : guards (standing_of c (holder k o)) ≡ true
@@ -260,11 +281,16 @@ module _ (k core : Table) (i : Images) (rows : CoreRows k core i) (more : FlatRo
     -- the test, the raising and the leaving
     pub aborted : Segment (machine core) corr Told d (Stage k i.thread_of c d) (λ last. AtHome Others (i.thread_of r) 1) (act_of (machine k) c r ∷ []) AllLeft
     aborted =
-        segment_on (machine core) corr Told d (Stage k i.thread_of c d) (λ last. AtHome Others (i.thread_of r) 0) (λ last. AtHome Others (i.thread_of r) 1) (act_of (machine k) c r ∷ []) [] (λ z. z ≡ d1) AllLeft test_step
-        (subst (λ z. Segment (machine core) corr Told z (AtHome Others (i.thread_of r) 0) (λ last. AtHome Others (i.thread_of r) 1) [] AllLeft) (sym test_step.reaches)
-        (segment_on (machine core) corr Told d1 (AtHome Others (i.thread_of r) 0) (λ last. AtHome Others (i.thread_of r) 0) (λ last. AtHome Others (i.thread_of r) 1) [] [] (λ z. z ≡ d2) AllLeft raise_step
-        (subst (λ z. Segment (machine core) corr Told z (AtHome Others (i.thread_of r) 0) (λ last. AtHome Others (i.thread_of r) 1) [] AllLeft) (sym raise_step.reaches)
-        (from_fewer (machine core) corr Told d2 (AtHome Others (i.thread_of r) 0) (AtHome Others (i.thread_of r) 1) (λ last. AtHome Others (i.thread_of r) 1) [] AllLeft
+        segment_on (machine core) corr Told d (Stage k i.thread_of c d) (λ last. AtHome Others (i.thread_of r) 0) (λ last. AtHome Others (i.thread_of r) 1)
+        (act_of (machine k) c r ∷ []) [] (λ z. z ≡ d1) AllLeft test_step
+        (subst (λ z. Segment (machine core) corr Told z (AtHome Others (i.thread_of r) 0) (λ last. AtHome Others (i.thread_of r) 1) [] AllLeft)
+        (sym test_step.reaches)
+        (segment_on (machine core) corr Told d1 (AtHome Others (i.thread_of r) 0) (λ last. AtHome Others (i.thread_of r) 0)
+        (λ last. AtHome Others (i.thread_of r) 1) [] [] (λ z. z ≡ d2) AllLeft raise_step
+        (subst (λ z. Segment (machine core) corr Told z (AtHome Others (i.thread_of r) 0) (λ last. AtHome Others (i.thread_of r) 1) [] AllLeft)
+        (sym raise_step.reaches)
+        (from_fewer (machine core) corr Told d2 (AtHome Others (i.thread_of r) 0) (AtHome Others (i.thread_of r) 1) (λ last. AtHome Others (i.thread_of r) 1)
+        [] AllLeft
         (λ h s reached. (reached.0, λ e. let low = reached.1 e in omega (low, arith))) leave_steps))))
 
     -- ---- the fork is over, and the continuation answers
@@ -313,7 +339,8 @@ module _ (k core : Table) (i : Images) (rows : CoreRows k core i) (more : FlatRo
       direct_in q h = core_children (i.main_of o) q h ∙ ap (λ z. i.main_of o ∷ around core z) main_held
 
       -- nothing that the fork directly holds was dropped by another one inside of it
-      not_by_inner : (q s : ℕ) → Contains (state_at core (i.main_of o)).regions q → Contains (around core q) s → Contains (around core (holder core s)) (i.main_of o) → ⊥
+      not_by_inner : (q s : ℕ) → Contains (state_at core (i.main_of o)).regions q → Contains (around core q) s →
+          Contains (around core (holder core s)) (i.main_of o) → ⊥
       not_by_inner q s h around_q inner =
           ⊎_elim (λ same. home_out (subst (λ z. Contains (around core z) (i.main_of o)) (ap (holder core) (sym same) ∙ main_held) inner))
           (λ tail. home_out (around_around core core_tree (around core (i.thread_of r)) (i.thread_of r) s (i.main_of o) refl tail inner))
@@ -335,13 +362,16 @@ module _ (k core : Table) (i : Images) (rows : CoreRows k core i) (more : FlatRo
           by_sort : Contains (map i.thread_of (state_at k o).regions) q ⊎ Contains (i.watcher_of o ∷ []) q → ⊥
           by_sort (inl m) = let u = contains_map i.thread_of (state_at k o).regions q m in by_region u.0 u.1 u.2
           by_sort (inr m) =
-              ⊎_elim (λ same. let wrong : at.Ended ≡ at.Outside = sym here2 ∙ (ap (standing_of d2) same ∙ e) in absurd cc) (λ none. none_in q none) (head_or_tail (i.watcher_of o) q [] m)
+              ⊎_elim (λ same. let wrong : at.Ended ≡ at.Outside = sym here2 ∙ (ap (standing_of d2) same ∙ e) in absurd cc) (λ none. none_in q none)
+              (head_or_tail (i.watcher_of o) q [] m)
 
       direct_ended : (q : ℕ) → Contains (state_at core (i.main_of o)).regions q → standing_of aborted.last q ≡ at.Ended
-      direct_ended q h = by_gone (left3.gone q (subst (λ zs. Contains zs (i.main_of o)) (sym (direct_in q h)) (head_in (i.main_of o) (around core (i.thread_of r)))) (omega arith))
+      direct_ended q h = by_gone (left3.gone q (subst (λ zs. Contains zs (i.main_of o)) (sym (direct_in q h))
+          (head_in (i.main_of o) (around core (i.thread_of r)))) (omega arith))
         where
           by_gone : (standing_of aborted.last q ≡ at.Ended)
-              ⊎ ((standing_of aborted.last q ≡ at.Outside) × ((standing_of d2 q ≡ at.Outside) ⊎ ((s : ℕ) × Contains (around core q) s × (0 ≤ holder core s) × Contains (around core (holder core s)) (i.main_of o)))) →
+              ⊎ ((standing_of aborted.last q ≡ at.Outside) × ((standing_of d2 q ≡ at.Outside) ⊎
+              ((s : ℕ) × Contains (around core q) s × (0 ≤ holder core s) × Contains (around core (holder core s)) (i.main_of o)))) →
               standing_of aborted.last q ≡ at.Ended
           by_gone (inl is) = is
           by_gone (inr (out, inl was)) = absurd (present2 q h was)
@@ -357,17 +387,20 @@ module _ (k core : Table) (i : Images) (rows : CoreRows k core i) (more : FlatRo
           idle q h = by_gone (left3.gone q (inside_around core (i.main_of o) q h) (omega arith))
             where
               by_gone : (standing_of aborted.last q ≡ at.Ended)
-                  ⊎ ((standing_of aborted.last q ≡ at.Outside) × ((standing_of d2 q ≡ at.Outside) ⊎ ((s : ℕ) × Contains (around core q) s × (0 ≤ holder core s) × Contains (around core (holder core s)) (i.main_of o)))) →
+                  ⊎ ((standing_of aborted.last q ≡ at.Outside) × ((standing_of d2 q ≡ at.Outside) ⊎
+                  ((s : ℕ) × Contains (around core q) s × (0 ≤ holder core s) × Contains (around core (holder core s)) (i.main_of o)))) →
                   not (has_work core aborted.last (standing_of aborted.last q)) ≡ true
               by_gone (inl is) = ap (λ z. not (has_work core aborted.last z)) is
               by_gone (inr w) = ap (λ z. not (has_work core aborted.last z)) w.0
 
       quiet3 : (q : ℕ) → guards (standing_of aborted.last q) ≡ false
       quiet3 q =
-          ⊎_elim (λ inner. by_gone (left3.gone q inner (omega arith))) (λ outer. ap guards (left3.others q outer) ∙ quiet2 q) (contained (around core q) (i.main_of o))
+          ⊎_elim (λ inner. by_gone (left3.gone q inner (omega arith))) (λ outer. ap guards (left3.others q outer) ∙ quiet2 q)
+          (contained (around core q) (i.main_of o))
         where
           by_gone : (standing_of aborted.last q ≡ at.Ended)
-              ⊎ ((standing_of aborted.last q ≡ at.Outside) × ((standing_of d2 q ≡ at.Outside) ⊎ ((s : ℕ) × Contains (around core q) s × (0 ≤ holder core s) × Contains (around core (holder core s)) (i.main_of o)))) →
+              ⊎ ((standing_of aborted.last q ≡ at.Outside) × ((standing_of d2 q ≡ at.Outside) ⊎
+              ((s : ℕ) × Contains (around core q) s × (0 ≤ holder core s) × Contains (around core (holder core s)) (i.main_of o)))) →
               guards (standing_of aborted.last q) ≡ false
           by_gone (inl is) = ap guards is
           by_gone (inr w) = ap guards w.0
@@ -380,13 +413,15 @@ module _ (k core : Table) (i : Images) (rows : CoreRows k core i) (more : FlatRo
       nothing_around_r : (s : ℕ) → Contains (around k r) s → has_aborts (own k s) ≡ false
       nothing_around_r s h =
           ⊎_elim
-          (λ e. let none : has_aborts (own k o) ≡ false = more.flat_held s o e (subst (λ p. Contains (around k p) s) (sym region.held) h) in let wrong : true ≡ false = sym region.has ∙ none in absurd cc)
+          (λ e. let none : has_aborts (own k o) ≡ false = more.flat_held s o e (subst (λ p. Contains (around k p) s) (sym region.held) h) in
+          let wrong : true ≡ false = sym region.has ∙ none in absurd cc)
           (λ e. e) (true_or_false (has_aborts (own k s)))
 
       no_checks : strong_checks true (i.places_of r).left (flags_around k core i r) ≡ []
       no_checks =
           flat_map-map (λ f. check true (i.places_of r).left f.strong) i.flags_of (reverse (around k r))
-          ∙ none_checked k tree (λ s. check true (i.places_of r).left (i.flags_of s).strong) (around k r) (λ s h. ap (check true (i.places_of r).left) (more.no_strong s (nothing_around_r s h)))
+          ∙ none_checked k tree (λ s. check true (i.places_of r).left (i.flags_of s).strong) (around k r)
+          (λ s h. ap (check true (i.places_of r).left) (more.no_strong s (nothing_around_r s h)))
 
       abbrev pub weak_answers : List Transition
       weak_answers = answers (i.places_of r) (i.flags_of o).weak 1 (weak_aborts (own k o))
@@ -398,7 +433,8 @@ module _ (k core : Table) (i : Images) (rows : CoreRows k core i) (more : FlatRo
           at_once ((answers (i.places_of r) (Some x) 1 (strong_aborts (own k o)) ++ answers (i.places_of r) (i.flags_of o).weak 1 (weak_aborts (own k o)))
           ++ closing (flags_around k core i r) (i.flags_of o) (i.places_of r) (terminations (own k o)))
       continuation =
-          ap (λ zs. at_once (((zs ++ answers (i.places_of r) (i.flags_of o).strong 1 (strong_aborts (own k o))) ++ answers (i.places_of r) (i.flags_of o).weak 1 (weak_aborts (own k o)))
+          ap (λ zs. at_once (((zs ++ answers (i.places_of r) (i.flags_of o).strong 1 (strong_aborts (own k o))) ++ answers (i.places_of r) (i.flags_of o).weak
+          1 (weak_aborts (own k o)))
           ++ closing (flags_around k core i r) (i.flags_of o) (i.places_of r) (terminations (own k o)))) no_checks
           ∙ ap (λ f. at_once ((answers (i.places_of r) f 1 (strong_aborts (own k o)) ++ answers (i.places_of r) (i.flags_of o).weak 1 (weak_aborts (own k o)))
           ++ closing (flags_around k core i r) (i.flags_of o) (i.places_of r) (terminations (own k o)))) flag
@@ -416,12 +452,18 @@ module _ (k core : Table) (i : Images) (rows : CoreRows k core i) (more : FlatRo
           ∙ ap (λ zs. to (i.thread_of r) (at.Trying (i.behind_of o) zs) ∷ []) continuation))
 
       abbrev pub d4 : Configuration
-      d4 = record { variables = aborted.last.variables; regions = slice_set (moved (drops (inside core (i.main_of o))) aborted.last.regions) (i.thread_of r) (at.Trying (i.behind_of o) first_tests) }
+      d4 = record {
+        variables = aborted.last.variables;
+        regions = slice_set (moved (drops (inside core (i.main_of o))) aborted.last.regions) (i.thread_of r)
+            (at.Trying (i.behind_of o) first_tests);
+      }
 
       join_step : Segment (machine core) corr Told aborted.last (AtHome Others (i.thread_of r) 1) (λ last. AtHome Others (i.thread_of r) 0) [] (λ z. z ≡ d4)
       join_step =
-          silent_step (machine core) corr Told told aborted.last d4 (i.thread_of r) None no_access (AtHome Others (i.thread_of r) 1) (AtHome Others (i.thread_of r) 0) (λ z. z ≡ d4)
-          (joined core aborted.last (i.thread_of r) (i.main_of o) region.join (at.Trying (i.behind_of o) first_tests) (unguarded3 (around core (i.thread_of r))) home3 all_over all_idle enters)
+          silent_step (machine core) corr Told told aborted.last d4 (i.thread_of r) None no_access (AtHome Others (i.thread_of r) 1)
+          (AtHome Others (i.thread_of r) 0) (λ z. z ≡ d4)
+          (joined core aborted.last (i.thread_of r) (i.main_of o) region.join
+          (at.Trying (i.behind_of o) first_tests) (unguarded3 (around core (i.thread_of r))) home3 all_over all_idle enters)
           (ap access_of home3) (silent_idle corr (i.thread_of r) None) (λ rest climbs. climbs_home corr Others (i.thread_of r) 1 no_access rest climbs) refl
 
       home_there : i.thread_of r < length (moved (drops (inside core (i.main_of o))) aborted.last.regions)
@@ -430,45 +472,57 @@ module _ (k core : Table) (i : Images) (rows : CoreRows k core i) (more : FlatRo
           let a : length aborted.last.regions ≡ length d2.regions = left3.size in
           let b = drops_length (inside core (i.main_of o)) aborted.last.regions in
           let e = set_size (slice_set d.regions (i.watcher_of o) (at.Acting (i.watching_of o) (put x (suc monitor.number) ∷ []) 1)) (i.watcher_of o) at.Ended in
-          let f = set_size d.regions (i.watcher_of o) (at.Acting (i.watching_of o) (put x (suc monitor.number) ∷ []) 1) in omega (lt, a, b, e, f, related.core_regions, arith)
+          let f = set_size d.regions (i.watcher_of o) (at.Acting (i.watching_of o) (put x (suc monitor.number) ∷ []) 1) in
+          omega (lt, a, b, e, f, related.core_regions, arith)
 
       home4 : standing_of d4 (i.thread_of r) ≡ at.Trying (i.behind_of o) first_tests
       home4 = set_here (moved (drops (inside core (i.main_of o))) aborted.last.regions) (i.thread_of r) (at.Trying (i.behind_of o) first_tests) home_there
 
       dropped4 : (q : ℕ) → q ≢ i.thread_of r → Contains (inside core (i.main_of o)) q → standing_of d4 q ≡ at.Outside
-      dropped4 q ne h = set_other (moved (drops (inside core (i.main_of o))) aborted.last.regions) (i.thread_of r) q (at.Trying (i.behind_of o) first_tests) ne ∙ drops_in (inside core (i.main_of o)) aborted.last.regions q h
+      dropped4 q ne h = set_other (moved (drops (inside core (i.main_of o))) aborted.last.regions) (i.thread_of r) q (at.Trying (i.behind_of o) first_tests)
+          ne ∙ drops_in (inside core (i.main_of o)) aborted.last.regions q h
 
       same4 : (q : ℕ) → q ≢ i.thread_of r → ¬ Contains (inside core (i.main_of o)) q → standing_of d4 q ≡ standing_of aborted.last q
       same4 q ne out_q =
-          set_other (moved (drops (inside core (i.main_of o))) aborted.last.regions) (i.thread_of r) q (at.Trying (i.behind_of o) first_tests) ne ∙ drops_out (inside core (i.main_of o)) aborted.last.regions q out_q
+          set_other (moved (drops (inside core (i.main_of o))) aborted.last.regions) (i.thread_of r) q (at.Trying (i.behind_of o) first_tests) ne ∙
+          drops_out (inside core (i.main_of o)) aborted.last.regions q out_q
 
       quiet4 : (q : ℕ) → guards (standing_of d4 q) ≡ false
       quiet4 q =
           ⊎_elim (λ e. ap (λ p. guards (standing_of d4 p)) e ∙ ap guards home4)
-          (λ ne. ⊎_elim (λ h. ap guards (dropped4 q ne h)) (λ out_q. ap guards (same4 q ne out_q) ∙ quiet3 q) (contained (inside core (i.main_of o)) q)) (same_or_not q (i.thread_of r))
+          (λ ne. ⊎_elim (λ h. ap guards (dropped4 q ne h)) (λ out_q. ap guards (same4 q ne out_q) ∙ quiet3 q) (contained (inside core (i.main_of o)) q))
+          (same_or_not q (i.thread_of r))
 
       pub sees_own : IsSilent corr (i.thread_of r) None (tests x)
       sees_own = silent_test corr (i.thread_of r) None x declared (inl (sym home_of))
 
       flag4 : slice_get d4.variables x ≡ Some (value_is.Int (pos (suc monitor.number)))
       flag4 =
-          ap (λ vs. slice_get vs x) left3.variables ∙ get_same d.variables x (value_is.Int (pos (suc monitor.number))) (omega (in_range, related.flag_count, arith))
+          ap (λ vs. slice_get vs x) left3.variables ∙ get_same d.variables x (value_is.Int (pos (suc monitor.number)))
+          (omega (in_range, related.flag_count, arith))
 
       abbrev pub HasAnswered : Configuration → Type 0
-      HasAnswered z = Answered core corr Told told Others (i.thread_of r) (i.behind_of o) x (suc monitor.number) sees_own (more.behind_alone o) (i.places_of r) t e0 effects some weak_answers closing_ones d4 z
+      HasAnswered z = Answered core corr Told told Others (i.thread_of r) (i.behind_of o) x (suc monitor.number) sees_own (more.behind_alone o)
+          (i.places_of r) t e0 effects some weak_answers closing_ones d4 z
 
       answer_steps : Segment (machine core) corr Told d4 (AtHome Others (i.thread_of r) 0) (λ last. AtHome Others (i.thread_of r) 0) [] HasAnswered
       answer_steps =
-          answered core corr Told told Others (i.thread_of r) (i.behind_of o) x (suc monitor.number) sees_own (more.behind_alone o) (i.places_of r) t e0 effects some weak_answers closing_ones
+          answered core corr Told told Others (i.thread_of r) (i.behind_of o) x (suc monitor.number) sees_own (more.behind_alone o) (i.places_of r) t e0
+          effects some weak_answers closing_ones
           (strong_aborts (own k o)) 1 monitor.number d4 monitor.first (omega arith) home4 flag4 quiet4
-          (let lt = home_there in let size = set_size (moved (drops (inside core (i.main_of o))) aborted.last.regions) (i.thread_of r) (at.Trying (i.behind_of o) first_tests) in omega (lt, size, arith))
+          (let lt = home_there in let size = set_size (moved (drops (inside core (i.main_of o))) aborted.last.regions) (i.thread_of r)
+          (at.Trying (i.behind_of o) first_tests) in omega (lt, size, arith))
 
       -- the whole: from the test to the effects of the abort
-      pub acting_on : Segment (machine core) corr Told d (Stage k i.thread_of c d) (λ last. AtHome Others (i.thread_of r) 0) (act_of (machine k) c r ∷ []) HasAnswered
+      pub acting_on : Segment (machine core) corr Told d (Stage k i.thread_of c d) (λ last. AtHome Others (i.thread_of r) 0) (act_of (machine k) c r ∷ [])
+          HasAnswered
       acting_on =
-          segment_on (machine core) corr Told d (Stage k i.thread_of c d) (λ last. AtHome Others (i.thread_of r) 1) (λ last. AtHome Others (i.thread_of r) 0) (act_of (machine k) c r ∷ []) [] AllLeft HasAnswered aborted
-          (segment_on (machine core) corr Told aborted.last (AtHome Others (i.thread_of r) 1) (λ last. AtHome Others (i.thread_of r) 0) (λ last. AtHome Others (i.thread_of r) 0) [] [] (λ z. z ≡ d4) HasAnswered join_step
-          (subst (λ z. Segment (machine core) corr Told z (AtHome Others (i.thread_of r) 0) (λ last. AtHome Others (i.thread_of r) 0) [] HasAnswered) (sym join_step.reaches) answer_steps))
+          segment_on (machine core) corr Told d (Stage k i.thread_of c d) (λ last. AtHome Others (i.thread_of r) 1) (λ last. AtHome Others (i.thread_of r) 0)
+          (act_of (machine k) c r ∷ []) [] AllLeft HasAnswered aborted
+          (segment_on (machine core) corr Told aborted.last (AtHome Others (i.thread_of r) 1) (λ last. AtHome Others (i.thread_of r) 0)
+          (λ last. AtHome Others (i.thread_of r) 0) [] [] (λ z. z ≡ d4) HasAnswered join_step
+          (subst (λ z. Segment (machine core) corr Told z (AtHome Others (i.thread_of r) 0) (λ last. AtHome Others (i.thread_of r) 0) [] HasAnswered)
+          (sym join_step.reaches) answer_steps))
 
       -- ---- what is reached corresponds
 
@@ -481,7 +535,8 @@ module _ (k core : Table) (i : Images) (rows : CoreRows k core i) (more : FlatRo
         abbrev z : Configuration
         z = acting_on.last
 
-        answer : Answered core corr Told told Others (i.thread_of r) (i.behind_of o) x (suc monitor.number) sees_own (more.behind_alone o) (i.places_of r) t e0 effects some weak_answers closing_ones d4 acting_on.last
+        answer : Answered core corr Told told Others (i.thread_of r) (i.behind_of o) x (suc monitor.number) sees_own (more.behind_alone o) (i.places_of r) t
+            e0 effects some weak_answers closing_ones d4 acting_on.last
         answer = acting_on.reaches
 
         in_fork : (q : ℕ) → Contains (around core q) (i.main_of o) → standing_of acting_on.last q ≡ at.Outside
@@ -515,7 +570,8 @@ module _ (k core : Table) (i : Images) (rows : CoreRows k core i) (more : FlatRo
         kept_value : (f : Option ℕ) (n : ℕ) → f ≢ Some x → Stores k core i d.variables f n → Stores k core i acting_on.last.variables f n
         kept_value None n differ stores = tt
         kept_value (Some y) n differ stores =
-            ap (λ vs. slice_get vs y) values_are ∙ (get_other d.variables x y (value_is.Int (pos (suc monitor.number))) (λ same. differ (ap Some same)) ∙ stores)
+            ap (λ vs. slice_get vs y) values_are ∙ (get_other d.variables x y (value_is.Int (pos (suc monitor.number))) (λ same. differ (ap Some same)) ∙
+            stores)
 
         size_is : length acting_on.last.regions ≡ length d.regions
         size_is =
@@ -524,7 +580,8 @@ module _ (k core : Table) (i : Images) (rows : CoreRows k core i) (more : FlatRo
             set_size (moved (drops (inside core (i.main_of o))) aborted.last.regions) (i.thread_of r) (at.Trying (i.behind_of o) first_tests) in
             let f = drops_length (inside core (i.main_of o)) aborted.last.regions in
             let g = left3.size in
-            let h = set_size (slice_set d.regions (i.watcher_of o) (at.Acting (i.watching_of o) (put x (suc monitor.number) ∷ []) 1)) (i.watcher_of o) at.Ended in
+            let h = set_size (slice_set d.regions (i.watcher_of o) (at.Acting (i.watching_of o) (put x (suc monitor.number) ∷ []) 1)) (i.watcher_of o)
+            at.Ended in
             let j = set_size d.regions (i.watcher_of o) (at.Acting (i.watching_of o) (put x (suc monitor.number) ∷ []) 1) in omega (a, b, f, g, h, j, arith)
 
         no_inside : (s : ℕ) → IsInside k core i s (at.Acting o (e ∷ es) t.target) → ⊥
@@ -537,7 +594,8 @@ module _ (k core : Table) (i : Images) (rows : CoreRows k core i) (more : FlatRo
         counted : counting (i.places_of r) t.target (e ∷ es) ≡ e0 ∷ effects
         counted = ap (counting (i.places_of r) t.target) (sym has_effects) ∙ some
 
-        drops_all : DropsOut k core i rows tree children c d r o (at.Acting o (e ∷ es) t.target) (at.Acting (i.behind_of o) (e0 ∷ effects) (place_of (i.places_of r) t.target)) next acting_on.last
+        drops_all : DropsOut k core i rows tree children c d r o (at.Acting o (e ∷ es) t.target)
+            (at.Acting (i.behind_of o) (e0 ∷ effects) (place_of (i.places_of r) t.target)) next acting_on.last
         drops_all =
             record {
               there = there;
@@ -551,7 +609,8 @@ module _ (k core : Table) (i : Images) (rows : CoreRows k core i) (more : FlatRo
               here_too = answer.here;
               others = out_of_fork;
               stands =
-                  subst (λ fs. Stands k core i next r (at.Acting o (e ∷ es) t.target) (at.Acting (i.behind_of o) fs (place_of (i.places_of r) t.target))) counted
+                  subst (λ fs. Stands k core i next r (at.Acting o (e ∷ es) t.target) (at.Acting (i.behind_of o) fs (place_of (i.places_of r) t.target)))
+                  counted
                   (acting o (i.behind_of o) t.target e es target_there);
               not_over = refl;
               is_there = λ w. absurd cc;
@@ -568,4 +627,5 @@ module _ (k core : Table) (i : Images) (rows : CoreRows k core i) (more : FlatRo
             }
 
         pub related_after : Related k core i next acting_on.last
-        related_after = dropped_out k core i rows tree children c d related r o (at.Acting o (e ∷ es) t.target) (at.Acting (i.behind_of o) (e0 ∷ effects) (place_of (i.places_of r) t.target)) next acting_on.last drops_all
+        related_after = dropped_out k core i rows tree children c d related r o (at.Acting o (e ∷ es) t.target)
+            (at.Acting (i.behind_of o) (e0 ∷ effects) (place_of (i.places_of r) t.target)) next acting_on.last drops_all

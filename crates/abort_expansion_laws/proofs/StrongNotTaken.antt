@@ -1,5 +1,6 @@
 -- A strong abort that is not taken, with another one behind it: the monitor makes the same test.
-use Rattle.std.proofs.Common.{◌≡◌, ℕ, inl, Bool, true, false, Option, Some, None, List, [], ◌∷◌, ◌++◌, map, slice_get, slice_set, refl, sym, ap, subst, ◌∙◌, arith}
+use Rattle.std.proofs.Common.{◌≡◌, ℕ, inl, Bool, true, false, Option, Some, None, List, [], ◌∷◌, ◌++◌, map, slice_get, slice_set, refl, sym, ap, subst, ◌∙◌}
+use Rattle.std.proofs.Common.{arith}
 use Rattle.std.proofs.lemmas.Option.{same_Some}
 use Rattle.sc_values.specs.declared.expression.Expr.{Expr}
 use Rattle.sc_values.specs.Access.{Nothing}
@@ -22,7 +23,8 @@ use Rattle.abort_expansion_laws.proofs.LyingIn.{IsTree, around, holder}
 use Rattle.abort_expansion_laws.proofs.TablesCorrespond.{IsThere}
 use Rattle.abort_expansion_laws.proofs.MoreValues.{verdict_over_more}
 use Rattle.abort_expansion_laws.specs.CoreRows.{own, IsState, joins, Images, CoreRows}
-use Rattle.abort_expansion_laws.specs.Related.{AreAmong, raises, raise_each, Stands, outside, ended, left, trying, acting, entering, guarding, staying, within, behind, Watches, guards as watch_guards, waits, elsewhere, IsInside, guarded, open_inside, Related}
+use Rattle.abort_expansion_laws.specs.Related.{AreAmong, raises, raise_each, Stands, outside, ended, left, trying, acting, entering, guarding, staying}
+use Rattle.abort_expansion_laws.specs.Related.{within, behind, Watches, guards as watch_guards, waits, elsewhere, IsInside, guarded, open_inside, Related}
 use Rattle.abort_expansion_laws.proofs.Unchanged.{never_guarded}
 use Rattle.abort_expansion_laws.proofs.StageReached.{Stage}
 use Rattle.abort_expansion_laws.proofs.ImageSteps.{pair}
@@ -75,7 +77,8 @@ pub record MonitorGuards (k core : Table) (i : Images) (o : ℕ) (t : Transition
       ++ (raising (λ z. z.immediate) 1 (i.flags_of o).weak 1 (weak_aborts (own k o)) ++ all_ended (i.flags_of o).counter))
 
 module _ (k core : Table) (i : Images) (o : ℕ) where
-  from_some : (some : List (ℕ × Transition)) → AreAmong (strong_aborts (own k o)) some → (t : Transition) (tests : List Transition) → map (λ (x : ℕ × Transition). x.1) some ≡ t ∷ tests →
+  from_some : (some : List (ℕ × Transition)) → AreAmong (strong_aborts (own k o)) some → (t : Transition) (tests : List Transition) →
+      map (λ (x : ℕ × Transition). x.1) some ≡ t ∷ tests →
       MonitorGuards k core i o t tests (at.Trying (i.watching_of o) (raise_each (λ z. false) (i.flags_of o).strong some
       ++ (raising (λ z. z.immediate) 1 (i.flags_of o).weak 1 (weak_aborts (own k o)) ++ all_ended (i.flags_of o).counter)))
   from_some [] among t tests e = absurd cc
@@ -92,7 +95,8 @@ module _ (k core : Table) (i : Images) (o : ℕ) where
             ++ (raising (λ w. w.immediate) 1 (i.flags_of o).weak 1 (weak_aborts (own k o)) ++ all_ended (i.flags_of o).counter))) same;
       }
 
-  pub guards_back : (x y : Standing) → Watches k core i o x y → (t : Transition) (tests : List Transition) → x ≡ at.Guarding o (t ∷ tests) → MonitorGuards k core i o t tests y
+  pub guards_back : (x y : Standing) → Watches k core i o x y → (t : Transition) (tests : List Transition) → x ≡ at.Guarding o (t ∷ tests) →
+      MonitorGuards k core i o t tests y
   guards_back _ _ (watch_guards some among) t tests e =
       let same : map (λ (x : ℕ × Transition). x.1) some ≡ t ∷ tests = cc in from_some some among t tests same
   guards_back _ _ (waits some joins among ends) t tests e = absurd cc
@@ -103,7 +107,8 @@ module _ (k core : Table) (i : Images) (o : ℕ) where
   inside_guarding s _ (open_inside others) tests e = absurd cc
 
 module _ (k core : Table) (i : Images) (rows : CoreRows k core i) (tree : IsTree k) (counts : ℕ → Bool) (written_at : ℕ → ℕ)
-    (c d : Configuration) (related : Related k core i c d) (r o : ℕ) (o_there : IsState k o) (t u : Transition) (tests : List Transition) (stands : standing_of c r ≡ at.Guarding o (t ∷ u ∷ tests)) where
+    (c d : Configuration) (related : Related k core i c d) (r o : ℕ) (o_there : IsState k o) (t u : Transition) (tests : List Transition)
+    (stands : standing_of c r ≡ at.Guarding o (t ∷ u ∷ tests)) where
   pub there : IsThere k r
   there = present_there k core i c d related r (λ e. let wrong : at.Guarding o (t ∷ u ∷ tests) ≡ at.Outside = sym stands ∙ e in absurd cc)
 
@@ -111,7 +116,8 @@ module _ (k core : Table) (i : Images) (rows : CoreRows k core i) (tree : IsTree
   region = guarding_back k core i c r (standing_of c r) (standing_of d (i.thread_of r)) (related.regions r there) o (t ∷ u ∷ tests) stands
 
   pub monitor : MonitorGuards k core i o t (u ∷ tests) (standing_of d (i.watcher_of o))
-  monitor = guards_back k core i o (standing_of c (holder k o)) (standing_of d (i.watcher_of o)) (related.watchers o o_there region.has) t (u ∷ tests) (ap (standing_of c) region.held ∙ stands)
+  monitor = guards_back k core i o (standing_of c (holder k o)) (standing_of d (i.watcher_of o)) (related.watchers o o_there region.has) t (u ∷ tests)
+      (ap (standing_of c) region.held ∙ stands)
 
   flag : (x : ℕ) × ((i.flags_of o).strong ≡ Some x)
   flag = rows.strong_there o monitor.number t o_there monitor.first
@@ -139,7 +145,11 @@ module _ (k core : Table) (i : Images) (rows : CoreRows k core i) (tree : IsTree
       WatchedStep k core i rows tree counts written_at c d r o 0 (at.Guarding o (u ∷ tests))
       (at.Trying (i.watching_of o) (raise_each (λ z. false) (i.flags_of o).strong monitor.others ++ behind_them))
       (record { variables = c.variables; regions = slice_set c.regions r (at.Guarding o (u ∷ tests)) })
-      (record { variables = d.variables; regions = slice_set d.regions (i.watcher_of o) (at.Trying (i.watching_of o) (raise_each (λ z. false) (i.flags_of o).strong monitor.others ++ behind_them)) })
+      (record {
+        variables = d.variables;
+        regions = slice_set d.regions (i.watcher_of o)
+            (at.Trying (i.watching_of o) (raise_each (λ z. false) (i.flags_of o).strong monitor.others ++ behind_them));
+      })
       (access_of_trigger t.trigger)
   not_taken false_there works free =
       record {
@@ -155,9 +165,11 @@ module _ (k core : Table) (i : Images) (rows : CoreRows k core i) (tree : IsTree
               guards_alike = rw (stands) refl;
               was_there = λ e. let wrong : at.Guarding o (t ∷ u ∷ tests) ≡ at.Outside = sym stands ∙ e in absurd cc;
               is_there = λ e. absurd cc;
-              stands = subst (Stands k core i c r (at.Guarding o (u ∷ tests))) (sym region.is) (guarding o region.join u tests region.has region.held region.leads);
+              stands = subst (Stands k core i c r (at.Guarding o (u ∷ tests))) (sym region.is)
+                  (guarding o region.join u tests region.has region.held region.leads);
               watches =
-                  subst (λ ts. Watches k core i o (at.Guarding o ts) (at.Trying (i.watching_of o) (raise_each (λ z. false) (i.flags_of o).strong monitor.others ++ behind_them)))
+                  subst (λ ts. Watches k core i o (at.Guarding o ts) (at.Trying (i.watching_of o)
+                  (raise_each (λ z. false) (i.flags_of o).strong monitor.others ++ behind_them)))
                   monitor.tests_are (watch_guards monitor.others monitor.among);
               watches_others = λ v v_there has held differ.
                   watch_other k core i v (standing_of c r) (standing_of d (i.watcher_of v)) (at.Guarding o (u ∷ tests))
@@ -165,7 +177,8 @@ module _ (k core : Table) (i : Images) (rows : CoreRows k core i) (tree : IsTree
                   (λ others e. let same : at.Guarding o (t ∷ u ∷ tests) ≡ at.Guarding v others = sym stands ∙ e in let state : o ≡ v = cc in differ (sym state))
                   (λ others e. let wrong : at.Guarding o (t ∷ u ∷ tests) ≡ at.Within v others = sym stands ∙ e in absurd cc)
                   (λ others e. let state : o ≡ v = cc in differ (sym state)) (λ others e. absurd cc);
-              inside = λ s held inner. subst (λ v. IsInside k core i v (at.Guarding o (u ∷ tests))) (sym (inside_guarding k core i o s (standing_of c r) inner (t ∷ u ∷ tests) stands)) (guarded (u ∷ tests));
+              inside = λ s held inner. subst (λ v. IsInside k core i v (at.Guarding o (u ∷ tests)))
+                  (sym (inside_guarding k core i o s (standing_of c r) inner (t ∷ u ∷ tests) stands)) (guarded (u ∷ tests));
               inside_back = λ s held inner.
                   subst (λ v. IsInside k core i v (standing_of c r)) (sym (inside_guarding k core i o s (at.Guarding o (u ∷ tests)) inner (u ∷ tests) refl))
                   (subst (IsInside k core i o) (sym stands) (guarded (t ∷ u ∷ tests)));
@@ -185,7 +198,8 @@ module _ (k core : Table) (i : Images) (rows : CoreRows k core i) (tree : IsTree
         free = free;
         steps =
             fails core d (i.watcher_of o) (i.watching_of o) (raises (λ z. false) flag.0 (monitor.number, t))
-            (map (raises (λ z. false) flag.0) monitor.others ++ (raising (λ z. z.immediate) 1 (i.flags_of o).weak 1 (weak_aborts (own k o)) ++ all_ended (i.flags_of o).counter))
+            (map (raises (λ z. false) flag.0) monitor.others ++ (raising (λ z. z.immediate) 1 (i.flags_of o).weak 1 (weak_aborts (own k o)) ++ all_ended
+            (i.flags_of o).counter))
             (never_guarded k core i rows c d related (around core (i.watcher_of o))) core_stands
             (subst (λ vs. verdict vs t.trigger ≡ Some false) (sym related.variables) (verdict_over_more related.more c.variables t.trigger false false_there))
             ∙ ap (λ z. Some (record { variables = d.variables; regions = slice_set d.regions (i.watcher_of o) z })) next_stands;
@@ -194,17 +208,24 @@ module _ (k core : Table) (i : Images) (rows : CoreRows k core i) (tree : IsTree
         declared = λ x touches. let lt = trigger_known c.variables t.trigger false false_there x touches in omega (lt, related.values, arith);
       }
 
-  pub not_taken_followed : (Told : Configuration → Entry → Type 0) → Told d (Watched r (i.watcher_of o) 0 (access_of_trigger t.trigger)) → (next : Configuration) → step k r c ≡ Some next →
+  pub not_taken_followed : (Told : Configuration → Entry → Type 0) → Told d (Watched r (i.watcher_of o) 0 (access_of_trigger t.trigger)) →
+      (next : Configuration) → step k r c ≡ Some next →
       verdict c.variables t.trigger ≡ Some false →
-      Segment (machine core) (pair k core i rows tree counts written_at) Told d (Stage k i.thread_of c d) (Stage k i.thread_of next) (act_of (machine k) c r ∷ []) (Related k core i next)
+      Segment (machine core) (pair k core i rows tree counts written_at) Told d (Stage k i.thread_of c d) (Stage k i.thread_of next)
+      (act_of (machine k) c r ∷ []) (Related k core i next)
   not_taken_followed Told told next steps false_there =
       let parts : Stepped k r c next = stepped k r c next steps in
       let deed : record { write = None; moves = to r (at.Guarding o (u ∷ tests)) ∷ [] } ≡ parts.deed =
       same_Some _ parts.deed (sym (ap (deed_of k c r) stands ∙ tested_is k c r o t (to r (at.Guarding o (u ∷ tests)) ∷ []) false false_there) ∙ parts.does) in
       let is : record { variables = c.variables; regions = slice_set c.regions r (at.Guarding o (u ∷ tests)) } ≡ next = ap (λ e. after e c) deed ∙ parts.is in
-      subst (λ c'. Segment (machine core) (pair k core i rows tree counts written_at) Told d (Stage k i.thread_of c d) (Stage k i.thread_of c') (act_of (machine k) c r ∷ []) (Related k core i c')) is
+      subst (λ c'. Segment (machine core) (pair k core i rows tree counts written_at) Told d (Stage k i.thread_of c d) (Stage k i.thread_of c')
+      (act_of (machine k) c r ∷ []) (Related k core i c')) is
       (watched_segment k core i rows tree counts written_at c d related r o 0 (at.Guarding o (u ∷ tests))
       (at.Trying (i.watching_of o) (raise_each (λ z. false) (i.flags_of o).strong monitor.others ++ behind_them))
       (record { variables = c.variables; regions = slice_set c.regions r (at.Guarding o (u ∷ tests)) })
-      (record { variables = d.variables; regions = slice_set d.regions (i.watcher_of o) (at.Trying (i.watching_of o) (raise_each (λ z. false) (i.flags_of o).strong monitor.others ++ behind_them)) })
+      (record {
+        variables = d.variables;
+        regions = slice_set d.regions (i.watcher_of o)
+            (at.Trying (i.watching_of o) (raise_each (λ z. false) (i.flags_of o).strong monitor.others ++ behind_them));
+      })
       (access_of_trigger t.trigger) (not_taken false_there parts.works parts.free) Told told)

@@ -1,5 +1,6 @@
 -- A strong abort with effects is taken: the whole step is followed.
-use Rattle.std.proofs.Common.{◌≡◌, ◌≢◌, ℕ, ◌<◌, ◌≤◌, Bool, true, false, pos, Option, Some, None, List, [], ◌∷◌, ◌++◌, length, slice_get, slice_set, unwrap_or, Contains, refl, sym, ap, subst, ◌∙◌, arith, if◌then◌else◌}
+use Rattle.std.proofs.Common.{◌≡◌, ◌≢◌, ℕ, ◌<◌, ◌≤◌, Bool, true, false, pos, Option, Some, None, List, [], ◌∷◌, ◌++◌, length, slice_get, slice_set, unwrap_or}
+use Rattle.std.proofs.Common.{Contains, refl, sym, ap, subst, ◌∙◌, arith, if◌then◌else◌}
 use Rattle.std.specs.Prelude.{option_map}
 use Rattle.std.proofs.lemmas.Option.{same_Some}
 use Rattle.sc_values.specs.declared.value.Value.TheVariants as value_is
@@ -50,8 +51,10 @@ module _ (k core : Table) (i : Images) (rows : CoreRows k core i) (more : FlatRo
     (deep : (q s : ℕ) → Contains (around core q) s → holder core s < q)
     (core_children : (s r : ℕ) → Contains (state_at core s).regions r → around core r ≡ s ∷ around core (holder core s))
     (children : (s r : ℕ) → Contains (state_at k s).regions r → around k r ≡ s ∷ around k (holder k s))
-    (counts : ℕ → Bool) (written_at : ℕ → ℕ) (Told : Configuration → Entry → Type 0) (told : (e : Configuration) (t : ℕ) (at_stage : Option (ℕ × ℕ)) (a : Access) → Told e (Silent t at_stage a))
-    (c d : Configuration) (related : Related k core i c d) (r o : ℕ) (o_there : IsState k o) (t : Transition) (others : List Transition) (stands : standing_of c r ≡ at.Guarding o (t ∷ others))
+    (counts : ℕ → Bool) (written_at : ℕ → ℕ) (Told : Configuration → Entry → Type 0)
+    (told : (e : Configuration) (t : ℕ) (at_stage : Option (ℕ × ℕ)) (a : Access) → Told e (Silent t at_stage a))
+    (c d : Configuration) (related : Related k core i c d) (r o : ℕ) (o_there : IsState k o) (t : Transition) (others : List Transition)
+    (stands : standing_of c r ≡ at.Guarding o (t ∷ others))
     (true_there : verdict c.variables t.trigger ≡ Some true) (calm : (q : ℕ) → Contains (around k q) o → IsCalm (standing_of c q))
     (x : ℕ) (flag : (i.flags_of o).strong ≡ Some x) (of_flag : rows.of_flag x ≡ o) (no_counter : counts x ≡ false) (at_none : written_at x ≡ 0)
     (is_int : takes_kind (option_map (λ z. z.kind) (slice_get core.variables x)) (kind_of (value_is.Int (pos 0))) ≡ true) (in_range : x < length core.variables)
@@ -80,10 +83,12 @@ module _ (k core : Table) (i : Images) (rows : CoreRows k core i) (more : FlatRo
 
   gone : (q : ℕ) → IsThere k q → Contains (around k q) o → standing_of next q ≡ at.Outside
   gone q q_there h =
-      set_other (moved (drops (inside k o)) c.regions) r q (at.Acting o (e ∷ es) t.target) (λ is. r_out (subst (λ p. Contains (around k p) o) is h)) ∙ drops_in (inside k o) c.regions q (inside_in k o q q_there h)
+      set_other (moved (drops (inside k o)) c.regions) r q (at.Acting o (e ∷ es) t.target) (λ is. r_out (subst (λ p. Contains (around k p) o) is h)) ∙
+      drops_in (inside k o) c.regions q (inside_in k o q q_there h)
 
   same : (q : ℕ) → q ≢ r → ¬ Contains (around k q) o → standing_of next q ≡ standing_of c q
-  same q ne out_q = set_other (moved (drops (inside k o)) c.regions) r q (at.Acting o (e ∷ es) t.target) ne ∙ drops_out (inside k o) c.regions q (λ h. out_q (inside_around k o q h))
+  same q ne out_q = set_other (moved (drops (inside k o)) c.regions) r q (at.Acting o (e ∷ es) t.target) ne ∙
+      drops_out (inside k o) c.regions q (λ h. out_q (inside_around k o q h))
 
   inside_o : IsInside k core i o (standing_of c r)
   inside_o = subst (IsInside k core i o) (sym stands) (guarded (t ∷ others))
@@ -94,17 +99,22 @@ module _ (k core : Table) (i : Images) (rows : CoreRows k core i) (more : FlatRo
   some : counting (i.places_of r) t.target t.effects ≡ e ∷ counting (i.places_of r) t.target es
   some = ap (counting (i.places_of r) t.target) has_effects ∙ counting_first (i.places_of r) t.target e es
 
-  outer : (b : ℕ) → LiesUnder k r b → (i.thread_of b ≢ i.thread_of r) × (((u : ℕ) → Stage k i.thread_of c d (i.thread_of b) u → u ≤ 1) × Stage k i.thread_of next d (i.thread_of b) 1)
+  outer : (b : ℕ) → LiesUnder k r b → (i.thread_of b ≢ i.thread_of r) × (((u : ℕ) → Stage k i.thread_of c d (i.thread_of b) u → u ≤ 1) × Stage k i.thread_of
+      next d (i.thread_of b) 1)
   outer =
-      outer_stage k core i rows more tree children c d related r o there region.has region.held inside_o free calm next (ap (stage_of k next) here) (ap has_ended here ∙ sym (ap has_ended stands)) gone same
+      outer_stage k core i rows more tree children c d related r o there region.has region.held inside_o free calm next (ap (stage_of k next) here)
+      (ap has_ended here ∙ sym (ap has_ended stands)) gone same
 
   stay : (h s : ℕ) → h ≢ i.thread_of r → Stage k i.thread_of c d h s → Stage k i.thread_of next d h s
-  stay = others_stay k core i rows more tree children c d related r o there region.has region.held inside_o free calm next (ap (stage_of k next) here) (ap has_ended here ∙ sym (ap has_ended stands)) gone same
+  stay = others_stay k core i rows more tree children c d related r o there region.has region.held inside_o free calm next (ap (stage_of k next) here)
+      (ap has_ended here ∙ sym (ap has_ended stands)) gone same
 
   -- the whole step, as far as its log goes, and what it reaches
-  pub strong_taken : Segment (machine core) (pair k core i rows tree counts written_at) Told d (Stage k i.thread_of c d) (Stage k i.thread_of next) (act_of (machine k) c r ∷ []) (Related k core i next)
+  pub strong_taken : Segment (machine core) (pair k core i rows tree counts written_at) Told d (Stage k i.thread_of c d) (Stage k i.thread_of next)
+      (act_of (machine k) c r ∷ []) (Related k core i next)
   strong_taken =
-      let s = acting_on k core i rows more tree core_tree deep core_children children counts written_at Told told c d related r o o_there t others stands true_there calm x flag of_flag no_counter at_none is_int in_range alone
+      let s = acting_on k core i rows more tree core_tree deep core_children children counts written_at Told told c d related r o o_there t others stands
+      true_there calm x flag of_flag no_counter at_none is_int in_range alone
       (Stage k i.thread_of next d) told_test outer stay super e (counting (i.places_of r) t.target es) some in
       record {
         log = s.log;
@@ -113,22 +123,30 @@ module _ (k core : Table) (i : Images) (rows : CoreRows k core i) (more : FlatRo
         charted = s.charted;
         fits = s.fits;
         climbs = λ rest climbs.
-            s.climbs rest (climbs_fewer (pair k core i rows tree counts written_at) (Stage k i.thread_of next s.last) (AtHome (Stage k i.thread_of next d) (i.thread_of r) 0) rest
-            (reached_now k core i rows more tree children c d related r o there region.has region.held inside_o free calm next (ap (stage_of k next) here) (ap has_ended here ∙ sym (ap has_ended stands)) gone same s.last) climbs);
+            s.climbs rest (climbs_fewer (pair k core i rows tree counts written_at) (Stage k i.thread_of next s.last)
+            (AtHome (Stage k i.thread_of next d) (i.thread_of r) 0) rest
+            (reached_now k core i rows more tree children c d related r o there region.has region.held inside_o free calm next (ap (stage_of k next) here)
+            (ap has_ended here ∙ sym (ap has_ended stands)) gone same s.last) climbs);
         reaches =
-            related_after k core i rows more tree core_tree deep core_children children counts written_at Told told c d related r o o_there t others stands true_there calm x flag of_flag no_counter at_none is_int in_range alone
+            related_after k core i rows more tree core_tree deep core_children children counts written_at Told told c d related r o o_there t others stands
+            true_there calm x flag of_flag no_counter at_none is_int in_range alone
             (Stage k i.thread_of next d) told_test outer stay super e (counting (i.places_of r) t.target es) some e es has_effects target_there flags_differ;
       }
 
   -- where the chart's step leads
   pub strong_followed : (last : Configuration) → step k r c ≡ Some last →
-      Segment (machine core) (pair k core i rows tree counts written_at) Told d (Stage k i.thread_of c d) (Stage k i.thread_of last) (act_of (machine k) c r ∷ []) (Related k core i last)
+      Segment (machine core) (pair k core i rows tree counts written_at) Told d (Stage k i.thread_of c d) (Stage k i.thread_of last)
+      (act_of (machine k) c r ∷ []) (Related k core i last)
   strong_followed last steps =
       let parts : Stepped k r c last = stepped k r c last steps in
       let moves : taken k r o t ≡ drops (inside k o) ++ to r (at.Acting o (e ∷ es) t.target) ∷ [] = rw (has_effects) refl in
       let deed : record { write = None; moves = drops (inside k o) ++ to r (at.Acting o (e ∷ es) t.target) ∷ [] } ≡ parts.deed =
       same_Some _ parts.deed
-      (sym (ap (deed_of k c r) stands ∙ (tested_is k c r o t (guarding_on k r o others) true true_there ∙ ap (λ ms. Some (record { write = None; moves = ms })) moves)) ∙ parts.does) in
-      let is : record { variables = c.variables; regions = moved (drops (inside k o) ++ to r (at.Acting o (e ∷ es) t.target) ∷ []) c.regions } ≡ last = ap (λ w. after w c) deed ∙ parts.is in
-      let shaped : next ≡ last = ap (λ zs. record { variables = c.variables; regions = zs }) (sym (moved_append (drops (inside k o)) (to r (at.Acting o (e ∷ es) t.target) ∷ []) c.regions)) ∙ is in
-      subst (λ w. Segment (machine core) (pair k core i rows tree counts written_at) Told d (Stage k i.thread_of c d) (Stage k i.thread_of w) (act_of (machine k) c r ∷ []) (Related k core i w)) shaped strong_taken
+      (sym (ap (deed_of k c r) stands ∙ (tested_is k c r o t (guarding_on k r o others) true true_there ∙
+      ap (λ ms. Some (record { write = None; moves = ms })) moves)) ∙ parts.does) in
+      let is : record { variables = c.variables; regions = moved (drops (inside k o) ++ to r (at.Acting o (e ∷ es) t.target) ∷ []) c.regions } ≡ last =
+      ap (λ w. after w c) deed ∙ parts.is in
+      let shaped : next ≡ last = ap (λ zs. record { variables = c.variables; regions = zs })
+      (sym (moved_append (drops (inside k o)) (to r (at.Acting o (e ∷ es) t.target) ∷ []) c.regions)) ∙ is in
+      subst (λ w. Segment (machine core) (pair k core i rows tree counts written_at) Told d (Stage k i.thread_of c d) (Stage k i.thread_of w)
+      (act_of (machine k) c r ∷ []) (Related k core i w)) shaped strong_taken

@@ -1,6 +1,7 @@
 -- What validity of the core chart's program gives: no strong test of a monitor reads what a step inside then writes. It is
 -- taken from a lowering of the core chart, of which this is asked.
-use Rattle.std.proofs.Common.{◌≡◌, ◌≢◌, ℕ, suc, ◌<◌, ◌≤◌, ◌⊎◌, inl, inr, ⊎_elim, true, Option, Some, None, List, [], ◌∷◌, Contains, refl, sym, ap, subst, ◌∙◌, arith}
+use Rattle.std.proofs.Common.{◌≡◌, ◌≢◌, ℕ, suc, ◌<◌, ◌≤◌, ◌⊎◌, inl, inr, ⊎_elim, true, Option, Some, None, List, [], ◌∷◌, Contains, refl, sym, ap, subst, ◌∙◌}
+use Rattle.std.proofs.Common.{arith}
 use Rattle.std.specs.Prelude.{option_and_then}
 use Rattle.std.proofs.lemmas.Option.{same_Some}
 use Rattle.sc_values.specs.Access.{Access, Nothing, no_access, Precedes, init_update, init_read, update_read}
@@ -64,9 +65,11 @@ pub record Lowered (core : Table) (p : Program) : Type 1 where
   pub follow : (d next : Configuration) (m : Control) (t : ℕ) → Stands d m → step core t d ≡ Some next → Followed core p Stands next m t
   -- of a superstate: the join of its fork
   pub join_of : ℕ → ℕ
-  pub waits_back : (d : Configuration) (m : Control) (t s : ℕ) → Stands d m → status_of m t ≡ status.Waiting (join_of s) → (tests : List Transition) × (standing_of d t ≡ at.Within s tests)
+  pub waits_back : (d : Configuration) (m : Control) (t s : ℕ) → Stands d m → status_of m t ≡ status.Waiting (join_of s) →
+      (tests : List Transition) × (standing_of d t ≡ at.Within s tests)
   -- where what it does writes a variable
-  pub node : (d : Configuration) (m : Control) (t : ℕ) → Stands d m → is_enabled core d t ≡ true → (access_of (standing_of d t)).writes ≢ Nothing → AtNode p m t (access_of (standing_of d t))
+  pub node : (d : Configuration) (m : Control) (t : ℕ) → Stands d m → is_enabled core d t ≡ true → (access_of (standing_of d t)).writes ≢ Nothing →
+      AtNode p m t (access_of (standing_of d t))
   pub apart : (t u a : ℕ) → ForkedApart core t u a → threads.ForkedApart p t u a
   pub parent : (t s : ℕ) (ss : List ℕ) → around core t ≡ s ∷ ss → parent_of p t ≡ Some (holder core s)
 
@@ -77,7 +80,8 @@ precedes_writes b a (update_read x f u r) e = absurd cc
 
 -- ---- who waits is moved by nobody else
 
-waits_still : (p : Program) → IsFormed p → (m : Control) → IsConfiguration p m → (u : ℕ) (e : Effect) → effect p m u ≡ Some e → (r j : ℕ) → r ≢ u → status_of m r ≡ status.Waiting j →
+waits_still : (p : Program) → IsFormed p → (m : Control) → IsConfiguration p m → (u : ℕ) (e : Effect) → effect p m u ≡ Some e → (r j : ℕ) → r ≢ u →
+    status_of m r ≡ status.Waiting j →
     status_of (after e m) r ≡ status.Waiting j
 waits_still p formed m ok u e h r j ne waits =
     let moves : StepMoves p m u e = step_moves p formed m ok u e (does p m u e h) in
@@ -95,7 +99,8 @@ module _ (p : Program) (q : Tables) (valid : IsValid p q) where
   excuse top s m n x here (by_successor taken found succ) =
       let is : StandsAt (status.At x.0) m = subst (λ z. StandsAt z m) x.2 here in
       let same : taken ≡ steps.Depth x.1 = same_Some taken (steps.Depth x.1) (sym found ∙ (ap (step_at p) (sym is) ∙ x.3)) in
-      ⊎_elim (λ e. subst (λ z. priority q z < top) e x.4) (λ none. absurd (none_in n none)) (head_or_tail x.1 n [] (subst (λ z. Contains (successors z) n) same succ))
+      ⊎_elim (λ e. subst (λ z. priority q z < top) e x.4) (λ none. absurd (none_in n none))
+      (head_or_tail x.1 n [] (subst (λ z. Contains (successors z) n) same succ))
   excuse top s m n x here (by_entry t children j k fork child entry) =
       let is : StandsAt (status.At x.0) m = subst (λ z. StandsAt z m) x.2 here in
       let wrong : Some (steps.Fork children j) ≡ Some (steps.Depth x.1) = sym fork.forks ∙ (ap (step_at p) (sym is) ∙ x.3) in absurd cc
@@ -109,7 +114,8 @@ module _ (p : Program) (q : Tables) (valid : IsValid p q) where
     pub waits : status_of m r ≡ status.Waiting j
     pub low : LowUnder p q (Under p Child) (Resumes p q top) top m
 
-  one_step : (Child : ℕ → Type 0) (r j top : ℕ) → ((k : ℕ) → Child k → parent_of p k ≡ Some r) → (m next : Control) (u : ℕ) → u ≢ r → of_nodes.step p u m ≡ Some next →
+  one_step : (Child : ℕ → Type 0) (r j top : ℕ) → ((k : ℕ) → Child k → parent_of p k ≡ Some r) → (m next : Control) (u : ℕ) → u ≢ r →
+      of_nodes.step p u m ≡ Some next →
       StillLow Child r j top m → StillLow Child r j top next
   one_step Child r j top of_r m next u ne h low =
       let e = map_some (λ z. after z m) (effect p m u) next h in
@@ -117,25 +123,31 @@ module _ (p : Program) (q : Tables) (valid : IsValid p q) where
       (record {
         ok = configuration_kept p formed m u e.0 low.ok e.1;
         waits = waits_still p formed m low.ok u e.0 e.1 r j (λ z. ne (sym z)) low.waits;
-        low = low_under_kept p q valid Child (Resumes p q top) r of_r m low.ok u e.0 e.1 ne top (λ a b x here edge. excuse top (status_of m u) a b x here edge) low.low;
+        low = low_under_kept p q valid Child (Resumes p q top) r of_r m low.ok u e.0 e.1 ne top
+            (λ a b x here edge. excuse top (status_of m u) a b x here edge) low.low;
       })
 
-  along : (Child : ℕ → Type 0) (r j top : ℕ) → ((k : ℕ) → Child k → parent_of p k ≡ Some r) → (run : List ℕ) (m last : Control) → ((u : ℕ) → Contains run u → u ≢ r) →
+  along : (Child : ℕ → Type 0) (r j top : ℕ) → ((k : ℕ) → Child k → parent_of p k ≡ Some r) → (run : List ℕ) (m last : Control) →
+      ((u : ℕ) → Contains run u → u ≢ r) →
       replay (programs.machine p) run m ≡ Some last → StillLow Child r j top m → StillLow Child r j top last
   along Child r j top of_r [] m last others leads low = subst (StillLow Child r j top) (same_Some m last leads) low
-  along Child r j top of_r (u ∷ run) m last others leads low = by_step (of_nodes.step p u m) refl leads (λ next h rest. along Child r j top of_r run next last (λ v h. others v (later u v run h)) rest (one_step Child r j top of_r m next u (others u (head_in u run)) h low))
+  along Child r j top of_r (u ∷ run) m last others leads low = by_step (of_nodes.step p u m) refl leads
+      (λ next h rest. along Child r j top of_r run next last (λ v h. others v (later u v run h)) rest
+      (one_step Child r j top of_r m next u (others u (head_in u run)) h low))
     where
       later : (a b : ℕ) (zs : List ℕ) → Contains zs b → Contains (a ∷ zs) b
       later a b zs h = let lt = h.1 in (suc h.0, omega (lt, arith), h.2)
 
       by_step : (o : Option Control) → of_nodes.step p u m ≡ o → option_and_then (replay (programs.machine p) run) o ≡ Some last →
-          ((next : Control) → of_nodes.step p u m ≡ Some next → replay (programs.machine p) run next ≡ Some last → StillLow Child r j top last) → StillLow Child r j top last
+          ((next : Control) → of_nodes.step p u m ≡ Some next → replay (programs.machine p) run next ≡ Some last → StillLow Child r j top last) →
+          StillLow Child r j top last
       by_step None is rest goes = absurd cc
       by_step (Some next) is rest goes = goes next is rest
 
 -- ---- a strong test that was made, by the monitor of a superstate that a region holds
 
-module _ (k core : Table) (i : Images) (rows : CoreRows k core i) (tree : IsTree core) (p : Program) (q : Tables) (valid : IsValid p q) (lowered : Lowered core p) where
+module _ (k core : Table) (i : Images) (rows : CoreRows k core i) (tree : IsTree core) (p : Program) (q : Tables) (valid : IsValid p q)
+    (lowered : Lowered core p) where
   -- the regions of the superstate besides its monitor g, and others that the region holds: these are not there
   abbrev pub Inner : (thread g : ℕ) → ℕ → Type 0
   Inner thread g u = (parent_of p u ≡ Some thread) × (u ≢ g)
@@ -185,11 +197,14 @@ module _ (k core : Table) (i : Images) (rows : CoreRows k core i) (tree : IsTree
 
       nobody : (u : ℕ) → Contains f.run u → u ≢ i.thread_of r
       nobody u h e =
-          ⊎_elim (λ is. ne (sym is ∙ e)) (λ awake. awake (lowered.join_of (i.main_of quiet.superstate)) (ap (status_of quiet.control) e ∙ quiet.waits)) (f.by u h)
+          ⊎_elim (λ is. ne (sym is ∙ e)) (λ awake. awake (lowered.join_of (i.main_of quiet.superstate)) (ap (status_of quiet.control) e ∙ quiet.waits))
+          (f.by u h)
 
-      still : StillLow p q valid (Inner (i.thread_of r) quiet.monitor) (i.thread_of r) (lowered.join_of (i.main_of quiet.superstate)) (priority q quiet.raising) f.last
+      still : StillLow p q valid (Inner (i.thread_of r) quiet.monitor) (i.thread_of r) (lowered.join_of (i.main_of quiet.superstate))
+          (priority q quiet.raising) f.last
       still =
-          along p q valid (Inner (i.thread_of r) quiet.monitor) (i.thread_of r) (lowered.join_of (i.main_of quiet.superstate)) (priority q quiet.raising) (λ u child. child.0) f.run quiet.control f.last nobody f.leads
+          along p q valid (Inner (i.thread_of r) quiet.monitor) (i.thread_of r) (lowered.join_of (i.main_of quiet.superstate)) (priority q quiet.raising)
+          (λ u child. child.0) f.run quiet.control f.last nobody f.leads
           (record { ok = lowered.configuration d quiet.control quiet.stands; waits = quiet.waits; low = quiet.low })
 
   -- ---- the tree of threads
@@ -199,7 +214,8 @@ module _ (k core : Table) (i : Images) (rows : CoreRows k core i) (tree : IsTree
   below_of [] t u e (deeper s inner held) = absurd (none_in s (subst (λ zs. Contains zs s) e inner))
   below_of (s ∷ ss) t u e lies =
       ⊎_elim (λ same. subst (Below p t) same (below_self p t))
-      (λ up. below_parent p t (holder core s) u (lowered.parent t s ss e) (below_of ss (holder core s) u (sym (tree.upward t s ss e)) up)) (outwards core tree t u s ss e lies)
+      (λ up. below_parent p t (holder core s) u (lowered.parent t s ss e) (below_of ss (holder core s) u (sym (tree.upward t s ss e)) up))
+      (outwards core tree t u s ss e lies)
 
   -- the region of a superstate in which another one lies
   pub record ChildUnder (t f : ℕ) : Type 0 where
@@ -231,12 +247,21 @@ module _ (k core : Table) (i : Images) (rows : CoreRows k core i) (tree : IsTree
   no_writes : (b : Access) → b ≡ no_access → b.writes ≢ Nothing → ⊥
   no_writes b e writes = writes (ap (λ z. z.writes) e)
 
-  pub spares : (there_core : (t : ℕ) (s : ℕ) (ss : List ℕ) → around core t ≡ s ∷ ss → IsThere core t) → (depth_silent : (n m : ℕ) → step_at p n ≡ Some (steps.Depth m) → accesses p n ≡ no_access) →
-      (r : ℕ) (a : Access) (d : Configuration) (u : ℕ) (b : Access) → IsQuiet r a d → LiesUnder k u r → ToldOf d u → b ≡ access_of (standing_of d (i.thread_of u)) → ¬ Precedes b a
+  pub spares : (there_core : (t : ℕ) (s : ℕ) (ss : List ℕ) → around core t ≡ s ∷ ss → IsThere core t) →
+      (depth_silent : (n m : ℕ) → step_at p n ≡ Some (steps.Depth m) → accesses p n ≡ no_access) →
+      (r : ℕ) (a : Access) (d : Configuration) (u : ℕ) (b : Access) → IsQuiet r a d → LiesUnder k u r → ToldOf d u →
+      b ≡ access_of (standing_of d (i.thread_of u)) → ¬ Precedes b a
   spares there_core depth_silent r a d u b quiet (inr root) told acts first = let lt = quiet.there.0 in absurd (omega (root, lt, arith))
   spares there_core depth_silent r a d u b quiet (inl (s, around_it, held)) told acts first =
       never_before p q valid quiet.tested quiet.raising n.node quiet.leads lower
-      (record { first = t; second = quiet.monitor; first_owner = n.owned; second_owner = quiet.owned; concurrent = record { forking = h; apart = lowered.apart t quiet.monitor h forked } })
+      (record {
+        first = t;
+        second = quiet.monitor;
+        first_owner = n.owned;
+        second_owner = quiet.owned;
+        concurrent =
+            record { forking = h; apart = lowered.apart t quiet.monitor h forked };
+      })
       (subst (λ z. Precedes z (accesses p quiet.tested)) (acts ∙ sym n.does) (subst (Precedes b) (sym quiet.does) first))
     where
       t : ℕ
@@ -316,7 +341,8 @@ module _ (k core : Table) (i : Images) (rows : CoreRows k core i) (tree : IsTree
       at_own : status_of quiet.control (i.thread_of u) ≡ status.At n.node → priority q n.node < priority q quiet.raising
       at_own e = by_low (quiet.low (i.thread_of u) under (stands n.node e))
         where
-          by_low : (priority_of q (status_of quiet.control (i.thread_of u)) < priority q quiet.raising) ⊎ Resumes p q (priority q quiet.raising) (status_of quiet.control (i.thread_of u)) →
+          by_low : (priority_of q (status_of quiet.control (i.thread_of u)) < priority q quiet.raising) ⊎ Resumes p q (priority q quiet.raising)
+              (status_of quiet.control (i.thread_of u)) →
               priority q n.node < priority q quiet.raising
           by_low (inl lt) = subst (λ z. priority_of q z < priority q quiet.raising) e lt
           by_low (inr x) =
@@ -324,14 +350,17 @@ module _ (k core : Table) (i : Images) (rows : CoreRows k core i) (tree : IsTree
               let same : n.node ≡ x.0 = cc in
               absurd (no_writes (access_of (standing_of d (i.thread_of u))) (sym n.does ∙ (ap (accesses p) same ∙ depth_silent x.0 x.1 x.3)) writes)
 
-      at_depth : (depth : ℕ) → status_of quiet.control (i.thread_of u) ≡ status.At depth → step_at p depth ≡ Some (steps.Depth n.node) → priority q n.node < priority q quiet.raising
+      at_depth : (depth : ℕ) → status_of quiet.control (i.thread_of u) ≡ status.At depth → step_at p depth ≡ Some (steps.Depth n.node) →
+          priority q n.node < priority q quiet.raising
       at_depth depth e is = by_low (quiet.low (i.thread_of u) under (stands depth e))
         where
-          by_low : (priority_of q (status_of quiet.control (i.thread_of u)) < priority q quiet.raising) ⊎ Resumes p q (priority q quiet.raising) (status_of quiet.control (i.thread_of u)) →
+          by_low : (priority_of q (status_of quiet.control (i.thread_of u)) < priority q quiet.raising) ⊎ Resumes p q (priority q quiet.raising)
+              (status_of quiet.control (i.thread_of u)) →
               priority q n.node < priority q quiet.raising
           by_low (inl lt) =
               let less : priority q depth < priority q quiet.raising = subst (λ z. priority_of q z < priority q quiet.raising) e lt in
-              let falls : priority q n.node ≤ priority q depth = (flow p q valid).falls depth n.node (by_successor (steps.Depth n.node) is (contains_head n.node [])) in omega (less, falls, arith)
+              let falls : priority q n.node ≤ priority q depth = (flow p q valid).falls depth n.node
+              (by_successor (steps.Depth n.node) is (contains_head n.node [])) in omega (less, falls, arith)
           by_low (inr x) =
               let here : status.At depth ≡ status.At x.0 = sym e ∙ x.2 in
               let same : depth ≡ x.0 = cc in

@@ -6,7 +6,8 @@ use Rattle.sc_values.specs.declared.value.Value.{Value}
 use Rattle.sc_values.specs.declared.operator.Combination.{Combination}
 use Rattle.sc_values.specs.Access.{Access, Nothing, Init, Update, no_access}
 use Rattle.sc_values.specs.Runs.{Machine, acts, IsAdmissible, IsOrdered, Act}
-use Rattle.abort_expansion_laws.specs.Stages.{Entry, Correspondence, IsCorrespondence, core_act, core_log, chart_log, Touches, InitsFlag, UpdatesFlag, ReadsFlag, IsSilent, EachFits, HasStage, ReachedAfter, Climbs, NoneReached, EachSpared}
+use Rattle.abort_expansion_laws.specs.Stages.{Entry, Correspondence, IsCorrespondence, core_act, core_log, chart_log, Touches, InitsFlag, UpdatesFlag}
+use Rattle.abort_expansion_laws.specs.Stages.{ReadsFlag, IsSilent, EachFits, HasStage, ReachedAfter, Climbs, NoneReached, EachSpared}
 use Rattle.abort_expansion_laws.proofs.StagesKept.{stages_kept}
 
 -- ---- stages, by those that a configuration allows
@@ -24,7 +25,8 @@ module _ (k : Correspondence) where
       still h s (inr own) = inr own
 
   -- one step more in front: none reached before is above its stages, and its own and those that stay are reached after it
-  pub climbs_step : (Before After : ℕ → ℕ → Type 0) (y : Entry) (log : List Entry) → ((h s : ℕ) → HasStage k y h s → ((u : ℕ) → Before h u → u ≤ s) × After h s) →
+  pub climbs_step : (Before After : ℕ → ℕ → Type 0) (y : Entry) (log : List Entry) →
+      ((h s : ℕ) → HasStage k y h s → ((u : ℕ) → Before h u → u ≤ s) × After h s) →
       ((h s : ℕ) → (core_act k y).thread ≢ h → Before h s → After h s) → Climbs k After log → Climbs k Before (y ∷ log)
   climbs_step Before After y log own stays climbs = (
     λ h s s' reached has. (own h s' has).0 s reached,
@@ -124,10 +126,13 @@ module _ (k : Correspondence) (t : ℕ) (at : Option (ℕ × ℕ)) where
 -- ---- over machines
 
 -- where the logs of two runs are a marked log's, the core's run is admissible if the chart's is
-pub core_admissible : (m n : Machine) (k : Correspondence) → IsCorrespondence k → (run : List ℕ) (c : m.Configuration) (image : List ℕ) (d : n.Configuration) (log : List Entry) →
+pub core_admissible : (m n : Machine) (k : Correspondence) → IsCorrespondence k →
+    (run : List ℕ) (c : m.Configuration) (image : List ℕ) (d : n.Configuration) (log : List Entry) →
     acts m run c ≡ chart_log log → acts n image d ≡ core_log k log →
-    ((steps : List Act) → IsOrdered m.ForkedApart steps → IsOrdered k.ChartApart steps) → ((steps : List Act) → IsOrdered k.CoreApart steps → IsOrdered n.ForkedApart steps) →
+    ((steps : List Act) → IsOrdered m.ForkedApart steps → IsOrdered k.ChartApart steps) →
+    ((steps : List Act) → IsOrdered k.CoreApart steps → IsOrdered n.ForkedApart steps) →
     EachFits k log → EachSpared k log → Climbs k NoneReached log → IsAdmissible m run c → IsAdmissible n image d
 core_admissible m n k is run c image d log of_chart of_core chart_same core_same fits spared climbs admissible =
     subst (λ steps. IsOrdered n.ForkedApart steps) (sym of_core)
-    (core_same (core_log k log) (stages_kept k is log fits spared climbs (chart_same (chart_log log) (subst (λ steps. IsOrdered m.ForkedApart steps) of_chart admissible))))
+    (core_same (core_log k log) (stages_kept k is log fits spared climbs
+    (chart_same (chart_log log) (subst (λ steps. IsOrdered m.ForkedApart steps) of_chart admissible))))

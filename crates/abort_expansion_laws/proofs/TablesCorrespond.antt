@@ -3,7 +3,8 @@ use Rattle.std.proofs.Common.{◌≡◌, ℕ, ◌⊎◌, Bool, List, [], ◌∷�
 use Rattle.chart_machine.specs.declared.table.Table.{Table}
 use Rattle.chart_machine.specs.Turns.{LiesIn, itself, deeper, holder_of, ForkedApart}
 use Rattle.abort_expansion_laws.specs.Stages.{Correspondence, IsCorrespondence, Meet, Inner}
-use Rattle.abort_expansion_laws.proofs.LyingIn.{IsTree, LiesUnder, around, holder, none_in, head_in, tail_in, head_or_tail, around_outer, not_from_itself, not_from_outer, swapped, apart_inside, by_holder}
+use Rattle.abort_expansion_laws.proofs.LyingIn.{IsTree, LiesUnder, around, holder, none_in, head_in, tail_in, head_or_tail, around_outer, not_from_itself}
+use Rattle.abort_expansion_laws.proofs.LyingIn.{not_from_outer, swapped, apart_inside, by_holder}
 pub use Rattle.abort_expansion_laws.specs.Trees.{IsThere}
 pub use Rattle.abort_expansion_laws.specs.Expanded.{Expanded, LiesInState, pair_of}
 
@@ -41,7 +42,8 @@ module _ (chart core : Table) (e : Expanded chart core) where
     regions_apart : (r q b : ℕ) → ForkedApart core (e.thread_of r) (e.thread_of q) b → (a : ℕ) × (b ≡ e.thread_of a) × ForkedApart chart r q a
     regions_apart r q b met = by_sides (lies_back r met.left met.r_in) (lies_back q met.right met.u_in)
       where
-        by_sides : ((l : ℕ) × (met.left ≡ e.thread_of l) × LiesIn chart r l) → ((m : ℕ) × (met.right ≡ e.thread_of m) × LiesIn chart q m) → (a : ℕ) × (b ≡ e.thread_of a) × ForkedApart chart r q a
+        by_sides : ((l : ℕ) × (met.left ≡ e.thread_of l) × LiesIn chart r l) → ((m : ℕ) × (met.right ≡ e.thread_of m) × LiesIn chart q m) →
+            (a : ℕ) × (b ≡ e.thread_of a) × ForkedApart chart r q a
         by_sides l m = (
           holder_of chart (around chart l.0),
           sym met.held ∙ (ap (holder_of core) (ap (around core) l.1 ∙ e.around_of l.0) ∙ held_by (around chart l.0)),
@@ -113,7 +115,8 @@ module _ (chart core : Table) (e : Expanded chart core) where
             by_place (head_or_tail (e.fork_of o) u (around core (e.thread_of (holder chart o))) (subst (λ w. Contains w u) path inner))
           where
             by_place : (e.fork_of o ≡ u) ⊎ Contains (around core (e.thread_of (holder chart o))) u →
-                ((b ≡ e.thread_of (holder chart o)) × LiesUnder chart q (holder chart o)) ⊎ ((a : ℕ) × (b ≡ e.thread_of a) × ForkedApart chart (holder chart o) q a)
+                ((b ≡ e.thread_of (holder chart o)) × LiesUnder chart q (holder chart o)) ⊎
+                ((a : ℕ) × (b ≡ e.thread_of a) × ForkedApart chart (holder chart o) q a)
             by_place (inl here) = outer (itself (sym (e.held o) ∙ (ap (holder core) here ∙ held)))
             by_place (inr there) = outer (deeper u there held)
 
@@ -134,19 +137,23 @@ module _ (chart core : Table) (e : Expanded chart core) where
 
         by_watcher : (g r q b : ℕ) → k.Watches g r → ForkedApart core g (e.thread_of q) b → ((b ≡ e.thread_of r) × LiesUnder chart q r) ⊎ Meet k r q b
         by_watcher g r q b w met =
-            subst (λ z. ((b ≡ e.thread_of z) × LiesUnder chart q z) ⊎ Meet k z q b) w.3 (watcher_apart w.0 q b w.1 (subst (λ z. ForkedApart core z (e.thread_of q) b) w.2 met))
+            subst (λ z. ((b ≡ e.thread_of z) × LiesUnder chart q z) ⊎ Meet k z q b) w.3
+            (watcher_apart w.0 q b w.1 (subst (λ z. ForkedApart core z (e.thread_of q) b) w.2 met))
 
         by_watcher_home : (x t b : ℕ) → k.Within t x → ForkedApart core (k.watcher x) t b →
-            ((around core (k.watcher x) ≡ e.fork_of (e.of_flag x) ∷ around core (k.home x)) ⊎ ((k.watcher x ≡ k.home x) × ((u : ℕ) → ¬ Contains (around core u) (e.fork_of (e.of_flag x))))) →
+            ((around core (k.watcher x) ≡ e.fork_of (e.of_flag x) ∷ around core (k.home x)) ⊎
+            ((k.watcher x ≡ k.home x) × ((u : ℕ) → ¬ Contains (around core u) (e.fork_of (e.of_flag x))))) →
             b ≡ k.home x
-        by_watcher_home x t b inner met (inl directly) = by_holder core of_core (e.fork_of (e.of_flag x)) (k.watcher x) t b (around core (k.home x)) directly inner met
+        by_watcher_home x t b inner met (inl directly) = by_holder core of_core (e.fork_of (e.of_flag x)) (k.watcher x) t b (around core (k.home x)) directly
+            inner met
         by_watcher_home x t b inner met (inr none) = absurd (none.1 t inner)
 
         below : (x t b : ℕ) → Contains (around core t) (e.fork_of (e.of_flag x)) → ForkedApart core (k.home x) t b → ⊥
         below x t b inner met = not_from_outer core of_core (k.home x) t b (deeper (e.fork_of (e.of_flag x)) inner refl) met
 
         by_watcher_around : (x t b : ℕ) → t ≡ k.watcher x → ForkedApart core (k.home x) t b →
-            ((around core (k.watcher x) ≡ e.fork_of (e.of_flag x) ∷ around core (k.home x)) ⊎ ((k.watcher x ≡ k.home x) × ((u : ℕ) → ¬ Contains (around core u) (e.fork_of (e.of_flag x))))) →
+            ((around core (k.watcher x) ≡ e.fork_of (e.of_flag x) ∷ around core (k.home x)) ⊎
+            ((k.watcher x ≡ k.home x) × ((u : ℕ) → ¬ Contains (around core u) (e.fork_of (e.of_flag x))))) →
             ⊥
         by_watcher_around x t b w met (inl directly) =
             below x t b (subst (λ z. Contains (around core z) (e.fork_of (e.of_flag x))) (sym w)

@@ -1,5 +1,6 @@
 -- A transition without effects, from the law of entering: it is taken as if it had one effect more.
-use Rattle.std.proofs.Common.{◌≡◌, ℕ, zero, suc, ◌<◌, Bool, true, false, Option, Some, None, List, [], ◌∷◌, ◌++◌, map, length, slice_get, slice_set, refl, sym, ap, subst, ◌∙◌, arith}
+use Rattle.std.proofs.Common.{◌≡◌, ℕ, zero, suc, ◌<◌, Bool, true, false, Option, Some, None, List, [], ◌∷◌, ◌++◌, map, length, slice_get, slice_set, refl}
+use Rattle.std.proofs.Common.{sym, ap, subst, ◌∙◌, arith}
 use Rattle.sc_values.specs.Runs.{act_of}
 use Rattle.core_charts.specs.declared.region.Effect.{Effect}
 use Rattle.core_charts.specs.declared.region.Transition.{Transition}
@@ -54,9 +55,11 @@ pub record BeginsAt (r : ℕ) (moves : List Move) : Type 0 where
   pub others : List Move
   pub are : moves ≡ to r first ∷ others
 
-pub overwritten : (r : ℕ) (moves : List Move) → BeginsAt r moves → (regions : List Standing) (v : Standing) → moved moves (slice_set regions r v) ≡ moved moves regions
+pub overwritten : (r : ℕ) (moves : List Move) → BeginsAt r moves → (regions : List Standing) (v : Standing) →
+    moved moves (slice_set regions r v) ≡ moved moves regions
 overwritten r moves begins regions v =
-    ap (λ ms. moved ms (slice_set regions r v)) begins.are ∙ (ap (moved begins.others) (set_twice regions r v begins.first) ∙ ap (λ ms. moved ms regions) (sym begins.are))
+    ap (λ ms. moved ms (slice_set regions r v)) begins.are ∙ (ap (moved begins.others) (set_twice regions r v begins.first) ∙
+    ap (λ ms. moved ms regions) (sym begins.are))
 
 pub not_counting : (places : Places) (p : ℕ) (effects : List Effect) → unwrap_or (slice_get places.finals p) false ≡ false → counting places p effects ≡ effects
 not_counting places p effects e = rw (e) refl
@@ -66,8 +69,10 @@ none_counted k core i true counter values e = absurd cc
 none_counted k core i false counter values e = refl
 
 -- stages do not hang on the core
-pub staged : (k core : Table) (i : Images) (rows : CoreRows k core i) (tree : IsTree k) (counts : ℕ → Bool) (written_at : ℕ → ℕ) (Told : Configuration → Entry → Type 0) (c1 d1 last e : Configuration) →
-    Segment (machine core) (pair k core i rows tree counts written_at) Told e (Stage k i.thread_of c1 d1) (Stage k i.thread_of last) [] (Related k core i last) →
+pub staged : (k core : Table) (i : Images) (rows : CoreRows k core i) (tree : IsTree k) (counts : ℕ → Bool) (written_at : ℕ → ℕ)
+    (Told : Configuration → Entry → Type 0) (c1 d1 last e : Configuration) →
+    Segment (machine core) (pair k core i rows tree counts written_at) Told e (Stage k i.thread_of c1 d1) (Stage k i.thread_of last) []
+    (Related k core i last) →
     Segment (machine core) (pair k core i rows tree counts written_at) Told e (Stage k i.thread_of c1 e) (Stage k i.thread_of last) [] (Related k core i last)
 staged k core i rows tree counts written_at Told c1 d1 last e g =
     record {
@@ -82,9 +87,11 @@ staged k core i rows tree counts written_at Told c1 d1 last e g =
       reaches = g.reaches;
     }
 
-module _ (k core : Table) (i : Images) (rows : CoreRows k core i) (tree : IsTree k) (counts : ℕ → Bool) (written_at : ℕ → ℕ) (Told : Configuration → Entry → Type 0)
+module _ (k core : Table) (i : Images) (rows : CoreRows k core i) (tree : IsTree k) (counts : ℕ → Bool) (written_at : ℕ → ℕ)
+    (Told : Configuration → Entry → Type 0)
     (enters : Enters k core i rows tree counts written_at Told)
-    (c d : Configuration) (related : Related k core i c d) (q s : ℕ) (t : Transition) (tests : List Transition) (stands : standing_of c q ≡ at.Trying s (t ∷ tests))
+    (c d : Configuration) (related : Related k core i c d) (q s : ℕ) (t : Transition) (tests : List Transition)
+    (stands : standing_of c q ≡ at.Trying s (t ∷ tests))
     (no_effects : t.effects ≡ []) (target_there : t.target < length (region_at k q).states) (goes_not_over : is_final k (state_in k q t.target) ≡ false)
     (alone : inside k s ≡ []) (core_alone : inside core (i.main_of s) ≡ [])
     (chart_first : BeginsAt q (state_at k (state_in k q t.target)).entered)
@@ -173,9 +180,11 @@ module _ (k core : Table) (i : Images) (rows : CoreRows k core i) (tree : IsTree
       let on_turn : is_enabled core d (i.thread_of q) ≡ true = rw (core_stands, unguarded) refl in
       let holds : verdict d.variables t.trigger ≡ Some true =
       subst (λ vs. verdict vs t.trigger ≡ Some true) (sym related.variables) (verdict_over_more related.more c.variables t.trigger true true_there) in
-      let does : deed_of core d (i.thread_of q) (standing_of d (i.thread_of q)) ≡ Some (record { write = None; moves = (state_at core (i.entry_of (state_in k q t.target))).entered }) =
+      let does : deed_of core d (i.thread_of q) (standing_of d (i.thread_of q)) ≡ Some
+      (record { write = None; moves = (state_at core (i.entry_of (state_in k q t.target))).entered }) =
       ap (deed_of core d (i.thread_of q)) core_stands
-      ∙ (tested_is core d (i.thread_of q) (i.main_of s) (led (i.places_of q) t) (to (i.thread_of q) (at.Trying (i.main_of s) (map (led (i.places_of q)) tests ++ held_back k core i q)) ∷ []) true holds
+      ∙ (tested_is core d (i.thread_of q) (i.main_of s) (led (i.places_of q) t)
+      (to (i.thread_of q) (at.Trying (i.main_of s) (map (led (i.places_of q)) tests ++ held_back k core i q)) ∷ []) true holds
       ∙ ap (λ ms. Some (record { write = None; moves = ms })) core_moves) in
       rw (on_turn, does) refl
 
@@ -192,7 +201,8 @@ module _ (k core : Table) (i : Images) (rows : CoreRows k core i) (tree : IsTree
 
   core_same : core_enters k core i d1 d.variables q t.target ≡ f
   core_same =
-      ap (λ zs. record { variables = d.variables; regions = zs }) (overwritten (i.thread_of q) (state_at core (i.entry_of (state_in k q t.target))).entered core_first d.regions z)
+      ap (λ zs. record { variables = d.variables; regions = zs }) (overwritten (i.thread_of q) (state_at core (i.entry_of (state_in k q t.target))).entered
+      core_first d.regions z)
 
   abbrev pub next : Configuration
   next = chart_enters k core i c q t.target
@@ -202,13 +212,18 @@ module _ (k core : Table) (i : Images) (rows : CoreRows k core i) (tree : IsTree
 
   -- a transition without effects is taken, and leads to no final state
   pub taken_on : Told d (Image q (access_of_trigger t.trigger)) →
-      Segment (machine core) (pair k core i rows tree counts written_at) Told d (Stage k i.thread_of c d) (Stage k i.thread_of next) (act_of (machine k) c q ∷ []) (Related k core i next)
+      Segment (machine core) (pair k core i rows tree counts written_at) Told d (Stage k i.thread_of c d) (Stage k i.thread_of next)
+      (act_of (machine k) c q ∷ []) (Related k core i next)
   taken_on told =
       let image_part = image_to k core i rows tree counts written_at c d related q y z c1 d1 (access_of_trigger t.trigger) move f core_steps Told told in
-      let rest = enters c1 d1 related1 q s t.target one here1 free1 d.variables (none_counted k core i (is_final k (state_in k q t.target)) (counter_over k core i (around k q)) d.variables goes_not_over) in
-      subst (λ w. Segment (machine core) (pair k core i rows tree counts written_at) Told d (Stage k i.thread_of c d) (Stage k i.thread_of w) (act_of (machine k) c q ∷ []) (Related k core i w)) chart_same
-      (segment_on (machine core) (pair k core i rows tree counts written_at) Told d (Stage k i.thread_of c d) (Stage k i.thread_of c1) (Stage k i.thread_of (chart_enters k core i c1 q t.target)) (act_of (machine k) c q ∷ []) []
+      let rest = enters c1 d1 related1 q s t.target one here1 free1 d.variables
+      (none_counted k core i (is_final k (state_in k q t.target)) (counter_over k core i (around k q)) d.variables goes_not_over) in
+      subst (λ w. Segment (machine core) (pair k core i rows tree counts written_at) Told d (Stage k i.thread_of c d) (Stage k i.thread_of w)
+      (act_of (machine k) c q ∷ []) (Related k core i w)) chart_same
+      (segment_on (machine core) (pair k core i rows tree counts written_at) Told d (Stage k i.thread_of c d) (Stage k i.thread_of c1)
+      (Stage k i.thread_of (chart_enters k core i c1 q t.target)) (act_of (machine k) c q ∷ []) []
       (λ e. e ≡ f) (Related k core i (chart_enters k core i c1 q t.target)) image_part
-      (subst (λ e. Segment (machine core) (pair k core i rows tree counts written_at) Told e (Stage k i.thread_of c1 e) (Stage k i.thread_of (chart_enters k core i c1 q t.target)) [] (Related k core i (chart_enters k core i c1 q t.target)))
+      (subst (λ e. Segment (machine core) (pair k core i rows tree counts written_at) Told e (Stage k i.thread_of c1 e)
+      (Stage k i.thread_of (chart_enters k core i c1 q t.target)) [] (Related k core i (chart_enters k core i c1 q t.target)))
       (core_same ∙ sym image_part.reaches)
       (staged k core i rows tree counts written_at Told c1 d1 (chart_enters k core i c1 q t.target) (core_enters k core i d1 d.variables q t.target) rest)))

@@ -19,7 +19,8 @@ use Rattle.abort_expansion_laws.proofs.LyingIn.{IsTree, around, holder}
 use Rattle.abort_expansion_laws.proofs.TablesCorrespond.{IsThere}
 use Rattle.abort_expansion_laws.proofs.MoreValues.{verdict_over_more}
 use Rattle.abort_expansion_laws.specs.CoreRows.{IsSimple, Images, CoreRows}
-use Rattle.abort_expansion_laws.specs.Related.{held_back, tests_of, Stands, outside, ended, left, trying, acting, entering, guarding, staying, within, behind, Watches, guards as watch_guards, waits, elsewhere, IsInside, guarded, open_inside, Related}
+use Rattle.abort_expansion_laws.specs.Related.{held_back, tests_of, Stands, outside, ended, left, trying, acting, entering, guarding, staying, within, behind}
+use Rattle.abort_expansion_laws.specs.Related.{Watches, guards as watch_guards, waits, elsewhere, IsInside, guarded, open_inside, Related}
 use Rattle.abort_expansion_laws.proofs.Unchanged.{never_guarded}
 use Rattle.abort_expansion_laws.proofs.StageReached.{Stage}
 use Rattle.abort_expansion_laws.proofs.ImageSteps.{pair, ImageStep, image_segment}
@@ -33,7 +34,8 @@ module _ (k : Table) where
       tested k c r s t otherwise ≡ Some (record { write = None; moves = if b then taken k r s t else otherwise })
   tested_is c r s t otherwise b e = ap (option_map (λ holds. record { write = None; moves = if holds then taken k r s t else otherwise })) e
 
-  pub fails : (d : Configuration) (g v : ℕ) (w : Transition) (rest : List Transition) → is_guarded k d (around k g) ≡ false → standing_of d g ≡ at.Trying v (w ∷ rest) →
+  pub fails : (d : Configuration) (g v : ℕ) (w : Transition) (rest : List Transition) → is_guarded k d (around k g) ≡ false →
+      standing_of d g ≡ at.Trying v (w ∷ rest) →
       verdict d.variables w.trigger ≡ Some false → step k g d ≡ Some (record { variables = d.variables; regions = slice_set d.regions g (at.Trying v rest) })
   fails d g v w rest free stands false_there =
       let on : is_enabled k d g ≡ true = rw (stands, free) refl in
@@ -69,7 +71,8 @@ module _ (k core : Table) (i : Images) (c : Configuration) (r : ℕ) where
   trying_back _ _ (behind u others super held over) s tests e = absurd cc
 
   -- as long as nobody guards it, no strong checks stand in front
-  pub no_front : (tests : List Transition) → is_guarded k c (around k r) ≡ false → tests_of k core i c r tests ≡ map (led (i.places_of r)) tests ++ held_back k core i r
+  pub no_front : (tests : List Transition) → is_guarded k c (around k r) ≡ false →
+      tests_of k core i c r tests ≡ map (led (i.places_of r)) tests ++ held_back k core i r
   no_front tests free = rw (free) refl
 
 -- ---- no monitor watches a simple state
@@ -87,7 +90,8 @@ module _ (k core : Table) (i : Images) where
   trying_no_inside s u tests _ e (open_inside others) = absurd cc
 
 module _ (k core : Table) (i : Images) (rows : CoreRows k core i) (tree : IsTree k) (counts : ℕ → Bool) (written_at : ℕ → ℕ)
-    (c d : Configuration) (related : Related k core i c d) (q s : ℕ) (t : Transition) (tests : List Transition) (stands : standing_of c q ≡ at.Trying s (t ∷ tests)) where
+    (c d : Configuration) (related : Related k core i c d) (q s : ℕ) (t : Transition) (tests : List Transition)
+    (stands : standing_of c q ≡ at.Trying s (t ∷ tests)) where
   there : IsThere k q
   there = present_there k core i c d related q (λ e. let wrong : at.Trying s (t ∷ tests) ≡ at.Outside = sym stands ∙ e in absurd cc)
 
@@ -138,23 +142,28 @@ module _ (k core : Table) (i : Images) (rows : CoreRows k core i) (tree : IsTree
           works = works;
           free = free;
           steps =
-              fails core d (i.thread_of q) (i.main_of s) (led (i.places_of q) t) rest (never_guarded k core i rows c d related (around core (i.thread_of q))) core_stands
+              fails core d (i.thread_of q) (i.main_of s) (led (i.places_of q) t) rest (never_guarded k core i rows c d related (around core (i.thread_of q)))
+              core_stands
               (subst (λ vs. verdict vs t.trigger ≡ Some false) (sym related.variables) (verdict_over_more related.more c.variables t.trigger false false_there))
-              ∙ ap (λ zs. Some (record { variables = d.variables; regions = slice_set d.regions (i.thread_of q) (at.Trying (i.main_of s) zs) })) (sym (no_front k core i c q tests free));
+              ∙ ap (λ zs. Some (record { variables = d.variables; regions = slice_set d.regions (i.thread_of q) (at.Trying (i.main_of s) zs) }))
+              (sym (no_front k core i c q tests free));
           chart_access = ap access_of stands;
           core_access = ap access_of core_stands;
           declared = λ x touches. let lt = trigger_known c.variables t.trigger false false_there x touches in omega (lt, related.values, arith);
         }
 
   -- the whole of it: a step of the chart by which a test fails is followed
-  pub failing_followed : (Told : Configuration → Entry → Type 0) → Told d (Image q (access_of_trigger t.trigger)) → (next : Configuration) → step k q c ≡ Some next → verdict c.variables t.trigger ≡ Some false →
-      Segment (machine core) (pair k core i rows tree counts written_at) Told d (Stage k i.thread_of c d) (Stage k i.thread_of next) (act_of (machine k) c q ∷ []) (Related k core i next)
+  pub failing_followed : (Told : Configuration → Entry → Type 0) → Told d (Image q (access_of_trigger t.trigger)) → (next : Configuration) →
+      step k q c ≡ Some next → verdict c.variables t.trigger ≡ Some false →
+      Segment (machine core) (pair k core i rows tree counts written_at) Told d (Stage k i.thread_of c d) (Stage k i.thread_of next)
+      (act_of (machine k) c q ∷ []) (Related k core i next)
   failing_followed Told told next steps false_there =
       let parts : Stepped k q c next = stepped k q c next steps in
       let deed : record { write = None; moves = to q (at.Trying s tests) ∷ [] } ≡ parts.deed =
       same_Some _ parts.deed (sym (ap (deed_of k c q) stands ∙ tested_is k c q s t (to q (at.Trying s tests) ∷ []) false false_there) ∙ parts.does) in
       let is : record { variables = c.variables; regions = slice_set c.regions q (at.Trying s tests) } ≡ next = ap (λ e. after e c) deed ∙ parts.is in
-      subst (λ c'. Segment (machine core) (pair k core i rows tree counts written_at) Told d (Stage k i.thread_of c d) (Stage k i.thread_of c') (act_of (machine k) c q ∷ []) (Related k core i c')) is
+      subst (λ c'. Segment (machine core) (pair k core i rows tree counts written_at) Told d (Stage k i.thread_of c d) (Stage k i.thread_of c')
+      (act_of (machine k) c q ∷ []) (Related k core i c')) is
       (image_segment k core i rows tree counts written_at c d related q (at.Trying s tests) (at.Trying (i.main_of s) (tests_of k core i c q tests))
       (record { variables = c.variables; regions = slice_set c.regions q (at.Trying s tests) })
       (record { variables = d.variables; regions = slice_set d.regions (i.thread_of q) (at.Trying (i.main_of s) (tests_of k core i c q tests)) })

@@ -35,7 +35,8 @@ acting_no_inside k core i s u p effects _ e (guarded others) = absurd cc
 acting_no_inside k core i s u p effects _ e (open_inside others) = absurd cc
 
 module _ (k core : Table) (i : Images) (rows : CoreRows k core i) (tree : IsTree k) (counts : ℕ → Bool) (written_at : ℕ → ℕ)
-    (c d : Configuration) (related : Related k core i c d) (q s : ℕ) (t : Transition) (tests : List Transition) (stands : standing_of c q ≡ at.Trying s (t ∷ tests))
+    (c d : Configuration) (related : Related k core i c d) (q s : ℕ) (t : Transition) (tests : List Transition)
+    (stands : standing_of c q ≡ at.Trying s (t ∷ tests))
     (e : Effect) (es : List Effect) (has_effects : t.effects ≡ e ∷ es) (target_there : t.target < length (region_at k q).states)
     (alone : inside k s ≡ []) (core_alone : inside core (i.main_of s) ≡ []) where
   there : IsThere k q
@@ -77,7 +78,8 @@ module _ (k core : Table) (i : Images) (rows : CoreRows k core i) (tree : IsTree
                 was_there = λ w. let wrong : at.Trying s (t ∷ tests) ≡ at.Outside = sym stands ∙ w in absurd cc;
                 is_there = λ w. absurd cc;
                 stands =
-                    subst (λ fs. Stands k core i c q (at.Acting s (e ∷ es) t.target) (at.Acting (i.main_of s) fs (place_of (i.places_of q) t.target))) (counting_first (i.places_of q) t.target e es)
+                    subst (λ fs. Stands k core i c q (at.Acting s (e ∷ es) t.target) (at.Acting (i.main_of s) fs (place_of (i.places_of q) t.target)))
+                    (counting_first (i.places_of q) t.target e es)
                     (acting s (i.main_of s) t.target e es target_there);
                 watches = λ o in_chart has held.
                     watch_other k core i o (standing_of c q) (standing_of d (i.watcher_of o)) (at.Acting s (e ∷ es) t.target)
@@ -98,23 +100,30 @@ module _ (k core : Table) (i : Images) (rows : CoreRows k core i) (tree : IsTree
           works = works;
           free = free;
           steps =
-              takes core d (i.thread_of q) (i.main_of s) (led (i.places_of q) t) rest e (counting (i.places_of q) t.target es) (never_guarded k core i rows c d related (around core (i.thread_of q))) core_stands
-              (subst (λ vs. verdict vs t.trigger ≡ Some true) (sym related.variables) (verdict_over_more related.more c.variables t.trigger true true_there)) core_alone counted;
+              takes core d (i.thread_of q) (i.main_of s) (led (i.places_of q) t) rest e (counting (i.places_of q) t.target es)
+              (never_guarded k core i rows c d related (around core (i.thread_of q))) core_stands
+              (subst (λ vs. verdict vs t.trigger ≡ Some true) (sym related.variables) (verdict_over_more related.more c.variables t.trigger true true_there))
+              core_alone counted;
           chart_access = ap access_of stands;
           core_access = ap access_of core_stands;
           declared = λ x touches. let lt = trigger_known c.variables t.trigger true true_there x touches in omega (lt, related.values, arith);
         }
 
   -- the whole of it
-  pub holding_followed : (Told : Configuration → Entry → Type 0) → Told d (Image q (access_of_trigger t.trigger)) → (next : Configuration) → step k q c ≡ Some next → verdict c.variables t.trigger ≡ Some true →
-      Segment (machine core) (pair k core i rows tree counts written_at) Told d (Stage k i.thread_of c d) (Stage k i.thread_of next) (act_of (machine k) c q ∷ []) (Related k core i next)
+  pub holding_followed : (Told : Configuration → Entry → Type 0) → Told d (Image q (access_of_trigger t.trigger)) → (next : Configuration) →
+      step k q c ≡ Some next → verdict c.variables t.trigger ≡ Some true →
+      Segment (machine core) (pair k core i rows tree counts written_at) Told d (Stage k i.thread_of c d) (Stage k i.thread_of next)
+      (act_of (machine k) c q ∷ []) (Related k core i next)
   holding_followed Told told next steps true_there =
       let parts : Stepped k q c next = stepped k q c next steps in
       let moves : taken k q s t ≡ to q (at.Acting s (e ∷ es) t.target) ∷ [] = rw (alone, has_effects) refl in
       let deed : record { write = None; moves = to q (at.Acting s (e ∷ es) t.target) ∷ [] } ≡ parts.deed =
-      same_Some _ parts.deed (sym (ap (deed_of k c q) stands ∙ (tested_is k c q s t (to q (at.Trying s tests) ∷ []) true true_there ∙ ap (λ ms. Some (record { write = None; moves = ms })) moves)) ∙ parts.does) in
-      let is : record { variables = c.variables; regions = slice_set c.regions q (at.Acting s (e ∷ es) t.target) } ≡ next = ap (λ w. after w c) deed ∙ parts.is in
-      subst (λ c'. Segment (machine core) (pair k core i rows tree counts written_at) Told d (Stage k i.thread_of c d) (Stage k i.thread_of c') (act_of (machine k) c q ∷ []) (Related k core i c')) is
+      same_Some _ parts.deed (sym (ap (deed_of k c q) stands ∙ (tested_is k c q s t (to q (at.Trying s tests) ∷ []) true true_there ∙
+      ap (λ ms. Some (record { write = None; moves = ms })) moves)) ∙ parts.does) in
+      let is : record { variables = c.variables; regions = slice_set c.regions q (at.Acting s (e ∷ es) t.target) } ≡ next = ap (λ w. after w c) deed ∙
+      parts.is in
+      subst (λ c'. Segment (machine core) (pair k core i rows tree counts written_at) Told d (Stage k i.thread_of c d) (Stage k i.thread_of c')
+      (act_of (machine k) c q ∷ []) (Related k core i c')) is
       (image_segment k core i rows tree counts written_at c d related q (at.Acting s (e ∷ es) t.target) (core_acts parts.free)
       (record { variables = c.variables; regions = slice_set c.regions q (at.Acting s (e ∷ es) t.target) })
       (record { variables = d.variables; regions = slice_set d.regions (i.thread_of q) (core_acts parts.free) })

@@ -1,5 +1,6 @@
 -- What a step of one region leaves as it is.
-use Rattle.std.proofs.Common.{◌≡◌, ◌≢◌, ℕ, zero, suc, ◌<◌, ◌≤◌, ◌⊎◌, inl, inr, ⊎_elim, Bool, true, false, ◌||◌, Some, List, [], ◌∷◌, ◌++◌, length, slice_get, slice_set, unwrap_or, Contains, refl, sym, ap, subst, ◌∙◌, arith}
+use Rattle.std.proofs.Common.{◌≡◌, ◌≢◌, ℕ, zero, suc, ◌<◌, ◌≤◌, ◌⊎◌, inl, inr, ⊎_elim, Bool, true, false, ◌||◌, Some, List, [], ◌∷◌, ◌++◌, length, slice_get}
+use Rattle.std.proofs.Common.{slice_set, unwrap_or, Contains, refl, sym, ap, subst, ◌∙◌, arith}
 use Rattle.std.specs.List.{list_all, list_any}
 use Rattle.std.proofs.lemmas.Option.{slice_get_past}
 use Rattle.core_charts.specs.declared.region.Transition.{Transition}
@@ -13,7 +14,9 @@ use Rattle.abort_expansion.specs.Flags.{has_aborts}
 use Rattle.abort_expansion_laws.proofs.LyingIn.{around, holder, none_in, head_or_tail, head_in, tail_in}
 use Rattle.abort_expansion_laws.proofs.TablesCorrespond.{IsThere}
 use Rattle.abort_expansion_laws.specs.CoreRows.{own, IsState, Images, CoreRows}
-use Rattle.abort_expansion_laws.specs.Related.{IsCalm, calm_outside, calm_ended, calm_trying, calm_within, front, held_back, tests_of, is_behind, Stands, outside, ended, left, trying, acting, entering, guarding, staying, within, behind, Watches, guards as watch_guards, waits, elsewhere, Related}
+use Rattle.abort_expansion_laws.specs.Related.{IsCalm, calm_outside, calm_ended, calm_trying, calm_within, front, held_back, tests_of, is_behind, Stands}
+use Rattle.abort_expansion_laws.specs.Related.{outside, ended, left, trying, acting, entering, guarding, staying, within, behind, Watches}
+use Rattle.abort_expansion_laws.specs.Related.{guards as watch_guards, waits, elsewhere, Related}
 
 -- ---- one region comes to stand elsewhere
 
@@ -71,7 +74,8 @@ module _ (k core : Table) (i : Images) (c d : Configuration) (same : SameShape c
   stands_kept r _ _ (staying s tests super held stays) = staying s tests super held stays
   stands_kept r _ _ (within s join tests super held stays open_still leads) = within s join tests super held stays (behind_same s ∙ open_still) leads
   stands_kept r _ _ (behind s tests super held over) =
-      subst (λ z. Stands k core i d r (at.Within s tests) (at.Trying (i.behind_of s) (z ++ held_back k core i r))) (front_same true r) (behind s tests super held (behind_same s ∙ over))
+      subst (λ z. Stands k core i d r (at.Within s tests) (at.Trying (i.behind_of s) (z ++ held_back k core i r))) (front_same true r)
+      (behind s tests super held (behind_same s ∙ over))
 
 -- ---- nobody in the core guards
 
@@ -107,10 +111,13 @@ module _ (k core : Table) (i : Images) (rows : CoreRows k core i) (c d : Configu
   pub no_guards : (t : ℕ) → guards (standing_of d t) ≡ false
   no_guards t = by_place (past_or_there t)
     where
-      by_sort : ((r : ℕ) × IsThere k r × (t ≡ i.thread_of r)) ⊎ ((o : ℕ) × IsState k o × (has_aborts (own k o) ≡ true) × (t ≡ i.watcher_of o)) → guards (standing_of d t) ≡ false
-      by_sort (inl r) = ap (λ z. guards (standing_of d z)) r.2 ∙ not_guarding r.0 (standing_of c r.0) (standing_of d (i.thread_of r.0)) (related.regions r.0 r.1)
+      by_sort : ((r : ℕ) × IsThere k r × (t ≡ i.thread_of r)) ⊎ ((o : ℕ) × IsState k o × (has_aborts (own k o) ≡ true) × (t ≡ i.watcher_of o)) →
+          guards (standing_of d t) ≡ false
+      by_sort (inl r) = ap (λ z. guards (standing_of d z)) r.2 ∙ not_guarding r.0 (standing_of c r.0) (standing_of d (i.thread_of r.0))
+          (related.regions r.0 r.1)
       by_sort (inr o) =
-          ap (λ z. guards (standing_of d z)) o.3 ∙ not_watching o.0 (standing_of c (holder k o.0)) (standing_of d (i.watcher_of o.0)) (related.watchers o.0 o.1 o.2)
+          ap (λ z. guards (standing_of d z)) o.3 ∙ not_watching o.0 (standing_of c (holder k o.0)) (standing_of d (i.watcher_of o.0))
+          (related.watchers o.0 o.1 o.2)
 
       by_place : (t ≡ 0) ⊎ (IsThere core t ⊎ (suc (length core.regions) ≤ t)) → guards (standing_of d t) ≡ false
       by_place (inl e) = ap (λ z. guards (standing_of d z)) e ∙ ap guards related.no_core
@@ -153,5 +160,7 @@ guards_no_calm _ (calm_trying s others) o tests e = absurd cc
 guards_no_calm _ (calm_within s others) o tests e = absurd cc
 
 -- who is not calm is guarded by nobody
-pub not_calm_free : (k core : Table) (i : Images) (c d : Configuration) → Related k core i c d → (r : ℕ) → IsThere k r → (IsCalm (standing_of c r) → ⊥) → is_guarded k c (around k r) ≡ false
-not_calm_free k core i c d related r there not_calm = none_are (λ s. guards (standing_of c (holder k s))) (around k r) (λ s h e. not_calm (related.calm r s there h e))
+pub not_calm_free : (k core : Table) (i : Images) (c d : Configuration) → Related k core i c d → (r : ℕ) → IsThere k r → (IsCalm (standing_of c r) → ⊥) →
+    is_guarded k c (around k r) ≡ false
+not_calm_free k core i c d related r there not_calm = none_are (λ s. guards (standing_of c (holder k s))) (around k r)
+    (λ s h e. not_calm (related.calm r s there h e))

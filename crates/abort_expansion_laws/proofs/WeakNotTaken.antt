@@ -1,5 +1,6 @@
 -- A weak abort that is not taken: when nobody inside has anything left to do, the monitor makes the same test.
-use Rattle.std.proofs.Common.{◌≡◌, ◌≢◌, ℕ, ◌≤◌, inr, Bool, true, false, Some, None, List, [], ◌∷◌, ◌++◌, map, slice_get, slice_set, Contains, ⊎_elim, not, ◌&&◌, ◌||◌, refl, sym, ap, subst, ◌∙◌, arith, if◌then◌else◌}
+use Rattle.std.proofs.Common.{◌≡◌, ◌≢◌, ℕ, ◌≤◌, inr, Bool, true, false, Some, None, List, [], ◌∷◌, ◌++◌, map, slice_get, slice_set, Contains, ⊎_elim, not}
+use Rattle.std.proofs.Common.{◌&&◌, ◌||◌, refl, sym, ap, subst, ◌∙◌, arith, if◌then◌else◌}
 use Rattle.std.specs.Prelude.{filter}
 use Rattle.std.specs.List.{list_all, list_any}
 use Rattle.std.proofs.lemmas.Option.{same_Some}
@@ -23,7 +24,9 @@ use Rattle.abort_expansion_laws.proofs.LyingIn.{IsTree, around, holder, head_in,
 use Rattle.abort_expansion_laws.proofs.TablesCorrespond.{IsThere}
 use Rattle.abort_expansion_laws.proofs.MoreValues.{verdict_over_more}
 use Rattle.abort_expansion_laws.specs.CoreRows.{own, IsState, IsSuper, joins, Images, CoreRows, flags_around}
-use Rattle.abort_expansion_laws.specs.Related.{Closes, Each, AreAmong, is_behind, raises, raise_each, Stands, outside, ended, left, trying, acting, entering, guarding, staying, within, behind, Watches, guards as watch_guards, waits, elsewhere, IsInside, guarded, open_inside, Related}
+use Rattle.abort_expansion_laws.specs.Related.{Closes, Each, AreAmong, is_behind, raises, raise_each, Stands, outside, ended, left, trying, acting, entering}
+use Rattle.abort_expansion_laws.specs.Related.{guarding, staying, within, behind, Watches, guards as watch_guards, waits, elsewhere, IsInside, guarded}
+use Rattle.abort_expansion_laws.specs.Related.{open_inside, Related}
 use Rattle.abort_expansion_laws.proofs.Unchanged.{SameShape, stands_same, stands_other, never_guarded}
 use Rattle.abort_expansion_laws.proofs.StageReached.{Stage, some_work, has_work_same, holds_other}
 use Rattle.abort_expansion_laws.proofs.AllLeave.{inside_around}
@@ -98,7 +101,8 @@ pub record MonitorWaits (k core : Table) (i : Images) (o : ℕ) (t : Transition)
   pub is : y ≡ at.Trying (i.watching_of o) (raise_each (λ z. z.immediate) (i.flags_of o).weak ((number, t) ∷ others) ++ all_ended (i.flags_of o).counter)
 
 module _ (k core : Table) (i : Images) (o : ℕ) where
-  from_waiting : (some : List (ℕ × Transition)) (joins_behind : List Transition) → AreAmong (weak_aborts (own k o)) some → Each (λ z. is_join z.kind ≡ true) joins_behind → (t : Transition) (tests : List Transition) →
+  from_waiting : (some : List (ℕ × Transition)) (joins_behind : List Transition) → AreAmong (weak_aborts (own k o)) some →
+      Each (λ z. is_join z.kind ≡ true) joins_behind → (t : Transition) (tests : List Transition) →
       is_join t.kind ≡ false → map (λ (x : ℕ × Transition). x.1) some ++ joins_behind ≡ t ∷ tests →
       MonitorWaits k core i o t tests (at.Trying (i.watching_of o) (raise_each (λ z. z.immediate) (i.flags_of o).weak some ++ all_ended (i.flags_of o).counter))
   from_waiting [] [] among ends t tests weak e = absurd cc
@@ -119,7 +123,8 @@ module _ (k core : Table) (i : Images) (o : ℕ) where
         is = ap (λ z. at.Trying (i.watching_of o) (raise_each (λ w. w.immediate) (i.flags_of o).weak ((n, z) ∷ some) ++ all_ended (i.flags_of o).counter)) same;
       }
 
-  pub waits_back : (x y : Standing) → Watches k core i o x y → (t : Transition) (tests : List Transition) → is_join t.kind ≡ false → x ≡ at.Within o (t ∷ tests) → MonitorWaits k core i o t tests y
+  pub waits_back : (x y : Standing) → Watches k core i o x y → (t : Transition) (tests : List Transition) → is_join t.kind ≡ false → x ≡ at.Within
+      o (t ∷ tests) → MonitorWaits k core i o t tests y
   waits_back _ _ (watch_guards some among) t tests weak e = absurd cc
   waits_back _ _ (waits some joins_behind among ends) t tests weak e =
       let same : map (λ (x : ℕ × Transition). x.1) some ++ joins_behind ≡ t ∷ tests = cc in from_waiting some joins_behind among ends t tests weak same
@@ -130,7 +135,8 @@ module _ (k core : Table) (i : Images) (o : ℕ) where
   inside_within s _ (open_inside others) tests e = cc
 
 -- nobody inside has work
-no_work : (w w' : ℕ → Bool) (xs : List ℕ) → ((q : ℕ) → Contains xs q → w' q ≡ w q) → list_all (λ q. not (w q)) xs ≡ true → (list_any w xs ≡ false) × (list_any w' xs ≡ false)
+no_work : (w w' : ℕ → Bool) (xs : List ℕ) → ((q : ℕ) → Contains xs q → w' q ≡ w q) → list_all (λ q. not (w q)) xs ≡ true →
+    (list_any w xs ≡ false) × (list_any w' xs ≡ false)
 no_work w w' [] alike e = (refl, refl)
 no_work w w' (q ∷ xs) alike e =
     let both = both_true (not (w q)) (list_all (λ p. not (w p)) xs) e in
@@ -156,7 +162,8 @@ filter_first p (x ∷ xs) t ts e = by_bool (p x) refl e (λ f. filter_first p xs
     by_bool true is f rest = let same : x ≡ t = cc in ap p (sym same) ∙ is
     by_bool false is f rest = rest f
 
-closes_on : (k core : Table) (i : Images) (o : ℕ) (t : Transition) (tests : List Transition) → is_join t.kind ≡ false → Closes k core i o (t ∷ tests) → Closes k core i o tests
+closes_on : (k core : Table) (i : Images) (o : ℕ) (t : Transition) (tests : List Transition) → is_join t.kind ≡ false → Closes k core i o (t ∷ tests) →
+    Closes k core i o tests
 closes_on k core i o t tests none closes = by_some closes.some closes.no_join closes.are
   where
     by_some : (some : List Transition) → Each (λ z. is_join z.kind ≡ false) some → t ∷ tests ≡ some ++ terminations (own k o) → Closes k core i o tests
@@ -170,7 +177,8 @@ weak_no_join kind.Weak e = refl
 weak_no_join kind.Join e = absurd cc
 
 module _ (k core : Table) (i : Images) (rows : CoreRows k core i) (tree : IsTree k) (counts : ℕ → Bool) (written_at : ℕ → ℕ)
-    (c d : Configuration) (related : Related k core i c d) (r o : ℕ) (o_there : IsState k o) (has : has_aborts (own k o) ≡ true) (t : Transition) (weak : is_weak t.kind ≡ true) (tests : List Transition)
+    (c d : Configuration) (related : Related k core i c d) (r o : ℕ) (o_there : IsState k o) (has : has_aborts (own k o) ≡ true) (t : Transition)
+    (weak : is_weak t.kind ≡ true) (tests : List Transition)
     (stands : standing_of c r ≡ at.Within o (t ∷ tests)) where
   there : IsThere k r
   there = present_there k core i c d related r (λ e. let wrong : at.Within o (t ∷ tests) ≡ at.Outside = sym stands ∙ e in absurd cc)
@@ -180,14 +188,17 @@ module _ (k core : Table) (i : Images) (rows : CoreRows k core i) (tree : IsTree
 
   pub monitor : MonitorWaits k core i o t tests (standing_of d (i.watcher_of o))
   monitor =
-      waits_back k core i o (standing_of c (holder k o)) (standing_of d (i.watcher_of o)) (related.watchers o o_there has) t tests (weak_no_join t.kind weak) (ap (standing_of c) region.held ∙ stands)
+      waits_back k core i o (standing_of c (holder k o)) (standing_of d (i.watcher_of o)) (related.watchers o o_there has) t tests (weak_no_join t.kind weak)
+      (ap (standing_of c) region.held ∙ stands)
 
   flag : (x : ℕ) × ((i.flags_of o).weak ≡ Some x)
   flag = rows.weak_there o monitor.number t o_there monitor.first
 
   core_stands : standing_of d (i.watcher_of o) ≡
-      at.Trying (i.watching_of o) (raises (λ z. z.immediate) flag.0 (monitor.number, t) ∷ (map (raises (λ z. z.immediate) flag.0) monitor.others ++ all_ended (i.flags_of o).counter))
-  core_stands = monitor.is ∙ ap (λ f. at.Trying (i.watching_of o) (raise_each (λ z. z.immediate) f ((monitor.number, t) ∷ monitor.others) ++ all_ended (i.flags_of o).counter)) flag.1
+      at.Trying (i.watching_of o) (raises (λ z. z.immediate) flag.0 (monitor.number, t) ∷
+      (map (raises (λ z. z.immediate) flag.0) monitor.others ++ all_ended (i.flags_of o).counter))
+  core_stands = monitor.is ∙ ap (λ f. at.Trying (i.watching_of o) (raise_each (λ z. z.immediate) f ((monitor.number, t) ∷ monitor.others) ++ all_ended
+      (i.flags_of o).counter)) flag.1
 
   next_stands : at.Trying (i.watching_of o) (map (raises (λ z. z.immediate) flag.0) monitor.others ++ all_ended (i.flags_of o).counter)
       ≡ at.Trying (i.watching_of o) (raise_each (λ z. z.immediate) (i.flags_of o).weak monitor.others ++ all_ended (i.flags_of o).counter)
@@ -199,9 +210,11 @@ module _ (k core : Table) (i : Images) (rows : CoreRows k core i) (tree : IsTree
   same_shape : SameShape c after_it
   same_shape =
       record {
-        ends = λ q. ⊎_elim (λ e. ap (λ p. has_ended (standing_of after_it p)) e ∙ (ap has_ended here ∙ (sym (ap has_ended stands) ∙ ap (λ p. has_ended (standing_of c p)) (sym e))))
+        ends = λ q. ⊎_elim (λ e. ap (λ p. has_ended (standing_of after_it p)) e ∙
+            (ap has_ended here ∙ (sym (ap has_ended stands) ∙ ap (λ p. has_ended (standing_of c p)) (sym e))))
             (λ ne. ap has_ended (elsewhere_same q ne)) (same_or_not q r);
-        guards_alike = λ q. ⊎_elim (λ e. ap (λ p. guards (standing_of after_it p)) e ∙ (ap guards here ∙ (sym (ap guards stands) ∙ ap (λ p. guards (standing_of c p)) (sym e))))
+        guards_alike = λ q. ⊎_elim (λ e. ap (λ p. guards (standing_of after_it p)) e ∙
+            (ap guards here ∙ (sym (ap guards stands) ∙ ap (λ p. guards (standing_of c p)) (sym e))))
             (λ ne. ap guards (elsewhere_same q ne)) (same_or_not q r);
       }
     where
@@ -215,14 +228,20 @@ module _ (k core : Table) (i : Images) (rows : CoreRows k core i) (tree : IsTree
   idle done =
       no_work (λ q. has_work k c (standing_of c q)) (λ q. has_work k after_it (standing_of after_it q)) (inside k o)
       (λ q h. has_work_same k core i c after_it same_shape (standing_of after_it q)
-      ∙ ap (has_work k c) (stands_other c after_it r q (at.Within o tests) refl (λ e. holds_other k tree r o (inside_around k o r (subst (Contains (inside k o)) e h)) region.held)))
+      ∙ ap (has_work k c) (stands_other c after_it r q (at.Within o tests) refl
+      (λ e. holds_other k tree r o (inside_around k o r (subst (Contains (inside k o)) e h)) region.held)))
       (sym (ap (inside_is_done k c) stands) ∙ done)
 
-  pub not_taken : verdict c.variables t.trigger ≡ Some false → has_work k c (standing_of c r) ≡ true → is_guarded k c (around k r) ≡ false → inside_is_done k c (standing_of c r) ≡ true →
+  pub not_taken : verdict c.variables t.trigger ≡ Some false → has_work k c (standing_of c r) ≡ true → is_guarded k c (around k r) ≡ false →
+      inside_is_done k c (standing_of c r) ≡ true →
       WatchedStep k core i rows tree counts written_at c d r o 2 (at.Within o tests)
       (at.Trying (i.watching_of o) (raise_each (λ z. z.immediate) (i.flags_of o).weak monitor.others ++ all_ended (i.flags_of o).counter))
       (record { variables = c.variables; regions = slice_set c.regions r (at.Within o tests) })
-      (record { variables = d.variables; regions = slice_set d.regions (i.watcher_of o) (at.Trying (i.watching_of o) (raise_each (λ z. z.immediate) (i.flags_of o).weak monitor.others ++ all_ended (i.flags_of o).counter)) })
+      (record {
+        variables = d.variables;
+        regions = slice_set d.regions (i.watcher_of o)
+            (at.Trying (i.watching_of o) (raise_each (λ z. z.immediate) (i.flags_of o).weak monitor.others ++ all_ended (i.flags_of o).counter));
+      })
       (access_of_trigger t.trigger)
   not_taken false_there works free done =
       record {
@@ -242,7 +261,8 @@ module _ (k core : Table) (i : Images) (rows : CoreRows k core i) (tree : IsTree
                   subst (Stands k core i c r (at.Within o tests)) (sym region.is)
                   (within o region.join tests region.super region.held region.stays_not region.not_behind region.leads);
               watches =
-                  subst (λ ts. Watches k core i o (at.Within o ts) (at.Trying (i.watching_of o) (raise_each (λ z. z.immediate) (i.flags_of o).weak monitor.others ++ all_ended (i.flags_of o).counter)))
+                  subst (λ ts. Watches k core i o (at.Within o ts) (at.Trying (i.watching_of o)
+                  (raise_each (λ z. z.immediate) (i.flags_of o).weak monitor.others ++ all_ended (i.flags_of o).counter)))
                   monitor.tests_are (waits monitor.others monitor.joins_behind monitor.among monitor.only_joins);
               watches_others = λ v v_there has_some held differ.
                   watch_other k core i v (standing_of c r) (standing_of d (i.watcher_of v)) (at.Within o tests)
@@ -250,7 +270,8 @@ module _ (k core : Table) (i : Images) (rows : CoreRows k core i) (tree : IsTree
                   (λ others e. let wrong : at.Within o (t ∷ tests) ≡ at.Guarding v others = sym stands ∙ e in absurd cc)
                   (λ others e. let same : at.Within o (t ∷ tests) ≡ at.Within v others = sym stands ∙ e in let state : o ≡ v = cc in differ (sym state))
                   (λ others e. absurd cc) (λ others e. let state : o ≡ v = cc in differ (sym state));
-              inside = λ s held inner. subst (λ v. IsInside k core i v (at.Within o tests)) (sym (inside_within k core i o s (standing_of c r) inner (t ∷ tests) stands)) (open_inside tests);
+              inside = λ s held inner. subst (λ v. IsInside k core i v (at.Within o tests))
+                  (sym (inside_within k core i o s (standing_of c r) inner (t ∷ tests) stands)) (open_inside tests);
               inside_back = λ s held inner.
                   subst (λ v. IsInside k core i v (standing_of c r)) (sym (inside_within k core i o s (at.Within o tests) inner tests refl))
                   (subst (IsInside k core i o) (sym stands) (open_inside (t ∷ tests)));
@@ -267,13 +288,15 @@ module _ (k core : Table) (i : Images) (rows : CoreRows k core i) (tree : IsTree
               flags = λ x le. refl;
             };
         staged = inr refl;
-        not_above = let calm = (idle done).0 in rw (stands, calm) (just_two (has_aborts (own k o)) (list_any (λ z. is_weak z.kind) (t ∷ tests)) has (rw (weak) refl));
+        not_above = let calm = (idle done).0 in rw (stands, calm) (just_two (has_aborts (own k o)) (list_any (λ z. is_weak z.kind) (t ∷ tests)) has
+            (rw (weak) refl));
         not_below = let calm = (idle done).1 in rw (calm) (two_or_three (has_aborts (own k o)) (list_any (λ z. is_weak z.kind) tests) has);
         plain = trigger_plain t.trigger;
         works = works;
         free = free;
         steps =
-            fails core d (i.watcher_of o) (i.watching_of o) (raises (λ z. z.immediate) flag.0 (monitor.number, t)) (map (raises (λ z. z.immediate) flag.0) monitor.others ++ all_ended (i.flags_of o).counter)
+            fails core d (i.watcher_of o) (i.watching_of o) (raises (λ z. z.immediate) flag.0 (monitor.number, t))
+            (map (raises (λ z. z.immediate) flag.0) monitor.others ++ all_ended (i.flags_of o).counter)
             (never_guarded k core i rows c d related (around core (i.watcher_of o))) core_stands
             (subst (λ vs. verdict vs t.trigger ≡ Some false) (sym related.variables) (verdict_over_more related.more c.variables t.trigger false false_there))
             ∙ ap (λ z. Some (record { variables = d.variables; regions = slice_set d.regions (i.watcher_of o) z })) next_stands;
@@ -282,17 +305,24 @@ module _ (k core : Table) (i : Images) (rows : CoreRows k core i) (tree : IsTree
         declared = λ x touches. let lt = trigger_known c.variables t.trigger false false_there x touches in omega (lt, related.values, arith);
       }
 
-  pub not_taken_followed : (Told : Configuration → Entry → Type 0) → Told d (Watched r (i.watcher_of o) 2 (access_of_trigger t.trigger)) → (next : Configuration) → step k r c ≡ Some next →
+  pub not_taken_followed : (Told : Configuration → Entry → Type 0) → Told d (Watched r (i.watcher_of o) 2 (access_of_trigger t.trigger)) →
+      (next : Configuration) → step k r c ≡ Some next →
       verdict c.variables t.trigger ≡ Some false →
-      Segment (machine core) (pair k core i rows tree counts written_at) Told d (Stage k i.thread_of c d) (Stage k i.thread_of next) (act_of (machine k) c r ∷ []) (Related k core i next)
+      Segment (machine core) (pair k core i rows tree counts written_at) Told d (Stage k i.thread_of c d) (Stage k i.thread_of next)
+      (act_of (machine k) c r ∷ []) (Related k core i next)
   not_taken_followed Told told next steps false_there =
       let parts : Stepped k r c next = stepped k r c next steps in
       let deed : record { write = None; moves = to r (at.Within o tests) ∷ [] } ≡ parts.deed =
       same_Some _ parts.deed (sym (ap (deed_of k c r) stands ∙ tested_is k c r o t (to r (at.Within o tests) ∷ []) false false_there) ∙ parts.does) in
       let is : record { variables = c.variables; regions = slice_set c.regions r (at.Within o tests) } ≡ next = ap (λ e. after e c) deed ∙ parts.is in
-      subst (λ c'. Segment (machine core) (pair k core i rows tree counts written_at) Told d (Stage k i.thread_of c d) (Stage k i.thread_of c') (act_of (machine k) c r ∷ []) (Related k core i c')) is
+      subst (λ c'. Segment (machine core) (pair k core i rows tree counts written_at) Told d (Stage k i.thread_of c d) (Stage k i.thread_of c')
+      (act_of (machine k) c r ∷ []) (Related k core i c')) is
       (watched_segment k core i rows tree counts written_at c d related r o 2 (at.Within o tests)
       (at.Trying (i.watching_of o) (raise_each (λ z. z.immediate) (i.flags_of o).weak monitor.others ++ all_ended (i.flags_of o).counter))
       (record { variables = c.variables; regions = slice_set c.regions r (at.Within o tests) })
-      (record { variables = d.variables; regions = slice_set d.regions (i.watcher_of o) (at.Trying (i.watching_of o) (raise_each (λ z. z.immediate) (i.flags_of o).weak monitor.others ++ all_ended (i.flags_of o).counter)) })
+      (record {
+        variables = d.variables;
+        regions = slice_set d.regions (i.watcher_of o)
+            (at.Trying (i.watching_of o) (raise_each (λ z. z.immediate) (i.flags_of o).weak monitor.others ++ all_ended (i.flags_of o).counter));
+      })
       (access_of_trigger t.trigger) (not_taken false_there parts.works parts.free parts.done) Told told)

@@ -1,6 +1,7 @@
 -- What stands in the table of a core chart for each region, state and superstate of the chart, by numbers. This is what
 -- the structure of the expansion owes to the simulation, and no more.
-use Rattle.std.specs.Prelude.{◌≡◌, ◌≢◌, ℕ, ◌<◌, ◌≤◌, ◌⊎◌, Bool, true, false, Option, Some, None, List, [], ◌∷◌, ◌++◌, map, length, slice_get, unwrap_or, Contains, if◌then◌else◌}
+use Rattle.std.specs.Prelude.{◌≡◌, ◌≢◌, ℕ, ◌<◌, ◌≤◌, ◌⊎◌, Bool, true, false, Option, Some, None, List, [], ◌∷◌, ◌++◌, map, length, slice_get, unwrap_or}
+use Rattle.std.specs.Prelude.{Contains, if◌then◌else◌}
 use Rattle.std.specs.Prelude.{reverse}
 use Rattle.sc_graph.specs.declared.program.Variable.{Variable}
 use Rattle.core_charts.specs.declared.region.Transition.{Transition}
@@ -97,7 +98,8 @@ module _ (k core : Table) (i : Images) where
   abbrev pub behind_transitions : (r s : ℕ) → List Transition
   behind_transitions r s =
       strong_checks true (i.places_of r).left (flags_around r) ++ answers (i.places_of r) (i.flags_of s).strong 1 (strong_aborts (own k s))
-      ++ answers (i.places_of r) (i.flags_of s).weak 1 (weak_aborts (own k s)) ++ closing (flags_around r) (i.flags_of s) (i.places_of r) (terminations (own k s))
+      ++ answers (i.places_of r) (i.flags_of s).weak 1 (weak_aborts (own k s)) ++ closing (flags_around r) (i.flags_of s) (i.places_of r)
+      (terminations (own k s))
 
   -- of a region: where the places of its transitions lead in the core
   pub record RegionImage (r : ℕ) : Type 0 where
@@ -107,7 +109,8 @@ module _ (k core : Table) (i : Images) where
     pub finals : (p : ℕ) → p < length (region_at k r).states → unwrap_or (slice_get (i.places_of r).finals p) false ≡ is_final k (state_in k r p)
     pub holds : (p : ℕ) → p < length (region_at k r).states → holder k (state_in k r p) ≡ r
     -- the abandoned state
-    pub left : aborts_around (flags_around r) ≡ true → (state_at core (state_in core (i.thread_of r) (i.places_of r).left)).entered ≡ to (i.thread_of r) at.Ended ∷ []
+    pub left : aborts_around (flags_around r) ≡ true → (state_at core (state_in core (i.thread_of r) (i.places_of r).left)).entered ≡ to (i.thread_of r)
+        at.Ended ∷ []
 
   -- of a simple state, and of a final one
   pub record SimpleImage (s : ℕ) : Type 0 where
@@ -141,7 +144,8 @@ module _ (k core : Table) (i : Images) where
     pub there : IsThere core (i.watcher_of s)
     pub encloses : around core (i.watcher_of s) ≡ i.main_of s ∷ around core (i.thread_of (holder k s))
     pub no_thread : (r : ℕ) → i.thread_of r ≢ i.watcher_of s
-    pub row : state_at core (i.watching_of s) ≡ simple_row (i.watcher_of s) (i.watching_of s) (monitor_transitions (flags_around (holder k s)) (i.flags_of s) (own k s))
+    pub row : state_at core (i.watching_of s) ≡ simple_row (i.watcher_of s) (i.watching_of s)
+        (monitor_transitions (flags_around (holder k s)) (i.flags_of s) (own k s))
     pub ended : state_in core (i.watcher_of s) 1 ≡ i.watched_of s
     pub watched : (state_at core (i.watched_of s)).entered ≡ to (i.watcher_of s) at.Ended ∷ []
 
@@ -174,7 +178,8 @@ module _ (k core : Table) (i : Images) where
     pub staying : (s : ℕ) → IsState k s → IsSuper k s → stays (flags_around (holder k s)) (own k s) ≡ true → StayingImage s
     pub split : (s : ℕ) → IsState k s → IsSuper k s → stays (flags_around (holder k s)) (own k s) ≡ false → SplitImage s
     pub watcher : (s : ℕ) → IsState k s → has_aborts (own k s) ≡ true → WatcherImage s
-    pub each : (t : ℕ) → IsThere core t → ((r : ℕ) × IsThere k r × (t ≡ i.thread_of r)) ⊎ ((s : ℕ) × IsState k s × (has_aborts (own k s) ≡ true) × (t ≡ i.watcher_of s))
+    pub each : (t : ℕ) → IsThere core t → ((r : ℕ) × IsThere k r × (t ≡ i.thread_of r)) ⊎
+        ((s : ℕ) × IsState k s × (has_aborts (own k s) ≡ true) × (t ≡ i.watcher_of s))
 
   -- what the matching of both tables needs
   abbrev pub expanded_of : CoreRows → Expanded k core

@@ -1,6 +1,7 @@
 -- A configuration of a flat chart within a tick, and that of its core chart which stands for it. The core's is given by the
 -- chart's: its weak checks and the count test of a monitor are always held back to the end of the tick, or to an abort.
-use Rattle.std.specs.Prelude.{◌≡◌, ◌≢◌, ℕ, suc, ◌+◌, ◌<◌, Bool, true, false, not, ◌&&◌, pos, Option, Some, None, List, [], ◌∷◌, ◌++◌, map, length, slice_get, Contains, if◌then◌else◌}
+use Rattle.std.specs.Prelude.{◌≡◌, ◌≢◌, ℕ, suc, ◌+◌, ◌<◌, Bool, true, false, not, ◌&&◌, pos, Option, Some, None, List, [], ◌∷◌, ◌++◌, map, length, slice_get}
+use Rattle.std.specs.Prelude.{Contains, if◌then◌else◌}
 use Rattle.std.specs.List.{list_all}
 use Rattle.sc_values.specs.declared.value.Value.{Value}
 use Rattle.sc_values.specs.declared.value.Value.TheVariants as value_is
@@ -83,8 +84,10 @@ module _ (k core : Table) (i : Images) where
         Stands c r (at.Acting s (e ∷ effects) p) (at.Acting u (counting (i.places_of r) p (e ∷ effects)) (place_of (i.places_of r) p))
     entering : (s fork : ℕ) (t : Transition) (tests : List Transition) → IsSuper k s → holder k s ≡ r → state_in core (thread r) fork ≡ i.main_of s →
         Stands c r (at.Entering s (t ∷ tests))
-        (at.Trying (i.entry_of s) (map (λ z. led_by (i.places_of r) z.trigger z) (t ∷ tests) ++ go true None (resets (i.flags_of s) (length (state_at k s).regions)) fork ∷ []))
-    guarding : (s join : ℕ) (t : Transition) (tests : List Transition) → has_aborts (own k s) ≡ true → holder k s ≡ r → state_in core (thread r) join ≡ i.behind_of s →
+        (at.Trying (i.entry_of s) (map (λ z. led_by (i.places_of r) z.trigger z) (t ∷ tests) ++ go true None
+        (resets (i.flags_of s) (length (state_at k s).regions)) fork ∷ []))
+    guarding : (s join : ℕ) (t : Transition) (tests : List Transition) → has_aborts (own k s) ≡ true → holder k s ≡ r → state_in core (thread r) join
+        ≡ i.behind_of s →
         Stands c r (at.Guarding s (t ∷ tests)) (at.Within (i.main_of s) (joins join ∷ []))
     staying : (s : ℕ) (tests : List Transition) → IsSuper k s → holder k s ≡ r → stays (flags_here r) (own k s) ≡ true →
         Stands c r (at.Within s tests) (at.Within (i.main_of s) (map (led (i.places_of r)) tests))
@@ -103,7 +106,8 @@ module _ (k core : Table) (i : Images) where
     waits : (some : List (ℕ × Transition)) (joins : List Transition) → AreAmong (weak_aborts (own k o)) some → Each (λ t. is_join t.kind ≡ true) joins →
         Watches o (at.Within o (map (λ x. x.1) some ++ joins))
         (at.Trying (i.watching_of o) (raise_each (λ t. t.immediate) (i.flags_of o).weak some ++ all_ended (i.flags_of o).counter))
-    elsewhere : (x : Standing) → ((tests : List Transition) → x ≢ at.Guarding o tests) → ((tests : List Transition) → x ≢ at.Within o tests) → Watches o x at.Outside
+    elsewhere : (x : Standing) → ((tests : List Transition) → x ≢ at.Guarding o tests) → ((tests : List Transition) → x ≢ at.Within o tests) →
+        Watches o x at.Outside
 
   -- ---- flags
 

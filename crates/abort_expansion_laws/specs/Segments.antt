@@ -10,10 +10,12 @@ threads k log = map (λ (y : Entry). (core_act k y).thread) log
 abbrev pub Follows : (n : Machine) (k : Correspondence) (Told : n.Configuration → Entry → Type 0) → n.Configuration → List Entry → n.Configuration → Type 0
 Follows n k Told d [] e = d ≡ e
 Follows n k Told d (y ∷ log) e =
-    (core_act k y ≡ act_of n d (core_act k y).thread) × Told d y × ((next : n.Configuration) × (n.step (core_act k y).thread d ≡ Some next) × Follows n k Told next log e)
+    (core_act k y ≡ act_of n d (core_act k y).thread) × Told d y × ((next : n.Configuration) × (n.step (core_act k y).thread d ≡ Some next) × Follows n k Told
+    next log e)
 
 -- a part of the core's run that stands for these steps of the chart. These stages are reached before it, and after it
-pub record Segment (n : Machine) (k : Correspondence) (Told : n.Configuration → Entry → Type 0) (d : n.Configuration) (Before : ℕ → ℕ → Type 0) (After : n.Configuration → ℕ → ℕ → Type 0) (steps : List Act)
+pub record Segment (n : Machine) (k : Correspondence) (Told : n.Configuration → Entry → Type 0) (d : n.Configuration) (Before : ℕ → ℕ → Type 0)
+    (After : n.Configuration → ℕ → ℕ → Type 0) (steps : List Act)
     (Reaches : n.Configuration → Type 0) : Type 0 where
   pub log : List Entry
   pub last : n.Configuration

@@ -27,7 +27,8 @@ AllOf P [] = Unit {0}
 AllOf P (inputs ∷ ticks) = P inputs × AllOf P ticks
 
 -- a list of ends of the one machine, and one of the other that is seen alike
-pub record HasAlike (n : Reactive) (A : Type 0) (Alike : A → n.machine.Configuration → Type 0) (ticks : List Inputs) (e : n.machine.Configuration) (ends : List A) : Type 0 where
+pub record HasAlike (n : Reactive) (A : Type 0) (Alike : A → n.machine.Configuration → Type 0) (ticks : List Inputs) (e : n.machine.Configuration)
+    (ends : List A) : Type 0 where
   pub others : List n.machine.Configuration
   pub reaction : Reaction n ticks e others
   pub alike : EachAlike Alike ends others
