@@ -1,6 +1,6 @@
 -- What waits still does after the fork of a prepared superstate was entered, and its region is settled.
-use Rattle.std.proofs.Common.{◌≡◌, ◌≢◌, ℕ, zero, suc, pos, ◌+◌, ◌<◌, ◌≤◌, ◌⊎◌, inl, inr, ⊎_elim, Bool, true, false, not, ◌||◌, Option, Some, None, List, []}
-use Rattle.std.proofs.Common.{◌∷◌, ◌++◌, map, length, slice_get, slice_set, Contains, refl, sym, ap, subst, ◌∙◌, arith, if◌then◌else◌}
+use Rattle.std.proofs.Common.{◌≡◌, ◌≢◌, ℕ, suc, pos, ◌<◌, ◌≤◌, ◌⊎◌, inl, inr, ⊎_elim, Bool, true, false, Option, Some, None, List, []}
+use Rattle.std.proofs.Common.{◌∷◌, ◌++◌, map, length, slice_set, Contains, refl, sym, ap, subst, ◌∙◌, arith}
 use Rattle.sc_values.specs.declared.value.Value.{Value}
 use Rattle.sc_values.specs.declared.value.Value.TheVariants as value_is
 use Rattle.sc_values.specs.Access.{Access}
@@ -11,28 +11,28 @@ use Rattle.chart_machine.specs.declared.standing.Move.{Move}
 use Rattle.chart_machine.specs.declared.standing.Configuration.{Configuration}
 use Rattle.chart_machine.specs.declared.table.Table.{Table}
 use Rattle.chart_machine.specs.Table.{state_at}
-use Rattle.chart_machine.specs.Turns.{standing_of, has_ended, guards as has_to_guard, is_guarded, inside}
+use Rattle.chart_machine.specs.Turns.{standing_of, is_guarded}
 use Rattle.chart_machine.specs.Steps.{moved, state_in}
 use Rattle.abort_expansion.specs.Flags.{has_aborts}
-use Rattle.abort_expansion.specs.Transitions.{go, count_down}
+use Rattle.abort_expansion.specs.Transitions.{go}
 use Rattle.abort_expansion.specs.Superstates.{resets, stays}
 use Rattle.tick_laws.proofs.Lists.{same_or_not, contained}
 use Rattle.abort_expansion_laws.specs.Stages.{Entry, Silent}
 use Rattle.abort_expansion_laws.specs.CoreRows.{own, IsState, Images, CoreRows, SplitImage, joins, flags_around}
 use Rattle.abort_expansion_laws.specs.Related.{Stands, within, IsInside, guarded, open_inside, Stores}
-use Rattle.abort_expansion_laws.specs.Related.{Watches, guards as watch_guards, waits, elsewhere, is_behind}
-use Rattle.abort_expansion_laws.proofs.LyingIn.{IsTree, around, holder, none_in, head_in, tail_in, head_or_tail, around_around}
+use Rattle.abort_expansion_laws.specs.Related.{Watches, is_behind}
+use Rattle.abort_expansion_laws.proofs.LyingIn.{IsTree, around, holder, none_in, head_in, tail_in, head_or_tail}
 use Rattle.abort_expansion_laws.proofs.TablesCorrespond.{IsThere, contains_map}
 use Rattle.abort_expansion_laws.proofs.Leaving.{at_number, set_here, set_other, set_length}
 use Rattle.abort_expansion_laws.proofs.AllLeave.{inside_around}
-use Rattle.abort_expansion_laws.proofs.StageReached.{Stage, stage_of, inside_in}
+use Rattle.abort_expansion_laws.proofs.StageReached.{stage_of}
 use Rattle.abort_expansion_laws.proofs.StartingRegions.{set_behind}
-use Rattle.abort_expansion_laws.proofs.Pending.{is_trying, Sound, IsOpening, IsStarting, IsJoining, Over, Waits, settled, opening, starting, joining, ending}
-use Rattle.abort_expansion_laws.proofs.Pending.{hidden, Covered, goes_in, still_going, Flagged, IsFresh, IsEmpty, Pending, IsBusy, starts, opens, joins_then}
+use Rattle.abort_expansion_laws.proofs.Pending.{Sound, IsOpening, IsStarting, IsJoining, Over, Waits, settled, opening, starting, joining, ending}
+use Rattle.abort_expansion_laws.proofs.Pending.{hidden, Covered, goes_in, still_going, Flagged, IsEmpty, Pending, IsBusy, starts, opens, joins_then}
 use Rattle.abort_expansion_laws.proofs.Pending.{Reached, behind_unprepared}
 use Rattle.abort_expansion_laws.proofs.SettledInOrder.{skips, there_in}
-use Rattle.abort_expansion_laws.proofs.Resets.{Every, But, set_all, set_all_other, set_all_size, one_of}
-use Rattle.abort_expansion_laws.proofs.OpensFork.{OpeningRows, every_one, forked, forks, image, list, g, strong_down, weak_down, counter_full}
+use Rattle.abort_expansion_laws.proofs.Resets.{Every, set_all, set_all_other, set_all_size, one_of}
+use Rattle.abort_expansion_laws.proofs.OpensFork.{OpeningRows, every_one, forked, forks, image, list, strong_down, weak_down, counter_full}
 use Rattle.abort_expansion_laws.proofs.OpenedRows.{Opens, WithinIt, OpenedRows, ForkRows}
 
 moved_size : (ms : List Move) (zs : List Standing) → length (moved ms zs) ≡ length zs

@@ -1,31 +1,22 @@
 -- What was entered settles, one region after the other, from what the structure of the expansion owes.
-use Rattle.std.proofs.Common.{◌≡◌, ℕ, suc, ◌<◌, ◌⊎◌, Bool, true, false, Option, Some, List, [], ◌∷◌, length, Contains}
+use Rattle.std.proofs.Common.{◌≡◌, ℕ, ◌<◌, Bool, Option, Some, [], ◌∷◌, Contains}
 use Rattle.sc_values.specs.Access.{Access}
-use Rattle.core_charts.specs.declared.region.Transition.{Transition}
-use Rattle.chart_machine.specs.declared.standing.Standing.{Standing}
-use Rattle.chart_machine.specs.declared.standing.Standing.TheVariants as at
 use Rattle.chart_machine.specs.declared.standing.Configuration.{Configuration}
 use Rattle.chart_machine.specs.declared.table.Table.{Table}
 use Rattle.chart_machine.specs.Table.{state_at}
-use Rattle.chart_machine.specs.Turns.{standing_of, is_guarded}
-use Rattle.chart_machine.specs.Steps.{moved}
 use Rattle.chart_machine.specs.Machine.{machine}
-use Rattle.abort_expansion.specs.Flags.{has_aborts}
 use Rattle.abort_expansion_laws.specs.Stages.{Entry, Silent}
 use Rattle.abort_expansion_laws.proofs.LyingIn.{IsTree, around, holder}
 use Rattle.abort_expansion_laws.proofs.TablesCorrespond.{IsThere}
-use Rattle.abort_expansion_laws.specs.CoreRows.{own, IsState, Images, CoreRows}
-use Rattle.abort_expansion_laws.specs.Related.{IsInside}
+use Rattle.abort_expansion_laws.specs.CoreRows.{IsState, Images, CoreRows}
 use Rattle.abort_expansion_laws.proofs.Simulation.{Segment}
 use Rattle.abort_expansion_laws.proofs.OpenedRows.{OpenedRows, ForkRows}
-use Rattle.abort_expansion_laws.proofs.Leaving.{at_number}
 use Rattle.abort_expansion_laws.proofs.StageReached.{Stage}
 use Rattle.abort_expansion_laws.proofs.ImageSteps.{pair}
-use Rattle.abort_expansion_laws.proofs.Pending.{Sound, IsJoining, Over, Covered, Flagged, Pending, Reached}
+use Rattle.abort_expansion_laws.proofs.Pending.{Sound, Pending, Reached}
 use Rattle.abort_expansion_laws.proofs.StartingRegions.{CounterRows}
-use Rattle.abort_expansion_laws.specs.Related.{Watches, Related}
-use Rattle.abort_expansion_laws.proofs.Pending.{IsOpening, Waits, still_going}
-use Rattle.abort_expansion_laws.proofs.SettledInOrder.{Piece, Steps, settles}
+use Rattle.abort_expansion_laws.specs.Related.{Related}
+use Rattle.abort_expansion_laws.proofs.SettledInOrder.{Steps, settles}
 use Rattle.abort_expansion_laws.proofs.CountedDown.{counted_down}
 use Rattle.abort_expansion_laws.proofs.ForkJoined.{joined_up}
 use Rattle.abort_expansion_laws.proofs.OpensFork.{OpeningRows}

@@ -1,13 +1,11 @@
 -- What a preparation opens: the fork is entered, and what is inside waits as it should. The third of the steps by which what was entered settles.
-use Rattle.std.proofs.Common.{◌≡◌, ℕ, suc, ◌<◌, Bool, Option, Some, List, [], ◌∷◌, Contains, refl, sym, ap, subst, ◌∙◌}
+use Rattle.std.proofs.Common.{◌≡◌, ℕ, suc, ◌<◌, Bool, Option, ◌∷◌, Contains, sym, subst}
 use Rattle.sc_values.specs.Access.{Access}
 use Rattle.chart_machine.specs.declared.standing.Configuration.{Configuration}
 use Rattle.chart_machine.specs.declared.table.Table.{Table}
 use Rattle.chart_machine.specs.Table.{state_at}
-use Rattle.chart_machine.specs.Machine.{machine}
 use Rattle.abort_expansion_laws.specs.Stages.{Entry, Silent}
 use Rattle.abort_expansion_laws.specs.CoreRows.{Images, CoreRows, pair}
-use Rattle.abort_expansion_laws.specs.Segments.{Segment}
 use Rattle.abort_expansion_laws.proofs.LyingIn.{IsTree, around, holder}
 use Rattle.abort_expansion_laws.proofs.TablesCorrespond.{IsThere}
 use Rattle.abort_expansion_laws.proofs.Supplying.{climbs_fewer}

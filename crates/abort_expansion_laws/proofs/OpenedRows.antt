@@ -1,5 +1,5 @@
 -- What the moves of a fork make of what is inside, stated alone: it is for the structure of the expansion to give.
-use Rattle.std.proofs.Common.{◌≡◌, ℕ, suc, ◌⊎◌, Bool, true, false, Some, List, length, Contains}
+use Rattle.std.proofs.Common.{◌≡◌, ℕ, suc, ◌⊎◌, true, false, Some, List, length, Contains}
 use Rattle.core_charts.specs.declared.region.Transition.{Transition}
 use Rattle.chart_machine.specs.declared.standing.Standing.{Standing}
 use Rattle.chart_machine.specs.declared.standing.Standing.TheVariants as at
