@@ -1,0 +1,181 @@
+-- A region goes on, and so does its thread: what corresponds still does.
+use Rattle.std.proofs.Common.{◌≡◌, ◌≢◌, ℕ, zero, suc, ◌<◌, ◌≤◌, ⊎_elim, true, false, Option, Some, None, List, [], ◌∷◌, ◌++◌, length, slice_get, slice_set}
+use Rattle.std.proofs.Common.{Contains, refl, sym, ap, subst, ◌∙◌, arith}
+use Rattle.sc_values.specs.declared.value.Value.{Value}
+use Rattle.core_charts.specs.declared.region.Transition.{Transition}
+use Rattle.chart_machine.specs.declared.standing.Standing.{Standing}
+use Rattle.chart_machine.specs.declared.standing.Standing.TheVariants as at
+use Rattle.chart_machine.specs.declared.standing.Configuration.{Configuration}
+use Rattle.chart_machine.specs.declared.table.Table.{Table}
+use Rattle.chart_machine.specs.Table.{state_at}
+use Rattle.chart_machine.specs.Turns.{standing_of, has_ended, guards, is_guarded}
+use Rattle.abort_expansion.specs.Flags.{has_aborts}
+use Rattle.tick_laws.proofs.Lists.{same_or_not}
+use Rattle.abort_expansion_laws.proofs.LyingIn.{around, holder}
+use Rattle.abort_expansion_laws.proofs.TablesCorrespond.{IsThere}
+use Rattle.abort_expansion_laws.specs.CoreRows.{own, IsState, Images, CoreRows, RegionImage, WatcherImage}
+use Rattle.abort_expansion_laws.specs.Related.{IsCalm, Closes, Stands, Watches, IsInside, Stores, FlagsAreDown, still_in, not_ended, Related}
+use Rattle.abort_expansion_laws.proofs.Unchanged.{none_among, both_ways, stands_same, stands_other, SameShape, stands_kept}
+
+set_size : {A : Type 0} (xs : List A) (i : ℕ) (v : A) → length (slice_set xs i v) ≡ length xs
+set_size [] i v = refl
+set_size (x ∷ xs) zero v = refl
+set_size (x ∷ xs) (suc i) v = ap suc (set_size xs i v)
+
+module _ (k core : Table) (i : Images) (rows : CoreRows k core i) where
+  -- region r comes to stand at y, its thread at z; variables may change, but no flags
+  pub record GoesOn (c d : Configuration) (r : ℕ) (y z : Standing) (c' d' : Configuration) : Type 0 where
+    pub there : IsThere k r
+    pub chart : c'.regions ≡ slice_set c.regions r y
+    pub core_too : d'.regions ≡ slice_set d.regions (i.thread_of r) z
+    pub ends : has_ended y ≡ has_ended (standing_of c r)
+    pub guards_alike : guards y ≡ guards (standing_of c r)
+    pub was_there : standing_of c r ≢ at.Outside
+    pub is_there : y ≢ at.Outside
+    pub stands : Stands k core i c r y z
+    pub watches : (o : ℕ) → IsState k o → has_aborts (own k o) ≡ true → holder k o ≡ r → Watches k core i o y (standing_of d (i.watcher_of o))
+    pub inside : (s : ℕ) → holder k s ≡ r → IsInside k core i s (standing_of c r) → IsInside k core i s y
+    pub inside_back : (s : ℕ) → holder k s ≡ r → IsInside k core i s y → IsInside k core i s (standing_of c r)
+    pub closes : (s : ℕ) (tests : List Transition) → holder k s ≡ r → y ≡ at.Within s tests → Closes k core i s tests
+    pub free : is_guarded k c (around k r) ≡ false
+    pub more : List Value
+    pub variables : d'.variables ≡ c'.variables ++ more
+    pub flag_count : length d'.variables ≡ length core.variables
+    pub values : length c'.variables ≡ length k.variables
+    pub flags : (x : ℕ) → length k.variables ≤ x → slice_get d'.variables x ≡ slice_get d.variables x
+
+  module _ (c d : Configuration) (related : Related k core i c d) (r : ℕ) (y z : Standing) (c' d' : Configuration) (go : GoesOn c d r y z c' d') where
+    in_chart : r < length c.regions
+    in_chart = let lt = go.there.1 in omega (lt, related.chart_regions, arith)
+
+    image : RegionImage k core i r
+    image = rows.region r go.there
+
+    in_core : i.thread_of r < length d.regions
+    in_core = let lt = image.there.1 in omega (lt, related.core_regions, arith)
+
+    here : standing_of c' r ≡ y
+    here = stands_same c c' r y go.chart in_chart
+
+    elsewhere : (q : ℕ) → q ≢ r → standing_of c' q ≡ standing_of c q
+    elsewhere q ne = stands_other c c' r q y go.chart ne
+
+    core_here : standing_of d' (i.thread_of r) ≡ z
+    core_here = stands_same d d' (i.thread_of r) z go.core_too in_core
+
+    core_elsewhere : (t : ℕ) → t ≢ i.thread_of r → standing_of d' t ≡ standing_of d t
+    core_elsewhere t ne = stands_other d d' (i.thread_of r) t z go.core_too ne
+
+    pub same_shape : SameShape c c'
+    same_shape =
+        record {
+          ends = λ q. ⊎_elim (λ e. ap (λ p. has_ended (standing_of c' p)) e ∙ (ap has_ended here ∙ (go.ends ∙ ap (λ p. has_ended (standing_of c p)) (sym e))))
+              (λ ne. ap has_ended (elsewhere q ne)) (same_or_not q r);
+          guards_alike = λ q. ⊎_elim (λ e. ap (λ p. guards (standing_of c' p)) e ∙
+              (ap guards here ∙ (go.guards_alike ∙ ap (λ p. guards (standing_of c p)) (sym e)))) (λ ne. ap guards (elsewhere q ne)) (same_or_not q r);
+        }
+
+    regions_kept : (q : ℕ) → IsThere k q → Stands k core i c' q (standing_of c' q) (standing_of d' (i.thread_of q))
+    regions_kept q there = ⊎_elim same other (same_or_not q r)
+      where
+        same : q ≡ r → Stands k core i c' q (standing_of c' q) (standing_of d' (i.thread_of q))
+        same e =
+            subst (λ p. Stands k core i c' p (standing_of c' p) (standing_of d' (i.thread_of p))) (sym e)
+            (subst (λ w. Stands k core i c' r w (standing_of d' (i.thread_of r))) (sym here)
+            (subst (Stands k core i c' r y) (sym core_here) (stands_kept k core i c c' same_shape r y z go.stands)))
+
+        other : q ≢ r → Stands k core i c' q (standing_of c' q) (standing_of d' (i.thread_of q))
+        other ne =
+            subst (λ w. Stands k core i c' q w (standing_of d' (i.thread_of q))) (sym (elsewhere q ne))
+            (subst (Stands k core i c' q (standing_of c q)) (sym (core_elsewhere (i.thread_of q) (λ e. ne (rows.region_once q r e))))
+            (stands_kept k core i c c' same_shape q (standing_of c q) (standing_of d (i.thread_of q)) (related.regions q there)))
+
+    watchers_kept : (o : ℕ) → IsState k o → has_aborts (own k o) ≡ true → Watches k core i o (standing_of c' (holder k o)) (standing_of d' (i.watcher_of o))
+    watchers_kept o there has = subst (Watches k core i o (standing_of c' (holder k o))) (sym core_same) (⊎_elim same other (same_or_not (holder k o) r))
+      where
+        watcher : WatcherImage k core i o
+        watcher = rows.watcher o there has
+
+        core_same : standing_of d' (i.watcher_of o) ≡ standing_of d (i.watcher_of o)
+        core_same = core_elsewhere (i.watcher_of o) (λ e. watcher.no_thread r (sym e))
+
+        same : holder k o ≡ r → Watches k core i o (standing_of c' (holder k o)) (standing_of d (i.watcher_of o))
+        same e = subst (λ w. Watches k core i o w (standing_of d (i.watcher_of o))) (sym (ap (standing_of c') e ∙ here)) (go.watches o there has e)
+
+        other : holder k o ≢ r → Watches k core i o (standing_of c' (holder k o)) (standing_of d (i.watcher_of o))
+        other ne = subst (λ w. Watches k core i o w (standing_of d (i.watcher_of o))) (sym (elsewhere (holder k o) ne)) (related.watchers o there has)
+
+    back_inside : (s : ℕ) → IsInside k core i s (standing_of c' (holder k s)) → IsInside k core i s (standing_of c (holder k s))
+    back_inside s inner = ⊎_elim same other (same_or_not (holder k s) r)
+      where
+        same : holder k s ≡ r → IsInside k core i s (standing_of c (holder k s))
+        same e = subst (λ q. IsInside k core i s (standing_of c q)) (sym e)
+            (go.inside_back s e (subst (IsInside k core i s) (ap (standing_of c') e ∙ here) inner))
+
+        other : holder k s ≢ r → IsInside k core i s (standing_of c (holder k s))
+        other ne = subst (IsInside k core i s) (elsewhere (holder k s) ne) inner
+
+    still_inside : (s : ℕ) → IsInside k core i s (standing_of c (holder k s)) → IsInside k core i s (standing_of c' (holder k s))
+    still_inside s inner = ⊎_elim same other (same_or_not (holder k s) r)
+      where
+        same : holder k s ≡ r → IsInside k core i s (standing_of c' (holder k s))
+        same e = subst (IsInside k core i s) (sym (ap (standing_of c') e ∙ here)) (go.inside s e (subst (λ q. IsInside k core i s (standing_of c q)) e inner))
+
+        other : holder k s ≢ r → IsInside k core i s (standing_of c' (holder k s))
+        other ne = subst (IsInside k core i s) (sym (elsewhere (holder k s) ne)) inner
+
+    stored : (o : Option ℕ) (n : ℕ) → ((x : ℕ) → o ≡ Some x → length k.variables ≤ x) → Stores k core i d.variables o n → Stores k core i d'.variables o n
+    stored None n added stores = tt
+    stored (Some x) n added stores = go.flags x (added x refl) ∙ stores
+
+    as_many : (rs : List ℕ) → still_in k core i c' rs ≡ still_in k core i c rs
+    as_many [] = refl
+    as_many (q ∷ rs) = rw (same_shape.ends q, as_many rs) refl
+
+    down_still : (s : ℕ) → FlagsAreDown k core i c d.variables s → FlagsAreDown k core i c' d'.variables s
+    down_still s down =
+        record {
+          strong = stored (i.flags_of s).strong 0 (rows.strong_added s) down.strong;
+          weak = stored (i.flags_of s).weak 0 (rows.weak_added s) down.weak;
+          counter =
+              subst (Stores k core i d'.variables (i.flags_of s).counter) (sym (as_many (state_at k s).regions))
+              (stored (i.flags_of s).counter (not_ended k core i c s) (rows.counter_added s) down.counter);
+        }
+
+    was_present : (q : ℕ) → standing_of c' q ≢ at.Outside → standing_of c q ≢ at.Outside
+    was_present q present = ⊎_elim (λ e was. go.was_there (ap (standing_of c) (sym e) ∙ was)) (λ ne was. present (elsewhere q ne ∙ was)) (same_or_not q r)
+
+    is_present : (q : ℕ) → standing_of c q ≢ at.Outside → standing_of c' q ≢ at.Outside
+    is_present q present = ⊎_elim (λ e is. go.is_there (sym here ∙ (ap (standing_of c') (sym e) ∙ is))) (λ ne is. present (sym (elsewhere q ne) ∙ is))
+        (same_or_not q r)
+
+    not_zero : (n : ℕ) → 0 < n → 0 ≢ n
+    not_zero n lt e = absurd (omega (lt, e, arith))
+
+    pub goes_on : Related k core i c' d'
+    goes_on =
+        record {
+          more = go.more;
+          variables = go.variables;
+          flag_count = go.flag_count;
+          chart_regions = ap length go.chart ∙ (set_size c.regions r y ∙ related.chart_regions);
+          core_regions = ap length go.core_too ∙ (set_size d.regions (i.thread_of r) z ∙ related.core_regions);
+          values = go.values;
+          no_chart = elsewhere 0 (not_zero r go.there.0) ∙ related.no_chart;
+          no_core = core_elsewhere 0 (not_zero (i.thread_of r) image.there.0) ∙ related.no_core;
+          regions = regions_kept;
+          watchers = watchers_kept;
+          flags = λ s there inner. down_still s (related.flags s there (back_inside s inner));
+          enclosed = λ q s there present around_it. still_inside s (related.enclosed q s there (was_present q present) around_it);
+          opened = λ s q there inner child. is_present q (related.opened s q there (back_inside s inner) child);
+          closes_last = λ s tests is.
+              ⊎_elim (λ e. go.closes s tests e (sym here ∙ (ap (standing_of c') (sym e) ∙ is)))
+              (λ ne. related.closes_last s tests (sym (elsewhere (holder k s) ne) ∙ is))
+              (same_or_not (holder k s) r);
+          calm = λ q s there around_it guarded_by.
+              let was : guards (standing_of c (holder k s)) ≡ true = sym (same_shape.guards_alike (holder k s)) ∙ guarded_by in
+              ⊎_elim
+              (λ e. absurd (both_ways (guards (standing_of c (holder k s))) was
+              (none_among (λ v. guards (standing_of c (holder k v))) (around k r) s go.free (subst (λ p. Contains (around k p) s) e around_it))))
+              (λ ne. subst IsCalm (sym (elsewhere q ne)) (related.calm q s there around_it was)) (same_or_not q r);
+        }

@@ -1,0 +1,166 @@
+-- What a step of one region leaves as it is.
+use Rattle.std.proofs.Common.{◌≡◌, ◌≢◌, ℕ, zero, suc, ◌<◌, ◌≤◌, ◌⊎◌, inl, inr, ⊎_elim, Bool, true, false, ◌||◌, Some, List, [], ◌∷◌, ◌++◌, length, slice_get}
+use Rattle.std.proofs.Common.{slice_set, unwrap_or, Contains, refl, sym, ap, subst, ◌∙◌, arith}
+use Rattle.std.specs.List.{list_all, list_any}
+use Rattle.std.proofs.lemmas.Option.{slice_get_past}
+use Rattle.core_charts.specs.declared.region.Transition.{Transition}
+use Rattle.chart_machine.specs.declared.standing.Standing.{Standing}
+use Rattle.chart_machine.specs.declared.standing.Standing.TheVariants as at
+use Rattle.chart_machine.specs.declared.standing.Configuration.{Configuration}
+use Rattle.chart_machine.specs.declared.table.Table.{Table}
+use Rattle.chart_machine.specs.Table.{state_at}
+use Rattle.chart_machine.specs.Turns.{standing_of, has_ended, guards, is_guarded}
+use Rattle.abort_expansion.specs.Flags.{has_aborts}
+use Rattle.abort_expansion_laws.proofs.LyingIn.{around, holder, none_in, head_or_tail, head_in, tail_in}
+use Rattle.abort_expansion_laws.proofs.TablesCorrespond.{IsThere}
+use Rattle.abort_expansion_laws.specs.CoreRows.{own, IsState, Images, CoreRows}
+use Rattle.abort_expansion_laws.specs.Related.{IsCalm, calm_outside, calm_ended, calm_trying, calm_within, front, held_back, tests_of, is_behind, Stands}
+use Rattle.abort_expansion_laws.specs.Related.{outside, ended, left, trying, acting, entering, guarding, staying, within, behind, Watches}
+use Rattle.abort_expansion_laws.specs.Related.{guards as watch_guards, waits, elsewhere, Related}
+
+-- ---- one region comes to stand elsewhere
+
+pub get_same : {A : Type 0} (xs : List A) (i : ℕ) (v : A) → i < length xs → slice_get (slice_set xs i v) i ≡ Some v
+get_same [] i v lt = absurd (omega (lt, arith))
+get_same (x ∷ xs) zero v lt = refl
+get_same (x ∷ xs) (suc i) v lt = get_same xs i v (omega (lt, arith))
+
+pub get_other : {A : Type 0} (xs : List A) (i j : ℕ) (v : A) → j ≢ i → slice_get (slice_set xs i v) j ≡ slice_get xs j
+get_other [] i j v ne = refl
+get_other (x ∷ xs) zero zero v ne = absurd (ne refl)
+get_other (x ∷ xs) zero (suc j) v ne = refl
+get_other (x ∷ xs) (suc i) zero v ne = refl
+get_other (x ∷ xs) (suc i) (suc j) v ne = get_other xs i j v (λ e. ne (ap suc e))
+
+pub stands_same : (c d : Configuration) (r : ℕ) (x : Standing) → d.regions ≡ slice_set c.regions r x → r < length c.regions → standing_of d r ≡ x
+stands_same c d r x is lt = ap (λ zs. unwrap_or (slice_get zs r) at.Outside) is ∙ ap (λ o. unwrap_or o at.Outside) (get_same c.regions r x lt)
+
+pub stands_other : (c d : Configuration) (r q : ℕ) (x : Standing) → d.regions ≡ slice_set c.regions r x → q ≢ r → standing_of d q ≡ standing_of c q
+stands_other c d r q x is ne = ap (λ zs. unwrap_or (slice_get zs q) at.Outside) is ∙ ap (λ o. unwrap_or o at.Outside) (get_other c.regions r q x ne)
+
+-- ---- where nobody comes to end, or to guard, the core's standings are given as before
+
+pub record SameShape (c d : Configuration) : Type 0 where
+  pub ends : (q : ℕ) → has_ended (standing_of d q) ≡ has_ended (standing_of c q)
+  pub guards_alike : (q : ℕ) → guards (standing_of d q) ≡ guards (standing_of c q)
+
+module _ (k core : Table) (i : Images) (c d : Configuration) (same : SameShape c d) where
+  pub all_ended_same : (rs : List ℕ) → list_all (λ r. has_ended (standing_of d r)) rs ≡ list_all (λ r. has_ended (standing_of c r)) rs
+  all_ended_same [] = refl
+  all_ended_same (r ∷ rs) = rw (same.ends r, all_ended_same rs) refl
+
+  pub guarded_same : (zs : List ℕ) → is_guarded k d zs ≡ is_guarded k c zs
+  guarded_same [] = refl
+  guarded_same (s ∷ zs) = rw (same.guards_alike (holder k s), guarded_same zs) refl
+
+  pub behind_same : (s : ℕ) → is_behind k core i d s ≡ is_behind k core i c s
+  behind_same s = rw (all_ended_same (state_at k s).regions) refl
+
+  pub front_same : (b : Bool) (r : ℕ) → front k core i b d r ≡ front k core i b c r
+  front_same b r = rw (guarded_same (around k r)) refl
+
+  pub tests_same : (r : ℕ) (tests : List Transition) → tests_of k core i d r tests ≡ tests_of k core i c r tests
+  tests_same r tests = rw (front_same false r) refl
+
+  pub stands_kept : (r : ℕ) (x y : Standing) → Stands k core i c r x y → Stands k core i d r x y
+  stands_kept r _ _ outside = outside
+  stands_kept r _ _ (ended inner) = ended (λ s ss e. behind_same s ∙ inner s ss e)
+  stands_kept r _ _ (left s ss e over) = left s ss e (behind_same s ∙ over)
+  stands_kept r _ _ (trying s tests simple held) =
+      subst (λ z. Stands k core i d r (at.Trying s tests) (at.Trying (i.main_of s) z)) (tests_same r tests) (trying s tests simple held)
+  stands_kept r _ _ (acting s u p e effects lt) = acting s u p e effects lt
+  stands_kept r _ _ (entering s fork t tests super held leads) = entering s fork t tests super held leads
+  stands_kept r _ _ (guarding s join t tests has held leads) = guarding s join t tests has held leads
+  stands_kept r _ _ (staying s tests super held stays) = staying s tests super held stays
+  stands_kept r _ _ (within s join tests super held stays open_still leads) = within s join tests super held stays (behind_same s ∙ open_still) leads
+  stands_kept r _ _ (behind s tests super held over) =
+      subst (λ z. Stands k core i d r (at.Within s tests) (at.Trying (i.behind_of s) (z ++ held_back k core i r))) (front_same true r)
+      (behind s tests super held (behind_same s ∙ over))
+
+-- ---- nobody in the core guards
+
+module _ (k core : Table) (i : Images) (rows : CoreRows k core i) (c d : Configuration) (related : Related k core i c d) where
+  not_guarding : (r : ℕ) (x y : Standing) → Stands k core i c r x y → guards y ≡ false
+  not_guarding r _ _ outside = refl
+  not_guarding r _ _ (ended inner) = refl
+  not_guarding r _ _ (left s ss e over) = refl
+  not_guarding r _ _ (trying s tests simple held) = refl
+  not_guarding r _ _ (acting s u p e effects lt) = refl
+  not_guarding r _ _ (entering s fork t tests super held leads) = refl
+  not_guarding r _ _ (guarding s join t tests has held leads) = refl
+  not_guarding r _ _ (staying s tests super held stays) = refl
+  not_guarding r _ _ (within s join tests super held stays open_still leads) = refl
+  not_guarding r _ _ (behind s tests super held over) = refl
+
+  not_watching : (o : ℕ) (x y : Standing) → Watches k core i o x y → guards y ≡ false
+  not_watching o _ _ (watch_guards some among) = refl
+  not_watching o _ _ (waits some joins among ends) = refl
+  not_watching o x _ (elsewhere z a b) = refl
+
+  past_or_there : (t : ℕ) → (t ≡ 0) ⊎ (IsThere core t ⊎ (suc (length core.regions) ≤ t))
+  past_or_there zero = inl refl
+  past_or_there (suc t) = by_place (in_or_past t (length core.regions))
+    where
+      in_or_past : (m n : ℕ) → (m < n) ⊎ (n ≤ m)
+      in_or_past m n = grind arith
+
+      by_place : (t < length core.regions) ⊎ (length core.regions ≤ t) → (suc t ≡ 0) ⊎ (IsThere core (suc t) ⊎ (suc (length core.regions) ≤ suc t))
+      by_place (inl lt) = inr (inl (omega arith, omega (lt, arith)))
+      by_place (inr past) = inr (inr (omega (past, arith)))
+
+  pub no_guards : (t : ℕ) → guards (standing_of d t) ≡ false
+  no_guards t = by_place (past_or_there t)
+    where
+      by_sort : ((r : ℕ) × IsThere k r × (t ≡ i.thread_of r)) ⊎ ((o : ℕ) × IsState k o × (has_aborts (own k o) ≡ true) × (t ≡ i.watcher_of o)) →
+          guards (standing_of d t) ≡ false
+      by_sort (inl r) = ap (λ z. guards (standing_of d z)) r.2 ∙ not_guarding r.0 (standing_of c r.0) (standing_of d (i.thread_of r.0))
+          (related.regions r.0 r.1)
+      by_sort (inr o) =
+          ap (λ z. guards (standing_of d z)) o.3 ∙ not_watching o.0 (standing_of c (holder k o.0)) (standing_of d (i.watcher_of o.0))
+          (related.watchers o.0 o.1 o.2)
+
+      by_place : (t ≡ 0) ⊎ (IsThere core t ⊎ (suc (length core.regions) ≤ t)) → guards (standing_of d t) ≡ false
+      by_place (inl e) = ap (λ z. guards (standing_of d z)) e ∙ ap guards related.no_core
+      by_place (inr (inl there)) = by_sort (rows.each t there)
+      by_place (inr (inr past)) =
+          let far : length d.regions ≤ t = omega (past, related.core_regions, arith) in
+          ap (λ o. guards (unwrap_or o at.Outside)) (slice_get_past d.regions t far)
+
+  pub never_guarded : (zs : List ℕ) → is_guarded core d zs ≡ false
+  never_guarded [] = refl
+  never_guarded (s ∷ zs) = rw (no_guards (holder core s), never_guarded zs) refl
+
+-- ---- whose turn it is, by whom nobody guards
+
+pub both_ways : (b : Bool) → b ≡ true → b ≡ false → ⊥
+both_ways true e f = absurd cc
+both_ways false e f = absurd cc
+
+pub none_among : (p : ℕ → Bool) (xs : List ℕ) (y : ℕ) → list_any p xs ≡ false → Contains xs y → p y ≡ false
+none_among p [] y e h = absurd (none_in y h)
+none_among p (x ∷ xs) y e h =
+    let both = neither_one (p x) (list_any p xs) e in ⊎_elim (λ same. ap p (sym same) ∙ both.0) (λ tail. none_among p xs y both.1 tail) (head_or_tail x y xs h)
+  where
+    neither_one : (b c : Bool) → (b || c) ≡ false → (b ≡ false) × (c ≡ false)
+    neither_one true c e = absurd cc
+    neither_one false c e = (refl, e)
+
+none_are : (p : ℕ → Bool) (xs : List ℕ) → ((x : ℕ) → Contains xs x → p x ≡ true → ⊥) → list_any p xs ≡ false
+none_are p [] each = refl
+none_are p (x ∷ xs) each = rw (never (p x) (each x (head_in x xs)), none_are p xs (λ y tail. each y (tail_in x y xs tail))) refl
+  where
+    never : (b : Bool) → (b ≡ true → ⊥) → b ≡ false
+    never true no_way = absurd (no_way refl)
+    never false no_way = refl
+
+pub guards_no_calm : (x : Standing) → IsCalm x → (o : ℕ) (tests : List Transition) → x ≢ at.Guarding o tests
+guards_no_calm _ calm_outside o tests e = absurd cc
+guards_no_calm _ calm_ended o tests e = absurd cc
+guards_no_calm _ (calm_trying s others) o tests e = absurd cc
+guards_no_calm _ (calm_within s others) o tests e = absurd cc
+
+-- who is not calm is guarded by nobody
+pub not_calm_free : (k core : Table) (i : Images) (c d : Configuration) → Related k core i c d → (r : ℕ) → IsThere k r → (IsCalm (standing_of c r) → ⊥) →
+    is_guarded k c (around k r) ≡ false
+not_calm_free k core i c d related r there not_calm = none_are (λ s. guards (standing_of c (holder k s))) (around k r)
+    (λ s h e. not_calm (related.calm r s there h e))

@@ -1,0 +1,11 @@
+pub mod Flat
+pub mod Ticks
+pub mod Preemption
+pub mod Stages
+pub mod Trees
+pub mod Expanded
+pub mod CoreRows
+pub mod Related
+pub mod Segments
+pub mod StageReached
+pub mod Laws
