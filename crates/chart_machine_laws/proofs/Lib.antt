@@ -1,0 +1,5 @@
+pub mod LyingIn
+pub mod RowsOfPieces
+pub mod TableTrees
+pub mod Children
+pub mod ChartTables
