@@ -3,3 +3,6 @@ pub mod RowsOfPieces
 pub mod TableTrees
 pub mod Children
 pub mod ChartTables
+pub mod SoundRows
+pub mod SoundValues
+pub mod NeverStuck
