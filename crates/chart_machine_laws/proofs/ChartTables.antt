@@ -194,7 +194,8 @@ table_rooted f variables levels regions rules =
     let k : Table = table_of variables regions in
     let pieces : List Piece = map piece_of_region regions in
     let grow : Each k (Grows k) pieces = regions_grow k f variables levels regions rules in
-    each_rooted k (side_climbs k pieces whole (all_sized k pieces grow) (all_climb k pieces grow) (holds_whole variables regions) (λ s ss e. absurd (cc)) (λ s h. absurd (none_in s h)))
+    each_rooted k (side_climbs k pieces whole (all_sized k pieces grow) (all_climb k pieces grow) (holds_whole variables regions) (λ q here s ss e. absurd (cc))
+    (λ s h. absurd (none_in s h)))
 
 -- who holds a superstate around a region has a smaller number than the region
 pub chart_is_deeper : (f : Features) (c : Chart) → IsChart f c → (q s : ℕ) → Contains (around (table c) q) s → holder (table c) s < q
@@ -240,7 +241,8 @@ chart_children f c rules s r h = table_children f c.variables depth_limit c.regi
 
 pub chart_is_tree : (f : Features) (c : Chart) → IsChart f c → IsTree (table c)
 chart_is_tree f c rules = record {
-  upward = λ q. (table_rooted f c.variables depth_limit c.regions rules.regions q).0;
+  upward = λ q s ss e. ((table_rooted f c.variables depth_limit c.regions rules.regions q).0 s ss e).0;
+  innermost = λ q s ss e. ((table_rooted f c.variables depth_limit c.regions rules.regions q).0 s ss e).1;
   children = chart_children f c rules;
   deeper = chart_is_deeper f c rules;
 }

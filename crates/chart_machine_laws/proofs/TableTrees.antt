@@ -7,9 +7,9 @@ use Rattle.chart_machine.specs.declared.table.Table.{Table}
 use Rattle.chart_machine.specs.declared.table.TablePosition.{TablePosition}
 use Rattle.chart_machine.specs.declared.table.SubtreeRows.{SubtreeRows}
 use Rattle.chart_machine.specs.declared.table.StatesRows.{StatesRows}
-use Rattle.chart_machine.specs.Table.{Piece, behind, side_by_side, within, state_piece, with_region, past_states, rows_of_state_at, next_behind, followed_by, in_region, regions_in_initial, inside_region, region_piece}
+use Rattle.chart_machine.specs.Table.{region_numbers, Piece, behind, side_by_side, within, state_piece, with_region, past_states, rows_of_state_at, next_behind, followed_by, in_region, regions_in_initial, inside_region, region_piece, state_at}
 use Rattle.scl_graph_laws.proofs.Segments.{EachAt, each_from, each_append}
-use Rattle.chart_machine_laws.proofs.LyingIn.{around, holder, head_or_tail}
+use Rattle.chart_machine_laws.proofs.LyingIn.{around, holder, head_or_tail, head_in, tail_in}
 use Rattle.chart_machine_laws.proofs.RowsOfPieces.{StatesAt, RegionsAt, Holds, states_from, states_first, states_second, regions_from, regions_first, regions_second, IsSized, AllSized, inner_first}
 
 -- at most one of these is initial
@@ -34,10 +34,15 @@ none_first (p ∷ states) next at none =
 
 module _ (k : Table) where
   abbrev pub Upward : ℕ → Type 0
-  Upward q = (s : ℕ) (ss : List ℕ) → around k q ≡ s ∷ ss → ss ≡ around k (holder k s)
+  Upward q = (s : ℕ) (ss : List ℕ) → around k q ≡ s ∷ ss → (ss ≡ around k (holder k s)) × Contains (state_at k s).regions q
 
-  abbrev pub Enclosed : List ℕ → Type 0
-  Enclosed zs = (s : ℕ) (ss : List ℕ) → zs ≡ s ∷ ss → ss ≡ around k (holder k s)
+  -- these are around region q
+  abbrev pub Enclosed : List ℕ → ℕ → Type 0
+  Enclosed zs q = (s : ℕ) (ss : List ℕ) → zs ≡ s ∷ ss → (ss ≡ around k (holder k s)) × Contains (state_at k s).regions q
+
+  -- and around each of these
+  abbrev pub AllEnclosed : List ℕ → List ℕ → Type 0
+  AllEnclosed zs qs = (q : ℕ) → Contains qs q → Enclosed zs q
 
   -- who holds one of these has a smaller number
   abbrev pub Below : List ℕ → ℕ → Type 0
@@ -53,7 +58,7 @@ module _ (k : Table) where
   below_more zs m n le below s h = let lt = below s h in omega (lt, le, arith)
 
   abbrev pub RegionClimbs : Piece → Type 0
-  RegionClimbs p = (at : TablePosition) → Holds k at (p.parts at) → Enclosed at.around → Below at.around at.region → EachUpward at.region (p.parts at).regions
+  RegionClimbs p = (at : TablePosition) → Holds k at (p.parts at) → Enclosed at.around at.region → Below at.around at.region → EachUpward at.region (p.parts at).regions
 
   abbrev pub StateClimbs : Piece → Type 0
   StateClimbs p = (at : TablePosition) → Holds k at (p.parts at) → around k at.holder ≡ at.around → at.holder < at.region → Below at.around at.region → EachUpward at.region (p.parts at).regions
@@ -62,14 +67,16 @@ module _ (k : Table) where
   Each P [] = Unit {0}
   Each P (p ∷ pieces) = P p × Each P pieces
 
-  pub side_climbs : (regions : List Piece) (at : TablePosition) → AllSized regions → Each RegionClimbs regions → Holds k at (side_by_side regions at) → Enclosed at.around → Below at.around at.region →
+  pub side_climbs : (regions : List Piece) (at : TablePosition) → AllSized regions → Each RegionClimbs regions → Holds k at (side_by_side regions at) →
+      AllEnclosed at.around (region_numbers regions at.region) → Below at.around at.region →
       EachUpward at.region (side_by_side regions at).regions
   side_climbs [] at sized climbs holds enclosed below = tt
   side_climbs (p ∷ regions) at sized climbs holds enclosed below =
       let rest : SubtreeRows = side_by_side regions (behind p at) in
       each_append (λ q row. Rooted q) at.region (p.parts at).regions rest.regions
       (climbs.0 at
-      (record { states = states_first k at.state (p.parts at).states rest.states holds.states; regions = regions_first k at.region (p.parts at).regions rest.regions holds.regions }) enclosed below)
+      (record { states = states_first k at.state (p.parts at).states rest.states holds.states; regions = regions_first k at.region (p.parts at).regions rest.regions holds.regions })
+      (enclosed at.region (head_in at.region (region_numbers regions (at.region + p.regions)))) below)
       (each_from (λ q row. Rooted q) (at.region + p.regions) (at.region + length (p.parts at).regions) rest.regions (omega (arith, sized.0.regions at))
       (side_climbs regions (behind p at) sized.1 climbs.1
       (record {
@@ -79,20 +86,21 @@ module _ (k : Table) where
         regions =
             regions_from k (at.region + length (p.parts at).regions) (at.region + p.regions) rest.regions (omega (arith, sized.0.regions at))
             (regions_second k at.region (p.parts at).regions rest.regions holds.regions);
-      }) enclosed (below_more at.around at.region (at.region + p.regions) (omega arith) below)))
+      }) (λ q h. enclosed q (tail_in at.region q (region_numbers regions (at.region + p.regions)) h))
+      (below_more at.around at.region (at.region + p.regions) (omega arith) below)))
 
   -- a superstate's own regions have it around them, and what is around the region that holds it
-  encloses : (s h : ℕ) (ss : List ℕ) → holder k s ≡ h → around k h ≡ ss → Enclosed (s ∷ ss)
-  encloses s h ss held round u us e =
+  encloses : (s h q : ℕ) (ss : List ℕ) → holder k s ≡ h → around k h ≡ ss → Contains (state_at k s).regions q → Enclosed (s ∷ ss) q
+  encloses s h q ss held round own u us e =
       let same : s ≡ u = cc in
       let rest : ss ≡ us = cc in
-      sym rest ∙ (sym round ∙ ap (around k) (sym held ∙ ap (holder k) same))
+      (sym rest ∙ (sym round ∙ ap (around k) (sym held ∙ ap (holder k) same)), subst (λ z. Contains (state_at k z).regions q) same own)
 
   pub state_climbs : (s : State-F Piece Piece) → AllSized s.regions → Each RegionClimbs s.regions → StateClimbs (state_piece s)
   state_climbs s sized climbs at holds round held below =
       let own : holder k at.state ≡ at.holder = ap (λ z. z.holder) holds.states.0 in
       side_climbs s.regions (within at) sized climbs (record { states = holds.states.1; regions = holds.regions })
-      (encloses at.state at.holder at.around own round)
+      (λ q h. encloses at.state at.holder q at.around own round (subst (λ zs. Contains zs q) (sym (ap (λ z. z.regions) holds.states.0)) h))
       (λ u h. ⊎_elim (λ same. let is : holder k u ≡ at.holder = ap (holder k) (sym same) ∙ own in omega (is, held, arith)) (λ tail. below u tail) (head_or_tail at.state u at.around h))
 
   record BothClimb (at : TablePosition) (next : ℕ) (inner : StatesRows) : Type 0 where

@@ -17,7 +17,9 @@ holder k s = (state_at k s).holder
 pub record IsTree (k : Table) : Type 0 where
   -- around a region stands its innermost superstate, and behind that what is around the region that holds it
   pub upward : (r s : ℕ) (ss : List ℕ) → around k r ≡ s ∷ ss → ss ≡ around k (holder k s)
-  -- of a superstate's own regions it is the innermost one
+  -- that superstate has the region among its own
+  pub innermost : (r s : ℕ) (ss : List ℕ) → around k r ≡ s ∷ ss → Contains (state_at k s).regions r
+  -- and of a superstate's own regions it is the innermost one
   pub children : (s r : ℕ) → Contains (state_at k s).regions r → around k r ≡ s ∷ around k (holder k s)
   -- who holds a superstate around a region has a smaller number
   pub deeper : (r s : ℕ) → Contains (around k r) s → holder k s < r
