@@ -1,5 +1,6 @@
 -- The table of a chart that keeps its rules is a tree.
-use Rattle.std.proofs.Common.{◌≡◌, ℕ, zero, suc, ◌+◌, ◌<◌, ◌≤◌, ◌⊎◌, ⊎_elim, inl, inr, Bool, true, false, cond, Option, Some, List, [], ◌∷◌, map, length, count_by, slice_get, unwrap_or, Contains, refl, sym, ap, subst, ◌∙◌, arith}
+use Rattle.std.proofs.Common.{◌≡◌, ℕ, zero, suc, ◌+◌, ◌<◌, ◌≤◌, ◌⊎◌, ⊎_elim, inl, inr, Bool, true, false, cond, Option, Some, List, [], ◌∷◌, map}
+use Rattle.std.proofs.Common.{length, count_by, slice_get, unwrap_or, Contains, refl, sym, ap, subst, ◌∙◌, arith}
 use Rattle.std.proofs.lemmas.List.Recursion.{is_count_by}
 use Rattle.std.proofs.lemmas.Option.{slice_get_past}
 use Rattle.sc_graph.specs.declared.program.Variable.{Variable}
@@ -18,7 +19,8 @@ use Rattle.scl_graph_laws.proofs.Segments.{StandAt, stand_all, each_at}
 use Rattle.chart_machine_laws.proofs.LyingIn.{IsTree, around, holder, none_in}
 use Rattle.chart_machine_laws.proofs.RowsOfPieces.{StatesAt, RegionsAt, Holds, IsSized, AllSized, state_sized, region_sized}
 use Rattle.chart_machine_laws.proofs.Children.{Kept, EachKept, RegionKeeps, StateKeeps, side_kept, state_keeps, region_keeps}
-use Rattle.chart_machine_laws.proofs.TableTrees.{NoneInitial, OnceInitial, Rooted, EachUpward, RegionClimbs, StateClimbs, Each, side_climbs, state_climbs, region_climbs}
+use Rattle.chart_machine_laws.proofs.TableTrees.{NoneInitial, OnceInitial, Rooted, EachUpward, RegionClimbs, StateClimbs, Each, side_climbs}
+use Rattle.chart_machine_laws.proofs.TableTrees.{state_climbs, region_climbs}
 
 -- ---- one initial state
 
@@ -116,11 +118,13 @@ module _ (k : Table) where
         }) (all_sized (map piece_of_region (out-State s).regions) each) (all_keep (map piece_of_region (out-State s).regions) each);
       })
 
-  region_grows : (r : Region) → count_by is_first (out-Region r).states ≡ 1 → Each k (GrowsInside k) (map piece_of_state (out-Region r).states) → Grows k (piece_of_region r)
+  region_grows : (r : Region) → count_by is_first (out-Region r).states ≡ 1 → Each k (GrowsInside k) (map piece_of_state (out-Region r).states) →
+      Grows k (piece_of_region r)
   region_grows r one each =
       subst (Grows k) (sym (fold_out-Region Piece Piece region_piece state_piece r))
       (record {
-        sized = region_sized (record { name = (out-Region r).name; states = map piece_of_state (out-Region r).states }) (all_sized_inside (map piece_of_state (out-Region r).states) each);
+        sized = region_sized (record { name = (out-Region r).name; states = map piece_of_state (out-Region r).states }) (all_sized_inside (map
+            piece_of_state (out-Region r).states) each);
         climbs =
             region_climbs k (record { name = (out-Region r).name; states = map piece_of_state (out-Region r).states })
             (once_initial (out-Region r).states (omega (count_is (out-Region r).states, one, arith)))
@@ -135,7 +139,8 @@ module _ (k : Table) where
   each_of f P [] h = tt
   each_of f P (x ∷ xs) h = (h 0 x refl, each_of f P xs (λ i y at. h (suc i) y at))
 
-  pub regions_grow : (f : Features) (variables : List Variable) (levels : ℕ) (regions : List Region) → AreRegions f variables levels regions → Each k (Grows k) (map piece_of_region regions)
+  pub regions_grow : (f : Features) (variables : List Variable) (levels : ℕ) (regions : List Region) → AreRegions f variables levels regions →
+      Each k (Grows k) (map piece_of_region regions)
   regions_grow f variables zero regions rules = subst (λ rs. Each k (Grows k) (map piece_of_region rs)) (sym rules) tt
   regions_grow f variables (suc levels) regions rules =
       each_of piece_of_region (Grows k) regions
@@ -173,7 +178,8 @@ there (x ∷ xs) zero lt = (x, refl)
 there (x ∷ xs) (suc i) lt = there xs i (omega (lt, arith))
 
 pub nothing_around : (k : Table) (i : ℕ) → length k.regions ≤ i → around k (suc i) ≡ []
-nothing_around k i past = ap (λ (o : Option RegionRow). (unwrap_or {T = RegionRow} o (record { around = []; states = [] })).around) (slice_get_past k.regions i past)
+nothing_around k i past = ap (λ (o : Option RegionRow). (unwrap_or {T = RegionRow} o (record { around = []; states = [] })).around) (slice_get_past
+    k.regions i past)
 
 one_more : (i : ℕ) → 1 + i ≡ suc i
 one_more i = omega arith
@@ -189,7 +195,8 @@ each_rooted k each (suc i) = by_place (within_or_past i (length k.regions))
       λ s h. absurd (none_in s (subst (λ zs. Contains zs s) (nothing_around k i past) h)),
     )
 
-table_rooted : (f : Features) (variables : List Variable) (levels : ℕ) (regions : List Region) → AreRegions f variables levels regions → (q : ℕ) → Rooted (table_of variables regions) q
+table_rooted : (f : Features) (variables : List Variable) (levels : ℕ) (regions : List Region) → AreRegions f variables levels regions → (q : ℕ) →
+    Rooted (table_of variables regions) q
 table_rooted f variables levels regions rules =
     let k : Table = table_of variables regions in
     let pieces : List Piece = map piece_of_region regions in
@@ -210,7 +217,8 @@ there_state (x ∷ xs) (suc i) lt = there_state xs i (omega (lt, arith))
 
 pub no_regions_past : (k : Table) (s : ℕ) → length k.states ≤ s → (state_at k s).regions ≡ []
 no_regions_past k s past =
-    ap (λ (o : Option StateRow). (unwrap_or {T = StateRow} o (record { holder = 0; regions = []; transitions = []; entered = []; opened = [] })).regions) (slice_get_past k.states s past)
+    ap (λ (o : Option StateRow). (unwrap_or {T = StateRow} o (record { holder = 0; regions = []; transitions = []; entered = []; opened = [] })).regions)
+    (slice_get_past k.states s past)
 
 from_none : (s : ℕ) → 0 + s ≡ s
 from_none s = omega arith
@@ -219,14 +227,16 @@ each_kept : (k : Table) → EachKept k 0 k.states → (s : ℕ) → s < length k
 each_kept k each s lt = let x = there_state k.states s lt in (x.0, subst (λ z. Kept k z x.0) (from_none s) (each_at (Kept k) 0 k.states s x.0 each x.1))
 
 pub table_children : (f : Features) (variables : List Variable) (levels : ℕ) (regions : List Region) → AreRegions f variables levels regions →
-    (s r : ℕ) → Contains (state_at (table_of variables regions) s).regions r → around (table_of variables regions) r ≡ s ∷ around (table_of variables regions) (holder (table_of variables regions) s)
+    (s r : ℕ) → Contains (state_at (table_of variables regions) s).regions r →
+    around (table_of variables regions) r ≡ s ∷ around (table_of variables regions) (holder (table_of variables regions) s)
 table_children f variables levels regions rules s r h = by_place (within_or_past s (length (table_of variables regions).states))
   where
     grow : Each (table_of variables regions) (Grows (table_of variables regions)) (map piece_of_region regions)
     grow = regions_grow (table_of variables regions) f variables levels regions rules
 
     kept : EachKept (table_of variables regions) 0 (table_of variables regions).states
-    kept = side_kept (table_of variables regions) (map piece_of_region regions) whole (all_sized (table_of variables regions) (map piece_of_region regions) grow)
+    kept = side_kept (table_of variables regions) (map piece_of_region regions) whole (all_sized (table_of variables regions) (map piece_of_region regions)
+        grow)
         (all_keep (table_of variables regions) (map piece_of_region regions) grow) (holds_whole variables regions)
 
     by_place : (s < length (table_of variables regions).states) ⊎ (length (table_of variables regions).states ≤ s) →
@@ -236,7 +246,8 @@ table_children f variables levels regions rules s r h = by_place (within_or_past
         x.1.child r (subst (λ z. Contains z.regions r) x.1.row_is h) ∙ ap (λ z. s ∷ around (table_of variables regions) z.holder) (sym x.1.row_is)
     by_place (inr past) = absurd (none_in r (subst (λ zs. Contains zs r) (no_regions_past (table_of variables regions) s past) h))
 
-pub chart_children : (f : Features) (c : Chart) → IsChart f c → (s r : ℕ) → Contains (state_at (table c) s).regions r → around (table c) r ≡ s ∷ around (table c) (holder (table c) s)
+pub chart_children : (f : Features) (c : Chart) → IsChart f c → (s r : ℕ) → Contains (state_at (table c) s).regions r →
+    around (table c) r ≡ s ∷ around (table c) (holder (table c) s)
 chart_children f c rules s r h = table_children f c.variables depth_limit c.regions rules.regions s r h
 
 pub chart_is_tree : (f : Features) (c : Chart) → IsChart f c → IsTree (table c)
@@ -251,4 +262,5 @@ chart_is_tree f c rules = record {
 pub around_there : (k : Table) (t s : ℕ) → Contains (around k t) s → (0 < t) × (t < suc (length k.regions))
 around_there k zero s h = absurd (none_in s h)
 around_there k (suc j) s h =
-    ⊎_elim (λ lt. (omega arith, omega (lt, arith))) (λ past. absurd (none_in s (subst (λ zs. Contains zs s) (nothing_around k j past) h))) (within_or_past j (length k.regions))
+    ⊎_elim (λ lt. (omega arith, omega (lt, arith))) (λ past. absurd (none_in s (subst (λ zs. Contains zs s) (nothing_around k j past) h))) (within_or_past
+    j (length k.regions))

@@ -1,5 +1,6 @@
 -- Wherever a chart comes, each enabled region has a step.
-use Rattle.std.proofs.Common.{◌≡◌, ℕ, zero, suc, Bool, true, false, not, ◌&&◌, Option, Some, None, List, [], ◌∷◌, map, slice_get, slice_set, unwrap_or, option_map, option_and_then, if◌then◌else◌, refl, sym, ap, subst, ◌∙◌}
+use Rattle.std.proofs.Common.{◌≡◌, ℕ, zero, suc, Bool, true, false, not, ◌&&◌, Option, Some, None, List, [], ◌∷◌, map, slice_get, slice_set}
+use Rattle.std.proofs.Common.{unwrap_or, option_map, option_and_then, if◌then◌else◌, refl, sym, ap, subst, ◌∙◌}
 use Rattle.std.specs.List.{list_all}
 use Rattle.sc_values.specs.declared.expression.Expr.{Expr}
 use Rattle.sc_values.specs.declared.value.Kind.{Kind}
@@ -28,10 +29,12 @@ use Rattle.chart_machine.specs.declared.table.RegionRow.{RegionRow}
 use Rattle.chart_machine.specs.declared.table.Table.{Table}
 use Rattle.chart_machine.specs.Table.{table, state_at, region_at}
 use Rattle.chart_machine.specs.Turns.{standing_of, has_work, is_guarded, inside, inside_is_done, is_enabled}
-use Rattle.chart_machine.specs.Steps.{to, moved, written, after, truth, verdict, state_in, dropped, acts, taken, tested, entering_on, guarding_on, effected, deed_of, step}
+use Rattle.chart_machine.specs.Steps.{to, moved, written, after, truth, verdict, state_in, dropped, acts, taken, tested, entering_on, guarding_on}
+use Rattle.chart_machine.specs.Steps.{effected, deed_of, step}
 use Rattle.chart_machine.specs.Machine.{guarded_first, woken, is_outside, regions_at_start, start}
 use Rattle.chart_machine_laws.specs.Progress.{KeepKinds, IsReached, first, begun, stepped, ChartsNeverStick}
-use Rattle.chart_machine_laws.proofs.SoundRows.{SoundTest, SoundStanding, SoundMove, SoundRow, strong_sound, closing_sound, first_closing_sound, rows_sound, row_sound}
+use Rattle.chart_machine_laws.proofs.SoundRows.{SoundTest, SoundStanding, SoundMove, SoundRow, strong_sound, closing_sound, first_closing_sound}
+use Rattle.chart_machine_laws.proofs.SoundRows.{rows_sound, row_sound}
 use Rattle.chart_machine_laws.proofs.SoundValues.{Kinded, are_of_kinds, kept_kinds, initial_kinds, started_kinds}
 
 each_set : {X : Type 0} (P : X → Type 0) (xs : List X) (i : ℕ) (x : X) → Each P xs → P x → Each P (slice_set xs i x)
@@ -78,9 +81,11 @@ module _ (k : Table) (rows : SoundTable k) where
   row : (s : ℕ) → SoundRow k.variables (state_at k s)
   row s = row_sound k rows.rows s
 
-  moved_sound : (moves : List Move) (regions : List Standing) → Moves moves → Each (SoundStanding k.variables) regions → Each (SoundStanding k.variables) (moved moves regions)
+  moved_sound : (moves : List Move) (regions : List Standing) → Moves moves → Each (SoundStanding k.variables) regions →
+      Each (SoundStanding k.variables) (moved moves regions)
   moved_sound [] regions h g = g
-  moved_sound (m ∷ moves) regions h g = moved_sound moves (slice_set regions m.region m.standing) h.1 (each_set (SoundStanding k.variables) regions m.region m.standing g h.0)
+  moved_sound (m ∷ moves) regions h g = moved_sound moves (slice_set regions m.region m.standing) h.1 (each_set (SoundStanding k.variables) regions
+      m.region m.standing g h.0)
 
   -- ---- what a step does
 
@@ -103,7 +108,8 @@ module _ (k : Table) (rows : SoundTable k) where
   acts_sound r s (e ∷ effects) target h = ((h, λ none. absurd cc), tt)
 
   taken_sound : (r s : ℕ) (t : Transition) → SoundTest k.variables t → Moves (taken k r s t)
-  taken_sound r s t h = each_append (SoundMove k.variables) (dropped k s) (acts k r s t.effects t.target) (all_outside (inside k s)) (acts_sound r s t.effects t.target h.effects)
+  taken_sound r s t h = each_append (SoundMove k.variables) (dropped k s) (acts k r s t.effects t.target) (all_outside (inside k s)) (acts_sound r s
+      t.effects t.target h.effects)
 
   entering_sound : (r s : ℕ) (tests : List Transition) → Tests tests → Moves (entering_on k r s tests)
   entering_sound r s [] h = (first_closing_sound k.variables (state_at k s).transitions (row s).transitions, (row s).opened)
@@ -144,7 +150,8 @@ module _ (k : Table) (rows : SoundTable k) where
         (are_of_kinds k.variables c.variables sound.values) h.value.kinded in
         let d : Deed = record { write = Some (record { variable = e.variable; value = g.value }); moves = acts k r s effects target } in
         let fits : takes_kind (option_map (λ (x : Variable). x.kind) (slice_get k.variables e.variable)) (kind_of g.value) ≡ true =
-        ap (λ o. takes_kind (option_map (λ (x : Variable). x.kind) o) (kind_of g.value)) h.is_target ∙ (ap (is_kind h.target.kind) g.kind ∙ same_kind h.target.kind) in
+        ap (λ o. takes_kind (option_map (λ (x : Variable). x.kind) o) (kind_of g.value)) h.is_target ∙ (ap (is_kind h.target.kind) g.kind ∙ same_kind
+        h.target.kind) in
         record {
           deed = d;
           is = ap (option_and_then (effected k r s e effects target)) g.is ∙ ap (λ b. only_if b (Some d)) fits;
@@ -242,6 +249,7 @@ module _ (k : Table) (rows : SoundTable k) where
 
 pub never_stuck : ChartsNeverStick
 never_stuck f h rules c reached r enabled =
-    let both : Each (SoundRow h.variables) (table h).states × Each (SoundMove h.variables) (table h).opened = rows_sound h.variables f depth_limit h.regions rules.regions in
+    let both : Each (SoundRow h.variables) (table h).states × Each (SoundMove h.variables) (table h).opened = rows_sound h.variables f depth_limit
+    h.regions rules.regions in
     let rows : SoundTable (table h) = record { rows = both.0; opened = both.1 } in
     has_step (table h) rows c (reached_sound (table h) rows c reached) r enabled

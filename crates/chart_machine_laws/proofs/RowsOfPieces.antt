@@ -8,7 +8,9 @@ use Rattle.chart_machine.specs.declared.table.Table.{Table}
 use Rattle.chart_machine.specs.declared.table.TablePosition.{TablePosition}
 use Rattle.chart_machine.specs.declared.table.SubtreeRows.{SubtreeRows}
 use Rattle.chart_machine.specs.declared.table.StatesRows.{StatesRows}
-use Rattle.chart_machine.specs.Table.{Piece, states_in, regions_in, behind, side_by_side, within, state_piece, with_region, past_states, rows_of_state_at, alone, next_behind, in_region, regions_in_initial, inside_region, region_piece, state_at, region_at}
+use Rattle.chart_machine.specs.Table.{Piece, states_in, regions_in, behind, side_by_side, within, state_piece, with_region, past_states}
+use Rattle.chart_machine.specs.Table.{rows_of_state_at, alone, next_behind, in_region, regions_in_initial, inside_region, region_piece, state_at}
+use Rattle.chart_machine.specs.Table.{region_at}
 
 -- these rows stand in the table from this number on
 abbrev pub StatesAt : Table → ℕ → List StateRow → Type 0
@@ -65,7 +67,13 @@ side_states (p ∷ regions) at sized =
 pub side_regions : (regions : List Piece) (at : TablePosition) → AllSized regions → length (side_by_side regions at).regions ≡ regions_in regions
 side_regions [] at sized = refl
 side_regions (p ∷ regions) at sized =
-    omega (arith, length-append (p.parts at).regions (side_by_side regions (behind p at)).regions, sized.0.regions at, side_regions regions (behind p at) sized.1)
+    omega (
+      arith,
+      length-append (p.parts at).regions (side_by_side regions (behind p at)).regions,
+      sized.0.regions at,
+      side_regions regions (behind p at)
+          sized.1,
+    )
 
 pub state_sized : (s : State-F Piece Piece) → AllSized s.regions → IsSized (state_piece s)
 state_sized s sized = record {
@@ -82,7 +90,8 @@ alone_first : (b : Bool) (p : Piece) (next : ℕ) (at : TablePosition) → IsSiz
 alone_first true p next at sized = sized.regions at
 alone_first false p next at sized = refl
 
-alone_others : (b : Bool) (p : Piece) (next : ℕ) (at : TablePosition) → IsSized p → cond b p.regions 0 + length (rows_of_state_at b p.parts next at).others ≡ p.regions
+alone_others : (b : Bool) (p : Piece) (next : ℕ) (at : TablePosition) → IsSized p →
+    cond b p.regions 0 + length (rows_of_state_at b p.parts next at).others ≡ p.regions
 alone_others true p next at sized = omega arith
 alone_others false p next at sized = omega (arith, sized.regions (with_region next at))
 
@@ -90,19 +99,38 @@ pub inner_states : (states : List Piece) (next : ℕ) (at : TablePosition) → A
 inner_states [] next at sized = refl
 inner_states (p ∷ states) next at sized =
     let rest : StatesRows = in_region states (next_behind p next) (past_states p.states at) in
-    omega (arith, length-append (alone p next at).states rest.states, alone_states p.is_initial p next at sized.0, inner_states states (next_behind p next) (past_states p.states at) sized.1)
+    omega (
+      arith,
+      length-append (alone p next at).states rest.states,
+      alone_states p.is_initial p next at sized.0,
+      inner_states states (next_behind p next)
+          (past_states p.states at) sized.1,
+    )
 
 pub inner_first : (states : List Piece) (next : ℕ) (at : TablePosition) → AllSized states → length (in_region states next at).first ≡ regions_in_initial states
 inner_first [] next at sized = refl
 inner_first (p ∷ states) next at sized =
     let rest : StatesRows = in_region states (next_behind p next) (past_states p.states at) in
-    omega (arith, length-append (alone p next at).first rest.first, alone_first p.is_initial p next at sized.0, inner_first states (next_behind p next) (past_states p.states at) sized.1)
+    omega (
+      arith,
+      length-append (alone p next at).first rest.first,
+      alone_first p.is_initial p next at sized.0,
+      inner_first states (next_behind p next)
+          (past_states p.states at) sized.1,
+    )
 
-pub inner_others : (states : List Piece) (next : ℕ) (at : TablePosition) → AllSized states → regions_in_initial states + length (in_region states next at).others ≡ regions_in states
+pub inner_others : (states : List Piece) (next : ℕ) (at : TablePosition) → AllSized states →
+    regions_in_initial states + length (in_region states next at).others ≡ regions_in states
 inner_others [] next at sized = refl
 inner_others (p ∷ states) next at sized =
     let rest : StatesRows = in_region states (next_behind p next) (past_states p.states at) in
-    omega (arith, length-append (alone p next at).others rest.others, alone_others p.is_initial p next at sized.0, inner_others states (next_behind p next) (past_states p.states at) sized.1)
+    omega (
+      arith,
+      length-append (alone p next at).others rest.others,
+      alone_others p.is_initial p next at sized.0,
+      inner_others states (next_behind p next)
+          (past_states p.states at) sized.1,
+    )
 
 pub region_sized : (r : Region-F Piece Piece) → AllSized r.states → IsSized (region_piece r)
 region_sized r sized = record {

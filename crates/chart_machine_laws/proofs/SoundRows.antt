@@ -22,7 +22,9 @@ use Rattle.chart_machine.specs.declared.table.SubtreeRows.{SubtreeRows}
 use Rattle.chart_machine.specs.declared.table.StatesRows.{StatesRows}
 use Rattle.chart_machine.specs.declared.table.Table.{Table}
 use Rattle.chart_machine.specs.declared.table.TablePosition.{TablePosition}
-use Rattle.chart_machine.specs.Table.{Piece, side_by_side, behind, within, come_to, entered_state, is_superstate, state_piece, rows_of_state_at, with_region, past_states, next_behind, in_region, regions_in_initial, inside_region, region_piece, piece_of_region, piece_of_state, whole, table_of, state_at}
+use Rattle.chart_machine.specs.Table.{Piece, side_by_side, behind, within, come_to, entered_state, is_superstate, state_piece, rows_of_state_at}
+use Rattle.chart_machine.specs.Table.{with_region, past_states, next_behind, in_region, regions_in_initial, inside_region, region_piece}
+use Rattle.chart_machine.specs.Table.{piece_of_region, piece_of_state, whole, table_of, state_at}
 
 pub each_filter : {X : Type 0} (P : X → Type 0) (p : X → Bool) (xs : List X) → Each P xs → Each P (filter p xs)
 each_filter P p [] h = tt
@@ -73,7 +75,8 @@ module _ (variables : List Variable) where
 
   pub closing_sound : (ts : List Transition) → Each SoundTest ts → Each SoundTest (closing_tests ts)
   closing_sound ts h =
-      each_append SoundTest (weak_aborts ts) (terminations ts) (each_filter SoundTest (λ t. is_weak t.kind) ts h) (each_filter SoundTest (λ t. is_join t.kind) ts h)
+      each_append SoundTest (weak_aborts ts) (terminations ts) (each_filter SoundTest (λ t. is_weak t.kind) ts h) (each_filter SoundTest (λ t. is_join
+      t.kind) ts h)
 
   pub first_closing_sound : (ts : List Transition) → Each SoundTest ts → Each SoundTest (first_closing_tests ts)
   first_closing_sound ts h =
@@ -141,7 +144,8 @@ module _ (variables : List Variable) where
   test_of : (f : Features) (states : ℕ) (super : Bool) (t : Transition) → IsTransition f variables states super t → SoundTest t
   test_of f states super t rules = record { trigger = rules.trigger; effects = each_of (IsEffect variables) t.effects rules.effects }
 
-  state_of : (f : Features) (levels count : ℕ) → ((regions : List Region) → AreRegions f variables levels regions → Each (λ r. SoundPiece (piece_of_region r)) regions) →
+  state_of : (f : Features) (levels count : ℕ) → ((regions : List Region) → AreRegions f variables levels regions →
+      Each (λ r. SoundPiece (piece_of_region r)) regions) →
       (s : State) → IsState f variables (AreRegions f variables levels) count s → SoundPiece (piece_of_state s)
   state_of f levels count inner s rules =
       subst SoundPiece (sym (fold_out-State Piece Piece region_piece state_piece s))
@@ -154,7 +158,8 @@ module _ (variables : List Variable) where
       }) (each_of SoundTest (out-State s).transitions (λ i t is. test_of f count _ t (rules.transitions i t is)))
       (each_map SoundPiece piece_of_region (out-State s).regions (inner (out-State s).regions rules.regions)))
 
-  region_of : (f : Features) (levels : ℕ) → ((regions : List Region) → AreRegions f variables levels regions → Each (λ r. SoundPiece (piece_of_region r)) regions) →
+  region_of : (f : Features) (levels : ℕ) → ((regions : List Region) → AreRegions f variables levels regions →
+      Each (λ r. SoundPiece (piece_of_region r)) regions) →
       (r : Region) → IsRegion f variables (AreRegions f variables levels) r → SoundPiece (piece_of_region r)
   region_of f levels inner r rules =
       subst SoundPiece (sym (fold_out-Region Piece Piece region_piece state_piece r))
@@ -169,7 +174,8 @@ module _ (variables : List Variable) where
 
   pub rows_sound : (f : Features) (levels : ℕ) (regions : List Region) → AreRegions f variables levels regions →
       Each SoundRow (table_of variables regions).states × Each SoundMove (table_of variables regions).opened
-  rows_sound f levels regions rules = side_sound (map piece_of_region regions) (each_map SoundPiece piece_of_region regions (regions_of f levels regions rules)) whole
+  rows_sound f levels regions rules = side_sound (map piece_of_region regions) (each_map SoundPiece piece_of_region regions (regions_of f levels regions
+      rules)) whole
 
 -- of each number, also where it is none of a state
 pub row_sound : (k : Table) → Each (SoundRow k.variables) k.states → (s : ℕ) → SoundRow k.variables (state_at k s)

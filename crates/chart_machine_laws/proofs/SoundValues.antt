@@ -46,7 +46,8 @@ initial_kinds [] = tt
 initial_kinds (x ∷ variables) = (initial_kind x.kind, initial_kinds variables)
 
 started_kind : (inputs : Inputs) (x : Variable) (present : Value) → kind_of present ≡ x.kind →
-    (x.role ≡ role.Input → (v : Value) → given inputs x.name ≡ Some v → kind_of v ≡ x.kind) → (r : Role) → x.role ≡ r → kind_of (value_at_start inputs x r present) ≡ x.kind
+    (x.role ≡ role.Input → (v : Value) → given inputs x.name ≡ Some v → kind_of v ≡ x.kind) → (r : Role) → x.role ≡ r →
+    kind_of (value_at_start inputs x r present) ≡ x.kind
 started_kind inputs x present of inputs_of role.Input is = by (given inputs x.name) refl
   where
     by : (o : Option Value) → given inputs x.name ≡ o → kind_of (unwrap_or o (initial_value x.kind)) ≡ x.kind
