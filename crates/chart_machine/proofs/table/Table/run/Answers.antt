@@ -17,9 +17,11 @@ loop-preserved c =
     record {
       replays =
           ap (λ xs. replay (machine c.args.self.now) xs c.args.start.now) items ∙
-          replay_more (machine c.args.self.now) c.loop.run.items c.in-Some.region c.args.start.now c.loop.c c.in-Some-2.after c.loop.invariant.replays (sym told ∙ there);
+          replay_more (machine c.args.self.now) c.loop.run.items c.in-Some.region c.args.start.now c.loop.c c.in-Some-2.after c.loop.invariant.replays (sym
+          told ∙ there);
       steps = subst (λ xs. StepsInOrder c.args.self.now c.args.order.now xs c.args.start.now c.in-Some-2.after) (sym items)
-          (steps_more c.args.self.now c.args.order.now c.loop.run.items c.in-Some.region c.args.start.now c.loop.c c.in-Some-2.after c.loop.invariant.steps first (sym told ∙ there));
+          (steps_more c.args.self.now c.args.order.now c.loop.run.items c.in-Some.region c.args.start.now c.loop.c c.in-Some-2.after c.loop.invariant.steps
+          first (sym told ∙ there));
       long = ap length items ∙ one_longer c.loop.run.items c.in-Some.region c.loop.counter c.loop.invariant.long;
     }
 
