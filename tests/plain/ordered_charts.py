@@ -29,6 +29,7 @@ class OrderedMachine(ChartMachine):
         """What a row is answered."""
         word, _, rest = row.partition(" ")
         return {"order": self.order, "again": self.again, "tick": self.row_of_tick, "run": self.row_of_run, "play": self.play_row,
+                "judge": self.row_of_judge,
                 "standings": self.row_of_standings, "table": self.row_of_table}[word](rest)
 
     def order(self, rest):
@@ -79,6 +80,23 @@ class OrderedMachine(ChartMachine):
         answer = self.play_row(rest)
         self.values, self.standing = before
         return answer
+
+    def row_of_judge(self, rest):
+        """Whether these regions take admissible steps, if they can step one after the other."""
+        given, _, regions = rest.partition(":")
+        before, run, admissible = self.saved(), [], True
+        self.begin(self.inputs(given))
+        for number in map(int, regions.split()):
+            if not 0 < number <= len(self.ordered) or not self.is_enabled(self.ordered[number - 1]):
+                self.values, self.standing = before
+                return "no run"
+            r = self.ordered[number - 1]
+            access = self.access(r)
+            admissible = admissible and self.clash(run, r, access) is None
+            run.append((r, access))
+            self.step(r)
+        self.values, self.standing = before
+        return "admissible" if admissible else "not admissible"
 
     def row_of_standings(self, _):
         def word(standing):

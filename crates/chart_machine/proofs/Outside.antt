@@ -1,12 +1,10 @@
 -- A number without a region has no turn.
-use Rattle.std.proofs.Common.{ℕ, ◌≡◌, ◌<◌, ◌≤◌, ◌⊎◌, inl, inr, false, None, length, slice_get, unwrap_or, ap, refl, arith}
+use Rattle.std.proofs.Common.{ℕ, ◌≡◌, ◌<◌, ◌≤◌, ◌⊎◌, false, length, unwrap_or, ap, arith}
 use Rattle.std.proofs.lemmas.Option.{slice_get_past}
 use Rattle.chart_machine.specs.declared.standing.Configuration.{Configuration}
-use Rattle.chart_machine.specs.declared.standing.Standing.{Standing}
 use Rattle.chart_machine.specs.declared.standing.Standing.TheVariants as at
 use Rattle.chart_machine.specs.declared.table.Table.{Table}
-use Rattle.chart_machine.specs.Table.{region_at}
-use Rattle.chart_machine.specs.Turns.{standing_of, has_work, is_guarded, inside_is_done, is_enabled}
+use Rattle.chart_machine.specs.Turns.{standing_of, is_enabled}
 
 pub within_or_past : (r n : ℕ) → (r < n) ⊎ (n ≤ r)
 within_or_past r n = grind arith

@@ -2,3 +2,4 @@ pub mod Table
 pub mod Turns
 pub mod Steps
 pub mod Machine
+pub mod InOrder

@@ -15,7 +15,6 @@ mod standing;
 mod starting;
 mod stepping;
 mod table;
-mod table_fault;
 mod tabling;
 mod turns;
 
@@ -24,4 +23,3 @@ pub use evaluating::value_of;
 pub use running::Ran;
 pub use standing::{Configuration, Move, Standing};
 pub use table::{RegionRow, StateRow, StatesRows, SubtreeRows, Table, TablePosition};
-pub use table_fault::TableFault;

@@ -4,6 +4,7 @@ ghost use Rattle.std.specs.Prelude.{◌≡◌, ◌↔◌, ◌≤◌, IsTrue, IfO
 ghost use Rattle.sc_values.specs.Runs.{replay, IsOver};
 ghost use Rattle.chart_machine.specs.Turns.{first_enabled};
 ghost use Rattle.chart_machine.specs.Machine.{machine};
+ghost use Rattle.chart_machine.specs.InOrder.{StepsInOrder, Stops};
 
 use crate::standing::Configuration;
 use crate::table::Table;
@@ -48,27 +49,34 @@ impl Table {
         start: &Configuration,
     ) -> Result<Ran, AllocError>
         ensures run { IfOk result (λ ran. replay (machine self.now) ran.run.items start.now ≡ Some ran.end) }
+        ensures order { IfOk result (λ ran. StepsInOrder self.now order.now ran.run.items start.now ran.end) }
         ensures budget { IfOk result (λ ran. length ran.run.items ≤ budget) }
+        ensures stops { IfOk result (λ ran. Stops self.now order.now budget ran.run.items ran.end) }
         ensures over { IfOk result (λ ran. IsTrue ran.is_over ↔ IsOver (machine self.now) ran.end) }
     {
         let mut c = start.copied(alloc)?;
         let mut run = Vec::new(alloc);
         for _ in 0..budget {
             let Some(region) = self.first_enabled(alloc, order, &c)? else {
-                break;
+                return self.ran(alloc, run, c);
             };
             let Some(after) = self.step(alloc, &c, region)? else {
-                break;
+                return self.ran(alloc, run, c);
             };
             run.push(region)?;
             c = after;
         }
-        let is_over = self.is_over(alloc, &c)?;
-        Ok(Ran {
-            run,
-            end: c,
-            is_over,
-        })
+        self.ran(alloc, run, c)
+    }
+
+    // A run that has come to its end.
+    fn ran(&self, alloc: Global, run: Vec<usize>, end: Configuration) -> Result<Ran, AllocError>
+        ensures run { IfOk result (λ ran. ran.run.items ≡ run.items) }
+        ensures end { IfOk result (λ ran. ran.end ≡ end) }
+        ensures over { IfOk result (λ ran. IsTrue ran.is_over ↔ IsOver (machine self.now) end) }
+    {
+        let is_over = self.is_over(alloc, &end)?;
+        Ok(Ran { run, end, is_over })
     }
 
     // The first of these regions whose turn it is.

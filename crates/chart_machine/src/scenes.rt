@@ -6,7 +6,6 @@ ghost use Rattle.chart_machine.specs.Table.{piece_of_state};
 
 use crate::numbering::{past_region, past_states, past_states_of_region};
 use crate::table::TablePosition;
-use crate::table_fault::TableFault;
 use core_charts::{Region, State};
 use sqlite_items::Items;
 use std::alloc::{AllocError, Global};
@@ -24,11 +23,11 @@ impl TablePosition {
     }
 
     // What is inside a superstate of this scene.
-    pub(crate) fn within(&self, alloc: Global) -> Result<TablePosition, TableFault>
+    pub(crate) fn within(&self, alloc: Global) -> Result<TablePosition, AllocError>
         ensures { IfOk result (λ at. at ≡ within self.now) }
     {
         let Some(state) = self.state.checked_add(1) else {
-            return Err(TableFault::Limit);
+            return Err(AllocError);
         };
         let mut around = Items::new(alloc);
         around.push(self.state)?;
@@ -42,11 +41,11 @@ impl TablePosition {
     }
 
     // Inside the region that comes next.
-    pub(crate) fn inside_region(&self, alloc: Global) -> Result<TablePosition, TableFault>
+    pub(crate) fn inside_region(&self, alloc: Global) -> Result<TablePosition, AllocError>
         ensures { IfOk result (λ at. at ≡ inside_region self.now) }
     {
         let Some(region) = self.region.checked_add(1) else {
-            return Err(TableFault::Limit);
+            return Err(AllocError);
         };
         Ok(TablePosition {
             state: self.state,
@@ -73,7 +72,7 @@ impl TablePosition {
     }
 
     // Where the next state of the region stands.
-    pub(crate) fn past(self, state: &State) -> Result<TablePosition, TableFault>
+    pub(crate) fn past(self, state: &State) -> Result<TablePosition, AllocError>
         ensures { IfOk result (λ at. at ≡ past_states (piece_of_state state.now).states self) }
     {
         let state = past_states(state, self.state)?;
@@ -86,7 +85,7 @@ impl TablePosition {
     }
 
     // Where the next region of the superstate stands.
-    pub(crate) fn behind(self, region: &Region) -> Result<TablePosition, TableFault>
+    pub(crate) fn behind(self, region: &Region) -> Result<TablePosition, AllocError>
         ensures { IfOk result (λ at. at ≡ behind (piece_of_region region.now) self) }
     {
         let state = past_states_of_region(region, self.state)?;

@@ -9,22 +9,21 @@ use crate::entering::entered_state;
 use crate::numbering::{past_regions, region_numbers, state_numbers};
 use crate::sizes::regions_in_initial;
 use crate::table::{RegionRow, StateRow, StatesRows, SubtreeRows, Table, TablePosition};
-use crate::table_fault::TableFault;
 use core_charts::{Chart, CoreChart, Region, State, copied_transitions, copied_variables};
 use sc_graph::Variable;
 use sqlite_items::Items;
 use std::alloc::{AllocError, Global};
 
 impl Table {
-    /// The table of a chart. `Limit`: its states or regions are too many to be numbered.
-    pub fn of_chart(alloc: Global, chart: &Chart) -> Result<Table, TableFault>
+    /// The table of a chart. Err: memory was refused, or there are more states or regions than any memory holds.
+    pub fn of_chart(alloc: Global, chart: &Chart) -> Result<Table, AllocError>
         ensures { IfOk result (λ k. k ≡ table chart.now) }
     {
         table_of(alloc, chart.variables(), chart.regions())
     }
 
-    /// The table of a core chart. `Limit`: its states or regions are too many to be numbered.
-    pub fn of_core_chart(alloc: Global, chart: &CoreChart) -> Result<Table, TableFault>
+    /// The table of a core chart. Err: memory was refused, or there are more states or regions than any memory holds.
+    pub fn of_core_chart(alloc: Global, chart: &CoreChart) -> Result<Table, AllocError>
         ensures { IfOk result (λ k. k ≡ table chart.now) }
     {
         table_of(alloc, chart.variables(), chart.regions())
@@ -32,7 +31,7 @@ impl Table {
 }
 
 // The table of a chart of these variables and regions.
-fn table_of(alloc: Global, variables: &[Variable], regions: &[Region]) -> Result<Table, TableFault>
+fn table_of(alloc: Global, variables: &[Variable], regions: &[Region]) -> Result<Table, AllocError>
     ensures { IfOk result (λ k. k ≡ table_of variables.now regions.now) }
 {
     let whole = TablePosition {
@@ -68,7 +67,7 @@ fn side_by_side(
     alloc: Global,
     regions: &[Region],
     at: &TablePosition,
-) -> Result<SubtreeRows, TableFault>
+) -> Result<SubtreeRows, AllocError>
     ensures { IfOk result (λ parts. parts ≡ side_by_side (map piece_of_region regions.now) at.now) }
 {
     let mut here = at.copied(alloc)?;
@@ -85,7 +84,7 @@ fn side_by_side(
 }
 
 #[cycle(parts)]
-fn state_parts(alloc: Global, state: &State, at: &TablePosition) -> Result<SubtreeRows, TableFault>
+fn state_parts(alloc: Global, state: &State, at: &TablePosition) -> Result<SubtreeRows, AllocError>
     ensures { IfOk result (λ parts. parts ≡ (piece_of_state state.now).parts at.now) }
 {
     let regions = state.regions.as_slice();
@@ -112,16 +111,16 @@ fn region_parts(
     alloc: Global,
     region: &Region,
     at: &TablePosition,
-) -> Result<SubtreeRows, TableFault>
+) -> Result<SubtreeRows, AllocError>
     ensures { IfOk result (λ parts. parts ≡ (piece_of_region region.now).parts at.now) }
 {
     let states = region.states.as_slice();
     let inside = at.inside_region(alloc)?;
     let Some(count) = regions_in_initial(states) else {
-        return Err(TableFault::Limit);
+        return Err(AllocError);
     };
     let Some(next) = inside.region.checked_add(count) else {
-        return Err(TableFault::Limit);
+        return Err(AllocError);
     };
     let inner = in_region(alloc, states, next, &inside)?;
     let mut regions = Items::new(alloc);
@@ -170,7 +169,7 @@ fn in_region(
     states: &[State],
     next: usize,
     at: &TablePosition,
-) -> Result<StatesRows, TableFault>
+) -> Result<StatesRows, AllocError>
     ensures { IfOk result (λ inner. inner ≡ in_region (map piece_of_state states.now) next at.now) }
 {
     let mut here = at.copied(alloc)?;
@@ -196,7 +195,7 @@ fn put_state(
     next: usize,
     here: &TablePosition,
     inner: &mut StatesRows,
-) -> Result<usize, TableFault>
+) -> Result<usize, AllocError>
     ensures next { IfOk result (λ n. n ≡ next_behind (piece_of_state state.now) next) }
     ensures inner { OnOk result (inner.new ≡ followed_by inner.old (alone (piece_of_state state.now) next here.now)) }
 {

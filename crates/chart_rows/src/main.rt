@@ -2,6 +2,7 @@
 //! behind it ask what the machine of its table does. The rows stand in tests/cases/charts.
 #![tactic(auto)]
 
+mod judging;
 mod playing;
 mod reading;
 mod rows;

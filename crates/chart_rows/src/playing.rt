@@ -1,5 +1,6 @@
 //! Ticks of the machine of a table.
 
+use crate::judging::{is_admissible, step_there};
 use crate::reading::{halves, inputs, known, numbers};
 use crate::telling::{tell_numbers, tell_values};
 use abort_expansion::{StateMap, expand};
@@ -156,5 +157,33 @@ impl Played {
         })?;
         self.tell(alloc, &end, told)?;
         Ok(Some(end))
+    }
+
+    /// Whether these regions, given as `INPUTS: REGIONS`, take admissible steps one after the other from the start of a
+    /// tick.
+    pub(crate) fn judged(
+        &self,
+        alloc: Global,
+        c: &Configuration,
+        row: &str,
+        told: &mut String,
+    ) -> io::Result<()> {
+        let (given, regions) = halves(row, ':');
+        let mut c = self.table.start(alloc, &inputs(alloc, given)?, c)?;
+        let mut steps = Vec::new(alloc);
+        for region in &numbers(alloc, regions)? {
+            let Some(after) = self.table.step(alloc, &c, *region)? else {
+                told.push_str("no run")?;
+                return Ok(());
+            };
+            steps.push(known(step_there(&c, *region))?)?;
+            c = after;
+        }
+        told.push_str(if is_admissible(alloc, &self.table, &steps)? {
+            "admissible"
+        } else {
+            "not admissible"
+        })?;
+        Ok(())
     }
 }

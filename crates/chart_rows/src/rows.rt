@@ -25,6 +25,7 @@ fn answer_one(
         "run" => {
             let _end = played.replayed(alloc, c, rest, told)?;
         }
+        "judge" => played.judged(alloc, c, rest, told)?,
         "table" => tell_table(alloc, played.table(), told)?,
         "standings" => tell_standings(alloc, c, told)?,
         "again" => return Ok(Some(played.initial(alloc)?)),

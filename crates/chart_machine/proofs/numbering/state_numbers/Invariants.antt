@@ -1,4 +1,4 @@
-use Rattle.std.proofs.Common.{◌≡◌, ◌++◌, ◌+◌, map, drop}
+use Rattle.std.proofs.Common.{◌≡◌, ◌++◌, map, drop}
 use Rattle.chart_machine.specs.Table.{piece_of_state, state_numbers}
 use Rattle.chart_machine.proofs.numbering.state_numbers.Given as goal
 

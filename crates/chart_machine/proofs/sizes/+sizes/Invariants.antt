@@ -1,6 +1,5 @@
-use Rattle.std.proofs.Common.{◌≡◌, ◌++◌, ◌+◌, map, drop}
+use Rattle.std.proofs.Common.{◌≡◌, ◌+◌, map, drop}
 use Rattle.chart_machine.specs.Table.{piece_of_region, piece_of_state, states_in, regions_in}
-use Rattle.core_charts.specs.declared.region.Region.TheViews.{out-Region, out-State}
 use Rattle.chart_machine.proofs.sizes.+sizes.Given as goal
 
 abbrev pub invariant-state_size-loop-region : goal.invariant-state_size-loop-region

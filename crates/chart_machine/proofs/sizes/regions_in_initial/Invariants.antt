@@ -1,4 +1,4 @@
-use Rattle.std.proofs.Common.{◌≡◌, ◌++◌, ◌+◌, map, drop}
+use Rattle.std.proofs.Common.{◌≡◌, ◌+◌, map, drop}
 use Rattle.chart_machine.specs.Table.{piece_of_state, regions_in_initial}
 use Rattle.chart_machine.proofs.sizes.regions_in_initial.Given as goal
 

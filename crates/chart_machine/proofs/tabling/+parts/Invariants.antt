@@ -1,4 +1,4 @@
-use Rattle.std.proofs.Common.{◌≡◌, ◌++◌, ◌+◌, map, drop}
+use Rattle.std.proofs.Common.{◌≡◌, map, drop}
 use Rattle.chart_machine.specs.Table.{piece_of_region, piece_of_state, both, followed_by, side_by_side, in_region}
 use Rattle.chart_machine.proofs.tabling.+parts.Given as goal
 

@@ -1,5 +1,5 @@
-use Rattle.std.proofs.Common.{◌≡◌, ◌++◌, ◌+◌, ◌∷◌, ℕ, ◌<◌, ◌≤◌, [], Some, false, not, map, drop, filter, length, nat_eq}
-use Rattle.std.specs.List.{list_all, list_any}
+use Rattle.std.proofs.Common.{◌≡◌, ◌++◌, ◌+◌, drop, filter, nat_eq}
+use Rattle.std.specs.List.{list_any}
 use Rattle.chart_machine.specs.Table.{region_at}
 use Rattle.chart_machine.specs.Turns.{numbered_from, inside}
 use Rattle.chart_machine.proofs.table.Table.inside.Given as goal

@@ -1,4 +1,4 @@
-use Rattle.std.proofs.Common.{ℕ, ◌≡◌, ◌<◌, ◌≤◌, true, false, refl, inl, inr, ◌⊎◌, length, below_more, arith}
+use Rattle.std.proofs.Common.{◌≡◌, false, refl, inl, inr, length, below_more, arith}
 use Rattle.chart_machine.specs.Turns.{is_enabled}
 use Rattle.chart_machine.proofs.Outside.{outside_waits, within_or_past}
 use Rattle.chart_machine.proofs.table.Table.is_over.Goals as goal

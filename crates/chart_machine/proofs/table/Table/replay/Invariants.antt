@@ -1,5 +1,4 @@
-use Rattle.std.proofs.Common.{◌≡◌, ◌++◌, ◌+◌, ◌∷◌, ℕ, ◌<◌, ◌≤◌, [], Some, false, not, map, drop, filter, length, nat_eq}
-use Rattle.std.specs.List.{list_all, list_any}
+use Rattle.std.proofs.Common.{◌≡◌, drop}
 use Rattle.sc_values.specs.Runs.{replay}
 use Rattle.chart_machine.specs.Machine.{machine}
 use Rattle.chart_machine.proofs.table.Table.replay.Given as goal
