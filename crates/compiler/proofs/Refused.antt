@@ -52,7 +52,8 @@ none_at p h (place.Thread t) = tt
 none_at p h (place.Node n) = tt
 
 -- the other rules are kept by a formed program without conflicts with its least tables
-about_steps : (p : Program) (q : Tables) (r : Rule) (at : Place) → IsFormed p → HasNoConflict p → AreLeast p q → q.budget ≤ budget_limit → ¬ KeptAt r p q at → IsAboutSteps r
+about_steps : (p : Program) (q : Tables) (r : Rule) (at : Place) → IsFormed p → HasNoConflict p → AreLeast p q → q.budget ≤ budget_limit → ¬ KeptAt r p q at →
+    IsAboutSteps r
 about_steps p q rule.Size at formed none least le breaks = breaks (formed.size at, budget_fits q le at)
 about_steps p q rule.Structure at formed none least le breaks = breaks (formed.structure at)
 about_steps p q rule.Code at formed none least le breaks = tt

@@ -96,7 +96,8 @@ sum_left rule top p q count long u more =
     let k : sum q ≤ count * top = subst P long h in
     omega (arith, k, more)
 
-pub kept_is_least : (rule : (ℕ → ℕ) → ℕ → Type 0) (top count : ℕ) (p : List ℕ) → length p ≡ count → IsUnder rule top p → Keeps rule count (slice_index p) → IsLeast rule count p
+pub kept_is_least : (rule : (ℕ → ℕ) → ℕ → Type 0) (top count : ℕ) (p : List ℕ) → length p ≡ count → IsUnder rule top p → Keeps rule count (slice_index p) →
+    IsLeast rule count p
 kept_is_least rule top count p long u kept =
     let P : ℕ → Type 0 = λ c. (q : ℕ → ℕ) → Keeps rule c q → (n : ℕ) → slice_index p n ≤ q n in
     record { long = long; keeps = kept; least = subst P long u.below }

@@ -10,7 +10,8 @@ use Rattle.program_edges.specs.Users.{InitsAt, UpdatesAt, ReadsAt, Lists}
 use Rattle.program_edges.proofs.Variables.{init_variable, update_variable}
 use Rattle.priority_weights.specs.Inside.Pairs.{FallsTo, AllFall, FallsOn}
 
-pub falls_on : (p : Program) (q : List ℕ) (x : ℕ) (inits updates reads : List ℕ) → Lists inits (InitsAt p x) → Lists updates (UpdatesAt p x) → Lists reads (ReadsAt p x) →
+pub falls_on : (p : Program) (q : List ℕ) (x : ℕ) (inits updates reads : List ℕ) → Lists inits (InitsAt p x) → Lists updates (UpdatesAt p x) →
+    Lists reads (ReadsAt p x) →
     AllFall p q inits updates → AllFall p q inits reads → AllFall p q updates reads → FallsOn p q x
 falls_on p q x inits updates reads i u l iu il ul = record {
   init_update = λ m n a b. iu m n (i.each m a) (u.each n b);

@@ -209,12 +209,15 @@ small_entries p formed xs long within n = elim (less_or_not n (length p.nodes)) 
     less_or_not a b = grind arith
 
 -- the least budget is one that an image may have
-pub bound_small : (p : Program) → IsFormed p → (ends priorities weights bounds : List ℕ) → AreParts p ends priorities weights bounds → slice_index bounds 0 ≤ budget_limit
+pub bound_small : (p : Program) → IsFormed p → (ends priorities weights bounds : List ℕ) → AreParts p ends priorities weights bounds →
+    slice_index bounds 0 ≤ budget_limit
 bound_small p formed ends priorities weights bounds parts =
     let a = parts.covering.under.below (ample p) (ample_covers p formed (slice_index weights) parts.flow_within) 0 in
     let b = ample_small p formed 0 in
     omega (arith, a, b)
 
-pub entry_small : (p : Program) → IsFormed p → (ends priorities weights bounds : List ℕ) → AreParts p ends priorities weights bounds → (entry : Option ℕ) → entry_number (slice_index weights) entry ≤ budget_limit
+pub entry_small : (p : Program) → IsFormed p → (ends priorities weights bounds : List ℕ) → AreParts p ends priorities weights bounds → (entry : Option ℕ) →
+    entry_number (slice_index weights) entry ≤ budget_limit
 entry_small p formed ends priorities weights bounds parts None = omega arith
-entry_small p formed ends priorities weights bounds parts (Some n) = let h = small_entries p formed weights parts.flow.long parts.flow_within n in omega (arith, h)
+entry_small p formed ends priorities weights bounds parts (Some n) =
+    let h = small_entries p formed weights parts.flow.long parts.flow_within n in omega (arith, h)

@@ -38,7 +38,8 @@ order_needed p table m x y lt a b = falls_needed (InOrder p) table m (max x y) l
     less_or_not : (a b : ℕ) → (a ≤ b) ⊎ (b ≤ a)
     less_or_not a b = grind arith
 
-pub order_part : (p : Program) (table : List ℕ) (m x y : ℕ) → m < length table → IsAsked (Instant p m) table 0 x → IsSomeAsked (ProtocolEdge p m) table 1 y → IsPart (Falls (InOrder p)) table m (max x y)
+pub order_part : (p : Program) (table : List ℕ) (m x y : ℕ) → m < length table → IsAsked (Instant p m) table 0 x → IsSomeAsked (ProtocolEdge p m) table 1 y →
+    IsPart (Falls (InOrder p)) table m (max x y)
 order_part p table m x y lt a b = falls_part (InOrder p) table m (max x y) lt
     (elim (less_or_not x y) [
       | inl le ↦ (let e : max x y ≡ y = omega (arith, le) in elim b [

@@ -30,13 +30,7 @@ pub(crate) fn reasons(
 }
 
 // Gives a node its number and its reason, by the nodes to which arcs lead.
-fn give_number(
-    arcs: &Arcs,
-    numbers: &mut Vec<u32>,
-    reasons: &mut Vec<u32>,
-    node: u32,
-    count: u32,
-) {
+fn give_number(arcs: &Arcs, numbers: &mut Vec<u32>, reasons: &mut Vec<u32>, node: u32, count: u32) {
     let mut number = arcs.first(node);
     let mut most = 0;
     for _ in 0..arcs.count() {

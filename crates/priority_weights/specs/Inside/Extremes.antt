@@ -1,5 +1,5 @@
 -- Of a list of nodes, one for each thread that owns some of them, of the least or the greatest number in a table.
-use Rattle.std.specs.Prelude.{ℕ, ◌≡◌, ◌<◌, ◌≤◌, ◌⊎◌, List, length, get_or, slice_index, Contains}
+use Rattle.std.specs.Prelude.{ℕ, ◌≡◌, ◌<◌, ◌≤◌, List, length, get_or, slice_index, Contains}
 use Rattle.sc_graph.specs.Program.{Program, owner_of}
 use Rattle.priority_weights.specs.declared.extremes.Extreme.{Extreme}
 use Rattle.priority_weights.specs.declared.extremes.Extreme.TheVariants as extreme

@@ -8,11 +8,11 @@ loop-node-preserved c =
     let table = c.args.table.now in
     let P : ℕ → Type 0 = λ m. (n : ℕ) → Instant c.args.program.now m n → slice_index table n ≤ slice_index table m in
     below_more P _ c.loop-node.invariant (λ n edge.
-        let asked = c.asked_by_instants-asked.ensures.covers n edge in
-        let number = c.from-number.ensures in
-        let entry = c.entry.ensures in
-        let less = c.if-number-asked.false in
-        omega (arith, asked, number, entry, less))
+    let asked = c.asked_by_instants-asked.ensures.covers n edge in
+    let number = c.from-number.ensures in
+    let entry = c.entry.ensures in
+    let less = c.if-number-asked.false in
+    omega (arith, asked, number, entry, less))
 
 pub returns : goal.returns
 returns c =
