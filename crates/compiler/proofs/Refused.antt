@@ -1,5 +1,5 @@
 -- Why a program has no image, by the fault of one pass.
-use Rattle.std.proofs.Common.{◌≡◌, ◌≤◌, ℕ, List, Result, Ok, Err, subst₂}
+use Rattle.std.proofs.Common.{◌≡◌, ◌≤◌, ℕ, List, Result, Err, subst₂}
 use Rattle.sc_graph.specs.Program.{Program}
 use Rattle.sc_graph.specs.Limits.{budget_limit}
 use Rattle.sc_graph.specs.Protocol.{NoConflictAt, WriteConflict}
