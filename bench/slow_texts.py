@@ -44,12 +44,13 @@ def jumps_into_reads(n):
 
 
 def forks_of_one(n):
-    """Chains of forks of one branch, all of which use one variable."""
-    row = "x = 1 + x; " * max(1, n // 993 - 3)
+    """Chains of forks of one branch, 32 deep, all of which use one variable: as many chains as there is room for."""
+    chains = max(1, min(31, n // 128))
+    row = "x = 1 + x; " * max(1, n // (32 * chains + 1) - 3)
     chain = row
     for _ in range(31):
         chain = row + "fork { " + chain + "} join; "
-    return HEAD + ("fork { " + chain + "} join; ") * 31 + "}"
+    return HEAD + ("fork { " + chain + "} join; ") * chains + "}"
 
 
 def labels(n):

@@ -1,5 +1,5 @@
 -- From a graph to its image.
-use Rattle.std.proofs.Common.{◌≡◌, Bool, true, false, List, subst, sym, IsTrue}
+use Rattle.std.proofs.Common.{◌≡◌, Bool, true, false, subst, sym, IsTrue}
 use Rattle.std.proofs.Math.Logic.{∥∥₁_elim, ∥∥₁_map}
 use Rattle.sc_graph.specs.Program.{Program}
 use Rattle.sc_graph.specs.Valid.{IsFormed, IsValid}

@@ -6,6 +6,8 @@ use Rattle.sc_graph.specs.Valid.{IsValid}
 use Rattle.sc_graph.specs.declared.tables.Tables.{Tables}
 use Rattle.bytecode.specs.Image.{Image}
 use Rattle.verifier.specs.Verdict.{IsLowestBroken}
+use Rattle.verifier.specs.declared.rule.Rule.{Rule}
+use Rattle.verifier.specs.declared.rule.Rule.TheVariants as rule
 use Rattle.verifier.specs.declared.rule.Refusal.{Refusal}
 use Rattle.verifier.specs.declared.rule.Refusal.TheVariants as refusal
 use Rattle.conflict_edges.specs.Conflicts.{HasNoConflict}
@@ -35,9 +37,15 @@ HasAWalk p (no_tables.InstantLoop walk) = IsInstantLoop p walk
 HasAWalk p (no_tables.Cyclic walk) = ((other : List ℕ) → ¬ IsInstantLoop p other) × IsOrderCycle p walk
 HasAWalk p no_tables.Memory = Unit {0}
 
--- a rule is broken, since the least tables pass a limit
+-- the rules about the codes and assignments of steps, which no tables keep or break
+abbrev pub IsAboutSteps : Rule → Type 0
+IsAboutSteps rule.Code = Unit {0}
+IsAboutSteps rule.Assignment = Unit {0}
+IsAboutSteps other = ⊥
+
+-- with its least tables such a rule is the lowest that is broken
 abbrev pub BreaksARule : Program → Refusal → Type 0
-BreaksARule p (refusal.Broken broken) = (q : Tables) × AreLeast p q × IsLowestBroken p q broken
+BreaksARule p (refusal.Broken broken) = IsAboutSteps broken.rule × ((q : Tables) × AreLeast p q × IsLowestBroken p q broken)
 BreaksARule p refusal.Memory = Unit {0}
 
 -- why a program has no image: conflicts come before walks, and these before rules

@@ -1,5 +1,4 @@
 -- What compiling an SCL program gives: the image of its graph with the least tables, or why it has none.
-use Rattle.std.specs.Prelude.{◌≡◌}
 use Rattle.sc_graph.specs.Program.{Program}
 use Rattle.sc_graph.specs.Valid.{IsValid}
 use Rattle.scl.specs.declared.program.Scl.{Scl}

@@ -18,6 +18,6 @@ pub enum CompileFault {
     Conflict(ConflictFault),
     /// E13 or E12: a closed walk, because of which there are no tables; or memory was refused.
     Tables(TablesFault),
-    /// E31 to E40: the image with the least tables breaks a rule; or memory was refused.
+    /// E33 or E34: a code or an assignment breaks its rule, and no lower rule is broken; or memory was refused.
     Rule(Refusal),
 }

@@ -1,10 +1,11 @@
 //! From a program to its image.
 
-ghost use Rattle.std.specs.Prelude.{IfErr, IfOk};
+ghost use Rattle.std.specs.Prelude.{◌≤◌, IfErr, IfOk};
 ghost use Rattle.conflict_edges.specs.Conflicts.{HasNoConflict};
 ghost use Rattle.compiler.specs.Compiled.{IsCompiled, IsRefused};
 ghost use Rattle.priority_weights.specs.Edges.{HasNoWalk};
 ghost use Rattle.priority_weights.specs.LeastTables.{AreLeast};
+ghost use Rattle.sc_graph.specs.Limits.{budget_limit};
 ghost use Rattle.sc_graph.specs.Valid.{IsFormed};
 
 use crate::fault::CompileFault;
@@ -16,8 +17,8 @@ use std::alloc::Global;
 use verifier::{Verified, verify};
 
 /// The valid image of a formed program, with its least tables. Err: the first that holds of these: two of its
-/// nodes conflict (E11), flow within one tick closes (E13), instantaneous and protocol edges close (E12), the
-/// image with the least tables breaks a rule; or memory was refused.
+/// nodes conflict (E11), flow within one tick closes (E13), instantaneous and protocol edges close (E12), a code
+/// or an assignment breaks its rule (E33, E34); or memory was refused.
 pub fn compile_program(alloc: Global, program: Program) -> Result<Verified, CompileFault>
     requires { IsFormed program }
     ensures compiled { IfOk result (IsCompiled program) }
@@ -38,6 +39,7 @@ pub fn compile_program(alloc: Global, program: Program) -> Result<Verified, Comp
 fn least_tables(alloc: Global, program: &Program) -> Result<Tables, CompileFault>
     requires { IsFormed program.now }
     ensures least { IfOk result (AreLeast program.now) }
+    ensures budget { IfOk result (λ q. q.budget ≤ budget_limit) }
     ensures none { IfOk result (λ _. HasNoConflict program.now) }
     ensures no_walk { IfOk result (λ _. HasNoWalk program.now) }
     ensures refused { IfErr result (IsRefused program.now) }

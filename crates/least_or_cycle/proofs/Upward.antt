@@ -6,7 +6,7 @@ use Rattle.std.proofs.lemmas.List.{length-set}
 use Rattle.std.proofs.lemmas.List.Sums.{sum_by-set, sum_by-le}
 use Rattle.std.specs.Prelude.{All}
 use Rattle.std.proofs.lemmas.Grind.{get_or_default_zero}
-use Rattle.least_or_cycle.specs.Least.{Keeps, IsLeast, Exceeds, IsNeeded}
+use Rattle.least_or_cycle.specs.Least.{Keeps, IsLeast, Exceeds, IsNeeded, IsPart}
 use Rattle.least_or_cycle.specs.Inside.Rising.{IsUnder, IsRaised}
 
 same_or_not : (a b : ℕ) → (a ≡ b) ⊎ (a ≢ b)
@@ -20,9 +20,9 @@ sum-set_more xs i y lt more =
     let h : sum (set xs i y) + get_or xs i 0 ≡ sum xs + y = sum_by-set (λ x. x) xs i y 0 lt in
     omega (arith, h, more)
 
-pub raised_under : (rule : (ℕ → ℕ) → ℕ → Type 0) (top : ℕ) (p : List ℕ) (m x : ℕ) → IsUnder rule top p → m < length p →
-    IsNeeded rule p m x → slice_index p m < x → x ≤ top → IsRaised rule top p (set p m x)
-raised_under rule top p m x u lt needed less le = record {
+pub part_raised : (rule : (ℕ → ℕ) → ℕ → Type 0) (top : ℕ) (p : List ℕ) (m x : ℕ) → IsUnder rule top p → m < length p →
+    IsPart rule p m x → slice_index p m < x → x ≤ top → IsRaised rule top p (set p m x)
+part_raised rule top p m x u lt needed less le = record {
   under = record {
     within = λ n. elim (same_or_not n m) [
       | inl e ↦ (let P : ℕ → Type 0 = λ k. get_or (set p m x) k 0 ≤ top in
@@ -47,14 +47,26 @@ raised_under rule top p m x u lt needed less le = record {
   more = sum-set_more p m x lt less;
 }
 
-pub exceeded : (rule : (ℕ → ℕ) → ℕ → Type 0) (top : ℕ) (p : List ℕ) (m x : ℕ) → IsUnder rule top p → m < length p →
-    IsNeeded rule p m x → top < x → Exceeds rule (length p) top
-exceeded rule top p m x u lt needed less = record {
+pub raised_under : (rule : (ℕ → ℕ) → ℕ → Type 0) (top : ℕ) (p : List ℕ) (m x : ℕ) → IsUnder rule top p → m < length p →
+    IsNeeded rule p m x → slice_index p m < x → x ≤ top → IsRaised rule top p (set p m x)
+raised_under rule top p m x u lt needed = part_raised rule top p m x u lt (record { least = needed.least })
+
+pub part_under : (rule : (ℕ → ℕ) → ℕ → Type 0) (top : ℕ) (p : List ℕ) (m x : ℕ) → IsUnder rule top p → m < length p →
+    IsPart rule p m x → slice_index p m < x → x ≤ top → IsUnder rule top (set p m x)
+part_under rule top p m x u lt part less le = (part_raised rule top p m x u lt part less le).under
+
+pub part_exceeded : (rule : (ℕ → ℕ) → ℕ → Type 0) (top : ℕ) (p : List ℕ) (m x : ℕ) → IsUnder rule top p → m < length p →
+    IsPart rule p m x → top < x → Exceeds rule (length p) top
+part_exceeded rule top p m x u lt needed less = record {
   exceeds = λ q keeps within.
       let most : q m ≤ top = within.each m lt in
       let least : x ≤ q m = needed.least q keeps (u.below q keeps) in
       omega (arith, most, least, less);
 }
+
+pub exceeded : (rule : (ℕ → ℕ) → ℕ → Type 0) (top : ℕ) (p : List ℕ) (m x : ℕ) → IsUnder rule top p → m < length p →
+    IsNeeded rule p m x → top < x → Exceeds rule (length p) top
+exceeded rule top p m x u lt needed = part_exceeded rule top p m x u lt (record { least = needed.least })
 
 pub kept_at : (rule : (ℕ → ℕ) → ℕ → Type 0) (p : List ℕ) (m x n : ℕ) → IsNeeded rule p m x → x ≤ slice_index p m → n ≡ m → rule (slice_index p) n
 kept_at rule p m x n needed le e = let P : ℕ → Type 0 = rule (slice_index p) in subst P (sym e) (needed.enough le)
@@ -83,3 +95,9 @@ sum_left rule top p q count long u more =
     let P : ℕ → Type 0 = λ c. sum q ≤ c * top in
     let k : sum q ≤ count * top = subst P long h in
     omega (arith, k, more)
+
+pub kept_is_least : (rule : (ℕ → ℕ) → ℕ → Type 0) (top count : ℕ) (p : List ℕ) → length p ≡ count → IsUnder rule top p → Keeps rule count (slice_index p) →
+    IsLeast rule count p
+kept_is_least rule top count p long u kept =
+    let P : ℕ → Type 0 = λ c. (q : ℕ → ℕ) → Keeps rule c q → (n : ℕ) → slice_index p n ≤ q n in
+    record { long = long; keeps = kept; least = subst P long u.below }

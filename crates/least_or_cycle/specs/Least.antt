@@ -20,6 +20,10 @@ pub record IsWithin (count top : ℕ) (q : ℕ → ℕ) : Type 0 where
 pub record Exceeds (rule : (ℕ → ℕ) → ℕ → Type 0) (count top : ℕ) : Type 0 where
   pub exceeds : (q : ℕ → ℕ) → Keeps rule count q → ¬ IsWithin count top q
 
+-- x is no more than what every greater table that keeps the rule has at place m
+pub record IsPart (rule : (ℕ → ℕ) → ℕ → Type 0) (p : List ℕ) (m x : ℕ) : Type 0 where
+  pub least : (q : ℕ → ℕ) → Keeps rule (length p) q → ((n : ℕ) → slice_index p n ≤ q n) → x ≤ q m
+
 -- x is what the rule asks for place m, given the rest of the list: enough there, and no more than what every
 -- greater table that keeps the rule has there
 pub record IsNeeded (rule : (ℕ → ℕ) → ℕ → Type 0) (p : List ℕ) (m x : ℕ) : Type 0 where

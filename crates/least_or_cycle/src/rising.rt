@@ -9,8 +9,8 @@ use crate::rule::Rule;
 use std::alloc::{AllocError, Global};
 
 /// The least table of `count` numbers that keeps a rule. None: no table within `top` keeps it. The
-/// order is a hint, for speed alone: the table is raised first at its places, in this order. Err:
-/// memory was refused.
+/// order is a hint, for speed alone: the table is raised first at its places, in this order, by the
+/// parts that the rule finds fast. Err: memory was refused.
 pub fn least<R: Rule>(
     alloc: Global,
     rule: &R,
@@ -24,11 +24,54 @@ pub fn least<R: Rule>(
         → IsWithin count top (slice_index table.items)) }
 {
     let mut table = vec![in alloc; 0; count as usize]?;
+    if !raise_parts(rule, table.as_mut_slice(), top, order) {
+        return Ok(None);
+    }
+    if rule.is_kept(alloc, table.as_slice(), count)? {
+        return Ok(Some(table));
+    }
     if rises(rule, table.as_mut_slice(), count, top, order) {
         Ok(Some(table))
     } else {
         Ok(None)
     }
+}
+
+// Raises a table at these places in turn by parts of what the rule asks. False: no table within the top keeps the rule.
+fn raise_parts<R: Rule>(rule: &R, table: &mut [u32], top: u32, order: &[u16]) -> bool
+    requires { IsUnder (R.keeps rule.now) top table.old }
+    ensures long { length table.new ≡ length table.old }
+    ensures under { MatchBool result (IsUnder (R.keeps rule.now) top table.new)
+        (Exceeds (R.keeps rule.now) (length table.old) top) }
+{
+    for place in order {
+        if !raise_part(rule, table, *place, top) {
+            return false;
+        }
+    }
+    true
+}
+
+// Raises a table at a place by a part of what the rule asks there. False: no table within the top keeps the rule.
+fn raise_part<R: Rule>(rule: &R, table: &mut [u32], place: u16, top: u32) -> bool
+    requires { IsUnder (R.keeps rule.now) top table.old }
+    ensures long { length table.new ≡ length table.old }
+    ensures under { MatchBool result (IsUnder (R.keeps rule.now) top table.new)
+        (Exceeds (R.keeps rule.now) (length table.old) top) }
+{
+    let at = place as usize;
+    if at >= table.len() {
+        return true;
+    }
+    let part = rule.part(table, place);
+    if part <= u64::from(table[at]) {
+        return true;
+    }
+    if part <= u64::from(top) {
+        table[at] = part as u32;
+        return true;
+    }
+    false
 }
 
 // What became of a table that was looked over at some places.

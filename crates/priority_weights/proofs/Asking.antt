@@ -2,7 +2,7 @@
 use Rattle.std.proofs.Common.{ℕ, ◌≡◌, ◌<◌, ◌≤◌, ◌+◌, ◌⊎◌, inl, inr, max, Option, Some, None, MatchOption, List, length, get_or, refl, sym, ◌∙◌, subst, arith}
 use Rattle.std.specs.Prelude.{slice_index, ◌↔◌, Contains}
 use Rattle.std.proofs.lemmas.List.{get_or_default}
-use Rattle.least_or_cycle.specs.Least.{IsLeast, IsNeeded}
+use Rattle.least_or_cycle.specs.Least.{IsLeast, IsNeeded, IsPart}
 use Rattle.least_or_cycle.specs.Walks.{Falls}
 use Rattle.priority_weights.specs.Inside.Next.{IsAsked}
 
@@ -31,6 +31,16 @@ pub falls_needed : (leads : ℕ → ℕ → ℕ → Type 0) (table : List ℕ) (
     (x ≡ 0) ⊎ ((n : ℕ) × (w : ℕ) × leads m n w × (x ≡ w + slice_index table n)) → IsNeeded (Falls leads) table m x
 falls_needed leads table m x lt covers attained = record {
   enough = λ le. record { falls = λ n w edge. let c = covers n w edge in omega (arith, c, le) };
+  least = λ q keeps below. elim attained [
+    | inl z ↦ omega (arith, z)
+    | inr h ↦ (let f = (keeps.each m lt).falls h.0 h.1 h.2 in let e = h.3 in let b = below h.0 in omega (arith, f, e, b))
+  ];
+}
+
+-- what one edge asks for is a part of it
+pub falls_part : (leads : ℕ → ℕ → ℕ → Type 0) (table : List ℕ) (m x : ℕ) → m < length table →
+    (x ≡ 0) ⊎ ((n : ℕ) × (w : ℕ) × leads m n w × (x ≡ w + slice_index table n)) → IsPart (Falls leads) table m x
+falls_part leads table m x lt attained = record {
   least = λ q keeps below. elim attained [
     | inl z ↦ omega (arith, z)
     | inr h ↦ (let f = (keeps.each m lt).falls h.0 h.1 h.2 in let e = h.3 in let b = below h.0 in omega (arith, f, e, b))

@@ -15,6 +15,7 @@ use Rattle.sc_graph.specs.Protocol.{FlowAt, ProtocolAt, Instant, by_successor, b
 use Rattle.sc_graph.specs.Tables.{priority, weight, bound}
 use Rattle.sc_graph.specs.Costs.{BoundAt, BoundHolds, BudgetHolds, entry_weight}
 use Rattle.sc_graph.specs.Structure.{StepStays}
+use Rattle.sc_graph.specs.Limits.{budget_limit}
 use Rattle.sc_graph.specs.Valid.{IsFormed}
 use Rattle.sc_graph.proofs.Nodes.{step_within}
 use Rattle.least_or_cycle.specs.Least.{Keeps, IsLeast, IsWithin}
@@ -25,7 +26,7 @@ use Rattle.priority_weights.specs.Inside.Bounds.{step_cost, AreCovering}
 use Rattle.priority_weights.specs.Inside.Entries.{entry_number}
 use Rattle.priority_weights.specs.Inside.Parts.{AreParts}
 use Rattle.priority_weights.proofs.Bridging.{bits_below, bits_kept, end_bit_is, weights_keep, weights_kept, bound_sum_is, entry_number_is}
-use Rattle.priority_weights.proofs.Bounding.{bounds_more}
+use Rattle.priority_weights.proofs.Bounding.{ample, ample_covers, ample_small, bounds_more}
 use Rattle.program_edges.proofs.Instantly.{owner_within}
 use Rattle.priority_weights.proofs.Rooms.{step_placed, join_owned}
 use Rattle.priority_weights.proofs.Weighing.{number_more}
@@ -206,3 +207,17 @@ small_entries p formed xs long within n = elim (less_or_not n (length p.nodes)) 
   where
     less_or_not : (a b : ℕ) → (a < b) ⊎ (b ≤ a)
     less_or_not a b = grind arith
+
+-- the least budget is one that an image may have
+pub bound_small : (p : Program) → IsFormed p → (ends priorities weights bounds : List ℕ) → AreParts p ends priorities weights bounds →
+    slice_index bounds 0 ≤ budget_limit
+bound_small p formed ends priorities weights bounds parts =
+    let a = parts.covering.under.below (ample p) (ample_covers p formed (slice_index weights) parts.flow_within) 0 in
+    let b = ample_small p formed 0 in
+    omega (arith, a, b)
+
+pub entry_small : (p : Program) → IsFormed p → (ends priorities weights bounds : List ℕ) → AreParts p ends priorities weights bounds → (entry : Option ℕ) →
+    entry_number (slice_index weights) entry ≤ budget_limit
+entry_small p formed ends priorities weights bounds parts None = omega arith
+entry_small p formed ends priorities weights bounds parts (Some n) =
+    let h = small_entries p formed weights parts.flow.long parts.flow_within n in omega (arith, h)

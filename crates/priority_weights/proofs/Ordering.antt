@@ -5,12 +5,12 @@ use Rattle.sc_graph.specs.Program.{Program}
 use Rattle.sc_graph.specs.Protocol.{Instant, ProtocolEdge}
 use Rattle.conflict_edges.specs.declared.edges.Followers.{Followers}
 use Rattle.conflict_edges.specs.Conflicts.{AreFollowers}
-use Rattle.least_or_cycle.specs.Least.{IsNeeded}
+use Rattle.least_or_cycle.specs.Least.{IsNeeded, IsPart, Keeps}
 use Rattle.least_or_cycle.specs.Walks.{Falls, LeadsTo, LeadsStrictlyTo}
 use Rattle.priority_weights.specs.Edges.{InOrder}
 use Rattle.priority_weights.specs.Inside.Ordered.{IsFollower}
-use Rattle.priority_weights.specs.Inside.Next.{IsAsked, IsRanked}
-use Rattle.priority_weights.proofs.Asking.{falls_needed, answer_turned}
+use Rattle.priority_weights.specs.Inside.Next.{IsAsked, IsRanked, IsSomeAsked}
+use Rattle.priority_weights.proofs.Asking.{falls_needed, falls_part, answer_turned}
 
 pub protocol_edges : (p : Program) (m : ℕ) (f : Followers) → AreFollowers p m f → (n : ℕ) → (IsFollower p m f.updates.now n ⊎ IsFollower p m f.reads.now n) ↔ ProtocolEdge p m n
 protocol_edges p m f are n = (
@@ -37,6 +37,35 @@ order_needed p table m x y lt a b = falls_needed (InOrder p) table m (max x y) l
   where
     less_or_not : (a b : ℕ) → (a ≤ b) ⊎ (b ≤ a)
     less_or_not a b = grind arith
+
+pub order_part : (p : Program) (table : List ℕ) (m x y : ℕ) → m < length table → IsAsked (Instant p m) table 0 x → IsSomeAsked (ProtocolEdge p m) table 1 y →
+    IsPart (Falls (InOrder p)) table m (max x y)
+order_part p table m x y lt a b = falls_part (InOrder p) table m (max x y) lt
+    (elim (less_or_not x y) [
+      | inl le ↦ (let e : max x y ≡ y = omega (arith, le) in elim b [
+        | inl z ↦ inl (omega (arith, e, z))
+        | inr h ↦ inr (h.0, 1, inr (h.1, refl), (let k = h.2 in omega (arith, e, k)))
+      ])
+      | inr le ↦ (let e : max x y ≡ x = omega (arith, le) in elim a.attained [
+        | inl z ↦ inl (omega (arith, e, z))
+        | inr h ↦ inr (h.0, 0, inl (h.1, refl), (let k = h.2 in omega (arith, e, k)))
+      ])
+    ])
+  where
+    less_or_not : (a b : ℕ) → (a ≤ b) ⊎ (b ≤ a)
+    less_or_not a b = grind arith
+
+-- a table keeps the order where it never rises along instantaneous edges and falls along protocol edges
+pub order_kept : (p : Program) (table : List ℕ) (count : ℕ) → ((m : ℕ) → m < count → (n : ℕ) → Instant p m n → slice_index table n ≤ slice_index table m) →
+    ((m n : ℕ) → ProtocolEdge p m n → slice_index table n < slice_index table m) → Keeps (Falls (InOrder p)) count (slice_index table)
+order_kept p table count instants protocol = record {
+  each = λ m lt. record {
+    falls = λ n w edge. elim edge [
+      | inl e ↦ (let h = instants m lt n e.0 in let z = e.1 in omega (arith, h, z))
+      | inr e ↦ (let h = protocol m n e.0 in let z = e.1 in omega (arith, h, z))
+    ];
+  };
+}
 
 pub order_towards : (p : Program) (ranks : List ℕ) (m below : ℕ) (r : Option ℕ) → ((n : ℕ) → Instant p m n → ¬ IsRanked ranks below n) →
     MatchOption r ((n : ℕ) → ProtocolEdge p m n → ¬ IsRanked ranks below n) (λ n. ProtocolEdge p m n × IsRanked ranks below n) →

@@ -1,6 +1,7 @@
 //! Tables from the least numbers of each sort.
 
 ghost use Rattle.std.specs.Prelude.{◌≡◌, ◌≤◌, IfOk, ℕ, map, nat_lt, slice_index};
+ghost use Rattle.sc_graph.specs.Limits.{budget_limit};
 ghost use Rattle.sc_graph.specs.Valid.{IsFormed};
 ghost use Rattle.priority_weights.specs.Inside.Parts.{AreParts};
 ghost use Rattle.priority_weights.specs.LeastTables.{AreLeast};
@@ -22,7 +23,8 @@ pub(crate) fn assembled(
 ) -> Result<Tables, AllocError>
     requires formed { IsFormed program.now }
     requires parts { AreParts program.now ends.now priorities.now weights.now bounds.items }
-    ensures { IfOk result (AreLeast program.now) }
+    ensures least { IfOk result (AreLeast program.now) }
+    ensures budget { IfOk result (λ q. q.budget ≤ budget_limit) }
 {
     let entry_weight = entry_number(program, weights, 0) as u32;
     let budget = entry(bounds.as_slice(), 0).max(entry_weight);

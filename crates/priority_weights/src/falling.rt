@@ -17,11 +17,13 @@ pub(crate) enum Falling {
 }
 
 /// Of hints for the search, for speed alone: an order of the nodes in which what an edge leads to is likely
-/// to stand first, and nodes of which an edge of weight 1 is likely to lie on a cycle.
+/// to stand first, and nodes of which an edge of weight 1 is likely to lie on a cycle; and for each node one behind an
+/// edge of weight 1 that asks most of it.
 #[derive(Clone, Copy)]
 pub(crate) struct Hints<'a> {
     pub(crate) order: &'a [NodeId],
     pub(crate) suspects: &'a [NodeId],
+    pub(crate) reasons: &'a [NodeId],
 }
 
 /// The least table, of as many numbers as there are nodes, that falls along the edges of a graph; or a cycle

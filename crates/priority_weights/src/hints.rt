@@ -7,6 +7,7 @@ use crate::falling::Hints;
 use crate::flow::Flow;
 use crate::groups::{add_next, add_to, order_arcs};
 use crate::next::entry;
+use crate::reasons::reasons;
 use crate::visit::Visited;
 use crate::ways::{settling_order, way_to};
 use conflict_edges::Edges;
@@ -15,11 +16,12 @@ use sc_graph::{NodeId, Program, Step};
 use std::alloc::{AllocError, Global};
 
 /// An order of the nodes, and nodes that are likely to lie on a cycle: one at most, and then the order is the way on
-/// which it comes back to itself, the last node first.
+/// which it comes back to itself, the last node first. Where there is none, for priorities, the reason of each node.
 #[derive(Drop)]
 pub(crate) struct Search {
     order: Vec<NodeId>,
     suspects: Vec<NodeId>,
+    reasons: Vec<NodeId>,
 }
 
 impl Search {
@@ -57,7 +59,11 @@ impl Search {
             Some(suspect) => Search::back_to(alloc, &arcs, &visited, count, suspect),
             None => {
                 let order = settling_order(alloc, &arcs, &visited)?;
-                Search::along(alloc, order.as_slice(), count)
+                Ok(Search {
+                    order: of_program(alloc, order.as_slice(), count)?,
+                    suspects: Vec::new(alloc),
+                    reasons: reasons(alloc, &arcs, order.as_slice(), count)?,
+                })
             }
         }
     }
@@ -67,6 +73,7 @@ impl Search {
         Ok(Search {
             order: of_program(alloc, order, count)?,
             suspects: Vec::new(alloc),
+            reasons: Vec::new(alloc),
         })
     }
 
@@ -84,14 +91,16 @@ impl Search {
         Ok(Search {
             order: of_program(alloc, way.as_slice(), count)?,
             suspects,
+            reasons: Vec::new(alloc),
         })
     }
 
-    /// The order and the suspects.
+    /// The order, the suspects and the reasons.
     pub(crate) fn hints(&self) -> Hints<'_> {
         Hints {
             order: self.order.as_slice(),
             suspects: self.suspects.as_slice(),
+            reasons: self.reasons.as_slice(),
         }
     }
 

@@ -1,6 +1,7 @@
 //! The least tables of a program, table by table.
 
-ghost use Rattle.std.specs.Prelude.{◌≡◌, IfOk, ℕ, Err};
+ghost use Rattle.std.specs.Prelude.{◌≡◌, ◌≤◌, IfOk, ℕ, Err};
+ghost use Rattle.sc_graph.specs.Limits.{budget_limit};
 ghost use Rattle.sc_graph.specs.Valid.{IsFormed};
 ghost use Rattle.priority_weights.specs.Edges.{IsInstantLoop, IsOrderCycle, HasNoWalk};
 ghost use Rattle.priority_weights.specs.LeastTables.{AreLeast};
@@ -20,7 +21,8 @@ use sc_graph::{Program, Tables};
 use sqlite_items::Items;
 use std::alloc::Global;
 
-/// The least tables of a formed program, whose protocol edges are given. `InstantLoop`: flow within one tick
+/// The least tables of a formed program, whose protocol edges are given; the budget is one that an image may have.
+/// `InstantLoop`: flow within one tick
 /// closes. `Cyclic`: it does not, and instantaneous and protocol edges close, with a protocol edge. Each names such
 /// a walk: distinct nodes from the least one on, along edges that close from the last to the first. `Memory`: memory
 /// was refused.
@@ -28,6 +30,7 @@ pub fn tables(alloc: Global, program: &Program, edges: &Edges) -> Result<Tables,
     requires formed { IsFormed program.now }
     requires edges { edges.now ≡ program.now }
     ensures least { IfOk result (AreLeast program.now) }
+    ensures budget { IfOk result (λ q. q.budget ≤ budget_limit) }
     ensures no_walk { IfOk result (λ _. HasNoWalk program.now) }
     ensures instant_loop { (walk : _) → result ≡ Err (InstantLoop walk) → IsInstantLoop program.now walk }
     ensures cyclic { (walk : _) → result ≡ Err (Cyclic walk) → IsOrderCycle program.now walk }

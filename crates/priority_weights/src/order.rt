@@ -9,7 +9,8 @@ ghost use Rattle.priority_weights.specs.Inside.Falling.{IsFalling};
 
 use crate::falling::{Falling, Hints, table_or_cycle};
 use crate::instants::{asked_by_instants, ranked_instant};
-use crate::protocol::{asked_by_protocol, ranked_behind};
+use crate::kept::{instants_kept, protocol_kept};
+use crate::protocol::{asked_by_one, asked_by_protocol, ranked_behind};
 use conflict_edges::Edges;
 use least_or_cycle::{Graph, Rule};
 use sc_graph::{Links, NodeId, Program};
@@ -36,6 +37,7 @@ pub(crate) fn priorities(
         program,
         links,
         edges,
+        reasons: hints.reasons,
     };
     table_or_cycle(alloc, &order, program.node_count(), hints)
 }
@@ -46,6 +48,7 @@ struct Order<'a> {
     program: &'a Program,
     links: Links,
     edges: &'a Edges<'a>,
+    reasons: &'a [NodeId],
 }
 
 impl<'a> Model for Order<'a> {
@@ -66,6 +69,24 @@ impl<'a> Rule for Order<'a> {
         asked_by_instants(self.program, &self.links, table, place).max(asked_by_protocol(
             self.edges, table, place,
         ))
+    }
+
+    fn part(&self, table: &[u32], place: u16) -> u64 {
+        let reason = match self.reasons.get(place as usize) {
+            Some(node) => *node,
+            None => place,
+        };
+        asked_by_instants(self.program, &self.links, table, place).max(asked_by_one(
+            self.edges, table, place, reason,
+        ))
+    }
+
+    fn is_kept(&self, alloc: Global, table: &[u32], count: u16) -> Result<bool, AllocError> {
+        if !instants_kept(self.program, &self.links, table, count) {
+            return Ok(false);
+        }
+        let kept = protocol_kept(alloc, self.program, self.edges, table)?;
+        Ok(kept)
     }
 }
 

@@ -3,9 +3,10 @@
 ghost use Rattle.std.specs.Prelude.{ℕ, MatchOption};
 ghost use Rattle.sc_graph.specs.Protocol.{ProtocolEdge};
 ghost use Rattle.priority_weights.specs.Inside.Ordered.{IsFollower};
-ghost use Rattle.priority_weights.specs.Inside.Next.{IsAsked, IsRanked};
+ghost use Rattle.priority_weights.specs.Inside.Next.{IsAsked, IsRanked, IsSomeAsked};
 
 use crate::next::{entry, is_ranked};
+use crate::reasons::is_among;
 use conflict_edges::Edges;
 use sc_graph::NodeId;
 
@@ -20,6 +21,20 @@ pub(crate) fn asked_by_protocol(edges: &Edges, table: &[u32], node: NodeId) -> u
         node,
         followers.reads,
     ))
+}
+
+/// What the protocol edge from a node to another asks for, if there is one; else 0.
+pub(crate) fn asked_by_one(edges: &Edges, table: &[u32], node: NodeId, other: NodeId) -> u64
+    ensures { IsSomeAsked (ProtocolEdge edges.now node) table.now 1 result }
+{
+    let followers = edges.followers(node);
+    if !is_among(followers.updates, other) && !is_among(followers.reads, other) {
+        return 0;
+    }
+    if !edges.are_concurrent(node, other) {
+        return 0;
+    }
+    1 + u64::from(entry(table, other))
 }
 
 /// A node of a rank above 0 and below a number to which a protocol edge leads.

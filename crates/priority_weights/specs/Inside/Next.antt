@@ -11,6 +11,10 @@ pub record IsAsked (Nodes : ℕ → Type 0) (table : List ℕ) (w x : ℕ) : Typ
   pub covers : (n : ℕ) → Nodes n → w + slice_index table n ≤ x
   pub attained : (x ≡ 0) ⊎ ((n : ℕ) × Nodes n × (x ≡ w + slice_index table n))
 
+-- x is 0, or what an edge of weight w to one of these nodes asks for
+abbrev pub IsSomeAsked : (ℕ → Type 0) → List ℕ → ℕ → ℕ → Type 0
+IsSomeAsked Nodes table w x = (x ≡ 0) ⊎ ((n : ℕ) × Nodes n × (x ≡ w + slice_index table n))
+
 -- the node has a rank above 0 and below a number
 pub record IsRanked (ranks : List ℕ) (below n : ℕ) : Type 0 where
   pub ranked : 0 < slice_index ranks n

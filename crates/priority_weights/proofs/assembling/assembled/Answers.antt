@@ -1,6 +1,7 @@
 use Rattle.std.proofs.Common.{◌≡◌, ◌∙◌, ap, arith}
 use Rattle.std.specs.Prelude.{slice_index}
-use Rattle.priority_weights.proofs.Assembly.{assembled_least, small_entries}
+use Rattle.sc_graph.specs.Program.{entry_of}
+use Rattle.priority_weights.proofs.Assembly.{assembled_least, bound_small, entry_small, small_entries}
 use Rattle.priority_weights.proofs.assembling.assembled.Goals as goal
 
 pub narrowed-requires : goal.narrowed-requires
@@ -9,8 +10,8 @@ narrowed-requires c = small_entries c.args.program.now c.requires.formed c.args.
 pub narrowed-requires-2 : goal.narrowed-requires-2
 narrowed-requires-2 c = small_entries c.args.program.now c.requires.formed c.args.weights.now c.requires.parts.flow.long c.requires.parts.flow_within
 
-pub returns : goal.returns
-returns c =
+pub returns-clause-least : goal.returns-clause-least
+returns-clause-least c =
     let first : c.entry.result ≡ slice_index c.args.bounds.items 0 = c.entry.ensures ∙ ap (λ xs. slice_index xs 0) c.as_slice.ensures.value in
     let second = c.entry_number-entry_weight.ensures.value in
     let most = c.max-budget.ensures in
@@ -21,3 +22,13 @@ returns c =
       bounds_are = c.from_vec.ensures;
       budget_is = omega (arith, first, second, most);
     })
+
+pub returns-clause-budget : goal.returns-clause-budget
+returns-clause-budget c =
+    let p = c.args.program.now in
+    let first : c.entry.result ≡ slice_index c.args.bounds.items 0 = c.entry.ensures ∙ ap (λ xs. slice_index xs 0) c.as_slice.ensures.value in
+    let second = c.entry_number-entry_weight.ensures.value in
+    let most = c.max-budget.ensures in
+    let a = bound_small p c.requires.formed c.args.ends.now c.args.priorities.now c.args.weights.now c.args.bounds.items c.requires.parts in
+    let b = entry_small p c.requires.formed c.args.ends.now c.args.priorities.now c.args.weights.now c.args.bounds.items c.requires.parts (entry_of p 0) in
+    omega (arith, first, second, most, a, b)

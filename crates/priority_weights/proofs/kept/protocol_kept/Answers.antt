@@ -1,0 +1,13 @@
+use Rattle.std.proofs.Common.{arith, below_more}
+use Rattle.priority_weights.specs.Inside.Pairs.{FallsOn}
+use Rattle.priority_weights.proofs.AlongVariables.{falls_kept}
+use Rattle.priority_weights.proofs.kept.protocol_kept.Goals as goal
+
+pub loop-x-preserved : goal.loop-x-preserved
+loop-x-preserved c = below_more (FallsOn c.args.program.now c.args.table.now) _ c.loop-x.invariant (c.in_ok-kept.ensures c.if-not-kept.false)
+
+pub returns : goal.returns
+returns c =
+    let end = c.loop-x-test.false in
+    let count = c.variable_count-x-end.ensures in
+    λ yes. falls_kept c.args.program.now c.args.table.now c.requires.formed (λ x h. c.loop-x.invariant x (omega (arith, h, end, count)))

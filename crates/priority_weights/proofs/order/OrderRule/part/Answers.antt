@@ -1,0 +1,22 @@
+use Rattle.std.proofs.Common.{ℕ, sym, subst}
+use Rattle.sc_graph.specs.Program.{Program}
+use Rattle.sc_graph.specs.Protocol.{ProtocolEdge}
+use Rattle.least_or_cycle.specs.Least.{IsPart}
+use Rattle.least_or_cycle.specs.Walks.{Falls}
+use Rattle.priority_weights.specs.Edges.{InOrder}
+use Rattle.priority_weights.specs.Inside.Next.{IsSomeAsked}
+use Rattle.priority_weights.proofs.Ordering.{order_part}
+use Rattle.priority_weights.proofs.order.OrderRule.part.Goals as goal
+
+pub returns : goal.returns
+returns c =
+    let p = c.self.inside.program.now in
+    let table = c.args.table.now in
+    let m = c.args.place in
+    let P : Program → Type 0 = λ q. IsSomeAsked (ProtocolEdge q m) table 1 c.asked_by_one.result in
+    let Q : ℕ → Type 0 = λ x. IsPart (Falls (InOrder p)) table m x in
+    let R : Program → Type 0 = λ q. IsPart (Falls (InOrder q)) table m c.max.result in
+    subst R c.self.view_is
+    (subst Q (sym c.max.ensures)
+    (order_part p table m c.asked_by_instants.result c.asked_by_one.result c.requires c.asked_by_instants.ensures
+    (subst P c.self.invariant.edges_of c.asked_by_one.ensures)))
