@@ -41,7 +41,7 @@ fn worker(word: &str) -> io::Result<u8>
 {
     match word.parse::<u8>().ok() {
         Some(worker) if worker <= 8 => Ok(worker),
-        _ => known(None),
+        _ => Err(io::Error::from(io::ErrorKind::InvalidData)),
     }
 }
 
