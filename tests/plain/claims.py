@@ -168,7 +168,8 @@ class Account:
         kind = self.random.randrange(8)
         if kind < 4 or number == 0:
             return f"claim {self.random.randrange(9)}"
-        of = max(0, number - self.random.choice([1, 1, 2, 3, number]))
+        # a tick of these images gives some ten claims
+        of = self.random.randrange(min(number, 10) + 1)
         return f"commit {of}" if kind < 7 else f"back {of}"
 
     def rows(self, inputs, events):
