@@ -180,6 +180,18 @@ class Account:
             rows.append(f"tick {inputs if number % 2 else ''}: " + "".join(f"{act}; {LOOK}; " for act in acts))
         return rows
 
+    def repaired(self, row, answer):
+        """A tick in which acts on claims that were not given are acts on claims that were, as far as the answers tell."""
+        given, _, acts = row.partition(":")
+        acts = [act.strip() for act in acts.split(";") if act.strip()]
+        count = 0
+        for number, told in enumerate(part.strip() for part in re.sub("; stand", ", stand", answer).split(";")[:len(acts)]):
+            if told == "no such claim":
+                word = acts[number].split()[0]
+                acts[number] = f"{word} {self.random.randrange(count)}" if count else f"claim {self.random.randrange(9)}"
+            count += told.startswith("given ") and told != "given back"
+        return f"{given}: " + "".join(f"{act}; " for act in acts)
+
     def wrong(self, row, answer):
         """What is wrong of a tick, or None. The machine stands at its end then."""
         given, _, acts = row[len("tick "):].partition(":")
