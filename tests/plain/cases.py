@@ -232,6 +232,20 @@ def library_rows(room, rest, body):
     yield Rows([row for row, answer in rows if answer is not None], Run("rows", [], given.encode(), wanted.encode()))
 
 
+def programs(room, rest, body):
+    """One run that asks a row of an image with the changes of each line."""
+    row, _, name = rest.rpartition(" from ")
+    names, given, wanted = [], "", ""
+    for changes, answer in rows_of(body):
+        image = Image(room.images[name])
+        for change in unfolded(changes).split(";"):
+            image.change(change)
+        names.append(f"{row} {changes}")
+        given += f"image of any {image.bytes().hex(' ')}\n{row}\n"
+        wanted += answer + "\n"
+    yield Rows(names, Run(row, [], given.encode(), wanted.encode()))
+
+
 class Rows:
     """Rows whose answers are lines, each of which is a result."""
 
@@ -243,12 +257,14 @@ class Rows:
         given, wanted = done.stdout.decode().split("\n"), self.run.stdout.decode().split("\n")
         given += [f"nothing, status {done.returncode}"] * (len(wanted) - len(given))
         for name, one, other in zip(self.names, given, wanted):
-            yield name[:120], [] if is_answer(one, other) else [("the answer", one, other)]
+            yield name[:120], [] if is_answer(one.strip(), other) else [("the answer", one, other)]
 
 
 def is_answer(given, wanted):
     """Whether an answer is as wanted, where words between `<` and `>` stand in any order, those between `[` and `]` may be left
     away, and `..` at the end is any rest."""
+    if given == wanted:
+        return True
     rest = given.split(" ")
     for part in re.findall(r"<.*?>|\[.*?\]|[^<\[]+", wanted):
         words = part.strip(" <>[]").split(" ") if part[0] in "<[" else part.strip(" ").split(" ")
@@ -257,9 +273,11 @@ def is_answer(given, wanted):
         taken = rest[:len(words)]
         if part[0] == "[" and taken != words:
             continue
-        if (sorted(taken) != sorted(words)) if part[0] == "<" else taken != words:
+        if part[0] == "<":
+            taken, words = (sorted(word.rstrip(";") for word in some) for some in (taken, words))
+        if taken != words:
             return False
-        rest = rest[len(words):]
+        rest = rest[len(taken):]
     return rest in ([], [""])
 
 
@@ -269,7 +287,7 @@ READERS = {
     "image": lambda room, name, body: room.image(name, body),
     "changed": lambda room, rest, body: room.image(rest.split(" ")[0], body, room.images[rest.split(" ")[2]]),
     "example": lambda room, rest, body: room.store(os.path.basename(rest.split(" ")[-1]), read(os.path.join(room.examples, rest.split(" ")[0]))),
-    "texts": texts, "images": images, "bytes": changed_files, "lines": lines, "rows": library_rows,
+    "texts": texts, "images": images, "bytes": changed_files, "lines": lines, "rows": library_rows, "programs": programs,
 }
 
 

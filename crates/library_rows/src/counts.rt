@@ -1,0 +1,109 @@
+//! Programs of so many rows, whatever rule they break: the counts that the layout of an image has room for.
+
+use crate::reading::{halves, known, number};
+use sc_graph::{Node, Program, ProgramFault, Role, Step, Thread, ThreadId, Variable};
+use sc_values::{Kind, Name};
+use sqlite_items::Items;
+use std::alloc::{AllocError, Global};
+use std::io;
+
+// So many variables, all of one name.
+fn variables(alloc: Global, name: Name, count: usize) -> Result<Items<Variable>, AllocError> {
+    let mut list = Items::new(alloc);
+    for _ in 0..count {
+        let variable = Variable {
+            name,
+            kind: Kind::Bool,
+            role: Role::Local,
+        };
+        if list.push(variable).is_err() {
+            return Err(AllocError);
+        }
+    }
+    Ok(list)
+}
+
+// So many threads of this parent.
+fn threads(
+    alloc: Global,
+    parent: Option<ThreadId>,
+    count: usize,
+) -> Result<Items<Thread>, AllocError> {
+    let mut list = Items::new(alloc);
+    for _ in 0..count {
+        if list.push(Thread { parent, entry: 0 }).is_err() {
+            return Err(AllocError);
+        }
+    }
+    Ok(list)
+}
+
+// So many nodes, at all of which the root ends.
+fn nodes(alloc: Global, count: usize) -> Result<Items<Node>, AllocError> {
+    let mut list = Items::new(alloc);
+    for _ in 0..count {
+        let node = Node {
+            owner: 0,
+            step: Step::Exit,
+        };
+        if list.push(node).is_err() {
+            return Err(AllocError);
+        }
+    }
+    Ok(list)
+}
+
+// A fork that names thread 7 so many times.
+fn fork(alloc: Global, count: usize) -> Result<Items<Node>, AllocError> {
+    let mut children = Items::new(alloc);
+    for _ in 0..count {
+        children.push(7)?;
+    }
+    let step = Step::Fork { children, join: 0 };
+    let mut list = Items::new(alloc);
+    match list.push(Node { owner: 0, step }) {
+        Ok(()) => Ok(list),
+        Err(_) => Err(AllocError),
+    }
+}
+
+// `WORD COUNT`: a program of so many variables, threads or nodes, of a fork of so many children, or of a thread whose
+// parent has this number.
+fn program(alloc: Global, words: &str) -> io::Result<Result<Program, ProgramFault>> {
+    let (word, count) = halves(words, ' ');
+    let count = number(count)?;
+    let (mut x, mut t, mut n) = (Items::new(alloc), Items::new(alloc), Items::new(alloc));
+    match word {
+        "variables" => x = variables(alloc, known(Name::of("x"))?, count)?,
+        "threads" => t = threads(alloc, None, count)?,
+        "nodes" => n = nodes(alloc, count)?,
+        "children" => n = fork(alloc, count)?,
+        "parent" => t = threads(alloc, Some(known(u16::try_from(count).ok())?), 1)?,
+        _ => return known(None),
+    }
+    Ok(Program::of(x, t, n))
+}
+
+// How many variables, threads and nodes a program has, and the parent of its first thread, where there is one.
+fn tell_program(alloc: Global, program: &Program, told: &mut String) -> Result<(), AllocError> {
+    let (x, t) = (program.variable_count(), program.thread_count());
+    let n = program.node_count();
+    told.push_str(format!(in alloc; "{x} {t} {n}")?.as_str())?;
+    match program.parent(0) {
+        Some(parent) => told.push_str(format!(in alloc; " parent {parent}")?.as_str()),
+        None => Ok(()),
+    }
+}
+
+/// Whether a row is about counts; what is told of it.
+pub(crate) fn tell_counts(alloc: Global, row: &str, told: &mut String) -> io::Result<bool> {
+    let (word, rest) = halves(row, ' ');
+    if word != "count" {
+        return Ok(false);
+    }
+    match program(alloc, rest)? {
+        Ok(program) => tell_program(alloc, &program, told)?,
+        Err(fault) => told.push_str(format!(in alloc; "{fault}")?.as_str())?,
+    }
+    Ok(true)
+}

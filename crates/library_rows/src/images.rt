@@ -1,0 +1,44 @@
+//! Images, spelled by their bytes.
+
+use crate::reading::known;
+use bytecode::{Image, decode};
+use std::alloc::Global;
+use std::io;
+use verifier::{Verified, verify};
+
+// The value of a digit to the base of 16.
+fn digit(sign: u8) -> Option<u8> {
+    match sign {
+        b'0'..=b'9' => sign.checked_sub(b'0'),
+        b'a'..=b'f' => sign.checked_sub(b'a' - 10),
+        _ => None,
+    }
+}
+
+// The byte of two digits.
+fn byte(word: &str) -> Option<u8> {
+    match word.as_bytes() {
+        [high, low] => digit(*high)?.checked_mul(16)?.checked_add(digit(*low)?),
+        _ => None,
+    }
+}
+
+fn bytes_of(alloc: Global, text: &str) -> io::Result<Vec<u8>> {
+    let mut bytes = Vec::new(alloc);
+    for word in text.split_whitespace() {
+        bytes.push(known(byte(word))?)?;
+    }
+    Ok(bytes)
+}
+
+/// The image that these bytes spell, whatever rule of the verifier it breaks.
+pub(crate) fn decoded(alloc: Global, text: &str) -> io::Result<Image> {
+    let bytes = bytes_of(alloc, text)?;
+    known(decode(alloc, bytes.as_slice()).ok())
+}
+
+/// The valid image that these bytes spell.
+pub(crate) fn verified(alloc: Global, text: &str) -> io::Result<Verified> {
+    let image = decoded(alloc, text)?;
+    known(verify(alloc, image).ok())
+}

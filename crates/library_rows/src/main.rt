@@ -1,0 +1,28 @@
+//! Rows about what no command of `sct` reaches, each answered by a line: ticks by the claims of several workers, judged
+//! runs, the queue of claims, programs of nodes, names, operators and codes. The rows stand in tests/cases/library, and
+//! tests/cases/README.md tells how they are written.
+#![tactic(auto)]
+
+mod acts;
+mod codes;
+mod counts;
+mod images;
+mod names;
+mod operations;
+mod operators;
+mod programs;
+mod queues;
+mod reading;
+mod rows;
+mod telling;
+mod ticks;
+
+use std::io;
+
+fn main(rt: HostRuntime) -> io::Result<()> {
+    let text = io::read_to_string(rt.alloc(), rt.stdin())?;
+    let mut told = String::new(rt.alloc());
+    let answered = rows::answer(&rt, rt.alloc(), text.as_str(), &mut told);
+    print!(rt; "{told}")?;
+    answered
+}

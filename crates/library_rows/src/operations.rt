@@ -1,0 +1,143 @@
+//! The words of operations.
+
+use crate::reading::{known, place, value};
+use crate::telling::tell_value;
+use sc_values::{BinaryOperator, Combination, Divisor, Operation, UnaryOperator};
+use std::alloc::{AllocError, Global};
+use std::io;
+
+/// The operator of two operands of this word.
+pub(crate) fn binary(word: &str) -> Option<BinaryOperator> {
+    match word {
+        "+" => Some(BinaryOperator::Add),
+        "-" => Some(BinaryOperator::Subtract),
+        "*" => Some(BinaryOperator::Multiply),
+        "min" => Some(BinaryOperator::Min),
+        "max" => Some(BinaryOperator::Max),
+        "and" => Some(BinaryOperator::And),
+        "or" => Some(BinaryOperator::Or),
+        "==" => Some(BinaryOperator::Equal),
+        "!=" => Some(BinaryOperator::NotEqual),
+        "<" => Some(BinaryOperator::Less),
+        "<=" => Some(BinaryOperator::LessOrEqual),
+        ">" => Some(BinaryOperator::Greater),
+        ">=" => Some(BinaryOperator::GreaterOrEqual),
+        _ => None,
+    }
+}
+
+fn word_of_binary(operator: BinaryOperator) -> &'static str {
+    match operator {
+        BinaryOperator::Add => " +",
+        BinaryOperator::Subtract => " -",
+        BinaryOperator::Multiply => " *",
+        BinaryOperator::Min => " min",
+        BinaryOperator::Max => " max",
+        BinaryOperator::And => " and",
+        BinaryOperator::Or => " or",
+        BinaryOperator::Equal => " ==",
+        BinaryOperator::NotEqual => " !=",
+        BinaryOperator::Less => " <",
+        BinaryOperator::LessOrEqual => " <=",
+        BinaryOperator::Greater => " >",
+        BinaryOperator::GreaterOrEqual => " >=",
+    }
+}
+
+// The divisor behind a sign.
+fn divisor(word: &str, sign: char) -> Option<Divisor> {
+    Divisor::of(word.strip_prefix(sign)?.parse::<i32>().ok()?)
+}
+
+/// The operator of one operand of this word.
+pub(crate) fn unary(word: &str) -> Option<UnaryOperator> {
+    match word {
+        "neg" => return Some(UnaryOperator::Negate),
+        "not" => return Some(UnaryOperator::Not),
+        _ => {}
+    }
+    match divisor(word, '/') {
+        Some(divisor) => Some(UnaryOperator::Divide(divisor)),
+        None => Some(UnaryOperator::Remainder(divisor(word, '%')?)),
+    }
+}
+
+/// The combination of this word.
+pub(crate) fn combination(word: &str) -> Option<Combination> {
+    match word {
+        "add" => Some(Combination::Add),
+        "multiply" => Some(Combination::Multiply),
+        "min" => Some(Combination::Min),
+        "max" => Some(Combination::Max),
+        "and" => Some(Combination::And),
+        "or" => Some(Combination::Or),
+        _ => None,
+    }
+}
+
+/// The word of a combination.
+pub(crate) fn word_of_combination(combination: Combination) -> &'static str {
+    match combination {
+        Combination::Add => " add",
+        Combination::Multiply => " multiply",
+        Combination::Min => " min",
+        Combination::Max => " max",
+        Combination::And => " and",
+        Combination::Or => " or",
+    }
+}
+
+/// The operation of this word, as in a code of an image: `v0` loads variable 0, and what is no operator is a value.
+pub(crate) fn operation(word: &str) -> io::Result<Operation> {
+    if let Some(operator) = binary(word) {
+        return Ok(Operation::Binary(operator));
+    }
+    if let Some(operator) = unary(word) {
+        return Ok(Operation::Unary(operator));
+    }
+    match word.strip_prefix('v') {
+        Some(number) => Ok(Operation::Load(place(number)?)),
+        None => Ok(Operation::Literal(value(word)?)),
+    }
+}
+
+/// Operations, each a word.
+pub(crate) fn operations(alloc: Global, text: &str) -> io::Result<Vec<Operation>> {
+    let mut operations = Vec::new(alloc);
+    for word in text.split_whitespace() {
+        operations.push(operation(word)?)?;
+    }
+    Ok(operations)
+}
+
+fn tell_unary(alloc: Global, told: &mut String, operator: UnaryOperator) -> Result<(), AllocError> {
+    match operator {
+        UnaryOperator::Negate => told.push_str(" neg"),
+        UnaryOperator::Not => told.push_str(" not"),
+        UnaryOperator::Divide(by) => {
+            let number = by.number();
+            told.push_str(format!(in alloc; " /{number}")?.as_str())
+        }
+        UnaryOperator::Remainder(by) => {
+            let number = by.number();
+            told.push_str(format!(in alloc; " %{number}")?.as_str())
+        }
+    }
+}
+
+/// Operations, each behind a space.
+pub(crate) fn tell_operations(
+    alloc: Global,
+    told: &mut String,
+    operations: &[Operation],
+) -> Result<(), AllocError> {
+    for operation in operations {
+        match operation {
+            Operation::Literal(value) => tell_value(alloc, told, *value)?,
+            Operation::Load(x) => told.push_str(format!(in alloc; " v{x}")?.as_str())?,
+            Operation::Unary(operator) => tell_unary(alloc, told, *operator)?,
+            Operation::Binary(operator) => told.push_str(word_of_binary(*operator))?,
+        }
+    }
+    Ok(())
+}

@@ -1,6 +1,0 @@
-use Rattle.std.proofs.Common.{All}
-use Rattle.ready_queue.specs.Rule.{IsPassOf}
-use Rattle.ready_queue_tests.proofs.ports.ports_of.Given as goal
-
-abbrev pub invariant-loop : goal.invariant-loop
-invariant-loop l = All (λ p. IsPassOf l.queue p) l.passes.items
