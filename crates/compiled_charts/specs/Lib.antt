@@ -1,0 +1,6 @@
+pub mod Active
+pub mod Ticks
+pub mod Refused
+pub mod Compiled
+pub mod Kept
+pub mod Inside
