@@ -43,6 +43,11 @@ const char *sct_status_words(sct_status status) {
   return "no status";
 }
 
+/* The status of a call on the image of a machine, which was valid when it was opened: what is refused of it now is memory. */
+static sct_status of_machine(int32_t status) {
+  return status == SCT_IMAGE ? SCT_MEMORY : (sct_status)status;
+}
+
 /* ---- faults */
 
 /* The number that stands here in decimal digits. */
@@ -71,14 +76,14 @@ static void forget(sct_fault *fault) {
   if (fault != NULL) memset(fault, 0, sizeof *fault);
 }
 
-/* Reads a fault from its words, as `E03 at 57`; the text is null where the fault is none of a text. What the status is. */
+/* Reads a fault from its words, as `E03 at 57`; the text counts where the fault is one of a text. What the status is. */
 static sct_status tell(int32_t status, const char *words, const char *text, size_t length, sct_fault *fault) {
   if (status != SCT_TEXT && status != SCT_IMAGE) return (sct_status)status;
   if (strncmp(words, "E52", 3) == 0) return SCT_MEMORY;
   if (fault != NULL) {
     memcpy(fault->words, words, sizeof fault->words);
     fault->number = (int32_t)number_at(words + 1);
-    if (text != NULL && strncmp(words + 3, " at ", 4) == 0) find_place(text, length, number_at(words + 7), fault);
+    if (status == SCT_TEXT && strncmp(words + 3, " at ", 4) == 0) find_place(text, length, number_at(words + 7), fault);
   }
   return (sct_status)status;
 }
@@ -270,7 +275,7 @@ sct_status sct_react(sct_machine *machine, uint64_t *steps) {
   if (machine == NULL) return SCT_NULL;
   status = sct_cells_tick(machine->image, machine->image_length, machine->inputs, machine->variables, machine->values,
                           machine->variables, machine->statuses, machine->threads, &count);
-  if (status != SCT_OK) return (sct_status)status;
+  if (status != SCT_OK) return of_machine(status);
   memset(machine->inputs, 0, machine->variables * sizeof(int32_t));
   if (steps != NULL) *steps = count;
   return SCT_OK;
@@ -350,11 +355,11 @@ sct_status sct_restore(sct_machine *machine, const uint8_t *bytes, size_t length
     memcpy(machine->statuses, statuses, machine->threads * sizeof(uint32_t));
   }
   rattle_dealloc(cells.at);
-  return (sct_status)status;
+  return of_machine(status);
 }
 
 sct_status sct_reset(sct_machine *machine) {
   if (machine == NULL) return SCT_NULL;
-  return (sct_status)sct_cells_first(machine->image, machine->image_length, machine->values, machine->variables, machine->statuses,
-                                     machine->threads);
+  return of_machine(sct_cells_first(machine->image, machine->image_length, machine->values, machine->variables, machine->statuses,
+                                    machine->threads));
 }

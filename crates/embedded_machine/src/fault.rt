@@ -8,7 +8,7 @@ use std::alloc::{AllocError, AllocFailed};
 /// Why a machine refuses. Nothing has changed then.
 #[derive(Clone, Copy, Debug, PartialEq, Eq)]
 pub enum MachineFault {
-    /// The bytes spell no image, or none that keeps the rules.
+    /// The bytes spell no image, or none that keeps the rules; or memory was refused while they were looked at.
     Image,
     /// The cells hold no configuration in which the program rests, or are not as many.
     Control,
