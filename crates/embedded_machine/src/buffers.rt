@@ -1,0 +1,30 @@
+//! Buffers of a caller's.
+
+ghost use Rattle.std.specs.Prelude.{◌≡◌, ◌≤◌, MatchBool, length, take};
+
+/// Puts bytes at the beginning of a buffer. Whether there is room for them; else nothing has changed.
+pub fn put_bytes(from: &[u8], into: &mut [u8]) -> bool
+    ensures { MatchBool result (take (length from.now) into.new ≡ from.now) (into.new ≡ into.old) }
+{
+    if from.len() > into.len() {
+        return false;
+    }
+    put_all(from, into);
+    true
+}
+
+fn put_all(from: &[u8], into: &mut [u8])
+    requires { length from.now ≤ length into.old }
+    ensures { take (length from.now) into.new ≡ from.now }
+{
+    for at in 0..from.len() {
+        into[at] = from[at];
+    }
+}
+
+/// Puts as many of these bytes at the beginning of a buffer as have room there.
+pub fn put_beginning(from: &[u8], into: &mut [u8]) {
+    for (place, byte) in into.iter_mut().zip(from) {
+        *place = *byte;
+    }
+}

@@ -1,0 +1,99 @@
+//! Configurations in cells.
+
+ghost use Rattle.std.specs.Prelude.{◌≡◌, IfOk, length, map};
+ghost use Rattle.sc_graph.specs.Tick.{Rests};
+ghost use Rattle.embedded_machine.specs.Cells.{HoldControl, status_cell, value_cell};
+
+use crate::cells::{status_cell, status_in, value_cell, value_in};
+use crate::fault::MachineFault;
+use sc_graph::{Control, Program, Status, Variable};
+use sc_values::Value;
+use sqlite_items::Items;
+use std::alloc::Global;
+
+/// The configuration that these cells hold, in which the program rests. Err: they hold none; or memory was refused.
+pub fn control_in(
+    alloc: Global,
+    program: &Program,
+    values: &[i32],
+    statuses: &[u32],
+) -> Result<Control, MachineFault>
+    ensures rests { IfOk result (Rests program.now) }
+    ensures held { IfOk result (HoldControl values.now statuses.now) }
+{
+    if values.len() != program.variables().len() {
+        return Err(MachineFault::Control);
+    }
+    let variables = values_in(alloc, program.variables(), values)?;
+    let statuses = statuses_in(alloc, statuses)?;
+    let control = Control {
+        variables,
+        statuses,
+    };
+    if control.fits(program) {
+        Ok(control)
+    } else {
+        Err(MachineFault::Control)
+    }
+}
+
+// The values that cells hold for variables.
+fn values_in(
+    alloc: Global,
+    variables: &[Variable],
+    cells: &[i32],
+) -> Result<Items<Value>, MachineFault>
+    requires { length variables.now ≡ length cells.now }
+    ensures { IfOk result (λ values. map value_cell values ≡ cells.now) }
+{
+    let mut values = Items::new(alloc);
+    for at in 0..cells.len() {
+        match value_in(variables[at].kind, cells[at]) {
+            Some(value) => values.push(value)?,
+            None => return Err(MachineFault::Control),
+        }
+    }
+    Ok(values)
+}
+
+// The statuses that cells hold.
+fn statuses_in(alloc: Global, cells: &[u32]) -> Result<Items<Status>, MachineFault>
+    ensures { IfOk result (λ statuses. map status_cell statuses ≡ cells.now) }
+{
+    let mut statuses = Items::new(alloc);
+    for at in 0..cells.len() {
+        match status_in(cells[at]) {
+            Some(status) => statuses.push(status)?,
+            None => return Err(MachineFault::Control),
+        }
+    }
+    Ok(statuses)
+}
+
+/// Puts a configuration into cells, of which there are as many.
+pub fn put_control(control: &Control, values: &mut [i32], statuses: &mut [u32])
+    requires values { length values.old ≡ length control.now.variables }
+    requires statuses { length statuses.old ≡ length control.now.statuses }
+    ensures { HoldControl values.new statuses.new control.now }
+{
+    put_values(control.variables.as_slice(), values);
+    put_statuses(control.statuses.as_slice(), statuses);
+}
+
+fn put_values(values: &[Value], cells: &mut [i32])
+    requires { length cells.old ≡ length values.now }
+    ensures { map value_cell values.now ≡ cells.new }
+{
+    for at in 0..values.len() {
+        cells[at] = value_cell(values[at]);
+    }
+}
+
+fn put_statuses(statuses: &[Status], cells: &mut [u32])
+    requires { length cells.old ≡ length statuses.now }
+    ensures { map status_cell statuses.now ≡ cells.new }
+{
+    for at in 0..statuses.len() {
+        cells[at] = status_cell(statuses[at]);
+    }
+}

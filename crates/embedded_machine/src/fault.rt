@@ -1,0 +1,35 @@
+//! Why a machine refuses.
+
+ghost use Rattle.std.specs.Prelude.{◌≡◌};
+ghost use Rattle.embedded_machine.specs.declared.fault.MachineFault.TheVariants.{Memory};
+
+use std::alloc::{AllocError, AllocFailed};
+
+/// Why a machine refuses. Nothing has changed then.
+#[derive(Clone, Copy, Debug, PartialEq, Eq)]
+pub enum MachineFault {
+    /// The bytes spell no image, or none that keeps the rules; or memory was refused while they were looked at.
+    Image,
+    /// The cells hold no configuration in which the program rests, or are not as many.
+    Control,
+    /// There is not one cell for each variable, or the cell of an input holds no value of its kind.
+    Input,
+    /// Memory was refused.
+    Memory,
+}
+
+impl From<AllocError> for MachineFault {
+    ghost from_gives = { λ _ e. e ≡ Memory };
+
+    fn from(_error: AllocError) -> MachineFault {
+        MachineFault::Memory
+    }
+}
+
+impl<T: Drop> From<AllocFailed<T>> for MachineFault {
+    ghost from_gives = { λ _ e. e ≡ Memory };
+
+    fn from(_error: AllocFailed<T>) -> MachineFault {
+        MachineFault::Memory
+    }
+}

@@ -1,0 +1,36 @@
+//! Images from texts and from bytes.
+
+ghost use Rattle.std.specs.Prelude.{◌≡◌, IfErr, IfOk};
+ghost use Rattle.bytecode.specs.Image.{Image};
+ghost use Rattle.bytecode.specs.Spells.{Spells};
+ghost use Rattle.command_files.specs.Sources.{SpellsImage, SpellsNoImage};
+ghost use Rattle.embedded_machine.specs.Ticks.{SpellValid};
+
+use bytecode::{decode_either, encode};
+use command_files::{Fault, compile_bytes};
+use std::alloc::Global;
+use verifier::{Verified, verify};
+
+/// The bytes of the image of the program, or of the chart, that this text spells, in version 2 of the layout. Err: it
+/// spells none, or why it has no image; or memory was refused.
+pub fn image_of_text(alloc: Global, text: &[u8]) -> Result<Vec<u8>, Fault>
+    ensures compiled { IfOk result (λ bytes. (image : Image) × SpellsImage text.now image × Spells 2 bytes.items image) }
+{
+    let verified = compile_bytes(alloc, text)?;
+    let bytes = encode(alloc, verified.image())?;
+    Ok(bytes)
+}
+
+/// The valid image that these bytes spell, in either version of the layout. Err: they spell none, or why it is not
+/// valid; or memory was refused.
+pub fn verified_image(alloc: Global, bytes: &[u8]) -> Result<Verified, Fault>
+    ensures { IfOk result (SpellValid bytes.now) }
+{
+    match decode_either(alloc, bytes) {
+        Ok(image) => match verify(alloc, image) {
+            Ok(verified) => Ok(verified),
+            Err(refusal) => Err(Fault::Rule(refusal)),
+        },
+        Err(fault) => Err(Fault::Image(fault)),
+    }
+}

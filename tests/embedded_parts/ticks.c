@@ -1,0 +1,55 @@
+/* ticks IMAGE COUNT: so many ticks of an image, under inputs that change, and then how many ns a tick took and by how many
+ * bytes the program grew behind the first tenth of them. */
+#include <sct.h>
+
+#include <stdio.h>
+#include <stdlib.h>
+#include <time.h>
+
+/* How many kB of memory the program has. */
+static long resident(void) {
+  long size = 0, pages = 0;
+  FILE *file = fopen("/proc/self/statm", "r");
+  if (file == NULL) return 0;
+  if (fscanf(file, "%ld %ld", &size, &pages) != 2) pages = 0;
+  fclose(file);
+  return pages * 4;
+}
+
+/* Gives each input a value. */
+static sct_status give(sct_machine *machine, uint32_t word) {
+  size_t number;
+  for (number = 0; number < sct_variable_count(machine); number++) {
+    sct_role role;
+    sct_kind kind;
+    sct_status status = sct_variable_role(machine, number, &role);
+    if (status == SCT_OK) status = sct_variable_kind(machine, number, &kind);
+    if (status == SCT_OK && role == SCT_INPUT)
+      status = kind == SCT_BOOL ? sct_set_bool(machine, number, word >> (number & 31) & 1) : sct_set_int(machine, number, (int32_t)word);
+    if (status != SCT_OK) return status;
+  }
+  return SCT_OK;
+}
+
+int main(int count, char **words) {
+  static uint8_t image[1000000];
+  sct_machine *machine = NULL;
+  long ticks = count == 3 ? atol(words[2]) : 0, tick, before = 0;
+  uint32_t word = 12345;
+  size_t length;
+  clock_t begun;
+  FILE *file = count == 3 ? fopen(words[1], "rb") : NULL;
+  if (file == NULL) return 2;
+  length = fread(image, 1, sizeof image, file);
+  fclose(file);
+  if (sct_open(image, length, &machine, NULL) != SCT_OK) return 1;
+  begun = clock();
+  for (tick = 0; tick < ticks; tick++) {
+    word = word * 1664525u + 1013904223u;
+    if (tick == ticks / 10) before = resident();
+    if (give(machine, word) != SCT_OK || sct_react(machine, NULL) != SCT_OK) return 1;
+  }
+  printf("%.0f ns a tick, grown by %ld kB\n", (double)(clock() - begun) / CLOCKS_PER_SEC * 1e9 / (double)ticks, resident() - before);
+  sct_close(machine);
+  return 0;
+}
