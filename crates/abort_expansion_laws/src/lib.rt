@@ -1,12 +1,13 @@
 //! The expansion of aborts keeps flat charts: the law, over the definitions alone, and how far its proof has come.
 //!
-//! `specs/Preemption` says the law, and no function claims it yet. What stands, from records of what the core's table has for
-//! each region and state (`specs/CoreRows`), is listed in `proofs/Proved`; what is open, in `proofs/Owed`.
+//! `specs/Preemption` says the law, and no function claims it yet. What stands, from records of what the core's table
+//! has for each region and state (`specs/CoreRows`), is listed in `proofs/Proved`; what is open, in `proofs/Owed`.
 #![tactic(auto)]
 
 ghost use Rattle.abort_expansion_laws.specs.Laws.{StagesKeepOrder};
 
-/// A run of a core chart is admissible where the run of its chart is, if what belongs to a superstate with aborts is done in
+/// A run of a core chart is admissible where the run of its chart is, if what belongs to a superstate with aborts is
+/// done in
 /// stages that never fall, and no strong test is overwritten; so it is for each two tables whose rows belong together as
 /// those of a chart and its core chart do. That the rows of each expanded chart do is not proved. This function does
 /// nothing; its contract is the law.

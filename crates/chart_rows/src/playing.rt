@@ -134,8 +134,8 @@ impl Played {
         Ok(ran.is_over)
     }
 
-    /// Where these regions, given as `INPUTS: REGIONS`, lead one after the other from the start of a tick. None: at some
-    /// step it is not that region's turn.
+    /// Where these regions, given as `INPUTS: REGIONS`, lead one after the other from the start of a tick. None: at
+    /// some step it is not that region's turn.
     pub(crate) fn replayed(
         &self,
         alloc: Global,

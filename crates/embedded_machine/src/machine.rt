@@ -76,7 +76,8 @@ impl<'a> Machine<'a> {
         &self.control
     }
 
-    /// One tick: the machine after it, and how many steps it took. It takes no memory. None: the inputs are not accepted.
+    /// One tick: the machine after it, and how many steps it took. It takes no memory. None: the inputs are not
+    /// accepted.
     pub fn react(self, inputs: &Inputs) -> Option<(Machine<'a>, u64)>
         ensures { MatchOption result (¬ AreAccepted self.entry.image.program inputs.now) (λ r.
             (r.0.image ≡ self.entry.image) × Reacts self.entry.image inputs.now self.entry.control r.0.control r.1) }

@@ -1,5 +1,5 @@
-//! Why a node's number is what it is: for each node the one behind a protocol edge that asks most of it. These are hints,
-//! for speed alone: who asks looks whether there is such an edge.
+//! Why a node's number is what it is: for each node the one behind a protocol edge that asks most of it. These are
+//! hints, for speed alone: who asks looks whether there is such an edge.
 
 ghost use Rattle.std.specs.Prelude.{IsTrue, Contains};
 

@@ -5,8 +5,8 @@ use crate::visit::Visited;
 use std::alloc::{AllocError, Global};
 
 /// An order in which what arcs lead to stands first: the nodes in the order in which they are left, and where the first
-/// one of a component of several nodes is left, all of them once more, each behind one to which an arc leads. So a number
-/// that grows against the arcs comes to all nodes of a component in one pass. Err: memory was refused.
+/// one of a component of several nodes is left, all of them once more, each behind one to which an arc leads. So a
+/// number that grows against the arcs comes to all nodes of a component in one pass. Err: memory was refused.
 pub(crate) fn settling_order(
     alloc: Global,
     arcs: &Arcs,

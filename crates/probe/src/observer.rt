@@ -39,8 +39,8 @@ impl Observer {
         }
     }
 
-    /// Afterwards it knows what the note knows too, and no more than the one or the other. The note has to be one of its own
-    /// publisher. It takes no memory.
+    /// Afterwards it knows what the note knows too, and no more than the one or the other. The note has to be one of
+    /// its own publisher. It takes no memory.
     pub fn learn(&mut self, note: Note)
         requires { note.publisher ≡ self.old.publisher }
         ensures own { Extends self.old self.new }
@@ -50,7 +50,8 @@ impl Observer {
         self.note.learn(&note);
     }
 
-    /// What is published by now, or what it knew where that is more: the count and the outputs after a list of published
+    /// What is published by now, or what it knew where that is more: the count and the outputs after a list of
+    /// published
     /// ticks, that begins with all that it had seen or learnt, and is what it has seen from now on. What it sees was shown
     /// at one moment of the call, when all that was known at any seat was a beginning of it. It takes no memory.
     pub fn look(&mut self) -> Seen

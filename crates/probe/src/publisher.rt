@@ -115,7 +115,8 @@ impl Publisher {
         }
     }
 
-    /// Publishes a tick by its end: in one step what is shown becomes what it has published now, of which all that was known
+    /// Publishes a tick by its end: in one step what is shown becomes what it has published now, of which all that
+    /// was known
     /// at any seat is a beginning. It waits for observers that are inside a look, and takes no memory for the tick.
     /// Err: memory was refused, and every later look shows what it would have shown without the call.
     pub fn publish<R: Wait>(&mut self, rt: &R, end: TickEnd) -> Result<(), AllocError>

@@ -1,4 +1,5 @@
-//! What stands beside the nodes of a program: the nodes that use each variable, and the instantaneous edges between nodes.
+//! What stands beside the nodes of a program: the nodes that use each variable, and the instantaneous edges between
+//! nodes.
 #![tactic(auto)]
 
 mod next;

@@ -73,7 +73,8 @@ fn put_words(alloc: Global, fault: &Fault, words: &mut [u8], length: &mut usize,
     }
 }
 
-/// Compiles a text into the bytes of an image. 0: the first of the bytes in `image`, as many as `lengths` says, spell the
+/// Compiles a text into the bytes of an image. 0: the first of the bytes in `image`, as many as `lengths` says, spell
+/// the
 /// image of the text. 8: there is no room for so many. 3: the text is refused, and `words` begins with the words why.
 #[unsafe(no_mangle)]
 pub extern "C" fn sct_text_compile(

@@ -12,8 +12,8 @@ use sc_graph::{Status, ThreadId};
 use tick_core::{NextStep, TickState};
 
 /// The steps of a tick that the first worker takes before it shares the tick with others: all of them where there are
-/// no others or nothing is worth sharing, else as long as there is no round to share. Whether it is to be shared; if not,
-/// nobody is enabled.
+/// no others or nothing is worth sharing, else as long as there is no round to share. Whether it is to be shared; if
+/// not, nobody is enabled.
 pub(crate) fn stretch<G: Gate>(state: &mut TickState<'_>, workers: u8, gate: &G) -> bool
     ensures same { SameTick state.old state.new }
     ensures over { result ≡ false → IsOver (machine state.new.image.program) state.new.present }

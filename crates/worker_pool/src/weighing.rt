@@ -15,8 +15,8 @@ pub(crate) fn may_share<G: Gate>(gate: &G) -> bool {
     gate.waits() || gate.work() >= LONG
 }
 
-/// Whether a round of so many threads is one. It depends on nothing that changes from tick to tick but their number: where
-/// a thread stands says little of what it has to do in the round, as behind a pause its first step is none.
+/// Whether a round of so many threads is one. It depends on nothing that changes from tick to tick but their number:
+/// where a thread stands says little of what it has to do in the round, as behind a pause its first step is none.
 pub(crate) fn is_worth<G: Gate>(threads: usize, gate: &G) -> bool {
     threads > 1 && (gate.waits() || gate.work().saturating_mul(threads as u64) >= 2 * SHARE)
 }

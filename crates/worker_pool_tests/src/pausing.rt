@@ -1,4 +1,4 @@
-// Ticks whose branches pause and go on, and aborts in aborts: their rounds are shared in every tick.
+//! Ticks whose branches pause and go on, and aborts in aborts: their rounds are shared in every tick.
 use crate::gates::Counting;
 use crate::ticks::{expect_ticks, tick};
 use bytecode::decode;
@@ -75,8 +75,8 @@ const NESTED: [u8; 1093] = [
     0, 0,
 ];
 
-// Each step has much work here and waits for no other; but the first one of a branch stays until another worker comes with
-// one, for so many turns at most.
+// Each step has much work here and waits for no other; but the first one of a branch stays until another worker comes
+// with one, for so many turns at most.
 #[derive(Drop)]
 struct Accompanied {
     came: AtomicU64,
