@@ -81,7 +81,7 @@ last_line_short (b ∷ bytes) = go (has_line_feed (b ∷ bytes)) (last_line_shor
 take_short : (bytes : List ℕ) (i : ℕ) → length (take i bytes) ≤ length bytes
 take_short bytes i =
     let e : length bytes ≡ length (take i bytes) + length (drop i bytes) =
-        ap length (sym (take-append-drop i bytes)) ∙ length-append (take i bytes) (drop i bytes) in
+    ap length (sym (take-append-drop i bytes)) ∙ length-append (take i bytes) (drop i bytes) in
     omega arith
 
 pub line_fits : (bytes : List ℕ) (i : ℕ) → line_behind (take i bytes) ≤ 1 + length bytes

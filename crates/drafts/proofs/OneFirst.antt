@@ -35,10 +35,16 @@ same_number a b m n e f = grind (arith, nat_tests)
 pub one_first : (flaws : List Flaw) (b c : Broken) (at place : ℕ) → IsFirst flaws (record { broken = b; at = at })
     → IsFirst flaws (record { broken = c; at = place }) → (b ≡ c) × (at ≡ place)
 one_first flaws b c at place f g =
-    let later : comes_before (record { broken = b; at = at }) (record { broken = c; at = place }) ≡ false = g.first f.index (record { broken = b; at =
-        at }) f.stands in
-    let earlier : comes_before (record { broken = c; at = place }) (record { broken = b; at = at }) ≡ false = f.first g.index (record { broken = c; at =
-        place }) g.stands in
+    let later : comes_before (record { broken = b; at = at }) (record { broken = c; at = place }) ≡ false = g.first f.index (record {
+      broken = b;
+      at =
+          at;
+    }) f.stands in
+    let earlier : comes_before (record { broken = c; at = place }) (record { broken = b; at = at }) ≡ false = f.first g.index (record {
+      broken = c;
+      at =
+          place;
+    }) g.stands in
     let places = same_place at place (broken_number b) (broken_number c) later earlier in
     let numbers = same_number at place (broken_number b) (broken_number c) later earlier in
     (sym (is_numbered b) ∙ ap numbered numbers ∙ is_numbered c, places)

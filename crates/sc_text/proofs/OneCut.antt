@@ -91,20 +91,20 @@ fault_cut l at text b place (behind_token a piece rest k x later long is cut) =
 pub one_list : (l : Language) (text : List ℕ) (tokens others : List Token) → AreTokens l 0 text tokens → AreTokens l 0 text others → tokens ≡ others
 one_list l text tokens others a b =
     let same : whole tokens ≡ whole others =
-        one_cut l 0 text text (whole tokens) (whole others) (tokens_cut l 0 text tokens a) (tokens_cut l 0 text others b) refl in
+    one_cut l 0 text text (whole tokens) (whole others) (tokens_cut l 0 text tokens a) (tokens_cut l 0 text others b) refl in
     cc
 
 pub no_fault : (l : Language) (text : List ℕ) (tokens : List Token) (b : Broken) (place : ℕ) → AreTokens l 0 text tokens → ¬ IsFirstFault l 0 text b place
 no_fault l text tokens b place a f =
     let same : whole tokens ≡ stopped b place =
-        one_cut l 0 text text (whole tokens) (stopped b place) (tokens_cut l 0 text tokens a) (fault_cut l 0 text b place f) refl in
+    one_cut l 0 text text (whole tokens) (stopped b place) (tokens_cut l 0 text tokens a) (fault_cut l 0 text b place f) refl in
     cc
 
 pub one_fault : (l : Language) (text : List ℕ) (b c : Broken) (at place : ℕ) → IsFirstFault l 0 text b at → IsFirstFault l 0 text c place
     → (b ≡ c) × (at ≡ place)
 one_fault l text b c at place f g =
     let same : stopped b at ≡ stopped c place =
-        one_cut l 0 text text (stopped b at) (stopped c place) (fault_cut l 0 text b at f) (fault_cut l 0 text c place g) refl in
+    one_cut l 0 text text (stopped b at) (stopped c place) (fault_cut l 0 text b at f) (fault_cut l 0 text c place g) refl in
     let kinds : b ≡ c = cc in
     let places : at ≡ place = cc in
     (kinds, places)

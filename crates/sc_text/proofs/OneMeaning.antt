@@ -138,7 +138,7 @@ module _ (l : Language) (first : ℕ) (rest : List ℕ) where
   of_letters i = ap (λ b. by_first b (is_digit first) (letters_mean l first bytes) (digits_mean bytes) (sign_means bytes)) i
 
   of_no_letter : is_letter first ≡ false
-    → meaning l bytes ≡ by_first false (is_digit first) (letters_mean l first bytes) (digits_mean bytes) (sign_means bytes)
+      → meaning l bytes ≡ by_first false (is_digit first) (letters_mean l first bytes) (digits_mean bytes) (sign_means bytes)
   of_no_letter i = ap (λ b. by_first b (is_digit first) (letters_mean l first bytes) (digits_mean bytes) (sign_means bytes)) i
 
   of_digits : is_letter first ≡ false → is_digit first ≡ true → meaning l bytes ≡ digits_mean bytes
@@ -148,7 +148,7 @@ module _ (l : Language) (first : ℕ) (rest : List ℕ) where
   of_others i j = of_no_letter i ∙ ap (λ b. by_first false b (letters_mean l first bytes) (digits_mean bytes) (sign_means bytes)) j
 
   of_allowed : (long : Bool) → allows l first ≡ true → nat_lt name_limit (length bytes) ≡ long
-    → letters_mean l first bytes ≡ by_letters true long bytes (spelled_so word_text words bytes)
+      → letters_mean l first bytes ≡ by_letters true long bytes (spelled_so word_text words bytes)
   of_allowed long a s =
       ap (λ b. by_letters b (nat_lt name_limit (length bytes)) bytes (spelled_so word_text words bytes)) a
       ∙ ap (λ b. by_letters true b bytes (spelled_so word_text words bytes)) s
@@ -176,16 +176,32 @@ lettered word.Local = record { first = 108; rest = 111 ∷ 99 ∷ 97 ∷ 108 ∷
 lettered word.Bool = record { first = 98; rest = 111 ∷ 111 ∷ 108 ∷ []; parts = refl; letter = refl; no_bar = refl; short = refl; found = refl }
 lettered word.Int = record { first = 105; rest = 110 ∷ 116 ∷ []; parts = refl; letter = refl; no_bar = refl; short = refl; found = refl }
 lettered word.Region = record { first = 114; rest = 101 ∷ 103 ∷ 105 ∷ 111 ∷ 110 ∷ []; parts = refl; letter = refl; no_bar = refl; short = refl; found = refl }
-lettered word.Initial = record { first = 105; rest = 110 ∷ 105 ∷ 116 ∷ 105 ∷ 97 ∷ 108 ∷ []; parts = refl; letter = refl; no_bar = refl; short = refl; found =
-    refl }
+lettered word.Initial = record {
+  first = 105;
+  rest = 110 ∷ 105 ∷ 116 ∷ 105 ∷ 97 ∷ 108 ∷ [];
+  parts = refl;
+  letter = refl;
+  no_bar = refl;
+  short = refl;
+  found =
+      refl;
+}
 lettered word.Final = record { first = 102; rest = 105 ∷ 110 ∷ 97 ∷ 108 ∷ []; parts = refl; letter = refl; no_bar = refl; short = refl; found = refl }
 lettered word.State = record { first = 115; rest = 116 ∷ 97 ∷ 116 ∷ 101 ∷ []; parts = refl; letter = refl; no_bar = refl; short = refl; found = refl }
 lettered word.Go = record { first = 103; rest = 111 ∷ []; parts = refl; letter = refl; no_bar = refl; short = refl; found = refl }
 lettered word.Strong = record { first = 115; rest = 116 ∷ 114 ∷ 111 ∷ 110 ∷ 103 ∷ []; parts = refl; letter = refl; no_bar = refl; short = refl; found = refl }
 lettered word.Weak = record { first = 119; rest = 101 ∷ 97 ∷ 107 ∷ []; parts = refl; letter = refl; no_bar = refl; short = refl; found = refl }
 lettered word.Join = record { first = 106; rest = 111 ∷ 105 ∷ 110 ∷ []; parts = refl; letter = refl; no_bar = refl; short = refl; found = refl }
-lettered word.Immediate = record { first = 105; rest = 109 ∷ 109 ∷ 101 ∷ 100 ∷ 105 ∷ 97 ∷ 116 ∷ 101 ∷ []; parts = refl; letter = refl; no_bar = refl; short =
-    refl; found = refl }
+lettered word.Immediate = record {
+  first = 105;
+  rest = 109 ∷ 109 ∷ 101 ∷ 100 ∷ 105 ∷ 97 ∷ 116 ∷ 101 ∷ [];
+  parts = refl;
+  letter = refl;
+  no_bar = refl;
+  short =
+      refl;
+  found = refl;
+}
 lettered word.If = record { first = 105; rest = 102 ∷ []; parts = refl; letter = refl; no_bar = refl; short = refl; found = refl }
 lettered word.Else = record { first = 101; rest = 108 ∷ 115 ∷ 101 ∷ []; parts = refl; letter = refl; no_bar = refl; short = refl; found = refl }
 lettered word.Do = record { first = 100; rest = 111 ∷ []; parts = refl; letter = refl; no_bar = refl; short = refl; found = refl }

@@ -26,7 +26,7 @@ same_stop flaw other rest left o e f =
 
 module _ {A : Type 0} (l : Language) (g : ℕ
     → Grammar text_tokens A) (is : IsLanguage g) (text : List ℕ) (tokens others : List Token)
-      (cut : AreTokens l 0 text tokens) (other_cut : AreTokens l 0 text others) where
+    (cut : AreTokens l 0 text tokens) (other_cut : AreTokens l 0 text others) where
   same : tokens ≡ others
   same = one_list l text tokens others cut other_cut
 
