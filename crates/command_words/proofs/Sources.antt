@@ -4,7 +4,7 @@ use Rattle.std.specs.Prelude.{option_map, MatchOption}
 use Rattle.std.specs.Str.{IsCharBoundary}
 use Rattle.std.specs.Str.Pattern.{FindsTextPrefix, LacksTextAt, StripsPrefix}
 use Rattle.std.proofs.lemmas.Str.Pattern.{starts_text}
-use Rattle.command_words.specs.Request.{source_in}
+use Rattle.command_words.specs.Said.{source_in}
 use denote.Ref.{Bor}
 
 abbrev option : List ℕ

@@ -1,17 +1,19 @@
 //! The words of a command: what they ask for, or what is shown for words that ask for nothing.
 
 ghost use Rattle.std.specs.Prelude.{◌≡◌, Some, None, IfOk, OnErr, map, option_map, string_bytes};
-ghost use Rattle.std.specs.List.{list_any};
-ghost use Rattle.command_words.specs.Request.{seen, is_option, operands, asked, request_of};
+ghost use Rattle.command_words.specs.Request.{seen, asked, asked_plainly, list_of, request_by, request_of, run_of};
+ghost use Rattle.command_words.specs.Said.{names_seen, said_seen};
 ghost use Rattle.command_words.specs.declared.arguments.Unread.TheVariants.{Memory};
 
-use crate::list_words::list_of;
-use crate::run_words::run_of;
+use crate::said::{Names, Said};
 use crate::verbs::sct_command;
 use crate::workers::Workers;
 use clap::Error;
 use clap::error::ErrorKind;
 use std::alloc::{AllocError, Global};
+
+// How many workers a run has where its words do not say.
+const USUAL_WORKERS: Workers = Workers { number: 2 };
 
 /// What the words ask for.
 #[derive(Clone, Copy, Debug, PartialEq, Eq)]
@@ -66,50 +68,63 @@ fn shown(alloc: Global, error: &Error) -> Unread {
     }
 }
 
-/// Whether a word is an option: a hyphen and more.
-pub(crate) fn is_option(word: &String) -> bool
-    ensures { result ≡ is_option (string_bytes word.now) }
+// A run of one file.
+fn run_of<'a>(said: &Said<'a>) -> Option<Request<'a>>
+    ensures { option_map seen result ≡ run_of (said_seen said.now).workers (said_seen said.now).source
+        (said_seen said.now).names }
 {
-    match word.as_bytes() {
-        [first, _, ..] => *first == b'-',
-        _ => false,
-    }
-}
-
-fn has_option(words: &[String]) -> bool
-    ensures { result ≡ list_any (λ word. is_option (string_bytes word)) words.now }
-{
-    words.iter().any(is_option)
-}
-
-/// The words behind the verb: all, where none is an option, or those behind a `--`.
-pub(crate) fn operands(words: &[String]) -> Option<&[String]>
-    ensures { option_map (λ s. map string_bytes s.now) result ≡ operands (map string_bytes words.now) }
-{
-    let Some((first, rest)) = words.split_first() else {
-        return Some(words);
-    };
-    if first.as_str() == "--" {
-        Some(rest)
-    } else if has_option(words) {
-        None
-    } else {
-        Some(words)
-    }
-}
-
-// What another verb than `run` and `list` asks for with these operands.
-fn asked<'a>(verb: &str, operands: &'a [String]) -> Option<Request<'a>>
-    ensures { option_map seen result ≡ asked verb.now (map string_bytes operands.now) }
-{
-    match operands {
-        [name] if verb == "check" => Some(Request::Check(name.as_str())),
-        [name] if verb == "scl" => Some(Request::Print(name.as_str())),
-        [name] if verb == "explain" => Some(Request::Explain(name.as_str())),
-        [name] if verb == "dot" => Some(Request::Draw(name.as_str())),
-        [from, to] if verb == "compile" => Some(Request::Compile(from.as_str(), to.as_str())),
-        [from, to] if verb == "migrate" => Some(Request::Migrate(from.as_str(), to.as_str())),
+    match (said.source, said.names) {
+        (None, Names::One(name)) => Some(Request::Run(name, said.workers.unwrap_or(USUAL_WORKERS))),
         _ => None,
+    }
+}
+
+// A listing of one file.
+fn list_of<'a>(said: &Said<'a>) -> Option<Request<'a>>
+    ensures { option_map seen result ≡ list_of (said_seen said.now).workers (said_seen said.now).source
+        (said_seen said.now).names }
+{
+    match (said.workers, said.source, said.names) {
+        (None, None, Names::One(name)) => Some(Request::ListNodes(name)),
+        (None, Some(source), Names::One(name)) => Some(Request::ListPlaces(name, source)),
+        _ => None,
+    }
+}
+
+// What another verb asks for with these names.
+fn asked<'a>(verb: &str, names: Names<'a>) -> Option<Request<'a>>
+    ensures { option_map seen result ≡ asked verb.now (names_seen names.entry) }
+{
+    match names {
+        Names::One(name) if verb == "check" => Some(Request::Check(name)),
+        Names::One(name) if verb == "scl" => Some(Request::Print(name)),
+        Names::One(name) if verb == "explain" => Some(Request::Explain(name)),
+        Names::One(name) if verb == "dot" => Some(Request::Draw(name)),
+        Names::Two(from, to) if verb == "compile" => Some(Request::Compile(from, to)),
+        Names::Two(from, to) if verb == "migrate" => Some(Request::Migrate(from, to)),
+        _ => None,
+    }
+}
+
+// The same, of a verb that has no option.
+fn asked_plainly<'a>(verb: &str, said: &Said<'a>) -> Option<Request<'a>>
+    ensures { option_map seen result ≡ asked_plainly verb.now (said_seen said.now).workers (said_seen said.now).source
+        (said_seen said.now).names }
+{
+    match (said.workers, said.source) {
+        (None, None) => asked(verb, said.names),
+        _ => None,
+    }
+}
+
+// What a verb asks for with what is said behind it.
+fn request_by<'a>(verb: &str, said: &Said<'a>) -> Option<Request<'a>>
+    ensures { option_map seen result ≡ request_by verb.now (said_seen said.now) }
+{
+    match verb {
+        "run" => run_of(said),
+        "list" => list_of(said),
+        verb => asked_plainly(verb, said),
     }
 }
 
@@ -118,11 +133,7 @@ fn request_of<'a>(words: &'a [String]) -> Option<Request<'a>>
     ensures { option_map seen result ≡ request_of (map string_bytes words.now) }
 {
     let (verb, words) = words.split_first()?;
-    match verb.as_str() {
-        "run" => run_of(words),
-        "list" => list_of(words),
-        verb => asked(verb, operands(words)?),
-    }
+    request_by(verb.as_str(), &Said::by(words)?)
 }
 
 // What is shown for words that ask for nothing.

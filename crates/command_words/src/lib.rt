@@ -2,8 +2,7 @@
 #![tactic(auto)]
 
 mod arguments;
-mod list_words;
-mod run_words;
+mod said;
 mod verbs;
 mod workers;
 

@@ -1,6 +1,5 @@
 //! The verbs, with their help, as the library of command lines knows them. It is asked where words ask for nothing.
 
-use clap::builder::ValueParser;
 use clap::{Arg, ArgAction, Command};
 use std::alloc::{AllocError, Global};
 
@@ -28,6 +27,9 @@ const VERBS: [Verb; 8] = [
     Verb::Run,
     Verb::Migrate,
 ];
+
+// What can be said of workers.
+const WORKERS: &[&str] = &["1", "2", "3", "4", "5", "6", "7", "8"];
 
 const EXAMPLE: &str =
     "Examples:\n  sct compile examples/abro.scl abro.image\n  sct run examples/two_threads.image < examples/two_threads.ticks";
@@ -131,7 +133,8 @@ fn run_command<'a>(alloc: Global) -> Result<Command<'a>, AllocError> {
         .long("workers")
         .value_name("N")
         .help("How many threads serve, from 1 to 8: the trace is the same for each")
-        .value_parser(ValueParser::unsigned(1, 8))
+        .value_parser(WORKERS)
+        .hide_possible_values(true)
         .default_value("2");
     Command::new(alloc, "run")
         .about("Plays standard input to standard output, a tick for each line")

@@ -1,0 +1,120 @@
+-- What the words behind a verb say: its options with their values, and the names of files.
+use Rattle.std.specs.Prelude.{ℕ, Bool, false, ◌==◌, ◌-◌, ◌||◌, nat_eq, nat_lt, if◌then◌else◌, codes, is_some, Option, Some, None, option_map, List, [], ◌∷◌, take, drop}
+use Rattle.std.specs.List.{starts_with}
+use Rattle.std.specs.Option.{option_and_then}
+use Rattle.std.specs.Str.{bytes_eq}
+use Rattle.command_words.specs.declared.said.Names.{Names as GivenNames}
+use Rattle.command_words.specs.declared.said.Names.TheVariants as given
+use Rattle.command_words.specs.declared.said.Next.{Next}
+use Rattle.command_words.specs.declared.said.Next.TheVariants as next
+use Rattle.command_words.specs.declared.said.Said.{Said as GivenSaid}
+
+-- the names of files: no command has more than two
+pub data Names : Type 0 where
+  NoName : Names
+  One : List ℕ → Names
+  Two : (first second : List ℕ) → Names
+
+-- what was said so far, and for what the next word is taken: for an option or a name, for the value of an option, or,
+-- behind a `--`, for a name whatever it begins with
+pub record Said : Type 0 where
+  pub next : Next
+  pub workers : Option ℕ
+  pub source : Option (List ℕ)
+  pub names : Names
+
+abbrev pub names_seen : GivenNames → Names
+names_seen given.None = NoName
+names_seen (given.One name) = One name.now
+names_seen (given.Two first second) = Two first.now second.now
+
+abbrev pub said_seen : GivenSaid → Said
+said_seen s = record {
+  next = s.next;
+  workers = option_map (λ w. w.number) s.workers;
+  source = option_map (λ name. name.now) s.source;
+  names = names_seen s.names;
+}
+
+abbrev pub start : Said
+start = record { next = next.Any; workers = None; source = None; names = NoName }
+
+abbrev pub hyphen : ℕ
+hyphen = 45
+
+-- an option is a hyphen and more
+abbrev pub is_option : List ℕ → Bool
+is_option (first ∷ second ∷ rest) = first == hyphen
+is_option word = false
+
+-- how many workers a word names: a digit from 1 to 8
+abbrev pub workers_named : List ℕ → Option ℕ
+workers_named (digit ∷ []) = if nat_lt digit 49 || nat_lt 56 digit then None else Some (digit - 48)
+workers_named word = None
+
+-- how many workers `--workers=N` says
+abbrev pub workers_in : List ℕ → Option ℕ
+workers_in word = if bytes_eq (take 10 word) (codes "--workers=") then workers_named (drop 10 word) else None
+
+-- the source that `--source=FILE` says
+abbrev pub source_in : List ℕ → Option (List ℕ)
+source_in word = if starts_with nat_eq word (codes "--source=") then Some (drop 9 word) else None
+
+abbrev pub with_name : Names → List ℕ → Option Names
+with_name NoName name = Some (One name)
+with_name (One first) name = Some (Two first name)
+with_name (Two first second) name = None
+
+-- an option is said once
+abbrev pub with_workers : Said → ℕ → Option Said
+with_workers s n = if is_some s.workers then None else Some (record s { next = next.Any; workers = Some n })
+
+abbrev pub with_source : Said → List ℕ → Option Said
+with_source s source = if is_some s.source then None else Some (record s { next = next.Any; source = Some source })
+
+abbrev pub named : Said → List ℕ → Option Said
+named s name = option_map (λ names. record s { names = names }) (with_name s.names name)
+
+-- an option with its value in one word
+abbrev pub by_value : Said → List ℕ → Option ℕ → Option Said
+by_value s word (Some n) = with_workers s n
+by_value s word None = option_and_then (with_source s) (source_in word)
+
+abbrev pub valued : Said → List ℕ → Option Said
+valued s word = by_value s word (workers_in word)
+
+-- a word that may be an option
+abbrev pub opened : Said → List ℕ → Option Said
+opened s word =
+    if bytes_eq word (codes "--") then Some (record s { next = next.Name })
+    else if bytes_eq word (codes "--workers") then Some (record s { next = next.Number })
+    else if bytes_eq word (codes "--source") then Some (record s { next = next.Source })
+    else if is_option word then valued s word
+    else named s word
+
+abbrev pub taken_for : Next → Said → List ℕ → Option Said
+taken_for next.Any s word = opened s word
+taken_for next.Number s word = option_and_then (with_workers s) (workers_named word)
+taken_for next.Source s word = if is_option word then None else with_source s word
+taken_for next.Name s word = named s word
+
+-- one more word
+abbrev pub step : Said → List ℕ → Option Said
+step s word = taken_for s.next s word
+
+-- no value is missing
+abbrev pub ended_at : Next → Said → Option Said
+ended_at next.Any s = Some s
+ended_at next.Name s = Some s
+ended_at other s = None
+
+abbrev pub ended : Said → Option Said
+ended s = ended_at s.next s
+
+-- the words to the last one
+abbrev pub read_on : Said → List (List ℕ) → Option Said
+read_on s [] = ended s
+read_on s (word ∷ words) = option_and_then (λ t. read_on t words) (step s word)
+
+abbrev pub said_by : List (List ℕ) → Option Said
+said_by words = read_on start words

@@ -1,0 +1,221 @@
+//! The words behind a verb, one after the other: its options with their values, and the names of files.
+
+ghost use Rattle.std.specs.Prelude.{◌≡◌, map, option_map, string_bytes};
+ghost use Rattle.command_words.specs.Said.{names_seen, said_seen, source_in, step, workers_in, workers_named};
+ghost use Rattle.command_words.specs.Said.{ended, opened, read_on, said_by, start, valued, with_name, with_source};
+ghost use Rattle.command_words.specs.Said.{is_option, named, with_workers};
+
+use crate::workers::Workers;
+
+/// The names of files: no command has more than two.
+#[derive(Clone, Copy)]
+pub(crate) enum Names<'a> {
+    None,
+    One(&'a str),
+    Two(&'a str, &'a str),
+}
+
+/// For what the next word is taken.
+#[derive(Clone, Copy, PartialEq, Eq)]
+pub(crate) enum Next {
+    /// An option or a name.
+    Any,
+    /// How many workers there are.
+    Number,
+    /// The name of a source.
+    Source,
+    /// A name, whatever it begins with: a `--` stood before.
+    Name,
+}
+
+/// What was said so far.
+#[derive(Clone, Copy)]
+pub(crate) struct Said<'a> {
+    next: Next,
+    /// How many workers there are, where that was said.
+    pub(crate) workers: Option<Workers>,
+    /// The source, where one was said.
+    pub(crate) source: Option<&'a str>,
+    /// The files.
+    pub(crate) names: Names<'a>,
+}
+
+/// Whether a word is an option: a hyphen and more.
+fn is_option(word: &str) -> bool
+    ensures { result ≡ is_option word.now }
+{
+    match word.as_bytes() {
+        [first, _, ..] => *first == b'-',
+        _ => false,
+    }
+}
+
+// How many workers a word names: 1 to 8.
+fn workers_named(word: &[u8]) -> Option<Workers>
+    ensures { option_map (λ w. w.number) result ≡ workers_named word.now }
+{
+    match word {
+        [digit] if b'1' <= *digit && *digit <= b'8' => Some(Workers {
+            number: *digit - b'0',
+        }),
+        _ => None,
+    }
+}
+
+// How many workers an option says in one word.
+fn workers_in(word: &[u8]) -> Option<Workers>
+    ensures { option_map (λ w. w.number) result ≡ workers_in word.now }
+{
+    workers_named(word.strip_prefix(b"--workers=")?)
+}
+
+// The name of the source that an option says in one word.
+#[tactic(auto, using(crate::proofs::Sources::said))]
+fn source_in(word: &str) -> Option<&str>
+    ensures { option_map (λ s. s.now) result ≡ source_in word.now }
+{
+    word.strip_prefix("--source=")
+}
+
+// One more name.
+fn with_name<'a>(names: Names<'a>, name: &'a str) -> Option<Names<'a>>
+    ensures { option_map names_seen result ≡ with_name (names_seen names.entry) name.now }
+{
+    match names {
+        Names::None => Some(Names::One(name)),
+        Names::One(first) => Some(Names::Two(first, name)),
+        Names::Two(_, _) => None,
+    }
+}
+
+impl<'a> Said<'a> {
+    // Nothing yet.
+    fn start() -> Said<'a>
+        ensures { said_seen result ≡ start }
+    {
+        Said {
+            next: Next::Any,
+            workers: None,
+            source: None,
+            names: Names::None,
+        }
+    }
+
+    // With the number of workers, which is said once.
+    fn with_workers(self, workers: Workers) -> Option<Said<'a>>
+        ensures { option_map said_seen result ≡ with_workers (said_seen self.entry) workers.number }
+    {
+        match self.workers {
+            Some(_) => None,
+            None => Some(Said {
+                next: Next::Any,
+                workers: Some(workers),
+                source: self.source,
+                names: self.names,
+            }),
+        }
+    }
+
+    // With the source, which is said once.
+    fn with_source(self, source: &'a str) -> Option<Said<'a>>
+        ensures { option_map said_seen result ≡ with_source (said_seen self.entry) source.now }
+    {
+        match self.source {
+            Some(_) => None,
+            None => Some(Said {
+                next: Next::Any,
+                workers: self.workers,
+                source: Some(source),
+                names: self.names,
+            }),
+        }
+    }
+
+    // With one more name.
+    fn named(self, name: &'a str) -> Option<Said<'a>>
+        ensures { option_map said_seen result ≡ named (said_seen self.entry) name.now }
+    {
+        let names = with_name(self.names, name)?;
+        Some(Said {
+            next: self.next,
+            workers: self.workers,
+            source: self.source,
+            names,
+        })
+    }
+
+    // With an option that says its value in the same word.
+    fn valued(self, word: &'a str) -> Option<Said<'a>>
+        ensures { option_map said_seen result ≡ valued (said_seen self.entry) word.now }
+    {
+        match workers_in(word.as_bytes()) {
+            Some(workers) => self.with_workers(workers),
+            None => self.with_source(source_in(word)?),
+        }
+    }
+
+    // The next word is taken for this.
+    fn awaits(self, next: Next) -> Said<'a>
+        ensures { said_seen result ≡ record (said_seen self.entry) { next = next } }
+    {
+        Said {
+            next,
+            workers: self.workers,
+            source: self.source,
+            names: self.names,
+        }
+    }
+
+    // With a word that may be an option.
+    fn opened(self, word: &'a str) -> Option<Said<'a>>
+        ensures { option_map said_seen result ≡ opened (said_seen self.entry) word.now }
+    {
+        match word {
+            "--" => Some(self.awaits(Next::Name)),
+            "--workers" => Some(self.awaits(Next::Number)),
+            "--source" => Some(self.awaits(Next::Source)),
+            word if is_option(word) => self.valued(word),
+            word => self.named(word),
+        }
+    }
+
+    // With one more word.
+    fn step(self, word: &'a str) -> Option<Said<'a>>
+        ensures { option_map said_seen result ≡ step (said_seen self.entry) word.now }
+    {
+        match self.next {
+            Next::Any => self.opened(word),
+            Next::Number => self.with_workers(workers_named(word.as_bytes())?),
+            Next::Source if is_option(word) => None,
+            Next::Source => self.with_source(word),
+            Next::Name => self.named(word),
+        }
+    }
+
+    // All of it, where no value is missing.
+    fn ended(self) -> Option<Said<'a>>
+        ensures { option_map said_seen result ≡ ended (said_seen self.entry) }
+    {
+        match self.next {
+            Next::Any | Next::Name => Some(self),
+            Next::Number | Next::Source => None,
+        }
+    }
+
+    // With these words.
+    fn read_on(self, words: &'a [String]) -> Option<Said<'a>>
+        ensures { option_map said_seen result ≡ read_on (said_seen self.entry) (map string_bytes words.now) }
+    {
+        match words.split_first() {
+            None => self.ended(),
+            Some((word, words)) => self.step(word.as_str())?.read_on(words),
+        }
+    }
+
+    /// What the words behind a verb say. None: one of them cannot be taken, or a value is missing.
+    pub(crate) fn by(words: &'a [String]) -> Option<Said<'a>>
+        ensures { option_map said_seen result ≡ said_by (map string_bytes words.now) }
+    {
+        Said::start().read_on(words)
+    }
+}
