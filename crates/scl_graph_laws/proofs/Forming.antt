@@ -1,4 +1,4 @@
--- The program of an SCL program keeps the size rule, the budget aside, and the structure rule.
+-- The program of an SCL program keeps the size rule, the budget aside, and the structure rule, and each step those of codes.
 use Rattle.std.proofs.Common.{◌≡◌, ℕ, zero, suc, ◌+◌, ◌<◌, ◌≤◌, true, Some, None, List, [], ◌∷◌, ◌++◌, map, length, take, slice_get, option_map, count_by, Contains, All, refl, sym, ap, subst, ◌∙◌, length-append, arith}
 use Rattle.std.proofs.lemmas.List.Elements.{All-contains_itself}
 use Rattle.std.proofs.lemmas.Option.{same_Some, slice_get_within}
@@ -54,6 +54,7 @@ use Rattle.scl_graph_laws.proofs.Levels.{branch_parent, few_ancestors}
 use Rattle.scl_graph_laws.proofs.Forkers.{forkers, forked_in, forker_of}
 use Rattle.scl_graph_laws.proofs.Sources.{NodeFrom, at_statement, at_depth, at_join, node_sources, Pauses, nodes_pause}
 use Rattle.scl_graph_laws.proofs.Operands.{HasKind, operand_kinded, loads_within}
+use Rattle.scl_graph_laws.proofs.Coding.{KeepsBoth, assignment_keeps_both, test_keeps_both}
 use Rattle.scl_graph_laws.proofs.Fitting.{stands_at, differs_before, count_take, target_within, node_within, assigns_fit, assigns_stay, assigns_alone, thread_sources, thread_parents, ThreadFrom, as_root, as_branch}
 
 module _ (p : Scl) (kept : KeepsRules p.name p.variables p.body) (no_loop : HasNoEmptyLoop (numbered p).root) (room : FitsImage (counts_in p)) where
@@ -192,6 +193,7 @@ module _ (p : Scl) (kept : KeepsRules p.name p.variables p.body) (no_loop : HasN
     fits : StepFits q taken
     stays : StepStays q t taken
     belongs : BelongsToOne q n taken
+    keeps : KeepsBoth q taken
 
   of_each : (P : ℕ → Type 0) (xs : List ℕ) → ((x : ℕ) → Contains xs x → P x) → All P xs
   of_each P xs f k d lt = f _ (All-contains_itself xs k d lt)
@@ -207,6 +209,7 @@ module _ (p : Scl) (kept : KeepsRules p.name p.variables p.body) (no_loop : HasN
         fits = assigns_fit q x (assignment_of x e) (leads root rest) (slice_get_within p.variables x kept_here.variable kept_here.is_there) (loads_within p.variables (operand (assignment_of x e)) kinded) (leads_within t rest onward);
         stays = assigns_stay q t x (assignment_of x e) (leads root rest) (leads_target t rest onward);
         belongs = assigns_alone q n x (assignment_of x e) (leads root rest);
+        keeps = assignment_keeps_both q x e (leads root rest) kept_here;
       }
 
   good_test : (t n : ℕ) (e : Expr) (a b rest : Block) → Place root t (If n e a b rest) → Good n t
@@ -220,6 +223,7 @@ module _ (p : Scl) (kept : KeepsRules p.name p.variables p.body) (no_loop : HasN
         fits = (loads_within p.variables e (kind_is.Bool, kept_here.kinded), leads_within t (before a rest) first, leads_within t (before b rest) second);
         stays = (leads_target t (before a rest) first, leads_target t (before b rest) second);
         belongs = tt;
+        keeps = test_keeps_both q e (leads root (before a rest)) (leads root (before b rest)) kept_here;
       }
 
   good_fork : (t n : ℕ) (branches : Branches) (rest : Block) → Place root t (Fork n branches rest) → Good n t
@@ -241,10 +245,11 @@ module _ (p : Scl) (kept : KeepsRules p.name p.variables p.body) (no_loop : HasN
         );
         stays = (is_a_join q (suc n) t (leads root rest) has.nodes.second, of_each (λ k. parent_of q k ≡ Some t) (threads_of branches) parent);
         belongs = tt;
+        keeps = (tt, tt);
       }
 
   good_first : (t : ℕ) (todo : Block) → Place root t todo → IsStep todo → Good (number (Some todo)) t
-  good_first t (End n) place is = record { taken = step.Exit; has = mirror.nodes t (End n) place; fits = tt; stays = tt; belongs = tt }
+  good_first t (End n) place is = record { taken = step.Exit; has = mirror.nodes t (End n) place; fits = tt; stays = tt; belongs = tt; keeps = (tt, tt) }
   good_first t (Assign n x e rest) place is = good_assign t n x e rest place
   good_first t (Label name rest) place is = absurd is
   good_first t (Goto g name rest) place is = absurd is
@@ -256,6 +261,7 @@ module _ (p : Scl) (kept : KeepsRules p.name p.variables p.body) (no_loop : HasN
         fits = node_within q (suc n) t (step.Depth (leads root rest)) has.second;
         stays = is_a_depth q (suc n) t (leads root rest) has.second;
         belongs = tt;
+        keeps = (tt, tt);
       }
   good_first t (If n e a b rest) place is = good_test t n e a b rest place
   good_first t (Fork n branches rest) place is = good_fork t n branches rest place
@@ -270,6 +276,7 @@ module _ (p : Scl) (kept : KeepsRules p.name p.variables p.body) (no_loop : HasN
         fits = leads_within t rest onward;
         stays = leads_target t rest onward;
         belongs = record { one = n; is = step_is q n t (step.Surf (suc n)) has.first; alone = λ m h. pauses_alone n m h };
+        keeps = (tt, tt);
       }
 
   good_join : (t n : ℕ) (branches : Branches) (rest : Block) → Place root t (Fork n branches rest) → Good (suc n) t
@@ -282,22 +289,24 @@ module _ (p : Scl) (kept : KeepsRules p.name p.variables p.body) (no_loop : HasN
         fits = leads_within t rest onward;
         stays = leads_target t rest onward;
         belongs = record { one = n; is = record { children = threads_of branches; forks = step_is q n t (step.Fork (threads_of branches) (suc n)) has.nodes.first }; alone = λ m h. joins_alone n m h };
+        keeps = (tt, tt);
       }
 
-  by_good : (n m : ℕ) (x : Node) → slice_get q.nodes n ≡ Some x → n ≡ m → x.owner < length q.threads → Good m x.owner → NodeFits q x × NodeStands q n x
+  by_good : (n m : ℕ) (x : Node) → slice_get q.nodes n ≡ Some x → n ≡ m → x.owner < length q.threads → Good m x.owner → NodeFits q x × NodeStands q n x × KeepsBoth q x.step
   by_good n m x there same within good =
       let is : x ≡ node x.owner good.taken = same_Some x (node x.owner good.taken) (sym there ∙ ap (slice_get q.nodes) same ∙ good.has.is) in
       let steps : good.taken ≡ x.step = sym (ap (λ y. y.step) is) in (
         record { owner = within; fits = subst (StepFits q) steps good.fits },
         record { stays = subst (StepStays q x.owner) steps good.stays; belongs = subst (λ n. BelongsToOne q n x.step) (sym same) (subst (BelongsToOne q m) steps good.belongs) },
+        subst (KeepsBoth q) steps good.keeps,
       )
 
-  node_good : (n : ℕ) (x : Node) → slice_get q.nodes n ≡ Some x → NodeFrom root n x → NodeFits q x × NodeStands q n x
+  node_good : (n : ℕ) (x : Node) → slice_get q.nodes n ≡ Some x → NodeFrom root n x → NodeFits q x × NodeStands q n x × KeepsBoth q x.step
   node_good n x there (at_statement todo place is same) = by_good n (number (Some todo)) x there same (thread_at_place x.owner todo place) (good_first x.owner todo place is)
   node_good n x there (at_depth m rest place same) = by_good n (suc m) x there same (thread_at_place x.owner (Pause m rest) place) (good_depth x.owner m rest place)
   node_good n x there (at_join m branches rest place same) = by_good n (suc m) x there same (thread_at_place x.owner (Fork m branches rest) place) (good_join x.owner m branches rest place)
 
-  each_node_good : (n : ℕ) (x : Node) → slice_get q.nodes n ≡ Some x → NodeFits q x × NodeStands q n x
+  each_node_good : (n : ℕ) (x : Node) → slice_get q.nodes n ≡ Some x → NodeFits q x × NodeStands q n x × KeepsBoth q x.step
   each_node_good n x there = node_good n x there (node_fact (NodeFrom root) (node_sources root) n x there)
 
   -- ---- each thread
@@ -378,3 +387,8 @@ module _ (p : Scl) (kept : KeepsRules p.name p.variables p.body) (no_loop : HasN
     size = fits_everywhere q counts_fit variable_good (λ t x there. (each_thread_good t x there).0) (λ n x there. (each_node_good n x there).0);
     structure = stands_everywhere q (λ t x there. (each_thread_good t x there).1) (λ n x there. (each_node_good n x there).1);
   }
+
+  pub step_keeps : (n : ℕ) (s : Step) → step_at q n ≡ Some s → KeepsBoth q s
+  step_keeps n s h =
+      let at : NodeAt q n s = node_at q n s h in
+      subst (KeepsBoth q) at.is (each_node_good n at.node at.there).2

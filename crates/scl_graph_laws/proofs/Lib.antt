@@ -31,5 +31,7 @@ mod Sources
 mod Operands
 mod Levels
 pub mod Fitting
+pub mod Coding
 pub mod Forming
+pub mod StepRules
 mod Rows

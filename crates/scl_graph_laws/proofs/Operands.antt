@@ -24,18 +24,18 @@ use Rattle.sc_graph.specs.declared.program.Variable.{Variable}
 abbrev pub HasKind : List Kind → Expr → Type 0
 HasKind kinds e = (k : Kind) × (kind e kinds ≡ Some k)
 
--- both operands of an operator have kinds that it takes
-pub record Operands (f : BinaryOperator) (first second : Option Kind) : Type 0 where
+-- both operands of an operator have kinds of which it makes this one
+pub record Operands (f : BinaryOperator) (first second : Option Kind) (k : Kind) : Type 0 where
   pub left : Kind
   pub right : Kind
   pub is_left : first ≡ Some left
   pub is_right : second ≡ Some right
-  pub gives : (k : Kind) × (binary_kind f left right ≡ Some k)
+  pub gives : binary_kind f left right ≡ Some k
 
-operands_of : (f : BinaryOperator) (o p : Option Kind) (k : Kind) → option_and_then (λ m. option_and_then (binary_kind f m) p) o ≡ Some k → Operands f o p
+pub operands_of : (f : BinaryOperator) (o p : Option Kind) (k : Kind) → option_and_then (λ m. option_and_then (binary_kind f m) p) o ≡ Some k → Operands f o p k
 operands_of f None p k h = absurd (none-some k h)
 operands_of f (Some m) None k h = absurd (none-some k h)
-operands_of f (Some m) (Some n) k h = record { left = m; right = n; is_left = refl; is_right = refl; gives = (k, h) }
+operands_of f (Some m) (Some n) k h = record { left = m; right = n; is_left = refl; is_right = refl; gives = h }
 
 subtracts : (m n k : Kind) → binary_kind binary.Subtract m n ≡ Some k → (r : Kind) × (unary_kind unary.Negate n ≡ Some r)
 subtracts kind_is.Int kind_is.Int k h = (kind_is.Int, refl)
@@ -44,10 +44,10 @@ subtracts kind_is.Bool kind_is.Int k h = absurd (none-some k h)
 subtracts kind_is.Int kind_is.Bool k h = absurd (none-some k h)
 
 module _ (kinds : List Kind) where
-  with_operator : (f : BinaryOperator) (a b e : Expr) → HasKind kinds e → Operands f (kind a kinds) (kind b kinds) → HasKind kinds (operand (unwrap_or (combination_of f b) (Inits e)))
+  with_operator : (f : BinaryOperator) (a b e : Expr) → (h : HasKind kinds e) → Operands f (kind a kinds) (kind b kinds) h.0 → HasKind kinds (operand (unwrap_or (combination_of f b) (Inits e)))
   with_operator binary.Add a b e h ops = (ops.right, ops.is_right)
   with_operator binary.Subtract a b e h ops =
-      let r : (r : Kind) × (unary_kind unary.Negate ops.right ≡ Some r) = subtracts ops.left ops.right ops.gives.0 ops.gives.1 in
+      let r : (r : Kind) × (unary_kind unary.Negate ops.right ≡ Some r) = subtracts ops.left ops.right h.0 ops.gives in
       (r.0, kind-unary unary.Negate b kinds ∙ ap (option_and_then (unary_kind unary.Negate)) ops.is_right ∙ r.1)
   with_operator binary.Multiply a b e h ops = (ops.right, ops.is_right)
   with_operator binary.Min a b e h ops = (ops.right, ops.is_right)
@@ -61,7 +61,7 @@ module _ (kinds : List Kind) where
   with_operator binary.Greater a b e h ops = h
   with_operator binary.GreaterOrEqual a b e h ops = h
 
-  kind_of_binary : (e : Expr) (f : BinaryOperator) (a b : Expr) → out-Expr e ≡ tree.Binary f a b → kind e kinds ≡ option_and_then (λ m. option_and_then (binary_kind f m) (kind b kinds)) (kind a kinds)
+  pub kind_of_binary : (e : Expr) (f : BinaryOperator) (a b : Expr) → out-Expr e ≡ tree.Binary f a b → kind e kinds ≡ option_and_then (λ m. option_and_then (binary_kind f m) (kind b kinds)) (kind a kinds)
   kind_of_binary e f a b is =
       ap (λ (m : List Kind → Option Kind). m kinds) (fold_out-Expr (List Kind → Option Kind) kind_step e)
       ∙ ap (λ y. kind_step (map-Expr Expr (List Kind → Option Kind) kind y) kinds) is

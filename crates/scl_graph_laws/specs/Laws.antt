@@ -1,5 +1,7 @@
 -- The laws of the graph of a text.
+use Rattle.sc_graph.specs.declared.place.Place.{Place}
 use Rattle.sc_graph.specs.Program.{Program}
+use Rattle.sc_graph.specs.Codes.{CodeAt, AssignmentAt}
 use Rattle.sc_graph.specs.Valid.{IsFormed}
 use Rattle.scl.specs.declared.program.Scl.{Scl}
 use Rattle.scl.specs.Numbering.{Numbered, numbered}
@@ -26,6 +28,15 @@ pub record ProgramsKeepRuns : Type 0 where
 abbrev pub ProgramsAreFormed : Type 0
 ProgramsAreFormed = (p : Scl) → KeepsRules p.name p.variables p.body → HasNoEmptyLoop (numbered p).root → FitsImage (counts_in p) → IsFormed (program_of (numbered p))
 
--- so what is answered as the graph of an SCL program keeps its runs, and is formed
+-- the rules about the codes and the assignments of steps are kept at each place
+pub record KeepsStepRules (q : Program) : Type 0 where
+  pub code : (at : Place) → CodeAt q at
+  pub assignment : (at : Place) → AssignmentAt q at
+
+-- it keeps them, where it has no more nodes and threads than an image may
+abbrev pub ProgramsKeepStepRules : Type 0
+ProgramsKeepStepRules = (p : Scl) → KeepsRules p.name p.variables p.body → HasNoEmptyLoop (numbered p).root → FitsImage (counts_in p) → KeepsStepRules (program_of (numbered p))
+
+-- so what is answered as the graph of an SCL program keeps its runs, is formed, and keeps the rules about steps
 abbrev pub AnsweredGraphs : Type 0
-AnsweredGraphs = (p : Scl) (q : Program) → KeepsRules p.name p.variables p.body → IsGraph p q → Keeps (numbered p) q × IsFormed q
+AnsweredGraphs = (p : Scl) (q : Program) → KeepsRules p.name p.variables p.body → IsGraph p q → Keeps (numbered p) q × IsFormed q × KeepsStepRules q

@@ -1,7 +1,7 @@
 //! The graph of an SCL program keeps its runs: the laws, over the definitions alone.
 #![tactic(auto)]
 
-ghost use Rattle.scl_graph_laws.specs.Laws.{AnsweredGraphs, GraphsKeepRuns, ProgramsKeepRuns, ProgramsAreFormed};
+ghost use Rattle.scl_graph_laws.specs.Laws.{AnsweredGraphs, GraphsKeepRuns, ProgramsKeepRuns, ProgramsAreFormed, ProgramsKeepStepRules};
 
 /// A program of nodes that mirrors a text keeps its runs, before the first tick and over every list of
 /// input ticks, if each place of the text leads to a statement: configurations of the two correspond,
@@ -23,8 +23,15 @@ pub fn programs_are_formed()
     ensures { ProgramsAreFormed }
 {}
 
-/// What is answered as the graph of an SCL program keeps its runs, and is formed. This function does
-/// nothing; its contract is the law.
+/// The program of an SCL program keeps the rules about the codes and the assignments of its steps, if no
+/// labels and gotos alone lead back to themselves and it has no more nodes and threads than an image may.
+/// This function does nothing; its contract is the law.
+pub fn programs_keep_step_rules()
+    ensures { ProgramsKeepStepRules }
+{}
+
+/// What is answered as the graph of an SCL program keeps its runs, is formed, and keeps the rules about
+/// the codes and the assignments of its steps. This function does nothing; its contract is the law.
 pub fn answered_graphs()
     ensures { AnsweredGraphs }
 {}
