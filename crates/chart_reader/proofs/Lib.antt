@@ -10,3 +10,4 @@ pub mod Inner
 pub mod Whole
 pub mod Reading
 mod OneAnswer
+pub mod Exactly

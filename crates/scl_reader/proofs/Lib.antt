@@ -3,3 +3,4 @@ pub mod SclRulesKept
 pub mod Looking
 pub mod Reading
 mod OneAnswer
+pub mod Exactly

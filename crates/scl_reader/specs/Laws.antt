@@ -1,7 +1,8 @@
 -- What holds of reading a text of SCL.
-use Rattle.std.specs.Prelude.{ℕ, ◌≡◌, List}
+use Rattle.std.specs.Prelude.{ℕ, ◌≡◌, ◌⊎◌, List, Result, MatchResult}
 use Rattle.scl.specs.declared.program.Scl.{Scl}
 use Rattle.sc_text.specs.declared.read_fault.Broken.{Broken}
+use Rattle.sc_text.specs.declared.read_fault.ReadFault.{ReadFault}
 use Rattle.sc_text.specs.declared.read_fault.ReadFault.TheVariants as fault
 use Rattle.scl_drafts.specs.Checked.{IsTextFault}
 use Rattle.scl_reader.specs.Read.{IsRead}
@@ -18,3 +19,10 @@ pub record SclTextsHaveOneAnswer : Type 0 where
   pub no_fault : (text : List ℕ) (p : Scl) (b : Broken) (at : ℕ) → IsRead text p → ¬ IsTextFault text (fault.Text b at)
   pub one_fault : (text : List ℕ) (b c : Broken) (at place : ℕ) → IsTextFault text (fault.Text b at) → IsTextFault text (fault.Text c place)
       → (b ≡ c) × (at ≡ place)
+
+-- what is answered of a text: its program exactly where it spells one, and its fault exactly where it has one. That memory
+-- was refused says nothing of the text
+pub record IsExact (text : List ℕ) (answer : Result Scl ReadFault) : Type 0 where
+  pub spelled : (p : Scl) → IsRead text p → MatchResult answer (λ q. AreAlike q p) (λ f. f ≡ fault.Memory)
+  pub faulty : (b : Broken) (at : ℕ) → IsTextFault text (fault.Text b at)
+      → MatchResult answer (λ q. ⊥) (λ f. (f ≡ fault.Text b at) ⊎ (f ≡ fault.Memory))
