@@ -14,13 +14,13 @@ use Rattle.core_charts.specs.Rules.{IsRegion, AreRegions, IsChart, depth_limit}
 use Rattle.chart_machine.specs.declared.table.StateRow.{StateRow}
 use Rattle.chart_machine.specs.declared.table.RegionRow.{RegionRow}
 use Rattle.chart_machine.specs.declared.table.Table.{Table}
-use Rattle.chart_machine.specs.Table.{Piece, region_piece, state_piece, piece_of_region, piece_of_state, side_by_side, whole, table_of, table, state_at}
+use Rattle.chart_machine.specs.Table.{Piece, region_piece, state_piece, piece_of_region, piece_of_state, side_by_side, whole, table_of, table, state_at, region_at}
 use Rattle.scl_graph_laws.proofs.Segments.{StandAt, stand_all, each_at}
 use Rattle.chart_machine_laws.proofs.LyingIn.{IsTree, around, holder, none_in}
 use Rattle.chart_machine_laws.proofs.RowsOfPieces.{StatesAt, RegionsAt, Holds, IsSized, AllSized, state_sized, region_sized}
 use Rattle.chart_machine_laws.proofs.Children.{Kept, EachKept, RegionKeeps, StateKeeps, side_kept, state_keeps, region_keeps}
-use Rattle.chart_machine_laws.proofs.TableTrees.{NoneInitial, OnceInitial, Rooted, EachUpward, RegionClimbs, StateClimbs, Each, side_climbs}
-use Rattle.chart_machine_laws.proofs.TableTrees.{state_climbs, region_climbs}
+use Rattle.chart_machine_laws.proofs.TableTrees.{NoneInitial, OnceInitial, Rooted, EachUpward, RegionClimbs, StateClimbs, StateHeld, Each, side_climbs}
+use Rattle.chart_machine_laws.proofs.TableTrees.{state_held, state_climbs, region_climbs}
 
 -- ---- one initial state
 
@@ -63,6 +63,7 @@ pub record Grows (k : Table) (p : Piece) : Type 0 where
 
 pub record GrowsInside (k : Table) (p : Piece) : Type 0 where
   pub sized : IsSized p
+  pub held : StateHeld k p
   pub climbs : StateClimbs k p
   pub keeps : StateKeeps k p
 
@@ -78,6 +79,10 @@ module _ (k : Table) where
   all_sized_inside : (pieces : List Piece) → Each k (GrowsInside k) pieces → AllSized pieces
   all_sized_inside [] each = tt
   all_sized_inside (p ∷ pieces) each = (each.0.sized, all_sized_inside pieces each.1)
+
+  all_held : (pieces : List Piece) → Each k (GrowsInside k) pieces → Each k (StateHeld k) pieces
+  all_held [] each = tt
+  all_held (p ∷ pieces) each = (each.0.held, all_held pieces each.1)
 
   all_climb_inside : (pieces : List Piece) → Each k (GrowsInside k) pieces → Each k (StateClimbs k) pieces
   all_climb_inside [] each = tt
@@ -102,6 +107,13 @@ module _ (k : Table) where
           regions = map piece_of_region (out-State s).regions;
           transitions = (out-State s).transitions;
         }) (all_sized (map piece_of_region (out-State s).regions) each);
+        held = state_held k (record {
+          name = (out-State s).name;
+          is_initial = (out-State s).is_initial;
+          is_final = (out-State s).is_final;
+          regions = map piece_of_region (out-State s).regions;
+          transitions = (out-State s).transitions;
+        });
         climbs = state_climbs k (record {
           name = (out-State s).name;
           is_initial = (out-State s).is_initial;
@@ -128,7 +140,8 @@ module _ (k : Table) where
         climbs =
             region_climbs k (record { name = (out-Region r).name; states = map piece_of_state (out-Region r).states })
             (once_initial (out-Region r).states (omega (count_is (out-Region r).states, one, arith)))
-            (all_sized_inside (map piece_of_state (out-Region r).states) each) (all_climb_inside (map piece_of_state (out-Region r).states) each);
+            (all_sized_inside (map piece_of_state (out-Region r).states) each) (all_held (map piece_of_state (out-Region r).states) each)
+            (all_climb_inside (map piece_of_state (out-Region r).states) each);
         keeps =
             region_keeps k (record { name = (out-Region r).name; states = map piece_of_state (out-Region r).states })
             (once_initial (out-Region r).states (omega (count_is (out-Region r).states, one, arith)))
@@ -181,11 +194,15 @@ pub nothing_around : (k : Table) (i : ℕ) → length k.regions ≤ i → around
 nothing_around k i past = ap (λ (o : Option RegionRow). (unwrap_or {T = RegionRow} o (record { around = []; states = [] })).around) (slice_get_past
     k.regions i past)
 
+no_states_past : (k : Table) (i : ℕ) → length k.regions ≤ i → (region_at k (suc i)).states ≡ []
+no_states_past k i past = ap (λ (o : Option RegionRow). (unwrap_or {T = RegionRow} o (record { around = []; states = [] })).states) (slice_get_past
+    k.regions i past)
+
 one_more : (i : ℕ) → 1 + i ≡ suc i
 one_more i = omega arith
 
 each_rooted : (k : Table) → EachUpward k 1 k.regions → (q : ℕ) → Rooted k q
-each_rooted k each zero = (λ s ss e. absurd cc, λ s h. absurd (none_in s h))
+each_rooted k each zero = (λ s ss e. absurd cc, λ s h. absurd (none_in s h), λ s h. absurd (none_in s h))
 each_rooted k each (suc i) = by_place (within_or_past i (length k.regions))
   where
     by_place : (i < length k.regions) ⊎ (length k.regions ≤ i) → Rooted k (suc i)
@@ -193,6 +210,7 @@ each_rooted k each (suc i) = by_place (within_or_past i (length k.regions))
     by_place (inr past) = (
       λ s ss e. let none : [] ≡ s ∷ ss = sym (nothing_around k i past) ∙ e in absurd cc,
       λ s h. absurd (none_in s (subst (λ zs. Contains zs s) (nothing_around k i past) h)),
+      λ s h. absurd (none_in s (subst (λ zs. Contains zs s) (no_states_past k i past) h)),
     )
 
 table_rooted : (f : Features) (variables : List Variable) (levels : ℕ) (regions : List Region) → AreRegions f variables levels regions → (q : ℕ) →
@@ -226,35 +244,44 @@ from_none s = omega arith
 each_kept : (k : Table) → EachKept k 0 k.states → (s : ℕ) → s < length k.states → (row : StateRow) × Kept k s row
 each_kept k each s lt = let x = there_state k.states s lt in (x.0, subst (λ z. Kept k z x.0) (from_none s) (each_at (Kept k) 0 k.states s x.0 each x.1))
 
+table_kept : (f : Features) (variables : List Variable) (levels : ℕ) (regions : List Region) → AreRegions f variables levels regions →
+    EachKept (table_of variables regions) 0 (table_of variables regions).states
+table_kept f variables levels regions rules =
+    let k : Table = table_of variables regions in
+    let pieces : List Piece = map piece_of_region regions in
+    let grow : Each k (Grows k) pieces = regions_grow k f variables levels regions rules in
+    side_kept k pieces whole (all_sized k pieces grow) (all_keep k pieces grow) (holds_whole variables regions)
+
 pub table_children : (f : Features) (variables : List Variable) (levels : ℕ) (regions : List Region) → AreRegions f variables levels regions →
     (s r : ℕ) → Contains (state_at (table_of variables regions) s).regions r →
     around (table_of variables regions) r ≡ s ∷ around (table_of variables regions) (holder (table_of variables regions) s)
-table_children f variables levels regions rules s r h = by_place (within_or_past s (length (table_of variables regions).states))
+table_children f variables levels regions rules s r h = by_place (within_or_past s (length k.states))
   where
-    grow : Each (table_of variables regions) (Grows (table_of variables regions)) (map piece_of_region regions)
-    grow = regions_grow (table_of variables regions) f variables levels regions rules
+    k : Table
+    k = table_of variables regions
 
-    kept : EachKept (table_of variables regions) 0 (table_of variables regions).states
-    kept = side_kept (table_of variables regions) (map piece_of_region regions) whole (all_sized (table_of variables regions) (map piece_of_region regions)
-        grow)
-        (all_keep (table_of variables regions) (map piece_of_region regions) grow) (holds_whole variables regions)
-
-    by_place : (s < length (table_of variables regions).states) ⊎ (length (table_of variables regions).states ≤ s) →
-        around (table_of variables regions) r ≡ s ∷ around (table_of variables regions) (holder (table_of variables regions) s)
+    by_place : (s < length k.states) ⊎ (length k.states ≤ s) → around k r ≡ s ∷ around k (holder k s)
     by_place (inl lt) =
-        let x = each_kept (table_of variables regions) kept s lt in
-        x.1.child r (subst (λ z. Contains z.regions r) x.1.row_is h) ∙ ap (λ z. s ∷ around (table_of variables regions) z.holder) (sym x.1.row_is)
-    by_place (inr past) = absurd (none_in r (subst (λ zs. Contains zs r) (no_regions_past (table_of variables regions) s past) h))
+        let x = each_kept k (table_kept f variables levels regions rules) s lt in
+        x.1.child r (subst (λ z. Contains z.regions r) x.1.row_is h) ∙ ap (λ z. s ∷ around k z.holder) (sym x.1.row_is)
+    by_place (inr past) = absurd (none_in r (subst (λ zs. Contains zs r) (no_regions_past k s past) h))
 
 pub chart_children : (f : Features) (c : Chart) → IsChart f c → (s r : ℕ) → Contains (state_at (table c) s).regions r →
     around (table c) r ≡ s ∷ around (table c) (holder (table c) s)
 chart_children f c rules s r h = table_children f c.variables depth_limit c.regions rules.regions s r h
 
+chart_holds : (f : Features) (c : Chart) → IsChart f c → (s : ℕ) → s < length (table c).states → Contains (region_at (table c) (holder (table c) s)).states s
+chart_holds f c rules s lt =
+    let x = each_kept (table c) (table_kept f c.variables depth_limit c.regions rules.regions) s lt in
+    subst (λ z. Contains (region_at (table c) z.holder).states s) (sym x.1.row_is) x.1.held
+
 pub chart_is_tree : (f : Features) (c : Chart) → IsChart f c → IsTree (table c)
 chart_is_tree f c rules = record {
-  upward = λ q s ss e. ((table_rooted f c.variables depth_limit c.regions rules.regions q).0 s ss e).0;
+  nested = record { upward = λ q s ss e. ((table_rooted f c.variables depth_limit c.regions rules.regions q).0 s ss e).0 };
   innermost = λ q s ss e. ((table_rooted f c.variables depth_limit c.regions rules.regions q).0 s ss e).1;
   children = chart_children f c rules;
+  held = λ r. (table_rooted f c.variables depth_limit c.regions rules.regions r).2;
+  holds = chart_holds f c rules;
   deeper = chart_is_deeper f c rules;
 }
 

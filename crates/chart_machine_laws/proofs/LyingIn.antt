@@ -3,11 +3,7 @@ use Rattle.std.proofs.Common.{◌≡◌, ℕ, zero, suc, ◌<◌, ◌≤◌, ◌
 use Rattle.std.specs.Prelude.{slice_index_or}
 use Rattle.chart_machine.specs.declared.table.Table.{Table}
 use Rattle.chart_machine.specs.Turns.{LiesIn, itself, deeper, SideBySide, holder_of, ForkedApart}
-pub use Rattle.chart_machine_laws.specs.Tree.{IsTree, around, holder}
-
--- region r lies in a superstate that region a holds; each one lies in the chart
-abbrev pub LiesUnder : Table → ℕ → ℕ → Type 0
-LiesUnder k r a = ((s : ℕ) × Contains (around k r) s × (holder k s ≡ a)) ⊎ (a ≡ 0)
+pub use Rattle.chart_machine_laws.specs.Tree.{IsNested, IsTree, LiesUnder, around, holder}
 
 pub none_in : (x : ℕ) → Contains [] x → ⊥
 none_in x h = let lt = h.1 in absurd (omega (lt, arith))
@@ -25,7 +21,7 @@ head_or_tail x y xs h = at h.0 h.1 h.2
     at zero lt e = inl e
     at (suc i) lt e = inr (i, omega (lt, arith), e)
 
-module _ (k : Table) (tree : IsTree k) where
+module _ (k : Table) (tree : IsNested k) where
   -- what r lies in is r itself, or what the region round it lies in
   pub outwards : (r q s : ℕ) (ss : List ℕ) → around k r ≡ s ∷ ss → LiesIn k r q → (r ≡ q) ⊎ LiesIn k (holder k s) q
   outwards r q s ss e (itself same) = inl same

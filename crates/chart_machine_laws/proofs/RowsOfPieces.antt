@@ -82,7 +82,7 @@ state_sized s sized = record {
 }
 
 -- of one state: its rows, those of its regions among the first ones or among the others
-alone_states : (b : Bool) (p : Piece) (next : ℕ) (at : TablePosition) → IsSized p → length (rows_of_state_at b p.parts next at).states ≡ p.states
+pub alone_states : (b : Bool) (p : Piece) (next : ℕ) (at : TablePosition) → IsSized p → length (rows_of_state_at b p.parts next at).states ≡ p.states
 alone_states true p next at sized = sized.states at
 alone_states false p next at sized = sized.states (with_region next at)
 

@@ -8,12 +8,12 @@ use Rattle.chart_machine.specs.declared.table.Table.{Table}
 use Rattle.chart_machine.specs.declared.table.TablePosition.{TablePosition}
 use Rattle.chart_machine.specs.declared.table.SubtreeRows.{SubtreeRows}
 use Rattle.chart_machine.specs.declared.table.StatesRows.{StatesRows}
-use Rattle.chart_machine.specs.Table.{region_numbers, Piece, behind, side_by_side, within, state_piece, with_region, past_states, rows_of_state_at}
-use Rattle.chart_machine.specs.Table.{next_behind, followed_by, in_region, regions_in_initial, inside_region, region_piece, state_at}
+use Rattle.chart_machine.specs.Table.{region_numbers, Piece, behind, side_by_side, within, state_piece, state_numbers, with_region, past_states, rows_of_state_at}
+use Rattle.chart_machine.specs.Table.{alone, next_behind, followed_by, in_region, regions_in_initial, inside_region, region_piece, state_at, region_at}
 use Rattle.scl_graph_laws.proofs.Segments.{EachAt, each_from, each_append}
-use Rattle.chart_machine_laws.proofs.LyingIn.{around, holder, head_or_tail, head_in, tail_in}
+use Rattle.chart_machine_laws.proofs.LyingIn.{around, holder, none_in, head_or_tail, head_in, tail_in}
 use Rattle.chart_machine_laws.proofs.RowsOfPieces.{StatesAt, RegionsAt, Holds, states_from, states_first, states_second, regions_from, regions_first}
-use Rattle.chart_machine_laws.proofs.RowsOfPieces.{regions_second, IsSized, AllSized, inner_first}
+use Rattle.chart_machine_laws.proofs.RowsOfPieces.{regions_second, IsSized, AllSized, alone_states, inner_first}
 
 -- at most one of these is initial
 abbrev pub NoneInitial : List Piece → Type 0
@@ -52,8 +52,12 @@ module _ (k : Table) where
   abbrev pub Below : List ℕ → ℕ → Type 0
   Below zs n = (s : ℕ) → Contains zs s → holder k s < n
 
+  -- the states of region q are held by it
+  abbrev pub Holding : ℕ → Type 0
+  Holding q = (s : ℕ) → Contains (region_at k q).states s → holder k s ≡ q
+
   abbrev pub Rooted : ℕ → Type 0
-  Rooted q = Upward q × Below (around k q) q
+  Rooted q = Upward q × Below (around k q) q × Holding q
 
   abbrev pub EachUpward : ℕ → List RegionRow → Type 0
   EachUpward n rows = EachAt (λ q row. Rooted q) n rows
@@ -72,6 +76,31 @@ module _ (k : Table) where
   abbrev pub Each : (Piece → Type 0) → List Piece → Type 0
   Each P [] = Unit {0}
   Each P (p ∷ pieces) = P p × Each P pieces
+
+  -- the row of a state has its holder
+  abbrev pub StateHeld : Piece → Type 0
+  StateHeld p = (at : TablePosition) → StatesAt k at.state (p.parts at).states → holder k at.state ≡ at.holder
+
+  pub state_held : (s : State-F Piece Piece) → StateHeld (state_piece s)
+  state_held s at rows = ap (λ z. z.holder) rows.0
+
+  alone_held : (b : Bool) (p : Piece) (next : ℕ) (at : TablePosition) → StateHeld p → StatesAt k at.state (rows_of_state_at b p.parts next at).states →
+      holder k at.state ≡ at.holder
+  alone_held true p next at held rows = held at rows
+  alone_held false p next at held rows = held (with_region next at) rows
+
+  numbers_held : (states : List Piece) (next : ℕ) (at : TablePosition) → AllSized states → Each StateHeld states →
+      StatesAt k at.state (in_region states next at).states → (s : ℕ) → Contains (state_numbers states at.state) s → holder k s ≡ at.holder
+  numbers_held [] next at sized held rows s h = absurd (none_in s h)
+  numbers_held (p ∷ states) next at sized held rows s h =
+      let own : StatesRows = alone p next at in
+      let rest : StatesRows = in_region states (next_behind p next) (past_states p.states at) in
+      ⊎_elim
+      (λ same. ap (holder k) (sym same) ∙ alone_held p.is_initial p next at held.0 (states_first k at.state own.states rest.states rows))
+      (λ tail. numbers_held states (next_behind p next) (past_states p.states at) sized.1 held.1
+      (states_from k (at.state + length own.states) (at.state + p.states) rest.states (omega (arith, alone_states p.is_initial p next at sized.0))
+      (states_second k at.state own.states rest.states rows)) s tail)
+      (head_or_tail at.state s (state_numbers states (at.state + p.states)) h)
 
   pub side_climbs : (regions : List Piece) (at : TablePosition) → AllSized regions → Each RegionClimbs regions → Holds k at (side_by_side regions at) →
       AllEnclosed at.around (region_numbers regions at.region) → Below at.around at.region →
@@ -186,9 +215,14 @@ module _ (k : Table) where
       (λ later more rows first others. inner_climbs states later (past_states p.states at) once.1 sized.1 climbs.1 rows first others round held below more)
       round held below le rows first others
 
-  pub region_climbs : (r : Region-F Piece Piece) → OnceInitial r.states → AllSized r.states → Each StateClimbs r.states → RegionClimbs (region_piece r)
-  region_climbs r once sized climbs at holds enclosed below = (
-    (λ s ss e. enclosed s ss (sym own ∙ e), λ s h. below s (subst (λ zs. Contains zs s) own h)),
+  pub region_climbs : (r : Region-F Piece Piece) → OnceInitial r.states → AllSized r.states → Each StateHeld r.states → Each StateClimbs r.states →
+      RegionClimbs (region_piece r)
+  region_climbs r once sized held climbs at holds enclosed below = (
+    (
+      λ s ss e. enclosed s ss (sym own ∙ e),
+      λ s h. below s (subst (λ zs. Contains zs s) own h),
+      λ s h. numbers_held r.states next (inside_region at) sized held holds.states s (subst (λ zs. Contains zs s) (ap (λ z. z.states) holds.regions.0) h),
+    ),
     each_append (λ q row. Rooted q) (suc at.region) inner.first inner.others both.first
         (each_from (λ q row. Rooted q) next (suc at.region + length inner.first) inner.others (omega (arith, size)) both.others),
   )
