@@ -1,0 +1,24 @@
+-- The elements of a core chart, of each sort numbered from 0: regions, states, transitions and effects, in the order of
+-- the text. A state's own transitions come before those in it.
+use Rattle.std.specs.Prelude.{ℕ, suc, ◌+◌, List, [], ◌∷◌, length}
+use Rattle.core_charts.specs.declared.region.Transition.{Transition}
+use Rattle.lowering_origins.specs.declared.numbers.Numbers.{Numbers}
+
+-- the numbers that come next behind a transition, and behind transitions
+abbrev pub behind_transition : Transition → Numbers → Numbers
+behind_transition t at = record at { transition = suc at.transition; effect = at.effect + length t.effects }
+
+abbrev pub behind_transitions : List Transition → Numbers → Numbers
+behind_transitions [] at = at
+behind_transitions (t ∷ others) at = behind_transitions others (behind_transition t at)
+
+-- within a state with these transitions
+abbrev pub within_state : List Transition → Numbers → Numbers
+within_state own at = behind_transitions own (record at { state = suc at.state })
+
+-- within a region
+abbrev pub within_region : Numbers → Numbers
+within_region at = record at { region = suc at.region }
+
+abbrev pub first : Numbers
+first = record { region = 0; state = 0; transition = 0; effect = 0 }

@@ -1,0 +1,15 @@
+//! For each statement of the lowering of a core chart, and each end of a thread, the element of the chart from which it
+//! comes.
+#![tactic(auto)]
+
+mod behind;
+mod numbers;
+mod origin;
+mod regions;
+mod states;
+mod transitions;
+
+pub use behind::counted;
+pub use numbers::Numbers;
+pub use origin::PointOrigin;
+pub use regions::point_origins;

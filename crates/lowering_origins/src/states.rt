@@ -1,0 +1,70 @@
+//! The origins of the points of states, without what is inside them.
+
+ghost use Rattle.std.specs.Prelude.{◌≡◌, ◌++◌, IfOk};
+ghost use Rattle.lowering_origins.specs.Origins.{behind_fork, depth, final, simple};
+
+use crate::numbers::Numbers;
+use crate::origin::PointOrigin;
+use crate::transitions::{put_taken, put_transitions};
+use core_charts::Transition;
+use sqlite_items::Items;
+use std::alloc::AllocError;
+
+/// Puts two points of a state behind the others.
+pub(crate) fn put_final(at: Numbers, origins: &mut Items<PointOrigin>) -> Result<(), AllocError>
+    ensures { IfOk result (λ _. origins.new ≡ origins.old ++ final at) }
+{
+    origins.push(PointOrigin::State(at.state))?;
+    origins.push(PointOrigin::State(at.state))
+}
+
+/// Puts those of a simple state behind the others: its label, its immediate transitions, and its depth.
+pub(crate) fn put_simple(
+    own: &[Transition],
+    at: Numbers,
+    origins: &mut Items<PointOrigin>,
+) -> Result<(), AllocError>
+    ensures { IfOk result (λ _. origins.new ≡ origins.old ++ simple own.now at) }
+{
+    origins.push(PointOrigin::State(at.state))?;
+    if put_transitions(true, own, at, origins)? {
+        put_depth(own, at, origins)
+    } else {
+        Ok(())
+    }
+}
+
+// The second label, the pause, all transitions, and the goto back.
+fn put_depth(
+    own: &[Transition],
+    at: Numbers,
+    origins: &mut Items<PointOrigin>,
+) -> Result<(), AllocError>
+    ensures { IfOk result (λ _. origins.new ≡ origins.old ++ depth own.now at) }
+{
+    origins.push(PointOrigin::State(at.state))?;
+    origins.push(PointOrigin::State(at.state))?;
+    if put_transitions(false, own, at, origins)? {
+        origins.push(PointOrigin::State(at.state))
+    } else {
+        Ok(())
+    }
+}
+
+/// Puts those behind the fork of a superstate behind the others.
+pub(crate) fn put_behind_fork(
+    own: &[Transition],
+    at: Numbers,
+    origins: &mut Items<PointOrigin>,
+) -> Result<(), AllocError>
+    ensures { IfOk result (λ _. origins.new ≡ origins.old ++ behind_fork own.now at) }
+{
+    let mut here = at;
+    for transition in own {
+        if transition.kind.is_join() {
+            return put_taken(transition, here, origins);
+        }
+        here = here.behind_transition(transition)?;
+    }
+    put_depth(&[], here, origins)
+}
