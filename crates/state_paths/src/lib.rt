@@ -1,0 +1,6 @@
+//! The paths by which the states of a chart are named.
+#![tactic(auto)]
+
+mod paths;
+
+pub use paths::paths_of;
