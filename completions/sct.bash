@@ -3,7 +3,7 @@ _sct() {
   local word=${COMP_WORDS[COMP_CWORD]} command=${COMP_WORDS[1]:-} before=${COMP_WORDS[COMP_CWORD - 1]}
   COMPREPLY=()
   if ((COMP_CWORD == 1)); then
-    mapfile -t COMPREPLY < <(compgen -W 'compile scl explain dot check list run migrate --help --version' -- "$word")
+    mapfile -t COMPREPLY < <(compgen -W 'compile scl explain dot check list run migrate help --help --version' -- "$word")
     return
   fi
   if [[ $before == --workers ]]; then

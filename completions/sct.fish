@@ -10,6 +10,7 @@ complete -c sct -n __fish_use_subcommand -a check -d 'Decodes and verifies an im
 complete -c sct -n __fish_use_subcommand -a list -d 'Prints an image for people'
 complete -c sct -n __fish_use_subcommand -a run -d 'Plays standard input to standard output, a tick for each line'
 complete -c sct -n __fish_use_subcommand -a migrate -d 'Writes an image in version 2 of the layout'
+complete -c sct -n __fish_use_subcommand -a help -d 'Prints the help of a command'
 complete -c sct -n '__fish_seen_subcommand_from compile scl explain dot check list run migrate' -l help -d 'Print help'
 complete -c sct -n '__fish_seen_subcommand_from compile scl explain dot check list run migrate' -F
 complete -c sct -n '__fish_seen_subcommand_from list' -l source -r -F -d 'The text that it was compiled from'

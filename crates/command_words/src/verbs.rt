@@ -34,6 +34,21 @@ const WORKERS: &[&str] = &["1", "2", "3", "4", "5", "6", "7", "8"];
 const EXAMPLE: &str =
     "Examples:\n  sct compile examples/abro.scl abro.image\n  sct run examples/two_threads.image < examples/two_threads.ticks";
 
+// What a run reads and prints, and how it ends.
+const RUN_HELP: &str = r#"Input, a line for each tick (an input that is not named is false, or 0):
+  {"left":true,"level":7}
+
+Output, a line for each:
+  {"out":{"x":1,"y":1},"steps":7,"tick":1}
+
+Status:
+  0  the whole input was played
+  1  it was not: one line on standard error, such as `sct: E51 line 2`, says why
+  2  these words ask for nothing
+
+Example:
+  sct run examples/two_threads.image < examples/two_threads.ticks"#;
+
 // The operand of a command that is the name of a file.
 fn file_name<'a>(alloc: Global, name: &'a str, shown: &'a str, about: &'a str) -> Arg<'a> {
     Arg::new(alloc, name)
@@ -138,7 +153,7 @@ fn run_command<'a>(alloc: Global) -> Result<Command<'a>, AllocError> {
         .default_value("2");
     Command::new(alloc, "run")
         .about("Plays standard input to standard output, a tick for each line")
-        .after_help("Example:\n  sct run examples/two_threads.image < examples/two_threads.ticks")
+        .after_help(RUN_HELP)
         .arg(image_name(alloc))?
         .arg(workers)
 }
@@ -193,7 +208,6 @@ fn program<'a>(alloc: Global) -> Result<Command<'a>, AllocError> {
             .no_binary_name(true)
             .subcommand_required(true)
             .arg_required_else_help(true)
-            .disable_help_subcommand(true)
             .after_help(EXAMPLE),
     )
 }
