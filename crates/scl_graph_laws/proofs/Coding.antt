@@ -1,5 +1,7 @@
 -- What the node of an assignment does keeps the rules about codes and assignments, where SCL's rules are kept.
-use Rattle.std.proofs.Common.{◌≡◌, ◌≢◌, ℕ, zero, suc, ◌+◌, ◌≤◌, ◌&&◌, ◌||◌, Bool, true, false, not, nat_eq, Option, Some, None, List, [], ◌∷◌, ◌++◌, ◌⊎◌, inl, inr, length, take, slice_get, option_and_then, option_map, unwrap_or, if◌then◌else◌, Contains, refl, sym, ap, subst, ◌∙◌, eq-eqb, eqb-true, length-append, arith}
+use Rattle.std.proofs.Common.{◌≡◌, ◌≢◌, ℕ, zero, suc, ◌+◌, ◌≤◌, ◌&&◌, ◌||◌, Bool, true, false, not, nat_eq, Option, Some, None, List, [], ◌∷◌, ◌++◌}
+use Rattle.std.proofs.Common.{◌⊎◌, inl, inr, length, take, slice_get, option_and_then, option_map, unwrap_or, if◌then◌else◌, Contains, refl, sym}
+use Rattle.std.proofs.Common.{ap, subst, ◌∙◌, eq-eqb, eqb-true, length-append, arith}
 use Rattle.std.specs.List.{list_any}
 use Rattle.std.proofs.lemmas.Option.{none-some, same_Some, slice_get-map}
 use Rattle.sc_values.specs.declared.value.Kind.{Kind}
@@ -52,7 +54,9 @@ trees_over : (code : List Operation) (stack after more : List Expr) → trees co
 trees_over [] stack after more is = ap (λ s. Some (s ++ more)) (same_Some stack after is)
 trees_over (o ∷ code) stack after more is = go (grown o stack) refl is (λ middle left. trees_over code middle after more left)
   where
-    go : (between : Option (List Expr)) → grown o stack ≡ between → option_and_then (trees code) between ≡ Some after → ((middle : List Expr) → trees code middle ≡ Some after → trees code (middle ++ more) ≡ Some (after ++ more)) → trees (o ∷ code) (stack ++ more) ≡ Some (after ++ more)
+    go : (between : Option (List Expr)) → grown o stack ≡ between → option_and_then (trees code) between ≡ Some after →
+        ((middle : List Expr) → trees code middle ≡ Some after → trees code (middle ++ more) ≡ Some (after ++ more)) →
+        trees (o ∷ code) (stack ++ more) ≡ Some (after ++ more)
     go None was left behind = absurd (none-some after left)
     go (Some middle) was left behind = ap (option_and_then (trees code)) (grown_over o stack middle more was) ∙ behind middle left
 
@@ -69,7 +73,8 @@ take_last (suc zero) [] y = inr refl
 take_last (suc (suc n)) [] y = inr refl
 take_last (suc n) (x ∷ xs) y = with_head (take_last n xs y)
   where
-    with_head : ((m : ℕ) × (take n (xs ++ y ∷ []) ≡ take m xs)) ⊎ (take n (xs ++ y ∷ []) ≡ xs ++ y ∷ []) → ((m : ℕ) × (take (suc n) ((x ∷ xs) ++ y ∷ []) ≡ take m (x ∷ xs))) ⊎ (take (suc n) ((x ∷ xs) ++ y ∷ []) ≡ (x ∷ xs) ++ y ∷ [])
+    with_head : ((m : ℕ) × (take n (xs ++ y ∷ []) ≡ take m xs)) ⊎ (take n (xs ++ y ∷ []) ≡ xs ++ y ∷ []) →
+        ((m : ℕ) × (take (suc n) ((x ∷ xs) ++ y ∷ []) ≡ take m (x ∷ xs))) ⊎ (take (suc n) ((x ∷ xs) ++ y ∷ []) ≡ (x ∷ xs) ++ y ∷ [])
     with_head (inl part) = inl (suc part.0, ap (λ zs. x ∷ zs) part.1)
     with_head (inr all) = inr (ap (λ zs. x ∷ zs) all)
 
@@ -94,8 +99,10 @@ module _ (x : ℕ) (b : Expr) (f : BinaryOperator) (within : IsWithinLimits (op.
   few_loads : length (loads (postorder b)) ≤ load_limit
   few_loads =
       let few : suc (length (loads (postorder b ++ op.Binary f ∷ []))) ≤ load_limit = within.loaded in
-      let parts : length (loads (postorder b ++ op.Binary f ∷ [])) ≡ length (loads (postorder b) ++ loads (op.Binary f ∷ [])) = ap length (loads-append (postorder b) (op.Binary f ∷ [])) in
-      let sum : length (loads (postorder b) ++ loads (op.Binary f ∷ [])) ≡ length (loads (postorder b)) + length (loads (op.Binary f ∷ [])) = length-append (loads (postorder b)) (loads (op.Binary f ∷ [])) in
+      let parts : length (loads (postorder b ++ op.Binary f ∷ [])) ≡ length (loads (postorder b) ++ loads (op.Binary f ∷ [])) =
+      ap length (loads-append (postorder b) (op.Binary f ∷ [])) in
+      let sum : length (loads (postorder b) ++ loads (op.Binary f ∷ [])) ≡ length (loads (postorder b)) + length (loads (op.Binary f ∷ [])) =
+      length-append (loads (postorder b)) (loads (op.Binary f ∷ [])) in
       omega (arith, few, parts, sum)
 
   pub right_within : IsWithinLimits (postorder b)
@@ -120,11 +127,16 @@ module _ (x : ℕ) (b : Expr) (f : BinaryOperator) (within : IsWithinLimits (op.
 
   turned_within : IsWithinLimits turned
   turned_within = record {
-    operations = let sum : length turned ≡ length (postorder b) + 1 = length-append (postorder b) (op.Unary unary.Negate ∷ []) in omega (arith, few_operations, sum);
+    operations =
+        let sum : length turned ≡ length (postorder b) + 1 = length-append (postorder b) (op.Unary unary.Negate ∷ []) in
+        omega (arith, few_operations, sum);
     operands = turned_operands;
     loaded =
-        let parts : length (loads turned) ≡ length (loads (postorder b) ++ loads (op.Unary unary.Negate ∷ [])) = ap length (loads-append (postorder b) (op.Unary unary.Negate ∷ [])) in
-        let sum : length (loads (postorder b) ++ loads (op.Unary unary.Negate ∷ [])) ≡ length (loads (postorder b)) + length (loads (op.Unary unary.Negate ∷ [])) = length-append (loads (postorder b)) (loads (op.Unary unary.Negate ∷ [])) in
+        let parts : length (loads turned) ≡ length (loads (postorder b) ++ loads (op.Unary unary.Negate ∷ [])) =
+        ap length (loads-append (postorder b) (op.Unary unary.Negate ∷ [])) in
+        let sum : length (loads (postorder b) ++ loads (op.Unary unary.Negate ∷ []))
+        ≡ length (loads (postorder b)) + length (loads (op.Unary unary.Negate ∷ [])) =
+        length-append (loads (postorder b)) (loads (op.Unary unary.Negate ∷ [])) in
         omega (arith, few_loads, parts, sum);
   }
 
@@ -186,14 +198,17 @@ module _ (p : Program) (x : ℕ) (variable : Variable) (there : slice_get p.vari
   formed : (e : Expr) → kind e (kinds p) ≡ Some variable.kind → IsWithinLimits (postorder e) → IsWellFormed (kinds p) (postorder e)
   formed e kinded within = record { spelt = e; spells = refl; gives = variable.kind; kinded = kinded; within = within }
 
-  combines : (f : Combination) (e : Expr) (next : ℕ) → kind e (kinds p) ≡ Some variable.kind → variable.kind ≡ kind_combined f → IsWithinLimits (postorder e) → ¬ Contains (loads (postorder e)) x → KeepsBoth p (assigns x (Combines f e) next)
+  combines : (f : Combination) (e : Expr) (next : ℕ) → kind e (kinds p) ≡ Some variable.kind → variable.kind ≡ kind_combined f →
+      IsWithinLimits (postorder e) → ¬ Contains (loads (postorder e)) x → KeepsBoth p (assigns x (Combines f e) next)
   combines f e next kinded combined within none = (formed e kinded within, (written e kinded, takes ∙ ap Some combined, none))
 
   module _ (e : Expr) (next : ℕ) (kinded : kind e (kinds p) ≡ Some variable.kind) (within : IsWithinLimits (postorder e)) where
     inits : KeepsBoth p (assigns x (Inits e) next)
     inits = (formed e kinded within, written e kinded)
 
-    module _ (f : BinaryOperator) (b : Expr) (right : Kind) (is_right : kind b (kinds p) ≡ Some right) (gives : binary_kind f variable.kind right ≡ Some variable.kind) (code : postorder e ≡ op.Load x ∷ (postorder b ++ op.Binary f ∷ [])) (none : is_read x b ≡ false) where
+    module _ (f : BinaryOperator) (b : Expr) (right : Kind) (is_right : kind b (kinds p) ≡ Some right)
+        (gives : binary_kind f variable.kind right ≡ Some variable.kind) (code : postorder e ≡ op.Load x ∷ (postorder b ++ op.Binary f ∷ []))
+        (none : is_read x b ≡ false) where
       shorter : IsWithinLimits (postorder b)
       shorter = right_within x b f (subst IsWithinLimits code within)
 
@@ -217,7 +232,8 @@ module _ (p : Program) (x : ℕ) (variable : Variable) (there : slice_get p.vari
           (negated_within x b f (subst IsWithinLimits code within))
           (subst (λ xs. ¬ Contains xs x) (sym (loads-unary unary.Negate b)) (not_read x b none))
 
-    with_operator : (f : BinaryOperator) (b : Expr) (right : Kind) → kind b (kinds p) ≡ Some right → binary_kind f variable.kind right ≡ Some variable.kind → postorder e ≡ op.Load x ∷ (postorder b ++ op.Binary f ∷ []) → is_read x b ≡ false →
+    with_operator : (f : BinaryOperator) (b : Expr) (right : Kind) → kind b (kinds p) ≡ Some right →
+        binary_kind f variable.kind right ≡ Some variable.kind → postorder e ≡ op.Load x ∷ (postorder b ++ op.Binary f ∷ []) → is_read x b ≡ false →
         KeepsBoth p (assigns x (unwrap_or (combination_of f b) (Inits e)) next)
     with_operator binary.Add b right is gives code none = by_sum binary.Add b right is gives code none combine.Add refl refl
     with_operator binary.Subtract b right is gives code none = by_difference binary.Subtract b right is gives code none refl
@@ -235,7 +251,8 @@ module _ (p : Program) (x : ℕ) (variable : Variable) (there : slice_get p.vari
 
     code_of_load : (a : Expr) (y : Expr-F Expr) → out-Expr a ≡ y → is_variable x y ≡ true → postorder a ≡ op.Load x ∷ []
     code_of_load a (tree.Load y) is h =
-        fold_out-Expr (List Operation) postorder_step a ∙ ap (λ y. postorder_step (map-Expr Expr (List Operation) postorder y)) is ∙ ap (λ y. op.Load y ∷ []) (sym (eqb-true x y h))
+        fold_out-Expr (List Operation) postorder_step a ∙ ap (λ y. postorder_step (map-Expr Expr (List Operation) postorder y)) is
+        ∙ ap (λ y. op.Load y ∷ []) (sym (eqb-true x y h))
     code_of_load a (tree.Literal v) is h = absurd (cc)
     code_of_load a (tree.Unary f b) is h = absurd (cc)
     code_of_load a (tree.Binary f b c) is h = absurd (cc)
@@ -249,13 +266,17 @@ module _ (p : Program) (x : ℕ) (variable : Variable) (there : slice_get p.vari
     kind_of_load a (tree.Unary f b) is h = absurd (cc)
     kind_of_load a (tree.Binary f b c) is h = absurd (cc)
 
-    on_its_left : (f : BinaryOperator) (a b : Expr) → out-Expr e ≡ tree.Binary f a b → is_variable x (out-Expr a) ≡ true → is_read x b ≡ false → KeepsBoth p (assigns x (unwrap_or (combination_of f b) (Inits e)) next)
+    on_its_left : (f : BinaryOperator) (a b : Expr) → out-Expr e ≡ tree.Binary f a b → is_variable x (out-Expr a) ≡ true → is_read x b ≡ false →
+        KeepsBoth p (assigns x (unwrap_or (combination_of f b) (Inits e)) next)
     on_its_left f a b is first none =
-        let ops : Operands f (kind a (kinds p)) (kind b (kinds p)) variable.kind = operands_of f (kind a (kinds p)) (kind b (kinds p)) variable.kind (sym (kind_of_binary (kinds p) e f a b is) ∙ kinded) in
-        let left : ops.left ≡ variable.kind = same_Some ops.left variable.kind (sym ops.is_left ∙ kind_of_load a (out-Expr a) refl first ∙ slice_get-map (λ v. v.kind) p.variables x ∙ takes) in
+        let ops : Operands f (kind a (kinds p)) (kind b (kinds p)) variable.kind =
+        operands_of f (kind a (kinds p)) (kind b (kinds p)) variable.kind (sym (kind_of_binary (kinds p) e f a b is) ∙ kinded) in
+        let left : ops.left ≡ variable.kind =
+        same_Some ops.left variable.kind (sym ops.is_left ∙ kind_of_load a (out-Expr a) refl first ∙ slice_get-map (λ v. v.kind) p.variables x ∙ takes) in
         let gives : binary_kind f variable.kind ops.right ≡ Some variable.kind = ap (λ k. binary_kind f k ops.right) (sym left) ∙ ops.gives in
         let code : postorder e ≡ op.Load x ∷ (postorder b ++ op.Binary f ∷ []) =
-        fold_out-Expr (List Operation) postorder_step e ∙ ap (λ y. postorder_step (map-Expr Expr (List Operation) postorder y)) is ∙ ap (λ c. (c ++ postorder b) ++ op.Binary f ∷ []) (code_of_load a (out-Expr a) refl first) in
+        fold_out-Expr (List Operation) postorder_step e ∙ ap (λ y. postorder_step (map-Expr Expr (List Operation) postorder y)) is
+        ∙ ap (λ c. (c ++ postorder b) ++ op.Binary f ∷ []) (code_of_load a (out-Expr a) refl first) in
         with_operator f b ops.right ops.is_right gives code none
 
     by_root : (y : Expr-F Expr) → out-Expr e ≡ y → KeepsBoth p (assigns x (assignment_of_root x e y) next)
@@ -264,7 +285,8 @@ module _ (p : Program) (x : ℕ) (variable : Variable) (there : slice_get p.vari
     by_root (tree.Unary f a) is = inits
     by_root (tree.Binary f a b) is = by_test (is_variable x (out-Expr a)) refl (is_read x b) refl
       where
-        by_test : (c : Bool) → is_variable x (out-Expr a) ≡ c → (d : Bool) → is_read x b ≡ d → KeepsBoth p (assigns x (if c && not d then unwrap_or (combination_of f b) (Inits e) else Inits e) next)
+        by_test : (c : Bool) → is_variable x (out-Expr a) ≡ c → (d : Bool) → is_read x b ≡ d →
+            KeepsBoth p (assigns x (if c && not d then unwrap_or (combination_of f b) (Inits e) else Inits e) next)
         by_test true first false none = on_its_left f a b is first none
         by_test true first true some = inits
         by_test false first d some = inits
@@ -274,7 +296,8 @@ assignment_keeps_both p x e next kept = by_root p x kept.variable kept.is_there 
 
 -- ---- the node of a test
 
-pub test_keeps_both : (p : Program) (e : Expr) (on_true on_false : ℕ) → IsExpression (kinds p) kind_is.Bool e → KeepsBoth p (step.Cond (postorder e) on_true on_false)
+pub test_keeps_both : (p : Program) (e : Expr) (on_true on_false : ℕ) → IsExpression (kinds p) kind_is.Bool e →
+    KeepsBoth p (step.Cond (postorder e) on_true on_false)
 test_keeps_both p e on_true on_false kept = (
   (
     record { spelt = e; spells = refl; gives = kind_is.Bool; kinded = kept.kinded; within = kept.within },

@@ -292,7 +292,8 @@ module _ (p : Scl) (kept : KeepsRules p.name p.variables p.body) (no_loop : HasN
         keeps = (tt, tt);
       }
 
-  by_good : (n m : ℕ) (x : Node) → slice_get q.nodes n ≡ Some x → n ≡ m → x.owner < length q.threads → Good m x.owner → NodeFits q x × NodeStands q n x × KeepsBoth q x.step
+  by_good : (n m : ℕ) (x : Node) → slice_get q.nodes n ≡ Some x → n ≡ m → x.owner < length q.threads → Good m x.owner →
+      NodeFits q x × NodeStands q n x × KeepsBoth q x.step
   by_good n m x there same within good =
       let is : x ≡ node x.owner good.taken = same_Some x (node x.owner good.taken) (sym there ∙ ap (slice_get q.nodes) same ∙ good.has.is) in
       let steps : good.taken ≡ x.step = sym (ap (λ y. y.step) is) in (

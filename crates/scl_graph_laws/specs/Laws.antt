@@ -35,7 +35,8 @@ pub record KeepsStepRules (q : Program) : Type 0 where
 
 -- it keeps them, where it has no more nodes and threads than an image may
 abbrev pub ProgramsKeepStepRules : Type 0
-ProgramsKeepStepRules = (p : Scl) → KeepsRules p.name p.variables p.body → HasNoEmptyLoop (numbered p).root → FitsImage (counts_in p) → KeepsStepRules (program_of (numbered p))
+ProgramsKeepStepRules = (p : Scl) → KeepsRules p.name p.variables p.body → HasNoEmptyLoop (numbered p).root →
+    FitsImage (counts_in p) → KeepsStepRules (program_of (numbered p))
 
 -- so what is answered as the graph of an SCL program keeps its runs, is formed, and keeps the rules about steps
 abbrev pub AnsweredGraphs : Type 0
