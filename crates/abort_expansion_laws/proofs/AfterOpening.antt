@@ -21,7 +21,7 @@ use Rattle.abort_expansion_laws.specs.Stages.{Entry, Silent}
 use Rattle.abort_expansion_laws.specs.CoreRows.{own, IsState, Images, CoreRows, SplitImage, joins, flags_around}
 use Rattle.abort_expansion_laws.specs.Related.{Stands, within, IsInside, guarded, open_inside, Stores}
 use Rattle.abort_expansion_laws.specs.Related.{Watches, is_behind}
-use Rattle.abort_expansion_laws.proofs.LyingIn.{IsTree, around, holder, none_in, head_in, tail_in, head_or_tail}
+use Rattle.chart_machine_laws.proofs.LyingIn.{IsNested, around, holder, none_in, head_in, tail_in, head_or_tail}
 use Rattle.abort_expansion_laws.proofs.TablesCorrespond.{IsThere, contains_map}
 use Rattle.abort_expansion_laws.proofs.Leaving.{at_number, set_here, set_other, set_length}
 use Rattle.abort_expansion_laws.proofs.AllLeave.{inside_around}
@@ -48,7 +48,7 @@ set_all_behind (x ∷ xs) vs more high =
     (rest.0, ap (set_all xs) one.1 ∙ rest.1)
 
 -- of two superstates around a region, one lies in the other
-module _ (k : Table) (tree : IsTree k) where
+module _ (k : Table) (tree : IsNested k) where
   pub one_in_other : (ss : List ℕ) (t s u : ℕ) → around k t ≡ ss → Contains ss s → Contains ss u →
       (s ≡ u) ⊎ (Contains (around k (holder k s)) u ⊎ Contains (around k (holder k u)) s)
   one_in_other [] t s u e first second = absurd (none_in s first)
@@ -67,7 +67,7 @@ module _ (k : Table) (tree : IsTree k) where
       by_places (inr a) (inl b) rest = inr (inr (subst (λ v. Contains (around k (holder k v)) s) b (subst (λ zs. Contains zs s) outer a)))
       by_places (inr a) (inr b) rest = rest a b
 
-module _ (k core : Table) (i : Images) (rows : CoreRows k core i) (tree : IsTree k) (core_tree : IsTree core) (counts : ℕ → Bool) (written_at : ℕ → ℕ)
+module _ (k core : Table) (i : Images) (rows : CoreRows k core i) (tree : IsNested k) (core_tree : IsNested core) (counts : ℕ → Bool) (written_at : ℕ → ℕ)
     (Told : Configuration → Entry → Type 0) (told : (d : Configuration) (t : ℕ) (stage : Option (ℕ × ℕ)) (a : Access) → Told d (Silent t stage a))
     (deeper : (q s : ℕ) → Contains (around k q) s → holder k s < q)
     (children : (s r : ℕ) → Contains (state_at k s).regions r → around k r ≡ s ∷ around k (holder k s))

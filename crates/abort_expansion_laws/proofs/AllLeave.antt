@@ -21,7 +21,7 @@ use Rattle.abort_expansion_laws.specs.Stages.{Entry, Silent, Correspondence, IsS
 use Rattle.abort_expansion_laws.proofs.Supplying.{silent_idle}
 use Rattle.abort_expansion_laws.proofs.Simulation.{Segment, segment_on}
 use Rattle.abort_expansion_laws.proofs.SilentSteps.{AtHome, climbs_at, climbs_over, silent_step, no_step}
-use Rattle.abort_expansion_laws.proofs.LyingIn.{IsTree, around, holder, none_in, head_or_tail, head_in, tail_in, around_around}
+use Rattle.chart_machine_laws.proofs.LyingIn.{IsNested, around, holder, none_in, head_or_tail, head_in, tail_in, around_around}
 use Rattle.abort_expansion_laws.specs.CoreRows.{joins}
 use Rattle.abort_expansion_laws.proofs.Leaving.{drops, set_here, set_other, set_length, drops_in, drops_out, drops_length, leaves, joined}
 
@@ -64,7 +64,7 @@ pub record LeavesBy (core : Table) (corr : Correspondence) (home stage : ℕ) (t
   pub ends : (state_at core (state_in core q w.target)).entered ≡ to q at.Ended ∷ []
   pub silent : IsSilent corr q (Some (home, stage)) (access_of_trigger trigger)
 
-module _ (core : Table) (tree : IsTree core) (deeper : (q s : ℕ) → Contains (around core q) s → holder core s < q)
+module _ (core : Table) (tree : IsNested core) (deeper : (q s : ℕ) → Contains (around core q) s → holder core s < q)
     (corr : Correspondence) (Told : Configuration → Entry → Type 0) (told : (d : Configuration) (t : ℕ) (stage : Option (ℕ × ℕ)) (a : Access) →
     Told d (Silent t stage a))
     (Others : ℕ → ℕ → Type 0) (home stage f : ℕ) (trigger : Option Expr) (first : Configuration) (raised : verdict first.variables trigger ≡ Some true)

@@ -21,7 +21,7 @@ use Rattle.abort_expansion_laws.specs.Stages.{Entry, Silent, Correspondence, IsS
 use Rattle.abort_expansion_laws.proofs.Simulation.{Segment, segment_on}
 use Rattle.abort_expansion_laws.proofs.SilentSteps.{AtHome, climbs_home, silent_step}
 use Rattle.abort_expansion_laws.proofs.Supplying.{tests}
-use Rattle.abort_expansion_laws.proofs.LyingIn.{around, holder}
+use Rattle.chart_machine_laws.proofs.LyingIn.{around, holder}
 use Rattle.abort_expansion_laws.proofs.MoreValues.{same_verdict, other_verdict}
 use Rattle.abort_expansion_laws.proofs.FlagAccess.{number_access}
 use Rattle.abort_expansion_laws.proofs.Unchanged.{stands_same, stands_other}

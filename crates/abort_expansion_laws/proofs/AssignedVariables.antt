@@ -17,7 +17,7 @@ use Rattle.sc_values.specs.Assignment.{access_of_assignment}
 use Rattle.sc_values.proofs.Induction.{induct}
 use Rattle.sc_values.proofs.Loading.{loads-unary, loads-binary}
 use Rattle.abort_expansion_laws.specs.Stages.{Touches}
-use Rattle.abort_expansion_laws.proofs.LyingIn.{tail_in}
+use Rattle.chart_machine_laws.proofs.LyingIn.{tail_in}
 use Rattle.abort_expansion_laws.proofs.KnownVariables.{known}
 
 -- the assignment reads no more than this expression

@@ -16,11 +16,11 @@ use Rattle.chart_machine.specs.Turns.{standing_of, has_ended, guards, may_close,
 use Rattle.chart_machine.specs.Machine.{machine}
 use Rattle.abort_expansion.specs.Flags.{has_aborts, has_join}
 use Rattle.abort_expansion.specs.Superstates.{stays}
-use Rattle.abort_expansion_laws.proofs.LyingIn.{around, holder, head_in, tail_in}
+use Rattle.chart_machine_laws.proofs.LyingIn.{around, holder, head_in, tail_in}
 use Rattle.abort_expansion_laws.proofs.TablesCorrespond.{IsThere}
 use Rattle.abort_expansion_laws.proofs.KnownVariables.{both_true}
 use Rattle.abort_expansion_laws.proofs.InsideLeaves.{true_or_false}
-use Rattle.abort_expansion_laws.proofs.ChartTables.{within_or_past, no_regions_past, around_there}
+use Rattle.chart_machine_laws.proofs.ChartTables.{within_or_past, no_regions_past, around_there}
 use Rattle.abort_expansion_laws.proofs.AllLeave.{inside_around}
 use Rattle.abort_expansion_laws.specs.CoreRows.{own, IsState, IsSuper, Images, CoreRows, StayingImage, SplitImage, watchers, flags_around}
 use Rattle.abort_expansion_laws.specs.Related.{Each, is_behind, Closes}

@@ -14,7 +14,7 @@ use Rattle.chart_machine.specs.declared.table.Table.{Table}
 use Rattle.chart_machine.specs.Table.{state_at}
 use Rattle.chart_machine.specs.Turns.{standing_of, is_guarded, inside, is_enabled}
 use Rattle.chart_machine.specs.Steps.{to, verdict, taken, effected, deed_of, step, state_in}
-use Rattle.abort_expansion_laws.proofs.LyingIn.{around}
+use Rattle.chart_machine_laws.proofs.LyingIn.{around}
 use Rattle.abort_expansion_laws.proofs.TestFails.{tested_is}
 
 module _ (core : Table) where

@@ -14,7 +14,7 @@ use Rattle.chart_machine.specs.Steps.{moved}
 use Rattle.abort_expansion.specs.Flags.{has_aborts}
 use Rattle.abort_expansion.specs.Transitions.{led}
 use Rattle.tick_laws.proofs.Lists.{same_or_not, contained, map_contains}
-use Rattle.abort_expansion_laws.proofs.LyingIn.{IsTree, around, holder, none_in, head_or_tail, head_in, tail_in, around_around}
+use Rattle.chart_machine_laws.proofs.LyingIn.{IsNested, around, holder, none_in, head_or_tail, head_in, tail_in, around_around}
 use Rattle.abort_expansion_laws.proofs.TablesCorrespond.{IsThere, contains_map}
 use Rattle.abort_expansion_laws.specs.CoreRows.{own, IsState, Images, CoreRows, WatcherImage}
 use Rattle.abort_expansion_laws.proofs.Unchanged.{none_among, both_ways}
@@ -25,7 +25,7 @@ use Rattle.abort_expansion_laws.proofs.StageReached.{inside_in, holds_other}
 use Rattle.abort_expansion_laws.proofs.Leaving.{drops, at_number, set_here, set_other, set_length, drops_in, drops_out, drops_length}
 use Rattle.abort_expansion_laws.proofs.AllLeave.{inside_around}
 use Rattle.abort_expansion_laws.proofs.TestFails.{watch_other}
-use Rattle.abort_expansion_laws.proofs.ChartTables.{nothing_around}
+use Rattle.chart_machine_laws.proofs.ChartTables.{nothing_around}
 
 pub all_alike : (p q : ℕ → Bool) (xs : List ℕ) → ((x : ℕ) → Contains xs x → p x ≡ q x) → list_all p xs ≡ list_all q xs
 all_alike p q [] h = refl
@@ -35,7 +35,7 @@ any_alike : (p q : ℕ → Bool) (xs : List ℕ) → ((x : ℕ) → Contains xs 
 any_alike p q [] h = refl
 any_alike p q (x ∷ xs) h = rw (h x (head_in x xs), any_alike p q xs (λ y tail. h y (tail_in x y xs tail))) refl
 
-module _ (k core : Table) (i : Images) (rows : CoreRows k core i) (tree : IsTree k)
+module _ (k core : Table) (i : Images) (rows : CoreRows k core i) (tree : IsNested k)
     (children : (s r : ℕ) → Contains (state_at k s).regions r → around k r ≡ s ∷ around k (holder k s)) where
   -- region r leaves superstate o for y, its thread for z; whatever is inside of o or of its fork is dropped
   pub record DropsOut (c d : Configuration) (r o : ℕ) (y z : Standing) (c' d' : Configuration) : Type 0 where

@@ -15,7 +15,7 @@ use Rattle.chart_machine.specs.Steps.{to, after, deed_of, step, access_of}
 use Rattle.chart_machine.specs.Machine.{machine}
 use Rattle.abort_expansion_laws.specs.Stages.{Entry, Image}
 use Rattle.abort_expansion_laws.proofs.Simulation.{Segment}
-use Rattle.abort_expansion_laws.proofs.LyingIn.{IsTree, around}
+use Rattle.chart_machine_laws.proofs.LyingIn.{IsNested, around}
 use Rattle.abort_expansion_laws.proofs.TablesCorrespond.{IsThere}
 use Rattle.abort_expansion_laws.specs.CoreRows.{Images, CoreRows}
 use Rattle.abort_expansion_laws.specs.Related.{Stands, outside, ended, left, trying, acting, entering, guarding, staying, within, behind, Watches, Related}
@@ -111,7 +111,7 @@ value_size [] j v = refl
 value_size (w ∷ xs) zero v = refl
 value_size (w ∷ xs) (suc j) v = ap suc (value_size xs j v)
 
-module _ (k core : Table) (i : Images) (rows : CoreRows k core i) (tree : IsTree k) (counts : ℕ → Bool) (written_at : ℕ → ℕ)
+module _ (k core : Table) (i : Images) (rows : CoreRows k core i) (tree : IsNested k) (counts : ℕ → Bool) (written_at : ℕ → ℕ)
     (c d : Configuration) (related : Related k core i c d) (q s p : ℕ) (e f : Effect) (es : List Effect)
     (stands : standing_of c q ≡ at.Acting s (e ∷ f ∷ es) p) where
   there : IsThere k q

@@ -6,7 +6,7 @@ use Rattle.chart_machine.specs.declared.table.Table.{Table}
 use Rattle.chart_machine.specs.Table.{state_at}
 use Rattle.chart_machine.specs.Machine.{machine}
 use Rattle.abort_expansion_laws.specs.Stages.{Entry, Silent}
-use Rattle.abort_expansion_laws.proofs.LyingIn.{IsTree, around, holder}
+use Rattle.chart_machine_laws.proofs.LyingIn.{IsNested, around, holder}
 use Rattle.abort_expansion_laws.proofs.TablesCorrespond.{IsThere}
 use Rattle.abort_expansion_laws.specs.CoreRows.{IsState, Images, CoreRows}
 use Rattle.abort_expansion_laws.proofs.Simulation.{Segment}
@@ -24,7 +24,7 @@ use Rattle.abort_expansion_laws.proofs.ForkOpened.{opened_up}
 
 -- ---- what was entered settles
 
-module _ (k core : Table) (i : Images) (rows : CoreRows k core i) (tree : IsTree k) (core_tree : IsTree core) (counts : ℕ → Bool) (written_at : ℕ → ℕ)
+module _ (k core : Table) (i : Images) (rows : CoreRows k core i) (tree : IsNested k) (core_tree : IsNested core) (counts : ℕ → Bool) (written_at : ℕ → ℕ)
     (Told : Configuration → Entry → Type 0)
     (told : (d : Configuration) (t : ℕ) (stage : Option (ℕ × ℕ)) (a : Access) → Told d (Silent t stage a))
     (deeper : (q s : ℕ) → Contains (around k q) s → holder k s < q)

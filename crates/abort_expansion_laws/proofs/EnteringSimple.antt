@@ -21,7 +21,7 @@ use Rattle.tick_laws.proofs.Lists.{same_or_not}
 use Rattle.abort_expansion_laws.specs.Stages.{Entry}
 use Rattle.abort_expansion_laws.proofs.Supplying.{climbs_fewer}
 use Rattle.abort_expansion_laws.proofs.Simulation.{Segment}
-use Rattle.abort_expansion_laws.proofs.LyingIn.{IsTree, around, holder}
+use Rattle.chart_machine_laws.proofs.LyingIn.{IsNested, around, holder}
 use Rattle.abort_expansion_laws.proofs.TablesCorrespond.{IsThere}
 use Rattle.abort_expansion_laws.specs.CoreRows.{own, is_final, IsSimple, Images, CoreRows, SimpleImage, flags_around, counter_over}
 use Rattle.abort_expansion_laws.specs.Related.{tests_of, trying, Watches, Related}
@@ -87,7 +87,7 @@ no_count : (k core : Table) (i : Images) (b : Bool) (counter : Option ℕ) (befo
 no_count k core i true counter before after e counts = absurd cc
 no_count k core i false counter before after e counts = counts
 
-module _ (k core : Table) (i : Images) (rows : CoreRows k core i) (tree : IsTree k) (counts : ℕ → Bool) (written_at : ℕ → ℕ)
+module _ (k core : Table) (i : Images) (rows : CoreRows k core i) (tree : IsNested k) (counts : ℕ → Bool) (written_at : ℕ → ℕ)
     (Told : Configuration → Entry → Type 0)
     (c d : Configuration) (related : Related k core i c d) (r s p : ℕ) (e : Effect) (stands : standing_of c r ≡ at.Acting s (e ∷ []) p)
     (free : is_guarded k c (around k r) ≡ false)

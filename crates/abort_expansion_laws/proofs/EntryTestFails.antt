@@ -15,7 +15,7 @@ use Rattle.abort_expansion.specs.Transitions.{go, led_by}
 use Rattle.abort_expansion.specs.Superstates.{resets}
 use Rattle.abort_expansion_laws.specs.Stages.{Entry, Image}
 use Rattle.abort_expansion_laws.proofs.Simulation.{Segment}
-use Rattle.abort_expansion_laws.proofs.LyingIn.{IsTree, around, holder}
+use Rattle.chart_machine_laws.proofs.LyingIn.{IsNested, around, holder}
 use Rattle.abort_expansion_laws.proofs.TablesCorrespond.{IsThere}
 use Rattle.abort_expansion_laws.proofs.MoreValues.{verdict_over_more}
 use Rattle.abort_expansion_laws.specs.CoreRows.{IsSuper, Images, CoreRows}
@@ -67,7 +67,7 @@ module _ (k core : Table) (i : Images) (c : Configuration) (r : ℕ) where
   entering_no_inside o s tests _ e (guarded others) = absurd cc
   entering_no_inside o s tests _ e (open_inside others) = absurd cc
 
-module _ (k core : Table) (i : Images) (rows : CoreRows k core i) (tree : IsTree k) (counts : ℕ → Bool) (written_at : ℕ → ℕ)
+module _ (k core : Table) (i : Images) (rows : CoreRows k core i) (tree : IsNested k) (counts : ℕ → Bool) (written_at : ℕ → ℕ)
     (c d : Configuration) (related : Related k core i c d) (q s : ℕ) (t u : Transition) (tests : List Transition)
     (stands : standing_of c q ≡ at.Entering s (t ∷ u ∷ tests)) where
   there : IsThere k q

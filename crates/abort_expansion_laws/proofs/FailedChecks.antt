@@ -18,7 +18,7 @@ use Rattle.tick_laws.proofs.Lists.{same_or_not}
 use Rattle.abort_expansion_laws.specs.Stages.{Entry, Silent, Correspondence, ReadsFlag, Climbs}
 use Rattle.abort_expansion_laws.proofs.Supplying.{climbs_step, silent_test, tests}
 use Rattle.abort_expansion_laws.proofs.Simulation.{Segment}
-use Rattle.abort_expansion_laws.proofs.LyingIn.{around, holder}
+use Rattle.chart_machine_laws.proofs.LyingIn.{around, holder}
 use Rattle.abort_expansion_laws.proofs.Unchanged.{stands_same, stands_other}
 use Rattle.abort_expansion_laws.proofs.Leaving.{set_length}
 use Rattle.abort_expansion_laws.proofs.TestFails.{tested_is}

@@ -8,7 +8,7 @@ use Rattle.chart_machine.specs.Table.{state_at}
 use Rattle.chart_machine.specs.Turns.{standing_of, inside}
 use Rattle.chart_machine.specs.Steps.{moved}
 use Rattle.abort_expansion_laws.specs.Stages.{Entry, Silent, Correspondence}
-use Rattle.abort_expansion_laws.proofs.LyingIn.{IsTree, around, holder}
+use Rattle.chart_machine_laws.proofs.LyingIn.{IsNested, around, holder}
 use Rattle.abort_expansion_laws.proofs.TablesCorrespond.{IsThere}
 use Rattle.abort_expansion_laws.specs.CoreRows.{IsState, Images, CoreRows}
 use Rattle.abort_expansion_laws.proofs.Leaving.{drops, set_other, set_length, drops_in, drops_out, drops_length}
@@ -20,7 +20,7 @@ use Rattle.abort_expansion_laws.proofs.SettledInOrder.{Piece}
 use Rattle.abort_expansion_laws.proofs.JoinsFork.{joins_fork, after_join, Left}
 use Rattle.abort_expansion_laws.proofs.WaitsAfterJoin.{joined_pending, reached_then}
 
-module _ (k core : Table) (i : Images) (rows : CoreRows k core i) (tree : IsTree k) (counts : ℕ → Bool) (written_at : ℕ → ℕ)
+module _ (k core : Table) (i : Images) (rows : CoreRows k core i) (tree : IsNested k) (counts : ℕ → Bool) (written_at : ℕ → ℕ)
     (Told : Configuration → Entry → Type 0)
     (told : (d : Configuration) (t : ℕ) (stage : Option (ℕ × ℕ)) (a : Access) → Told d (Silent t stage a))
     (deeper : (q s : ℕ) → Contains (around k q) s → holder k s < q)

@@ -6,7 +6,7 @@ use Rattle.chart_machine.specs.declared.table.Table.{Table}
 use Rattle.chart_machine.specs.Table.{state_at}
 use Rattle.abort_expansion_laws.specs.Stages.{Entry, Silent}
 use Rattle.abort_expansion_laws.specs.CoreRows.{Images, CoreRows, pair}
-use Rattle.abort_expansion_laws.proofs.LyingIn.{IsTree, around, holder}
+use Rattle.chart_machine_laws.proofs.LyingIn.{IsNested, around, holder}
 use Rattle.abort_expansion_laws.proofs.TablesCorrespond.{IsThere}
 use Rattle.abort_expansion_laws.proofs.Supplying.{climbs_fewer}
 use Rattle.abort_expansion_laws.proofs.Pending.{Sound, IsOpening, Pending, Reached}
@@ -16,7 +16,7 @@ use Rattle.abort_expansion_laws.proofs.OpensFork.{OpeningRows, opens_fork, forke
 use Rattle.abort_expansion_laws.proofs.OpenedRows.{OpenedRows, ForkRows}
 use Rattle.abort_expansion_laws.proofs.AfterOpening.{opened_pending, reached_then}
 
-module _ (k core : Table) (i : Images) (rows : CoreRows k core i) (tree : IsTree k) (core_tree : IsTree core) (counts : ℕ → Bool) (written_at : ℕ → ℕ)
+module _ (k core : Table) (i : Images) (rows : CoreRows k core i) (tree : IsNested k) (core_tree : IsNested core) (counts : ℕ → Bool) (written_at : ℕ → ℕ)
     (Told : Configuration → Entry → Type 0) (told : (d : Configuration) (t : ℕ) (stage : Option (ℕ × ℕ)) (a : Access) → Told d (Silent t stage a))
     (deeper : (q s : ℕ) → Contains (around k q) s → holder k s < q)
     (children : (s r : ℕ) → Contains (state_at k s).regions r → around k r ≡ s ∷ around k (holder k s))

@@ -17,7 +17,7 @@ use Rattle.abort_expansion.specs.Flags.{has_aborts}
 use Rattle.abort_expansion_laws.specs.Stages.{Entry, Image, Touches}
 use Rattle.abort_expansion_laws.proofs.Supplying.{climbs_step, climbs_fewer}
 use Rattle.abort_expansion_laws.proofs.Simulation.{Segment, Follows}
-use Rattle.abort_expansion_laws.proofs.LyingIn.{IsTree, LiesUnder, around, holder}
+use Rattle.chart_machine_laws.proofs.LyingIn.{IsNested, LiesUnder, around, holder}
 use Rattle.abort_expansion_laws.proofs.TablesCorrespond.{IsThere}
 use Rattle.abort_expansion_laws.specs.CoreRows.{own, Images, CoreRows}
 use Rattle.abort_expansion_laws.specs.Related.{IsInside, guarded, open_inside, Related}
@@ -26,7 +26,7 @@ use Rattle.abort_expansion_laws.proofs.RegionGoesOn.{GoesOn, goes_on, same_shape
 use Rattle.abort_expansion_laws.proofs.StageReached.{some_work, stage_of, Stage, any_in, none_of, inside_in, holds_other, one_at_least, one_at_most, stage_kept}
 pub use Rattle.abort_expansion_laws.specs.CoreRows.{pair}
 
-module _ (k core : Table) (i : Images) (rows : CoreRows k core i) (tree : IsTree k) (counts : ℕ → Bool) (written_at : ℕ → ℕ) where
+module _ (k core : Table) (i : Images) (rows : CoreRows k core i) (tree : IsNested k) (counts : ℕ → Bool) (written_at : ℕ → ℕ) where
   -- region q has work and nobody guards it; its thread does the same to the variables, and both go on
   pub record ImageStep (c d : Configuration) (q : ℕ) (y z : Standing) (c' d' : Configuration) (a : Access) : Type 0 where
     pub goes : GoesOn k core i rows c d q y z c' d'

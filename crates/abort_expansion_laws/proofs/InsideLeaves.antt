@@ -21,10 +21,10 @@ use Rattle.abort_expansion.specs.Transitions.{is_raised, go, check, led, strong_
 use Rattle.abort_expansion.specs.Superstates.{stays, closing}
 use Rattle.sc_values.specs.Access.{Access}
 use Rattle.abort_expansion_laws.specs.Stages.{Entry, Silent, Correspondence, IsSilent}
-use Rattle.abort_expansion_laws.proofs.LyingIn.{IsTree, around, holder, none_in, head_or_tail, head_in, tail_in}
+use Rattle.chart_machine_laws.proofs.LyingIn.{IsNested, around, holder, none_in, head_or_tail, head_in, tail_in}
 use Rattle.abort_expansion_laws.proofs.StageReached.{holds_other, any_in}
 use Rattle.abort_expansion_laws.proofs.TablesCorrespond.{IsThere, contains_map}
-use Rattle.abort_expansion_laws.proofs.ChartTables.{no_regions_past, within_or_past, nothing_around}
+use Rattle.chart_machine_laws.proofs.ChartTables.{no_regions_past, within_or_past, nothing_around}
 use Rattle.abort_expansion_laws.proofs.KnownVariables.{present_there}
 use Rattle.abort_expansion_laws.specs.CoreRows.{own, IsState, IsSimple, IsSuper, joins, Images, CoreRows, SplitImage, flags_around, watchers}
 use Rattle.abort_expansion_laws.specs.CoreRows.{behind_transitions}
@@ -35,7 +35,7 @@ use Rattle.abort_expansion_laws.proofs.AllLeave.{LeavesBy, MayLeave, out, over, 
 
 -- ---- one of the superstates around a region has aborts: then one check stands in front
 
-module _ (k : Table) (tree : IsTree k) (c : ℕ → List Transition) where
+module _ (k : Table) (tree : IsNested k) (c : ℕ → List Transition) where
   reversed : (s : ℕ) (zs : List ℕ) → flat_map c (reverse (s ∷ zs)) ≡ flat_map c (reverse zs) ++ (c s ++ [])
   reversed s zs = ap (flat_map c) (reverse-append (s ∷ []) zs) ∙ flat_map-append c (reverse zs) (s ∷ [])
 
@@ -107,7 +107,7 @@ module _ (k core : Table) (i : Images) (c : Configuration) where
   there_too r _ _ (within s join tests super held stay open_still leads) present open_around e = absurd cc
   there_too r _ _ (behind s tests super held over_it) present open_around e = absurd cc
 
-module _ (k core : Table) (i : Images) (rows : CoreRows k core i) (more : FlatRows k core i) (tree : IsTree k)
+module _ (k core : Table) (i : Images) (rows : CoreRows k core i) (more : FlatRows k core i) (tree : IsNested k)
     (core_children : (s r : ℕ) → Contains (state_at core s).regions r → around core r ≡ s ∷ around core (holder core s))
     (children : (s r : ℕ) → Contains (state_at k s).regions r → around k r ≡ s ∷ around k (holder k s))
     (o x : ℕ) (has : has_aborts (own k o) ≡ true) (flag : (i.flags_of o).strong ≡ Some x) where
@@ -146,7 +146,7 @@ module _ (k core : Table) (i : Images) (rows : CoreRows k core i) (more : FlatRo
 
     -- ---- each thread inside
 
-    module _ (core_tree : IsTree core) (deep : (q s : ℕ) → Contains (around core q) s → holder core s < q) (Told : Configuration → Entry → Type 0)
+    module _ (core_tree : IsNested core) (deep : (q s : ℕ) → Contains (around core q) s → holder core s < q) (Told : Configuration → Entry → Type 0)
         (told : (e : Configuration) (t : ℕ) (at_stage : Option (ℕ × ℕ)) (a : Access) → Told e (Silent t at_stage a)) (Others : ℕ → ℕ → Type 0)
         (raised : verdict first.variables (Some (is_raised x)) ≡ Some true) (free : (t : ℕ) → guards (standing_of first t) ≡ false)
         (same_first : (q : ℕ) → standing_of first (i.thread_of q) ≡ standing_of d (i.thread_of q)) where

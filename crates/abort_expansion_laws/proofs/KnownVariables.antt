@@ -23,7 +23,7 @@ use Rattle.chart_machine.specs.Steps.{truth, verdict, after, deed_of, step, acce
 use Rattle.tick_laws.proofs.Lists.{map_some}
 use Rattle.tick_laws.proofs.Views.{only_if_some}
 use Rattle.abort_expansion_laws.specs.Stages.{Touches}
-use Rattle.abort_expansion_laws.proofs.LyingIn.{around, none_in, head_or_tail, tail_in, head_in}
+use Rattle.chart_machine_laws.proofs.LyingIn.{around, none_in, head_or_tail, tail_in, head_in}
 use Rattle.abort_expansion_laws.proofs.TablesCorrespond.{IsThere}
 use Rattle.abort_expansion_laws.proofs.MoreValues.{Got, got}
 use Rattle.abort_expansion_laws.specs.CoreRows.{Images}

@@ -13,7 +13,7 @@ use Rattle.chart_machine.specs.Steps.{state_in, acts, moved, deed_of, step, acce
 use Rattle.chart_machine.specs.Machine.{machine}
 use Rattle.abort_expansion_laws.specs.Stages.{Entry, Image}
 use Rattle.abort_expansion_laws.proofs.Simulation.{Segment, segment_on}
-use Rattle.abort_expansion_laws.proofs.LyingIn.{IsTree, around, holder}
+use Rattle.chart_machine_laws.proofs.LyingIn.{IsNested, around, holder}
 use Rattle.abort_expansion_laws.proofs.TablesCorrespond.{IsThere}
 use Rattle.abort_expansion_laws.specs.CoreRows.{is_final, Images, CoreRows, RegionImage, counter_over}
 use Rattle.abort_expansion_laws.specs.Related.{acting, Watches, Related}
@@ -41,7 +41,7 @@ use Rattle.abort_expansion_laws.proofs.EffectFollowed.{IsActing, acting_back, so
 use Rattle.abort_expansion_laws.proofs.TakenAtOnce.{BeginsAt, overwritten, not_counting, none_counted, any_same, staged}
 use Rattle.abort_expansion_laws.proofs.Owed.{Enters, chart_enters, core_enters}
 
-module _ (k core : Table) (i : Images) (rows : CoreRows k core i) (tree : IsTree k) (counts : ℕ → Bool) (written_at : ℕ → ℕ)
+module _ (k core : Table) (i : Images) (rows : CoreRows k core i) (tree : IsNested k) (counts : ℕ → Bool) (written_at : ℕ → ℕ)
     (Told : Configuration → Entry → Type 0)
     (enters : Enters k core i rows tree counts written_at Told)
     (c d : Configuration) (related : Related k core i c d) (q s p : ℕ) (e : Effect) (stands : standing_of c q ≡ at.Acting s (e ∷ []) p)

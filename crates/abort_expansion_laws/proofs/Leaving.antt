@@ -12,7 +12,7 @@ use Rattle.chart_machine.specs.Table.{state_at}
 use Rattle.chart_machine.specs.Turns.{standing_of, has_ended, has_work, is_guarded, inside, is_enabled}
 use Rattle.chart_machine.specs.Steps.{to, moved, verdict, taken, deed_of, step, state_in}
 use Rattle.tick_laws.proofs.Lists.{same_or_not}
-use Rattle.abort_expansion_laws.proofs.LyingIn.{around, none_in, head_or_tail, head_in, tail_in}
+use Rattle.chart_machine_laws.proofs.LyingIn.{around, none_in, head_or_tail, head_in, tail_in}
 use Rattle.abort_expansion_laws.specs.CoreRows.{joins}
 use Rattle.abort_expansion_laws.proofs.TestFails.{tested_is}
 

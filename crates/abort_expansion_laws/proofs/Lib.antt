@@ -3,11 +3,7 @@ pub mod StagesKept
 pub mod Supplying
 pub mod Simulation
 pub mod EachSpared
-pub mod LyingIn
 pub mod TablesCorrespond
-pub mod RowsOfPieces
-pub mod TableTrees
-pub mod ChartTables
 pub mod ListsOfTicks
 pub mod LowPriorities
 pub mod MoreValues
@@ -24,7 +20,6 @@ pub mod MonitorGoesOn
 pub mod MonitorSteps
 pub mod StrongNotTaken
 pub mod SimpleRows
-pub mod Children
 pub mod DropsOut
 pub mod StrongTestsQuiet
 pub mod InsideLeaves
@@ -60,4 +55,6 @@ pub mod OpenedRows
 pub mod AfterOpening
 pub mod ForkOpened
 pub mod EnteredSettles
+pub mod MappedLists
+pub mod StatesMapped
 pub mod Proved

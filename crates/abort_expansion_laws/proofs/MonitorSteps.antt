@@ -18,7 +18,7 @@ use Rattle.abort_expansion.specs.Flags.{has_aborts}
 use Rattle.abort_expansion_laws.specs.Stages.{Entry, Watched, Touches}
 use Rattle.abort_expansion_laws.proofs.Supplying.{climbs_step}
 use Rattle.abort_expansion_laws.proofs.Simulation.{Segment}
-use Rattle.abort_expansion_laws.proofs.LyingIn.{IsTree, LiesUnder, around, holder}
+use Rattle.chart_machine_laws.proofs.LyingIn.{IsNested, LiesUnder, around, holder}
 use Rattle.abort_expansion_laws.proofs.TablesCorrespond.{IsThere}
 use Rattle.abort_expansion_laws.specs.CoreRows.{own, Images, CoreRows}
 use Rattle.abort_expansion_laws.specs.Related.{IsInside, guarded, open_inside, Related}
@@ -27,7 +27,7 @@ use Rattle.abort_expansion_laws.proofs.MonitorGoesOn.{MonitorGoesOn, monitor_goe
 use Rattle.abort_expansion_laws.proofs.ImageSteps.{pair}
 use Rattle.abort_expansion_laws.proofs.StageReached.{some_work, stage_of, Stage, any_in, none_of, inside_in, holds_other, one_at_least, one_at_most, stage_kept}
 
-module _ (k core : Table) (i : Images) (rows : CoreRows k core i) (tree : IsTree k) (counts : ℕ → Bool) (written_at : ℕ → ℕ) where
+module _ (k core : Table) (i : Images) (rows : CoreRows k core i) (tree : IsNested k) (counts : ℕ → Bool) (written_at : ℕ → ℕ) where
   -- region q has work and nobody guards it; the monitor of superstate o makes the same test, and both go on
   pub record WatchedStep (c d : Configuration) (q o stage : ℕ) (y z : Standing) (c' d' : Configuration) (a : Access) : Type 0 where
     pub goes : MonitorGoesOn k core i rows c d q o y z c' d'

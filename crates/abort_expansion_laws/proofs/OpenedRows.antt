@@ -10,7 +10,7 @@ use Rattle.chart_machine.specs.Turns.{standing_of, is_guarded}
 use Rattle.chart_machine.specs.Steps.{moved}
 use Rattle.abort_expansion.specs.Flags.{has_aborts}
 use Rattle.abort_expansion.specs.Superstates.{is_prepared}
-use Rattle.abort_expansion_laws.specs.Trees.{around, holder, IsThere}
+use Rattle.chart_machine_laws.specs.Tree.{around, holder, IsThere}
 use Rattle.abort_expansion_laws.specs.CoreRows.{own, IsState, IsSuper, Images, flags_around}
 use Rattle.abort_expansion_laws.specs.Related.{Watches, IsInside}
 use Rattle.abort_expansion_laws.proofs.Leaving.{at_number}

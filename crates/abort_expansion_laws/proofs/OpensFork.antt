@@ -18,7 +18,7 @@ use Rattle.abort_expansion.specs.Transitions.{go}
 use Rattle.abort_expansion.specs.Superstates.{is_prepared}
 use Rattle.abort_expansion_laws.specs.Stages.{Entry, Silent, Correspondence}
 use Rattle.abort_expansion_laws.proofs.Simulation.{Segment}
-use Rattle.abort_expansion_laws.proofs.LyingIn.{IsTree, holder}
+use Rattle.chart_machine_laws.proofs.LyingIn.{IsNested, holder}
 use Rattle.abort_expansion_laws.proofs.TablesCorrespond.{IsThere}
 use Rattle.abort_expansion_laws.specs.CoreRows.{own, Images, CoreRows, SplitImage, joins, flags_around}
 use Rattle.abort_expansion_laws.specs.Related.{Stores}
@@ -64,7 +64,7 @@ has_stores : (k core : Table) (i : Images) (values : List Value) (o : Option ℕ
 has_stores k core i values None n has = tt
 has_stores k core i values (Some x) n has = has
 
-module _ (k core : Table) (i : Images) (rows : CoreRows k core i) (tree : IsTree k) (counts : ℕ → Bool) (written_at : ℕ → ℕ)
+module _ (k core : Table) (i : Images) (rows : CoreRows k core i) (tree : IsNested k) (counts : ℕ → Bool) (written_at : ℕ → ℕ)
     (Told : Configuration → Entry → Type 0)
     (told : (d : Configuration) (t : ℕ) (stage : Option (ℕ × ℕ)) (a : Access) → Told d (Silent t stage a)) (more : OpeningRows k core i rows)
     (c : Configuration)

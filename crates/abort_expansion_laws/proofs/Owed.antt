@@ -19,7 +19,7 @@ use Rattle.abort_expansion.specs.Transitions.{count_down, led}
 use Rattle.abort_expansion.specs.Superstates.{stays}
 use Rattle.abort_expansion_laws.specs.Stages.{Entry, NoneReached}
 use Rattle.abort_expansion_laws.proofs.Simulation.{Segment}
-use Rattle.abort_expansion_laws.proofs.LyingIn.{IsTree, around, holder}
+use Rattle.chart_machine_laws.proofs.LyingIn.{IsNested, around, holder}
 use Rattle.abort_expansion_laws.proofs.TablesCorrespond.{IsThere}
 use Rattle.abort_expansion_laws.specs.CoreRows.{own, IsState, is_final, IsSuper, IsSimple, joins, Images, CoreRows, flags_around, counter_over}
 use Rattle.abort_expansion_laws.specs.Related.{is_behind, IsInside, FlagsAreDown, Closes, Related}
@@ -82,7 +82,7 @@ module _ (k core : Table) (i : Images) where
   abbrev pub core_enters : Configuration → List Value → (r p : ℕ) → Configuration
   core_enters d values r p = record { variables = values; regions = moved (state_at core (i.entry_of (state_in k r p))).entered d.regions }
 
-  module _ (rows : CoreRows k core i) (tree : IsTree k) (counts : ℕ → Bool) (written_at : ℕ → ℕ) (Told : Configuration → Entry → Type 0) where
+  module _ (rows : CoreRows k core i) (tree : IsNested k) (counts : ℕ → Bool) (written_at : ℕ → ℕ) (Told : Configuration → Entry → Type 0) where
     -- a region is to enter its state number p. It is taken to stand before a last effect, whatever that is: so this also serves a
     -- transition without effects, after a configuration that nobody reaches
     abbrev pub Enters : Type 0

@@ -15,7 +15,7 @@ use Rattle.abort_expansion_laws.proofs.Leaving.{at_number}
 use Rattle.abort_expansion.specs.Flags.{has_aborts, has_join}
 use Rattle.abort_expansion.specs.Transitions.{go, count_down}
 use Rattle.abort_expansion.specs.Superstates.{stays, is_prepared, resets}
-use Rattle.abort_expansion_laws.proofs.LyingIn.{around, holder}
+use Rattle.chart_machine_laws.proofs.LyingIn.{around, holder}
 use Rattle.abort_expansion_laws.proofs.TablesCorrespond.{IsThere}
 use Rattle.abort_expansion_laws.specs.CoreRows.{own, IsState, IsSuper, joins, Images, flags_around}
 use Rattle.abort_expansion_laws.specs.Related.{IsCalm, is_behind, Stands, outside, ended, left, trying, acting, entering, guarding, staying, within, behind}

@@ -4,11 +4,7 @@ pub use Rattle.abort_expansion_laws.proofs.StagesKept.{stages_kept}
 pub use Rattle.abort_expansion_laws.proofs.Supplying.{climbs_step, core_admissible}
 pub use Rattle.abort_expansion_laws.proofs.Simulation.{ends_kept}
 pub use Rattle.abort_expansion_laws.proofs.EachSpared.{each_spared}
-pub use Rattle.abort_expansion_laws.proofs.LyingIn.{by_holder}
 pub use Rattle.abort_expansion_laws.proofs.TablesCorrespond.{is_pair}
-pub use Rattle.abort_expansion_laws.proofs.RowsOfPieces.{region_sized}
-pub use Rattle.abort_expansion_laws.proofs.TableTrees.{state_climbs, region_climbs}
-pub use Rattle.abort_expansion_laws.proofs.ChartTables.{chart_is_tree, chart_is_deeper, chart_children}
 pub use Rattle.abort_expansion_laws.proofs.ListsOfTicks.{ticks_kept}
 pub use Rattle.abort_expansion_laws.proofs.LowPriorities.{low_under_kept, never_before}
 pub use Rattle.abort_expansion_laws.proofs.MoreValues.{value_over_more, up_verdict, lowered_verdict}
@@ -25,7 +21,6 @@ pub use Rattle.abort_expansion_laws.proofs.MonitorGoesOn.{monitor_goes_on}
 pub use Rattle.abort_expansion_laws.proofs.MonitorSteps.{watched_segment}
 pub use Rattle.abort_expansion_laws.proofs.StrongNotTaken.{not_taken_followed}
 pub use Rattle.abort_expansion_laws.proofs.SimpleRows.{simple_local}
-pub use Rattle.abort_expansion_laws.proofs.Children.{region_keeps, state_keeps, side_kept}
 pub use Rattle.abort_expansion_laws.proofs.DropsOut.{dropped_out}
 pub use Rattle.abort_expansion_laws.proofs.StrongTestsQuiet.{Lowered, quiet_kept, spares}
 pub use Rattle.abort_expansion_laws.proofs.InsideLeaves.{may_leave}

@@ -11,7 +11,7 @@ use Rattle.chart_machine.specs.Table.{state_at}
 use Rattle.chart_machine.specs.Turns.{standing_of, has_ended, guards, is_guarded}
 use Rattle.abort_expansion.specs.Flags.{has_aborts}
 use Rattle.tick_laws.proofs.Lists.{same_or_not}
-use Rattle.abort_expansion_laws.proofs.LyingIn.{around, holder}
+use Rattle.chart_machine_laws.proofs.LyingIn.{around, holder}
 use Rattle.abort_expansion_laws.proofs.TablesCorrespond.{IsThere}
 use Rattle.abort_expansion_laws.specs.CoreRows.{own, IsState, Images, CoreRows, RegionImage, WatcherImage}
 use Rattle.abort_expansion_laws.specs.Related.{IsCalm, Closes, Stands, Watches, IsInside, Stores, FlagsAreDown, still_in, not_ended, Related}

@@ -15,9 +15,9 @@ use Rattle.abort_expansion.specs.Flags.{has_aborts}
 use Rattle.abort_expansion.specs.Superstates.{stays}
 use Rattle.abort_expansion_laws.specs.Related.{is_behind}
 use Rattle.abort_expansion_laws.proofs.KnownVariables.{both_true, not_so}
-use Rattle.abort_expansion_laws.proofs.LyingIn.{holder}
+use Rattle.chart_machine_laws.proofs.LyingIn.{holder}
 use Rattle.abort_expansion_laws.proofs.TablesCorrespond.{IsThere}
-use Rattle.abort_expansion_laws.proofs.ChartTables.{within_or_past, no_regions_past}
+use Rattle.chart_machine_laws.proofs.ChartTables.{within_or_past, no_regions_past}
 use Rattle.abort_expansion_laws.specs.CoreRows.{own, IsState, IsSuper, flags_around, Images, CoreRows}
 use Rattle.abort_expansion_laws.proofs.Owed.{RestsIn, rests_outside, rests_ended, rests_left, rests_trying, rests_staying, rests_within, rests_behind}
 use Rattle.abort_expansion_laws.proofs.Owed.{WatchRests, watch_within, watch_elsewhere, Resting}

@@ -15,7 +15,7 @@ use Rattle.tick_laws.proofs.Lists.{same_or_not}
 use Rattle.abort_expansion_laws.specs.Stages.{Entry}
 use Rattle.abort_expansion_laws.proofs.Supplying.{climbs_fewer}
 use Rattle.abort_expansion_laws.proofs.Simulation.{Segment, segment_on}
-use Rattle.abort_expansion_laws.proofs.LyingIn.{IsTree, around, holder, head_in}
+use Rattle.chart_machine_laws.proofs.LyingIn.{IsNested, around, holder, head_in}
 use Rattle.abort_expansion_laws.proofs.TablesCorrespond.{IsThere}
 use Rattle.abort_expansion_laws.specs.CoreRows.{own, Images, CoreRows, flags_around}
 use Rattle.abort_expansion_laws.specs.Related.{is_behind, Stands, outside, ended, left, trying, acting, entering, guarding, staying, within, behind, Stores}
@@ -34,7 +34,7 @@ ended_back (at.Guarding s tests) e = absurd cc
 ended_back (at.Within s tests) e = absurd cc
 ended_back (at.Acting s effects p) e = absurd cc
 
-module _ (k core : Table) (i : Images) (rows : CoreRows k core i) (tree : IsTree k) (counts : ℕ → Bool) (written_at : ℕ → ℕ)
+module _ (k core : Table) (i : Images) (rows : CoreRows k core i) (tree : IsNested k) (counts : ℕ → Bool) (written_at : ℕ → ℕ)
     (Told : Configuration → Entry → Type 0)
     (deeper : (q s : ℕ) → Contains (around k q) s → holder k s < q) (c : Configuration) (sound : Sound k core i c) where
   abbrev pub all : ℕ

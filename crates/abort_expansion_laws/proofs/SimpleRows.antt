@@ -8,7 +8,7 @@ use Rattle.core_charts.specs.declared.region.Region.TheFolds.{fold-roll-State}
 use Rattle.chart_machine.specs.declared.table.Table.{Table}
 use Rattle.chart_machine.specs.declared.table.TablePosition.{TablePosition}
 use Rattle.chart_machine.specs.Table.{Piece, region_piece, state_piece, piece_of_region, piece_of_state, state_at}
-use Rattle.abort_expansion_laws.proofs.RowsOfPieces.{Holds}
+use Rattle.chart_machine_laws.proofs.RowsOfPieces.{Holds}
 use Rattle.abort_expansion_laws.specs.CoreRows.{simple_row}
 
 module _ (name : List ℕ) (begins ends : Bool) (regions : List Region) (all : List Transition) where

@@ -15,7 +15,7 @@ use Rattle.chart_machine.specs.Table.{state_at, region_at}
 use Rattle.chart_machine.specs.Turns.{standing_of, may_close, has_work, inside, numbered_from}
 use Rattle.abort_expansion.specs.Flags.{has_aborts}
 use Rattle.tick_laws.proofs.Lists.{same_or_not}
-use Rattle.abort_expansion_laws.proofs.LyingIn.{around, holder, IsTree, none_in, head_or_tail, head_in, tail_in}
+use Rattle.chart_machine_laws.proofs.LyingIn.{around, holder, IsNested, none_in, head_or_tail, head_in, tail_in}
 use Rattle.abort_expansion_laws.proofs.TablesCorrespond.{IsThere}
 use Rattle.abort_expansion_laws.specs.CoreRows.{own, Images}
 use Rattle.abort_expansion_laws.proofs.Unchanged.{SameShape, all_ended_same}
@@ -87,7 +87,7 @@ module _ where
       after_one m = omega arith
 
   -- what is around a region is held further out
-  outer_shorter : (k : Table) → IsTree k → (ss : List ℕ) (r s : ℕ) → around k r ≡ ss → Contains ss s → length (around k (holder k s)) < length ss
+  outer_shorter : (k : Table) → IsNested k → (ss : List ℕ) (r s : ℕ) → around k r ≡ ss → Contains ss s → length (around k (holder k s)) < length ss
   outer_shorter k tree [] r s e h = absurd (none_in s h)
   outer_shorter k tree (x ∷ ss) r s e h =
       ⊎_elim
@@ -95,7 +95,7 @@ module _ where
       ap length (sym (tree.upward r x ss e)) in omega (n, arith))
       (λ tail. let n = outer_shorter k tree ss (holder k x) s (sym (tree.upward r x ss e)) tail in omega (n, arith)) (head_or_tail x s ss h)
 
-  pub holds_other : (k : Table) → IsTree k → (r s : ℕ) → Contains (around k r) s → holder k s ≢ r
+  pub holds_other : (k : Table) → IsNested k → (r s : ℕ) → Contains (around k r) s → holder k s ≢ r
   holds_other k tree r s inner e =
       let n = outer_shorter k tree (around k r) r s refl inner in
       let m : length (around k (holder k s)) ≡ length (around k r) = ap (λ z. length (around k z)) e in absurd (omega (n, m, arith))

@@ -11,7 +11,7 @@ use Rattle.chart_machine.specs.Table.{state_at}
 use Rattle.chart_machine.specs.Turns.{standing_of, has_ended, guards, has_work, may_close, is_guarded, inside}
 use Rattle.abort_expansion.specs.Flags.{has_aborts}
 use Rattle.tick_laws.proofs.Lists.{same_or_not, contained}
-use Rattle.abort_expansion_laws.proofs.LyingIn.{IsTree, LiesUnder, around, holder, head_in, tail_in, around_around}
+use Rattle.chart_machine_laws.proofs.LyingIn.{IsNested, LiesUnder, around, holder, head_in, tail_in, around_around}
 use Rattle.abort_expansion_laws.proofs.TablesCorrespond.{IsThere}
 use Rattle.abort_expansion_laws.specs.CoreRows.{own, Images, CoreRows}
 use Rattle.abort_expansion_laws.specs.Related.{IsCalm, Stands, outside, ended, left, trying, acting, entering, guarding, staying, within, behind, IsInside}
@@ -21,13 +21,13 @@ use Rattle.abort_expansion_laws.proofs.InsideLeaves.{FlatRows, true_or_false}
 use Rattle.abort_expansion_laws.proofs.AllLeave.{inside_around}
 use Rattle.abort_expansion_laws.proofs.KnownVariables.{present_there}
 use Rattle.abort_expansion_laws.proofs.DropsOut.{all_alike}
-use Rattle.abort_expansion_laws.proofs.ChartTables.{around_there}
+use Rattle.chart_machine_laws.proofs.ChartTables.{around_there}
 
 neither_of : (b c : Bool) → (b || c) ≡ false → (b ≡ false) × (c ≡ false)
 neither_of true c e = absurd cc
 neither_of false c e = (refl, e)
 
-module _ (k core : Table) (i : Images) (rows : CoreRows k core i) (more : FlatRows k core i) (tree : IsTree k)
+module _ (k core : Table) (i : Images) (rows : CoreRows k core i) (more : FlatRows k core i) (tree : IsNested k)
     (children : (s r : ℕ) → Contains (state_at k s).regions r → around k r ≡ s ∷ around k (holder k s))
     (c d : Configuration) (related : Related k core i c d) (r o : ℕ) (there : IsThere k r) (has : has_aborts (own k o) ≡ true) (held : holder k o ≡ r)
     (inside_o : IsInside k core i o (standing_of c r)) (free : is_guarded k c (around k r) ≡ false)

@@ -29,7 +29,7 @@ use Rattle.abort_expansion_laws.specs.Stages.{Entry, Watched, Silent, Correspond
 use Rattle.abort_expansion_laws.proofs.Supplying.{climbs_step, climbs_fewer, silent_set, silent_test, silent_idle, sets, tests}
 use Rattle.abort_expansion_laws.proofs.Simulation.{Segment, segment_on}
 use Rattle.abort_expansion_laws.proofs.SilentSteps.{AtHome, climbs_at, climbs_home, silent_step}
-use Rattle.abort_expansion_laws.proofs.LyingIn.{IsTree, LiesUnder, around, holder, none_in, head_or_tail, head_in, around_around}
+use Rattle.chart_machine_laws.proofs.LyingIn.{IsNested, LiesUnder, around, holder, none_in, head_or_tail, head_in, around_around}
 use Rattle.abort_expansion_laws.proofs.TablesCorrespond.{IsThere, contains_map}
 use Rattle.abort_expansion_laws.proofs.MoreValues.{number_value, up_verdict, verdict_over_more}
 use Rattle.abort_expansion_laws.proofs.FlagAccess.{put_access, raised_access}
@@ -46,7 +46,7 @@ use Rattle.abort_expansion_laws.proofs.InsideLeaves.{FlatRows, may_leave, there_
 use Rattle.abort_expansion_laws.proofs.AllLeave.{all_leave, Left, all_from, inside_around}
 use Rattle.abort_expansion_laws.proofs.Leaving.{drops, set_here, set_other, drops_in, drops_out, drops_length, joined}
 use Rattle.abort_expansion_laws.proofs.Answering.{Answered, answered}
-use Rattle.abort_expansion_laws.proofs.ChartTables.{around_there}
+use Rattle.chart_machine_laws.proofs.ChartTables.{around_there}
 use Rattle.abort_expansion_laws.proofs.DropsOut.{DropsOut, dropped_out}
 
 -- a segment from fewer stages
@@ -65,7 +65,7 @@ from_fewer n k Told d Fewer Before After steps Reaches fewer s =
       reaches = s.reaches;
     }
 
-module _ (k core : Table) (i : Images) (rows : CoreRows k core i) (more : FlatRows k core i) (tree : IsTree k) (core_tree : IsTree core)
+module _ (k core : Table) (i : Images) (rows : CoreRows k core i) (more : FlatRows k core i) (tree : IsNested k) (core_tree : IsNested core)
     (deep : (q s : ℕ) → Contains (around core q) s → holder core s < q)
     (core_children : (s r : ℕ) → Contains (state_at core s).regions r → around core r ≡ s ∷ around core (holder core s))
     (children : (s r : ℕ) → Contains (state_at k s).regions r → around k r ≡ s ∷ around k (holder k s))

@@ -19,7 +19,7 @@ use Rattle.abort_expansion.specs.Transitions.{raising}
 use Rattle.abort_expansion.specs.Superstates.{all_ended}
 use Rattle.abort_expansion_laws.specs.Stages.{Entry, Watched}
 use Rattle.abort_expansion_laws.proofs.Simulation.{Segment}
-use Rattle.abort_expansion_laws.proofs.LyingIn.{IsTree, around, holder}
+use Rattle.chart_machine_laws.proofs.LyingIn.{IsNested, around, holder}
 use Rattle.abort_expansion_laws.proofs.TablesCorrespond.{IsThere}
 use Rattle.abort_expansion_laws.proofs.MoreValues.{verdict_over_more}
 use Rattle.abort_expansion_laws.specs.CoreRows.{own, IsState, joins, Images, CoreRows}
@@ -106,7 +106,7 @@ module _ (k core : Table) (i : Images) (o : ℕ) where
   inside_guarding s _ (guarded others) tests e = cc
   inside_guarding s _ (open_inside others) tests e = absurd cc
 
-module _ (k core : Table) (i : Images) (rows : CoreRows k core i) (tree : IsTree k) (counts : ℕ → Bool) (written_at : ℕ → ℕ)
+module _ (k core : Table) (i : Images) (rows : CoreRows k core i) (tree : IsNested k) (counts : ℕ → Bool) (written_at : ℕ → ℕ)
     (c d : Configuration) (related : Related k core i c d) (r o : ℕ) (o_there : IsState k o) (t u : Transition) (tests : List Transition)
     (stands : standing_of c r ≡ at.Guarding o (t ∷ u ∷ tests)) where
   pub there : IsThere k r

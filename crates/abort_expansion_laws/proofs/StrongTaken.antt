@@ -23,7 +23,7 @@ use Rattle.abort_expansion_laws.specs.Stages.{Entry, Watched, Silent}
 use Rattle.abort_expansion_laws.proofs.Supplying.{climbs_fewer}
 use Rattle.abort_expansion_laws.proofs.Simulation.{Segment}
 use Rattle.abort_expansion_laws.proofs.SilentSteps.{AtHome}
-use Rattle.abort_expansion_laws.proofs.LyingIn.{IsTree, LiesUnder, around, holder}
+use Rattle.chart_machine_laws.proofs.LyingIn.{IsNested, LiesUnder, around, holder}
 use Rattle.abort_expansion_laws.proofs.TablesCorrespond.{IsThere}
 use Rattle.abort_expansion_laws.specs.CoreRows.{IsState, IsSuper, Images, CoreRows}
 use Rattle.abort_expansion_laws.specs.Related.{IsCalm, IsInside, guarded, Related}
@@ -47,7 +47,7 @@ counting_first places target e es = by_case (unwrap_or (slice_get places.finals 
     by_case true more = refl
     by_case false more = refl
 
-module _ (k core : Table) (i : Images) (rows : CoreRows k core i) (more : FlatRows k core i) (tree : IsTree k) (core_tree : IsTree core)
+module _ (k core : Table) (i : Images) (rows : CoreRows k core i) (more : FlatRows k core i) (tree : IsNested k) (core_tree : IsNested core)
     (deep : (q s : ℕ) → Contains (around core q) s → holder core s < q)
     (core_children : (s r : ℕ) → Contains (state_at core s).regions r → around core r ≡ s ∷ around core (holder core s))
     (children : (s r : ℕ) → Contains (state_at k s).regions r → around k r ≡ s ∷ around k (holder k s))

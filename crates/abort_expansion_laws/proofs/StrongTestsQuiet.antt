@@ -37,7 +37,7 @@ use Rattle.chart_machine.specs.declared.standing.Configuration.{Configuration}
 use Rattle.chart_machine.specs.declared.table.Table.{Table}
 use Rattle.chart_machine.specs.Turns.{LiesIn, itself, deeper, ForkedApart, holder_of, standing_of, is_enabled}
 use Rattle.chart_machine.specs.Steps.{step, access_of}
-use Rattle.abort_expansion_laws.proofs.LyingIn.{IsTree, LiesUnder, around, holder, none_in, head_or_tail, head_in, outwards, inwards}
+use Rattle.chart_machine_laws.proofs.LyingIn.{IsNested, LiesUnder, around, holder, none_in, head_or_tail, head_in, outwards, inwards}
 use Rattle.abort_expansion_laws.proofs.TablesCorrespond.{IsThere, contains_map}
 use Rattle.abort_expansion_laws.specs.CoreRows.{Images, CoreRows}
 use Rattle.abort_expansion_laws.proofs.LowPriorities.{Under, LowUnder, low_under_kept, never_before}
@@ -146,7 +146,7 @@ module _ (p : Program) (q : Tables) (valid : IsValid p q) where
 
 -- ---- a strong test that was made, by the monitor of a superstate that a region holds
 
-module _ (k core : Table) (i : Images) (rows : CoreRows k core i) (tree : IsTree core) (p : Program) (q : Tables) (valid : IsValid p q)
+module _ (k core : Table) (i : Images) (rows : CoreRows k core i) (tree : IsNested core) (p : Program) (q : Tables) (valid : IsValid p q)
     (lowered : Lowered core p) where
   -- the regions of the superstate besides its monitor g, and others that the region holds: these are not there
   abbrev pub Inner : (thread g : ℕ) → ℕ → Type 0

@@ -3,9 +3,9 @@ use Rattle.std.proofs.Common.{◌≡◌, ℕ, ◌⊎◌, Bool, List, [], ◌∷�
 use Rattle.chart_machine.specs.declared.table.Table.{Table}
 use Rattle.chart_machine.specs.Turns.{LiesIn, itself, deeper, holder_of, ForkedApart}
 use Rattle.abort_expansion_laws.specs.Stages.{Correspondence, IsCorrespondence, Meet, Inner}
-use Rattle.abort_expansion_laws.proofs.LyingIn.{IsTree, LiesUnder, around, holder, none_in, head_in, tail_in, head_or_tail, around_outer, not_from_itself}
-use Rattle.abort_expansion_laws.proofs.LyingIn.{not_from_outer, swapped, apart_inside, by_holder}
-pub use Rattle.abort_expansion_laws.specs.Trees.{IsThere}
+use Rattle.chart_machine_laws.proofs.LyingIn.{IsNested, LiesUnder, around, holder, none_in, head_in, tail_in, head_or_tail, around_outer, not_from_itself}
+use Rattle.chart_machine_laws.proofs.LyingIn.{not_from_outer, swapped, apart_inside, by_holder}
+pub use Rattle.chart_machine_laws.specs.Tree.{IsThere}
 pub use Rattle.abort_expansion_laws.specs.Expanded.{Expanded, LiesInState, pair_of}
 
 pub contains_map : (f : ℕ → ℕ) (xs : List ℕ) (y : ℕ) → Contains (map f xs) y → (x : ℕ) × Contains xs x × (f x ≡ y)
@@ -26,7 +26,7 @@ map_alike f one (x ∷ xs) (y ∷ ys) e =
     ap (λ z. z ∷ xs) (one x y first) ∙ ap (λ zs. y ∷ zs) (map_alike f one xs ys rest)
 
 module _ (chart core : Table) (e : Expanded chart core) where
-  module _ (of_chart : IsTree chart) (of_core : IsTree core) where
+  module _ (of_chart : IsNested chart) (of_core : IsNested core) where
     -- what a region's thread lies in is a region's thread
     lies_back : (r z : ℕ) → LiesIn core (e.thread_of r) z → (l : ℕ) × (z ≡ e.thread_of l) × LiesIn chart r l
     lies_back r z (itself same) = (r, sym same, itself refl)

@@ -16,7 +16,7 @@ use Rattle.chart_machine.specs.Machine.{machine}
 use Rattle.abort_expansion.specs.Transitions.{led}
 use Rattle.abort_expansion_laws.specs.Stages.{Entry, Image}
 use Rattle.abort_expansion_laws.proofs.Simulation.{Segment, segment_on}
-use Rattle.abort_expansion_laws.proofs.LyingIn.{IsTree, around, holder}
+use Rattle.chart_machine_laws.proofs.LyingIn.{IsNested, around, holder}
 use Rattle.abort_expansion_laws.proofs.TablesCorrespond.{IsThere}
 use Rattle.abort_expansion_laws.proofs.MoreValues.{verdict_over_more}
 use Rattle.abort_expansion_laws.specs.CoreRows.{is_final, Images, CoreRows, RegionImage, counter_over}
@@ -69,7 +69,7 @@ none_counted k core i true counter values e = absurd cc
 none_counted k core i false counter values e = refl
 
 -- stages do not hang on the core
-pub staged : (k core : Table) (i : Images) (rows : CoreRows k core i) (tree : IsTree k) (counts : ℕ → Bool) (written_at : ℕ → ℕ)
+pub staged : (k core : Table) (i : Images) (rows : CoreRows k core i) (tree : IsNested k) (counts : ℕ → Bool) (written_at : ℕ → ℕ)
     (Told : Configuration → Entry → Type 0) (c1 d1 last e : Configuration) →
     Segment (machine core) (pair k core i rows tree counts written_at) Told e (Stage k i.thread_of c1 d1) (Stage k i.thread_of last) []
     (Related k core i last) →
@@ -87,7 +87,7 @@ staged k core i rows tree counts written_at Told c1 d1 last e g =
       reaches = g.reaches;
     }
 
-module _ (k core : Table) (i : Images) (rows : CoreRows k core i) (tree : IsTree k) (counts : ℕ → Bool) (written_at : ℕ → ℕ)
+module _ (k core : Table) (i : Images) (rows : CoreRows k core i) (tree : IsNested k) (counts : ℕ → Bool) (written_at : ℕ → ℕ)
     (Told : Configuration → Entry → Type 0)
     (enters : Enters k core i rows tree counts written_at Told)
     (c d : Configuration) (related : Related k core i c d) (q s : ℕ) (t : Transition) (tests : List Transition)

@@ -15,7 +15,7 @@ use Rattle.chart_machine.specs.Machine.{machine}
 use Rattle.abort_expansion.specs.Transitions.{led}
 use Rattle.abort_expansion_laws.specs.Stages.{Entry, Image}
 use Rattle.abort_expansion_laws.proofs.Simulation.{Segment}
-use Rattle.abort_expansion_laws.proofs.LyingIn.{IsTree, around}
+use Rattle.chart_machine_laws.proofs.LyingIn.{IsNested, around}
 use Rattle.abort_expansion_laws.proofs.TablesCorrespond.{IsThere}
 use Rattle.abort_expansion_laws.proofs.MoreValues.{verdict_over_more}
 use Rattle.abort_expansion_laws.specs.CoreRows.{Images, CoreRows}
@@ -34,7 +34,7 @@ pub acting_no_inside : (k core : Table) (i : Images) (s u p : ℕ) (effects : Li
 acting_no_inside k core i s u p effects _ e (guarded others) = absurd cc
 acting_no_inside k core i s u p effects _ e (open_inside others) = absurd cc
 
-module _ (k core : Table) (i : Images) (rows : CoreRows k core i) (tree : IsTree k) (counts : ℕ → Bool) (written_at : ℕ → ℕ)
+module _ (k core : Table) (i : Images) (rows : CoreRows k core i) (tree : IsNested k) (counts : ℕ → Bool) (written_at : ℕ → ℕ)
     (c d : Configuration) (related : Related k core i c d) (q s : ℕ) (t : Transition) (tests : List Transition)
     (stands : standing_of c q ≡ at.Trying s (t ∷ tests))
     (e : Effect) (es : List Effect) (has_effects : t.effects ≡ e ∷ es) (target_there : t.target < length (region_at k q).states)

@@ -10,7 +10,7 @@ use Rattle.chart_machine.specs.Table.{state_at}
 use Rattle.chart_machine.specs.Turns.{standing_of, has_ended, is_guarded, inside}
 use Rattle.tick_laws.proofs.Lists.{same_or_not, contained}
 use Rattle.abort_expansion_laws.specs.Stages.{Entry}
-use Rattle.abort_expansion_laws.proofs.LyingIn.{IsTree, around, holder, none_in, head_in, tail_in, head_or_tail}
+use Rattle.chart_machine_laws.proofs.LyingIn.{IsNested, around, holder, none_in, head_in, tail_in, head_or_tail}
 use Rattle.abort_expansion_laws.proofs.TablesCorrespond.{IsThere}
 use Rattle.abort_expansion_laws.specs.CoreRows.{Images, CoreRows, joins}
 use Rattle.abort_expansion_laws.specs.Related.{held_back, Stores}
@@ -23,7 +23,7 @@ use Rattle.abort_expansion_laws.proofs.Pending.{is_trying, IsOpening, IsStarting
 use Rattle.abort_expansion_laws.proofs.Pending.{still_going, starts, opens, behind_unprepared}
 use Rattle.abort_expansion_laws.proofs.SettledInOrder.{skips, there_in}
 
-module _ (k core : Table) (i : Images) (rows : CoreRows k core i) (tree : IsTree k) (counts : ℕ → Bool) (written_at : ℕ → ℕ)
+module _ (k core : Table) (i : Images) (rows : CoreRows k core i) (tree : IsNested k) (counts : ℕ → Bool) (written_at : ℕ → ℕ)
     (Told : Configuration → Entry → Type 0)
     (deeper : (q s : ℕ) → Contains (around k q) s → holder k s < q)
     (core_children : (s t : ℕ) → Contains (state_at core s).regions t → IsThere core t × (around core t ≡ s ∷ around core (holder core s)))

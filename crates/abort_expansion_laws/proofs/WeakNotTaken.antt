@@ -20,7 +20,7 @@ use Rattle.abort_expansion.specs.Flags.{has_aborts, aborts_around}
 use Rattle.abort_expansion.specs.Superstates.{all_ended, stays}
 use Rattle.abort_expansion_laws.specs.Stages.{Entry, Watched}
 use Rattle.abort_expansion_laws.proofs.Simulation.{Segment}
-use Rattle.abort_expansion_laws.proofs.LyingIn.{IsTree, around, holder, head_in, tail_in}
+use Rattle.chart_machine_laws.proofs.LyingIn.{IsNested, around, holder, head_in, tail_in}
 use Rattle.abort_expansion_laws.proofs.TablesCorrespond.{IsThere}
 use Rattle.abort_expansion_laws.proofs.MoreValues.{verdict_over_more}
 use Rattle.abort_expansion_laws.specs.CoreRows.{own, IsState, IsSuper, joins, Images, CoreRows, flags_around}
@@ -176,7 +176,7 @@ weak_no_join kind.Strong e = refl
 weak_no_join kind.Weak e = refl
 weak_no_join kind.Join e = absurd cc
 
-module _ (k core : Table) (i : Images) (rows : CoreRows k core i) (tree : IsTree k) (counts : ℕ → Bool) (written_at : ℕ → ℕ)
+module _ (k core : Table) (i : Images) (rows : CoreRows k core i) (tree : IsNested k) (counts : ℕ → Bool) (written_at : ℕ → ℕ)
     (c d : Configuration) (related : Related k core i c d) (r o : ℕ) (o_there : IsState k o) (has : has_aborts (own k o) ≡ true) (t : Transition)
     (weak : is_weak t.kind ≡ true) (tests : List Transition)
     (stands : standing_of c r ≡ at.Within o (t ∷ tests)) where

@@ -19,8 +19,8 @@ use Rattle.abort_expansion.specs.declared.places.Places.{Places}
 use Rattle.abort_expansion.specs.Flags.{has_aborts, aborts_around}
 use Rattle.abort_expansion.specs.Transitions.{go, place_of, led, led_by, strong_checks, answers}
 use Rattle.abort_expansion.specs.Superstates.{simple_transitions, stays, is_prepared, resets, monitor_transitions, closing}
-use Rattle.abort_expansion_laws.specs.Trees.{IsTree, around, holder}
-use Rattle.abort_expansion_laws.specs.Trees.{IsThere}
+use Rattle.chart_machine_laws.specs.Tree.{IsNested, around, holder}
+use Rattle.chart_machine_laws.specs.Tree.{IsThere}
 use Rattle.abort_expansion_laws.specs.Expanded.{Expanded, pair_of}
 use Rattle.abort_expansion_laws.specs.Stages.{Correspondence}
 
@@ -201,6 +201,6 @@ module _ (k core : Table) (i : Images) where
       }
 
 -- the tables as a correspondence; flags and counters are the variables behind the declared ones
-module _ (k core : Table) (i : Images) (rows : CoreRows k core i) (tree : IsTree k) (counts : ℕ → Bool) (written_at : ℕ → ℕ) where
+module _ (k core : Table) (i : Images) (rows : CoreRows k core i) (tree : IsNested k) (counts : ℕ → Bool) (written_at : ℕ → ℕ) where
   abbrev pub pair : Correspondence
   pair = pair_of k core (expanded_of k core i rows) (length k.variables) counts written_at

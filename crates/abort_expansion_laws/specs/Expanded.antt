@@ -4,7 +4,7 @@ use Rattle.sc_values.specs.declared.operator.Combination.TheVariants as combine
 use Rattle.chart_machine.specs.declared.table.Table.{Table}
 use Rattle.chart_machine.specs.Turns.{ForkedApart}
 use Rattle.abort_expansion_laws.specs.Stages.{Correspondence}
-use Rattle.abort_expansion_laws.specs.Trees.{LiesUnder, around, holder, IsThere}
+use Rattle.chart_machine_laws.specs.Tree.{LiesUnder, around, holder, IsThere}
 
 -- what the expansion gives: the thread of each region; the fork of each superstate, and its watcher, where it has aborts
 pub record Expanded (chart core : Table) : Type 1 where

@@ -4,13 +4,13 @@ use Rattle.sc_values.specs.Runs.{IsOrdered}
 use Rattle.chart_machine.specs.declared.table.Table.{Table}
 use Rattle.chart_machine.specs.Turns.{ForkedApart}
 use Rattle.abort_expansion_laws.specs.Stages.{Entry, core_log, chart_log, EachFits, Climbs, NoneReached, EachSpared}
-use Rattle.abort_expansion_laws.specs.Trees.{IsTree}
+use Rattle.chart_machine_laws.specs.Tree.{IsNested}
 use Rattle.abort_expansion_laws.specs.CoreRows.{Images, CoreRows, pair}
 
 -- the core's log is ordered where the chart's is, if no stage falls and no strong test is overwritten
 abbrev pub StagesKeepOrder : Type 0
 StagesKeepOrder =
-    (k core : Table) (i : Images) (rows : CoreRows k core i) (tree : IsTree k) → IsTree core → (counts : ℕ → Bool) (written_at : ℕ → ℕ) →
+    (k core : Table) (i : Images) (rows : CoreRows k core i) (tree : IsNested k) → IsNested core → (counts : ℕ → Bool) (written_at : ℕ → ℕ) →
     (log : List Entry) → EachFits (pair k core i rows tree counts written_at) log → EachSpared (pair k core i rows tree counts written_at) log →
     Climbs (pair k core i rows tree counts written_at) NoneReached log →
     IsOrdered (ForkedApart k) (chart_log log) → IsOrdered (ForkedApart core) (core_log (pair k core i rows tree counts written_at) log)

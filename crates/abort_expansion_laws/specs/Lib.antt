@@ -2,10 +2,10 @@ pub mod Flat
 pub mod Ticks
 pub mod Preemption
 pub mod Stages
-pub mod Trees
 pub mod Expanded
 pub mod CoreRows
 pub mod Related
 pub mod Segments
 pub mod StageReached
+pub mod StateNames
 pub mod Laws

@@ -19,8 +19,8 @@ use Rattle.abort_expansion.specs.declared.flags.Flags.{Flags}
 use Rattle.abort_expansion.specs.Flags.{has_aborts, has_join}
 use Rattle.abort_expansion.specs.Transitions.{put, go, place_of, counting, led, led_by, strong_checks, weak_checks, raising}
 use Rattle.abort_expansion.specs.Superstates.{stays, resets, all_ended}
-use Rattle.abort_expansion_laws.specs.Trees.{around, holder}
-use Rattle.abort_expansion_laws.specs.Trees.{IsThere}
+use Rattle.chart_machine_laws.specs.Tree.{around, holder}
+use Rattle.chart_machine_laws.specs.Tree.{IsThere}
 use Rattle.abort_expansion_laws.specs.CoreRows.{own, IsState, IsSuper, IsSimple, joins, Images, flags_around}
 
 abbrev pub Each : {A : Type 0} → (A → Type 0) → List A → Type 0

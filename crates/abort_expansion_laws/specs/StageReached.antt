@@ -8,7 +8,7 @@ use Rattle.chart_machine.specs.declared.standing.Configuration.{Configuration}
 use Rattle.chart_machine.specs.declared.table.Table.{Table}
 use Rattle.chart_machine.specs.Turns.{standing_of, has_work, inside}
 use Rattle.abort_expansion.specs.Flags.{has_aborts}
-use Rattle.abort_expansion_laws.specs.Trees.{IsThere}
+use Rattle.chart_machine_laws.specs.Tree.{IsThere}
 use Rattle.abort_expansion_laws.specs.CoreRows.{own}
 
 module _ (k : Table) where

@@ -5,6 +5,7 @@
 #![tactic(auto)]
 
 ghost use Rattle.abort_expansion_laws.specs.Laws.{StagesKeepOrder};
+ghost use Rattle.abort_expansion_laws.specs.StateNames.{StatesAreMapped};
 
 /// A run of a core chart is admissible where the run of its chart is, if what belongs to a superstate with aborts is
 /// done in
@@ -13,4 +14,10 @@ ghost use Rattle.abort_expansion_laws.specs.Laws.{StagesKeepOrder};
 /// nothing; its contract is the law.
 pub fn stages_are_kept()
     ensures { StagesKeepOrder }
+{}
+
+/// The map of states has an entry for each state of the core chart, in the order of its text: the state for which it
+/// stands, as its name tells. This function does nothing; its contract is the law.
+pub fn states_are_mapped()
+    ensures { StatesAreMapped }
 {}

@@ -14,7 +14,8 @@ use Rattle.core_charts.specs.Rules.{IsRegion, AreRegions, IsChart, depth_limit}
 use Rattle.chart_machine.specs.declared.table.StateRow.{StateRow}
 use Rattle.chart_machine.specs.declared.table.RegionRow.{RegionRow}
 use Rattle.chart_machine.specs.declared.table.Table.{Table}
-use Rattle.chart_machine.specs.Table.{Piece, region_piece, state_piece, piece_of_region, piece_of_state, side_by_side, whole, table_of, table, state_at, region_at}
+use Rattle.chart_machine.specs.Table.{Piece, region_piece, state_piece, piece_of_region, piece_of_state, side_by_side, whole, table_of, table, state_at}
+use Rattle.chart_machine.specs.Table.{region_at}
 use Rattle.scl_graph_laws.proofs.Segments.{StandAt, stand_all, each_at}
 use Rattle.chart_machine_laws.proofs.LyingIn.{IsTree, around, holder, none_in}
 use Rattle.chart_machine_laws.proofs.RowsOfPieces.{StatesAt, RegionsAt, Holds, IsSized, AllSized, state_sized, region_sized}

@@ -7,7 +7,8 @@ use Rattle.chart_machine.specs.declared.table.Table.{Table}
 use Rattle.chart_machine.specs.declared.table.TablePosition.{TablePosition}
 use Rattle.chart_machine.specs.declared.table.SubtreeRows.{SubtreeRows}
 use Rattle.chart_machine.specs.declared.table.StatesRows.{StatesRows}
-use Rattle.chart_machine.specs.Table.{Piece, behind, side_by_side, within, region_numbers, state_piece, state_numbers, with_region, past_states, rows_of_state_at}
+use Rattle.chart_machine.specs.Table.{Piece, behind, side_by_side, within, region_numbers, state_piece, state_numbers, with_region, past_states}
+use Rattle.chart_machine.specs.Table.{rows_of_state_at}
 use Rattle.chart_machine.specs.Table.{followed_by, in_region, regions_in_initial, inside_region, region_piece, state_at, region_at}
 use Rattle.scl_graph_laws.proofs.Segments.{EachAt, each_from, each_append}
 use Rattle.chart_machine_laws.proofs.LyingIn.{around, none_in, head_or_tail, head_in, tail_in}
