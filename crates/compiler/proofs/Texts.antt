@@ -1,6 +1,8 @@
 -- From a graph to its image.
 use Rattle.std.proofs.Common.{◌≡◌, Bool, true, false, subst, sym, IsTrue}
 use Rattle.std.proofs.Math.Logic.{∥∥₁_elim, ∥∥₁_map}
+use Rattle.sc_graph.specs.declared.place.Place.{Place}
+use Rattle.sc_graph.specs.declared.tables.Tables.{Tables}
 use Rattle.sc_graph.specs.Program.{Program}
 use Rattle.sc_graph.specs.Valid.{IsFormed, IsValid}
 use Rattle.priority_weights.specs.LeastTables.{AreLeast}
@@ -11,17 +13,25 @@ use Rattle.scl.specs.Rules.{KeepsRules}
 use Rattle.scl_graph.specs.Answers.{IsGraph}
 use Rattle.scl_graph_laws.specs.Keeps.{Keeps}
 use Rattle.scl_graph_laws.proofs.RunsKept.{program_keeps_runs}
+use Rattle.scl_graph_laws.specs.Laws.{KeepsStepRules}
 use Rattle.scl_graph_laws.proofs.Forming.{program_is_formed}
-use Rattle.compiler.specs.Compiled.{IsCompiled, IsRefused}
+use Rattle.scl_graph_laws.proofs.StepRules.{program_keeps_step_rules}
+use Rattle.verifier.specs.Verdict.{KeptAt}
+use Rattle.verifier.specs.declared.rule.Rule.{Rule}
+use Rattle.verifier.specs.declared.rule.Rule.TheVariants as rule
+use Rattle.verifier.specs.declared.rule.Broken.{Broken}
+use Rattle.verifier.specs.declared.rule.Refusal.TheVariants as refusal
+use Rattle.compiler.specs.Compiled.{BreaksARule, IsAboutSteps, IsCompiled, IsRefused}
 use Rattle.compiler.specs.Texts.{IsImageOf, IsNotCompiled}
 use Rattle.compiler.specs.declared.fault.CompileFault.{CompileFault}
 use Rattle.compiler.specs.declared.fault.CompileFault.TheVariants as fault
 
--- the graph of an SCL program keeps its runs, and is formed
-answered : (scl : Scl) (q : Program) → KeepsRules scl.name scl.variables scl.body → IsGraph scl q → Keeps (numbered scl) q × IsFormed q
+-- the graph of an SCL program keeps its runs, is formed, and keeps the rules about steps
+answered : (scl : Scl) (q : Program) → KeepsRules scl.name scl.variables scl.body → IsGraph scl q → Keeps (numbered scl) q × IsFormed q × KeepsStepRules q
 answered scl q kept graph = (
   subst (λ q. Keeps (numbered scl) q) (sym graph.is) (program_keeps_runs scl kept graph.no_loop),
   subst IsFormed (sym graph.is) (program_is_formed scl kept graph.no_loop graph.fits),
+  subst KeepsStepRules (sym graph.is) (program_keeps_step_rules scl kept graph.no_loop graph.fits),
 )
 
 pub graph_formed : (scl : Scl) (q : Program) → IsGraph scl q → ∥ IsFormed q ∥₁
@@ -37,19 +47,37 @@ image_of_graph scl q image graph compiled =
       valid = subst (λ p. IsValid p image.tables) (sym compiled.program) compiled.valid;
     }
 
+no_proof : IsProp ⊥
+no_proof a = absurd a
+
+-- so none of these is broken
+about_steps_kept : (q : Program) (r : Rule) (tables : Tables) (at : Place) → KeepsStepRules q → IsAboutSteps r → ¬ KeptAt r q tables at → ⊥
+about_steps_kept q rule.Code tables at kept about breaks = breaks (kept.code at)
+about_steps_kept q rule.Assignment tables at kept about breaks = breaks (kept.assignment at)
+about_steps_kept q rule.Size tables at kept about breaks = about
+about_steps_kept q rule.Structure tables at kept about breaks = about
+about_steps_kept q rule.EndBit tables at kept about breaks = about
+about_steps_kept q rule.NoConflict tables at kept about breaks = about
+about_steps_kept q rule.Flow tables at kept about breaks = about
+about_steps_kept q rule.Protocol tables at kept about breaks = about
+about_steps_kept q rule.Weight tables at kept about breaks = about
+about_steps_kept q rule.Bound tables at kept about breaks = about
+
+breaks_none : (scl : Scl) (q : Program) (broken : Broken) → IsGraph scl q → BreaksARule q (refusal.Broken broken) → ⊥
+breaks_none scl q broken graph breaks =
+    ∥∥₁_elim scl.kept no_proof (λ kept. about_steps_kept q broken.rule breaks.1.0 broken.place (answered scl q kept graph).2 breaks.0 breaks.1.2.breaks)
+
 pub graph_refused : (scl : Scl) (q : Program) (f : CompileFault) → IsGraph scl q → IsRefused q f → IsNotCompiled scl f
 graph_refused scl q (fault.Expansion f) graph refused = absurd refused
 graph_refused scl q (fault.Graph f) graph refused = absurd refused
 graph_refused scl q (fault.Conflict f) graph refused = record { program = q; graph = graph; refused = refused }
 graph_refused scl q (fault.Tables f) graph refused = record { program = q; graph = graph; refused = refused }
-graph_refused scl q (fault.Rule f) graph refused = record { program = q; graph = graph; refused = refused }
+graph_refused scl q (fault.Rule (refusal.Broken broken)) graph refused = absurd (breaks_none scl q broken graph refused.2)
+graph_refused scl q (fault.Rule refusal.Memory) graph refused = record { program = q; graph = graph; refused = refused }
 
 -- so a test of it is passed
 clash : (b : Bool) → b ≡ true → b ≡ false → ⊥
 clash b holds fails = cc
-
-no_proof : IsProp ⊥
-no_proof a = absurd a
 
 pub is_formed : (scl : Scl) (q : Program) (b : Bool) → IsGraph scl q → (IsFormed q → IsTrue b) → b ≡ false → ⊥
 is_formed scl q b graph test is =

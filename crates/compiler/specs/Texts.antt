@@ -6,6 +6,7 @@ use Rattle.scl.specs.Numbering.{numbered}
 use Rattle.scl_graph.specs.Answers.{IsGraph, IsReason}
 use Rattle.scl_graph_laws.specs.Keeps.{Keeps}
 use Rattle.bytecode.specs.Image.{Image}
+use Rattle.verifier.specs.declared.rule.Refusal.TheVariants as refusal
 use Rattle.priority_weights.specs.LeastTables.{AreLeast}
 use Rattle.compiler.specs.Compiled.{IsRefused}
 use Rattle.compiler.specs.declared.fault.CompileFault.{CompileFault}
@@ -24,7 +25,9 @@ pub record HasNoImage (scl : Scl) (f : CompileFault) : Type 0 where
   pub graph : IsGraph scl program
   pub refused : IsRefused program f
 
--- why an SCL program has no image: that it has no graph comes before what its graph lacks
+-- why an SCL program has no image: that it has no graph comes before what its graph lacks. No rule is broken: the graph
+-- keeps the rules about the codes and the assignments of its steps
 abbrev pub IsNotCompiled : Scl → CompileFault → Type 0
 IsNotCompiled scl (fault.Graph f) = IsReason scl f
+IsNotCompiled scl (fault.Rule (refusal.Broken broken)) = ⊥
 IsNotCompiled scl other = HasNoImage scl other

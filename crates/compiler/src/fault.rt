@@ -19,5 +19,6 @@ pub enum CompileFault {
     /// E13 or E12: a closed walk, because of which there are no tables; or memory was refused.
     Tables(TablesFault),
     /// E33 or E34: a code or an assignment breaks its rule, and no lower rule is broken; or memory was refused.
+    /// A program of SCL and a chart break none.
     Rule(Refusal),
 }

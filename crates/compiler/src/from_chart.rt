@@ -29,7 +29,7 @@ pub fn scl_of_chart(alloc: Global, chart: &Chart) -> Result<Scl, CompileFault>
 }
 
 /// The valid image of a chart: that of its SCL program. Err: the chart has no SCL program (E07), or else why
-/// that has no image (E14, E07, E11, E13, E12, E33, E34); or memory was refused.
+/// that has no image (E14, E07, E11, E13, E12); or memory was refused. It never says that a rule is broken.
 #[tactic(auto, using(crate::proofs::Charts::no_scl, crate::proofs::Charts::no_image))]
 pub fn compile_chart(alloc: Global, chart: &Chart) -> Result<Verified, CompileFault>
     ensures compiled { IfOk result (IsImageOfChart chart.now) }

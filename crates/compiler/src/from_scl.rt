@@ -14,8 +14,7 @@ use verifier::Verified;
 
 /// The valid image of an SCL program: that of its graph, with the least tables. Err: the first that holds of
 /// these: the program has no graph (E14, E07), two nodes conflict (E11), flow within one tick closes (E13),
-/// instantaneous and protocol edges close (E12), a code or an assignment breaks its rule (E33, E34);
-/// or memory was refused.
+/// instantaneous and protocol edges close (E12); or memory was refused. It never says that a rule is broken.
 #[tactic(auto, using(crate::proofs::Texts::graph_formed, crate::proofs::Texts::image_of_graph, crate::proofs::Texts::graph_refused))]
 pub fn compile_scl(alloc: Global, scl: &Scl) -> Result<Verified, CompileFault>
     ensures compiled { IfOk result (IsImageOf scl.now) }
