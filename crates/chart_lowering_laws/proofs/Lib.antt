@@ -1,4 +1,4 @@
-mod NumberTests
+pub mod NumberTests
 mod Waiting
 mod Ordering
 mod Following
@@ -14,7 +14,7 @@ mod Steps
 mod Finished
 mod Joins
 mod Alone
-mod Catching
+pub mod Catching
 mod Showing
 mod ByRegions
 mod Resting
@@ -29,25 +29,25 @@ mod ByThreads
 mod OtherThreads
 mod ForkedTurns
 mod ThreadsWait
-mod Ending
+pub mod Ending
 mod Reactions
 pub mod TicksKept
-mod Texts
+pub mod Texts
 mod Labels
-mod OwnNames
+pub mod OwnNames
 mod Behind
-mod Finding
+pub mod Finding
 mod Counting
-mod ActiveStates
-mod Rows
-mod Passing
-mod Walking
+pub mod ActiveStates
+pub mod Rows
+pub mod Passing
+pub mod Walking
 mod InitialFirst
 mod StateTexts
 mod InitialStates
 mod Among
 mod Whole
-mod Marking
+pub mod Marking
 mod Reading
 mod ReadingOff
 mod Forks
@@ -57,5 +57,5 @@ mod Depths
 mod Opening
 mod Supers
 pub mod Lowered
-mod Telling
+pub mod Telling
 mod Pausing

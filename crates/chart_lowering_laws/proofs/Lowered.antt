@@ -75,7 +75,7 @@ module _ (c : Chart) (p : Scl) (low : IsLowering c p) where
   pieces_rowed : Each Rowed (map piece_of_region c.regions)
   pieces_rowed = mapped Rowed piece_of_region c.regions rowed
 
-  many_states : length k.states ≡ states_in (map piece_of_region c.regions)
+  pub many_states : length k.states ≡ states_in (map piece_of_region c.regions)
   many_states = side_states (map piece_of_region c.regions) pieces_rowed whole
 
   many_regions : length k.regions ≡ regions_in (map piece_of_region c.regions)
@@ -118,22 +118,22 @@ module _ (c : Chart) (p : Scl) (low : IsLowering c p) where
 
   -- ---- the first thread
 
-  abbrev bodies : List (List Statement)
+  abbrev pub bodies : List (List Statement)
   bodies = branches (map low_of_region c.regions) 1
 
-  abbrev first : Numbers
+  abbrev pub first : Numbers
   first = record { node = 0; thread = 1; base = suc (in_row (pieces_of p.body)).counts.nodes; goto = 0 }
 
-  abbrev last : ℕ
+  abbrev pub last : ℕ
   last = 0 + (in_row (pieces_of p.body)).counts.nodes
 
-  abbrev bs : Branches
+  abbrev pub bs : Branches
   bs = branches_from (map (map piece_of) bodies) first
 
-  root_is : root ≡ Fork 0 bs (End last)
+  pub root_is : root ≡ Fork 0 bs (End last)
   root_is = ap (λ xs. made xs first (End last)) low.body ∙ ap (λ (x : Piece). x.made first (End last)) (fork_piece bodies)
 
-  first_place : MainPlace root keeps 0 (Fork 0 bs (End last))
+  pub first_place : MainPlace root keeps 0 (Fork 0 bs (End last))
   first_place = subst (MainPlace root keeps 0) root_is (main_whole root keeps)
 
   beside : OpenBeside k (marks c) root keeps top c.regions whole bs

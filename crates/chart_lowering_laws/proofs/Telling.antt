@@ -32,7 +32,7 @@ use Rattle.chart_lowering_laws.proofs.Leading.{holder_is}
 use Rattle.chart_lowering_laws.proofs.Pausing.{pauses_tell}
 use Rattle.chart_lowering_laws.proofs.Lowered.{k, root, top, l, keeps, settles, state_there, tree}
 
-abbrev is_fork : Block → Bool
+abbrev pub is_fork : Block → Bool
 is_fork (Fork n branches rest) = true
 is_fork other = false
 
@@ -44,14 +44,14 @@ abbrev first_of : List ℕ → ℕ
 first_of [] = zero
 first_of (x ∷ xs) = x
 
-taken_no_fork : (effects : List Effect) (name : List ℕ) (m : Numbers) (after : Block) →
+pub taken_no_fork : (effects : List Effect) (name : List ℕ) (m : Numbers) (after : Block) →
     is_fork (made (map assignment effects ++ statement.Goto name ∷ []) m after) ≡ false
 taken_no_fork [] name m after = ap (λ (p : Piece). is_fork (p.made m after)) (goto_piece name)
 taken_no_fork (e ∷ effects) name m after =
     let rest : List Statement = map assignment effects ++ statement.Goto name ∷ [] in
     ap (λ (p : Piece). is_fork (p.made m (made rest (beyond m p.counts) after))) (assign_piece e.variable e.value)
 
-tests_no_fork : (at : Targets) (ts all : List Transition) (n : ℕ) (m : Numbers) (after : Block) →
+pub tests_no_fork : (at : Targets) (ts all : List Transition) (n : ℕ) (m : Numbers) (after : Block) →
     is_fork (made (transitions at ts (depth at all n)) m after) ≡ false
 tests_no_fork at [] all n m after =
     let rest : List Statement = statement.Pause ∷ transitions at all (goto n ∷ []) in

@@ -1,12 +1,28 @@
 -- From the SCL program of a chart to its image.
-use Rattle.std.proofs.Common.{Result, Ok, Err, IfOk}
+use Rattle.std.proofs.Common.{◌≡◌, Result, Ok, Err, IfOk, ap, subst, ◌∙◌}
+use Rattle.core_charts.specs.declared.features.Features.TheVariants as features
 use Rattle.core_charts.specs.Chart.{Chart}
+use Rattle.core_charts.specs.Rules.{IsChart}
+use Rattle.abort_expansion.specs.Expansion.{IsExpandable, expanded}
+use Rattle.chart_lowering.specs.Lowering.{lowered}
 use Rattle.scl.specs.declared.program.Scl.{Scl}
 use Rattle.bytecode.specs.Image.{Image}
 use Rattle.compiler.specs.Texts.{IsImageOf, IsNotCompiled}
 use Rattle.compiler.specs.Charts.{IsSclOf, HasNoScl, IsImageOfChart, IsChartNotCompiled}
 use Rattle.compiler.specs.declared.fault.CompileFault.{CompileFault}
 use Rattle.compiler.specs.declared.fault.CompileFault.TheVariants as fault
+
+-- the lowering of the expansion is the program of the chart
+pub lowering_of : (chart core : Chart) (scl : Scl) → IsExpandable chart → core ≡ expanded chart → IsChart features.Core core → scl.name ≡ core.name →
+    scl.variables ≡ core.variables → scl.body ≡ lowered core → IsSclOf chart scl
+lowering_of chart core scl expandable same rules named declared body = record {
+  expandable = expandable;
+  core = subst (IsChart features.Core) same rules;
+  rules = scl.kept;
+  named = named ∙ ap (λ (c : Chart). c.name) same;
+  declared = declared ∙ ap (λ (c : Chart). c.variables) same;
+  body = body ∙ ap lowered same;
+}
 
 -- what is made of the program's image is the image of the chart
 pub image_of_chart : {E : Type 0} (chart : Chart) (scl : Scl) (r : Result Image E) → IsSclOf chart scl → IfOk r (IsImageOf scl) → IfOk r (IsImageOfChart chart)

@@ -1,18 +1,24 @@
 -- What compiling a chart gives: the image of its SCL program, or why it has none.
 use Rattle.std.specs.Prelude.{◌≡◌}
+use Rattle.core_charts.specs.declared.features.Features.TheVariants as features
 use Rattle.core_charts.specs.Chart.{Chart}
+use Rattle.core_charts.specs.Rules.{IsChart}
 use Rattle.abort_expansion.specs.Answers.{IsReason}
 use Rattle.abort_expansion.specs.Expansion.{IsExpandable, expanded}
 use Rattle.chart_lowering.specs.Lowering.{lowered}
 use Rattle.scl.specs.declared.program.Scl.{Scl}
+use Rattle.scl.specs.Rules.{KeepsRules}
 use Rattle.bytecode.specs.Image.{Image}
 use Rattle.compiler.specs.Texts.{IsImageOf, IsNotCompiled}
 use Rattle.compiler.specs.declared.fault.CompileFault.{CompileFault}
 use Rattle.compiler.specs.declared.fault.CompileFault.TheVariants as fault
 
--- the SCL program of a chart: the lowering of its expansion
+-- the SCL program of a chart: the lowering of its expansion. The expansion keeps the rules of core charts, and the program
+-- those of SCL
 pub record IsSclOf (chart : Chart) (scl : Scl) : Type 0 where
   pub expandable : IsExpandable chart
+  pub core : IsChart features.Core (expanded chart)
+  pub rules : ∥ KeepsRules scl.name scl.variables scl.body ∥₁
   pub named : scl.name ≡ (expanded chart).name
   pub declared : scl.variables ≡ (expanded chart).variables
   pub body : scl.body ≡ lowered (expanded chart)

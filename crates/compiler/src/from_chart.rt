@@ -14,6 +14,7 @@ use verifier::Verified;
 
 /// The SCL program of a chart: that to which its expansion is lowered. Err: the expansion passes a limit (E07);
 /// or memory was refused.
+#[tactic(auto, using(crate::proofs::Charts::lowering_of))]
 pub fn scl_of_chart(alloc: Global, chart: &Chart) -> Result<Scl, CompileFault>
     ensures scl { IfOk result (IsSclOf chart.now) }
     ensures refused { IfErr result (HasNoScl chart.now) }
@@ -22,6 +23,8 @@ pub fn scl_of_chart(alloc: Global, chart: &Chart) -> Result<Scl, CompileFault>
         Ok(expansion) => expansion,
         Err(fault) => return Err(CompileFault::Expansion(fault)),
     };
+    // It keeps the rules of core charts.
+    let _regions = core.regions();
     match lower(alloc, &core) {
         Ok(scl) => Ok(scl),
         Err(_) => Err(CompileFault::Expansion(ExpandFault::Memory)),

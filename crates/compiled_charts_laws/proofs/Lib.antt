@@ -1,0 +1,9 @@
+mod NodeCounts
+mod StateCounts
+mod Walking
+mod Regions
+mod Reading
+pub mod Told
+mod Resting
+pub mod Ticks
+pub mod Plain
