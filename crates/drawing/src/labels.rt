@@ -3,7 +3,7 @@
 ghost use Rattle.std.specs.Prelude.{◌≡◌, IfOk, string_bytes};
 ghost use Rattle.scl_printer.specs.Expressions.{variable_text};
 ghost use Rattle.drawing.specs.Labels.{effect_text, effects_text, further_text, immediate_text, kind_text};
-ghost use Rattle.drawing.specs.Labels.{transition_text, trigger_text};
+ghost use Rattle.drawing.specs.Labels.{line_text, tail_text, transition_text, trigger_text};
 
 use core_charts::{Effect, Transition, TransitionKind};
 use sc_graph::{Variable, VariableId};
@@ -15,11 +15,30 @@ fn kind_text(kind: TransitionKind) -> &'static str
     ensures { result.now ≡ kind_text kind }
 {
     match kind {
-        TransitionKind::Go => "go",
-        TransitionKind::Strong => "strong",
-        TransitionKind::Weak => "weak",
-        TransitionKind::Join => "join",
+        TransitionKind::Go => "",
+        TransitionKind::Strong => " strong",
+        TransitionKind::Weak => " weak",
+        TransitionKind::Join => " join",
     }
+}
+
+/// How the tail of a transition's arrow is drawn.
+pub(crate) fn tail_text(kind: TransitionKind) -> &'static str
+    ensures { result.now ≡ tail_text kind }
+{
+    match kind {
+        TransitionKind::Go => "",
+        TransitionKind::Strong => ", dir=\"both\", arrowtail=\"dot\", color=\"red3\"",
+        TransitionKind::Weak => ", dir=\"both\", arrowtail=\"odot\", color=\"orange3\"",
+        TransitionKind::Join => ", dir=\"both\", arrowtail=\"invempty\", color=\"green4\"",
+    }
+}
+
+/// How the line of a transition's arrow is drawn.
+pub(crate) fn line_text(immediate: bool) -> &'static str
+    ensures { result.now ≡ line_text immediate }
+{
+    if immediate { ", style=\"dashed\"" } else { "" }
 }
 
 fn immediate_text(immediate: bool) -> &'static str
@@ -71,7 +90,7 @@ fn effect_text(alloc: Global, variables: &[Variable], effect: &Effect) -> Result
     format!(in alloc; "{name} = {value}")
 }
 
-// The effects behind the first, each with a comma before it.
+// The effects behind the first, each in a line of its own.
 fn further_text(
     alloc: Global,
     variables: &[Variable],
@@ -82,7 +101,7 @@ fn further_text(
     let mut text = String::new(alloc);
     for effect in effects {
         let one = effect_text(alloc, variables, effect)?;
-        text.push_str(", ")?;
+        text.push_str(",\\n")?;
         text.push_str(one.as_str())?;
     }
     Ok(text)
@@ -101,22 +120,24 @@ fn effects_text(
         [first, rest @ ..] => {
             let one = effect_text(alloc, variables, first)?;
             let others = further_text(alloc, variables, rest)?;
-            format!(in alloc; " do {one}{others}")
+            format!(in alloc; "\\ndo {one}{others}")
         }
     }
 }
 
-/// A transition in the words of chart text, without its target. Err: memory was refused.
+/// The transition with this number among those of its state, in the words of chart text, without its target. Err:
+/// memory was refused.
 pub(crate) fn transition_text(
     alloc: Global,
     variables: &[Variable],
+    number: u32,
     transition: &Transition,
 ) -> Result<String, AllocError>
-    ensures { IfOk result (λ text. string_bytes text ≡ transition_text variables.now transition.now) }
+    ensures { IfOk result (λ text. string_bytes text ≡ transition_text variables.now number transition.now) }
 {
     let kind = kind_text(transition.kind);
     let immediate = immediate_text(transition.immediate);
     let trigger = trigger_text(alloc, variables, transition)?;
     let effects = effects_text(alloc, variables, transition.effects.as_slice())?;
-    format!(in alloc; "{kind}{immediate}{trigger}{effects}")
+    format!(in alloc; "{number}:{kind}{immediate}{trigger}{effects}")
 }

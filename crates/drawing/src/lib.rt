@@ -6,6 +6,8 @@ mod graphs;
 mod labels;
 mod protocol;
 mod regions;
+mod stacking;
+mod variables;
 
 pub use graphs::graph_drawing;
 pub use regions::chart_drawing;

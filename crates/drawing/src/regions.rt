@@ -1,14 +1,20 @@
 //! The drawing of a chart: a cluster for each region and each superstate, a node for each simple state, an arrow for
-//! each transition. A superstate has a point inside, at which its arrows begin and end; they are cut at its border.
+//! each transition. A superstate has a point inside, which is not seen, at which its arrows begin and end; they are cut at
+//! its border.
 
 ghost use Rattle.std.specs.Prelude.{IfOk, string_bytes};
 ghost use Rattle.drawing.specs.Drawing.{IsDrawing};
 
-use crate::labels::transition_text;
+use crate::labels::{line_text, tail_text, transition_text};
+use crate::stacking::put_stacks;
+use crate::variables::put_variables;
 use core_charts::{Chart, Region, State, Transition};
 use sc_graph::Variable;
 use sqlite_items::at;
 use std::alloc::{AllocError, Global};
+
+const FONTS: &str =
+    "node [fontname=\"Helvetica\", fontsize=11];\nedge [fontname=\"Helvetica\", fontsize=10];\n";
 
 // How a state's border is drawn.
 fn border(state: &State) -> &'static str {
@@ -43,16 +49,23 @@ fn arrow(
     states: &[State],
     path: &str,
     from: u32,
+    number: u32,
     transition: &Transition,
 ) -> Result<String, AllocError> {
-    let label = transition_text(alloc, variables, transition)?;
+    let label = transition_text(alloc, variables, number, transition)?;
+    let kind = tail_text(transition.kind);
+    let line = line_text(transition.immediate);
     let to = transition.target;
     if from == to {
-        return format!(in alloc; "\"{path}_{from}\" -> \"{path}_{to}\" [label=\"{label}\"];\n");
+        return format!(in alloc;
+            "\"{path}_{from}\" -> \"{path}_{to}\" [label=\"{label}\"{kind}{line}];\n"
+        );
     }
     let tail = cut(alloc, "ltail", at(states, from as usize), path, from)?;
     let head = cut(alloc, "lhead", at(states, to as usize), path, to)?;
-    format!(in alloc; "\"{path}_{from}\" -> \"{path}_{to}\" [label=\"{label}\"{tail}{head}];\n")
+    format!(in alloc;
+        "\"{path}_{from}\" -> \"{path}_{to}\" [label=\"{label}\"{kind}{line}{tail}{head}];\n"
+    )
 }
 
 // Puts the lines of the transitions of a state behind a text.
@@ -65,9 +78,11 @@ fn put_arrows(
     from: u32,
     state: &State,
 ) -> Result<(), AllocError> {
+    let mut number: u32 = 1;
     for transition in state.transitions.as_slice() {
-        let line = arrow(alloc, variables, states, path, from, transition)?;
+        let line = arrow(alloc, variables, states, path, from, number, transition)?;
         text.push_str(line.as_str())?;
+        number = number.saturating_add(1);
     }
     Ok(())
 }
@@ -133,7 +148,7 @@ fn put_state(
         return Ok(());
     }
     let opening = format!(in alloc;
-        "subgraph \"cluster_{path}\" {{\nlabel=\"{name}\";\nstyle=\"rounded,{border}\";\n\"{path}\" [shape=\"point\"];\n"
+        "subgraph \"cluster_{path}\" {{\nlabel=\"{name}\";\nstyle=\"rounded,{border}\";\n\"{path}\" [shape=\"point\", style=\"invis\", width=0];\n"
     )?;
     text.push_str(opening.as_str())?;
     let mut number: u32 = 0;
@@ -143,24 +158,29 @@ fn put_state(
         number = number.saturating_add(1);
     }
     text.push_str("}\n")?;
-    Ok(())
+    let inside = format!(in alloc; "{path}_")?;
+    put_stacks(alloc, text, state.regions.as_slice(), inside.as_str())
 }
 
-// What stands in the drawing of a chart: its title, and the clusters of its regions.
+// What stands in the drawing of a chart: its title, its variables, and the clusters of its regions.
 fn chart_body(alloc: Global, chart: &Chart) -> Result<String, AllocError> {
     let name = chart.name();
-    let mut text = format!(in alloc; "label=\"{name}\";\ncompound=\"true\";\n")?;
+    let mut text = format!(in alloc; "label=\"{name}\";\ncompound=\"true\";\n{FONTS}")?;
+    put_variables(alloc, &mut text, chart.variables())?;
     let mut number: u32 = 0;
     for region in chart.regions() {
         let path = format!(in alloc; "{number}")?;
         put_region(region, alloc, &mut text, chart.variables(), path.as_str())?;
         number = number.saturating_add(1);
     }
+    put_stacks(alloc, &mut text, chart.regions(), "")?;
     Ok(text)
 }
 
 /// A chart as Graphviz text: regions and superstates are clusters, simple states nodes, and each transition an arrow
-/// with its words. Initial states have a bold border, final ones two. Err: memory was refused.
+/// with its number, in the order in which its state tests them, and its words. Initial states have a bold border, final
+/// ones two; strong aborts begin with a red disc, weak ones with an orange circle, terminations with a green triangle;
+/// immediate transitions are dashed. The regions of a state stand below one another. Err: memory was refused.
 pub fn chart_drawing(alloc: Global, chart: &Chart) -> Result<String, AllocError>
     ensures { IfOk result (λ text. IsDrawing chart.now.name (string_bytes text)) }
 {
