@@ -3,6 +3,7 @@
 #![tactic(auto)]
 
 mod behind;
+mod laws;
 mod numbers;
 mod origin;
 mod regions;
@@ -10,6 +11,7 @@ mod states;
 mod transitions;
 
 pub use behind::counted;
+pub use laws::origins_tell_points;
 pub use numbers::Numbers;
 pub use origin::PointOrigin;
 pub use regions::point_origins;

@@ -1,0 +1,4 @@
+mod Held
+mod Single
+mod Moving
+mod Telling

@@ -1,0 +1,111 @@
+-- The points of transitions, and of states without what is inside them.
+use Rattle.std.proofs.Common.{◌≡◌, ℕ, suc, ◌+◌, Bool, true, false, cond, if◌then◌else◌, Option, Some, None, List, [], ◌∷◌, ◌++◌, map}
+use Rattle.std.proofs.Common.{length, slice_get, refl, sym, ap, subst, ◌∙◌}
+use Rattle.std.proofs.lemmas.List.{append-nil}
+use Rattle.sc_values.specs.declared.expression.Expr.{Expr}
+use Rattle.core_charts.specs.declared.region.Effect.{Effect}
+use Rattle.core_charts.specs.declared.region.Transition.{Transition}
+use Rattle.core_charts.specs.Tests.{at_once, is_join, terminations}
+use Rattle.scl.specs.declared.statement.Statement.{Statement}
+use Rattle.scl.specs.declared.statement.Statement.TheVariants as statement
+use Rattle.chart_lowering.specs.declared.targets.Targets.{Targets}
+use Rattle.chart_lowering.specs.Lowering.{assignment, goto, label, label_at, label_name}
+use Rattle.chart_lowering.specs.Lowering as low
+use Rattle.graph_origins.specs.Points.{Assigns, Jumps, Marks, Pauses, Point}
+use Rattle.lowering_origins.specs.declared.origin.PointOrigin.{PointOrigin}
+use Rattle.lowering_origins.specs.declared.origin.PointOrigin.TheVariants as part
+use Rattle.lowering_origins.specs.declared.numbers.Numbers.{Numbers}
+use Rattle.lowering_origins.specs.Numbers.{behind_transition}
+use Rattle.lowering_origins.specs.Origins.{Origins, behind_fork, depth, effects, final, simple, taken, tested, transitions}
+use Rattle.lowering_origins.specs.Laws.{IsFrom, all_effects}
+use Rattle.lowering_origins.proofs.Held.{AllFrom, At, Held, from_append}
+use Rattle.lowering_origins.proofs.Single.{assign_points, from_first, goto_points, if_points, label_points, pause_points, points_in}
+
+-- effects, and the goto of the transition of number k
+effects_from : (all : List Transition) (t : Transition) (k : ℕ) → slice_get all k ≡ Some t → (name : List ℕ) (own : List Effect) (m : ℕ) →
+    At (all_effects all) m own →
+    AllFrom all (effects own m ++ part.Transition k ∷ []) (points_in (map assignment own ++ statement.Goto name ∷ []))
+effects_from all t k there name [] m h =
+    from_first all (part.Transition k) (statement.Goto name) (Jumps name) [] [] (goto_points name) (record { transition = t; there = there }) tt
+effects_from all t k there name (e ∷ own) m h =
+    from_first all (part.Effect m) (assignment e) (Assigns e.variable e.value) (effects own (suc m) ++ part.Transition k ∷ [])
+    (map assignment own ++ statement.Goto name ∷ [])
+    (assign_points e.variable e.value) h.0 (effects_from all t k there name own (suc m) h.1)
+
+pub taken_from : (all : List Transition) (to : Targets) (t : Transition) (at : Numbers) → slice_get all at.transition ≡ Some t →
+    At (all_effects all) at.effect t.effects → AllFrom all (taken t at) (points_in (low.taken to t))
+taken_from all to t at there h = effects_from all t at.transition there (label_at to t.target) t.effects at.effect h
+
+tested_from : (all : List Transition) (to : Targets) (t : Transition) (at : Numbers) → slice_get all at.transition ≡ Some t →
+    At (all_effects all) at.effect t.effects → (o : Option Expr) → t.trigger ≡ o → (rest : Origins) (others : List Statement) →
+    AllFrom all rest (points_in others) →
+    AllFrom all (tested o at.transition (taken t at) rest) (points_in (low.tested o (low.taken to t) others))
+tested_from all to t at there h None is rest others later = taken_from all to t at there h
+tested_from all to t at there h (Some e) is rest others later =
+    let does : List Statement = low.taken to t in
+    subst (λ ps. AllFrom all (part.Transition at.transition ∷ (taken t at ++ rest)) (ps ++ points_in others)) (sym (if_points e does [])) (
+      (t, there, is),
+      from_append all (taken t at) rest (points_in does ++ []) (points_in others)
+          (subst (AllFrom all (taken t at)) (sym (append-nil (points_in does))) (taken_from all to t at there h)) later,
+    )
+
+-- all transitions of a state
+pub transitions_from : (all : List Transition) (to : Targets) (own : List Transition) (at : Numbers) →
+    Held all at.transition at.effect own → (rest : Origins) (others : List Statement) → AllFrom all rest (points_in others) →
+    AllFrom all (transitions false own at rest) (points_in (low.transitions to own others))
+transitions_from all to [] at h rest others later = later
+transitions_from all to (t ∷ own) at h rest others later =
+    tested_from all to t at h.0 h.1.0 t.trigger refl (transitions false own (behind_transition t at) rest) (low.transitions to own others)
+    (transitions_from all to own (behind_transition t at) h.1.1 rest others later)
+
+-- the immediate ones
+pub surface_from : (all : List Transition) (to : Targets) (own : List Transition) (at : Numbers) →
+    Held all at.transition at.effect own → (rest : Origins) (others : List Statement) → AllFrom all rest (points_in others) →
+    AllFrom all (transitions true own at rest) (points_in (low.transitions to (at_once own) others))
+surface_from all to [] at h rest others later = later
+surface_from all to (t ∷ own) at h rest others later = by t.immediate (surface_from all to own (behind_transition t at) h.1.1 rest others later)
+  where
+    by : (b : Bool) →
+        AllFrom all (transitions true own (behind_transition t at) rest) (points_in (low.transitions to (at_once own) others)) →
+        AllFrom all (if b then tested t.trigger at.transition (taken t at) (transitions true own (behind_transition t at) rest)
+        else transitions true own (behind_transition t at) rest)
+        (points_in (low.transitions to (cond b (t ∷ at_once own) (at_once own)) others))
+    by true further =
+        tested_from all to t at h.0 h.1.0 t.trigger refl (transitions true own (behind_transition t at) rest)
+        (low.transitions to (at_once own) others) further
+    by false further = further
+
+pub depth_from : (all : List Transition) (to : Targets) (own : List Transition) (at : Numbers) → Held all at.transition at.effect own → (n : ℕ) →
+    AllFrom all (depth own at) (points_in (low.depth to own n))
+depth_from all to own at h n =
+    let s : PointOrigin = part.State at.state in
+    let rest : List Statement = low.transitions to own (goto n ∷ []) in
+    from_first all s (label n) (Marks (label_name n)) (s ∷ transitions false own at (s ∷ [])) (statement.Pause ∷ rest) (label_points (label_name n))
+    tt
+    (from_first all s statement.Pause Pauses (transitions false own at (s ∷ [])) rest pause_points tt
+    (transitions_from all to own at h (s ∷ []) (goto n ∷ [])
+    (from_first all s (goto n) (Jumps (label_name n)) [] [] (goto_points (label_name n)) tt tt)))
+
+pub simple_from : (all : List Transition) (to : Targets) (own : List Transition) (at : Numbers) → Held all at.transition at.effect own → (n : ℕ) →
+    AllFrom all (simple own at) (points_in (low.simple to own n))
+simple_from all to own at h n =
+    from_first all (part.State at.state) (label n) (Marks (label_name n)) (transitions true own at (depth own at))
+    (low.transitions to (at_once own) (low.depth to own (suc n))) (label_points (label_name n)) tt
+    (surface_from all to own at h (depth own at) (low.depth to own (suc n)) (depth_from all to own at h (suc n)))
+
+pub final_from : (all : List Transition) (to : Targets) (at : Numbers) (n : ℕ) → AllFrom all (final at) (points_in (low.final to n))
+final_from all to at n =
+    let s : PointOrigin = part.State at.state in
+    from_first all s (label n) (Marks (label_name n)) (s ∷ []) (statement.Goto to.end ∷ []) (label_points (label_name n)) tt
+    (from_first all s (statement.Goto to.end) (Jumps to.end) [] [] (goto_points to.end) tt tt)
+
+pub behind_from : (all : List Transition) (to : Targets) (own : List Transition) (at : Numbers) → Held all at.transition at.effect own → (n : ℕ) →
+    AllFrom all (behind_fork own at) (points_in (low.behind to (terminations own) n))
+behind_from all to [] at h n = depth_from all to [] at tt n
+behind_from all to (t ∷ own) at h n = by (is_join t.kind) (behind_from all to own (behind_transition t at) h.1.1 n)
+  where
+    by : (b : Bool) → AllFrom all (behind_fork own (behind_transition t at)) (points_in (low.behind to (terminations own) n)) →
+        AllFrom all (if b then taken t at else behind_fork own (behind_transition t at))
+        (points_in (low.behind to (cond b (t ∷ terminations own) (terminations own)) n))
+    by true further = taken_from all to t at h.0 h.1.0
+    by false further = further
