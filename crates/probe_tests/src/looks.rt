@@ -1,4 +1,4 @@
-// What an observer sees before and after ticks, with and without a note, and after the end.
+//! What an observer sees before and after ticks, with and without a note, and after the end.
 ghost use Rattle.std.specs.Prelude.{◌≡◌};
 
 use crate::shows::{expect, shows};

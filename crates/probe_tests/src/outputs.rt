@@ -1,4 +1,4 @@
-// Which outputs a tick ends with.
+//! Which outputs a tick ends with.
 use crate::shows::{are, end_with, expect};
 use bytecode::Image;
 use samples::{Declared, Small, X, Y, ends, image_of, thread_of};

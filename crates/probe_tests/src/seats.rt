@@ -1,4 +1,4 @@
-// How many observers there are.
+//! How many observers there are.
 use crate::shows::{expect, shows};
 use crate::trials::{Trial, tries};
 use probe::{NoSeat, Observer, Publisher, TickEnd};

@@ -1,4 +1,4 @@
-// What the tests share: the end of a tick, and what a look shows.
+//! What the tests share: the end of a tick, and what a look shows.
 ghost use Rattle.probe.specs.Progress.{Extends};
 
 use probe::{Observer, Output, TickEnd};

@@ -1,4 +1,4 @@
-// An observer in a thread of its own, while ticks are published.
+//! An observer in a thread of its own, while ticks are published.
 use crate::shows::shows;
 use crate::trials::{Trial, tries};
 use probe::{Observer, Publisher, TickEnd};

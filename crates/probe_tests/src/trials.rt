@@ -1,4 +1,4 @@
-// What is tried with a publisher, over the image of `fork { x = 1; } par { y = x; } join;`.
+//! What is tried with a publisher, over the image of `fork { x = 1; } par { y = x; } join;`.
 use crate::looks::{looked_once, notes_show};
 use crate::seats::eight_look;
 use crate::shows::{end_with, expect, shows};

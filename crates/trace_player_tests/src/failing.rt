@@ -1,4 +1,4 @@
-// Sources and sinks that fail at their kth call, for each k.
+//! Sources and sinks that fail at their kth call, for each k.
 use crate::observed::{Wanted, tries};
 use sc_values::Plan;
 use std::alloc::Global;

@@ -1,4 +1,4 @@
-// A trace whose steps pass a gate that watches them.
+//! A trace whose steps pass a gate that watches them.
 use crate::traces::{Wanted, plays};
 use samples::wrapping_sum;
 use sc_graph::ThreadId;

@@ -1,4 +1,4 @@
-// What is written of an input, and what observers see of its ticks.
+//! What is written of an input, and what observers see of its ticks.
 ghost use Rattle.std.specs.Prelude.{◌≡◌, ◌<◌, ◌≤◌};
 
 use bytecode::decode;

@@ -1,4 +1,4 @@
-// Traces by `play`, and what it answers.
+//! Traces by `play`, and what it answers.
 ghost use Rattle.std.specs.Prelude.{◌≡◌, ◌<◌, ◌≤◌};
 
 use bytecode::decode;

@@ -1,4 +1,4 @@
-// Ticks whose steps pass a gate that watches them.
+//! Ticks whose steps pass a gate that watches them.
 use crate::ticks::tick;
 use bytecode::Image;
 use samples::{branches, wrapping_sum, write_and_read};

@@ -1,4 +1,4 @@
-// Whole ticks, by 1 to 8 workers.
+//! Whole ticks, by 1 to 8 workers.
 ghost use Rattle.std.specs.Prelude.{◌≤◌};
 
 use bytecode::{Image, decode};
