@@ -118,10 +118,27 @@ def random_program(seed, size):
     return [("fork", [generator.body(3) for _ in range(generator.random.choice([2, 3, 4]))]), *generator.body(4)]
 
 
-def text_of_expression(e, variables=VARIABLES):
+def is_enclosed(a, parent, each):
+    """Whether an operand stands in parentheses: each operation does, or (not `each`) those that do not read without."""
+    if a[0] in ("value", "load", "min", "max"):
+        return False
+    return each or not (a[0] == "negate" or (a[0] == "not" and parent in ("not", "and", "or")))
+
+
+def most_open(e, each):
+    """The most parentheses and prefix operators that are open at once in an expression as it is printed."""
+    operands = [a for a in e[1:] if isinstance(a, tuple)]
+    inside = max((most_open(a, each) + is_enclosed(a, e[0], each) for a in operands), default=0)
+    return inside + (e[0] in ("negate", "not", "min", "max"))
+
+
+def text_of_expression(e, variables=VARIABLES, each=None):
+    """The text of an expression: each operand that is an operation in parentheses, unless a reader takes not so many."""
+    if each is None:
+        each = most_open(e, True) <= 64
     def operand(a):
-        text = text_of_expression(a, variables)
-        return text if a[0] in ("value", "load", "min", "max") else f"({text})"
+        text = text_of_expression(a, variables, each)
+        return f"({text})" if is_enclosed(a, e[0], each) else text
     name = e[0]
     if name == "value":
         return str(e[1]).lower() if isinstance(e[1], bool) else str(e[1])

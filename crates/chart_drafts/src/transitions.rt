@@ -65,8 +65,8 @@ fn placed(alloc: Global, ahead: &mut Ahead, end: usize) -> Result<TextExpression
         (λ fault. Stops end (read (placed (expression 0)) ahead.old.tokens.now) fault) }
 {
     let start = place(ahead.tokens, end);
-    let mut operations = Items::new(alloc);
-    ahead.tokens = expression(ahead.tokens, end, &mut operations)?;
+    let (operations, rest) = expression(alloc, ahead.tokens, end)?;
+    ahead.tokens = rest;
     Ok(TextExpression { start, operations })
 }
 

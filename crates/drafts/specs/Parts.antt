@@ -24,10 +24,14 @@ named t = record { name = name_of t.kind; at = t.at }
 abbrev pub role_of : TokenKind → Role
 role_of (token.Word word.Input) = role.Input
 role_of (token.Word word.Output) = role.Output
+role_of (token.Word word.Local) = role.Local
+-- no other token stands there
 role_of k = role.Local
 
 abbrev pub kind_of : TokenKind → Kind
 kind_of (token.Word word.Bool) = of_kind.Bool
+kind_of (token.Word word.Int) = of_kind.Int
+-- no other token stands there
 kind_of k = of_kind.Int
 
 -- what stands there, or nothing

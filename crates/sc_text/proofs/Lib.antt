@@ -19,3 +19,4 @@ pub mod OneLongest
 pub mod OneMeaning
 pub mod OneCut
 pub mod OneReading
+mod Longer

@@ -120,6 +120,10 @@ unfoldable pub within : ℕ → Inner
 within zero = NoMore
 within (suc n) = Nested (disjunction (within n)) (negation (within n)) (unary (within n))
 
--- an expression, where k more than 64 of them may be open
+-- the parentheses and prefix operators that may be open at once
+abbrev pub open_limit : ℕ
+open_limit = 64
+
+-- an expression, where k more of them may be open
 unfoldable pub expression : ℕ → Grammar text_tokens Phrase
-expression k = disjunction (within (64 + k))
+expression k = disjunction (within (open_limit + k))

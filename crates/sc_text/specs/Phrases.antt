@@ -32,8 +32,10 @@ operator_of (kind.Sign sign.Less) = binary.Less
 operator_of (kind.Sign sign.LessOrEqual) = binary.LessOrEqual
 operator_of (kind.Sign sign.Greater) = binary.Greater
 operator_of (kind.Sign sign.GreaterOrEqual) = binary.GreaterOrEqual
+operator_of (kind.Sign sign.Plus) = binary.Add
 operator_of (kind.Sign sign.Minus) = binary.Subtract
 operator_of (kind.Sign sign.Star) = binary.Multiply
+-- no other token stands there
 operator_of k = binary.Add
 
 -- an operator with its right operand, behind the left one
@@ -72,7 +74,9 @@ signed false n = n
 signed true n = neg_ℤ n
 
 abbrev pub division_of : TokenKind → Divisor → UnaryOperator
+division_of (kind.Sign sign.Slash) d = unary.Divide d
 division_of (kind.Sign sign.Percent) d = unary.Remainder d
+-- no other token stands there
 division_of k d = unary.Divide d
 
 abbrev pub divided : Token → Option Divisor → Phrase

@@ -18,25 +18,26 @@ use crate::token::Token;
 use crate::word::Word;
 use sc_values::UnaryOperator;
 use sqlite_items::Items;
+use std::alloc::Global;
 
 /// The parentheses and prefix operators that may be open at once.
 pub const OPEN_LIMIT: u8 = 64;
 
-/// Reads an expression from the front of the tokens, and puts its operations behind the others. The tokens
-/// are of a text of `end` bytes. Gives the tokens behind it. Err: the fault at the first token that can't
-/// go on, or memory was refused.
+/// Reads an expression from the front of the tokens, which are of a text of `end` bytes. Gives its operations
+/// and the tokens behind it. Err: the fault at the first token that can't go on, or memory was refused.
 #[tactic(auto, using(crate::proofs::Nesting::expression_stops, crate::proofs::Nesting::expression_reads))]
-pub fn expression<'a>(
-    tokens: &'a [Token],
+pub fn expression(
+    alloc: Global,
+    tokens: &[Token],
     end: usize,
-    code: &mut Items<TextOperation>,
-) -> Result<&'a [Token], ReadFault>
+) -> Result<(Items<TextOperation>, &[Token]), ReadFault>
     ensures { MatchResult result
-        (λ rest. Reads (read (expression 0) tokens.now) code.old code.new rest.now)
+        (λ p. Reads (read (expression 0) tokens.now) [] p.0 p.1.now)
         (λ fault. Stops end (read (expression 0) tokens.now) fault) }
 {
-    let rest = chain(Level::Disjunction, OPEN_LIMIT, tokens, end, code)?;
-    Ok(rest)
+    let mut code = Items::new(alloc);
+    let rest = chain(Level::Disjunction, OPEN_LIMIT, tokens, end, &mut code)?;
+    Ok((code, rest))
 }
 
 // All operands of a level.

@@ -5,7 +5,8 @@ ghost use Rattle.sc_text.specs.Laws.{ExpressionsAreTold, TextsAreCutOnce};
 /// Reading the tokens of a text by the grammar of expressions tells the one expression that they spell,
 /// exactly where they spell one, and else their one fault: a token after which no expression can go on,
 /// the end where none may end, or a token with which only expressions go on that are nested too deep.
-/// This function does nothing; its contract is the law.
+/// An expression that begins a longer text is read up to a token by which it can't go on. This function
+/// does nothing; its contract is the law.
 pub fn expressions_are_told()
     ensures { ExpressionsAreTold }
 {}

@@ -8,7 +8,7 @@ use sc_values::Name;
 use sqlite_items::Items;
 
 /// A program: its variables, named by their numbers, and the statements of its first thread. It keeps the
-/// rules and limits of SCL, so that a text of it can be written and read again.
+/// rules and limits of SCL, those that texts have among them.
 #[derive(Debug, Drop)]
 pub struct Scl {
     pub name: Name,

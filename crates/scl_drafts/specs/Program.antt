@@ -15,6 +15,7 @@ use Rattle.sc_text.specs.declared.token.Token.{Token}
 use Rattle.sc_text.specs.Classes.{Class, AName, TheWord, TheSign}
 use Rattle.sc_text.specs.Phrases.{Phrase}
 use Rattle.sc_text.specs.Expression.{text_tokens, after, before, expression}
+use Rattle.scl.specs.Rules.{fork_limit, if_limit}
 use Rattle.scl_drafts.specs.declared.statement.TextStatement.{TextStatement}
 use Rattle.scl_drafts.specs.Statements.{Statements, AfterName, Becomes, IsLabel, named_statement, goto_statement, pause_statement, if_statement, fork_statement}
 
@@ -110,4 +111,4 @@ program s =
 
 -- the texts of programs, with k more levels of parentheses, forks and ifs than are allowed
 unfoldable pub scl : ℕ → Grows Text
-scl k = program (thread (expression k) (32 + k) (32 + k))
+scl k = program (thread (expression k) (if_limit + k) (fork_limit + k))

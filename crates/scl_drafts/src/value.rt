@@ -11,7 +11,6 @@ ghost use Rattle.scl_drafts.specs.Inside.{TakesValue};
 use drafts::TextExpression;
 use sc_text::ahead::{past_sign, place};
 use sc_text::{ReadFault, Sign, Token, expression};
-use sqlite_items::Items;
 use std::alloc::Global;
 
 /// An expression up to the sign that closes it, and the tokens behind the sign.
@@ -28,8 +27,7 @@ pub fn value(
         (λ fault. Stops end (read (before (headed (expression 0)) (TheSign closing ∷ [])) tokens.now) fault) }
 {
     let start = place(tokens, end);
-    let mut operations = Items::new(alloc);
-    let rest = expression(tokens, end, &mut operations)?;
+    let (operations, rest) = expression(alloc, tokens, end)?;
     let after = past_sign(rest, end, closing)?;
     Ok((TextExpression { start, operations }, after))
 }

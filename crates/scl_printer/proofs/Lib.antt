@@ -1,5 +1,7 @@
 mod Written
+mod ShownTrees
+mod OpenTrees
+mod Opening
 mod Shown
 mod Nested
 mod Rows
-mod ShownTrees

@@ -1,6 +1,7 @@
 -- Rows of what is printed.
-use Rattle.std.proofs.Common.{◌≡◌, pos, negsuc, true, List, [], ◌∷◌, ◌++◌, ℕ, codes, refl, ap, ◌∙◌}
+use Rattle.std.proofs.Common.{◌≡◌, pos, negsuc, true, if◌then◌else◌, List, [], ◌∷◌, ◌++◌, ℕ, codes, refl, ap, ◌∙◌}
 use Rattle.std.specs.Fmt.{digits}
+use Rattle.sc_values.specs.declared.value.Value.{Value}
 use Rattle.sc_values.specs.declared.value.Value.TheVariants as value
 use Rattle.sc_values.specs.declared.value.Kind.TheVariants as kind
 use Rattle.sc_values.specs.declared.divisor.Divisor.{Divisor}
@@ -9,6 +10,7 @@ use Rattle.sc_values.specs.declared.operator.UnaryOperator.TheVariants as unary
 use Rattle.sc_values.specs.declared.operator.BinaryOperator.{BinaryOperator}
 use Rattle.sc_values.specs.declared.operator.BinaryOperator.TheVariants as binary
 use Rattle.sc_values.specs.declared.expression.Expr.{Expr}
+use Rattle.sc_values.specs.declared.expression.Expr.TheOpen.{Expr-F}
 use Rattle.sc_values.specs.declared.expression.Expr.TheOpen as tree
 use Rattle.sc_graph.specs.declared.program.Variable.{Variable}
 use Rattle.sc_graph.specs.declared.program.Role.TheVariants as role
@@ -17,8 +19,12 @@ use Rattle.scl.specs.declared.statement.Statement.{Statement}
 use Rattle.scl.specs.declared.statement.Statement.TheOpen as text
 use Rattle.scl.specs.declared.statement.Statement.TheVariants as statement
 use Rattle.scl.specs.Rules.{KeepsRules}
-use Rattle.scl_printer.proofs.Shown.{shown_unary, shown_binary, shown_load, shown_literal, text_of_assign, text_of_if, text_of_pause}
-use Rattle.scl_printer.specs.Expressions.{Shown, shown, shown_step, expression_text}
+use Rattle.scl_printer.specs.declared.parentheses.Parentheses.TheVariants as parentheses
+use Rattle.scl_printer.proofs.ShownTrees.{shown_unary, shown_binary, shown_load, shown_literal}
+use Rattle.scl_printer.proofs.OpenTrees.{opens_unary, opens_binary, opens_load, opens_literal}
+use Rattle.scl_printer.proofs.Shown.{text_of_assign, text_of_if, text_of_pause}
+use Rattle.scl_printer.specs.Expressions.{Shown, Opens, shown, shown_step, opens, opens_step, parentheses_of, expression_text}
+use Rattle.sc_text.specs.Expression.{open_limit}
 use Rattle.scl_printer.specs.Layout.{Piece, line, declarations_text, statement_step, statement_text, statements_text, in_row, text_of}
 
 abbrev variables : List Variable
@@ -34,22 +40,22 @@ declared = refl
 -- ---- expressions
 
 abbrev a : Shown
-a = shown_step variables (tree.Load 0)
+a = shown_step parentheses.Each variables (tree.Load 0)
 
 abbrev x : Shown
-x = shown_step variables (tree.Load 1)
+x = shown_step parentheses.Each variables (tree.Load 1)
 
 abbrev one : Shown
-one = shown_step variables (tree.Literal (value.Int (pos 1)))
+one = shown_step parentheses.Each variables (tree.Literal (value.Int (pos 1)))
 
 abbrev minus : Shown → Shown
-minus e = shown_step variables (tree.Unary unary.Negate e)
+minus e = shown_step parentheses.Each variables (tree.Unary unary.Negate e)
 
 abbrev no : Shown → Shown
-no e = shown_step variables (tree.Unary unary.Not e)
+no e = shown_step parentheses.Each variables (tree.Unary unary.Not e)
 
 abbrev by : Shown → BinaryOperator → Shown → Shown
-by e f g = shown_step variables (tree.Binary f e g)
+by e f g = shown_step parentheses.Each variables (tree.Binary f e g)
 
 one_text : one.text ≡ codes "1"
 unfolding digits
@@ -59,7 +65,8 @@ product : (by (minus (by a binary.Add one)) binary.Multiply x).text ≡ codes "(
 unfolding digits
 product = refl
 
-conjunction : (by (by x binary.Less a) binary.And (no (shown_step variables (tree.Literal (value.Bool true))))).text ≡ codes "(x < a) and (not true)"
+conjunction : (by (by x binary.Less a) binary.And (no (shown_step parentheses.Each variables (tree.Literal
+    (value.Bool true))))).text ≡ codes "(x < a) and (not true)"
 conjunction = refl
 
 grouped_left : (by (by a binary.Subtract x) binary.Subtract a).text ≡ codes "(a - x) - a"
@@ -78,7 +85,7 @@ greatest = refl
 negations : (minus (minus a)).text ≡ codes "-(-a)"
 negations = refl
 
-divided : (d : Divisor) → d.number ≡ negsuc 1 → (shown_step variables (tree.Unary (unary.Divide d) (minus a))).text ≡ codes "(-a) / -2"
+divided : (d : Divisor) → d.number ≡ negsuc 1 → (shown_step parentheses.Each variables (tree.Unary (unary.Divide d) (minus a))).text ≡ codes "(-a) / -2"
 unfolding digits
 divided d is = rw is refl
 
@@ -116,14 +123,50 @@ two =
     ∷ record { name = codes "x"; kind = kind.Int; role = role.Output }
     ∷ []
 
-binary_is : (f : BinaryOperator) (e g : Expr) (s t : Shown) → shown two e ≡ s → shown two g ≡ t → shown two (expr.Binary f e g) ≡ shown_step two (tree.Binary f s t)
-binary_is f e g s t left right =
-    shown_binary two f e g
-    ∙ ap (λ l. shown_step two (tree.Binary f l (shown two g))) left
-    ∙ ap (λ r. shown_step two (tree.Binary f s r)) right
+abbrev shown_two : Expr → Shown
+shown_two = shown parentheses.Each two
 
-unary_is : (f : UnaryOperator) (e : Expr) (s : Shown) → shown two e ≡ s → shown two (expr.Unary f e) ≡ shown_step two (tree.Unary f s)
-unary_is f e s inner = shown_unary two f e ∙ ap (λ i. shown_step two (tree.Unary f i)) inner
+abbrev step_two : Expr-F Shown → Shown
+step_two = shown_step parentheses.Each two
+
+binary_is : (f : BinaryOperator) (e g : Expr) (s t : Shown) → shown_two e ≡ s → shown_two g ≡ t → shown_two (expr.Binary f e g) ≡ step_two (tree.Binary f s t)
+binary_is f e g s t left right =
+    shown_binary parentheses.Each two f e g
+    ∙ ap (λ l. step_two (tree.Binary f l (shown_two g))) left
+    ∙ ap (λ r. step_two (tree.Binary f s r)) right
+
+unary_is : (f : UnaryOperator) (e : Expr) (s : Shown) → shown_two e ≡ s → shown_two (expr.Unary f e) ≡ step_two (tree.Unary f s)
+unary_is f e s inner = shown_unary parentheses.Each two f e ∙ ap (λ i. step_two (tree.Unary f i)) inner
+
+abbrev load_is : (x : ℕ) → shown_two (expr.Load x) ≡ step_two (tree.Load x)
+load_is = shown_load parentheses.Each two
+
+abbrev literal_is : (v : Value) → shown_two (expr.Literal v) ≡ step_two (tree.Literal v)
+literal_is = shown_literal parentheses.Each two
+
+-- what is open at once
+abbrev opens_each : Expr → Opens
+opens_each = opens parentheses.Each
+
+abbrev opened : Expr-F Opens → Opens
+opened = opens_step parentheses.Each
+
+binary_opens : (f : BinaryOperator) (e g : Expr) (s t : Opens) → opens_each e ≡ s → opens_each g ≡ t
+    → opens_each (expr.Binary f e g) ≡ opened (tree.Binary f s t)
+binary_opens f e g s t left right =
+    opens_binary parentheses.Each f e g
+    ∙ ap (λ l. opened (tree.Binary f l (opens_each g))) left
+    ∙ ap (λ r. opened (tree.Binary f s r)) right
+
+unary_opens : (f : UnaryOperator) (e : Expr) (s : Opens) → opens_each e ≡ s → opens_each (expr.Unary f e) ≡ opened (tree.Unary f s)
+unary_opens f e s inner = opens_unary parentheses.Each f e ∙ ap (λ i. opened (tree.Unary f i)) inner
+
+-- where a reader takes so many, each operand that is an operation stands in parentheses
+each_text : (e : Expr) (s : Opens) (t : Shown) → opens_each e ≡ s → s.at_most open_limit ≡ true → shown_two e ≡ t → expression_text two e ≡ t.text
+each_text e s t is few text =
+    let all : parentheses_of e ≡ parentheses.Each =
+    ap (λ (o : Opens). if o.at_most open_limit then parentheses.Each else parentheses.Few) is ∙ ap (λ b. if b then parentheses.Each else parentheses.Few) few in
+    ap (λ p. (shown p two e).text) all ∙ ap (λ s. s.text) text
 
 abbrev sum : Expr
 sum = expr.Binary binary.Add (expr.Load 0) (expr.Literal (value.Int (pos 1)))
@@ -140,21 +183,60 @@ least_of_both = expr.Binary binary.Min (expr.Load 0) (expr.Load 1)
 product_text : expression_text two product_of_sum ≡ codes "(-(a + 1)) * x"
 unfolding digits
 product_text =
-    ap (λ s. s.text)
+    each_text product_of_sum _ _
+    (binary_opens binary.Multiply (expr.Unary unary.Negate sum) (expr.Load 1) _ _
+    (unary_opens unary.Negate sum _
+    (binary_opens binary.Add (expr.Load 0) (expr.Literal (value.Int (pos 1))) _ _ (opens_load parentheses.Each 0) (opens_literal parentheses.Each
+        (value.Int (pos 1)))))
+    (opens_load parentheses.Each 1))
+    refl
     (binary_is binary.Multiply (expr.Unary unary.Negate sum) (expr.Load 1) _ _
     (unary_is unary.Negate sum _
-    (binary_is binary.Add (expr.Load 0) (expr.Literal (value.Int (pos 1))) _ _ (shown_load two 0) (shown_literal two (value.Int (pos 1)))))
-    (shown_load two 1))
+    (binary_is binary.Add (expr.Load 0) (expr.Literal (value.Int (pos 1))) _ _ (load_is 0) (literal_is (value.Int (pos 1)))))
+    (load_is 1))
 
 test_text : expression_text two test ≡ codes "(x < a) and (not true)"
 test_text =
-    ap (λ s. s.text)
+    each_text test _ _
+    (binary_opens binary.And (expr.Binary binary.Less (expr.Load 1) (expr.Load 0)) (expr.Unary unary.Not (expr.Literal (value.Bool true))) _ _
+    (binary_opens binary.Less (expr.Load 1) (expr.Load 0) _ _ (opens_load parentheses.Each 1) (opens_load parentheses.Each 0))
+    (unary_opens unary.Not (expr.Literal (value.Bool true)) _ (opens_literal parentheses.Each (value.Bool true))))
+    refl
     (binary_is binary.And (expr.Binary binary.Less (expr.Load 1) (expr.Load 0)) (expr.Unary unary.Not (expr.Literal (value.Bool true))) _ _
-    (binary_is binary.Less (expr.Load 1) (expr.Load 0) _ _ (shown_load two 1) (shown_load two 0))
-    (unary_is unary.Not (expr.Literal (value.Bool true)) _ (shown_literal two (value.Bool true))))
+    (binary_is binary.Less (expr.Load 1) (expr.Load 0) _ _ (load_is 1) (load_is 0))
+    (unary_is unary.Not (expr.Literal (value.Bool true)) _ (literal_is (value.Bool true))))
 
 least_text : expression_text two least_of_both ≡ codes "min(a, x)"
-least_text = ap (λ s. s.text) (binary_is binary.Min (expr.Load 0) (expr.Load 1) _ _ (shown_load two 0) (shown_load two 1))
+least_text =
+    each_text least_of_both _ _
+    (binary_opens binary.Min (expr.Load 0) (expr.Load 1) _ _ (opens_load parentheses.Each 0) (opens_load parentheses.Each 1))
+    refl
+    (binary_is binary.Min (expr.Load 0) (expr.Load 1) _ _ (load_is 0) (load_is 1))
+
+-- ---- few parentheses
+
+abbrev few : Expr-F Shown → Shown
+few = shown_step parentheses.Few two
+
+few_negations : (few (tree.Unary unary.Negate (few (tree.Unary unary.Negate (few (tree.Load 0)))))).text ≡ codes "--a"
+few_negations = refl
+
+few_quotients : (d : Divisor) → d.number ≡ pos 2
+    → (few (tree.Unary unary.Negate (few (tree.Unary (unary.Divide d) (few (tree.Unary unary.Negate (few (tree.Load 0)))))))).text ≡ codes "-(-a / 2)"
+unfolding digits
+few_quotients d is = rw is refl
+
+few_sums : (few (tree.Binary binary.Subtract (few (tree.Binary binary.Add (few (tree.Load 0)) (few (tree.Load 1)))) (few (tree.Unary unary.Negate (few
+    (tree.Load 0)))))).text ≡ codes "(a + x) - -a"
+few_sums = refl
+
+few_truths : (few (tree.Binary binary.Equal (few (tree.Unary unary.Not (few (tree.Unary unary.Not (few (tree.Load 0)))))) (few
+    (tree.Load 1)))).text ≡ codes "(not not a) == x"
+few_truths = refl
+
+few_both : (few (tree.Binary binary.And (few (tree.Unary unary.Not (few (tree.Load 0)))) (few (tree.Binary binary.Or (few (tree.Load 1)) (few
+    (tree.Load 0)))))).text ≡ codes "not a and (x or a)"
+few_both = refl
 
 abbrev inner : Statement
 inner = statement.Assign 1 least_of_both

@@ -1,16 +1,10 @@
 -- What is shown of each expression and of each statement.
-use Rattle.std.proofs.Common.{◌≡◌, ℕ, zero, suc, ◌+◌, Bool, true, false, if◌then◌else◌, List, [], ◌∷◌, ◌++◌, map, codes, refl, ap, sym, subst, ◌∙◌, arith}
+use Rattle.std.proofs.Common.{◌≡◌, ℕ, zero, suc, ◌+◌, Bool, true, false, List, [], ◌∷◌, ◌++◌, map, codes, refl, ap, sym, subst, ◌∙◌, arith}
 use Rattle.std.proofs.lemmas.List.{append-nil}
-use Rattle.sc_values.specs.declared.value.Value.{Value}
-use Rattle.sc_values.specs.declared.operator.UnaryOperator.{UnaryOperator}
-use Rattle.sc_values.specs.declared.operator.BinaryOperator.{BinaryOperator}
 use Rattle.sc_values.specs.declared.expression.Expr.{Expr}
-use Rattle.sc_values.specs.declared.expression.Expr.TheOpen as tree
-use Rattle.sc_values.specs.declared.expression.Expr.TheVariants as expr
-use Rattle.sc_values.specs.declared.expression.Expr.TheVariants.{rolls-Literal, rolls-Load, rolls-Unary, rolls-Binary}
-use Rattle.sc_values.specs.declared.expression.Expr.TheFolds.{fold-roll-Expr}
 use Rattle.sc_graph.specs.declared.program.Variable.{Variable}
-use Rattle.scl_printer.specs.Expressions.{Shown, shown, shown_step, operand}
+use Rattle.scl_printer.specs.declared.parentheses.Parentheses.{Parentheses}
+use Rattle.scl_printer.specs.Expressions.{Shown, is_enclosed, enclosed_if, operand}
 use Rattle.scl.specs.declared.statement.Statement.{Statement}
 use Rattle.scl.specs.declared.statement.Statement.TheOpen as text
 use Rattle.scl.specs.declared.statement.Statement.TheVariants as statement
@@ -20,33 +14,18 @@ use Rattle.scl_printer.specs.Layout.{Piece, indentation, line, in_row, else_text
 use Rattle.scl_printer.specs.Inside.Writing.{Page, Writes, when, has_any}
 use Rattle.scl_printer.proofs.Written.{follows}
 
-pub shown_literal : (variables : List Variable) (v : Value) → shown variables (expr.Literal v) ≡ shown_step variables (tree.Literal v)
-shown_literal variables v = ap (shown variables) (sym (rolls-Literal v)) ∙ fold-roll-Expr Shown (shown_step variables) (tree.Literal v)
-
-pub shown_load : (variables : List Variable) (x : ℕ) → shown variables (expr.Load x) ≡ shown_step variables (tree.Load x)
-shown_load variables x = ap (shown variables) (sym (rolls-Load x)) ∙ fold-roll-Expr Shown (shown_step variables) (tree.Load x)
-
-pub shown_unary : (variables : List Variable) (f : UnaryOperator) (a : Expr) → shown variables (expr.Unary f a) ≡ shown_step variables (tree.Unary f (shown variables a))
-shown_unary variables f a =
-    ap (shown variables) (sym (rolls-Unary f a)) ∙ fold-roll-Expr Shown (shown_step variables) (tree.Unary f a)
-
-pub shown_binary : (variables : List Variable) (f : BinaryOperator) (a b : Expr)
-    → shown variables (expr.Binary f a b) ≡ shown_step variables (tree.Binary f (shown variables a) (shown variables b))
-shown_binary variables f a b =
-    ap (shown variables) (sym (rolls-Binary f a b)) ∙ fold-roll-Expr Shown (shown_step variables) (tree.Binary f a b)
-
 enclosed_written : (inner : Bool) (a b c d : Page) (text : List ℕ) → Writes a b (when inner (codes "(")) → Writes b c text → Writes c d (when inner (codes ")"))
-    → Writes a d (if inner then codes "(" ++ (text ++ codes ")") else text)
+    → Writes a d (enclosed_if inner text)
 enclosed_written true a b c d text p q r = follows a b d _ _ p (follows b c d _ _ q r)
 enclosed_written false a b c d text p q r =
     let At : List ℕ → Type 0 = λ xs. Writes a d xs in
     subst At (append-nil text) (follows a b d [] (text ++ []) p (follows b c d text [] q r))
 
--- an operand, in parentheses where it is an operation
-pub operand_written : (s : Shown) (inner : Bool) (a b c d : Page) → inner ≡ s.operation → Writes a b (when inner (codes "(")) → Writes b c s.text → Writes c d (when inner (codes ")"))
-    → Writes a d (operand s)
-operand_written s inner a b c d is p q r =
-    let At : Bool → Type 0 = λ i. Writes a d (if i then codes "(" ++ (s.text ++ codes ")") else s.text) in
+-- an operand, in parentheses where it stands in some
+pub operand_written : (parentheses : Parentheses) (takes_not : Bool) (s : Shown) (inner : Bool) (a b c d : Page) → inner ≡ is_enclosed parentheses takes_not s.form
+    → Writes a b (when inner (codes "(")) → Writes b c s.text → Writes c d (when inner (codes ")")) → Writes a d (operand parentheses takes_not s)
+operand_written parentheses takes_not s inner a b c d is p q r =
+    let At : Bool → Type 0 = λ i. Writes a d (enclosed_if i s.text) in
     subst At is (enclosed_written inner a b c d s.text p q r)
 
 -- two spaces more

@@ -1,13 +1,15 @@
 //! Writing an expression.
 
-ghost use Rattle.std.specs.Prelude.{◌≡◌, List};
+ghost use Rattle.std.specs.Prelude.{◌≡◌};
 ghost use Rattle.std.specs.Fmt.{signed_decimal};
-ghost use Rattle.sc_graph.specs.declared.program.Variable.{Variable};
 ghost use Rattle.scl_printer.specs.Expressions.{value_text, variable_text, prefix_text, divisor_text, opening_text};
 ghost use Rattle.scl_printer.specs.Expressions.{infix_text, closing_text, is_infix, shown, expression_text};
 ghost use Rattle.scl_printer.specs.Inside.Writing.{Writes, page};
 
 use crate::buffered::Buffered;
+use crate::parentheses::{
+    Parentheses, binary_takes_not, parentheses_of, stands_enclosed, unary_takes_not,
+};
 use itoa::Buffer;
 use sc_graph::{Variable, VariableId};
 use sc_values::{BinaryOperator, Expr, Sink, UnaryOperator, Value};
@@ -23,30 +25,47 @@ pub(crate) fn write_expression<W: Sink>(
     ensures { Writes (page (W.taken sink.old) (W.failures sink.old) buffered.old)
         (page (W.taken sink.new) (W.failures sink.new) buffered.new) (expression_text variables.now expression.now) }
 {
+    let parentheses = parentheses_of(expression);
+    write_tree(buffered, sink, parentheses, variables, expression);
+}
+
+// Writes an expression with these parentheses.
+fn write_tree<W: Sink>(
+    buffered: &mut Buffered,
+    sink: &mut W,
+    parentheses: Parentheses,
+    variables: &[Variable],
+    expression: &Expr,
+)
+    ensures { Writes (page (W.taken sink.old) (W.failures sink.old) buffered.old)
+        (page (W.taken sink.new) (W.failures sink.new) buffered.new)
+        (shown parentheses variables.now expression.now).text }
+{
     match expression {
         Expr::Literal(value) => write_value(buffered, sink, *value),
         Expr::Load(variable) => write_variable(buffered, sink, variables, *variable),
         Expr::Unary(operator, operand) => {
             let operand = operand.get();
-            let is_inner = is_operation(operand);
+            let is_inner = stands_enclosed(parentheses, unary_takes_not(*operator), operand);
             buffered.put_text(sink, prefix_text(*operator));
             buffered.put_if(sink, is_inner, "(");
-            write_expression(buffered, sink, variables, operand);
+            write_tree(buffered, sink, parentheses, variables, operand);
             buffered.put_if(sink, is_inner, ")");
             write_divisor(buffered, sink, *operator);
         }
         Expr::Binary(operator, left, right) => {
+            let takes_not = binary_takes_not(*operator);
             let left = left.get();
-            let is_left = is_operation(left);
+            let is_left = stands_enclosed(parentheses, takes_not, left);
             let right = right.get();
-            let is_right = is_operation(right);
+            let is_right = stands_enclosed(parentheses, takes_not, right);
             buffered.put_text(sink, opening_text(*operator));
             buffered.put_if(sink, is_left, "(");
-            write_expression(buffered, sink, variables, left);
+            write_tree(buffered, sink, parentheses, variables, left);
             buffered.put_if(sink, is_left, ")");
             buffered.put_text(sink, infix_text(*operator));
             buffered.put_if(sink, is_right, "(");
-            write_expression(buffered, sink, variables, right);
+            write_tree(buffered, sink, parentheses, variables, right);
             buffered.put_if(sink, is_right, ")");
             buffered.put_text(sink, closing_text(*operator));
         }
@@ -103,18 +122,6 @@ fn write_divisor<W: Sink>(buffered: &mut Buffered, sink: &mut W, operator: Unary
             write_number(buffered, sink, divisor.number());
         }
         UnaryOperator::Negate | UnaryOperator::Not => {}
-    }
-}
-
-// Whether an operator stands before its operand or between its operands, at the root of an expression.
-fn is_operation(expression: &Expr) -> bool
-    ensures { (variables : List Variable) → result ≡ (shown variables expression.now).operation }
-{
-    match expression {
-        Expr::Literal(_) => false,
-        Expr::Load(_) => false,
-        Expr::Unary(_, _) => true,
-        Expr::Binary(operator, _, _) => is_infix(*operator),
     }
 }
 

@@ -5,6 +5,7 @@ mod buffered;
 mod expressions;
 mod lines;
 mod operation_texts;
+mod parentheses;
 mod print_fault;
 mod program;
 mod statements;

@@ -6,22 +6,27 @@ ghost use Rattle.sc_values.specs.declared.expression.Expr.TheOpen as tree;
 ghost use Rattle.scl_printer.specs.Expressions.{operand, prefix_text, divisor_text, shown_step, value_text};
 ghost use Rattle.scl_printer.specs.Expressions.{variable_text};
 ghost use Rattle.scl_printer.specs.Inside.Seen.{seen};
+ghost use Rattle.scl_printer.specs.declared.parentheses.Parentheses.{Parentheses};
 
-use crate::expressions::{closing_text, infix_text, is_infix, opening_text, prefix_text};
+use crate::expressions::{closing_text, infix_text, opening_text, prefix_text};
+use crate::parentheses::{
+    Form, Parentheses, binary_form, binary_takes_not, is_enclosed, unary_form, unary_takes_not,
+};
 use sc_graph::{Variable, VariableId};
 use sc_values::{BinaryOperator, UnaryOperator, Value};
 use sqlite_items::at;
 use std::alloc::{AllocError, Global};
 
-/// The text of an expression, and whether it is a prefix or an infix operation.
+/// The text of an expression, and what it is to an operator around it.
 #[derive(Drop)]
 pub(crate) struct Shown {
     pub(crate) text: String,
-    pub(crate) operation: bool,
+    pub(crate) form: Form,
 }
 
 pub(crate) fn literal(alloc: Global, value: Value) -> Result<Shown, AllocError>
-    ensures { IfOk result (λ s. (variables : List Variable) → seen s ≡ shown_step variables (tree.Literal value)) }
+    ensures { IfOk result (λ s. (p : Parentheses) (variables : List Variable)
+        → seen s ≡ shown_step p variables (tree.Literal value)) }
 {
     let text = match value {
         Value::Bool(true) => format!(in alloc; "true")?,
@@ -30,7 +35,7 @@ pub(crate) fn literal(alloc: Global, value: Value) -> Result<Shown, AllocError>
     };
     Ok(Shown {
         text,
-        operation: false,
+        form: Form::Whole,
     })
 }
 
@@ -39,7 +44,7 @@ pub(crate) fn load(
     variables: &[Variable],
     variable: VariableId,
 ) -> Result<Shown, AllocError>
-    ensures { IfOk result (λ s. seen s ≡ shown_step variables.now (tree.Load variable)) }
+    ensures { IfOk result (λ s. (p : Parentheses) → seen s ≡ shown_step p variables.now (tree.Load variable)) }
 {
     let text = match at(variables, variable as usize) {
         Some(variable) => {
@@ -50,16 +55,21 @@ pub(crate) fn load(
     };
     Ok(Shown {
         text,
-        operation: false,
+        form: Form::Whole,
     })
 }
 
-// The text of an operand: an operation stands in parentheses.
-fn operand(alloc: Global, shown: Shown) -> Result<String, AllocError>
-    ensures { IfOk result (λ text. string_bytes text ≡ operand (seen shown)) }
+// The text of an operand.
+fn operand(
+    alloc: Global,
+    parentheses: Parentheses,
+    takes_not: bool,
+    shown: Shown,
+) -> Result<String, AllocError>
+    ensures { IfOk result (λ text. string_bytes text ≡ operand parentheses takes_not (seen shown)) }
 {
-    let Shown { text, operation } = shown;
-    if operation {
+    let Shown { text, form } = shown;
+    if is_enclosed(parentheses, takes_not, form) {
         format!(in alloc; "({text})")
     } else {
         Ok(text)
@@ -68,18 +78,19 @@ fn operand(alloc: Global, shown: Shown) -> Result<String, AllocError>
 
 pub(crate) fn unary(
     alloc: Global,
+    parentheses: Parentheses,
     operator: UnaryOperator,
     inner: Shown,
 ) -> Result<Shown, AllocError>
     ensures { IfOk result (λ s. (variables : List Variable)
-        → seen s ≡ shown_step variables (tree.Unary operator (seen inner))) }
+        → seen s ≡ shown_step parentheses variables (tree.Unary operator (seen inner))) }
 {
-    let inner = operand(alloc, inner)?;
+    let inner = operand(alloc, parentheses, unary_takes_not(operator), inner)?;
     let before = prefix_text(operator);
     let behind = divisor_text(alloc, operator)?;
     Ok(Shown {
         text: format!(in alloc; "{before}{inner}{behind}")?,
-        operation: true,
+        form: unary_form(operator),
     })
 }
 
@@ -102,20 +113,22 @@ fn divisor_text(alloc: Global, operator: UnaryOperator) -> Result<String, AllocE
 
 pub(crate) fn binary(
     alloc: Global,
+    parentheses: Parentheses,
     operator: BinaryOperator,
     left: Shown,
     right: Shown,
 ) -> Result<Shown, AllocError>
     ensures { IfOk result (λ s. (variables : List Variable)
-        → seen s ≡ shown_step variables (tree.Binary operator (seen left) (seen right))) }
+        → seen s ≡ shown_step parentheses variables (tree.Binary operator (seen left) (seen right))) }
 {
-    let left = operand(alloc, left)?;
-    let right = operand(alloc, right)?;
+    let takes_not = binary_takes_not(operator);
+    let left = operand(alloc, parentheses, takes_not, left)?;
+    let right = operand(alloc, parentheses, takes_not, right)?;
     let opening = opening_text(operator);
     let infix = infix_text(operator);
     let closing = closing_text(operator);
     Ok(Shown {
         text: format!(in alloc; "{opening}{left}{infix}{right}{closing}")?,
-        operation: is_infix(operator),
+        form: binary_form(operator),
     })
 }

@@ -7,7 +7,7 @@ use Rattle.scl_printer.specs.Layout.{branches_text, line, statement_text, statem
 use Rattle.scl_printer.specs.Inside.Levels.{HasLevels}
 use Rattle.scl_printer.specs.Inside.Writing.{when, has_any}
 use Rattle.scl_printer.proofs.Written.{follows, nothing, written_as, split_at}
-use Rattle.scl_printer.proofs.Shown.{else_is, inner_row, text_of_if, text_of_fork}
+use Rattle.scl_printer.proofs.Shown.{else_is, inner_row, text_of_assign, text_of_if, text_of_fork}
 use Rattle.scl_printer.proofs.Nested.{second_levels, later_branches}
 use Rattle.scl_printer.proofs.statements.+writing.Goals as goal
 
@@ -31,6 +31,14 @@ write_statements-returns g t c =
     let xs : List Statement = c.args.statements.now in
     let none : drop c.loop-statement.statement-index xs ≡ [] = drop_all c.loop-statement.statement-index xs c.loop-statement-test.false in
     c.loop-statement.invariant.written _ (written_as _ _ _ _ (sym (ap (λ ys. statements_text vs ys c.args.level) none)) (nothing _))
+
+pub write_statement-returns-in-Assign : goal.write_statement-returns-in-Assign
+write_statement-returns-in-Assign g t c =
+    let vs : List Variable = c.args.variables.now in
+    let level : ℕ = c.args.level in
+    let whole : statement_text vs c.args.statement.now level ≡ _ =
+    ap (λ s. statement_text vs s level) c.in-Assign.is ∙ ap (λ f. f level) (text_of_assign vs c.in-Assign.variable c.in-Assign.value) in
+    written_as _ _ _ _ (sym whole) c.write_assignment.ensures
 
 pub write_statement-returns-in-If : goal.write_statement-returns-in-If
 write_statement-returns-in-If g t c =

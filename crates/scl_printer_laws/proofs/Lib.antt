@@ -1,0 +1,11 @@
+pub mod Forms
+pub mod FewOpen
+pub mod Longest
+pub mod Cuts
+pub mod Numbers
+pub mod Levels
+pub mod Operands
+pub mod Leaves
+pub mod Unaries
+pub mod Binaries
+pub mod PrintedTrees
