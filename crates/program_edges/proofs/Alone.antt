@@ -1,5 +1,6 @@
 -- A thread is concurrent with no other, where neither it nor one above it is forked beside another one.
-use Rattle.std.proofs.Common.{ℕ, zero, suc, ◌≡◌, ◌≢◌, ◌<◌, ◌⊎◌, inl, inr, Some, None, List, [], ◌∷◌, length, Contains, Bool, true, false, not, nat_eq, IsTrue, eqb-true, refl, sym, ap, subst, ◌∙◌, arith}
+use Rattle.std.proofs.Common.{ℕ, zero, suc, ◌≡◌, ◌<◌, inl, inr, Some, None, List, [], ◌∷◌, length, Contains, Bool, true, false, not}
+use Rattle.std.proofs.Common.{nat_eq, IsTrue, eqb-true, refl, sym, subst, ◌∙◌, arith}
 use Rattle.sc_graph.specs.declared.links.Links.{Links}
 use Rattle.sc_graph.specs.declared.program.Step.TheVariants as step
 use Rattle.sc_graph.specs.Program.{Program, parent_of, step_at}
@@ -71,7 +72,8 @@ one_item (x ∷ []) a b one (suc i, lt, is) k = absurd (omega (arith, lt))
 one_item (x ∷ []) a b one (zero, lt, is) (suc j, le, same) = absurd (omega (arith, le))
 
 -- a thread of whose only fork it is the only child is forked beside no other
-alone : (p : Program) (l : Links) (t fork join : ℕ) (children : List ℕ) → Tells p l → t < length p.threads → only_at l.forks t ≡ Some fork → step_at p fork ≡ Some (step.Fork children join) → length children ≡ 1 → ¬ IsBeside p t
+alone : (p : Program) (l : Links) (t fork join : ℕ) (children : List ℕ) → Tells p l → t < length p.threads → only_at l.forks t ≡ Some fork →
+    step_at p fork ≡ Some (step.Fork children join) → length children ≡ 1 → ¬ IsBeside p t
 alone p l t fork join children told lt found forks one x =
     let once : ExactlyOne (ForksChild p t) = (told.forks t lt).once.0 cc in
     let mine : fork ≡ once.one = once.alone fork (fork_known p l t fork told lt found) in
@@ -85,12 +87,14 @@ untrue : (b : Bool) → b ≡ false → IsTrue b → ⊥
 untrue b fails holds = cc
 
 -- so what was concurrent with a thread from which one came here is so with the next one above
-pub further_up : (p : Program) (first t q : ℕ) (beside : Bool) → parent_of p t ≡ Some q → beside ≡ false → (IsBeside p t → IsTrue beside) → ((u : ℕ) → AreConcurrent p first u → AreConcurrent p t u) →
+pub further_up : (p : Program) (first t q : ℕ) (beside : Bool) → parent_of p t ≡ Some q → beside ≡ false → (IsBeside p t → IsTrue beside) →
+    ((u : ℕ) → AreConcurrent p first u → AreConcurrent p t u) →
     (u : ℕ) → AreConcurrent p first u → AreConcurrent p q u
 further_up p first t q beside up is test before u x = goes_up p t q u up (λ b. untrue beside is (test b)) (before u x)
 
 -- and at the top there is none
-pub none_further : (p : Program) (first t : ℕ) → IsFormed p → parent_of p t ≡ None → ((u : ℕ) → AreConcurrent p first u → AreConcurrent p t u) → (u : ℕ) → AreConcurrent p first u → ⊥
+pub none_further : (p : Program) (first t : ℕ) → IsFormed p → parent_of p t ≡ None → ((u : ℕ) → AreConcurrent p first u → AreConcurrent p t u) →
+    (u : ℕ) → AreConcurrent p first u → ⊥
 none_further p first t formed top before u x = none_at_the_top p t u formed top (before u x)
 
 not_one : (n : ℕ) → (n ≡ 1 → ⊥) → IsTrue (not (nat_eq n 1))
@@ -100,7 +104,9 @@ not_one n other = at (nat_eq n 1) refl
     at true is = absurd (other (eqb-true n 1 is))
     at false is = refl
 
-pub beside_others : (p : Program) (l : Links) (t fork join count : ℕ) (children : List ℕ) → Tells p l → t < length p.threads → only_at l.forks t ≡ Some fork → step_at p fork ≡ Some (step.Fork children join) → count ≡ length children → IsBeside p t → IsTrue (not (nat_eq count 1))
+pub beside_others : (p : Program) (l : Links) (t fork join count : ℕ) (children : List ℕ) → Tells p l → t < length p.threads →
+    only_at l.forks t ≡ Some fork → step_at p fork ≡ Some (step.Fork children join) → count ≡ length children → IsBeside p t →
+    IsTrue (not (nat_eq count 1))
 beside_others p l t fork join count children told lt found forks counted x =
     not_one count (λ one. alone p l t fork join children told lt found forks (sym counted ∙ one) x)
 
