@@ -4,3 +4,4 @@ pub mod Gaining
 pub mod Variables
 pub mod Instantly
 pub mod Answer
+mod Alone

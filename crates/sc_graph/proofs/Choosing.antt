@@ -1,42 +1,20 @@
 -- Tables choose among the runs of a program, and nothing else depends on them.
-use Rattle.std.proofs.Common.{ℕ, ◌≡◌, ◌<◌, ◌≤◌, ◌↔◌, inl, inr, length, Bool, true, false, Option, Some, None, List, [], ◌∷◌, option_map, option_and_then, refl, sym, ap, subst, ◌∙◌, arith}
+use Rattle.std.proofs.Common.{ℕ, ◌≡◌, ◌<◌, ◌≤◌, inl, inr, length, Bool, true, false, Option, Some, None, List, [], ◌∷◌, option_map, option_and_then, refl, sym, ap, ◌∙◌, arith}
 use Rattle.std.proofs.lemmas.Option.{none-some, same_Some, option_and_then_some, slice_get_cases}
 use Rattle.std.proofs.lemmas.List.{get_or_past}
-use Rattle.sc_values.specs.Runs.{replay, IsAdmissible, Completes, Ends}
+use Rattle.sc_values.specs.Runs.{replay}
 use Rattle.sc_graph.specs.declared.control.Control.{Control}
 use Rattle.sc_graph.specs.declared.control.Status.{Status}
 use Rattle.sc_graph.specs.declared.control.Status.TheVariants as status
 use Rattle.sc_graph.specs.declared.tables.Tables.{Tables}
 use Rattle.sc_graph.specs.declared.program.Step.{Step}
 use Rattle.sc_graph.specs.Program.{Program, step_at}
-use Rattle.sc_graph.specs.Threads.{ForkedApart}
-use Rattle.sc_graph.specs.Control.{status_of, status_enabled, is_enabled, IsEnabled, access_at, joined_at, all_ended}
+use Rattle.sc_graph.specs.Control.{status_of, status_enabled, IsEnabled, joined_at, all_ended}
 use Rattle.sc_graph.specs.Steps.{after, only_if, join_effect, node_effect, status_effect, step}
 use Rattle.sc_graph.specs.Machine.{machine}
 use Rattle.sc_graph.specs.Tables.{priority, priority_of}
-use Rattle.sc_graph.specs.Priority.{Leads, PriorityRun}
-use Rattle.sc_graph.specs.Tick.{Rests, start}
+use Rattle.sc_graph.specs.Priority.{HaveOnePriority, Leads, PriorityRun}
 use Rattle.sc_graph.proofs.Nodes.{step_within}
-use Rattle.sc_graph.specs.Certified.{Certified, RunAlike, HaveOnePriority}
-
--- what is said of one program is said of an equal one
-same_for : (P : Program → Type 0) (p r : Program) → p ≡ r → P p ↔ P r
-same_for P p r e = (λ h. subst P e h, λ h. subst P (sym e) h)
-
--- programs that differ in their tables alone
-pub run_alike : (a b : Certified) → a.program ≡ b.program → RunAlike a b
-run_alike a b e = record {
-  rests = λ c. same_for (λ p. Rests p c) a.program b.program e;
-  starts = λ inputs c. ap (λ p. start p inputs c) e;
-  enabled = λ c t. ap (λ p. is_enabled p c t) e;
-  steps = λ t c. ap (λ p. step p t c) e;
-  accesses = λ s. ap (λ p. access_at p s) e;
-  apart = λ t u forking. same_for (λ p. ForkedApart p t u forking) a.program b.program e;
-  runs = λ run c. ap (λ (p : Program). replay (machine p) run c) e;
-  complete = λ run c d. same_for (λ p. Completes (machine p) run c d) a.program b.program e;
-  admissible = λ run c. same_for (λ p. IsAdmissible (machine p) run c) a.program b.program e;
-  ends = λ c d. same_for (λ p. Ends (machine p) c d) a.program b.program e;
-}
 
 only_if_true : {A B : Type 0} (f : A → B) (b : Bool) (o : Option A) (y : B) → option_map f (only_if b o) ≡ Some y → b ≡ true
 only_if_true f true o y h = refl

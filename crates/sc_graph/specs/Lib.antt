@@ -9,7 +9,6 @@ pub mod Machine
 pub mod Tick
 pub mod Tables
 pub mod Priority
-pub mod Certified
 pub mod Size
 pub mod Structure
 pub mod Links

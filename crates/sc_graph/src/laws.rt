@@ -9,8 +9,7 @@ ghost use Rattle.sc_graph.specs.Threads.{Below, ForkedApart, AreConcurrent};
 ghost use Rattle.sc_graph.specs.Control.{IsEnabled};
 ghost use Rattle.sc_graph.specs.Steps.{step};
 ghost use Rattle.sc_graph.specs.Machine.{machine};
-ghost use Rattle.sc_graph.specs.Priority.{PriorityRun};
-ghost use Rattle.sc_graph.specs.Certified.{Certified, RunAlike, HaveOnePriority};
+ghost use Rattle.sc_graph.specs.Priority.{HaveOnePriority, PriorityRun};
 ghost use Rattle.sc_graph.specs.Valid.{IsFormed};
 
 /// What holds of concurrency: it is symmetric; in each formed program no thread is concurrent with
@@ -24,12 +23,11 @@ pub fn laws_of_concurrency()
         → ForkedApart p t u b → a ≡ b }
 {}
 
-/// What tables are to a program: they choose among its runs, and nothing else depends on them.
-/// Programs that differ in their tables alone run alike. A priority run, by whatever tables, is a
-/// run of the program, each step by an enabled thread; where all nodes have one
-/// priority, each run is a priority run. The function does nothing: its contract is the law.
+/// What tables are to a program: they choose among its runs, of which no word speaks of tables. A
+/// priority run, by whatever tables, is a run of the program, each step by an enabled thread; where
+/// all nodes have one priority, each run is a priority run. The function does nothing: its contract
+/// is the law.
 pub fn laws_of_tables()
-    ensures alike { (a b : Certified) → a.program ≡ b.program → RunAlike a b }
     ensures enabled { (p : Program) (t : ℕ) (c d : Control) → step p t c ≡ Some d → IsEnabled p c t }
     ensures chosen { (p : Program) (q : Tables) (run : List ℕ) (c d : Control) → PriorityRun p q run c d
         → replay (machine p) run c ≡ Some d }

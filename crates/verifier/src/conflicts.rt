@@ -14,7 +14,7 @@ ghost use Rattle.verifier.specs.Inside.Linked.{IsLinked};
 use crate::concurrency::are_concurrent;
 use crate::extremes::list_of;
 use crate::samples::Samples;
-use program_edges::Users;
+use program_edges::{Users, has_company};
 use sc_graph::{Links, NodeId, Place, Program, VariableId};
 
 /// A place where the rule is broken, where it is.
@@ -97,6 +97,9 @@ fn conflict_with(program: &Program, links: &Links, m: NodeId, nodes: &[NodeId]) 
     ensures { MatchOption result ((n : ℕ) → Contains nodes.now n → ¬ WriteConflict program.now m n)
         (λ at. ¬ NoConflictAt program.now at) }
 {
+    if !has_company(program, links, m) {
+        return None;
+    }
     for n in nodes {
         if is_conflict(program, links, m, *n) {
             return Some(Place::Pair(m, *n));

@@ -17,6 +17,7 @@ ghost use Rattle.verifier.specs.declared.extremes.Extreme.TheVariants.{Greatest,
 use crate::concurrency::are_concurrent;
 use crate::extremes::{Extremes, list_of};
 use crate::known::Known;
+use program_edges::has_company;
 use sc_graph::{Links, NodeId, Place, Program, Tables, VariableId};
 
 /// A place where the rule is broken, where it is.
@@ -158,6 +159,9 @@ fn no_fall_after(
     ensures { MatchOption result ((n : ℕ) → Contains seconds.now n → Falls program.now tables.now m n)
         (λ n. Contains seconds.now n × ¬ Falls program.now tables.now m n) }
 {
+    if !has_company(program, links, m) {
+        return None;
+    }
     for n in seconds {
         if !falls(program, tables, links, m, *n) {
             return Some(*n);

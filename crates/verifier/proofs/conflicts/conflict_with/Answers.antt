@@ -15,3 +15,9 @@ pub returns : goal.returns
 returns c =
     let P : ℕ → Type 0 = λ n. ¬ WriteConflict c.args.program.now c.args.m n in
     of_each c.args.nodes.now P (λ k h. c.loop-n.invariant k (omega (arith, h)))
+
+pub returns-then-not-has_company : goal.returns-then-not-has_company
+returns-then-not-has_company c = λ n at w.
+    let e : c.has_company.result ≡ true = c.has_company.ensures n w.concurrent in
+    let f = c.if-not-has_company.true in
+    cc

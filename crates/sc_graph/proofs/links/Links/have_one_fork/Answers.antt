@@ -1,4 +1,4 @@
-use Rattle.std.proofs.Common.{ℕ, ◌≡◌, Option, None, sym, ◌∙◌}
+use Rattle.std.proofs.Common.{◌≡◌, None, sym, ◌∙◌}
 use Rattle.sc_graph.specs.Links.{only_at}
 use Rattle.sc_graph.proofs.Formed.{one_fork_known, one_fork_left, one_fork_right}
 use Rattle.sc_graph.proofs.Linking.{fork_known, fork_unknown}
