@@ -6,4 +6,5 @@ mod Reading
 pub mod Told
 mod Resting
 pub mod Ticks
+mod NumbersInRow
 pub mod Plain

@@ -32,50 +32,7 @@ use Rattle.abort_expansion.specs.Expansion.{made, width, superstate, inside_regi
 use Rattle.abort_expansion.specs.Expansion.{expansion, expanded, state_map, whole}
 use Rattle.chart_lowering.specs.Aborts.{is_abort, some_of, region_aborts, state_aborts, aborts_in_region, aborts_in_state}
 use Rattle.chart_lowering.specs.Aborts.{has_aborts as chart_has_aborts}
-
--- ---- lists
-
--- numbers in a row, from this one on
-abbrev numbers_from : ℕ → ℕ → List (Option ℕ)
-numbers_from n zero = []
-numbers_from n (suc count) = Some n ∷ numbers_from (suc n) count
-
-more_numbers : (n m a b : ℕ) → m ≡ n + a → numbers_from n a ++ numbers_from m b ≡ numbers_from n (a + b)
-more_numbers n m zero b is =
-    let same : m ≡ n = omega (arith, is) in
-    let count : b ≡ 0 + b = omega arith in
-    ap (λ k. numbers_from k b) same ∙ ap (numbers_from n) count
-more_numbers n m (suc a) b is =
-    let same : m ≡ suc n + a = omega (arith, is) in
-    let count : suc (a + b) ≡ suc a + b = omega arith in
-    ap (λ xs. Some n ∷ xs) (more_numbers (suc n) m a b same) ∙ ap (numbers_from n) count
-
-number_at : (count n s : ℕ) → s < count → slice_get (numbers_from n count) s ≡ Some (Some (n + s))
-number_at zero n s less = absurd (omega (arith, less))
-number_at (suc count) n zero less = let same : n ≡ n + 0 = omega arith in ap (λ m. Some (Some m)) same
-number_at (suc count) n (suc s) less =
-    let same : suc n + s ≡ n + suc s = omega arith in
-    number_at count (suc n) s (omega (arith, less)) ∙ ap (λ m. Some (Some m)) same
-
-none_of : (a b : Bool) → (a || b) ≡ false → (a ≡ false) × (b ≡ false)
-none_of true b h = absurd cc
-none_of false b h = (refl, h)
-
-neither : {A : Type 0} (f g : A → Bool) (xs : List A) → list_any (λ x. f x || g x) xs ≡ false → (list_any f xs ≡ false) × (list_any g xs ≡ false)
-neither f g [] h = (refl, refl)
-neither f g (x ∷ xs) h =
-    let first : ((f x || g x) ≡ false) × (list_any (λ x. f x || g x) xs ≡ false) = none_of (f x || g x) (list_any (λ x. f x || g x) xs) h in
-    let both : (f x ≡ false) × (g x ≡ false) = none_of (f x) (g x) first.0 in
-    let rest : (list_any f xs ≡ false) × (list_any g xs ≡ false) = neither f g xs first.1 in
-    (ap (λ b. b || list_any f xs) both.0 ∙ rest.0, ap (λ b. b || list_any g xs) both.1 ∙ rest.1)
-
-none_among : {A : Type 0} (f : A → Bool) (xs : List A) → some_of (map f xs) ≡ false → Each (λ x. f x ≡ false) xs
-none_among f [] h = tt
-none_among f (x ∷ xs) h = let both : (f x ≡ false) × (some_of (map f xs) ≡ false) = none_of (f x) (some_of (map f xs)) h in (both.0, none_among f xs both.1)
-
-map_same : {A : Type 0} (f : A → A) (xs : List A) → Each (λ x. f x ≡ x) xs → map f xs ≡ xs
-map_same f [] h = refl
-map_same f (x ∷ xs) h = ap (λ y. y ∷ map f xs) h.0 ∙ ap (λ ys. x ∷ ys) (map_same f xs h.1)
+use Rattle.compiled_charts_laws.proofs.NumbersInRow.{numbers_from, more_numbers, number_at, none_of, neither, none_among, map_same}
 
 -- ---- superstates around that have no aborts
 
