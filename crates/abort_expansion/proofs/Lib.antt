@@ -18,6 +18,7 @@ mod Regional
 mod Shaped
 mod CoreRulesKept
 mod Whole
+mod FewRegions
 mod PieceParts
 mod ExpansionRows
 mod NestedRows

@@ -5,14 +5,17 @@ use Rattle.abort_expansion.specs.declared.fault.ExpandFault.{ExpandFault}
 use Rattle.abort_expansion.specs.declared.fault.ExpandFault.TheVariants as fault
 use Rattle.abort_expansion.specs.declared.state_map.StateMap.{StateMap}
 use Rattle.abort_expansion.specs.Expansion.{IsExpandable, expanded, state_map}
+use Rattle.abort_expansion.specs.Limits.{KeepsLimits}
 
 -- this is the chart's core chart, and these are the states for which its states stand
 pub record IsExpansion (c : Chart) (core : Chart) (map : StateMap) : Type 0 where
   pub expandable : IsExpandable c
+  pub limits : KeepsLimits c
   pub core_is : core ≡ expanded c
   pub stands_for : map.states ≡ state_map c
 
--- it has none for this reason. A refusal of memory says nothing of the chart
+-- it has none for this reason: of the two limits no chart passes that of regions. A refusal of memory says nothing of the
+-- chart
 abbrev pub IsReason : Chart → ExpandFault → Type 0
 IsReason c fault.Limit = ¬ IsExpandable c
 IsReason c fault.Memory = Unit {0}

@@ -4,6 +4,7 @@ pub mod Pieces
 pub mod Superstates
 pub mod Expansion
 pub mod StateMap
+pub mod Limits
 pub mod Answers
 pub mod FaultText
 pub mod Inside

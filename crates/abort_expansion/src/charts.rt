@@ -15,7 +15,8 @@ use sc_graph::{VARIABLE_LIMIT, Variable};
 use std::alloc::{AllocError, Global};
 
 /// The core chart of a chart, and for which states of the chart those of the core chart stand. `Limit`: with
-/// the variables that expansion adds the chart has more than a program may.
+/// the variables that expansion adds the chart has more than a program may; regions of a superstate are never too
+/// many.
 pub fn expand(alloc: Global, chart: &Chart) -> Result<(CoreChart, StateMap), ExpandFault>
     ensures { MatchResult result (λ made. IsExpansion chart.now made.0 made.1) (IsReason chart.now) }
 {
@@ -36,7 +37,7 @@ fn core_variables(chart: &Chart) -> Result<usize, AllocError>
 }
 
 // The expansion of a chart that has one.
-#[tactic(auto, using(crate::proofs::Whole::core_chart))]
+#[tactic(auto, using(crate::proofs::Whole::core_chart, crate::proofs::FewRegions::keeps_limits))]
 fn expanded(alloc: Global, chart: &Chart) -> Result<(CoreChart, StateMap), AllocError>
     requires few { 1 + superstates_in (map piece_of_region chart.now.regions) ≤ 2 ^ 64 }
     requires fits { IsExpandable chart.now }
