@@ -30,4 +30,4 @@ binary_left p e f a b n i r is g h =
     ap (λ x. (opens p x).at_most n) is
     ∙ ap (λ (o : Opens). o.at_most n) (opens_binary p f a b)
     ∙ sym (ap (with_left (λ m. operand_opens p (binary_takes_not f) (opens p a) m && operand_opens p (binary_takes_not f) (opens p b) m)) (h ∙ ap
-        (λ x. left_within x n) g))
+    (λ x. left_within x n) g))

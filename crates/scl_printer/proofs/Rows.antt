@@ -187,7 +187,7 @@ product_text =
     (binary_opens binary.Multiply (expr.Unary unary.Negate sum) (expr.Load 1) _ _
     (unary_opens unary.Negate sum _
     (binary_opens binary.Add (expr.Load 0) (expr.Literal (value.Int (pos 1))) _ _ (opens_load parentheses.Each 0) (opens_literal parentheses.Each
-        (value.Int (pos 1)))))
+    (value.Int (pos 1)))))
     (opens_load parentheses.Each 1))
     refl
     (binary_is binary.Multiply (expr.Unary unary.Negate sum) (expr.Load 1) _ _

@@ -48,7 +48,7 @@ record Infix (f : BinaryOperator) : Type 1 where
   pub writes : operator_of sort ≡ f
   pub spells_it : (n at : ℕ) (ts us : List Token) (p q : Phrase) → spells (operand_level (binary_takes_not f) (within n)) ts p
       → spells (operand_level (binary_takes_not f) (within n)) us q
-          → spells (disjunction (within n)) (ts ++ token_at sort at ∷ us) (p ++ right_side (token_at sort at) q)
+      → spells (disjunction (within n)) (ts ++ token_at sort at ∷ us) (p ++ right_side (token_at sort at) q)
 
 sum_of : (n : ℕ) (ts : List Token) (p : Phrase) → spells (unary (within n)) ts p → spells (sum (within n)) ts p
 sum_of n ts p s = sum_product (within n) ts p (product_unary (within n) ts p s)
@@ -222,7 +222,7 @@ module _ (names : List (List ℕ)) (p : Parentheses) (variables : List Variable)
         phrase = a.phrase ++ right_side k b.phrase;
         cut = cuts_both (left t) (sp ++ tail) rest at a.tokens (k ∷ b.tokens) a.cut
             (cuts_both sp tail rest end (k ∷ []) b.tokens (spaced x.text (tail ++ rest) end x.sort (x.cut (tail ++ rest) (end + 1))) (cuts_nil
-                (right t) rest (end + length sp) b.tokens b.cut));
+            (right t) rest (end + length sp) b.tokens b.cut));
         spelled = x.spells_it n (end + 1) a.tokens b.tokens a.phrase b.phrase a.spelled b.spelled;
         means = added f k a.phrase b.phrase x.writes a.means b.means;
       })
@@ -236,7 +236,7 @@ module _ (names : List (List ℕ)) (p : Parentheses) (variables : List Variable)
       → ((at : ℕ) → Fits (TheWord word.Min ∷ TheWord word.Max ∷ []) (worded_at w at))
       → (n : ℕ) → one_more_if true (λ k. operand_opens p false o k && operand_opens p false v k) n ≡ true → (rest : List ℕ) → Closes rest → (at : ℕ)
       → Reads names (atom (within n)) ((word_text w ++ 40 ∷ []) ++ (left false ++ (codes ", " ++ (right false ++ codes ")")))) rest at
-          (c ++ d ++ op.Binary f ∷ [])
+      (c ++ d ++ op.Binary f ∷ [])
   called f w first more is letter bytes long writes fits zero m rest closes at = absurd (cc)
   called f w first more is letter bytes long writes fits (suc n) m rest closes at =
       let both = and_parts (operand_opens p false o n) (operand_opens p false v n) m in
@@ -251,9 +251,9 @@ module _ (names : List (List ℕ)) (p : Parentheses) (variables : List Variable)
       let one : List Token = signed_at sign.OpenParenthesis opened ∷ (a.tokens ++ signed_at sign.Comma comma ∷ []) in
       let closing : Token = signed_at sign.CloseParenthesis end in
       let quiet : Quiet ((left false ++ tail) ++ rest) = subst Quiet (sym (append_assoc (left false) tail rest)) (operand_quiet names p false s o c h
-          (tail ++ rest)) in
+      (tail ++ rest)) in
       let grouped : a.tokens ++ (signed_at sign.Comma comma ∷ (b.tokens ++ closing ∷ [])) ≡ (a.tokens ++ signed_at sign.Comma comma ∷ []) ++
-          (b.tokens ++ closing ∷ []) =
+      (b.tokens ++ closing ∷ []) =
       sym (append_assoc a.tokens (signed_at sign.Comma comma ∷ []) (b.tokens ++ closing ∷ [])) in
       record {
         tokens = k ∷ (signed_at sign.OpenParenthesis opened ∷ (a.tokens ++ (signed_at sign.Comma comma ∷ (b.tokens ++ closing ∷ []))));
@@ -267,14 +267,14 @@ module _ (names : List (List ℕ)) (p : Parentheses) (variables : List Variable)
             (cuts_both (codes ", ") (right false ++ codes ")") rest comma (signed_at sign.Comma comma ∷ []) (b.tokens ++ closing ∷ [])
             (cuts_both (44 ∷ []) (32 ∷ []) ((right false ++ codes ")") ++ rest) comma (signed_at sign.Comma comma ∷ []) []
             (cuts_sign sign.Comma 44 refl comma_plain (32 ∷ ((right false ++ codes ")") ++ rest)) (quiet_low 32 ((right false ++ codes ")") ++ rest)
-                (omega arith)) comma)
+            (omega arith)) comma)
             (cuts_space ((right false ++ codes ")") ++ rest) (comma + 1)))
             (cuts_both (right false) (41 ∷ []) rest (comma + 2) b.tokens (closing ∷ []) b.cut (cuts_sign sign.CloseParenthesis 41 refl closing_plain rest
-                (closes_quiet rest closes) end))));
+            (closes_quiet rest closes) end))));
         spelled = subst (λ ts. spells (atom (within (suc n))) (k ∷ (signed_at sign.OpenParenthesis opened ∷ ts)) (right_side k (a.phrase ++ b.phrase)))
             (sym grouped)
             (atom_call n opened comma end k a.tokens b.tokens a.phrase b.phrase (fits at) (whole n a.tokens a.phrase a.spelled)
-                (whole n b.tokens b.phrase b.spelled));
+            (whole n b.tokens b.phrase b.spelled));
         means = ap (code_of names) (append_assoc a.phrase b.phrase (text_op.Binary (operator_of (kind.Word w)) ∷ []))
             ∙ added f k a.phrase b.phrase writes a.means b.means;
       }
@@ -296,25 +296,69 @@ module _ (names : List (List ℕ)) (p : Parentheses) (variables : List Variable)
     quiet = λ rest. quiet_letter 109 (codes "ax(" ++ (left false ++ (codes ", " ++ (right false ++ codes ")"))) ++ rest) refl;
     reads = called binary.Max word.Max 109 (codes "ax") refl refl refl refl refl (λ at. refl);
   }
-  binary_printed binary.Add = record { same = refl; quiet = quiet_left false _; reads = λ n m rest closes at. between binary.Add
-      (infix_of binary.Add refl) n m rest closes at _ refl }
-  binary_printed binary.Subtract = record { same = refl; quiet = quiet_left false _; reads = λ n m rest closes at. between binary.Subtract
-      (infix_of binary.Subtract refl) n m rest closes at _ refl }
-  binary_printed binary.Multiply = record { same = refl; quiet = quiet_left false _; reads = λ n m rest closes at. between binary.Multiply
-      (infix_of binary.Multiply refl) n m rest closes at _ refl }
-  binary_printed binary.And = record { same = refl; quiet = quiet_left true _; reads = λ n m rest closes at. between binary.And
-      (infix_of binary.And refl) n m rest closes at _ refl }
-  binary_printed binary.Or = record { same = refl; quiet = quiet_left true _; reads = λ n m rest closes at. between binary.Or
-      (infix_of binary.Or refl) n m rest closes at _ refl }
-  binary_printed binary.Equal = record { same = refl; quiet = quiet_left false _; reads = λ n m rest closes at. between binary.Equal
-      (infix_of binary.Equal refl) n m rest closes at _ refl }
-  binary_printed binary.NotEqual = record { same = refl; quiet = quiet_left false _; reads = λ n m rest closes at. between binary.NotEqual
-      (infix_of binary.NotEqual refl) n m rest closes at _ refl }
-  binary_printed binary.Less = record { same = refl; quiet = quiet_left false _; reads = λ n m rest closes at. between binary.Less
-      (infix_of binary.Less refl) n m rest closes at _ refl }
-  binary_printed binary.LessOrEqual = record { same = refl; quiet = quiet_left false _; reads = λ n m rest closes at. between binary.LessOrEqual
-      (infix_of binary.LessOrEqual refl) n m rest closes at _ refl }
-  binary_printed binary.Greater = record { same = refl; quiet = quiet_left false _; reads = λ n m rest closes at. between binary.Greater
-      (infix_of binary.Greater refl) n m rest closes at _ refl }
-  binary_printed binary.GreaterOrEqual = record { same = refl; quiet = quiet_left false _; reads = λ n m rest closes at. between binary.GreaterOrEqual
-      (infix_of binary.GreaterOrEqual refl) n m rest closes at _ refl }
+  binary_printed binary.Add = record {
+    same = refl;
+    quiet = quiet_left false _;
+    reads = λ n m rest closes at. between binary.Add
+        (infix_of binary.Add refl) n m rest closes at _ refl;
+  }
+  binary_printed binary.Subtract = record {
+    same = refl;
+    quiet = quiet_left false _;
+    reads = λ n m rest closes at. between binary.Subtract
+        (infix_of binary.Subtract refl) n m rest closes at _ refl;
+  }
+  binary_printed binary.Multiply = record {
+    same = refl;
+    quiet = quiet_left false _;
+    reads = λ n m rest closes at. between binary.Multiply
+        (infix_of binary.Multiply refl) n m rest closes at _ refl;
+  }
+  binary_printed binary.And = record {
+    same = refl;
+    quiet = quiet_left true _;
+    reads = λ n m rest closes at. between binary.And
+        (infix_of binary.And refl) n m rest closes at _ refl;
+  }
+  binary_printed binary.Or = record {
+    same = refl;
+    quiet = quiet_left true _;
+    reads = λ n m rest closes at. between binary.Or
+        (infix_of binary.Or refl) n m rest closes at _ refl;
+  }
+  binary_printed binary.Equal = record {
+    same = refl;
+    quiet = quiet_left false _;
+    reads = λ n m rest closes at. between binary.Equal
+        (infix_of binary.Equal refl) n m rest closes at _ refl;
+  }
+  binary_printed binary.NotEqual = record {
+    same = refl;
+    quiet = quiet_left false _;
+    reads = λ n m rest closes at. between binary.NotEqual
+        (infix_of binary.NotEqual refl) n m rest closes at _ refl;
+  }
+  binary_printed binary.Less = record {
+    same = refl;
+    quiet = quiet_left false _;
+    reads = λ n m rest closes at. between binary.Less
+        (infix_of binary.Less refl) n m rest closes at _ refl;
+  }
+  binary_printed binary.LessOrEqual = record {
+    same = refl;
+    quiet = quiet_left false _;
+    reads = λ n m rest closes at. between binary.LessOrEqual
+        (infix_of binary.LessOrEqual refl) n m rest closes at _ refl;
+  }
+  binary_printed binary.Greater = record {
+    same = refl;
+    quiet = quiet_left false _;
+    reads = λ n m rest closes at. between binary.Greater
+        (infix_of binary.Greater refl) n m rest closes at _ refl;
+  }
+  binary_printed binary.GreaterOrEqual = record {
+    same = refl;
+    quiet = quiet_left false _;
+    reads = λ n m rest closes at. between binary.GreaterOrEqual
+        (infix_of binary.GreaterOrEqual refl) n m rest closes at _ refl;
+  }

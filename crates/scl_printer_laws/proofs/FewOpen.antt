@@ -92,20 +92,42 @@ prefixed t k o s (suc n) h fits le at_most is = is n ∙ strong t k o s n h fits
 
 unary_fits : (f : UnaryOperator) (a k : Kind) (o : Opens) (s : ℕ) → unary_kind f a ≡ Some k → Fits a o s → Fits k (step (tree.Unary f o)) (s + 1)
 unary_fits unary.Negate kind_is.Int k o s e h =
-    record { some = omega arith; tight = λ n le. prefixed false kind_is.Int o s n h refl (omega (arith, le)) (step (tree.Unary unary.Negate o)).at_most
-        (λ m. refl); truth = tt }
+    record {
+      some = omega arith;
+      tight = λ n le. prefixed false kind_is.Int o s n h refl (omega (arith, le)) (step (tree.Unary unary.Negate o)).at_most
+          (λ m. refl);
+      truth = tt;
+    }
 unary_fits unary.Negate kind_is.Bool k o s e h = absurd (cc)
 unary_fits unary.Not kind_is.Bool k o s e h =
-    record { some = omega arith; tight = λ n le. prefixed true kind_is.Bool o s n h tt (omega (arith, le)) (step (tree.Unary unary.Not o)).at_most
-        (λ m. refl); truth = let b : kind_is.Bool ≡ k = cc in sym b }
+    record {
+      some = omega arith;
+      tight = λ n le. prefixed true kind_is.Bool o s n h tt (omega (arith, le)) (step (tree.Unary unary.Not o)).at_most
+          (λ m. refl);
+      truth = let b : kind_is.Bool ≡ k = cc in sym b;
+    }
 unary_fits unary.Not kind_is.Int k o s e h = absurd (cc)
 unary_fits (unary.Divide d) kind_is.Int k o s e h =
-    record { some = omega arith; tight = (let some = h.some in omega (arith, some), λ n le. strong false kind_is.Int o s n h refl (omega
-        (arith, le))); truth = tt }
+    record {
+      some = omega arith;
+      tight = (
+        let some = h.some in omega (arith, some),
+        λ n le. strong false kind_is.Int o s n h refl (omega
+            (arith, le)),
+      );
+      truth = tt;
+    }
 unary_fits (unary.Divide d) kind_is.Bool k o s e h = absurd (cc)
 unary_fits (unary.Remainder d) kind_is.Int k o s e h =
-    record { some = omega arith; tight = (let some = h.some in omega (arith, some), λ n le. strong false kind_is.Int o s n h refl (omega
-        (arith, le))); truth = tt }
+    record {
+      some = omega arith;
+      tight = (
+        let some = h.some in omega (arith, some),
+        λ n le. strong false kind_is.Int o s n h refl (omega
+            (arith, le)),
+      );
+      truth = tt;
+    }
 unary_fits (unary.Remainder d) kind_is.Bool k o s e h = absurd (cc)
 
 module _ (a b k : Kind) (o u : Opens) (s r : ℕ) (h : Fits a o s) (i : Fits b u r) where
@@ -206,4 +228,4 @@ nest kinds k e h =
     let fits = each_fits kinds e k h.kinded in
     let short = h.within.operations in
     by_test e ((opens parentheses.Each e).at_most open_limit) refl (less_open (few e).form (few e).at_most (size e) open_limit fits.tight (omega
-        (arith, short)))
+    (arith, short)))

@@ -84,7 +84,7 @@ module _ (names : List (List ℕ)) (p : Parentheses) (x : ℕ) (first_byte : ℕ
   name_cut : (rest : List ℕ) → Closes rest → (at : ℕ) → Cuts (first_byte ∷ more) rest at (record { kind = kind.Name (first_byte ∷ more); at = at } ∷ [])
   name_cut rest closes at =
       cuts_one (first_byte ∷ more) rest at (kind.Name (first_byte ∷ more)) (word_longest first_byte more rest parts.0 parts.1 (closes_word rest closes))
-          (a_name first_byte more is refl free)
+      (a_name first_byte more is refl free)
 
 abbrev PrintedName : List (List ℕ) → List ℕ → ℕ → Type 0
 PrintedName names text x =
@@ -94,9 +94,11 @@ PrintedName names text x =
 name_printed : (names : List (List ℕ)) (p : Parentheses) (x : ℕ) (name : List ℕ) → is_name name ≡ true → ¬ IsReserved name
     → ((at : ℕ) → code_of names (leaf_of (kind.Name name) at ∷ []) ≡ op.Load x ∷ []) → PrintedName names name x
 name_printed names p x [] is free means = absurd (cc)
-name_printed names p x (c ∷ more) is free means =
-    (name_quiet names p x c more is free, λ n rest closes at. reads_leaf names n (c ∷ more) rest at (kind.Name (c ∷ more)) (op.Load x)
-        (name_cut names p x c more is free rest closes at) refl (means at))
+name_printed names p x (c ∷ more) is free means = (
+  name_quiet names p x c more is free,
+  λ n rest closes at. reads_leaf names n (c ∷ more) rest at (kind.Name (c ∷ more)) (op.Load x)
+      (name_cut names p x c more is free rest closes at) refl (means at),
+)
 
 pub load_printed : (p : Parentheses) (variables : List Variable) (x : ℕ) → CanWriteVariable variables x
     → Printed (names_of variables) p (shown_step p variables (tree.Load x)) (opens_step p (tree.Load x)) (op.Load x ∷ [])

@@ -94,7 +94,7 @@ pub atom_parenthesized : (n a b : ℕ) (ts : List Token) (p : Phrase) → spells
 unfolding atom within parenthesized
 atom_parenthesized n a b ts p s =
     inl (inl (after_is (TheSign sign.OpenParenthesis ∷ []) (before (disjunction (within n)) (TheSign sign.CloseParenthesis ∷ []))
-        (signed_at sign.OpenParenthesis a) (ts ++ signed_at sign.CloseParenthesis b ∷ []) p refl
+    (signed_at sign.OpenParenthesis a) (ts ++ signed_at sign.CloseParenthesis b ∷ []) p refl
     (before_is (TheSign sign.CloseParenthesis ∷ []) (disjunction (within n)) (signed_at sign.CloseParenthesis b) ts p refl s)))
 
 operands_are : (e : G) (a b c : ℕ) (ts us : List Token) (p q : Phrase) → spells e ts p → spells e us q
@@ -117,11 +117,11 @@ operands_are e a b c ts us p q s r = (
 pub atom_call : (n a b c : ℕ) (w : Token) (ts us : List Token) (p q : Phrase) → Fits (TheWord word.Min ∷ TheWord word.Max ∷ []) w
     → spells (disjunction (within n)) ts p → spells (disjunction (within n)) us q
     → spells (atom (within (suc n))) (w ∷ ((signed_at sign.OpenParenthesis a ∷ (ts ++ signed_at sign.Comma b ∷ [])) ++
-        (us ++ signed_at sign.CloseParenthesis c ∷ []))) (right_side w (p ++ q))
+    (us ++ signed_at sign.CloseParenthesis c ∷ []))) (right_side w (p ++ q))
 unfolding atom within call
 atom_call n a b c w ts us p q fits s r =
     inl (inr (right_is (TheWord word.Min ∷ TheWord word.Max ∷ []) (operands (disjunction (within n))) w _ (p ++ q) fits (operands_are (disjunction
-        (within n)) a b c ts us p q s r)))
+    (within n)) a b c ts us p q s r)))
 
 pub unary_negated : (n a : ℕ) (ts : List Token) (p : Phrase) → spells (unary (within n)) ts p
     → spells (unary (within (suc n))) (signed_at sign.Minus a ∷ ts) (prefixed unary_operator.Negate p)
@@ -146,7 +146,7 @@ pub sum_by : (i : Inner) (t : Token) (ts us : List Token) (p q : Phrase) → Fit
 unfolding sum
 sum_by i t ts us p q fits s r =
     chain_two (product i) (right (TheSign sign.Plus ∷ TheSign sign.Minus ∷ []) (product i)) ts (t ∷ us) p (right_side t q) s (right_is
-        (TheSign sign.Plus ∷ TheSign sign.Minus ∷ []) (product i) t us q fits r)
+    (TheSign sign.Plus ∷ TheSign sign.Minus ∷ []) (product i) t us q fits r)
 
 pub comparison_by : (i : Inner) (t : Token) (ts us : List Token) (p q : Phrase) → Fits comparisons t → spells (sum i) ts p → spells (sum i) us q
     → spells (comparison i) (ts ++ t ∷ us) (p ++ right_side t q)
@@ -159,14 +159,14 @@ pub conjunction_by : (i : Inner) (t : Token) (ts us : List Token) (p q : Phrase)
 unfolding conjunction
 conjunction_by i t ts us p q fits s r =
     chain_two (negation i) (right (TheWord word.And ∷ []) (negation i)) ts (t ∷ us) p (right_side t q) s (right_is (TheWord word.And ∷ [])
-        (negation i) t us q fits r)
+    (negation i) t us q fits r)
 
 pub disjunction_by : (i : Inner) (t : Token) (ts us : List Token) (p q : Phrase) → Fits (TheWord word.Or ∷ []) t → spells (conjunction i) ts p
     → spells (conjunction i) us q → spells (disjunction i) (ts ++ t ∷ us) (p ++ right_side t q)
 unfolding disjunction
 disjunction_by i t ts us p q fits s r =
     chain_two (conjunction i) (right (TheWord word.Or ∷ []) (conjunction i)) ts (t ∷ us) p (right_side t q) s (right_is (TheWord word.Or ∷ [])
-        (conjunction i) t us q fits r)
+    (conjunction i) t us q fits r)
 
 -- ---- divisions
 

@@ -147,7 +147,7 @@ word_longest first more rest l w stops = record {
   is_piece = a_word first more l w;
   longest = λ further behind f some p.
       no_longer is_word_byte more rest further behind stops f some (letter_only first (more ++ further) l (face (first ∷ (more ++ further)) p first
-          (more ++ further) refl));
+      (more ++ further) refl));
 }
 
 pub digits_longest : (first : ℕ) (more rest : List ℕ) → is_digit first ≡ true → list_all is_digit more ≡ true → Stops is_digit rest
@@ -156,7 +156,7 @@ digits_longest first more rest d w stops = record {
   is_piece = digits first more d w;
   longest = λ further behind f some p.
       no_longer is_digit more rest further behind stops f some (digit_only first (more ++ further) d (face (first ∷ (more ++ further)) p first
-          (more ++ further) refl));
+      (more ++ further) refl));
 }
 
 pub space_longest : (rest : List ℕ) → IsLongest (32 ∷ []) rest

@@ -105,7 +105,7 @@ cuts_number n low rest closes at =
     (cuts_one (d.first ∷ d.more) rest at (kind.Number (pos (written (d.first ∷ d.more))))
     (digits_longest d.first d.more rest d.digit d.digits (closes_digits rest closes))
     (a_number (d.first ∷ d.more) (both_true (is_digit d.first) (list_all is_digit d.more) d.digit d.digits) (no_idle d.first d.more d.leads) (omega
-        (arith, v, low)))))
+    (arith, v, low)))))
 
 pub number_quiet : (n : ℕ) → n ≤ number_limit → (rest : List ℕ) → Quiet (decimal n ++ rest)
 number_quiet n low rest =

@@ -99,7 +99,7 @@ module _ (names : List (List ℕ)) (p : Parentheses) (t : Bool) (s : Shown) (o :
         cut = cuts_both (40 ∷ []) (s.text ++ 41 ∷ []) rest at (open_token ∷ []) (r.tokens ++ close_token ∷ [])
             (cuts_sign sign.OpenParenthesis 40 refl opening_plain ((s.text ++ 41 ∷ []) ++ rest) quiet at)
             (cuts_both s.text (41 ∷ []) rest (at + 1) r.tokens (close_token ∷ []) r.cut (cuts_sign sign.CloseParenthesis 41 refl closing_plain rest
-                (closes_quiet rest closes) end));
+            (closes_quiet rest closes) end));
         spelled = atom_level t (within (suc n)) _ r.phrase (atom_parenthesized n at end r.tokens r.phrase (whole_level s.form
             (within n) r.tokens r.phrase r.spelled));
         means = r.means;

@@ -44,18 +44,18 @@ module _ (variables : List Variable) (p : Parentheses) where
   pub printed : (e : Expr) → CanWrite variables e → Is e
   printed e (a_literal v w) =
       made (roll-Expr (tree.Literal v)) _ _ _ (fold-roll-Expr Shown (shown_step p variables) (tree.Literal v)) (opens_literal p v) (postorder-literal v)
-          (literal_printed (names_of variables) p variables v w)
+      (literal_printed (names_of variables) p variables v w)
   printed e (a_load x w) =
       made (roll-Expr (tree.Load x)) _ _ _ (fold-roll-Expr Shown (shown_step p variables) (tree.Load x)) (opens_load p x) (postorder-load x)
-          (load_printed p variables x w)
+      (load_printed p variables x w)
   printed e (a_unary f a w more) =
       made (roll-Expr (tree.Unary f a)) _ _ _ (fold-roll-Expr Shown (shown_step p variables) (tree.Unary f a)) (opens_unary p f a) (postorder-unary f a)
       (unary_printed (names_of variables) p variables (shown p variables a) (opens p a) (postorder a) (printed a more) f w)
   printed e (a_binary f a b left right) =
       made (roll-Expr (tree.Binary f a b)) _ _ _ (fold-roll-Expr Shown (shown_step p variables) (tree.Binary f a b)) (opens_binary p f a b)
-          (postorder-binary f a b)
+      (postorder-binary f a b)
       (binary_printed (names_of variables) p variables (shown p variables a) (shown p variables b) (opens p a) (opens p b) (postorder a) (postorder b)
-          (printed a left) (printed b right) f)
+      (printed a left) (printed b right) f)
 
 pub read : (variables : List Variable) (kinds : List Kind) (k : Kind) (e : Expr) → IsExpression kinds k e → CanWrite variables e
     → ReadsAs variables (expression_text variables e) e

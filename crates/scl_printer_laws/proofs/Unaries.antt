@@ -78,8 +78,11 @@ divides (negsuc n) some low rest closes at = record {
   signs = signed_at sign.Minus at ∷ [];
   minus = Some (signed_at sign.Minus at);
   number = record { kind = kind.Number (pos (suc n)); at = at + 1 };
-  cut = cuts_both (45 ∷ []) (signed_decimal (pos (suc n))) rest at (signed_at sign.Minus at ∷ []) (record { kind = kind.Number (pos
-      (suc n)); at = at + 1 } ∷ [])
+  cut = cuts_both (45 ∷ []) (signed_decimal (pos (suc n))) rest at (signed_at sign.Minus at ∷ []) (record {
+    kind = kind.Number (pos
+        (suc n));
+    at = at + 1;
+  } ∷ [])
       (cuts_sign sign.Minus 45 refl minus_plain (signed_decimal (pos (suc n)) ++ rest) (number_quiet (suc n) low rest) at)
       (cuts_number (suc n) low rest closes (at + 1));
   spelled = divisor_signed at (record { kind = kind.Number (pos (suc n)); at = at + 1 }) refl;
@@ -153,7 +156,7 @@ module _ (names : List (List ℕ)) (p : Parentheses) (variables : List Variable)
         cut = cuts_both (inner false) (between ++ digits) rest at r.tokens (t ∷ (v.signs ++ v.number ∷ [])) r.cut
             (cuts_both between digits rest end (t ∷ []) (v.signs ++ v.number ∷ [])
             (spaced (sign_text g) (digits ++ rest) end (kind.Sign g) (cuts_sign g b is plain (32 ∷ (digits ++ rest)) (quiet_low 32 (digits ++ rest)
-                (omega arith)) (end + 1)))
+            (omega arith)) (end + 1)))
             v.cut);
         spelled = product_whole n _ _ (product_divided (within n) t v.number v.minus r.tokens v.signs r.phrase (fits (end + 1)) v.fits r.spelled v.spelled);
         means = ap (λ q. code_of names (r.phrase ++ q)) (divided_is f d t means v.minus v.number v.value) ∙ added f r.phrase r.means;
@@ -162,8 +165,12 @@ module _ (names : List (List ℕ)) (p : Parentheses) (variables : List Variable)
   pub unary_printed : (f : UnaryOperator) → CanWriteOperator f
       → Printed names p (shown_step p variables (tree.Unary f s)) (opens_step p (tree.Unary f o)) (code ++ op.Unary f ∷ [])
   unary_printed unary_operator.Negate w = record { same = refl; quiet = λ rest. quiet_low 45 ((inner false ++ []) ++ rest) (omega arith); reads = negate_reads }
-  unary_printed unary_operator.Not w = record { same = refl; quiet = λ rest. quiet_letter 110 (codes "ot " ++
-      (inner true ++ []) ++ rest) refl; reads = not_reads }
+  unary_printed unary_operator.Not w = record {
+    same = refl;
+    quiet = λ rest. quiet_letter 110 (codes "ot " ++
+        (inner true ++ []) ++ rest) refl;
+    reads = not_reads;
+  }
   unary_printed (unary_operator.Divide d) w = record {
     same = refl;
     quiet = λ rest. subst Quiet (sym (append_assoc (inner false) (codes " / " ++ signed_decimal d.number) rest)) (operand_quiet names p false s o code h

@@ -19,12 +19,12 @@ returns-in-Unary g t c =
     ∙ ap (λ n. is_enclosed p n (shown p vs c.get-operand.result.now).form) c.unary_takes_not.ensures
     ∙ ap (λ e. is_enclosed p takes (shown p vs e).form) c.get-operand.ensures in
     let whole : (shown p vs c.args.expression.now).text ≡ _ = ap (λ e. (shown p vs e).text) c.in-Unary.is ∙ ap (λ s. s.text)
-        (shown_unary p vs c.in-Unary.operator a) in
+    (shown_unary p vs c.in-Unary.operator a) in
     written_as _ _ _ _ (sym whole)
     (follows _ _ _ _ _ (written_as _ _ _ _ c.prefix_text.ensures c.put_text.ensures)
     (follows _ _ _ _ _
     (operand_written p takes (shown p vs a) _ _ _ _ _ inner c.put_if.ensures (written_as _ _ _ _ (ap (λ e.
-        (shown p vs e).text) c.get-operand.ensures) c.write_tree.ensures) c.put_if-in-Unary.ensures)
+    (shown p vs e).text) c.get-operand.ensures) c.write_tree.ensures) c.put_if-in-Unary.ensures)
     c.write_divisor.ensures))
 
 pub returns-in-Binary : goal.returns-in-Binary
@@ -43,14 +43,14 @@ returns-in-Binary g t c =
     ∙ ap (λ n. is_enclosed p n (shown p vs c.get-right.result.now).form) c.binary_takes_not-takes_not.ensures
     ∙ ap (λ e. is_enclosed p takes (shown p vs e).form) c.get-right.ensures in
     let whole : (shown p vs c.args.expression.now).text ≡ _ = ap (λ e. (shown p vs e).text) c.in-Binary.is ∙ ap (λ s. s.text)
-        (shown_binary p vs c.in-Binary.operator a b) in
+    (shown_binary p vs c.in-Binary.operator a b) in
     written_as _ _ _ _ (sym whole)
     (follows _ _ _ _ _ (written_as _ _ _ _ c.opening_text.ensures c.put_text-in-Binary.ensures)
     (follows _ _ _ _ _
     (operand_written p takes (shown p vs a) _ _ _ _ _ left c.put_if-in-Binary.ensures (written_as _ _ _ _ (ap (λ e.
-        (shown p vs e).text) c.get-left.ensures) c.write_tree-in-Binary.ensures) c.put_if-in-Binary-2.ensures)
+    (shown p vs e).text) c.get-left.ensures) c.write_tree-in-Binary.ensures) c.put_if-in-Binary-2.ensures)
     (follows _ _ _ _ _ (written_as _ _ _ _ c.infix_text.ensures c.put_text-in-Binary-2.ensures)
     (follows _ _ _ _ _
     (operand_written p takes (shown p vs b) _ _ _ _ _ right c.put_if-in-Binary-3.ensures (written_as _ _ _ _ (ap (λ e.
-        (shown p vs e).text) c.get-right.ensures) c.write_tree-in-Binary-2.ensures) c.put_if-in-Binary-4.ensures)
+    (shown p vs e).text) c.get-right.ensures) c.write_tree-in-Binary-2.ensures) c.put_if-in-Binary-4.ensures)
     (written_as _ _ _ _ c.closing_text.ensures c.put_text-in-Binary-3.ensures)))))

@@ -29,7 +29,7 @@ returns-in_ok-binary-in-Binary t c =
     let vs : List Variable = c.args.variables.now in
     let left : seen c.in_ok-left-in-Binary.left ≡ shown p vs c.in-Binary.left = c.in_ok-left-in-Binary.ensures ∙ ap (shown p vs) c.get-in-Binary.ensures in
     let right : seen c.in_ok-right-in-Binary.right ≡ shown p vs c.in-Binary.right = c.in_ok-right-in-Binary.ensures ∙ ap
-        (shown p vs) c.get-in-Binary-2.ensures in
+    (shown p vs) c.get-in-Binary-2.ensures in
     c.in_ok-binary-in-Binary.ensures vs
     ∙ ap (λ a. shown_step p vs (tree.Binary c.in-Binary.operator a (seen c.in_ok-right-in-Binary.right))) left
     ∙ ap (λ b. shown_step p vs (tree.Binary c.in-Binary.operator (shown p vs c.in-Binary.left) b)) right
