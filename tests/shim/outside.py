@@ -5,11 +5,12 @@ import random
 import resource
 import shutil
 import signal
+import stat
 import subprocess
 import threading
 import time
 
-from cases import bytes_of, compiled
+from cases import OLD, bytes_of, compiled
 from runs import new_room, shown
 
 TRACE = b'{"out":{"x":1,"y":1},"steps":7,"tick":1}\n{"out":{"x":1,"y":1},"steps":0,"tick":2}\n'
@@ -37,6 +38,9 @@ class Outside:
             file.write(data)
 
     def get(self, name):
+        """The bytes of a file; None where there is none."""
+        if not os.path.exists(self.path(name)):
+            return None
         with open(self.path(name), "rb") as file:
             return file.read()
 
@@ -185,8 +189,9 @@ def names(at):
     os.symlink("loop", at.path("loop"))
     at.refuses("a link to itself", ["check", "loop"], "E64 loop")
     at.tally.count(os.listdir(at.path("folder")) == [], "a folder that could not be written", str(os.listdir(at.path("folder"))))
-    answer = at.call(["migrate", "image", "image"])
-    at.tally.count(answer == (0, SUMMARY, b"") and at.get("image") == at.image, "an image onto itself", shown(answer))
+    for name in one_file(at):
+        at.refuses(f"an image onto itself as {name}", ["migrate", "image", name], f"E64 {name}")
+        at.tally.count(at.get("image") == at.image, f"an image onto itself as {name}", "it was changed")
     answer = at.call(["check", *["image"] * 20000])
     at.tally.count(answer[0] == 2 and answer[1] == b"", "20,000 words", shown(answer))
     answer = at.call(["check", "x" * 100000, "y" * 100000])
@@ -194,13 +199,86 @@ def names(at):
     at.expect("no environment", at.call(["check", "image"], env={}), (0, SUMMARY, b""))
 
 
+def one_file(at):
+    """Names of the file `image`."""
+    os.link(at.path("image"), at.path("hard"))
+    os.symlink("image", at.path("soft"))
+    os.symlink("soft", at.path("softer"))
+    return ["image", "./image", at.path("image"), "hard", "soft", "softer"]
+
+
 def long_names(at):
-    """A file is written by way of one beside it, whose name is five bytes longer: 250 bytes are the most."""
-    answer = at.call(["migrate", "image", "n" * 250])
-    at.tally.count(answer == (0, SUMMARY, b"") and at.get("n" * 250) == at.image, "a name of 250 bytes", shown(answer))
-    os.remove(at.path("n" * 250))
-    at.refuses("a name of 251 bytes", ["migrate", "image", "n" * 251], "E64 " + "n" * 251)
-    at.tally.count(not os.path.exists(at.path("n" * 251)), "a name of 251 bytes", "a file was made")
+    """A file is written by way of one beside it, whose name is none too long where that of the file is not: 255 bytes."""
+    for length in 249, 250, 255:
+        answer = at.call(["migrate", "image", "n" * length])
+        at.tally.count(answer == (0, SUMMARY, b"") and at.get("n" * length) == at.image, f"a name of {length} bytes",
+                       shown(answer))
+        if at.get("n" * length) is not None:
+            os.remove(at.path("n" * length))
+    at.refuses("a name of 256 bytes", ["migrate", "image", "n" * 256], "E64 " + "n" * 256)
+    at.tally.count(not os.path.exists(at.path("n" * 256)), "a name of 256 bytes", "a file was made")
+
+
+def targets(at):
+    """What stands at the name that is written: links are followed, pipes written into, and rights are kept."""
+    os.symlink("behind", at.path("before"))
+    for words, state in ("a link to no file", None), ("a link to a file", OLD):
+        if state is not None:
+            at.put("behind", state)
+        answer = at.call(["migrate", "image", "before"])
+        at.tally.count(answer == (0, SUMMARY, b"") and at.get("behind") == at.image and os.path.islink(at.path("before")),
+                       words, shown(answer))
+    os.symlink("round", at.path("round"))
+    at.refuses("a link to itself to write", ["migrate", "image", "round"], "E64 round")
+    os.mkfifo(at.path("pipe"))
+    reader = subprocess.Popen(["cat", "pipe"], cwd=at.room, stdout=subprocess.PIPE)
+    answer = at.call(["migrate", "image", "pipe"])
+    try:
+        passed = reader.communicate(timeout=20)[0]
+    except subprocess.TimeoutExpired:
+        reader.kill()
+        passed = reader.communicate()[0]
+    at.tally.count(answer == (0, SUMMARY, b"") and passed == at.image and stat.S_ISFIFO(os.stat(at.path("pipe")).st_mode),
+                   "a named pipe to write", shown(answer))
+    for mode in 0o600, 0o640, 0o755, 0o444:
+        at.put("rights", OLD)
+        os.chmod(at.path("rights"), mode)
+        answer = at.call(["migrate", "image", "rights"])
+        kept = stat.S_IMODE(os.stat(at.path("rights")).st_mode)
+        at.tally.count(answer == (0, SUMMARY, b"") and at.get("rights") == at.image and kept == mode,
+                       f"a file of mode {mode:o}", f"{shown(answer)} {kept:o}")
+        os.remove(at.path("rights"))
+    with open(at.path("plain"), "wb") as plain:
+        at.expect("the file that is standard output", at.call(["migrate", "image", "plain"], stdout=plain),
+                  (1, b"", b"sct: E64 plain\n"))
+    at.tally.count(at.get("plain") == b"", "the file that is standard output", "it was changed")
+    left = [name for name in os.listdir(at.room) if ".new" in name]
+    at.tally.count(left == [], "nothing is left beside", str(left))
+    if os.getuid() == 0:
+        owners(at)
+
+
+def owners(at):
+    """The owner of an old file, for root, and for a user who may not give a file away."""
+    at.put("owned", OLD)
+    os.chown(at.path("owned"), NOBODY, NOBODY)
+    answer = at.call(["migrate", "image", "owned"])
+    kept = os.stat(at.path("owned"))
+    at.tally.count(answer == (0, SUMMARY, b"") and (kept.st_uid, kept.st_gid) == (NOBODY, NOBODY), "the owner of a file",
+                   f"{shown(answer)} {kept.st_uid}:{kept.st_gid}")
+    os.remove(at.path("owned"))
+    os.mkdir(at.path("open"))
+    os.chmod(at.room, 0o755)
+    os.chmod(at.path("open"), 0o777)
+    if at.call(["check", "image"], preexec_fn=as_nobody) != (0, SUMMARY, b""):
+        return
+    at.put("open/owned", OLD)
+    os.chmod(at.path("open/owned"), 0o4755)
+    answer = at.call(["migrate", "image", "open/owned"], preexec_fn=as_nobody)
+    kept = os.stat(at.path("open/owned"))
+    at.tally.count(answer == (0, SUMMARY, b"") and at.get("open/owned") == at.image
+                   and (kept.st_uid, stat.S_IMODE(kept.st_mode)) == (NOBODY, 0o755), "a file of another owner",
+                   f"{shown(answer)} {kept.st_uid} {kept.st_mode:o}")
 
 
 def taken_names(at):
@@ -321,7 +399,7 @@ def stack(at):
 def rows(program, tally):
     """Runs all rows, and gives what else is to be told."""
     at = Outside(program, tally)
-    for part in closed_streams, streams_of_the_system, names, taken_names, permissions, growing, lines, killed, at_once, stack:
+    for part in closed_streams, streams_of_the_system, names, targets, taken_names, permissions, growing, lines, killed, at_once, stack:
         part(at)
     shutil.rmtree(at.room)
     return at.told

@@ -13,7 +13,8 @@ import tempfile
 import time
 from typing import NamedTuple
 
-KINDS = ["memory", "thread", "input", "output", "errors", "open", "load", "store", "seek", "close", "rename", "unlink"]
+KINDS = ["memory", "thread", "input", "output", "errors", "open", "load", "store", "seek", "close", "rename", "unlink",
+         "sync", "rights"]
 FIELDS = struct.Struct(f"<{6 + 2 * len(KINDS)}q")
 PLAN_BYTES = 512
 HERE = os.path.dirname(os.path.realpath(__file__))

@@ -10,7 +10,8 @@
  *
  * Kinds: memory (a request for memory), thread (a thread to be started), input and output and errors (a read of standard
  * input, a write of standard output or standard error), open, load (a read of a file), store (a write of a file), seek (of
- * a place in a file, or its size), close, rename, unlink.
+ * a place in a file, or its size and its sort), close, rename, unlink, sync (of a file or a folder to the disk), rights (a
+ * file is given an owner or permissions).
  *
  * With SHIM=PLAN in the environment the program runs once by this plan. With SHIM_SERVE="IN OUT", the numbers of two open
  * files, it serves: it stands before its main, reads plans from IN, 512 bytes each with 0 behind the text, and for each
@@ -38,9 +39,9 @@
 
 #pragma GCC diagnostic ignored "-Wmissing-attributes"
 
-enum kind { MEMORY, THREAD, INPUT, OUTPUT, ERRORS, OPEN, LOAD, STORE, SEEK, CLOSE, RENAME, UNLINK, KINDS };
+enum kind { MEMORY, THREAD, INPUT, OUTPUT, ERRORS, OPEN, LOAD, STORE, SEEK, CLOSE, RENAME, UNLINK, SYNC, RIGHTS, KINDS };
 static const char *const names[KINDS] = {"memory", "thread", "input", "output", "errors", "open",
-                                         "load", "store", "seek", "close", "rename", "unlink"};
+                                         "load", "store", "seek", "close", "rename", "unlink", "sync", "rights"};
 enum deed { NONE, FAIL, TAKE, STOP };
 
 struct plan {
@@ -234,6 +235,13 @@ off_t lseek(int file, off_t by, int from) { return met(SEEK) ? -1 : syscall(SYS_
 int close(int file) { return met(CLOSE) ? -1 : (int)syscall(SYS_close, file); }
 int rename(const char *old, const char *new) { return met(RENAME) ? -1 : (int)syscall(SYS_rename, old, new); }
 int unlink(const char *name) { return met(UNLINK) ? -1 : (int)syscall(SYS_unlink, name); }
+
+int fsync(int file) { return met(SYNC) ? -1 : (int)syscall(SYS_fsync, file); }
+int fchmod(int file, mode_t mode) { return met(RIGHTS) ? -1 : (int)syscall(SYS_fchmod, file, mode); }
+
+int chown(const char *name, uid_t owner, gid_t group) {
+  return met(RIGHTS) ? -1 : (int)syscall(SYS_fchownat, AT_FDCWD, name, owner, group, 0);
+}
 
 int fstat(int file, struct stat *told) {
   return met(SEEK) ? -1 : (int)syscall(SYS_newfstatat, file, "", told, AT_EMPTY_PATH);

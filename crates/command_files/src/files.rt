@@ -3,9 +3,8 @@
 ghost use Rattle.std.specs.Prelude.{◌≡◌, Option, None, IfOk, OnOk, OnErr, IsErrOf};
 ghost use Rattle.command_files.specs.Files.{Contents, HasBytes, LacksFile, Stores};
 
+use crate::placing::{Place, place_of, put};
 use std::alloc::{AllocError, Global};
-use std::fs::File;
-use std::io::Write;
 use std::rt::Files as SystemFiles;
 use std::{fs, io};
 
@@ -45,63 +44,39 @@ pub trait Files {
         ensures same { OnErr result (contents self.new ≡ contents self.old) };
 }
 
-/// The files of the system.
+/// The files of the system, and where the one lies that was loaded last.
 #[derive(Drop)]
 pub struct HostFiles<'a, R: SystemFiles + AllocGlobal> {
     rt: &'a R,
+    loaded: Option<Place>,
 }
 
 impl<'a, R: SystemFiles + AllocGlobal> HostFiles<'a, R> {
     /// The files that this runtime reaches.
     pub fn new(rt: &'a R) -> HostFiles<'a, R> {
-        HostFiles { rt }
+        HostFiles { rt, loaded: None }
     }
 }
 
-fn file_fault(error: io::Error) -> FileFault {
+/// Why a file was not read or written, of the fault of the system.
+pub(crate) fn file_fault(error: io::Error) -> FileFault {
     match error.kind() {
         io::ErrorKind::OutOfMemory => FileFault::Memory,
         _ => FileFault::Named,
     }
 }
 
-// How many names beside that of a file are tried for its new bytes.
-const NAMES_BESIDE: u8 = 100;
-
-// A new file beside the one of this name, with its own name.
-fn file_beside<R: SystemFiles>(
-    alloc: Global,
-    rt: &R,
-    name: &str,
-) -> Result<(R::File, String), FileFault> {
-    for number in 0..NAMES_BESIDE {
-        let beside = format!(in alloc; "{name}.new{number}")?;
-        match File::create_new(rt, beside.as_str()) {
-            Ok(file) => return Ok((file, beside)),
-            Err(error) if error.kind() == io::ErrorKind::AlreadyExists => {}
-            Err(error) => return Err(file_fault(error)),
-        }
-    }
-    Err(FileFault::Named)
-}
-
 impl<'a, R: SystemFiles + AllocGlobal> Files for HostFiles<'a, R> {
     fn load(&mut self, _alloc: Global, name: &str) -> Result<Vec<u8>, FileFault> {
+        self.loaded = place_of(self.rt, name);
         fs::read(self.rt, name).map_err(file_fault)
     }
 
-    // The bytes go to a new file beside it, which then takes the name: a reader finds the old bytes
-    // or the new ones, whole.
+    // The file that was loaded is not written, by whatever name: it is the one of which the bytes were made.
     fn store(&mut self, alloc: Global, name: &str, bytes: &[u8]) -> Result<(), FileFault> {
-        let (mut file, beside) = file_beside(alloc, self.rt, name)?;
-        let written = file.write_all(bytes);
-        drop(file);
-        match written.and_then(|()| fs::rename(self.rt, beside.as_str(), name)) {
-            Ok(()) => Ok(()),
-            Err(error) => {
-                let _ = fs::remove_file(self.rt, beside.as_str());
-                Err(file_fault(error))
-            }
+        if self.loaded.is_some() && self.loaded == place_of(self.rt, name) {
+            return Err(FileFault::Named);
         }
+        put(alloc, self.rt, name, bytes)
     }
 }

@@ -9,6 +9,7 @@ mod images;
 mod laws;
 mod load;
 mod making;
+mod placing;
 mod source;
 mod storing;
 
