@@ -1,6 +1,6 @@
 -- The points of transitions, and of states without what is inside them.
-use Rattle.std.proofs.Common.{◌≡◌, ℕ, suc, ◌+◌, Bool, true, false, cond, if◌then◌else◌, Option, Some, None, List, [], ◌∷◌, ◌++◌, map}
-use Rattle.std.proofs.Common.{length, slice_get, refl, sym, ap, subst, ◌∙◌}
+use Rattle.std.proofs.Common.{◌≡◌, ℕ, suc, Bool, true, false, cond, if◌then◌else◌, Option, Some, None, List, [], ◌∷◌, ◌++◌, map}
+use Rattle.std.proofs.Common.{slice_get, refl, sym, subst}
 use Rattle.std.proofs.lemmas.List.{append-nil}
 use Rattle.sc_values.specs.declared.expression.Expr.{Expr}
 use Rattle.core_charts.specs.declared.region.Effect.{Effect}
@@ -11,13 +11,13 @@ use Rattle.scl.specs.declared.statement.Statement.TheVariants as statement
 use Rattle.chart_lowering.specs.declared.targets.Targets.{Targets}
 use Rattle.chart_lowering.specs.Lowering.{assignment, goto, label, label_at, label_name}
 use Rattle.chart_lowering.specs.Lowering as low
-use Rattle.graph_origins.specs.Points.{Assigns, Jumps, Marks, Pauses, Point}
+use Rattle.graph_origins.specs.Points.{Assigns, Jumps, Marks, Pauses}
 use Rattle.lowering_origins.specs.declared.origin.PointOrigin.{PointOrigin}
 use Rattle.lowering_origins.specs.declared.origin.PointOrigin.TheVariants as part
 use Rattle.lowering_origins.specs.declared.numbers.Numbers.{Numbers}
 use Rattle.lowering_origins.specs.Numbers.{behind_transition}
 use Rattle.lowering_origins.specs.Origins.{Origins, behind_fork, depth, effects, final, simple, taken, tested, transitions}
-use Rattle.lowering_origins.specs.Laws.{IsFrom, all_effects}
+use Rattle.lowering_origins.specs.Laws.{all_effects}
 use Rattle.lowering_origins.proofs.Held.{AllFrom, At, Held, from_append}
 use Rattle.lowering_origins.proofs.Single.{assign_points, from_first, goto_points, if_points, label_points, pause_points, points_in}
 

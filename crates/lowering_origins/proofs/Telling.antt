@@ -19,7 +19,7 @@ use Rattle.scl.specs.declared.statement.Statement.TheVariants as statement
 use Rattle.chart_lowering.specs.declared.targets.Targets.{Targets}
 use Rattle.chart_lowering.specs.Lowering.{is_wanted, label, label_name, labels_in, labels_in_initial, labels_in_states, lowered, numbers}
 use Rattle.chart_lowering.specs.Lowering as low
-use Rattle.graph_origins.specs.Points.{Point, Ends, Forks, Marks, in_branches, points_of, text_points}
+use Rattle.graph_origins.specs.Points.{Point, Ends, Marks, in_branches, points_of, text_points}
 use Rattle.lowering_origins.specs.declared.origin.PointOrigin.{PointOrigin}
 use Rattle.lowering_origins.specs.declared.origin.PointOrigin.TheVariants as part
 use Rattle.lowering_origins.specs.declared.numbers.Numbers.{Numbers}

@@ -1,6 +1,6 @@
 -- The elements of a core chart, of each sort numbered from 0: regions, states, transitions and effects, in the order of
 -- the text. A state's own transitions come before those in it.
-use Rattle.std.specs.Prelude.{ℕ, suc, ◌+◌, List, [], ◌∷◌, length}
+use Rattle.std.specs.Prelude.{suc, ◌+◌, List, [], ◌∷◌, length}
 use Rattle.core_charts.specs.declared.region.Transition.{Transition}
 use Rattle.lowering_origins.specs.declared.numbers.Numbers.{Numbers}
 

@@ -1,4 +1,4 @@
-use Rattle.std.proofs.Common.{◌≡◌, ◌++◌, drop}
+use Rattle.std.proofs.Common.{◌≡◌, drop}
 use Rattle.lowering_origins.specs.Origins.{behind_fork}
 use Rattle.lowering_origins.proofs.states.put_behind_fork.Given as goal
 
