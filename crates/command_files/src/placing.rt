@@ -32,8 +32,7 @@ pub(crate) struct Place {
     file: u64,
 }
 
-/// Where the file lies to which a name leads. A terminal and the like lies nowhere: what is written there is not what is
-/// read.
+/// Where the file lies to which a name leads. A terminal and the like lies nowhere: what is written there is not read.
 pub(crate) fn place_of<R: SystemFiles>(rt: &R, name: &str) -> Option<Place> {
     match fs::metadata(rt, name) {
         Ok(found) if !found.file_type().is_char_device() => Some(Place {

@@ -1,2 +1,3 @@
 mod Marks
 mod Row
+mod Kept

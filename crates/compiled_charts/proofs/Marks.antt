@@ -5,7 +5,7 @@ use Rattle.std.proofs.Common.{refl, sym, ap, subst, ◌∙◌, arith, if◌then�
 use Rattle.std.proofs.lemmas.Bool.{eq-eqb}
 use Rattle.std.proofs.lemmas.List.{get_or-set_other}
 use Rattle.std.proofs.lemmas.Grind.{get_or-set_at}
-use Rattle.compiled_charts.specs.Active.{is_number, numbers_where}
+use Rattle.node_states.specs.Active.{is_number, numbers_where}
 use Rattle.compiled_charts.specs.Inside.Marks.{marked, numbers_of}
 
 one_on : (n : ℕ) (marks : List Bool) (rest : List ℕ) (b w : Bool) → b ≡ w → numbers_of marks (suc n) ≡ rest →

@@ -1,6 +1,8 @@
 -- What a compiled chart is.
 use Rattle.std.specs.Prelude.{ℕ, ◌≡◌, Option, List}
+use Rattle.core_charts.specs.declared.features.Features.TheVariants as features
 use Rattle.core_charts.specs.Chart.{Chart}
+use Rattle.core_charts.specs.Rules.{IsChart}
 use Rattle.bytecode.specs.Image.{Image}
 use Rattle.compiler.specs.Charts.{IsImageOfChart}
 use Rattle.node_states.specs.Nodes.{state_count}
@@ -13,6 +15,7 @@ pub record CompiledChart : Type 0 where
   pub nodes : List (Option ℕ)
 
 pub record IsCompiledChart (chart : Chart) (compiled : CompiledChart) : Type 0 where
+  pub rules : IsChart features.Extended chart
   pub image : IsImageOfChart chart compiled.image
   pub states : compiled.states ≡ state_count chart
   pub nodes : compiled.nodes ≡ stands_for chart

@@ -1,4 +1,3 @@
-pub mod Active
 pub mod Ticks
 pub mod Refused
 pub mod Compiled

@@ -2,7 +2,8 @@
 
 ghost use Rattle.std.specs.Prelude.{◌≡◌, ◌≤◌, IfErr, IfOk};
 ghost use Rattle.sc_graph.specs.Tick.{initial};
-ghost use Rattle.compiled_charts.specs.Active.{active_states};
+ghost use Rattle.node_states.specs.Active.{active_states};
+ghost use Rattle.compiled_charts.specs.Kept.{ShowsItsReaction};
 ghost use Rattle.compiled_charts.specs.Ticks.{AreTicks};
 ghost use Rattle.compiled_charts.specs.Refused.{IsRunRefused};
 
@@ -54,8 +55,10 @@ impl Compiled {
     }
 
     /// Runs ticks from the configuration before the first one, with 1 to 8 workers, and gives the configuration
-    /// after each. `Input` names, counted from 1, the first tick whose inputs are not accepted. `Memory`: it was
-    /// refused.
+    /// after each: they show the reaction of the core chart, and that of the chart where it has no aborts, with its
+    /// variables and its active states. `Input` names, counted from 1, the first tick whose inputs are not
+    /// accepted. `Memory`: it was refused.
+    #[tactic(auto, using(crate::proofs::Kept::run_shows))]
     pub fn run<R: Threads + Wait + Sync>(
         &self,
         rt: &R,
@@ -65,6 +68,7 @@ impl Compiled {
     ) -> Result<Items<Control>, RunFault>
         requires workers { (1 ≤ workers) × (workers ≤ 8) }
         ensures ticks { IfOk result (AreTicks self.now.image ticks.now (initial self.now.image.program)) }
+        ensures reaction { IfOk result (ShowsItsReaction self.now ticks.now) }
         ensures refused { IfErr result (IsRunRefused self.now.image.program ticks.now) }
     {
         run_all(rt, alloc, &self.verified, ticks, workers)

@@ -1,7 +1,7 @@
 //! The states in which threads rest.
 
 ghost use Rattle.std.specs.Prelude.{◌≡◌, ◌<◌, ◌^◌, ℕ, false, get_or, length, IfOk};
-ghost use Rattle.compiled_charts.specs.Active.{active_states, rests_at, rests_in};
+ghost use Rattle.node_states.specs.Active.{active_states, rests_at, rests_in};
 ghost use Rattle.compiled_charts.specs.Inside.Marks.{AreMarked, AreMarkedMore, marked, numbers_of};
 
 use sc_graph::{Control, Status};

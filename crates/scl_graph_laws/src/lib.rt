@@ -1,7 +1,8 @@
 //! The graph of an SCL program keeps its runs: the laws, over the definitions alone.
 #![tactic(auto)]
 
-ghost use Rattle.scl_graph_laws.specs.Laws.{AnsweredGraphs, GraphsKeepRuns, ProgramsKeepRuns, ProgramsAreFormed, ProgramsKeepStepRules};
+ghost use Rattle.scl_graph_laws.specs.Laws.{AnsweredGraphs, GraphsKeepRuns, ProgramsKeepRuns, ProgramsAreFormed};
+ghost use Rattle.scl_graph_laws.specs.Laws.{ProgramsKeepStepRules};
 
 /// A program of nodes that mirrors a text keeps its runs, before the first tick and over every list of
 /// input ticks, if each place of the text leads to a statement: configurations of the two correspond,

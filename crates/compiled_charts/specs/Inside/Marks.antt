@@ -3,7 +3,7 @@ use Rattle.std.specs.Prelude.{ℕ, suc, ◌≡◌, ◌<◌, ◌||◌, Bool, true
 use Rattle.sc_graph.specs.declared.control.Control.{Control}
 use Rattle.std.specs.List.{list_any}
 use Rattle.sc_graph.specs.declared.control.Status.{Status}
-use Rattle.compiled_charts.specs.Active.{is_active, is_number, rests_in}
+use Rattle.node_states.specs.Active.{is_active, is_number, rests_in}
 
 abbrev pub marked : Option ℕ → List Bool → List Bool
 marked None marks = marks

@@ -9,6 +9,7 @@ pub returns-clause-compiled : goal.returns-clause-compiled
 returns-clause-compiled c =
     subst (IsCompiledChart c.args.chart.now) (sym c.known.ensures)
     (record {
+      rules = c.regions.ensures.rules;
       image = c.in_ok-verified.ensures.compiled;
       states = c.in-Ok-state_count.ensures ∙ ap (λ rs. states_in (map piece_of_region rs)) c.regions.ensures.value;
       nodes = c.in-Ok-stands_for.ensures

@@ -1,6 +1,6 @@
 use Rattle.std.proofs.Common.{ℕ, ◌≡◌, ◌<◌, ◌||◌, false, length, get_or, drop}
 use Rattle.std.specs.List.{list_any}
-use Rattle.compiled_charts.specs.Active.{is_number, rests_in}
+use Rattle.node_states.specs.Active.{is_number, rests_in}
 use Rattle.compiled_charts.proofs.marking.mark_all.Given as goal
 
 abbrev pub invariant-loop-status : goal.invariant-loop-status

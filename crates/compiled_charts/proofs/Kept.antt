@@ -1,0 +1,182 @@
+-- The ticks of a compiled chart are the reactions of its chart.
+use Rattle.std.proofs.Common.{ℕ, zero, suc, ◌+◌, ◌≡◌, ◌<◌, ◌≤◌, false, Bool, Option}
+use Rattle.std.proofs.Common.{Some, None, List, [], ◌∷◌, map, length, slice_get, take, unwrap_or, if◌then◌else◌}
+use Rattle.std.proofs.Common.{option_map, Result, Ok, Err, IfOk, refl, sym, ap, subst, ◌∙◌, arith}
+use Rattle.std.proofs.Math.Logic.{∥∥₁_map}
+use Rattle.std.proofs.lemmas.Option.{slice_get-map}
+use Rattle.sc_text.proofs.EachItem.{Each}
+use Rattle.sc_values.specs.Runs.{Ends}
+use Rattle.sc_graph.specs.declared.control.Control.{Control}
+use Rattle.sc_graph.specs.Machine.{machine}
+use Rattle.sc_graph.specs.Program.{Program}
+use Rattle.sc_graph.specs.Tick.{Inputs, initial, start}
+use Rattle.sc_graph.specs.Valid.{IsValid}
+use Rattle.core_charts.specs.Chart.{Chart}
+use Rattle.chart_machine.specs.declared.standing.Configuration.{Configuration}
+use Rattle.chart_machine.specs.Table.{table}
+use Rattle.chart_machine.specs.Machine as chart
+use Rattle.scl.specs.Numbering.{numbered}
+use Rattle.scl.specs.Rules.{KeepsRules}
+use Rattle.scl_graph.specs.Graph.{program_of}
+use Rattle.abort_expansion.specs.Expansion.{expanded, state_map}
+use Rattle.abort_expansion.specs.StateMap.{chart_state}
+use Rattle.chart_lowering_laws.specs.Keeps.{Reaction, EachPair}
+use Rattle.chart_lowering_laws.specs.Laws.{IsLowering}
+use Rattle.chart_lowering_laws.specs.Marks.{layout}
+use Rattle.bytecode.specs.Image.{Image}
+use Rattle.compiler.specs.Charts.{IsImageOfChart}
+use Rattle.node_states.specs.Active.{active_states, is_active, numbers_where}
+use Rattle.node_states.specs.Nodes.{state_of_node, state_count}
+use Rattle.node_states.specs.StandsFor.{past_core, stands_for}
+use Rattle.tick_core.specs.State.{threads_of}
+use Rattle.worker_pool.specs.Ticks.{IsTick}
+use Rattle.compiled_charts_laws.specs.Nodes.{StandForStates}
+use Rattle.compiled_charts_laws.specs.Reactions.{AllAccepted, GraphReacts, IsReactionOfChart, HasOneReaction}
+use Rattle.compiled_charts_laws.specs.Reactions.{AreSeenAlike as AreSeenAlikeBy}
+use Rattle.compiled_charts_laws.proofs.Plain.{expands_to_itself, stands_for_itself}
+use Rattle.compiled_charts_laws.proofs.Ticks.{one_reaction}
+use Rattle.compiled_charts_laws.proofs.Told.{as_many_states, nodes_stand}
+use Rattle.compiled_charts.specs.Ticks.{AreTicks}
+use Rattle.compiled_charts.specs.Compiled.{CompiledChart}
+use Rattle.compiled_charts.specs.Kept.{AreSeenAlike, IsReactionSeen, ShowsReaction, ShowsItsReaction}
+
+-- ---- ticks
+
+-- ticks are a reaction of the program to accepted inputs
+record AreReaction (image : Image) (ticks : List Inputs) (c : Control) (controls : List Control) : Type 0 where
+  accepted : AllAccepted image.program ticks
+  reacts : Reaction (machine image.program) (start image.program) c ticks controls
+  long : Each (λ d. length d.variables ≡ length image.program.variables) controls
+
+are_reaction : (image : Image) (ticks : List Inputs) (c : Control) (controls : List Control) → AreTicks image ticks c controls →
+    AreReaction image ticks c controls
+are_reaction image [] c [] h = record { accepted = tt; reacts = tt; long = tt }
+are_reaction image (inputs ∷ ticks) c (d ∷ ds) h =
+    let tick : IsTick image inputs c d h.0.0 = h.0.1 in
+    let more : AreReaction image ticks d ds = are_reaction image ticks d ds h.1 in
+    let ends : Ends (machine image.program) (start image.program inputs c) d = record {
+      run = threads_of h.0.0.history;
+      complete = tick.whole.complete;
+      admissible = tick.whole.admissible;
+    } in
+    record {
+      accepted = (tick.accepted, more.accepted);
+      reacts = (ends, more.reacts);
+      long = (tick.rests.configuration.values, more.long);
+    }
+are_reaction image [] c (d ∷ ds) h = absurd h
+are_reaction image (inputs ∷ ticks) c [] h = absurd h
+
+-- ---- what is seen
+
+take_all : {A : Type 0} (xs : List A) (n : ℕ) → length xs ≡ n → take n xs ≡ xs
+take_all [] zero h = refl
+take_all [] (suc n) h = absurd cc
+take_all (x ∷ xs) zero h = absurd cc
+take_all (x ∷ xs) (suc n) h = ap (λ ys. x ∷ ys) (take_all xs n (let one : suc (length xs) ≡ suc n = h in omega (arith, one)))
+
+same_numbers : (f g : ℕ → Bool) (from count : ℕ) → ((m : ℕ) → from ≤ m → m < from + count → f m ≡ g m) → numbers_where f from count ≡ numbers_where g from count
+same_numbers f g from zero each = refl
+same_numbers f g from (suc count) each =
+    ap (λ b. if b then from ∷ numbers_where f (suc from) count else numbers_where f (suc from) count) (each from (omega arith) (omega arith))
+    ∙ ap (λ xs. if g from then from ∷ xs else xs)
+    (same_numbers f g (suc from) count (λ m low high. each m (omega (arith, low)) (omega (arith, high))))
+
+module _ (c : Chart) (nodes : List (Option ℕ)) (states : ℕ) (many : states ≡ length (table c).states) where
+  seen : (d : Configuration) (control : Control) → length control.variables ≡ length c.variables → AreSeenAlikeBy (table c) nodes d control →
+      AreSeenAlike c nodes states d control
+  seen d control long alike = record {
+    variables = take_all control.variables (length c.variables) long ∙ alike.variables;
+    active =
+        ap (λ n. numbers_where (is_active nodes control) 0 n) many
+        ∙ same_numbers (is_active nodes control) (chart.is_active (table c) d) 0 (length (table c).states)
+        (λ m low high. alike.active m (omega (arith, high)));
+  }
+
+  all_seen : (ds : List Configuration) (controls : List Control) → Each (λ e. length e.variables ≡ length c.variables) controls →
+      EachPair (AreSeenAlikeBy (table c) nodes) ds controls → EachPair (AreSeenAlike c nodes states) ds controls
+  all_seen [] [] long alike = tt
+  all_seen (d ∷ ds) (e ∷ es) long alike = (seen d e long.0 alike.0, all_seen ds es long.1 alike.1)
+  all_seen [] (e ∷ es) long alike = absurd alike
+  all_seen (d ∷ ds) [] long alike = absurd alike
+
+  shows : (image : Image) → length image.program.variables ≡ length c.variables → HasOneReaction c nodes image.program → (ticks : List Inputs)
+      (controls : List Control) → AreTicks image ticks (initial image.program) controls → IsReactionSeen c nodes states ticks controls
+  shows image long one ticks controls are =
+      let r : AreReaction image ticks (initial image.program) controls = are_reaction image ticks (initial image.program) controls are in
+      let each_long : Each (λ e. length e.variables ≡ length c.variables) controls =
+      subst (λ n. Each (λ e. length e.variables ≡ n) controls) long r.long in
+      let from : IsReactionOfChart c nodes ticks controls = one.some ticks controls r.accepted r.reacts in
+      record {
+        each = λ ends reacts. all_seen ends controls each_long (one.each ticks ends controls r.accepted reacts r.reacts);
+        some = (from.ends, from.reacts);
+      }
+
+-- ---- compiled charts
+
+module _ (c : Chart) (image : Image) (is : IsImageOfChart c image) (kept : KeepsRules is.scl.name is.scl.variables is.scl.body) (ticks : List Inputs)
+    (controls : List Control) (are : AreTicks image ticks (initial image.program) controls) where
+  abbrev core : Chart
+  core = expanded c
+
+  low : IsLowering core is.scl
+  low = record { core = is.lowers.core; rules = kept; variables = is.lowers.declared; body = is.lowers.body; no_loop = is.image_of.graph.no_loop }
+
+  valid : IsValid (program_of (numbered is.scl)) image.tables
+  valid = subst (λ p. IsValid p image.tables) is.image_of.graph.is is.image_of.valid
+
+  long : length image.program.variables ≡ length core.variables
+  long = ap (λ (p : Program). length p.variables) is.image_of.graph.is ∙ ap length is.lowers.declared
+
+  abbrev Stand : List (Option ℕ) → Type 0
+  Stand nodes = StandForStates (table core) (numbered is.scl).root (layout core (numbered is.scl).root) nodes
+
+  one : (nodes : List (Option ℕ)) → Stand nodes → HasOneReaction core nodes image.program
+  one nodes stands = subst (λ p. HasOneReaction core nodes p) (sym is.image_of.graph.is) (one_reaction core is.scl image.tables low valid nodes stands)
+
+  own : Stand (state_of_node core)
+  own = nodes_stand core is.scl low
+
+  core_shown : IsReactionSeen core (state_of_node core) (length (table core).states) ticks controls
+  core_shown = shows core (state_of_node core) (length (table core).states) refl image long (one (state_of_node core) own) ticks controls are
+
+  -- where each core state stands for itself, what stands for the chart's states is what stands for those of the core
+  module _ (same : core ≡ c) (itself : (s : ℕ) → s < state_count c → chart_state (state_map c) s ≡ Some s) where
+    many : length (table core).states ≡ state_count c
+    many = as_many_states core is.scl low ∙ ap state_count same
+
+    past : (n s : ℕ) → s < length (table core).states → slice_get (state_of_node core) n ≡ Some (Some s) → slice_get (stands_for c) n ≡ Some (Some s)
+    past n s less there =
+        slice_get-map (past_core (state_map c)) (state_of_node core) n
+        ∙ ap (option_map (past_core (state_map c))) there
+        ∙ ap Some (itself s (let m : length (table core).states ≡ state_count c = many in omega (arith, less, m)))
+
+    stand_too : Stand (stands_for c)
+    stand_too = record {
+      pauses = λ s n rest less asked. past (suc n) s less (own.pauses s n rest less asked);
+      forks = λ s n branches rest less asked. past (suc n) s less (own.forks s n branches rest less asked);
+      top = λ n branches rest asked.
+          slice_get-map (past_core (state_map c)) (state_of_node core) (suc n)
+          ∙ ap (option_map (past_core (state_map c))) (own.top n branches rest asked);
+    }
+
+    chart_shown : IsReactionSeen c (stands_for c) (state_count c) ticks controls
+    chart_shown =
+        subst (λ x. IsReactionSeen x (stands_for c) (state_count c) ticks controls) same
+        (shows core (stands_for c) (state_count c) (sym many) image long (one (stands_for c) stand_too) ticks controls are)
+
+pub shows_its_reaction : (x : CompiledChart) (ticks : List Inputs) (controls : List Control) → AreTicks x.image ticks (initial x.image.program) controls →
+    ShowsItsReaction x ticks controls
+shows_its_reaction x ticks controls are c is = ∥∥₁_map is.image.lowers.rules (λ kept. record {
+  core = core_shown c x.image is.image kept ticks controls are;
+  without_aborts = λ none.
+      subst (λ nodes. IsReactionSeen c nodes x.states ticks controls) (sym is.nodes)
+      (subst (λ states. IsReactionSeen c (stands_for c) states ticks controls) (sym is.states)
+      (chart_shown c x.image is.image kept ticks controls are (expands_to_itself c is.rules none) (stands_for_itself c is.rules none)));
+})
+
+-- ticks that were run show it
+pub run_shows : {E : Type 0} (x : CompiledChart) (ticks : List Inputs) (r : Result (List Control) E) →
+    IfOk r (AreTicks x.image ticks (initial x.image.program)) → IfOk r (ShowsItsReaction x ticks)
+run_shows x ticks (Ok controls) are = shows_its_reaction x ticks controls are
+run_shows x ticks (Err fault) are = tt
