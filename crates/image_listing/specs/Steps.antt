@@ -22,9 +22,12 @@ abbrev pub code_text : List Variable → List Operation → List ℕ
 code_text variables code = spelt_text variables (tree_of code)
 
 -- a variable combined with the value of an expression
+unfoldable pub combination : ℕ → Combination → Expr → Expr
+combination x f e = expr.Binary (operator_of f) (expr.Load x) e
+
 abbrev pub combined_text : List Variable → ℕ → Combination → Option Expr → List ℕ
 combined_text variables x f None = codes "?"
-combined_text variables x f (Some e) = expression_text variables (expr.Binary (operator_of f) (expr.Load x) e)
+combined_text variables x f (Some e) = expression_text variables (combination x f e)
 
 abbrev pub becomes : List ℕ → List ℕ → ℕ → List ℕ
 becomes name value next = name ++ (codes " = " ++ (value ++ (codes " -> " ++ decimal next)))

@@ -2,7 +2,9 @@
 
 ghost use Rattle.std.specs.Prelude.{◌≡◌, IfOk, List, string_bytes};
 ghost use Rattle.scl_printer.specs.Expressions.{variable_text};
-ghost use Rattle.image_listing.specs.Steps.{assigned_text, code_text, numbers_text, step_text, updated_text};
+ghost use Rattle.sc_values.specs.Code.{tree_of};
+ghost use Rattle.image_listing.specs.Steps.{assigned_text, code_text, combination, combined_text, numbers_text};
+ghost use Rattle.image_listing.specs.Steps.{step_text, updated_text};
 
 use sc_graph::{Step, Variable, VariableId};
 use sc_values::{Code, Combination, Expr, tree_of};
@@ -79,15 +81,41 @@ fn updated(
     ensures { IfOk result (λ text. string_bytes text ≡ updated_text variables.now variable combine code.now next) }
 {
     let name = name_text(alloc, variables, variable)?;
-    let value = match tree_of(alloc, code.operations())? {
-        Some(by) => {
-            let present = Boxed::new(alloc, Expr::Load(variable))?;
-            let whole = Expr::Binary(combine.operator(), present, Boxed::new(alloc, by)?);
-            text_of(alloc, variables, &whole)?
-        }
-        None => String::from_str(alloc, "?")?,
-    };
+    let value = combined_text(alloc, variables, variable, combine, code)?;
     format!(in alloc; "{name} = {value} -> {next}")
+}
+
+// The text of a variable combined with the value of the expression that a code spells.
+fn combined_text(
+    alloc: Global,
+    variables: &[Variable],
+    variable: VariableId,
+    combine: Combination,
+    code: &Code,
+) -> Result<String, AllocError>
+    ensures { IfOk result (λ text. string_bytes text ≡ combined_text variables.now variable combine (tree_of code.now)) }
+{
+    match tree_of(alloc, code.operations())? {
+        Some(by) => {
+            let whole = combination(alloc, variable, combine, by)?;
+            text_of(alloc, variables, &whole)
+        }
+        None => String::from_str(alloc, "?"),
+    }
+}
+
+// A variable combined with the value of an expression.
+#[tactic(auto, unfolding(crate::specs::Steps::combination))]
+fn combination(
+    alloc: Global,
+    variable: VariableId,
+    combine: Combination,
+    by: Expr,
+) -> Result<Expr, AllocError>
+    ensures { IfOk result (λ whole. whole ≡ combination variable combine by) }
+{
+    let present = Boxed::new(alloc, Expr::Load(variable))?;
+    Ok(Expr::Binary(combine.operator(), present, Boxed::new(alloc, by)?))
 }
 
 fn name_text(
