@@ -37,7 +37,7 @@ trigger_text variables None = []
 trigger_text variables (Some test) = codes " if " ++ expression_text variables test
 
 -- an effect: the variable, and the expression whose value it gets
-abbrev pub effect_text : List Variable → Effect → List ℕ
+unfoldable pub effect_text : List Variable → Effect → List ℕ
 effect_text variables e = variable_text variables e.variable ++ (codes " = " ++ expression_text variables e.value)
 
 -- effects behind the first, each in a line of its own

@@ -82,6 +82,7 @@ fn name_text(
 }
 
 // An effect: the variable, and the expression whose value it gets.
+#[tactic(auto, unfolding(crate::specs::Labels::effect_text))]
 fn effect_text(alloc: Global, variables: &[Variable], effect: &Effect) -> Result<String, AllocError>
     ensures { IfOk result (λ text. string_bytes text ≡ effect_text variables.now effect.now) }
 {
