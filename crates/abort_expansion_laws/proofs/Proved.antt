@@ -22,7 +22,7 @@ pub use Rattle.abort_expansion_laws.proofs.MonitorSteps.{watched_segment}
 pub use Rattle.abort_expansion_laws.proofs.StrongNotTaken.{not_taken_followed}
 pub use Rattle.abort_expansion_laws.proofs.SimpleRows.{simple_local}
 pub use Rattle.abort_expansion_laws.proofs.DropsOut.{dropped_out}
-pub use Rattle.abort_expansion_laws.proofs.StrongTestsQuiet.{Lowered, quiet_kept, spares}
+pub use Rattle.abort_expansion_laws.proofs.StrongTestsQuiet.{quiet_kept, spares}
 pub use Rattle.abort_expansion_laws.proofs.InsideLeaves.{may_leave}
 pub use Rattle.abort_expansion_laws.proofs.FlagAccess.{put_access, raised_access, number_access}
 pub use Rattle.abort_expansion_laws.proofs.CoreSteps.{takes, writes_last}

@@ -1,5 +1,5 @@
 -- What validity of the core chart's program gives: no strong test of a monitor reads what a step inside then writes. It is
--- taken from a lowering of the core chart, of which this is asked.
+-- taken from the lowering of the core chart.
 use Rattle.std.proofs.Common.{◌≡◌, ◌≢◌, ℕ, suc, ◌<◌, ◌≤◌, ◌⊎◌, inl, inr, ⊎_elim, true, Option, Some, None, List, [], ◌∷◌, Contains, refl, sym, ap, subst, ◌∙◌}
 use Rattle.std.proofs.Common.{arith}
 use Rattle.std.specs.Prelude.{option_and_then}
@@ -13,7 +13,6 @@ use Rattle.sc_graph.specs.declared.control.Status.TheVariants as status
 use Rattle.sc_graph.specs.declared.program.Step.TheVariants as steps
 use Rattle.sc_graph.specs.Program.{Program, parent_of, owner_of, step_at}
 use Rattle.sc_graph.specs.Threads.{IsFork, Below, ConcurrentNodes}
-use Rattle.sc_graph.specs.Threads as threads
 use Rattle.sc_graph.specs.Accesses.{accesses}
 use Rattle.sc_graph.specs.Control.{status_of}
 use Rattle.sc_graph.specs.Steps.{Effect, after, effect}
@@ -37,41 +36,11 @@ use Rattle.chart_machine.specs.declared.standing.Configuration.{Configuration}
 use Rattle.chart_machine.specs.declared.table.Table.{Table}
 use Rattle.chart_machine.specs.Turns.{LiesIn, itself, deeper, ForkedApart, holder_of, standing_of, is_enabled}
 use Rattle.chart_machine.specs.Steps.{step, access_of}
+use Rattle.chart_lowering_laws.specs.Stands.{Followed, AtNode, Lowered}
 use Rattle.chart_machine_laws.proofs.LyingIn.{IsNested, LiesUnder, around, holder, none_in, head_or_tail, head_in, outwards, inwards}
 use Rattle.abort_expansion_laws.proofs.TablesCorrespond.{IsThere, contains_map}
 use Rattle.abort_expansion_laws.specs.CoreRows.{Images, CoreRows}
 use Rattle.abort_expansion_laws.proofs.LowPriorities.{Under, LowUnder, low_under_kept, never_before}
-
--- a step of the core chart, and the steps of the program that follow it
-pub record Followed (core : Table) (p : Program) (Stands : Configuration → Control → Type 0) (next : Configuration) (m : Control) (t : ℕ) : Type 0 where
-  pub run : List ℕ
-  pub last : Control
-  pub leads : replay (programs.machine p) run m ≡ Some last
-  pub stands : Stands next last
-  -- besides t itself nobody steps who waits at a join
-  pub by : (u : ℕ) → Contains run u → (u ≡ t) ⊎ ((j : ℕ) → status_of m u ≢ status.Waiting j)
-
--- the node of what a region is about to do: its thread stands there, or at a resume node that leads there
-pub record AtNode (p : Program) (m : Control) (t : ℕ) (a : Access) : Type 0 where
-  pub node : ℕ
-  pub owned : owner_of p node ≡ Some t
-  pub does : accesses p node ≡ a
-  pub at : (status_of m t ≡ status.At node) ⊎ ((depth : ℕ) × (status_of m t ≡ status.At depth) × (step_at p depth ≡ Some (steps.Depth node)))
-
--- what the lowering of core charts has to give: region t of the core chart is thread t of its program
-pub record Lowered (core : Table) (p : Program) : Type 1 where
-  pub Stands : Configuration → Control → Type 0
-  pub configuration : (d : Configuration) (m : Control) → Stands d m → IsConfiguration p m
-  pub follow : (d next : Configuration) (m : Control) (t : ℕ) → Stands d m → step core t d ≡ Some next → Followed core p Stands next m t
-  -- of a superstate: the join of its fork
-  pub join_of : ℕ → ℕ
-  pub waits_back : (d : Configuration) (m : Control) (t s : ℕ) → Stands d m → status_of m t ≡ status.Waiting (join_of s) →
-      (tests : List Transition) × (standing_of d t ≡ at.Within s tests)
-  -- where what it does writes a variable
-  pub node : (d : Configuration) (m : Control) (t : ℕ) → Stands d m → is_enabled core d t ≡ true → (access_of (standing_of d t)).writes ≢ Nothing →
-      AtNode p m t (access_of (standing_of d t))
-  pub apart : (t u a : ℕ) → ForkedApart core t u a → threads.ForkedApart p t u a
-  pub parent : (t s : ℕ) (ss : List ℕ) → around core t ≡ s ∷ ss → parent_of p t ≡ Some (holder core s)
 
 precedes_writes : (b a : Access) → Precedes b a → b.writes ≢ Nothing
 precedes_writes b a (init_update x f i u) e = let w = i.1 in absurd cc
@@ -147,7 +116,7 @@ module _ (p : Program) (q : Tables) (valid : IsValid p q) where
 -- ---- a strong test that was made, by the monitor of a superstate that a region holds
 
 module _ (k core : Table) (i : Images) (rows : CoreRows k core i) (tree : IsNested core) (p : Program) (q : Tables) (valid : IsValid p q)
-    (lowered : Lowered core p) where
+    (Stands : Configuration → Control → Type 0) (lowered : Lowered core p Stands) where
   -- the regions of the superstate besides its monitor g, and others that the region holds: these are not there
   abbrev pub Inner : (thread g : ℕ) → ℕ → Type 0
   Inner thread g u = (parent_of p u ≡ Some thread) × (u ≢ g)
@@ -167,7 +136,7 @@ module _ (k core : Table) (i : Images) (rows : CoreRows k core i) (tree : IsNest
     pub does : accesses p tested ≡ a
     pub leads : Instant p tested raising
     pub control : Control
-    pub stands : lowered.Stands d control
+    pub stands : Stands d control
     pub waits : status_of control (i.thread_of r) ≡ status.Waiting (lowered.join_of (i.main_of superstate))
     pub low : LowUnder p q (Under p (Inner (i.thread_of r) monitor)) (Resumes p q (priority q raising)) (priority q raising) control
 
@@ -192,7 +161,7 @@ module _ (k core : Table) (i : Images) (rows : CoreRows k core i) (tree : IsNest
         low = still.low;
       }
     where
-      f : Followed core p lowered.Stands next quiet.control t
+      f : Followed core p Stands next quiet.control t
       f = lowered.follow d next quiet.control t quiet.stands steps
 
       nobody : (u : ℕ) → Contains f.run u → u ≢ i.thread_of r

@@ -1,6 +1,6 @@
 -- The program follows the chart: to each step of a region its thread has one that shows the same, or none.
-use Rattle.std.proofs.Common.{◌≡◌, ◌≢◌, ℕ, Bool, true, false, not, ◌&&◌, ◌||◌, if◌then◌else◌, Option, Some, None, List, [], ◌∷◌, filter, option_map, Contains}
-use Rattle.std.proofs.Common.{refl, sym, ap, subst, ◌∙◌}
+use Rattle.std.proofs.Common.{◌≡◌, ◌≢◌, ℕ, inl, inr, Bool, true, false, not, ◌&&◌, ◌||◌, if◌then◌else◌, Option, Some, None, List, [], ◌∷◌, filter, option_map}
+use Rattle.std.proofs.Common.{Contains, refl, sym, ap, subst, ◌∙◌}
 use Rattle.std.specs.List.{list_all}
 use Rattle.std.proofs.lemmas.Option.{none-some, same_Some}
 use Rattle.sc_values.specs.declared.expression.Expr.{Expr}
@@ -27,14 +27,15 @@ use Rattle.scl_graph_laws.proofs.Alike.{from_both}
 use Rattle.chart_lowering_laws.specs.Layout.{Layout, LiesIn, IsRegionOf, Lowers, Behind}
 use Rattle.chart_lowering_laws.specs.Corresponds.{Live, HeldBy, Turn, given, Fits, Corresponds}
 use Rattle.chart_lowering_laws.specs.Shown.{move, shown_acts}
-use Rattle.chart_lowering_laws.specs.Follows.{Answers}
+use Rattle.chart_lowering_laws.specs.Follows.{Answers, AnswersBy}
+use Rattle.chart_lowering_laws.specs.Keeps.{LeavesJoins}
 use Rattle.chart_lowering_laws.specs.WhichShow.{region_shows, thread_shows, shows_doing, shows_standing, has_trigger}
-use Rattle.chart_lowering_laws.proofs.Following.{both_answers}
+use Rattle.chart_lowering_laws.proofs.Following.{both_by}
 use Rattle.chart_lowering_laws.proofs.Updating.{After}
 use Rattle.chart_lowering_laws.proofs.Steps.{tests_alike, tests_silently, effects_alike}
 use Rattle.chart_lowering_laws.proofs.Joins.{InFork, in_fork, given_forked, termination_alike}
 use Rattle.chart_lowering_laws.proofs.Finished.{finished_all, all_each}
-use Rattle.chart_lowering_laws.proofs.Catching.{no_answer, shown_answer, caught, Caught, CaughtUp, catch_up, has_turn}
+use Rattle.chart_lowering_laws.proofs.Catching.{no_answer_by, shown_answer_by, more_by, caught, Caught, CaughtUp, NoJoin, catch_up, has_turn}
 use Rattle.chart_lowering_laws.proofs.Showing.{ShowsAlike, test_shows, effect_shows, act, region_of}
 
 -- a chosen test is of the sort that was chosen
@@ -80,7 +81,7 @@ module _ (k : Table) (p : Numbered) (l : Layout) (low : Lowers k p l) (c : Confi
 
   module _ (s : State) (corr : Corresponds k p l c s) (up : Caught c s) (t : ℕ) (d : Configuration) (steps : chart_step k t c ≡ Some d) where
     abbrev Goal : Type 0
-    Goal = Answers text thread_shows s (After k p l c t d) (shown_of t)
+    Goal = AnswersBy text thread_shows s (LeavesJoins t) (After k p l c t d) (shown_of t)
 
     works : has_work k c (standing_of c t) ≡ true
     works =
@@ -91,10 +92,10 @@ module _ (k : Table) (p : Numbered) (l : Layout) (low : Lowers k p l) (c : Confi
     shown_step : (x : Standing) (y : Doing) (f : State) → standing_of c t ≡ x → doing s t ≡ y → ShowsAlike x y → step p t s ≡ Some f → After k p l c t d f →
         Goal
     shown_step x y f stands is alike goes good =
-        subst (Answers text thread_shows s (After k p l c t d))
+        subst (AnswersBy text thread_shows s (LeavesJoins t) (After k p l c t d))
         (ap (λ z. act t (Rattle.scl.specs.Meaning.access_of z) ∷ []) is ∙ ap (λ a. act t a ∷ []) alike.access ∙ ap (λ z. act t (access_of_region z) ∷ [])
         (sym stands) ∙ sym (shown_is t (ap shows_standing stands ∙ alike.shows_too)))
-        (shown_answer text thread_shows s f t (After k p l c t d) goes (ap shows_doing is ∙ alike.shows) good)
+        (shown_answer_by text thread_shows s f t (LeavesJoins t) (After k p l c t d) goes (ap shows_doing is ∙ alike.shows) (inl refl) good)
 
     by_both : (x : Standing) (y : Doing) → standing_of c t ≡ x → doing s t ≡ y → ShowsAlike x y → Both (After k p l c t) (chart_step k t c) (step p t s) → Goal
     by_both x y stands is alike both =
@@ -110,9 +111,9 @@ module _ (k : Table) (p : Numbered) (l : Layout) (low : Lowers k p l) (c : Confi
           by None trigger =
               let e : (e : Configuration) × (chart_step k t c ≡ Some e) × After k p l c t e s =
               tests_silently k p l low c s corr t there turn u x tests todo stands trigger is in
-              subst (Answers text thread_shows s (After k p l c t d))
+              subst (AnswersBy text thread_shows s (LeavesJoins t) (After k p l c t d))
               (sym (shown_silent t (ap shows_standing stands ∙ ap has_trigger trigger)))
-              (no_answer text thread_shows s (After k p l c t d) (subst (λ e. After k p l c t e s) (same_Some e.0 d (sym e.1 ∙ steps)) e.2))
+              (no_answer_by text thread_shows s (LeavesJoins t) (After k p l c t d) (subst (λ e. After k p l c t e s) (same_Some e.0 d (sym e.1 ∙ steps)) e.2))
           by (Some e) trigger =
               by_both (stand.Trying u (x ∷ tests)) (Todo todo) stands is (test_shows k p.root l t u x tests e todo trigger live)
               (tests_alike k p l low c s corr t there turn u x tests e todo stands trigger is)
@@ -264,7 +265,7 @@ module _ (k : Table) (p : Numbered) (l : Layout) (low : Lowers k p l) (c : Confi
   pub ended_inside : (s : State) → Corresponds k p l c s → (t : ℕ) (d : Configuration) → chart_step k t c ≡ Some d → (u : ℕ) (tests : List Transition) →
       standing_of c t ≡ stand.Within u tests → (q : ℕ) → Contains (state_at k u).regions q → standing_of c q ≡ stand.Ended
   ended_inside s corr t d steps u tests stands =
-      let up : Answers text thread_shows s (CaughtUp k p l low c) [] = catch_up k p l low c s corr in
+      let up : Answers text thread_shows s (CaughtUp k p l low c) [] = (catch_up k p l low c s corr).answers in
       let f : State = up.end in
       let again : Corresponds k p l c f = up.good.corresponds in
       let there : IsRegionOf k t = region_of k p l c f again t (λ out. let h : stand.Within u tests ≡ stand.Outside = sym stands ∙ out in absurd (cc)) in
@@ -285,10 +286,15 @@ module _ (k : Table) (p : Numbered) (l : Layout) (low : Lowers k p l) (c : Confi
       let h : has_work k c stand.Outside ≡ true = subst (λ x. has_work k c x ≡ true) is work in
       absurd (cc)
 
-  -- the program follows a step of a region
+  -- the program follows a step of a region, and besides its thread nobody leaves a join
+  pub step_followed_by : (s : State) → Corresponds k p l c s → (t : ℕ) (d : Configuration) → chart_step k t c ≡ Some d →
+      AnswersBy text thread_shows s (LeavesJoins t) (After k p l c t d) (shown_of t)
+  step_followed_by s corr t d steps =
+      let up : AnswersBy text thread_shows s (LeavesJoins t) (CaughtUp k p l low c) [] =
+      more_by text thread_shows s (NoJoin k p l low c) (LeavesJoins t) (CaughtUp k p l low c) [] (λ u e free. inr free) (catch_up k p l low c s corr) in
+      both_by text thread_shows s (LeavesJoins t) (CaughtUp k p l low c) (After k p l c t d) [] (shown_of t) up
+      (caught_follows up.answers.end up.answers.good.corresponds up.answers.good.all t d steps)
+
   pub step_followed : (s : State) → Corresponds k p l c s → (t : ℕ) (d : Configuration) → chart_step k t c ≡ Some d →
       Answers text thread_shows s (After k p l c t d) (shown_of t)
-  step_followed s corr t d steps =
-      let up : Answers text thread_shows s (CaughtUp k p l low c) [] = catch_up k p l low c s corr in
-      both_answers text thread_shows s (CaughtUp k p l low c) (After k p l c t d) [] (shown_of t) up
-      (caught_follows up.end up.good.corresponds up.good.all t d steps)
+  step_followed s corr t d steps = (step_followed_by s corr t d steps).answers

@@ -16,10 +16,11 @@ use Rattle.scl.specs.Meaning.{State, Doing, Away, Todo, Forked, Resting, Resumin
 use Rattle.chart_lowering_laws.specs.Layout.{Layout, LiesIn, IsRegionOf, Lowers}
 use Rattle.chart_lowering_laws.specs.Corresponds.{Live, Giving, Nothing, Ready, Turn, Past, giving, giving_in, giving_of_root, given, Fits, Corresponds}
 use Rattle.chart_lowering_laws.specs.Shown.{Showing, move, moves, moves_after, shown_acts}
-use Rattle.chart_lowering_laws.specs.Follows.{Answers}
+use Rattle.chart_lowering_laws.specs.Follows.{Answers, AnswersBy, EachMay, HoldsAfter}
+use Rattle.chart_lowering_laws.specs.Keeps.{IsForked}
 use Rattle.chart_lowering_laws.specs.WhichShow.{thread_shows, shows_doing}
 use Rattle.chart_lowering_laws.proofs.Woken.{not_live}
-use Rattle.chart_lowering_laws.proofs.Following.{both_answers}
+use Rattle.chart_lowering_laws.proofs.Following.{both_by}
 use Rattle.chart_lowering_laws.proofs.NumberTests.{same_or_not}
 use Rattle.chart_lowering_laws.proofs.Structure.{given_top, given_in}
 use Rattle.chart_lowering_laws.proofs.Joins.{fork_region, fork_root}
@@ -73,6 +74,49 @@ pub weaker : (n : Machine) (shows : Showing n) (b : n.Configuration) (Good Less 
     ((e : n.Configuration) → Good e → Less e) → Answers n shows b Good acts → Answers n shows b Less acts
 weaker n shows b Good Less acts f a = record { run = a.run; end = a.end; runs = a.runs; shown = a.shown; good = f a.end a.good }
 
+-- the same, of steps that may be taken
+pub no_answer_by : (n : Machine) (shows : Showing n) (b : n.Configuration) (May : ℕ → n.Configuration → Type 0) (Good : n.Configuration → Type 0) → Good b →
+    AnswersBy n shows b May Good []
+unfolding no_answer
+no_answer_by n shows b May Good good = record { answers = no_answer n shows b Good good; each = tt }
+
+may_one : (n : Machine) (May : ℕ → n.Configuration → Type 0) (b e : n.Configuration) (t : ℕ) → n.step t b ≡ Some e → May t b → EachMay n May (t ∷ []) b
+may_one n May b e t steps may = (may, subst (HoldsAfter n (EachMay n May [])) (sym steps) tt)
+
+pub silent_answer_by : (n : Machine) (shows : Showing n) (b e : n.Configuration) (t : ℕ) (May : ℕ → n.Configuration → Type 0)
+    (Good : n.Configuration → Type 0) → n.step t b ≡ Some e → shows b t ≡ false → May t b → Good e → AnswersBy n shows b May Good []
+unfolding silent_answer
+silent_answer_by n shows b e t May Good steps silent may good =
+    record { answers = silent_answer n shows b e t Good steps silent good; each = may_one n May b e t steps may }
+
+pub shown_answer_by : (n : Machine) (shows : Showing n) (b e : n.Configuration) (t : ℕ) (May : ℕ → n.Configuration → Type 0)
+    (Good : n.Configuration → Type 0) → n.step t b ≡ Some e → shows b t ≡ true → May t b → Good e →
+    AnswersBy n shows b May Good (act_of n b t ∷ [])
+unfolding shown_answer
+shown_answer_by n shows b e t May Good steps shown may good =
+    record { answers = shown_answer n shows b e t Good steps shown good; each = may_one n May b e t steps may }
+
+pub weaker_by : (n : Machine) (shows : Showing n) (b : n.Configuration) (May : ℕ → n.Configuration → Type 0) (Good Less : n.Configuration → Type 0)
+    (acts : List Act) → ((e : n.Configuration) → Good e → Less e) → AnswersBy n shows b May Good acts → AnswersBy n shows b May Less acts
+unfolding weaker
+weaker_by n shows b May Good Less acts f a = record { answers = weaker n shows b Good Less acts f a.answers; each = a.each }
+
+-- more may be taken
+may_more : (n : Machine) (May More : ℕ → n.Configuration → Type 0) → ((t : ℕ) (c : n.Configuration) → May t c → More t c) → (run : List ℕ)
+    (b : n.Configuration) →
+    EachMay n May run b → EachMay n More run b
+may_more n May More f [] b each = tt
+may_more n May More f (t ∷ run) b each = (f t b each.0, after (n.step t b) (may_more n May More f run) each.1)
+  where
+    after : (o : Option n.Configuration) → ((e : n.Configuration) → EachMay n May run e → EachMay n More run e) → HoldsAfter n (EachMay n May run) o →
+        HoldsAfter n (EachMay n More run) o
+    after None more each = tt
+    after (Some e) more each = more e each
+
+pub more_by : (n : Machine) (shows : Showing n) (b : n.Configuration) (May More : ℕ → n.Configuration → Type 0) (Good : n.Configuration → Type 0)
+    (acts : List Act) → ((t : ℕ) (c : n.Configuration) → May t c → More t c) → AnswersBy n shows b May Good acts → AnswersBy n shows b More Good acts
+more_by n shows b May More Good acts f a = record { answers = a.answers; each = may_more n May More f a.answers.run b a.each }
+
 -- ---- who has caught up
 
 abbrev pub caught : Standing → Doing → Bool
@@ -105,17 +149,21 @@ module _ (k : Table) (p : Numbered) (l : Layout) (low : Lowers k p l) (c : Confi
     here : caught (standing_of c q) (doing f q) ≡ true
     before : (v : ℕ) → v < q → doing f v ≡ doing s v
 
+  -- who steps waits at no join
+  abbrev pub NoJoin : ℕ → State → Type 0
+  NoJoin q s = ¬ IsForked (doing s q)
+
   abbrev Answer : State → ℕ → Type 0
-  Answer s q = Answers text thread_shows s (CaughtAt s q) []
+  Answer s q = AnswersBy text thread_shows s NoJoin (CaughtAt s q) []
 
   module _ (s : State) (corr : Corresponds k p l c s) where
     already : (q : ℕ) → caught (standing_of c q) (doing s q) ≡ true → Answer s q
-    already q is = no_answer text thread_shows s (CaughtAt s q) (record { corresponds = corr; here = is; before = λ v less. refl })
+    already q is = no_answer_by text thread_shows s NoJoin (CaughtAt s q) (record { corresponds = corr; here = is; before = λ v less. refl })
 
     -- by a step of the thread alone
-    alone : (q : ℕ) (d : Doing) → GoesAlone k p l low c s corr q d → thread_shows s q ≡ false → caught (standing_of c q) d ≡ true → Answer s q
-    alone q d goes silent is =
-        silent_answer text thread_shows s goes.end q (CaughtAt s q) goes.steps silent
+    alone : (q : ℕ) (d : Doing) → GoesAlone k p l low c s corr q d → thread_shows s q ≡ false → NoJoin q s → caught (standing_of c q) d ≡ true → Answer s q
+    alone q d goes silent free is =
+        silent_answer_by text thread_shows s goes.end q NoJoin (CaughtAt s q) goes.steps silent free
         (record {
           corresponds = goes.corresponds;
           here = ap (caught (standing_of c q)) goes.one.is_at ∙ is;
@@ -127,17 +175,17 @@ module _ (k : Table) (p : Numbered) (l : Layout) (low : Lowers k p l) (c : Confi
     by_turn q there turn (stand.Within u tests) (Todo (Fork n branches rest)) stands is live =
         let f : (f : State) × (step p q s ≡ Some f) × Corresponds k p l c f × (doing f q ≡ Forked n branches rest) × ((v : ℕ) → v < q → doing f v ≡ doing s v) =
         fork_region k p l low c s corr q u n branches rest there turn (stands ∙ ap (stand.Within u) live.0) is in
-        silent_answer text thread_shows s f.0 q (CaughtAt s q) f.1 (ap shows_doing is)
+        silent_answer_by text thread_shows s f.0 q NoJoin (CaughtAt s q) f.1 (ap shows_doing is) (subst IsForked is)
         (record { corresponds = f.2; here = ap (caught (standing_of c q)) f.3 ∙ ap (λ y. caught y (Forked n branches rest)) stands; before = f.4 })
     by_turn q there turn (stand.Within u tests) (Resuming n rest) stands is live =
-        alone q (Todo (Pause n rest)) (resumes_super k p l low c s corr q there turn u n tests rest stands is) (ap shows_doing is)
+        alone q (Todo (Pause n rest)) (resumes_super k p l low c s corr q there turn u n tests rest stands is) (ap shows_doing is) (subst IsForked is)
         (ap (λ y. caught y (Todo (Pause n rest))) stands)
     by_turn q there turn (stand.Trying u tests) (Resuming n rest) stands is live =
         let to_first : (first : Block) × GoesAlone k p l low c s corr q (Todo first) =
         resumes_simple k p l low c s corr q there turn u n tests rest stands is in
-        alone q (Todo to_first.0) to_first.1 (ap shows_doing is) (ap (λ y. caught y (Todo to_first.0)) stands)
+        alone q (Todo to_first.0) to_first.1 (ap shows_doing is) (subst IsForked is) (ap (λ y. caught y (Todo to_first.0)) stands)
     by_turn q there turn stand.Ended (Todo (End n)) stands is live =
-        alone q Finished (ends k p l low c s corr q there turn n stands is) (ap shows_doing is) (ap (λ y. caught y Finished) stands)
+        alone q Finished (ends k p l low c s corr q there turn n stands is) (ap shows_doing is) (subst IsForked is) (ap (λ y. caught y Finished) stands)
     by_turn q there turn stand.Ended (Todo todo) stands is live = absurd live
     by_turn q there turn stand.Outside d stands is live = absurd (not_live k p.root l q d live)
     by_turn q there turn x d stands is live = already q (ap (λ y. caught y (doing s q)) stands ∙ ap (caught x) is ∙ refl)
@@ -155,7 +203,7 @@ module _ (k : Table) (p : Numbered) (l : Layout) (low : Lowers k p l) (c : Confi
     by_root (Todo (Fork n branches rest)) is =
         let f : (f : State) × (step p zero s ≡ Some f) × Corresponds k p l c f × (doing f zero ≡ Forked n branches rest) =
         fork_root k p l low c s corr n branches rest is in
-        silent_answer text thread_shows s f.0 zero (CaughtAt s zero) f.1 (ap shows_doing is)
+        silent_answer_by text thread_shows s f.0 zero NoJoin (CaughtAt s zero) f.1 (ap shows_doing is) (subst IsForked is)
         (record {
           corresponds = f.2;
           here = ap (caught (standing_of c zero)) f.3 ∙ ap (λ y. caught y (Forked n branches rest)) corr.chart;
@@ -180,18 +228,20 @@ module _ (k : Table) (p : Numbered) (l : Layout) (low : Lowers k p l) (c : Confi
     corresponds : Corresponds k p l c f
     below : (q : ℕ) → q < n → caught (standing_of c q) (doing f q) ≡ true
 
-  catch_below : (n : ℕ) (s : State) → Corresponds k p l c s → Answers text thread_shows s (CaughtBelow n) []
-  catch_below zero s corr = no_answer text thread_shows s (CaughtBelow zero) (record { corresponds = corr; below = λ q less. absurd (omega (arith, less)) })
+  catch_below : (n : ℕ) (s : State) → Corresponds k p l c s → AnswersBy text thread_shows s NoJoin (CaughtBelow n) []
+  catch_below zero s corr =
+      no_answer_by text thread_shows s NoJoin (CaughtBelow zero) (record { corresponds = corr; below = λ q less. absurd (omega (arith, less)) })
   catch_below (suc n) s corr =
-      let first : Answers text thread_shows s (CaughtBelow n) [] = catch_below n s corr in
-      let last : Answers text thread_shows first.end (CaughtAt first.end n) [] = catch_one first.end first.good.corresponds n in
-      both_answers text thread_shows s (CaughtBelow n) (CaughtBelow (suc n)) [] [] first
-      (weaker text thread_shows first.end (CaughtAt first.end n) (CaughtBelow (suc n)) [] (λ f at. record {
+      let first : AnswersBy text thread_shows s NoJoin (CaughtBelow n) [] = catch_below n s corr in
+      let end : State = first.answers.end in
+      let last : AnswersBy text thread_shows end NoJoin (CaughtAt end n) [] = catch_one end first.answers.good.corresponds n in
+      both_by text thread_shows s NoJoin (CaughtBelow n) (CaughtBelow (suc n)) [] [] first
+      (weaker_by text thread_shows end NoJoin (CaughtAt end n) (CaughtBelow (suc n)) [] (λ f at. record {
         corresponds = at.corresponds;
         below = λ q less.
             ⊎_elim
             (λ same. subst (λ w. caught (standing_of c w) (doing f w) ≡ true) (sym same) at.here)
-            (λ differ. ap (caught (standing_of c q)) (at.before q (omega (arith, less, differ))) ∙ first.good.below q (omega (arith, less, differ)))
+            (λ differ. ap (caught (standing_of c q)) (at.before q (omega (arith, less, differ))) ∙ first.answers.good.below q (omega (arith, less, differ)))
             (same_or_not q n);
       }) last)
 
@@ -200,9 +250,9 @@ module _ (k : Table) (p : Numbered) (l : Layout) (low : Lowers k p l) (c : Confi
     pub all : Caught c f
 
   -- all threads catch up
-  pub catch_up : (s : State) → Corresponds k p l c s → Answers text thread_shows s CaughtUp []
+  pub catch_up : (s : State) → Corresponds k p l c s → AnswersBy text thread_shows s NoJoin CaughtUp []
   catch_up s corr =
-      weaker text thread_shows s (CaughtBelow (suc (length k.regions))) CaughtUp []
+      weaker_by text thread_shows s NoJoin (CaughtBelow (suc (length k.regions))) CaughtUp []
       (λ f at. record { corresponds = at.corresponds; all = λ q. by f at q (slice_get f.threads q) refl })
       (catch_below (suc (length k.regions)) s corr)
     where

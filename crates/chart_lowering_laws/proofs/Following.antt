@@ -7,7 +7,7 @@ use Rattle.sc_values.specs.Runs.{Machine, Act, act_of, acts, acts_after, replay,
 use Rattle.chart_lowering_laws.specs.Shown.{Move, Shown, Silent, move, moves, moves_after, all_acts, shown_acts, Showing, AreSilent}
 use Rattle.chart_lowering_laws.proofs.Waiting.{Waiting}
 use Rattle.scl_graph_laws.specs.Alike.{EndsAlike}
-use Rattle.chart_lowering_laws.specs.Follows.{Answers, AtEnd, Follows}
+use Rattle.chart_lowering_laws.specs.Follows.{Answers, AnswersBy, EachMay, HoldsAfter, AtEnd, Follows}
 use Rattle.chart_lowering_laws.proofs.NumberTests.{same_or_not}
 use Rattle.chart_lowering_laws.proofs.Ordering.{Quiet, Held, Never, AreHeld, ordered_whole, ordered_shown}
 
@@ -149,6 +149,24 @@ both_answers n shows b Good Then xs ys first second = record {
       ∙ ap (λ r. r ++ shown_acts (moves n shows second.run first.end)) first.shown
       ∙ ap (λ r. xs ++ r) second.shown;
   good = second.good;
+}
+
+-- steps that may be taken, and others after them
+pub may_append : (n : Machine) (May : ℕ → n.Configuration → Type 0) (first second : List ℕ) (b e : n.Configuration) → replay n first b ≡ Some e →
+    EachMay n May first b → EachMay n May second e → EachMay n May (first ++ second) b
+may_append n May [] second b e h before after = subst (EachMay n May second) (sym (same_Some b e h)) after
+may_append n May (t ∷ first) second b e h before after =
+    let s : (f : n.Configuration) × (n.step t b ≡ Some f) × (replay n first f ≡ Some e) = first_step n t first b e h in
+    let rest : EachMay n May first s.0 = subst (HoldsAfter n (EachMay n May first)) s.1 before.1 in
+    (before.0, subst (HoldsAfter n (EachMay n May (first ++ second))) (sym s.1) (may_append n May first second s.0 e s.2 rest after))
+
+pub both_by : (n : Machine) (shows : Showing n) (b : n.Configuration) (May : ℕ → n.Configuration → Type 0) (Good Then : n.Configuration → Type 0)
+    (xs ys : List Act) →
+    (first : AnswersBy n shows b May Good xs) → AnswersBy n shows first.answers.end May Then ys → AnswersBy n shows b May Then (xs ++ ys)
+unfolding both_answers
+both_by n shows b May Good Then xs ys first second = record {
+  answers = both_answers n shows b Good Then xs ys first.answers second.answers;
+  each = may_append n May first.answers.run second.answers.run b first.answers.end first.answers.runs first.each second.each;
 }
 
 module _ (m n : Machine) (shows : Showing m) (shows_too : Showing n) (R Q : m.Configuration → n.Configuration → Type 0)

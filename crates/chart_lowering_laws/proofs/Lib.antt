@@ -1,9 +1,9 @@
 pub mod NumberTests
 mod Waiting
 mod Ordering
-mod Following
+pub mod Following
 mod Entering
-mod LeadAlike
+pub mod LeadAlike
 mod Matching
 mod Structure
 mod Updating
@@ -15,7 +15,7 @@ mod Finished
 mod Joins
 mod Alone
 pub mod Catching
-mod Showing
+pub mod Showing
 mod ByRegions
 mod Resting
 mod Apart

@@ -356,7 +356,7 @@ module _ (k : Table) (p : Numbered) (l : Layout) (low : Lowers k p l) (c : Confi
   -- all threads come to rest
   pub all_rest : (s : State) → Corresponds k p l c s → Answers text thread_shows s AllRest []
   all_rest s corr =
-      let up : Answers text thread_shows s (CaughtUp k p l low c) [] = catch_up k p l low c s corr in
+      let up : Answers text thread_shows s (CaughtUp k p l low c) [] = (catch_up k p l low c s corr).answers in
       both_answers text thread_shows s (CaughtUp k p l low c) AllRest [] [] up
       (weaker text thread_shows up.end (RestsBelow (suc (length k.regions))) AllRest []
       (λ f at. record { idle = λ q. by f at q (slice_get f.threads q) refl; corresponds = at.corresponds })

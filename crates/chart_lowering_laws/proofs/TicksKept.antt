@@ -11,12 +11,12 @@ use Rattle.chart_lowering_laws.specs.Layout.{Layout, Lowers}
 use Rattle.chart_lowering_laws.specs.Corresponds.{Corresponds}
 use Rattle.chart_lowering_laws.specs.Follows.{Answers, AtEnd, Follows}
 use Rattle.scl_graph_laws.specs.Alike.{EndsAlike}
-use Rattle.chart_lowering_laws.specs.Keeps.{AtRest, AtRestBack, KeepsSteps, KeepsTicks, KeepsRuns}
+use Rattle.chart_lowering_laws.specs.Keeps.{AtRest, AtRestBack, LeavesJoins, KeepsSteps, KeepsTicks, KeepsRuns}
 use Rattle.chart_lowering_laws.specs.WhichShow.{region_shows, thread_shows}
 use Rattle.chart_lowering_laws.proofs.Following.{both_answers, follows_ends}
 use Rattle.chart_lowering_laws.proofs.Updating.{After}
-use Rattle.chart_lowering_laws.proofs.Catching.{no_answer, weaker}
-use Rattle.chart_lowering_laws.proofs.ByRegions.{step_followed, shown_of}
+use Rattle.chart_lowering_laws.proofs.Catching.{no_answer, weaker, weaker_by}
+use Rattle.chart_lowering_laws.proofs.ByRegions.{step_followed, step_followed_by, shown_of}
 use Rattle.chart_lowering_laws.proofs.Resting.{AllRest, all_rest}
 use Rattle.chart_lowering_laws.proofs.Apart.{apart, apart_back}
 use Rattle.chart_lowering_laws.proofs.RegionsWait.{Keeps, threads_silent, regions_silent, regions_wait}
@@ -85,6 +85,8 @@ module _ (k : Table) (p : Numbered) (l : Layout) (low : Lowers k p l) where
     starts = starts k p l low;
     silent = (regions_silent k, threads_silent p);
     there = program_follows;
+    joins = λ c d s t corr steps. weaker_by (machine p) thread_shows s (LeavesJoins t) (After k p l c t d) (Corresponds k p l d) (shown_of k p l low c t)
+        (λ f after. after.0) (step_followed_by k p l low c s corr t d steps);
     back = chart_follows;
   }
 

@@ -1,18 +1,18 @@
 -- What it is that a program keeps a chart's ticks, there and back: step by step, tick by tick, and over lists of ticks.
-use Rattle.std.specs.Prelude.{List, [], ◌∷◌}
-use Rattle.sc_values.specs.Runs.{Machine, Ends, IsOver}
+use Rattle.std.specs.Prelude.{ℕ, ◌≡◌, ◌⊎◌, Some, List, [], ◌∷◌}
+use Rattle.sc_values.specs.Runs.{Machine, Ends, IsOver, act_of}
 use Rattle.sc_graph.specs.Tick.{Inputs}
 use Rattle.chart_machine.specs.declared.standing.Configuration.{Configuration}
 use Rattle.chart_machine.specs.declared.table.Table.{Table}
 use Rattle.chart_machine.specs.Machine as chart
 use Rattle.scl.specs.Numbering.{Numbered}
-use Rattle.scl.specs.Meaning.{State}
+use Rattle.scl.specs.Meaning.{State, Doing, Forked, doing}
 use Rattle.scl.specs.Meaning as text
 use Rattle.scl_graph_laws.specs.Alike.{EndsAlike}
 use Rattle.chart_lowering_laws.specs.Layout.{Layout}
 use Rattle.chart_lowering_laws.specs.Corresponds.{Corresponds}
-use Rattle.chart_lowering_laws.specs.Shown.{AreSilent}
-use Rattle.chart_lowering_laws.specs.Follows.{Follows}
+use Rattle.chart_lowering_laws.specs.Shown.{AreSilent, move, shown_acts}
+use Rattle.chart_lowering_laws.specs.Follows.{Follows, AnswersBy}
 use Rattle.chart_lowering_laws.specs.WhichShow.{region_shows, thread_shows}
 
 -- between two ticks: they correspond, and nobody can step in either
@@ -25,12 +25,25 @@ pub record AtRest (k : Table) (p : Numbered) (l : Layout) (c : Configuration) (s
 abbrev pub AtRestBack : Table → Numbered → Layout → State → Configuration → Type 0
 AtRestBack k p l s c = AtRest k p l c s
 
+-- a thread that waits at the join of its fork
+abbrev pub IsForked : Doing → Type 0
+IsForked (Forked n branches rest) = Unit {0}
+IsForked other = ⊥
+
+-- thread t steps, or one that waits at no join
+abbrev pub LeavesJoins : ℕ → ℕ → State → Type 0
+LeavesJoins t u s = (u ≡ t) ⊎ (¬ IsForked (doing s u))
+
 -- each step of the one is followed by steps of the other that show the same
 pub record KeepsSteps (k : Table) (p : Numbered) (l : Layout) : Type 0 where
   pub begins : AtRest k p l (chart.initial k) (text.initial p)
   pub starts : (inputs : Inputs) (c : Configuration) (s : State) → AtRest k p l c s → Corresponds k p l (chart.start k inputs c) (text.start p inputs s)
   pub silent : AreSilent (chart.machine k) region_shows × AreSilent (text.machine p) thread_shows
   pub there : Follows (chart.machine k) (text.machine p) region_shows thread_shows (Corresponds k p l) (AtRest k p l)
+  -- a step of a region is followed so that besides its thread nobody leaves a join
+  pub joins : (c d : Configuration) (s : State) (t : ℕ) → Corresponds k p l c s → (chart.machine k).step t c ≡ Some d →
+      AnswersBy (text.machine p) thread_shows s (LeavesJoins t) (Corresponds k p l d)
+      (shown_acts (move (region_shows c t) (act_of (chart.machine k) c t) ∷ []))
   pub back : Follows (text.machine p) (chart.machine k) thread_shows region_shows (λ s c. Corresponds k p l c s) (AtRestBack k p l)
 
 -- from a configuration between two ticks, and by the same inputs, each end of the one is an end of the other

@@ -5,5 +5,6 @@ pub mod WhichShow
 pub mod Corresponds
 pub mod Keeps
 pub mod Active
+pub mod Stands
 pub mod Marks
 pub mod Laws

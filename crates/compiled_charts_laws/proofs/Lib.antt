@@ -6,5 +6,7 @@ mod Reading
 pub mod Told
 mod Resting
 pub mod Ticks
+mod StepsFollowed
+pub mod Stands
 mod NumbersInRow
 pub mod Plain

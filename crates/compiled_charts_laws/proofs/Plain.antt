@@ -1,6 +1,6 @@
 -- A chart without aborts is its own expansion, and each state stands for itself.
 use Rattle.std.proofs.Common.{◌≡◌, ℕ, zero, suc, ◌+◌, ◌<◌, Bool, true, false, not, ◌||◌}
-use Rattle.std.proofs.Common.{◌&&◌, if◌then◌else◌, Option, Some, None, List, [], ◌∷◌, ◌++◌, map, length}
+use Rattle.std.proofs.Common.{◌&&◌, if◌then◌else◌, Some, None, List, [], ◌∷◌, ◌++◌, map, length}
 use Rattle.std.proofs.Common.{slice_get, unwrap_or, refl, sym, ap, subst, ◌∙◌, arith}
 use Rattle.std.proofs.lemmas.List.{append-nil}
 use Rattle.std.specs.List.{list_any}

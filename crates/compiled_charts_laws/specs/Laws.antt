@@ -1,7 +1,7 @@
 -- The laws that compiled charts rest on.
 use Rattle.std.specs.Prelude.{ℕ, ◌≡◌, ◌<◌, false, Some}
 use Rattle.sc_graph.specs.declared.tables.Tables.{Tables}
-use Rattle.sc_graph.specs.Valid.{IsValid}
+use Rattle.sc_graph.specs.Valid.{IsFormed, IsValid}
 use Rattle.core_charts.specs.declared.features.Features.TheVariants as features
 use Rattle.core_charts.specs.Chart.{Chart}
 use Rattle.core_charts.specs.Rules.{IsChart}
@@ -15,7 +15,9 @@ use Rattle.chart_lowering.specs.Aborts.{has_aborts}
 use Rattle.node_states.specs.Nodes.{state_of_node, state_count}
 use Rattle.chart_lowering_laws.specs.Laws.{IsLowering}
 use Rattle.chart_lowering_laws.specs.Marks.{layout}
+use Rattle.chart_lowering_laws.specs.Stands.{Lowered}
 use Rattle.compiled_charts_laws.specs.Nodes.{StandForStates}
+use Rattle.compiled_charts_laws.specs.Stands.{StandAlike}
 use Rattle.compiled_charts_laws.specs.Reactions.{HasOneReaction}
 
 -- the row that is made along a core chart tells at which nodes of the graph of its lowering a thread rests in which state
@@ -26,6 +28,12 @@ NodesTellStates = (c : Chart) (p : Scl) → IsLowering c p → StandForStates (t
 abbrev pub ChartsHaveOneReaction : Type 0
 ChartsHaveOneReaction =
     (c : Chart) (p : Scl) (q : Tables) → IsLowering c p → IsValid (program_of (numbered p)) q → HasOneReaction c (state_of_node c) (program_of (numbered p))
+
+-- where that graph is formed, it stands as the chart does through each step of the chart
+abbrev pub LoweringsStand : Type 0
+LoweringsStand =
+    (c : Chart) (p : Scl) → IsLowering c p → IsFormed (program_of (numbered p)) →
+    Lowered (table c) (program_of (numbered p)) (StandAlike (table c) (numbered p) (layout c (numbered p).root) (program_of (numbered p)))
 
 -- a chart that is its own core chart, of which each state stands for itself
 pub record IsItsOwnCore (c : Chart) : Type 0 where

@@ -1,3 +1,4 @@
 pub mod Nodes
+pub mod Stands
 pub mod Reactions
 pub mod Laws

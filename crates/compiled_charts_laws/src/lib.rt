@@ -2,7 +2,7 @@
 //! active states, and a chart without aborts is its own core chart. The laws, over the definitions alone.
 #![tactic(auto)]
 
-ghost use Rattle.compiled_charts_laws.specs.Laws.{ChartsHaveOneReaction, ChartsWithoutAbortsStay, NodesTellStates};
+ghost use Rattle.compiled_charts_laws.specs.Laws.{ChartsHaveOneReaction, ChartsWithoutAbortsStay, LoweringsStand, NodesTellStates};
 
 /// In the graph of a core chart's lowering each state rests at the node that stands for it: at the depth of its
 /// pause, or at the join of its fork. This function does nothing; its contract is the law.
@@ -15,6 +15,15 @@ pub fn nodes_tell_states()
 /// nothing; its contract is the law.
 pub fn charts_have_one_reaction()
     ensures { ChartsHaveOneReaction }
+{}
+
+/// If that graph is formed, it stands as the chart does, through each step of the chart: besides the thread of
+/// the region that steps nobody leaves a join; who waits at the join of a superstate's fork stands in that
+/// superstate; who is about to write stands at the node that does it; who is concurrent in the chart is so in
+/// the graph; and a thread's parent is the region that holds the superstate around it. This function does
+/// nothing; its contract is the law.
+pub fn lowerings_stand()
+    ensures { LoweringsStand }
 {}
 
 /// A chart without strong and weak aborts is its own core chart, and each of its states stands for itself. This

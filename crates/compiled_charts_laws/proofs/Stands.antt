@@ -1,0 +1,348 @@
+-- A core chart and the graph of its lowering stand alike through each step of the chart, and what follows of how they stand.
+use Rattle.std.proofs.Common.{◌≡◌, ◌≢◌, ℕ, zero, suc, ◌<◌, ◌⊎◌, inl, inr, ⊎_elim, Option, Some, None, List, [], ◌∷◌, length, slice_get, unwrap_or}
+use Rattle.std.proofs.Common.{option_map, Contains, refl, sym, ap, subst, ◌∙◌, arith}
+use Rattle.std.proofs.lemmas.Option.{slice_get_within}
+use Rattle.sc_values.specs.declared.expression.Expr.{Expr}
+use Rattle.sc_values.specs.Access.{Access, Nothing, no_access}
+use Rattle.sc_values.specs.Assignment.{Assignment, Inits, Combines, assignment_of, access_of_assignment}
+use Rattle.sc_graph.specs.declared.control.Control.{Control}
+use Rattle.sc_graph.specs.declared.control.Status.TheVariants as status
+use Rattle.sc_graph.specs.declared.program.Step.{Step}
+use Rattle.sc_graph.specs.declared.program.Step.TheVariants as node_step
+use Rattle.sc_graph.specs.Program.{Program, parent_of, owner_of, step_at}
+use Rattle.sc_graph.specs.Accesses.{accesses}
+use Rattle.sc_graph.specs.Accesses.{access_of as access_of_node}
+use Rattle.sc_graph.specs.Control.{status_of}
+use Rattle.sc_graph.specs.Threads as threads
+use Rattle.sc_graph.specs.Valid.{IsFormed}
+use Rattle.core_charts.specs.declared.region.Effect.{Effect}
+use Rattle.core_charts.specs.declared.region.Transition.{Transition}
+use Rattle.core_charts.specs.Chart.{Chart}
+use Rattle.chart_machine.specs.declared.standing.Standing.{Standing}
+use Rattle.chart_machine.specs.declared.standing.Standing.TheVariants as stand
+use Rattle.chart_machine.specs.declared.standing.Configuration.{Configuration}
+use Rattle.chart_machine.specs.declared.table.RegionRow.{RegionRow}
+use Rattle.chart_machine.specs.declared.table.StateRow.{StateRow}
+use Rattle.chart_machine.specs.declared.table.Table.{Table}
+use Rattle.chart_machine.specs.Table.{table, state_at, region_at}
+use Rattle.chart_machine.specs.Turns.{standing_of}
+use Rattle.chart_machine.specs.Steps.{access_of, access_of_trigger, state_in}
+use Rattle.scl.specs.declared.program.Scl.{Scl}
+use Rattle.scl.specs.Block.{Block, End, Assign, Label, Goto, Pause, If, Fork}
+use Rattle.scl.specs.Places.{threads_of}
+use Rattle.scl.specs.Places as places
+use Rattle.scl.specs.Numbering.{Numbered, numbered}
+use Rattle.scl.specs.Meaning.{State, Doing, Away, Todo, Forked, Resting, Resuming, Finished, doing}
+use Rattle.scl_graph.specs.Graph.{program_of, assigns}
+use Rattle.scl_graph_laws.specs.Standing.{standing, IsOfText}
+use Rattle.scl_graph_laws.specs.Mirrors.{Mirrors, HasNode, HasFork, leads}
+use Rattle.scl_graph_laws.specs.Keeps.{Corresponds as StandsInGraph}
+use Rattle.scl_graph_laws.proofs.Texts.{program_mirrors}
+use Rattle.node_states.specs.Nodes.{state_of_node}
+use Rattle.chart_lowering_laws.specs.Layout.{Layout, IsSimple, IsFinal, IsSuper, LiesIn, IsRegionOf, Acts, Lowers}
+use Rattle.chart_lowering_laws.specs.Corresponds.{Live, HeldBy, IsAtRoot, Giving, Nothing as NotGiven, Ready, Turn, Past, given, fresh, first_standing, Fits}
+use Rattle.chart_lowering_laws.specs.Keeps.{KeepsSteps}
+use Rattle.chart_lowering_laws.specs.Laws.{IsLowering}
+use Rattle.chart_lowering_laws.specs.Marks.{layout}
+use Rattle.chart_lowering_laws.specs.Stands.{AtNode, Lowered}
+use Rattle.chart_lowering_laws.proofs.LeadAlike.{is_there}
+use Rattle.chart_lowering_laws.proofs.Showing.{region_of}
+use Rattle.chart_lowering_laws.proofs.Lowered.{chart_is_lowered}
+use Rattle.chart_lowering_laws.proofs.TicksKept.{keeps_runs}
+use Rattle.compiled_charts_laws.specs.Nodes.{StandForStates}
+use Rattle.compiled_charts_laws.specs.Stands.{StandAlike}
+use Rattle.compiled_charts_laws.proofs.Told.{nodes_stand}
+use Rattle.compiled_charts_laws.proofs.StepsFollowed.{status_is, waits_forked, follow}
+
+heads : (x y : ℕ) (xs ys : List ℕ) → x ∷ xs ≡ y ∷ ys → x ≡ y
+heads x y xs ys h = cc
+
+no_item : (x : ℕ) (xs : List ℕ) → [] ≡ x ∷ xs → ⊥
+no_item x xs h = cc
+
+waits_at : (n j : ℕ) → status.Waiting n ≡ status.Waiting j → n ≡ j
+waits_at n j h = cc
+
+-- ---- who is apart in the text is so in the graph
+
+module _ (p : Numbered) (q : Program) (mirrors : Mirrors p q) where
+  owned : (n t : ℕ) (s : Step) → HasNode q n t s → owner_of q n ≡ Some t
+  owned n t s has = ap (option_map (λ x. x.owner)) has.is
+
+  stepped : (n t : ℕ) (s : Step) → HasNode q n t s → step_at q n ≡ Some s
+  stepped n t s has = ap (option_map (λ x. x.step)) has.is
+
+  node_access : (n t : ℕ) (s : Step) → HasNode q n t s → accesses q n ≡ access_of_node s
+  node_access n t s has = ap (λ o. unwrap_or (option_map access_of_node o) no_access) (stepped n t s has)
+
+  descends : (n t a : ℕ) → places.Descends p.root n t a → threads.Descends q n t a
+  descends zero t a h = h
+  descends (suc n) t a h = (h.0, mirrors.parents t h.0 h.1, descends n h.0 a h.2)
+
+  below : (t a : ℕ) → places.Below p.root t a → threads.Below q t a
+  below t a h = record { generations = h.generations; descends = descends h.generations t a h.descends }
+
+  apart_too : (t u a : ℕ) → places.ForkedApart p.root t u a → threads.ForkedApart q t u a
+  apart_too t u a h =
+      let has : HasFork q h.fork a (threads_of h.branches) (leads p.root h.is_fork.rest) =
+      mirrors.nodes a (Fork h.fork h.branches h.is_fork.rest) h.is_fork.place in
+      let step : Step = node_step.Fork (threads_of h.branches) (suc h.fork) in
+      record {
+        fork = h.fork;
+        children = threads_of h.branches;
+        join = suc h.fork;
+        is_fork = record { owned = owned h.fork a step has.nodes.first; forks = stepped h.fork a step has.nodes.first };
+        left = h.left;
+        right = h.right;
+        left_child = h.left_branch;
+        right_child = h.right_branch;
+        differ = h.differ;
+        t_below = below t h.left h.t_below;
+        u_below = below u h.right h.u_below;
+      }
+
+-- ---- the chart and its graph
+
+access_of_assigns : (x : ℕ) (a : Assignment) (next : ℕ) → access_of_node (assigns x a next) ≡ access_of_assignment x a
+access_of_assigns x (Inits e) next = refl
+access_of_assigns x (Combines f e) next = refl
+
+trigger_writes : (o : Option Expr) → (access_of_trigger o).writes ≡ Nothing
+trigger_writes None = refl
+trigger_writes (Some e) = refl
+
+-- the row of a number without a region
+abbrev no_row : RegionRow
+no_row = record { around = []; states = [] }
+
+abbrev join_at : Block → ℕ
+join_at (Fork n branches rest) = suc n
+join_at other = 0
+
+module _ (c : Chart) (p : Scl) (low : IsLowering c p) (formed : IsFormed (program_of (numbered p))) where
+  abbrev K : Table
+  K = table c
+
+  abbrev P : Numbered
+  P = numbered p
+
+  abbrev G : Program
+  G = program_of P
+
+  abbrev L : Layout
+  L = layout c P.root
+
+  abbrev Alike : Configuration → Control → Type 0
+  Alike = StandAlike K P L G
+
+  lowers : Lowers K P L
+  lowers = chart_is_lowered c p low
+
+  steps : KeepsSteps K P L
+  steps = (keeps_runs K P L lowers).steps
+
+  mirrors : Mirrors P G
+  mirrors = program_mirrors p
+
+  told : StandForStates K P.root L (state_of_node c)
+  told = nodes_stand c p low
+
+  -- ---- who waits at a join stands in its superstate
+
+  abbrev join_in : Option StateRow → ℕ → ℕ
+  join_in None s = 0
+  join_in (Some r) s = join_at (L.fork s)
+
+  abbrev join_of : ℕ → ℕ
+  join_of s = join_in (slice_get K.states s) s
+
+  join_told : (s n : ℕ) → suc n ≡ join_of s → slice_get (state_of_node c) (suc n) ≡ Some (Some s)
+  join_told s n = by (slice_get K.states s) refl
+    where
+      by_fork : s < length K.states → (b : Block) → L.fork s ≡ b → suc n ≡ join_at b → slice_get (state_of_node c) (suc n) ≡ Some (Some s)
+      by_fork less (Fork k branches rest) is same = subst (λ z. slice_get (state_of_node c) z ≡ Some (Some s)) (sym same) (told.forks s k branches rest less is)
+      by_fork less (End k) is same = absurd (cc)
+      by_fork less (Assign k x e rest) is same = absurd (cc)
+      by_fork less (Label name rest) is same = absurd (cc)
+      by_fork less (Goto g name rest) is same = absurd (cc)
+      by_fork less (Pause k rest) is same = absurd (cc)
+      by_fork less (If k e a b rest) is same = absurd (cc)
+
+      by : (o : Option StateRow) → slice_get K.states s ≡ o → suc n ≡ join_in o s → slice_get (state_of_node c) (suc n) ≡ Some (Some s)
+      by None is same = absurd (cc)
+      by (Some r) is same = by_fork (slice_get_within K.states s r is) (L.fork s) refl same
+
+  abbrev InState : ℕ → Standing → Type 0
+  InState s z = (tests : List Transition) × (z ≡ stand.Within s tests)
+
+  same_state : (u s : ℕ) (o : Option (Option ℕ)) → o ≡ Some (Some u) → o ≡ Some (Some s) → u ≡ s
+  same_state u s o h i = let same : Some (Some u) ≡ Some (Some s) = sym h ∙ i in cc
+
+  no_state : (s : ℕ) (o : Option (Option ℕ)) → o ≡ Some None → o ≡ Some (Some s) → ⊥
+  no_state s o h i = let same : Some None ≡ Some (Some s) = sym h ∙ i in absurd (cc)
+
+  live_waits : (t s : ℕ) (z : Standing) (d : Doing) → Live K P.root L t z d → HeldBy K P.root L t z → standing d ≡ status.Waiting (join_of s) → InState s z
+  live_waits t s (stand.Within u tests) (Forked n branches rest) live held w =
+      let same : u ≡ s = same_state u s (slice_get (state_of_node c) (suc n)) (told.forks u n branches rest held.0.there live.1)
+      (join_told s n (waits_at (suc n) (join_of s) w)) in (tests, ap (λ y. stand.Within y tests) same)
+  live_waits t s z Away live held w = absurd (waits_forked Away (join_of s) w)
+  live_waits t s z (Todo todo) live held w = absurd (waits_forked (Todo todo) (join_of s) w)
+  live_waits t s z (Resting n rest) live held w = absurd (waits_forked (Resting n rest) (join_of s) w)
+  live_waits t s z (Resuming n rest) live held w = absurd (waits_forked (Resuming n rest) (join_of s) w)
+  live_waits t s z Finished live held w = absurd (waits_forked Finished (join_of s) w)
+  live_waits t s stand.Outside (Forked n branches rest) live held w = absurd live
+  live_waits t s stand.Ended (Forked n branches rest) live held w = absurd live
+  live_waits t s (stand.Trying u tests) (Forked n branches rest) live held w = absurd live
+  live_waits t s (stand.Entering u tests) (Forked n branches rest) live held w = absurd live
+  live_waits t s (stand.Guarding u tests) (Forked n branches rest) live held w = absurd live
+  live_waits t s (stand.Acting u [] place) (Forked n branches rest) live held w = absurd live
+  live_waits t s (stand.Acting u (e ∷ effects) place) (Forked n branches rest) live held w = absurd live
+
+  away_waits : (s : ℕ) (z : Standing) (d : Doing) → d ≡ Away → standing d ≡ status.Waiting (join_of s) → InState s z
+  away_waits s z d away w = absurd (waits_forked Away (join_of s) (ap standing (sym away) ∙ w))
+
+  given_waits : (t s : ℕ) (g : Giving) (z : Standing) (d : Doing) → Fits K P.root L t g z d → standing d ≡ status.Waiting (join_of s) → InState s z
+  given_waits t s NotGiven z d fits w = away_waits s z d fits.1 w
+  given_waits t s Ready z d fits w = away_waits s z d fits.1 w
+  given_waits t s Past z d fits w = away_waits s z d fits.1 w
+  given_waits t s Turn z d fits w = live_waits t s z d fits.0 fits.1 w
+
+  root_waits : (s : ℕ) (z : Standing) (d : Doing) → IsAtRoot P.root d → standing d ≡ status.Waiting (join_of s) → InState s z
+  root_waits s z (Forked n branches rest) at w =
+      absurd (no_state s (slice_get (state_of_node c) (suc n)) (told.top n branches rest at) (join_told s n (waits_at (suc n) (join_of s) w)))
+  root_waits s z Away at w = absurd (waits_forked Away (join_of s) w)
+  root_waits s z (Todo todo) at w = absurd (waits_forked (Todo todo) (join_of s) w)
+  root_waits s z (Resting n rest) at w = absurd at
+  root_waits s z (Resuming n rest) at w = absurd at
+  root_waits s z Finished at w = absurd (waits_forked Finished (join_of s) w)
+
+  waits_back : (d : Configuration) (m : Control) (t s : ℕ) → Alike d m → status_of m t ≡ status.Waiting (join_of s) → InState s (standing_of d t)
+  waits_back d m t s x waits = by t (sym (status_is P x.state m x.of_graph t) ∙ waits)
+    where
+      by : (r : ℕ) → standing (doing x.state r) ≡ status.Waiting (join_of s) → InState s (standing_of d r)
+      by zero w = root_waits s (standing_of d zero) (doing x.state zero) x.of_chart.root w
+      by (suc r) w = there (slice_get x.state.threads (suc r)) refl
+        where
+          there : (o : Option Doing) → slice_get x.state.threads (suc r) ≡ o → InState s (standing_of d (suc r))
+          there None is = away_waits s (standing_of d (suc r)) (doing x.state (suc r)) (ap (λ o. unwrap_or o Away) is) w
+          there (Some y) is =
+              let less : suc r < length x.state.threads = slice_get_within x.state.threads (suc r) y is in
+              let many : length x.state.threads ≡ suc (length K.regions) = x.of_chart.threads in
+              let region : IsRegionOf K (suc r) = (omega arith, omega (arith, less, many)) in
+              given_waits (suc r) s (given K d x.state (region_at K (suc r)).around) (standing_of d (suc r)) (doing x.state (suc r))
+              (x.of_chart.each (suc r) region) w
+
+  -- ---- who is about to write stands at the node
+
+  abbrev Acting : ℕ → Effect → List Effect → ℕ → Standing
+  Acting u e effects place = stand.Acting u (e ∷ effects) place
+
+  -- who was just entered does not act
+  fresh_acts : (r u place : ℕ) (e : Effect) (effects : List Effect) → IsRegionOf K r → Acting u e effects place ≡ fresh K L r → ⊥
+  fresh_acts r u place e effects there is =
+      ⊎_elim (λ (s : IsSimple K P.root L (L.initial r)). let h = is ∙ ap first_standing s.entered in absurd (cc))
+      (⊎_elim (λ (s : IsFinal K P.root L (L.initial r)). let h = is ∙ ap first_standing s.entered in absurd (cc))
+      (λ (s : IsSuper K P.root L (L.initial r)). let h = is ∙ ap first_standing s.entered in absurd (cc)))
+      (lowers.states (L.initial r) (lowers.tree.initials r there).there)
+
+  module _ (m : Control) (s : State) (x : StandsInGraph P s m) (t u place : ℕ) (e : Effect) (effects : List Effect) where
+    abbrev does_it : Access
+    does_it = access_of (Acting u e effects place)
+
+    assign_node : (n : ℕ) (rest : Block) → doing s t ≡ Todo (Assign n e.variable e.value rest) →
+        AtNode G m t (access_of_assignment e.variable (assignment_of e.variable e.value))
+    assign_node n rest is =
+        let step : Step = assigns e.variable (assignment_of e.variable e.value) (leads P.root rest) in
+        let place_of : IsOfText P.root t (Todo (Assign n e.variable e.value rest)) = subst (IsOfText P.root t) is (x.places t) in
+        let has : HasNode G n t step = mirrors.nodes t (Assign n e.variable e.value rest) place_of.0 in
+        record {
+          node = n;
+          owned = owned P G mirrors n t step has;
+          does = node_access P G mirrors n t step has ∙ access_of_assigns e.variable (assignment_of e.variable e.value) (leads P.root rest);
+          at = inl (status_is P s m x t ∙ ap standing is);
+        }
+
+    live_acts : (d : Doing) → doing s t ≡ d → Live K P.root L t (Acting u e effects place) d → AtNode G m t does_it
+    live_acts (Todo todo) is live =
+        let h : Acts P.root (L.begin (state_in K t place)) (e ∷ effects) todo = live.2 in
+        assign_node h.0 h.1 (is ∙ ap Todo (is_there P.root todo (Assign h.0 e.variable e.value h.1) live.0 h.2))
+    live_acts Away is live = absurd live
+    live_acts (Forked n branches rest) is live = absurd live
+    live_acts (Resting n rest) is live = absurd live
+    live_acts (Resuming n rest) is live = absurd live
+    live_acts Finished is live = absurd live
+
+    given_acts : (g : Giving) → IsRegionOf K t → Fits K P.root L t g (Acting u e effects place) (doing s t) → AtNode G m t does_it
+    given_acts NotGiven there fits = let h : Acting u e effects place ≡ stand.Outside = fits.0 in absurd (cc)
+    given_acts Ready there fits = absurd (fresh_acts t u place e effects there fits.0)
+    given_acts Past there fits = let h : Acting u e effects place ≡ stand.Ended = fits.0 in absurd (cc)
+    given_acts Turn there fits = live_acts (doing s t) refl fits.0
+
+  node : (d : Configuration) (m : Control) (t : ℕ) → Alike d m → (access_of (standing_of d t)).writes ≢ Nothing → AtNode G m t (access_of (standing_of d t))
+  node d m t x = by (standing_of d t) refl
+    where
+      by : (z : Standing) → standing_of d t ≡ z → (access_of z).writes ≢ Nothing → AtNode G m t (access_of z)
+      by (stand.Acting u (e ∷ effects) place) is writes =
+          let there : IsRegionOf K t = region_of K P L d x.state x.of_chart t
+          (λ out. let h : Acting u e effects place ≡ stand.Outside = sym is ∙ out in absurd (cc)) in
+          given_acts m x.state x.of_graph t u place e effects (given K d x.state (region_at K t).around) there
+          (subst (λ z. Fits K P.root L t (given K d x.state (region_at K t).around) z (doing x.state t)) is (x.of_chart.each t there))
+      by (stand.Acting u [] place) is writes = absurd (writes refl)
+      by stand.Outside is writes = absurd (writes refl)
+      by stand.Ended is writes = absurd (writes refl)
+      by (stand.Trying u []) is writes = absurd (writes refl)
+      by (stand.Trying u (y ∷ tests)) is writes = absurd (writes (trigger_writes y.trigger))
+      by (stand.Entering u []) is writes = absurd (writes refl)
+      by (stand.Entering u (y ∷ tests)) is writes = absurd (writes (trigger_writes y.trigger))
+      by (stand.Guarding u []) is writes = absurd (writes refl)
+      by (stand.Guarding u (y ∷ tests)) is writes = absurd (writes (trigger_writes y.trigger))
+      by (stand.Within u []) is writes = absurd (writes refl)
+      by (stand.Within u (y ∷ tests)) is writes = absurd (writes (trigger_writes y.trigger))
+
+  -- ---- the tree of threads
+
+  parent : (t s : ℕ) (ss : List ℕ) → (region_at K t).around ≡ s ∷ ss → parent_of G t ≡ Some (state_at K s).holder
+  parent t s ss is = by_tree (lowers.tree.each t (there t is))
+    where
+      there : (r : ℕ) → (region_at K r).around ≡ s ∷ ss → IsRegionOf K r
+      there zero h = absurd (no_item s ss h)
+      there (suc r) h = by (slice_get K.regions r) refl
+        where
+          by : (o : Option RegionRow) → slice_get K.regions r ≡ o → IsRegionOf K (suc r)
+          by None none = absurd (no_item s ss (sym (ap (λ (o : Option RegionRow). (unwrap_or {T = RegionRow} o no_row).around) none) ∙ h))
+          by (Some y) some = let less : r < length K.regions = slice_get_within K.regions r y some in (omega arith, omega (arith, less))
+
+      child : (u : ℕ) → LiesIn K t u → IsSuper K P.root L u → parent_of G t ≡ Some (state_at K u).holder
+      child u lies super =
+          mirrors.parents t (state_at K u).holder
+          (record {
+            node = super.node;
+            branches = super.branches;
+            is_fork = record { rest = super.rest; place = super.place };
+            branch = subst (λ ts. Contains ts t) (sym super.opens.threads) lies.held;
+          })
+
+      inside : (u : ℕ) → LiesIn K t u → Contains (region_at K t).around u
+      inside u lies = subst (λ ts. Contains ts u) (sym lies.around) (0, omega arith, refl)
+
+      by_state : (u : ℕ) → LiesIn K t u → parent_of G t ≡ Some (state_at K u).holder
+      by_state u lies =
+          ⊎_elim (λ (simple : IsSimple K P.root L u). absurd (simple.none_inside t (inside u lies)))
+          (⊎_elim (λ (final : IsFinal K P.root L u). absurd (final.none_inside t (inside u lies))) (child u lies)) (lowers.states u lies.there)
+
+      by_tree : (Contains L.top t × ((region_at K t).around ≡ [])) ⊎ ((u : ℕ) × LiesIn K t u) → parent_of G t ≡ Some (state_at K s).holder
+      by_tree (inl top) = absurd (no_item s ss (sym top.1 ∙ is))
+      by_tree (inr (u, lies)) =
+          let same : u ≡ s = heads u s (region_at K (state_at K u).holder).around ss (sym lies.around ∙ is) in
+          by_state u lies ∙ ap (λ z. Some (state_at K z).holder) same
+
+  pub stand_alike : Lowered K G (StandAlike K P L G)
+  stand_alike = record {
+    configuration = λ d m x. x.is_configuration;
+    follow = follow c p low formed;
+    join_of = join_of;
+    waits_back = waits_back;
+    node = λ d m t x enabled writes. node d m t x writes;
+    apart = λ t u a h. apart_too P G mirrors t u a (steps.back.apart t u a h);
+    parent = parent;
+  }
