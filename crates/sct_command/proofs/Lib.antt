@@ -1,3 +1,4 @@
+pub mod Compiled
 pub mod Drawn
 pub mod Taken
 pub mod Told
