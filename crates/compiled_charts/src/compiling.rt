@@ -11,7 +11,7 @@ use core_charts::Chart;
 use node_states::{stands_for, state_count};
 use std::alloc::Global;
 
-/// A chart, compiled for running. Err: it has no image (E07, E14, E11, E13, E12, E31 to E40), for the first
+/// A chart, compiled for running. Err: it has no image (E07, E14, E11, E13, E12), for the first
 /// reason in the order of the passes; or memory was refused.
 pub fn compile_chart(alloc: Global, chart: &Chart) -> Result<Compiled, CompileFault>
     ensures compiled { IfOk result (IsCompiledChart chart.now) }
