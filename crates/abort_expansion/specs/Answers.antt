@@ -16,6 +16,6 @@ pub record IsExpansion (c : Chart) (core : Chart) (map : StateMap) : Type 0 wher
 
 -- it has none for this reason: of the two limits no chart passes that of regions. A refusal of memory says nothing of the
 -- chart
-abbrev pub IsReason : Chart → ExpandFault → Type 0
-IsReason c fault.Limit = ¬ IsExpandable c
-IsReason c fault.Memory = Unit {0}
+abbrev pub LacksCore : Chart → ExpandFault → Type 0
+LacksCore c fault.Limit = ¬ IsExpandable c
+LacksCore c fault.Memory = Unit {0}

@@ -1,7 +1,7 @@
 //! Charts, expanded.
 
 ghost use Rattle.std.specs.Prelude.{◌≡◌, ◌+◌, ◌≤◌, ◌^◌, map, length, IfOk, MatchResult};
-ghost use Rattle.abort_expansion.specs.Answers.{IsExpansion, IsReason};
+ghost use Rattle.abort_expansion.specs.Answers.{IsExpansion, LacksCore};
 ghost use Rattle.abort_expansion.specs.Pieces.{superstates_in};
 ghost use Rattle.abort_expansion.specs.Expansion.{IsExpandable, expanded, piece_of_region, whole};
 
@@ -18,7 +18,7 @@ use std::alloc::{AllocError, Global};
 /// the variables that expansion adds the chart has more than a program may; regions of a superstate are never too
 /// many.
 pub fn expand(alloc: Global, chart: &Chart) -> Result<(CoreChart, StateMap), ExpandFault>
-    ensures { MatchResult result (λ made. IsExpansion chart.now made.0 made.1) (IsReason chart.now) }
+    ensures { MatchResult result (λ made. IsExpansion chart.now made.0 made.1) (LacksCore chart.now) }
 {
     if core_variables(chart)? > VARIABLE_LIMIT {
         return Err(ExpandFault::Limit);

@@ -4,12 +4,12 @@ use Rattle.bytecode.specs.Image.{Image}
 use Rattle.command_files.specs.declared.fault.Fault.{Fault}
 use Rattle.command_files.specs.declared.fault.Fault.TheVariants as fault
 use Rattle.command_files.specs.Files.{Contents, HasBytes}
-use Rattle.command_files.specs.Sources.{IsCompiledFrom, IsNoCompiled, IsNoSource, IsNoText, LacksImage, HasNoImage, SpellsImage, SpellsNoImage}
+use Rattle.command_files.specs.Sources.{IsCompiledFrom, FileLacksCompiled, FileLacksProgram, BytesLackProgram, ProgramLacksImage, FileLacksProgramImage, SpellsImage, BytesLackCompiled}
 
 pub compiled : (files : Option Contents) (name bytes : List ℕ) (image : Image) → HasBytes files name bytes → SpellsImage bytes image → IsCompiledFrom files name image
 compiled files name bytes image held is = record { scl = is.scl; source = record { bytes = bytes; held = held; text = is.text; read = is.read }; compiled = is.compiled }
 
-pub no_source : (files : Option Contents) (name bytes : List ℕ) (f : Fault) → HasBytes files name bytes → IsNoText bytes f → IsNoSource files name f
+pub no_source : (files : Option Contents) (name bytes : List ℕ) (f : Fault) → HasBytes files name bytes → BytesLackProgram bytes f → FileLacksProgram files name f
 no_source files name bytes (fault.Text f) held why = (bytes, held, why)
 no_source files name bytes (fault.Program f) held why = (bytes, held, why)
 no_source files name bytes fault.Memory held why = absurd why
@@ -20,7 +20,7 @@ no_source files name bytes fault.Write held why = absurd why
 no_source files name bytes (fault.File f) held why = absurd why
 no_source files name bytes (fault.Source f) held why = absurd why
 
-no_image : (files : Option Contents) (name bytes : List ℕ) (f : Fault) → HasBytes files name bytes → LacksImage bytes f → HasNoImage files name f
+no_image : (files : Option Contents) (name bytes : List ℕ) (f : Fault) → HasBytes files name bytes → ProgramLacksImage bytes f → FileLacksProgramImage files name f
 no_image files name bytes (fault.Program f) held (scl, text, read, none) = (scl, record { bytes = bytes; held = held; text = text; read = read }, none)
 no_image files name bytes (fault.Text f) held why = absurd why
 no_image files name bytes fault.Memory held why = absurd why
@@ -31,7 +31,7 @@ no_image files name bytes fault.Write held why = absurd why
 no_image files name bytes (fault.File f) held why = absurd why
 no_image files name bytes (fault.Source f) held why = absurd why
 
-pub no_compiled : (files : Option Contents) (name bytes : List ℕ) (f : Fault) → HasBytes files name bytes → SpellsNoImage bytes f → IsNoCompiled files name f
+pub no_compiled : (files : Option Contents) (name bytes : List ℕ) (f : Fault) → HasBytes files name bytes → BytesLackCompiled bytes f → FileLacksCompiled files name f
 no_compiled files name bytes f held (inl why) = inl (no_source files name bytes f held why)
 no_compiled files name bytes f held (inr why) = inr (no_image files name bytes f held why)
 
@@ -40,6 +40,6 @@ pub compiled_in : (files : Option Contents) (name items bytes : List ℕ) (r : R
 compiled_in files name items bytes (Ok image) held same is = compiled files name bytes image (subst (HasBytes files name) (sym same) held) is
 compiled_in files name items bytes (Err f) held same is = tt
 
-pub refused_in : (files : Option Contents) (name items bytes : List ℕ) (r : Result Image Fault) → HasBytes files name items → bytes ≡ items → IfErr r (SpellsNoImage bytes) → IfErr r (IsNoCompiled files name)
+pub refused_in : (files : Option Contents) (name items bytes : List ℕ) (r : Result Image Fault) → HasBytes files name items → bytes ≡ items → IfErr r (BytesLackCompiled bytes) → IfErr r (FileLacksCompiled files name)
 refused_in files name items bytes (Ok image) held same why = tt
 refused_in files name items bytes (Err f) held same why = no_compiled files name bytes f (subst (HasBytes files name) (sym same) held) why

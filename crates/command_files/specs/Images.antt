@@ -25,13 +25,13 @@ IsRefusal (refusal.Broken broken) image = IsLowestBroken image.program image.tab
 IsRefusal refusal.Memory image = Unit {0}
 
 -- these bytes give no valid image, for this fault
-abbrev pub IsNoImage : List ℕ → Fault → Type 0
-IsNoImage bytes (fault.Image f) = Answers (Err f) (reading (version_of bytes) bytes)
-IsNoImage bytes (fault.Rule r) = (image : Image) × Spells (version_of bytes) bytes image × IsRefusal r image
-IsNoImage bytes other = ⊥
+abbrev pub BytesLackImage : List ℕ → Fault → Type 0
+BytesLackImage bytes (fault.Image f) = Answers (Err f) (reading (version_of bytes) bytes)
+BytesLackImage bytes (fault.Rule r) = (image : Image) × Spells (version_of bytes) bytes image × IsRefusal r image
+BytesLackImage bytes other = ⊥
 
 -- no image could be had from the file of this name, for this fault
-abbrev pub IsNotLoaded : Option Contents → List ℕ → Fault → Type 0
-IsNotLoaded files name fault.Memory = Unit {0}
-IsNotLoaded files name (fault.File shown) = LacksFile files name × (string_bytes shown ≡ shown_name name)
-IsNotLoaded files name f = (bytes : List ℕ) × HasBytes files name bytes × IsNoImage bytes f
+abbrev pub FileLacksImage : Option Contents → List ℕ → Fault → Type 0
+FileLacksImage files name fault.Memory = Unit {0}
+FileLacksImage files name (fault.File shown) = LacksFile files name × (string_bytes shown ≡ shown_name name)
+FileLacksImage files name f = (bytes : List ℕ) × HasBytes files name bytes × BytesLackImage bytes f

@@ -3,13 +3,13 @@ use Rattle.std.specs.Prelude.{ℕ, ◌≢◌, ◌⊎◌, List}
 use Rattle.sc_text.specs.declared.read_fault.ReadFault.TheVariants as read
 use Rattle.sc_graph.specs.Program.{Program}
 use Rattle.scl.specs.declared.program.Scl.{Scl}
-use Rattle.scl_graph.specs.Answers.{IsGraph, IsReason}
+use Rattle.scl_graph.specs.Answers.{IsGraph, LacksGraph}
 use Rattle.scl_graph.specs.declared.fault.GraphFault.TheVariants as graph
 use Rattle.abort_expansion.specs.declared.fault.ExpandFault.TheVariants as expansion
 use Rattle.compiler.specs.declared.fault.CompileFault.TheVariants as compiling
 use Rattle.command_files.specs.declared.fault.Fault.{Fault}
 use Rattle.command_files.specs.declared.fault.Fault.TheVariants as fault
-use Rattle.command_files.specs.Sources.{SpellsProgram, SpellsNone}
+use Rattle.command_files.specs.Sources.{SpellsProgram, TextLacksProgram}
 
 -- the text spells an SCL program, or a chart that has one, and this is its graph
 pub record Makes (text : List ℕ) (p : Program) : Type 0 where
@@ -19,12 +19,12 @@ pub record Makes (text : List ℕ) (p : Program) : Type 0 where
 
 -- the text spells a program that has no graph, for this fault
 abbrev pub IsGraphless : List ℕ → Fault → Type 0
-IsGraphless text (fault.Program (compiling.Graph f)) = (scl : Scl) × SpellsProgram text scl × IsReason scl f
+IsGraphless text (fault.Program (compiling.Graph f)) = (scl : Scl) × SpellsProgram text scl × LacksGraph scl f
 IsGraphless text other = ⊥
 
 -- why a text makes no program of nodes: it spells no program, or one that has no graph
 abbrev pub HasNone : List ℕ → Fault → Type 0
-HasNone text f = SpellsNone text f ⊎ IsGraphless text f
+HasNone text f = TextLacksProgram text f ⊎ IsGraphless text f
 
 -- the fault says something of the text, and not that memory was refused
 abbrev pub SaysOfText : Fault → Type 0

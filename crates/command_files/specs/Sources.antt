@@ -14,9 +14,9 @@ use Rattle.core_charts.specs.Chart.{Chart}
 use Rattle.chart_drafts.specs.Checked as charts
 use Rattle.chart_reader.specs.Read as charts_read
 use Rattle.bytecode.specs.Image.{Image}
-use Rattle.compiler.specs.Charts.{IsSclOf, HasNoScl}
+use Rattle.compiler.specs.Charts.{IsSclOf, LacksScl}
 use Rattle.compiler.specs.declared.fault.CompileFault.{CompileFault}
-use Rattle.compiler.specs.Texts.{IsImageOf, IsNotCompiled}
+use Rattle.compiler.specs.Texts.{IsImageOf, SclLacksImage}
 use Rattle.command_files.specs.declared.fault.Fault.{Fault}
 use Rattle.command_files.specs.declared.fault.Fault.TheVariants as fault
 use Rattle.command_files.specs.FaultText.{shown_name}
@@ -75,46 +75,46 @@ pub record IsTextFault (text : List ℕ) (f : ReadFault) : Type 0 where
   pub fault : IsFaultIn language text f
 
 -- the text spells a chart, which has no SCL program, for this fault
-pub record LacksProgram (text : List ℕ) (f : CompileFault) : Type 0 where
+pub record ChartLacksProgram (text : List ℕ) (f : CompileFault) : Type 0 where
   pub is_chart : IsIn text language.Chart
   pub chart : Chart
   pub read : charts_read.IsRead text chart
-  pub none : HasNoScl chart f
+  pub none : LacksScl chart f
 
 -- why a text spells no program: it has a fault; or it spells a chart that has no SCL program
-abbrev pub SpellsNone : List ℕ → Fault → Type 0
-SpellsNone text (fault.Text f) = IsTextFault text f
-SpellsNone text (fault.Program f) = LacksProgram text f
-SpellsNone text other = ⊥
+abbrev pub TextLacksProgram : List ℕ → Fault → Type 0
+TextLacksProgram text (fault.Text f) = IsTextFault text f
+TextLacksProgram text (fault.Program f) = ChartLacksProgram text f
+TextLacksProgram text other = ⊥
 
 -- why bytes spell no program: they are no text, which is told of their first place; or the text spells none
-abbrev pub IsNoText : List ℕ → Fault → Type 0
-IsNoText bytes (fault.Text f) = (¬ IsUtf8 bytes × (f ≡ read.Text broken.Token 0)) ⊎ (IsUtf8 bytes × IsTextFault bytes f)
-IsNoText bytes (fault.Program f) = IsUtf8 bytes × LacksProgram bytes f
-IsNoText bytes other = ⊥
+abbrev pub BytesLackProgram : List ℕ → Fault → Type 0
+BytesLackProgram bytes (fault.Text f) = (¬ IsUtf8 bytes × (f ≡ read.Text broken.Token 0)) ⊎ (IsUtf8 bytes × IsTextFault bytes f)
+BytesLackProgram bytes (fault.Program f) = IsUtf8 bytes × ChartLacksProgram bytes f
+BytesLackProgram bytes other = ⊥
 
 -- the bytes are text, which spells a program that has no image, for this fault
-abbrev pub LacksImage : List ℕ → Fault → Type 0
-LacksImage bytes (fault.Program f) = (scl : Scl) × IsUtf8 bytes × SpellsProgram bytes scl × IsNotCompiled scl f
-LacksImage bytes other = ⊥
+abbrev pub ProgramLacksImage : List ℕ → Fault → Type 0
+ProgramLacksImage bytes (fault.Program f) = (scl : Scl) × IsUtf8 bytes × SpellsProgram bytes scl × SclLacksImage scl f
+ProgramLacksImage bytes other = ⊥
 
 -- why bytes spell no image: they spell no program, or one that has no image
-abbrev pub SpellsNoImage : List ℕ → Fault → Type 0
-SpellsNoImage bytes f = IsNoText bytes f ⊎ LacksImage bytes f
+abbrev pub BytesLackCompiled : List ℕ → Fault → Type 0
+BytesLackCompiled bytes f = BytesLackProgram bytes f ⊎ ProgramLacksImage bytes f
 
 -- no program could be had from the file of this name, for this fault
-abbrev pub IsNoSource : Option Contents → List ℕ → Fault → Type 0
-IsNoSource files name fault.Memory = Unit {0}
-IsNoSource files name (fault.File shown) = LacksFile files name × (string_bytes shown ≡ shown_name name)
-IsNoSource files name (fault.Text f) = (bytes : List ℕ) × HasBytes files name bytes × IsNoText bytes (fault.Text f)
-IsNoSource files name (fault.Program f) = (bytes : List ℕ) × HasBytes files name bytes × IsNoText bytes (fault.Program f)
-IsNoSource files name other = ⊥
+abbrev pub FileLacksProgram : Option Contents → List ℕ → Fault → Type 0
+FileLacksProgram files name fault.Memory = Unit {0}
+FileLacksProgram files name (fault.File shown) = LacksFile files name × (string_bytes shown ≡ shown_name name)
+FileLacksProgram files name (fault.Text f) = (bytes : List ℕ) × HasBytes files name bytes × BytesLackProgram bytes (fault.Text f)
+FileLacksProgram files name (fault.Program f) = (bytes : List ℕ) × HasBytes files name bytes × BytesLackProgram bytes (fault.Program f)
+FileLacksProgram files name other = ⊥
 
 -- the program in this file has no image, for this fault
-abbrev pub HasNoImage : Option Contents → List ℕ → Fault → Type 0
-HasNoImage files name (fault.Program f) = (scl : Scl) × IsSource files name scl × IsNotCompiled scl f
-HasNoImage files name other = ⊥
+abbrev pub FileLacksProgramImage : Option Contents → List ℕ → Fault → Type 0
+FileLacksProgramImage files name (fault.Program f) = (scl : Scl) × IsSource files name scl × SclLacksImage scl f
+FileLacksProgramImage files name other = ⊥
 
 -- there is no program in this file, or it has no image
-abbrev pub IsNoCompiled : Option Contents → List ℕ → Fault → Type 0
-IsNoCompiled files name f = IsNoSource files name f ⊎ HasNoImage files name f
+abbrev pub FileLacksCompiled : Option Contents → List ℕ → Fault → Type 0
+FileLacksCompiled files name f = FileLacksProgram files name f ⊎ FileLacksProgramImage files name f

@@ -1,7 +1,7 @@
 //! The image of the program in a file.
 
 ghost use Rattle.std.specs.Prelude.{◌≡◌, IfErr, IfOk};
-ghost use Rattle.command_files.specs.Sources.{IsCompiledFrom, IsNoCompiled, SpellsImage, SpellsNoImage};
+ghost use Rattle.command_files.specs.Sources.{IsCompiledFrom, FileLacksCompiled, SpellsImage, BytesLackCompiled};
 
 use crate::fault::Fault;
 use crate::files::Files;
@@ -15,7 +15,7 @@ use verifier::Verified;
 /// program, or why it has no image.
 pub fn compile_bytes(alloc: Global, bytes: &[u8]) -> Result<Verified, Fault>
     ensures compiled { IfOk result (SpellsImage bytes.now) }
-    ensures fault { IfErr result (SpellsNoImage bytes.now) }
+    ensures fault { IfErr result (BytesLackCompiled bytes.now) }
 {
     let scl = read_bytes(alloc, bytes)?;
     match compile_scl(alloc, &scl) {
@@ -28,7 +28,7 @@ pub fn compile_bytes(alloc: Global, bytes: &[u8]) -> Result<Verified, Fault>
 /// program in the file, or why it has no image.
 pub fn load_compiled<F: Files>(alloc: Global, files: &mut F, name: &str) -> Result<Verified, Fault>
     ensures compiled { IfOk result (IsCompiledFrom (F.contents files.old) name.now) }
-    ensures fault { IfErr result (IsNoCompiled (F.contents files.old) name.now) }
+    ensures fault { IfErr result (FileLacksCompiled (F.contents files.old) name.now) }
     ensures same { F.contents files.new ≡ F.contents files.old }
 {
     let bytes = bytes_of(alloc, files, name)?;

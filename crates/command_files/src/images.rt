@@ -4,7 +4,7 @@ ghost use Rattle.std.specs.Prelude.{◌≡◌, IfErr, IfOk};
 ghost use Rattle.sc_graph.specs.Valid.{IsValid};
 ghost use Rattle.bytecode.specs.Reading.Image.{version_of};
 ghost use Rattle.bytecode.specs.Spells.{Spells};
-ghost use Rattle.command_files.specs.Images.{IsLoaded, IsNoImage, IsNotLoaded};
+ghost use Rattle.command_files.specs.Images.{IsLoaded, BytesLackImage, FileLacksImage};
 
 use crate::fault::Fault;
 use crate::files::Files;
@@ -17,7 +17,7 @@ use verifier::{Verified, verify};
 fn verified(alloc: Global, bytes: &[u8]) -> Result<Verified, Fault>
     ensures spelt { IfOk result (λ image. Spells (version_of bytes.now) bytes.now image) }
     ensures valid { IfOk result (λ image. IsValid image.program image.tables) }
-    ensures fault { IfErr result (IsNoImage bytes.now) }
+    ensures fault { IfErr result (BytesLackImage bytes.now) }
 {
     match decode_either(alloc, bytes) {
         Ok(image) => match verify(alloc, image) {
@@ -32,7 +32,7 @@ fn verified(alloc: Global, bytes: &[u8]) -> Result<Verified, Fault>
 /// it has no valid image.
 pub fn load_verified<F: Files>(alloc: Global, files: &mut F, name: &str) -> Result<Verified, Fault>
     ensures loaded { IfOk result (IsLoaded (F.contents files.old) name.now) }
-    ensures fault { IfErr result (IsNotLoaded (F.contents files.old) name.now) }
+    ensures fault { IfErr result (FileLacksImage (F.contents files.old) name.now) }
     ensures same { F.contents files.new ≡ F.contents files.old }
 {
     let bytes = bytes_of(alloc, files, name)?;

@@ -2,8 +2,8 @@
 
 ghost use Rattle.std.specs.Prelude.{◌≡◌, IfErr, IfOk};
 ghost use Rattle.command_files.specs.Files.{HasBytes};
-ghost use Rattle.command_files.specs.Images.{IsNotLoaded};
-ghost use Rattle.command_files.specs.Sources.{IsNoSource};
+ghost use Rattle.command_files.specs.Images.{FileLacksImage};
+ghost use Rattle.command_files.specs.Sources.{FileLacksProgram};
 
 use crate::fault::Fault;
 use crate::fault_text::shown_name;
@@ -13,8 +13,8 @@ use std::alloc::Global;
 /// The bytes of the file of this name. Err: it could not be read; or memory was refused.
 pub fn bytes_of<F: Files>(alloc: Global, files: &mut F, name: &str) -> Result<Vec<u8>, Fault>
     ensures bytes { IfOk result (λ bytes. HasBytes (F.contents files.old) name.now bytes.items) }
-    ensures fault { IfErr result (IsNotLoaded (F.contents files.old) name.now) }
-    ensures source { IfErr result (IsNoSource (F.contents files.old) name.now) }
+    ensures fault { IfErr result (FileLacksImage (F.contents files.old) name.now) }
+    ensures source { IfErr result (FileLacksProgram (F.contents files.old) name.now) }
     ensures same { F.contents files.new ≡ F.contents files.old }
 {
     match files.load(alloc, name) {

@@ -2,7 +2,7 @@
 
 ghost use Rattle.std.specs.Prelude.{◌≡◌, IfErr, IfOk};
 ghost use Rattle.sc_text.specs.declared.language.Language.TheVariants as language;
-ghost use Rattle.command_files.specs.Sources.{IsNoSource, IsNoText, IsSource, SpellsNone, SpellsProgram};
+ghost use Rattle.command_files.specs.Sources.{FileLacksProgram, BytesLackProgram, IsSource, TextLacksProgram, SpellsProgram};
 ghost use Rattle.sc_text.specs.FirstToken.{IsIn};
 ghost use Rattle.std.specs.Str.{IsUtf8};
 
@@ -21,7 +21,7 @@ use std::str;
 fn read_as_chart(alloc: Global, text: &str) -> Result<Scl, Fault>
     requires { IsIn text.now language.Chart }
     ensures read { IfOk result (SpellsProgram text.now) }
-    ensures fault { IfErr result (SpellsNone text.now) }
+    ensures fault { IfErr result (TextLacksProgram text.now) }
 {
     let chart = match read_chart(alloc, text) {
         Ok(chart) => chart,
@@ -37,7 +37,7 @@ fn read_as_chart(alloc: Global, text: &str) -> Result<Scl, Fault>
 fn read_as_scl(alloc: Global, text: &str) -> Result<Scl, Fault>
     requires { IsIn text.now language.Scl }
     ensures read { IfOk result (SpellsProgram text.now) }
-    ensures fault { IfErr result (SpellsNone text.now) }
+    ensures fault { IfErr result (TextLacksProgram text.now) }
 {
     match read_scl(alloc, text) {
         Ok(scl) => Ok(scl),
@@ -49,7 +49,7 @@ fn read_as_scl(alloc: Global, text: &str) -> Result<Scl, Fault>
 /// where the expansion of its chart passes a limit.
 pub(crate) fn read_text(alloc: Global, text: &str) -> Result<Scl, Fault>
     ensures read { IfOk result (SpellsProgram text.now) }
-    ensures fault { IfErr result (SpellsNone text.now) }
+    ensures fault { IfErr result (TextLacksProgram text.now) }
 {
     match language_of(text) {
         Language::Chart => read_as_chart(alloc, text),
@@ -61,7 +61,7 @@ pub(crate) fn read_text(alloc: Global, text: &str) -> Result<Scl, Fault>
 pub fn text_of(bytes: &[u8]) -> Result<&str, Fault>
     ensures same { IfOk result (λ text. text.now ≡ bytes.now) }
     ensures text { IfOk result (λ _. IsUtf8 bytes.now) }
-    ensures fault { IfErr result (IsNoText bytes.now) }
+    ensures fault { IfErr result (BytesLackProgram bytes.now) }
 {
     match str::from_utf8(bytes) {
         Ok(text) => Ok(text),
@@ -75,7 +75,7 @@ pub fn text_of(bytes: &[u8]) -> Result<&str, Fault>
 pub(crate) fn read_bytes(alloc: Global, bytes: &[u8]) -> Result<Scl, Fault>
     ensures text { IfOk result (λ _. IsUtf8 bytes.now) }
     ensures read { IfOk result (SpellsProgram bytes.now) }
-    ensures fault { IfErr result (IsNoText bytes.now) }
+    ensures fault { IfErr result (BytesLackProgram bytes.now) }
 {
     let text = text_of(bytes)?;
     read_text(alloc, text)
@@ -86,7 +86,7 @@ pub(crate) fn read_bytes(alloc: Global, bytes: &[u8]) -> Result<Scl, Fault>
 /// where the expansion of its chart passes a limit.
 pub fn load_scl<F: Files>(alloc: Global, files: &mut F, name: &str) -> Result<Scl, Fault>
     ensures loaded { IfOk result (IsSource (F.contents files.old) name.now) }
-    ensures fault { IfErr result (IsNoSource (F.contents files.old) name.now) }
+    ensures fault { IfErr result (FileLacksProgram (F.contents files.old) name.now) }
     ensures same { F.contents files.new ≡ F.contents files.old }
 {
     let bytes = bytes_of(alloc, files, name)?;

@@ -1,7 +1,7 @@
 //! From a chart to what runs it.
 
 ghost use Rattle.std.specs.Prelude.{IfErr, IfOk};
-ghost use Rattle.compiler.specs.Charts.{IsChartNotCompiled};
+ghost use Rattle.compiler.specs.Charts.{ChartLacksImage};
 ghost use Rattle.compiled_charts.specs.Compiled.{IsCompiledChart};
 
 use crate::compiled::Compiled;
@@ -15,7 +15,7 @@ use std::alloc::Global;
 /// reason in the order of the passes; or memory was refused.
 pub fn compile_chart(alloc: Global, chart: &Chart) -> Result<Compiled, CompileFault>
     ensures compiled { IfOk result (IsCompiledChart chart.now) }
-    ensures refused { IfErr result (IsChartNotCompiled chart.now) }
+    ensures refused { IfErr result (ChartLacksImage chart.now) }
 {
     let verified = compiler::compile_chart(alloc, chart)?;
     let (core, map) = match expand(alloc, chart) {

@@ -7,8 +7,8 @@ use Rattle.abort_expansion.specs.Expansion.{IsExpandable, expanded}
 use Rattle.chart_lowering.specs.Lowering.{lowered}
 use Rattle.scl.specs.declared.program.Scl.{Scl}
 use Rattle.bytecode.specs.Image.{Image}
-use Rattle.compiler.specs.Texts.{IsImageOf, IsNotCompiled}
-use Rattle.compiler.specs.Charts.{IsSclOf, HasNoScl, IsImageOfChart, IsChartNotCompiled}
+use Rattle.compiler.specs.Texts.{IsImageOf, SclLacksImage}
+use Rattle.compiler.specs.Charts.{IsSclOf, LacksScl, IsImageOfChart, ChartLacksImage}
 use Rattle.compiler.specs.declared.fault.CompileFault.{CompileFault}
 use Rattle.compiler.specs.declared.fault.CompileFault.TheVariants as fault
 
@@ -29,14 +29,14 @@ pub image_of_chart : {E : Type 0} (chart : Chart) (scl : Scl) (r : Result Image 
 image_of_chart chart scl (Ok image) lowers is = record { scl = scl; lowers = lowers; image_of = is }
 image_of_chart chart scl (Err f) lowers is = tt
 
-pub no_scl : (chart : Chart) (f : CompileFault) → HasNoScl chart f → IsChartNotCompiled chart f
+pub no_scl : (chart : Chart) (f : CompileFault) → LacksScl chart f → ChartLacksImage chart f
 no_scl chart (fault.Expansion f) none = none
 no_scl chart (fault.Graph f) none = absurd none
 no_scl chart (fault.Conflict f) none = absurd none
 no_scl chart (fault.Tables f) none = absurd none
 no_scl chart (fault.Rule f) none = absurd none
 
-pub no_image : (chart : Chart) (scl : Scl) (f : CompileFault) → IsSclOf chart scl → IsNotCompiled scl f → IsChartNotCompiled chart f
+pub no_image : (chart : Chart) (scl : Scl) (f : CompileFault) → IsSclOf chart scl → SclLacksImage scl f → ChartLacksImage chart f
 no_image chart scl (fault.Expansion f) lowers refused = absurd refused.refused
 no_image chart scl (fault.Graph f) lowers refused = record { scl = scl; lowers = lowers; refused = refused }
 no_image chart scl (fault.Conflict f) lowers refused = record { scl = scl; lowers = lowers; refused = refused }

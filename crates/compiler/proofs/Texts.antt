@@ -21,8 +21,8 @@ use Rattle.verifier.specs.declared.rule.Rule.{Rule}
 use Rattle.verifier.specs.declared.rule.Rule.TheVariants as rule
 use Rattle.verifier.specs.declared.rule.Broken.{Broken}
 use Rattle.verifier.specs.declared.rule.Refusal.TheVariants as refusal
-use Rattle.compiler.specs.Compiled.{BreaksARule, IsAboutSteps, IsCompiled, IsRefused}
-use Rattle.compiler.specs.Texts.{IsImageOf, IsNotCompiled}
+use Rattle.compiler.specs.Compiled.{BreaksARule, IsAboutSteps, IsCompiled, LacksImage}
+use Rattle.compiler.specs.Texts.{IsImageOf, SclLacksImage}
 use Rattle.compiler.specs.declared.fault.CompileFault.{CompileFault}
 use Rattle.compiler.specs.declared.fault.CompileFault.TheVariants as fault
 
@@ -67,7 +67,7 @@ breaks_none : (scl : Scl) (q : Program) (broken : Broken) → IsGraph scl q → 
 breaks_none scl q broken graph breaks =
     ∥∥₁_elim scl.kept no_proof (λ kept. about_steps_kept q broken.rule breaks.1.0 broken.place (answered scl q kept graph).2 breaks.0 breaks.1.2.breaks)
 
-pub graph_refused : (scl : Scl) (q : Program) (f : CompileFault) → IsGraph scl q → IsRefused q f → IsNotCompiled scl f
+pub graph_refused : (scl : Scl) (q : Program) (f : CompileFault) → IsGraph scl q → LacksImage q f → SclLacksImage scl f
 graph_refused scl q (fault.Expansion f) graph refused = absurd refused
 graph_refused scl q (fault.Graph f) graph refused = absurd refused
 graph_refused scl q (fault.Conflict f) graph refused = record { program = q; graph = graph; refused = refused }

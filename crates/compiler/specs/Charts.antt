@@ -3,13 +3,13 @@ use Rattle.std.specs.Prelude.{◌≡◌}
 use Rattle.core_charts.specs.declared.features.Features.TheVariants as features
 use Rattle.core_charts.specs.Chart.{Chart}
 use Rattle.core_charts.specs.Rules.{IsChart}
-use Rattle.abort_expansion.specs.Answers.{IsReason}
+use Rattle.abort_expansion.specs.Answers.{LacksCore}
 use Rattle.abort_expansion.specs.Expansion.{IsExpandable, expanded}
 use Rattle.chart_lowering.specs.Lowering.{lowered}
 use Rattle.scl.specs.declared.program.Scl.{Scl}
 use Rattle.scl.specs.Rules.{KeepsRules}
 use Rattle.bytecode.specs.Image.{Image}
-use Rattle.compiler.specs.Texts.{IsImageOf, IsNotCompiled}
+use Rattle.compiler.specs.Texts.{IsImageOf, SclLacksImage}
 use Rattle.compiler.specs.declared.fault.CompileFault.{CompileFault}
 use Rattle.compiler.specs.declared.fault.CompileFault.TheVariants as fault
 
@@ -24,9 +24,9 @@ pub record IsSclOf (chart : Chart) (scl : Scl) : Type 0 where
   pub body : scl.body ≡ lowered (expanded chart)
 
 -- a chart has no SCL program, for this fault
-abbrev pub HasNoScl : Chart → CompileFault → Type 0
-HasNoScl chart (fault.Expansion f) = IsReason chart f
-HasNoScl chart other = ⊥
+abbrev pub LacksScl : Chart → CompileFault → Type 0
+LacksScl chart (fault.Expansion f) = LacksCore chart f
+LacksScl chart other = ⊥
 
 -- the image is that of the SCL program of a chart
 pub record IsImageOfChart (chart : Chart) (image : Image) : Type 0 where
@@ -35,12 +35,12 @@ pub record IsImageOfChart (chart : Chart) (image : Image) : Type 0 where
   pub image_of : IsImageOf scl image
 
 -- the SCL program of a chart has no image, for this fault
-pub record LacksImage (chart : Chart) (f : CompileFault) : Type 0 where
+pub record LoweredLacksImage (chart : Chart) (f : CompileFault) : Type 0 where
   pub scl : Scl
   pub lowers : IsSclOf chart scl
-  pub refused : IsNotCompiled scl f
+  pub refused : SclLacksImage scl f
 
 -- why a chart has no image: that it has no SCL program comes before what that lacks
-abbrev pub IsChartNotCompiled : Chart → CompileFault → Type 0
-IsChartNotCompiled chart (fault.Expansion f) = IsReason chart f
-IsChartNotCompiled chart other = LacksImage chart other
+abbrev pub ChartLacksImage : Chart → CompileFault → Type 0
+ChartLacksImage chart (fault.Expansion f) = LacksCore chart f
+ChartLacksImage chart other = LoweredLacksImage chart other

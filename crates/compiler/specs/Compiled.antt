@@ -49,9 +49,9 @@ BreaksARule p (refusal.Broken broken) = IsAboutSteps broken.rule × ((q : Tables
 BreaksARule p refusal.Memory = Unit {0}
 
 -- why a program has no image: conflicts come before walks, and these before rules
-abbrev pub IsRefused : Program → CompileFault → Type 0
-IsRefused p (fault.Expansion f) = ⊥
-IsRefused p (fault.Graph f) = ⊥
-IsRefused p (fault.Conflict f) = Conflicts p f
-IsRefused p (fault.Tables f) = HasNoConflict p × HasAWalk p f
-IsRefused p (fault.Rule r) = HasNoConflict p × HasNoWalk p × BreaksARule p r
+abbrev pub LacksImage : Program → CompileFault → Type 0
+LacksImage p (fault.Expansion f) = ⊥
+LacksImage p (fault.Graph f) = ⊥
+LacksImage p (fault.Conflict f) = Conflicts p f
+LacksImage p (fault.Tables f) = HasNoConflict p × HasAWalk p f
+LacksImage p (fault.Rule r) = HasNoConflict p × HasNoWalk p × BreaksARule p r

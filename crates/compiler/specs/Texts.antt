@@ -3,12 +3,12 @@ use Rattle.sc_graph.specs.Program.{Program}
 use Rattle.sc_graph.specs.Valid.{IsValid}
 use Rattle.scl.specs.declared.program.Scl.{Scl}
 use Rattle.scl.specs.Numbering.{numbered}
-use Rattle.scl_graph.specs.Answers.{IsGraph, IsReason}
+use Rattle.scl_graph.specs.Answers.{IsGraph, LacksGraph}
 use Rattle.scl_graph_laws.specs.Keeps.{Keeps}
 use Rattle.bytecode.specs.Image.{Image}
 use Rattle.verifier.specs.declared.rule.Refusal.TheVariants as refusal
 use Rattle.priority_weights.specs.LeastTables.{AreLeast}
-use Rattle.compiler.specs.Compiled.{IsRefused}
+use Rattle.compiler.specs.Compiled.{LacksImage}
 use Rattle.compiler.specs.declared.fault.CompileFault.{CompileFault}
 use Rattle.compiler.specs.declared.fault.CompileFault.TheVariants as fault
 
@@ -20,14 +20,14 @@ pub record IsImageOf (scl : Scl) (image : Image) : Type 0 where
   pub valid : IsValid image.program image.tables
 
 -- the graph of an SCL program has no image, for this fault
-pub record HasNoImage (scl : Scl) (f : CompileFault) : Type 0 where
+pub record GraphLacksImage (scl : Scl) (f : CompileFault) : Type 0 where
   pub program : Program
   pub graph : IsGraph scl program
-  pub refused : IsRefused program f
+  pub refused : LacksImage program f
 
 -- why an SCL program has no image: that it has no graph comes before what its graph lacks. No rule is broken: the graph
 -- keeps the rules about the codes and the assignments of its steps
-abbrev pub IsNotCompiled : Scl → CompileFault → Type 0
-IsNotCompiled scl (fault.Graph f) = IsReason scl f
-IsNotCompiled scl (fault.Rule (refusal.Broken broken)) = ⊥
-IsNotCompiled scl other = HasNoImage scl other
+abbrev pub SclLacksImage : Scl → CompileFault → Type 0
+SclLacksImage scl (fault.Graph f) = LacksGraph scl f
+SclLacksImage scl (fault.Rule (refusal.Broken broken)) = ⊥
+SclLacksImage scl other = GraphLacksImage scl other

@@ -1,7 +1,7 @@
 //! From a chart to its image.
 
 ghost use Rattle.std.specs.Prelude.{IfErr, IfOk};
-ghost use Rattle.compiler.specs.Charts.{HasNoScl, IsChartNotCompiled, IsImageOfChart, IsSclOf};
+ghost use Rattle.compiler.specs.Charts.{LacksScl, ChartLacksImage, IsImageOfChart, IsSclOf};
 
 use crate::fault::CompileFault;
 use crate::from_scl::compile_scl;
@@ -17,7 +17,7 @@ use verifier::Verified;
 #[tactic(auto, using(crate::proofs::Charts::lowering_of))]
 pub fn scl_of_chart(alloc: Global, chart: &Chart) -> Result<Scl, CompileFault>
     ensures scl { IfOk result (IsSclOf chart.now) }
-    ensures refused { IfErr result (HasNoScl chart.now) }
+    ensures refused { IfErr result (LacksScl chart.now) }
 {
     let (core, _) = match expand(alloc, chart) {
         Ok(expansion) => expansion,
@@ -36,7 +36,7 @@ pub fn scl_of_chart(alloc: Global, chart: &Chart) -> Result<Scl, CompileFault>
 #[tactic(auto, using(crate::proofs::Charts::no_scl, crate::proofs::Charts::no_image))]
 pub fn compile_chart(alloc: Global, chart: &Chart) -> Result<Verified, CompileFault>
     ensures compiled { IfOk result (IsImageOfChart chart.now) }
-    ensures refused { IfErr result (IsChartNotCompiled chart.now) }
+    ensures refused { IfErr result (ChartLacksImage chart.now) }
 {
     let scl = scl_of_chart(alloc, chart)?;
     compile_scl(alloc, &scl)

@@ -2,7 +2,7 @@
 
 ghost use Rattle.std.specs.Prelude.{◌≤◌, IfErr, IfOk};
 ghost use Rattle.conflict_edges.specs.Conflicts.{HasNoConflict};
-ghost use Rattle.compiler.specs.Compiled.{IsCompiled, IsRefused};
+ghost use Rattle.compiler.specs.Compiled.{IsCompiled, LacksImage};
 ghost use Rattle.priority_weights.specs.Edges.{HasNoWalk};
 ghost use Rattle.priority_weights.specs.LeastTables.{AreLeast};
 ghost use Rattle.sc_graph.specs.Limits.{budget_limit};
@@ -22,7 +22,7 @@ use verifier::{Verified, verify};
 pub fn compile_program(alloc: Global, program: Program) -> Result<Verified, CompileFault>
     requires { IsFormed program }
     ensures compiled { IfOk result (IsCompiled program) }
-    ensures refused { IfErr result (IsRefused program) }
+    ensures refused { IfErr result (LacksImage program) }
 {
     let tables = least_tables(alloc, &program)?;
     let image = match Image::of(program, tables) {
@@ -42,7 +42,7 @@ fn least_tables(alloc: Global, program: &Program) -> Result<Tables, CompileFault
     ensures budget { IfOk result (λ q. q.budget ≤ budget_limit) }
     ensures none { IfOk result (λ _. HasNoConflict program.now) }
     ensures no_walk { IfOk result (λ _. HasNoWalk program.now) }
-    ensures refused { IfErr result (IsRefused program.now) }
+    ensures refused { IfErr result (LacksImage program.now) }
 {
     let edges = match conflicts(alloc, program) {
         Ok(edges) => edges,

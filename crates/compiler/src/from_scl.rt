@@ -1,7 +1,7 @@
 //! From an SCL program to its image.
 
 ghost use Rattle.std.specs.Prelude.{◌↔◌, IfErr, IfOk, IsTrue};
-ghost use Rattle.compiler.specs.Texts.{IsImageOf, IsNotCompiled};
+ghost use Rattle.compiler.specs.Texts.{IsImageOf, SclLacksImage};
 ghost use Rattle.sc_graph.specs.Valid.{IsFormed};
 
 use crate::fault::CompileFault;
@@ -18,7 +18,7 @@ use verifier::Verified;
 #[tactic(auto, using(crate::proofs::Texts::graph_formed, crate::proofs::Texts::image_of_graph, crate::proofs::Texts::graph_refused))]
 pub fn compile_scl(alloc: Global, scl: &Scl) -> Result<Verified, CompileFault>
     ensures compiled { IfOk result (IsImageOf scl.now) }
-    ensures refused { IfErr result (IsNotCompiled scl.now) }
+    ensures refused { IfErr result (SclLacksImage scl.now) }
 {
     let program = match graph_of(alloc, scl) {
         Ok(program) => program,

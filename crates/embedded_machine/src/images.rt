@@ -3,7 +3,7 @@
 ghost use Rattle.std.specs.Prelude.{◌≡◌, IfErr, IfOk};
 ghost use Rattle.bytecode.specs.Image.{Image};
 ghost use Rattle.bytecode.specs.Spells.{Spells};
-ghost use Rattle.command_files.specs.Sources.{SpellsImage, SpellsNoImage};
+ghost use Rattle.command_files.specs.Sources.{SpellsImage, BytesLackCompiled};
 ghost use Rattle.embedded_machine.specs.Ticks.{SpellValid};
 
 use bytecode::{decode_either, encode};

@@ -147,7 +147,7 @@ pub assembled_least : (p : Program) → IsFormed p → (q : Tables) (ends priori
 assembled_least p formed q ends priorities weights bounds parts of = record {
   long = record {
     priorities = ap length of.priorities_are ∙ parts.order.long;
-    weights = ap length of.weights_are ∙ parts.flow.long;
+    weights = ap length of.weights_are ∙ parts.weights_least.long;
     end_bits = ap length of.ends_are ∙ length-map ends (nat_lt 0) ∙ parts.end_bits.long;
     bounds = ap length of.bounds_are ∙ parts.covering.under.long;
   };
@@ -155,14 +155,14 @@ assembled_least p formed q ends priorities weights bounds parts of = record {
     end_bit = bits_kept p ends parts.end_bits q (end_bit_is q ends of.ends_are);
     flow = flow_at p q (order_kept p priorities parts.order q (λ n. ap (λ xs. slice_index xs n) of.priorities_are));
     protocol = protocol_at p q (order_kept p priorities parts.order q (λ n. ap (λ xs. slice_index xs n) of.priorities_are));
-    weight = weights_kept p ends weights parts.flow q (end_bit_is q ends of.ends_are) weight_is;
+    weight = weights_kept p ends weights parts.weights_least q (end_bit_is q ends of.ends_are) weight_is;
     bound = bound_at p formed (slice_index weights) (slice_index bounds) q parts.covering.covering weight_is bound_is (record {
       root = (let a = bound_is 0 in let b = of.budget_is in omega (arith, a, b));
       entry = (let a = root_is in let b = of.budget_is in omega (arith, a, b));
     });
   };
   least = λ r keeps.
-      let weights_le : (n : ℕ) → slice_index weights n ≤ weight r n = λ n. parts.flow.least (weight r) (weights_keep p ends parts.end_bits r keeps.end_bit keeps.weight) n in
+      let weights_le : (n : ℕ) → slice_index weights n ≤ weight r n = λ n. parts.weights_least.least (weight r) (weights_keep p ends parts.end_bits r keeps.end_bit keeps.weight) n in
       let bounds_le : (t : ℕ) → slice_index bounds t ≤ bound r t = λ t. parts.covering.under.below (bound r) (bounds_cover p formed (slice_index weights) r weights_le keeps.bound) t in
       let budget = keeps.bound place.Image in
       record {
@@ -212,7 +212,7 @@ small_entries p formed xs long within n = elim (less_or_not n (length p.nodes)) 
 pub bound_small : (p : Program) → IsFormed p → (ends priorities weights bounds : List ℕ) → AreParts p ends priorities weights bounds →
     slice_index bounds 0 ≤ budget_limit
 bound_small p formed ends priorities weights bounds parts =
-    let a = parts.covering.under.below (ample p) (ample_covers p formed (slice_index weights) parts.flow_within) 0 in
+    let a = parts.covering.under.below (ample p) (ample_covers p formed (slice_index weights) parts.weights_within) 0 in
     let b = ample_small p formed 0 in
     omega (arith, a, b)
 
@@ -220,4 +220,4 @@ pub entry_small : (p : Program) → IsFormed p → (ends priorities weights boun
     entry_number (slice_index weights) entry ≤ budget_limit
 entry_small p formed ends priorities weights bounds parts None = omega arith
 entry_small p formed ends priorities weights bounds parts (Some n) =
-    let h = small_entries p formed weights parts.flow.long parts.flow_within n in omega (arith, h)
+    let h = small_entries p formed weights parts.weights_least.long parts.weights_within n in omega (arith, h)

@@ -1,6 +1,6 @@
 pub mod Bits
 pub mod Asking
-pub mod Flowing
+pub mod GoingOn
 pub mod Ordering
 pub mod Sums
 pub mod Chains

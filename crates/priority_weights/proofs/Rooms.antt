@@ -1,4 +1,4 @@
--- Where ranks fall along flow, a table within the number of nodes keeps the step-weight rule: for each node, how many
+-- Where ranks fall as threads go on, a table within the number of nodes keeps the step-weight rule: for each node, how many
 -- nodes have in their chain a node of its thread of no greater rank.
 use Rattle.std.proofs.Common.{ℕ, zero, suc, ◌≡◌, ◌<◌, ◌≤◌, ◌+◌, Bool, true, false, ◌&&◌, Option, Some, None, List, [], ◌∷◌, length, slice_get, option_map, option_and_then, refl, sym, ◌∙◌, subst, ap, arith, eqb-true}
 use Rattle.std.specs.Prelude.{nat_le, unwrap_or, if◌then◌else◌}
@@ -14,7 +14,7 @@ use Rattle.sc_graph.proofs.Formed.{node_at, owner_at, parent_is_owner, forked_on
 use Rattle.least_or_cycle.specs.Least.{Exceeds}
 use Rattle.least_or_cycle.specs.Walks.{HasRanks}
 use Rattle.priority_weights.specs.Inside.Entries.{bits, entry_bits, entry_number, entry_sum, join_weight, step_weight, WeightKept}
-use Rattle.priority_weights.specs.Inside.Next.{FlowBy, FlowLeads, successor, over}
+use Rattle.priority_weights.specs.Inside.Next.{GoesOnBy, LeadsOn, successor, over}
 use Rattle.program_edges.proofs.Instantly.{owner_within, fork_owned}
 use Rattle.priority_weights.proofs.Sums.{sum_over, total, AllOf, all_of, apart_of, total_small}
 use Rattle.priority_weights.proofs.Chains.{IsTree, reach, reach_small, parts}
@@ -182,7 +182,7 @@ fork_room p formed rank e n t j ks lt at owned distinct joined falls = chosen (e
         omega (arith, kids, h, weight)
 
 step_room : (p : Program) (formed : IsFormed p) (q rank : ℕ → ℕ) (n t : ℕ) (s : Step) → n < length p.nodes → step_at p n ≡ Some s → owner_of p n ≡ Some t → StepStays p t s → StepFits p s →
-    ((m : ℕ) → FlowBy p q n m → rank m < rank n) → step_weight p (bits q) (node_room p formed rank) s ≤ node_room p formed rank n
+    ((m : ℕ) → GoesOnBy p q n m → rank m < rank n) → step_weight p (bits q) (node_room p formed rank) s ≤ node_room p formed rank n
 step_room p formed q rank n t (step.Assign x code m) lt at owned stays fits falls =
     next_room p formed rank n m lt (falls m (successor (step.Assign x code m) at (zero, omega arith, refl))) (owned_is p m t (target_owned p t m stays) ∙ sym (owned_is p n t owned))
 step_room p formed q rank n t (step.Update x f code m) lt at owned stays fits falls =
@@ -209,7 +209,7 @@ step_placed p formed n s at =
     (x.node.owner, owner_at p n x.node x.there, subst P x.is (formed.structure (place.Node n) x.node x.there).stays, subst Q x.is (formed.size (place.Node n) x.node x.there).fits)
 
 -- so the least weights are within the number of nodes
-pub weights_within : (p : Program) → IsFormed p → (q : ℕ → ℕ) → HasRanks (FlowLeads p q) (length p.nodes) → ¬ Exceeds (WeightKept p (bits q)) (length p.nodes) (length p.nodes)
+pub weights_within : (p : Program) → IsFormed p → (q : ℕ → ℕ) → HasRanks (LeadsOn p q) (length p.nodes) → ¬ Exceeds (WeightKept p (bits q)) (length p.nodes) (length p.nodes)
 weights_within p formed q ranks beyond = beyond.exceeds (node_room p formed ranks.rank)
     (record {
       each = λ n lt. record {

@@ -1,4 +1,4 @@
--- Flow by the least end bits is flow within one tick; where tables fall along edges, no walk closes.
+-- What goes on by the least end bits goes on within one tick; where tables fall along edges, no walk closes.
 use Rattle.std.proofs.Common.{ℕ, ◌≡◌, ◌<◌, true, Result, Ok, Err, List, [], ◌∷◌, length, map, refl, sym, ◌∙◌}
 use Rattle.std.specs.Prelude.{slice_index, nat_lt, ◌↔◌, IfOk}
 use Rattle.sc_graph.specs.declared.program.Step.TheVariants as step
@@ -11,10 +11,10 @@ use Rattle.least_or_cycle.specs.Walks.{Walk, Closes, Falls}
 use Rattle.least_or_cycle.proofs.Closing.{no_cycle}
 use Rattle.priority_weights.specs.declared.falling.Falling.{Falling}
 use Rattle.priority_weights.specs.declared.falling.Falling.TheVariants as falling
-use Rattle.priority_weights.specs.Edges.{MayAllEnd, FlowEdge, to_successor, over_fork, InTick, InOrder, IsInstantLoop, IsOrderCycle}
+use Rattle.priority_weights.specs.Edges.{MayAllEnd, GoesOn, to_successor, over_fork, InTick, InOrder, IsInstantLoop, IsOrderCycle}
 use Rattle.priority_weights.specs.Inside.Entries.{bits, entry_bits, BitKept}
 use Rattle.priority_weights.specs.Inside.Falling.{IsFalling}
-use Rattle.priority_weights.specs.Inside.Next.{FlowBy, FlowLeads, successor, over}
+use Rattle.priority_weights.specs.Inside.Next.{GoesOnBy, LeadsOn, successor, over}
 use Rattle.priority_weights.proofs.Asking.{least_alike}
 use Rattle.priority_weights.proofs.Assembly.{order_within}
 use Rattle.priority_weights.proofs.Bits.{entries_more}
@@ -29,14 +29,14 @@ all_may p ends l ks may =
     let e = may.said q (bits_kept p ends l q (end_bit_is q ends refl)) in
     entries_more p (end_bit q) (bits (slice_index ends)) (λ n x. sym (end_bit_is q ends refl n) ∙ x) ks (entry_bits_are p q ks ∙ e)
 
-pub flow_is : (p : Program) (ends : List ℕ) → IsLeast (BitKept p) (length p.nodes) ends → (m n w : ℕ) → FlowLeads p (slice_index ends) m n w ↔ InTick p m n w
-flow_is p ends l m n w = (λ h. (there h.0, h.1), λ h. (back h.0, h.1))
+pub on_is : (p : Program) (ends : List ℕ) → IsLeast (BitKept p) (length p.nodes) ends → (m n w : ℕ) → LeadsOn p (slice_index ends) m n w ↔ InTick p m n w
+on_is p ends l m n w = (λ h. (there h.0, h.1), λ h. (back h.0, h.1))
   where
-    there : FlowBy p (slice_index ends) m n → FlowEdge p m n
+    there : GoesOnBy p (slice_index ends) m n → GoesOn p m n
     there (successor s at c) = to_successor s at c
     there (over ks at e) = over_fork ks at (may_all p ends l ks e)
 
-    back : FlowEdge p m n → FlowBy p (slice_index ends) m n
+    back : GoesOn p m n → GoesOnBy p (slice_index ends) m n
     back (to_successor s at c) = successor s at c
     back (over_fork ks at may) = over ks at (all_may p ends l ks may)
 
@@ -67,15 +67,15 @@ pub if_ok_turned : {T E : Type 0} (r : Result T E) (P Q : T → Type 0) → ((t 
 if_ok_turned (Ok t) P Q f h = f t h
 if_ok_turned (Err e) P Q f h = h
 
-flow_within : (p : Program) (m n w : ℕ) → InTick p m n w → m < length p.nodes
-flow_within p m n w edge = within edge.0
+on_within : (p : Program) (m n w : ℕ) → InTick p m n w → m < length p.nodes
+on_within p m n w edge = within edge.0
   where
-    within : FlowEdge p m n → m < length p.nodes
+    within : GoesOn p m n → m < length p.nodes
     within (to_successor s at c) = step_within p m s at
     within (over_fork ks at may) = step_within p m (step.Fork ks n) at
 
 pub no_instant_loop : (p : Program) (ranks : List ℕ) → IsLeast (Falls (InTick p)) (length p.nodes) ranks → (walk : List ℕ) → ¬ IsInstantLoop p walk
-no_instant_loop p ranks l walk = no_cycle (InTick p) (length p.nodes) (slice_index ranks) (flow_within p) l.keeps walk
+no_instant_loop p ranks l walk = no_cycle (InTick p) (length p.nodes) (slice_index ranks) (on_within p) l.keeps walk
 
 pub no_order_cycle : (p : Program) (priorities : List ℕ) → IsLeast (Falls (InOrder p)) (length p.nodes) priorities → (walk : List ℕ) → ¬ IsOrderCycle p walk
 no_order_cycle p priorities l walk = no_cycle (InOrder p) (length p.nodes) (slice_index priorities) (order_within p) l.keeps walk

@@ -1,4 +1,4 @@
--- The edges along which tables are asked to fall: flow within one tick, and the order of priorities.
+-- The edges along which tables are asked to fall: where threads go on within one tick, and the order of priorities.
 use Rattle.std.specs.Prelude.{ℕ, ◌≡◌, ◌⊎◌, true, Some, List, Contains}
 use Rattle.sc_graph.specs.declared.program.Step.{Step}
 use Rattle.sc_graph.specs.declared.program.Step.TheVariants as step
@@ -14,19 +14,19 @@ pub record MayAllEnd (p : Program) (children : List ℕ) : Type 0 where
   pub said : (q : Tables) → ((at : Place) → EndBitAt p q at) → entries_end p q children ≡ true
 
 -- a thread may go on from node m to node n in one tick: to a successor, or over a fork whose children may all end at once
-pub data FlowEdge (p : Program) (m n : ℕ) : Type 0 where
-  to_successor : (s : Step) → step_at p m ≡ Some s → Contains (successors s) n → FlowEdge p m n
-  over_fork : (children : List ℕ) → step_at p m ≡ Some (step.Fork children n) → MayAllEnd p children → FlowEdge p m n
+pub data GoesOn (p : Program) (m n : ℕ) : Type 0 where
+  to_successor : (s : Step) → step_at p m ≡ Some s → Contains (successors s) n → GoesOn p m n
+  over_fork : (children : List ℕ) → step_at p m ≡ Some (step.Fork children n) → MayAllEnd p children → GoesOn p m n
 
 -- each such edge has weight 1
 abbrev pub InTick : Program → ℕ → ℕ → ℕ → Type 0
-InTick p m n w = FlowEdge p m n × (w ≡ 1)
+InTick p m n w = GoesOn p m n × (w ≡ 1)
 
 -- an instantaneous edge has weight 0, and a protocol edge weight 1
 abbrev pub InOrder : Program → ℕ → ℕ → ℕ → Type 0
 InOrder p m n w = (Instant p m n × (w ≡ 0)) ⊎ (ProtocolEdge p m n × (w ≡ 1))
 
--- a closed walk along flow within one tick
+-- a closed walk along which threads go on within one tick
 abbrev pub IsInstantLoop : Program → List ℕ → Type 0
 IsInstantLoop p walk = IsCycle (InTick p) walk
 

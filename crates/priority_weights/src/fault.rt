@@ -11,7 +11,7 @@ use std::fmt;
 /// Why a program has no tables. It prints as the number of the fault and the nodes of the walk.
 #[derive(Debug, Drop)]
 pub enum TablesFault {
-    /// E13: flow within one tick closes along these nodes.
+    /// E13: along these nodes a thread goes on within one tick, back to where it began.
     InstantLoop(Items<NodeId>),
     /// E12: instantaneous and protocol edges, among them a protocol edge, close along these nodes.
     Cyclic(Items<NodeId>),

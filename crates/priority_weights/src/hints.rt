@@ -4,7 +4,7 @@
 use crate::arcs::{Arcs, number_at};
 use crate::ends::step_bit;
 use crate::falling::Hints;
-use crate::flow::Flow;
+use crate::going_on::GoingOn;
 use crate::groups::{add_next, add_to, order_arcs};
 use crate::next::entry;
 use crate::reasons::reasons;
@@ -25,18 +25,18 @@ pub(crate) struct Search {
 }
 
 impl Search {
-    /// For the search for a flow that closes, and for weights: flow within one tick, by end bits, and from each fork
-    /// to where its children begin. Err: memory was refused.
-    pub(crate) fn of_flow(
+    /// For the search for an instant loop, and for weights: where threads go on within one tick, by end bits, and
+    /// from each fork to where its children begin. Err: memory was refused.
+    pub(crate) fn of_going_on(
         alloc: Global,
         program: &Program,
         ends: &[u32],
     ) -> Result<Search, AllocError> {
         let count = program.node_count();
-        let flow = Flow { program, ends };
+        let on = GoingOn { program, ends };
         let mut arcs = Arcs::none(alloc, u32::from(count))?;
         for node in 0..count {
-            add_next(&mut arcs, node, flow.next(node))?;
+            add_next(&mut arcs, node, on.next(node))?;
             add_entries(program, &mut arcs, node)?;
         }
         let visited = Visited::of(alloc, &arcs)?;

@@ -12,7 +12,7 @@ use crate::bounds::bounds;
 use crate::ends::end_bits;
 use crate::falling::Falling;
 use crate::fault::TablesFault;
-use crate::flow::flow_ranks;
+use crate::going_on::going_on_ranks;
 use crate::hints::{Search, end_order};
 use crate::order::priorities;
 use crate::weights::weights;
@@ -22,10 +22,9 @@ use sqlite_items::Items;
 use std::alloc::Global;
 
 /// The least tables of a formed program, whose protocol edges are given; the budget is one that an image may have.
-/// `InstantLoop`: flow within one tick
-/// closes. `Cyclic`: it does not, and instantaneous and protocol edges close, with a protocol edge. Each names such
-/// a walk: distinct nodes from the least one on, along edges that close from the last to the first. `Memory`: memory
-/// was refused.
+/// `InstantLoop`: a walk along which threads go on within one tick closes. `Cyclic`: none does, and one along
+/// instantaneous and protocol edges closes, with a protocol edge. Each names such a walk: distinct nodes from the
+/// least one on, along edges that close from the last to the first. `Memory`: memory was refused.
 pub fn tables(alloc: Global, program: &Program, edges: &Edges) -> Result<Tables, TablesFault>
     requires formed { IsFormed program.now }
     requires edges { edges.now ≡ program.now }
@@ -38,8 +37,8 @@ pub fn tables(alloc: Global, program: &Program, edges: &Edges) -> Result<Tables,
 {
     let ending = end_order(alloc, program)?;
     let ends = end_bits(alloc, program, ending.as_slice())?;
-    let flowing = Search::of_flow(alloc, program, ends.as_slice())?;
-    match flow_ranks(alloc, program, ends.as_slice(), flowing.hints())? {
+    let going_on = Search::of_going_on(alloc, program, ends.as_slice())?;
+    match going_on_ranks(alloc, program, ends.as_slice(), going_on.hints())? {
         Falling::Cycle(walk) => return Err(TablesFault::InstantLoop(Items::from_vec(walk))),
         Falling::Table(_ranks) => {}
     }
@@ -48,7 +47,7 @@ pub fn tables(alloc: Global, program: &Program, edges: &Edges) -> Result<Tables,
         Falling::Cycle(walk) => return Err(TablesFault::Cyclic(Items::from_vec(walk))),
         Falling::Table(priorities) => priorities,
     };
-    let weights = weights(alloc, program, ends.as_slice(), flowing.order())?;
+    let weights = weights(alloc, program, ends.as_slice(), going_on.order())?;
     let bounds = bounds(alloc, program, weights.as_slice())?;
     Ok(assembled(
         alloc,

@@ -8,7 +8,7 @@ mod ends;
 mod extremes;
 mod falling;
 mod fault;
-mod flow;
+mod going_on;
 mod groups;
 mod hints;
 mod instants;

@@ -9,7 +9,7 @@ ghost use Rattle.sc_graph.specs.Size.{StepFits};
 ghost use Rattle.sc_graph.specs.Valid.{IsFormed};
 ghost use Rattle.priority_weights.specs.Inside.Entries.{WeightKept, bits, entry_number, entry_sum, join_weight};
 ghost use Rattle.priority_weights.specs.Inside.Entries.{step_weight};
-ghost use Rattle.priority_weights.specs.Inside.Next.{FlowLeads};
+ghost use Rattle.priority_weights.specs.Inside.Next.{LeadsOn};
 
 use crate::ends::entry_bits;
 use crate::next::entry;
@@ -27,7 +27,7 @@ pub(crate) fn weights(
     order: &[NodeId],
 ) -> Result<Vec<u32>, AllocError>
     requires formed { IsFormed program.now }
-    requires ranks { HasRanks (FlowLeads program.now (slice_index ends.now)) (length program.now.nodes) }
+    requires ranks { HasRanks (LeadsOn program.now (slice_index ends.now)) (length program.now.nodes) }
     ensures least { IfOk result (λ weights. IsLeast (WeightKept program.now (bits (slice_index ends.now)))
         (length program.now.nodes) weights.items) }
     ensures within { IfOk result (λ weights. IsWithin (length program.now.nodes) (length program.now.nodes)

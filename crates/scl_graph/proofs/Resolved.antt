@@ -13,7 +13,7 @@ use Rattle.scl.specs.declared.statement.Statement.{Statement}
 use Rattle.scl.specs.Block.{Block}
 use Rattle.scl.specs.Labels.{behind_label, label_count}
 use Rattle.scl.specs.Numbering.{Piece, Numbered, in_row, numbered, numbered_body, piece_of, pieces_of}
-use Rattle.scl_graph.specs.Answers.{FitsImage, IsGraph, IsReason, counts_in}
+use Rattle.scl_graph.specs.Answers.{FitsImage, IsGraph, LacksGraph, counts_in}
 use Rattle.scl_graph.specs.Counting.{AreSmall, counts_of_all}
 use Rattle.scl_graph.specs.Graph.{below, forked, of_thread, program_by, program_of, target, thread}
 use Rattle.scl_graph.specs.Loops.{HasNoEmptyLoop, IsFirstEmptyLoop}

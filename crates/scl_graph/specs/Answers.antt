@@ -25,7 +25,7 @@ pub record IsGraph (p : Scl) (q : Program) : Type 0 where
   pub is : q ≡ program_of (numbered p)
 
 -- it has none for this reason. An empty loop goes before what is too much
-abbrev pub IsReason : Scl → GraphFault → Type 0
-IsReason p (fault.EmptyLoop name) = IsFirstEmptyLoop (numbered p).root name
-IsReason p fault.Limit = HasNoEmptyLoop (numbered p).root × ¬ FitsImage (counts_in p)
-IsReason p fault.Memory = Unit {0}
+abbrev pub LacksGraph : Scl → GraphFault → Type 0
+LacksGraph p (fault.EmptyLoop name) = IsFirstEmptyLoop (numbered p).root name
+LacksGraph p fault.Limit = HasNoEmptyLoop (numbered p).root × ¬ FitsImage (counts_in p)
+LacksGraph p fault.Memory = Unit {0}

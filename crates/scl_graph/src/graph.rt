@@ -1,7 +1,7 @@
 //! The graph of an SCL program.
 
 ghost use Rattle.std.specs.Prelude.{◌≡◌, IfOk, MatchResult};
-ghost use Rattle.scl_graph.specs.Answers.{IsGraph, IsReason};
+ghost use Rattle.scl_graph.specs.Answers.{IsGraph, LacksGraph};
 ghost use Rattle.scl_graph.specs.Counting.{counts_of_all};
 ghost use Rattle.scl_graph.specs.Graph.{program_by};
 ghost use Rattle.scl_graph.specs.Inside.Laying.{HasRoom};
@@ -23,7 +23,7 @@ use std::alloc::{AllocError, Global};
 /// back to itself; else E07, where the graph has more nodes or threads than an image may; E52.
 #[tactic(auto, using(crate::proofs::Resolved::graph_is, crate::proofs::Resolved::limit_is, crate::proofs::Resolved::empty_loop_is, crate::proofs::Resolved::image_room))]
 pub fn graph_of(alloc: Global, scl: &Scl) -> Result<Program, GraphFault>
-    ensures { MatchResult result (IsGraph scl.now) (IsReason scl.now) }
+    ensures { MatchResult result (IsGraph scl.now) (LacksGraph scl.now) }
 {
     let body = scl.body.as_slice();
     let Some(totals) = totals_of(body) else {

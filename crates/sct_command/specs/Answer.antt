@@ -10,7 +10,7 @@ use Rattle.trace_player.specs.declared.player.PlayFault.{PlayFault}
 use Rattle.trace_player.specs.declared.player.PlayFault.TheVariants as play_fault
 use Rattle.command_files.specs.FaultText.{fault_text}
 use Rattle.command_files.specs.Files.{Contents, Stores}
-use Rattle.command_files.specs.Images.{IsLoaded, IsNotLoaded}
+use Rattle.command_files.specs.Images.{IsLoaded, FileLacksImage}
 use Rattle.trace_lines.specs.Lines.{line_feed}
 use Rattle.command_words.specs.Request.{Request, Check, Run, Compile, Print, Migrate, ListNodes, ListPlaces, Explain, Draw}
 use Rattle.sct_command.specs.Sources.{Compiles, PrintsText, RefusesCompile, RefusesPrinting}
@@ -79,16 +79,16 @@ pub record StopsPlaying (files : Option Contents) (name : List ℕ) (input old n
 -- what a check leaves that is refused: nothing was written, but where the output failed
 abbrev pub RefusesCheck : Option Contents → List ℕ → Option (List ℕ) → Option (List ℕ) → Fault → Type 0
 RefusesCheck files name old new fault.Write = SumsUpPart files name old new
-RefusesCheck files name old new other = IsNotLoaded files name other × (new ≡ old)
+RefusesCheck files name old new other = FileLacksImage files name other × (new ≡ old)
 
 -- what a run leaves that is refused: nothing was written, but what the player left
 abbrev pub RefusesRun : Option Contents → List ℕ → Option (List ℕ) → Option (List ℕ) → Option (List ℕ) → Fault → Type 0
 RefusesRun files name input old new (fault.Play f) = StopsPlaying files name input old new f
-RefusesRun files name input old new other = IsNotLoaded files name other × (new ≡ old)
+RefusesRun files name input old new other = FileLacksImage files name other × (new ≡ old)
 
 -- there is no image in the first file, or the second cannot be written
 abbrev pub IsNotMigrated : Option Contents → List ℕ → List ℕ → Fault → Type 0
-IsNotMigrated files from to f = IsNotLoaded files from f ⊎ IsNotStored to f
+IsNotMigrated files from to f = FileLacksImage files from f ⊎ IsNotStored to f
 
 -- the image was stored, and a beginning of its summary was written
 pub record MigratesPart (files files' : Option Contents) (from to : List ℕ) (old new : Option (List ℕ)) : Type 0 where

@@ -9,13 +9,13 @@ use Rattle.sc_text.specs.declared.language.Language.TheVariants as language
 use Rattle.sc_text.specs.FirstToken.{IsIn}
 use Rattle.scl.specs.declared.program.Scl.{Scl}
 use Rattle.scl_reader.specs.Read.{IsRead}
-use Rattle.scl_graph.specs.Answers.{IsGraph, IsReason}
+use Rattle.scl_graph.specs.Answers.{IsGraph, LacksGraph}
 use Rattle.scl_graph.specs.declared.fault.GraphFault.{GraphFault}
 use Rattle.compiler.specs.declared.fault.CompileFault.TheVariants as compiling
 use Rattle.command_files.specs.declared.fault.Fault.{Fault}
 use Rattle.command_files.specs.declared.fault.Fault.TheVariants as fault
 use Rattle.command_files.specs.Files.{Contents, HasBytes}
-use Rattle.command_files.specs.Sources.{SpellsIn, SpellsNone, IsNoText, IsNoSource}
+use Rattle.command_files.specs.Sources.{SpellsIn, TextLacksProgram, BytesLackProgram, FileLacksProgram}
 
 -- ---- what was done
 
@@ -44,28 +44,28 @@ pub record Draws (files : Option Contents) (name : List ℕ) (old new : Option (
 -- ---- what was refused
 
 -- the text spells a program of SCL, which has no graph, for this fault
-pub record LacksGraph (text : List ℕ) (f : GraphFault) : Type 0 where
+pub record SclTextLacksGraph (text : List ℕ) (f : GraphFault) : Type 0 where
   pub is_scl : IsIn text language.Scl
   pub scl : Scl
   pub read : IsRead text scl
-  pub none : IsReason scl f
+  pub none : LacksGraph scl f
 
-abbrev pub HasNoGraph : List ℕ → Fault → Type 0
-HasNoGraph text fault.Memory = Unit {0}
-HasNoGraph text (fault.Program (compiling.Graph f)) = LacksGraph text f
-HasNoGraph text other = ⊥
+abbrev pub TextLacksGraph : List ℕ → Fault → Type 0
+TextLacksGraph text fault.Memory = Unit {0}
+TextLacksGraph text (fault.Program (compiling.Graph f)) = SclTextLacksGraph text f
+TextLacksGraph text other = ⊥
 
 -- why a text has no drawing: it spells no program, or in SCL one that has no graph
-abbrev pub HasNoDrawing : List ℕ → Fault → Type 0
-HasNoDrawing text f = SpellsNone text f ⊎ HasNoGraph text f
+abbrev pub TextLacksDrawing : List ℕ → Fault → Type 0
+TextLacksDrawing text f = TextLacksProgram text f ⊎ TextLacksGraph text f
 
 -- why bytes have none
-abbrev pub LacksDrawing : List ℕ → Fault → Type 0
-LacksDrawing bytes f = IsNoText bytes f ⊎ HasNoGraph bytes f
+abbrev pub BytesLackDrawing : List ℕ → Fault → Type 0
+BytesLackDrawing bytes f = BytesLackProgram bytes f ⊎ TextLacksGraph bytes f
 
 -- there is no program in this file, or its text is SCL and has no graph
-abbrev pub IsNotDrawn : Option Contents → List ℕ → Fault → Type 0
-IsNotDrawn files name f = IsNoSource files name f ⊎ ((bytes : List ℕ) × HasBytes files name bytes × HasNoGraph bytes f)
+abbrev pub FileLacksDrawing : Option Contents → List ℕ → Fault → Type 0
+FileLacksDrawing files name f = FileLacksProgram files name f ⊎ ((bytes : List ℕ) × HasBytes files name bytes × TextLacksGraph bytes f)
 
 -- the output failed, and took a beginning of some text
 pub record DrawsPart (files : Option Contents) (name : List ℕ) (old new : Option (List ℕ)) : Type 0 where
@@ -79,4 +79,4 @@ pub record DrawsPart (files : Option Contents) (name : List ℕ) (old new : Opti
 -- what drawing leaves that is refused: nothing was written, but where the output failed
 abbrev pub RefusesDrawing : Option Contents → List ℕ → Option (List ℕ) → Option (List ℕ) → Fault → Type 0
 RefusesDrawing files name old new fault.Write = DrawsPart files name old new
-RefusesDrawing files name old new other = IsNotDrawn files name other × (new ≡ old)
+RefusesDrawing files name old new other = FileLacksDrawing files name other × (new ≡ old)

@@ -7,7 +7,7 @@ use Rattle.command_files.specs.declared.fault.Fault.{Fault}
 use Rattle.command_files.specs.declared.fault.Fault.TheVariants as fault
 use Rattle.command_files.specs.FaultText.{shown_name}
 use Rattle.command_files.specs.Files.{Contents}
-use Rattle.command_files.specs.Sources.{IsCompiledFrom, IsNoCompiled}
+use Rattle.command_files.specs.Sources.{IsCompiledFrom, FileLacksCompiled}
 use Rattle.compiler.specs.FaultText.{fault_text}
 use Rattle.diagnostics.specs.Reports.{Tells, text_fault}
 use Rattle.sct_command.specs.Summary.{summary_of}
@@ -28,7 +28,7 @@ pub record FindsImagePart (files : Option Contents) (name : List ℕ) (old new :
 -- a beginning was written of what is said of the fault for which this file has no image
 pub record ExplainsPart (files : Option Contents) (name : List ℕ) (old new : Option (List ℕ)) : Type 0 where
   pub fault : Fault
-  pub none : IsNoCompiled files name fault
+  pub none : FileLacksCompiled files name fault
   pub told : WritesPart old new
 
 -- how a fault is told: that of a text by its number, that of a program with what it names
@@ -62,4 +62,4 @@ IsTold name f old new other = (other ≡ f) × WritesReport name other old new
 abbrev pub RefusesExplaining : Option Contents → List ℕ → Option (List ℕ) → Option (List ℕ) → Fault → Type 0
 RefusesExplaining files name old new fault.Memory = (new ≡ old) ⊎ WritesSome old new
 RefusesExplaining files name old new fault.Write = FindsImagePart files name old new ⊎ ExplainsPart files name old new
-RefusesExplaining files name old new other = IsNoCompiled files name other × WritesReport name other old new
+RefusesExplaining files name old new other = FileLacksCompiled files name other × WritesReport name other old new

@@ -10,9 +10,9 @@ use Rattle.command_files.specs.declared.fault.Fault.{Fault}
 use Rattle.command_files.specs.declared.fault.Fault.TheVariants as fault
 use Rattle.command_files.specs.FaultText.{shown_name}
 use Rattle.command_files.specs.Files.{Contents, HasBytes}
-use Rattle.command_files.specs.Images.{IsLoaded, IsNotLoaded}
+use Rattle.command_files.specs.Images.{IsLoaded, FileLacksImage}
 use Rattle.command_files.specs.Making.{IsUnmade, Makes}
-use Rattle.command_files.specs.Sources.{IsNoSource, IsNoText}
+use Rattle.command_files.specs.Sources.{FileLacksProgram, BytesLackProgram}
 use Rattle.sct_command.specs.Writing.{WritesPart}
 
 -- a listing of the image in this file was written
@@ -34,7 +34,7 @@ pub record ListsPart (files : Option Contents) (name : List ℕ) (old new : Opti
 -- what a listing leaves that is refused: nothing was written, but where the output failed
 abbrev pub RefusesListing : Option Contents → List ℕ → Option (List ℕ) → Option (List ℕ) → Fault → Type 0
 RefusesListing files name old new fault.Write = ListsPart files name old new
-RefusesListing files name old new other = IsNotLoaded files name other × (new ≡ old)
+RefusesListing files name old new other = FileLacksImage files name other × (new ≡ old)
 
 -- some text was written of the image in one file and of the text in another, which makes the image's program
 pub record ListsPlaces (files : Option Contents) (name source : List ℕ) (old new : Option (List ℕ)) : Type 0 where
@@ -49,10 +49,10 @@ pub record ListsPlaces (files : Option Contents) (name source : List ℕ) (old n
 
 -- why these bytes of the file of this name give no places of a program's nodes: they are no text, or none that makes
 -- the program
-abbrev pub IsUnplaced : List ℕ → List ℕ → Program → Fault → Type 0
-IsUnplaced source bytes p fault.Memory = Unit {0}
-IsUnplaced source bytes p (fault.Source shown) = (string_bytes shown ≡ shown_name source) × IsUtf8 bytes × IsUnmade bytes p
-IsUnplaced source bytes p other = IsNoText bytes other
+abbrev pub BytesLackPlaces : List ℕ → List ℕ → Program → Fault → Type 0
+BytesLackPlaces source bytes p fault.Memory = Unit {0}
+BytesLackPlaces source bytes p (fault.Source shown) = (string_bytes shown ≡ shown_name source) × IsUtf8 bytes × IsUnmade bytes p
+BytesLackPlaces source bytes p other = BytesLackProgram bytes other
 
 -- there is a valid image in the first file, and a text in the second, which does not make the image's program
 pub record IsAnotherSource (files : Option Contents) (name source : List ℕ) : Type 0 where
@@ -64,12 +64,12 @@ pub record IsAnotherSource (files : Option Contents) (name source : List ℕ) : 
   pub unmade : IsUnmade bytes image.program
 
 -- there is no valid image in the first file, or no text in the second, or that does not make the image
-abbrev pub HasNoPlaces : Option Contents → List ℕ → List ℕ → Fault → Type 0
-HasNoPlaces files name source (fault.Source shown) =
+abbrev pub FilesLackPlaces : Option Contents → List ℕ → List ℕ → Fault → Type 0
+FilesLackPlaces files name source (fault.Source shown) =
     (string_bytes shown ≡ shown_name source) × IsAnotherSource files name source
-HasNoPlaces files name source other = IsNotLoaded files name other ⊎ IsNoSource files source other
+FilesLackPlaces files name source other = FileLacksImage files name other ⊎ FileLacksProgram files source other
 
 -- what a listing with places leaves that is refused: nothing was written, but where the output failed
 abbrev pub RefusesPlaces : Option Contents → List ℕ → List ℕ → Option (List ℕ) → Option (List ℕ) → Fault → Type 0
 RefusesPlaces files name source old new fault.Write = WritesPart old new
-RefusesPlaces files name source old new other = HasNoPlaces files name source other × (new ≡ old)
+RefusesPlaces files name source old new other = FilesLackPlaces files name source other × (new ≡ old)

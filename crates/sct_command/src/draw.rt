@@ -4,7 +4,7 @@ ghost use Rattle.std.specs.Prelude.{◌≡◌, ◌+◌, IfErr, IfOk, OnOk};
 ghost use Rattle.sc_text.specs.declared.language.Language.TheVariants as language;
 ghost use Rattle.sc_text.specs.FirstToken.{IsIn};
 ghost use Rattle.sct_command.specs.Answer.{reads_failed, writes_failed};
-ghost use Rattle.sct_command.specs.Drawing.{Draws, HasDrawing, HasNoDrawing, LacksDrawing, RefusesDrawing};
+ghost use Rattle.sct_command.specs.Drawing.{Draws, HasDrawing, TextLacksDrawing, BytesLackDrawing, RefusesDrawing};
 ghost use Rattle.std.specs.Str.{IsUtf8};
 
 use chart_reader::read_chart;
@@ -21,7 +21,7 @@ use std::alloc::Global;
 fn draw_chart(alloc: Global, text: &str) -> Result<String, Fault>
     requires { IsIn text.now language.Chart }
     ensures drawn { IfOk result (λ _. HasDrawing text.now) }
-    ensures fault { IfErr result (HasNoDrawing text.now) }
+    ensures fault { IfErr result (TextLacksDrawing text.now) }
 {
     let chart = match read_chart(alloc, text) {
         Ok(chart) => chart,
@@ -38,7 +38,7 @@ fn draw_chart(alloc: Global, text: &str) -> Result<String, Fault>
 fn draw_graph(alloc: Global, text: &str) -> Result<String, Fault>
     requires { IsIn text.now language.Scl }
     ensures drawn { IfOk result (λ _. HasDrawing text.now) }
-    ensures fault { IfErr result (HasNoDrawing text.now) }
+    ensures fault { IfErr result (TextLacksDrawing text.now) }
 {
     let scl = match read_scl(alloc, text) {
         Ok(scl) => scl,
@@ -53,7 +53,7 @@ fn draw_graph(alloc: Global, text: &str) -> Result<String, Fault>
 // The drawing of what a text spells, in the language that its first token tells.
 fn draw_text(alloc: Global, text: &str) -> Result<String, Fault>
     ensures drawn { IfOk result (λ _. HasDrawing text.now) }
-    ensures fault { IfErr result (HasNoDrawing text.now) }
+    ensures fault { IfErr result (TextLacksDrawing text.now) }
 {
     match language_of(text) {
         Language::Chart => draw_chart(alloc, text),
@@ -65,7 +65,7 @@ fn draw_text(alloc: Global, text: &str) -> Result<String, Fault>
 fn draw_bytes(alloc: Global, bytes: &[u8]) -> Result<String, Fault>
     ensures text { IfOk result (λ _. IsUtf8 bytes.now) }
     ensures drawn { IfOk result (λ _. HasDrawing bytes.now) }
-    ensures fault { IfErr result (LacksDrawing bytes.now) }
+    ensures fault { IfErr result (BytesLackDrawing bytes.now) }
 {
     let text = text_of(bytes)?;
     draw_text(alloc, text)

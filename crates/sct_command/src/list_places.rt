@@ -3,9 +3,9 @@
 ghost use Rattle.std.specs.Prelude.{◌≡◌, ◌+◌, IfErr, IfOk, OnOk};
 ghost use Rattle.std.specs.Str.{IsUtf8};
 ghost use Rattle.command_files.specs.Making.{Makes};
-ghost use Rattle.command_files.specs.Sources.{IsNoText};
+ghost use Rattle.command_files.specs.Sources.{BytesLackProgram};
 ghost use Rattle.sct_command.specs.Answer.{reads_failed, writes_failed};
-ghost use Rattle.sct_command.specs.Listing.{IsUnplaced, ListsPlaces, RefusesPlaces};
+ghost use Rattle.sct_command.specs.Listing.{BytesLackPlaces, ListsPlaces, RefusesPlaces};
 
 use command_files::{Fault, Files, bytes_of, load_verified, makes_program, shown_name, text_of};
 use node_sources::image_text_with;
@@ -18,7 +18,7 @@ use verifier::Verified;
 fn placed(alloc: Global, image: &Verified, source: &str, bytes: &[u8]) -> Result<String, Fault>
     ensures text { IfOk result (λ _. IsUtf8 bytes.now) }
     ensures makes { IfOk result (λ _. Makes bytes.now image.now.program) }
-    ensures fault { IfErr result (IsUnplaced source.now bytes.now image.now.program) }
+    ensures fault { IfErr result (BytesLackPlaces source.now bytes.now image.now.program) }
 {
     let text = text_of(bytes)?;
     if !makes_program(alloc, text, image.image().program())? {

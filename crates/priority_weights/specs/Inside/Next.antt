@@ -25,11 +25,11 @@ abbrev pub join_at_once : Program → (ℕ → Bool) → Step → Option ℕ
 join_at_once p e (step.Fork children join) = if entry_bits p e children then Some join else None
 join_at_once p e other = None
 
--- flow within one tick, by a table of end bits
-pub data FlowBy (p : Program) (q : ℕ → ℕ) (m n : ℕ) : Type 0 where
-  successor : (s : Step) → step_at p m ≡ Some s → Contains (successors s) n → FlowBy p q m n
+-- where a thread goes on within one tick, by a table of end bits
+pub data GoesOnBy (p : Program) (q : ℕ → ℕ) (m n : ℕ) : Type 0 where
+  successor : (s : Step) → step_at p m ≡ Some s → Contains (successors s) n → GoesOnBy p q m n
   over : (children : List ℕ) → step_at p m ≡ Some (step.Fork children n) → entry_bits p (bits q) children ≡ true
-      → FlowBy p q m n
+      → GoesOnBy p q m n
 
-abbrev pub FlowLeads : Program → (ℕ → ℕ) → ℕ → ℕ → ℕ → Type 0
-FlowLeads p q m n w = FlowBy p q m n × (w ≡ 1)
+abbrev pub LeadsOn : Program → (ℕ → ℕ) → ℕ → ℕ → ℕ → Type 0
+LeadsOn p q m n w = GoesOnBy p q m n × (w ≡ 1)

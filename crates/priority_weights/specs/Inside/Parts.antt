@@ -11,6 +11,6 @@ pub record AreParts (p : Program) (ends priorities weights bounds : List ℕ) : 
   pub end_bits : IsLeast (BitKept p) (length p.nodes) ends
   pub order : IsLeast (Falls (InOrder p)) (length p.nodes) priorities
   pub order_within : IsWithin (length p.nodes) (length p.nodes) (slice_index priorities)
-  pub flow : IsLeast (WeightKept p (bits (slice_index ends))) (length p.nodes) weights
-  pub flow_within : IsWithin (length p.nodes) (length p.nodes) (slice_index weights)
+  pub weights_least : IsLeast (WeightKept p (bits (slice_index ends))) (length p.nodes) weights
+  pub weights_within : IsWithin (length p.nodes) (length p.nodes) (slice_index weights)
   pub covering : AreLeastBounds p (slice_index weights) bounds

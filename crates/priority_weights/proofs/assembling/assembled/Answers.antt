@@ -8,7 +8,7 @@ pub narrowed-requires : goal.narrowed-requires
 narrowed-requires c = small_entries c.args.program.now c.requires.formed c.args.priorities.now c.requires.parts.order.long c.requires.parts.order_within
 
 pub narrowed-requires-2 : goal.narrowed-requires-2
-narrowed-requires-2 c = small_entries c.args.program.now c.requires.formed c.args.weights.now c.requires.parts.flow.long c.requires.parts.flow_within
+narrowed-requires-2 c = small_entries c.args.program.now c.requires.formed c.args.weights.now c.requires.parts.weights_least.long c.requires.parts.weights_within
 
 pub returns-clause-least : goal.returns-clause-least
 returns-clause-least c =

@@ -1,8 +1,8 @@
 use Rattle.std.proofs.Common.{sym, ◌∙◌}
 use Rattle.std.specs.Prelude.{slice_index}
 use Rattle.program_edges.specs.Sorts.{IsNext}
-use Rattle.priority_weights.proofs.Flowing.{next_over, next_on}
-use Rattle.priority_weights.proofs.flow.Flow.next.Goals as goal
+use Rattle.priority_weights.proofs.GoingOn.{next_over, next_on}
+use Rattle.priority_weights.proofs.going_on.GoingOn.next.Goals as goal
 
 pub returns-in-Some-join_at_once : goal.returns-in-Some-join_at_once
 returns-in-Some-join_at_once c =

@@ -1,8 +1,8 @@
 use Rattle.std.proofs.Common.{◌≡◌, List, ℕ, sym, ◌∙◌, subst}
 use Rattle.std.specs.Prelude.{slice_index}
 use Rattle.priority_weights.specs.Inside.Entries.{bits, entry_bits}
-use Rattle.priority_weights.proofs.Flowing.{join_told, no_join_told}
-use Rattle.priority_weights.proofs.flow.Flow.join_at_once.Goals as goal
+use Rattle.priority_weights.proofs.GoingOn.{join_told, no_join_told}
+use Rattle.priority_weights.proofs.going_on.GoingOn.join_at_once.Goals as goal
 
 pub returns-then-entry_bits : goal.returns-then-entry_bits
 returns-then-entry_bits c =

@@ -1,9 +1,0 @@
-use Rattle.std.proofs.Common.{arith}
-use Rattle.std.specs.Prelude.{slice_index}
-use Rattle.program_edges.specs.Sorts.{IsNext}
-use Rattle.priority_weights.proofs.Flowing.{flow_strictly}
-use Rattle.priority_weights.proofs.flow.FlowGraph.strictly_towards.Goals as goal
-
-pub returns : goal.returns
-returns c =
-    flow_strictly c.args.self.now.program.now (slice_index c.args.self.now.ends.now) (IsNext c.next.result) c.args.ranks.now c.args.node 4294967296 c.ranked_next.result (λ n. let fits = c.type_inv.ranks n in omega (arith, fits)) c.next.ensures c.ranked_next.ensures
