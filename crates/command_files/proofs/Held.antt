@@ -4,12 +4,15 @@ use Rattle.bytecode.specs.Image.{Image}
 use Rattle.command_files.specs.declared.fault.Fault.{Fault}
 use Rattle.command_files.specs.declared.fault.Fault.TheVariants as fault
 use Rattle.command_files.specs.Files.{Contents, HasBytes}
-use Rattle.command_files.specs.Sources.{IsCompiledFrom, FileLacksCompiled, FileLacksProgram, BytesLackProgram, ProgramLacksImage, FileLacksProgramImage, SpellsImage, BytesLackCompiled}
+use Rattle.command_files.specs.Sources.{IsCompiledFrom, FileLacksCompiled, FileLacksProgram, BytesLackProgram}
+use Rattle.command_files.specs.Sources.{ProgramLacksImage, FileLacksProgramImage, SpellsImage, BytesLackCompiled}
 
-pub compiled : (files : Option Contents) (name bytes : List ℕ) (image : Image) → HasBytes files name bytes → SpellsImage bytes image → IsCompiledFrom files name image
+pub compiled : (files : Option Contents) (name bytes : List ℕ) (image : Image) → HasBytes files name bytes → SpellsImage bytes image
+    → IsCompiledFrom files name image
 compiled files name bytes image held is = record { scl = is.scl; source = record { bytes = bytes; held = held; text = is.text; read = is.read }; compiled = is.compiled }
 
-pub no_source : (files : Option Contents) (name bytes : List ℕ) (f : Fault) → HasBytes files name bytes → BytesLackProgram bytes f → FileLacksProgram files name f
+pub no_source : (files : Option Contents) (name bytes : List ℕ) (f : Fault) → HasBytes files name bytes → BytesLackProgram bytes f
+    → FileLacksProgram files name f
 no_source files name bytes (fault.Text f) held why = (bytes, held, why)
 no_source files name bytes (fault.Program f) held why = (bytes, held, why)
 no_source files name bytes fault.Memory held why = absurd why
@@ -20,7 +23,8 @@ no_source files name bytes fault.Write held why = absurd why
 no_source files name bytes (fault.File f) held why = absurd why
 no_source files name bytes (fault.Source f) held why = absurd why
 
-no_image : (files : Option Contents) (name bytes : List ℕ) (f : Fault) → HasBytes files name bytes → ProgramLacksImage bytes f → FileLacksProgramImage files name f
+no_image : (files : Option Contents) (name bytes : List ℕ) (f : Fault) → HasBytes files name bytes → ProgramLacksImage bytes f
+    → FileLacksProgramImage files name f
 no_image files name bytes (fault.Program f) held (scl, text, read, none) = (scl, record { bytes = bytes; held = held; text = text; read = read }, none)
 no_image files name bytes (fault.Text f) held why = absurd why
 no_image files name bytes fault.Memory held why = absurd why
@@ -31,7 +35,8 @@ no_image files name bytes fault.Write held why = absurd why
 no_image files name bytes (fault.File f) held why = absurd why
 no_image files name bytes (fault.Source f) held why = absurd why
 
-pub no_compiled : (files : Option Contents) (name bytes : List ℕ) (f : Fault) → HasBytes files name bytes → BytesLackCompiled bytes f → FileLacksCompiled files name f
+pub no_compiled : (files : Option Contents) (name bytes : List ℕ) (f : Fault) → HasBytes files name bytes → BytesLackCompiled bytes f
+    → FileLacksCompiled files name f
 no_compiled files name bytes f held (inl why) = inl (no_source files name bytes f held why)
 no_compiled files name bytes f held (inr why) = inr (no_image files name bytes f held why)
 

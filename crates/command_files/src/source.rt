@@ -2,7 +2,8 @@
 
 ghost use Rattle.std.specs.Prelude.{◌≡◌, IfErr, IfOk};
 ghost use Rattle.sc_text.specs.declared.language.Language.TheVariants as language;
-ghost use Rattle.command_files.specs.Sources.{FileLacksProgram, BytesLackProgram, IsSource, TextLacksProgram, SpellsProgram};
+ghost use Rattle.command_files.specs.Sources.{FileLacksProgram, BytesLackProgram, TextLacksProgram};
+ghost use Rattle.command_files.specs.Sources.{IsSource, SpellsProgram};
 ghost use Rattle.sc_text.specs.FirstToken.{IsIn};
 ghost use Rattle.std.specs.Str.{IsUtf8};
 

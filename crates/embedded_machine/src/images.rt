@@ -14,7 +14,8 @@ use verifier::{Verified, verify};
 /// The bytes of the image of the program, or of the chart, that this text spells, in version 2 of the layout. Err: it
 /// spells none, or why it has no image; or memory was refused.
 pub fn image_of_text(alloc: Global, text: &[u8]) -> Result<Vec<u8>, Fault>
-    ensures compiled { IfOk result (λ bytes. (image : Image) × SpellsImage text.now image × Spells 2 bytes.items image) }
+    ensures compiled { IfOk result (λ bytes.
+        (image : Image) × SpellsImage text.now image × Spells 2 bytes.items image) }
 {
     let verified = compile_bytes(alloc, text)?;
     let bytes = encode(alloc, verified.image())?;
