@@ -3,12 +3,21 @@
 #![tactic(auto)]
 
 mod edges;
+mod expected;
+mod found;
+mod fronts;
+mod grammar_words;
 mod lines;
+mod near_names;
 mod nodes;
 mod program_report;
 mod program_words;
 mod report;
+mod rule_words;
+mod spellings;
 mod spots;
+mod unclosed;
+mod unknown_words;
 mod walks;
 mod words;
 

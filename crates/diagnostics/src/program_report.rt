@@ -7,7 +7,7 @@ ghost use Rattle.diagnostics.specs.Reports.{Tells};
 use crate::lines::marked_line;
 use crate::nodes::{Shown, scene_text};
 use crate::program_words::in_words;
-use crate::report::spot_text;
+use crate::report::{help, spot_text};
 use crate::spots::spot_of;
 use crate::walks::{conflict_text, first_node, place_text, walk_text};
 use compiler::CompileFault;
@@ -47,15 +47,6 @@ pub fn program_fault_explained(
 struct Report {
     place: String,
     body: String,
-}
-
-// The line of what helps, where something does.
-fn help(alloc: Global, cure: &str) -> Result<String, AllocError> {
-    if cure.is_empty() {
-        Ok(String::new(alloc))
-    } else {
-        format!(in alloc; "help: {cure}\n")
-    }
 }
 
 // A report without places.

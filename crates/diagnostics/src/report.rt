@@ -8,7 +8,7 @@ ghost use Rattle.diagnostics.specs.Spots.{place_shown};
 
 use crate::lines::marked_line;
 use crate::spots::{Spot, spot_of};
-use crate::words::{cause, cure};
+use crate::words::words_of;
 use sc_text::{Broken, ReadFault};
 use std::alloc::{AllocError, Global};
 
@@ -20,6 +20,15 @@ pub(crate) fn spot_text(alloc: Global, spot: Spot) -> Result<String, AllocError>
     let line = spot.line;
     let column = spot.column;
     format!(in alloc; ":{line}:{column}")
+}
+
+/// The line of what helps, where something does. Err: memory was refused.
+pub(crate) fn help(alloc: Global, cure: &str) -> Result<String, AllocError> {
+    if cure.is_empty() {
+        Ok(String::new(alloc))
+    } else {
+        format!(in alloc; "help: {cure}\n")
+    }
 }
 
 /// A fault of a reader for people: the name of the file with line and column, the number of the fault and what is
@@ -40,10 +49,11 @@ pub fn explained(
     let spot = spot_of(text, at);
     let place = spot_text(alloc, spot)?;
     let number = broken.number();
-    let cause = cause(broken);
-    let cure = cure(broken);
+    let words = words_of(alloc, text, broken, at)?;
+    let cause = words.cause;
     let marked = marked_line(alloc, text, spot)?;
-    format!(in alloc; "{name}{place}: E0{number}: {cause}\n{marked}help: {cure}\n")
+    let help = help(alloc, words.cure.as_str())?;
+    format!(in alloc; "{name}{place}: E0{number}: {cause}\n{marked}{help}")
 }
 
 /// A fault for people of which no place is known: the name of the file, the fault, and what is said of it. Err: memory

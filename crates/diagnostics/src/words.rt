@@ -1,51 +1,80 @@
 //! The faults of readers in words.
 
+use crate::found::found;
+use crate::grammar_words::grammar_words;
+use crate::lines::name_at;
+use crate::rule_words::{repeated_words, rule_words};
+use crate::spellings::for_sign;
+use crate::unknown_words::unknown_words;
 use sc_text::Broken;
+use std::alloc::{AllocError, Global};
 
-/// What is wrong.
-pub(crate) fn cause(broken: Broken) -> &'static str {
-    match broken {
-        Broken::Token => {
-            "nothing of the language begins here: a character that it does not use, digits that begin with 0 and go on, or in a chart a name that begins with `_`"
+/// A fault of a text in words: what is wrong, and what helps, which is empty where nothing is known to.
+#[derive(Drop)]
+pub(crate) struct Words {
+    pub(crate) cause: String,
+    pub(crate) cure: String,
+}
+
+impl Words {
+    /// These words. Err: memory was refused.
+    pub(crate) fn of(alloc: Global, cause: &str, cure: &str) -> Result<Words, AllocError> {
+        let cause = String::from_str(alloc, cause)?;
+        let cure = String::from_str(alloc, cure)?;
+        Ok(Words { cause, cure })
+    }
+}
+
+// What is wrong where no token stands.
+fn token_cause(alloc: Global, text: &str, at: usize) -> Result<String, AllocError> {
+    match text.as_bytes().get(at) {
+        Some(b'_') => {
+            String::from_str(
+                alloc,
+                "in a chart no name begins with `_`: such names are reserved",
+            )
         }
-        Broken::Grammar => { "the text cannot go on with this word or sign, or it ends too early" }
-        Broken::Unknown => {
-            "a name that is not declared, a transition to no state of its own region, or a goto to no label of its own thread"
+        Some(byte) if byte.is_ascii_digit() => {
+            let number = name_at(alloc, text, at)?;
+            format!(in alloc; "`{number}` begins with 0 and goes on")
         }
-        Broken::Repeated => {
-            "a second variable, region of one superstate, state of one region, or label of the same name"
-        }
-        Broken::Kind => {
-            "the expression that begins here has another kind than its place wants, or an operator has an operand of the wrong one"
-        }
-        Broken::Rule => {
-            "an input is assigned; a region has no initial state, or more than one; a final state has regions or transitions; or a transition of this kind cannot stand here"
-        }
-        Broken::Limit => {
-            "a limit is passed: what begins here is one too many or too large, or it nests one level too deep"
+        _ => {
+            let found = found(alloc, text, at)?;
+            format!(in alloc; "{found} is nothing of the language")
         }
     }
 }
 
-/// What helps.
-pub(crate) fn cure(broken: Broken) -> &'static str {
+// The words for a place where no token stands.
+fn token_words(alloc: Global, text: &str, at: usize) -> Result<Words, AllocError> {
+    let cause = token_cause(alloc, text, at)?;
+    let written = for_sign(text, at).unwrap_or("write it otherwise; outside comments all is ASCII");
+    let cure = String::from_str(alloc, written)?;
+    Ok(Words { cause, cure })
+}
+
+/// The fault of a text at a byte in words. Err: memory was refused.
+pub(crate) fn words_of(
+    alloc: Global,
+    text: &str,
+    broken: Broken,
+    at: usize,
+) -> Result<Words, AllocError> {
     match broken {
-        Broken::Token => "write it otherwise; outside comments all is ASCII",
-        Broken::Grammar => {
-            "look at what stands before it: a `;`, a brace or a keyword is missing, or a reserved word was taken for a name"
-        }
-        Broken::Unknown => {
-            "declare it; a transition leads to a state beside its own: leave the superstate by one of its aborts or its `join`; put the label into the same branch"
-        }
-        Broken::Repeated => "rename one of them",
-        Broken::Kind => {
-            "truth values and numbers do not mix: write `x != 0` for a test of a number"
-        }
-        Broken::Rule => {
-            "assign an output or a local variable; put `initial` before one state of each region; leave a simple state by `go`, and a superstate by aborts or by its one `join`"
-        }
-        Broken::Limit => {
-            "split it: a local variable for a part of an expression, a thread for some of the branches"
-        }
+        Broken::Token => token_words(alloc, text, at),
+        Broken::Grammar => grammar_words(alloc, text, at),
+        Broken::Unknown => unknown_words(alloc, text, at),
+        Broken::Repeated => repeated_words(alloc, text, at),
+        Broken::Kind => Words::of(
+            alloc,
+            "the expression that begins here has another kind than its place wants, or an operator has an operand of the wrong one",
+            "truth values and numbers do not mix: write `x != 0` for a test of a number",
+        ),
+        Broken::Rule => rule_words(alloc, text, at),
+        Broken::Limit => Words::of(
+            alloc,
+            "a limit is passed: what begins here is one too many or too large, or it nests one level too deep",
+            "split it: a local variable for a part of an expression, a thread for some of the branches",
+        ),
     }
 }

@@ -1,0 +1,189 @@
+//! A place where a text cannot go on, in words.
+
+use crate::expected::{begins_expression, expected, goes_on_expression, has_sign, has_word};
+use crate::found::{found, stands_at};
+use crate::fronts::{front_of, last_token};
+use crate::lines::name_at;
+use crate::near_names::difference;
+use crate::spellings::{for_sign, for_word};
+use crate::spots::spot_of;
+use crate::unclosed::last_open;
+use crate::words::Words;
+use sc_text::{Language, Sign, TokenKind, Word, language_of};
+use std::alloc::{AllocError, Global};
+use text_continuations::{Continuations, continuations_of};
+
+// How many bytes may stand before a place of which is told what could stand there: they are read some fifty times.
+const LONGEST: usize = 262_144;
+
+// What helps where the text ends too early.
+fn cure_at_end(alloc: Global, language: Language, text: &str) -> Result<String, AllocError> {
+    match last_open(alloc, language, text)? {
+        Some(at) => {
+            let spot = spot_of(text, at);
+            let line = spot.line;
+            let column = spot.column;
+            format!(in alloc;
+                "line {line} opens a brace or parenthesis, in column {column}, that is not closed"
+            )
+        }
+        None => String::from_str(
+            alloc,
+            "a text begins with `chart` or with `scl`, and a name",
+        ),
+    }
+}
+
+// What helps where a sign stands that other languages have, or that has its place elsewhere.
+fn cure_of_sign(text: &str, at: usize, could: &Continuations) -> Option<&'static str> {
+    if stands_at(text, at, "==") {
+        return if has_sign(could, Sign::Becomes) {
+            Some("a value is given by `=`, and `==` compares two")
+        } else {
+            None
+        };
+    }
+    if stands_at(text, at, "=>") || !stands_at(text, at, "=") {
+        return if stands_at(text, at, "!=") {
+            None
+        } else {
+            for_sign(text, at)
+        };
+    }
+    if goes_on_expression(could) {
+        return Some("two values are compared by `==`, and `=` gives a value");
+    }
+    if has_sign(could, Sign::Semicolon) {
+        return Some(
+            "a variable begins with false or 0: give it another value in the first transition or step",
+        );
+    }
+    None
+}
+
+// Whether this is the word `state`.
+fn is_state(token: Option<TokenKind>) -> bool {
+    match token {
+        Some(TokenKind::Word(Word::State)) => true,
+        _ => false,
+    }
+}
+
+// Whether charts have no such word, or none like it.
+fn is_foreign(language: Language, word: Word) -> bool {
+    language == Language::Chart && (word == Word::Else || word == Word::Goto)
+}
+
+// What helps where a reserved word stands.
+fn cure_of_reserved(
+    alloc: Global,
+    word: Word,
+    before: Option<TokenKind>,
+    could: &Continuations,
+) -> Result<String, AllocError> {
+    let text = word.text();
+    if is_state(before) && (word == Word::Initial || word == Word::Final) {
+        return format!(in alloc; "write `{text} state`");
+    }
+    if (word == Word::Bool || word == Word::Int) && has_word(could, Word::Input) {
+        return String::from_str(
+            alloc,
+            "a variable is declared by `input`, `output` or `local` before its kind",
+        );
+    }
+    if could.name {
+        return format!(in alloc; "`{text}` is a word of the language: take another name");
+    }
+    Ok(String::new(alloc))
+}
+
+// The word that could stand there and is spelled nearly so.
+fn near_word(could: &Continuations, name: &str) -> Option<Word> {
+    for word in could.words.as_slice() {
+        let text = word.text();
+        if text.len() > 2 && difference(text.as_bytes(), name.as_bytes()) <= 2 {
+            return Some(*word);
+        }
+    }
+    None
+}
+
+// What helps where a name stands.
+fn cure_of_name(alloc: Global, name: &str, could: &Continuations) -> Result<String, AllocError> {
+    if let Some(written) = for_word(name) {
+        return String::from_str(alloc, written);
+    }
+    if let Some(word) = near_word(could, name) {
+        let text = word.text();
+        return format!(in alloc;
+            "did you mean `{text}`? The words of the language are in small letters"
+        );
+    }
+    if has_word(could, Word::If) && !could.name {
+        return String::from_str(alloc, "a condition stands behind `if`");
+    }
+    Ok(String::new(alloc))
+}
+
+// What helps where nothing else is known.
+fn cure_at_least(could: &Continuations) -> &'static str {
+    if has_sign(could, Sign::Semicolon) {
+        "a `;` may be missing before it"
+    } else if begins_expression(could) {
+        "an operator wants a value on each side"
+    } else {
+        ""
+    }
+}
+
+// What helps at a byte of a text where something else could stand.
+fn cure(
+    alloc: Global,
+    language: Language,
+    text: &str,
+    at: usize,
+    could: &Continuations,
+) -> Result<String, AllocError> {
+    if at >= text.len() {
+        return cure_at_end(alloc, language, text);
+    }
+    if let Some(written) = cure_of_sign(text, at, could) {
+        return String::from_str(alloc, written);
+    }
+    let name = name_at(alloc, text, at)?;
+    let told = match Word::of(name.as_bytes()) {
+        Some(word) if is_foreign(language, word) => cure_of_name(alloc, name.as_str(), could)?,
+        Some(word) => {
+            let before = last_token(alloc, language, front_of(text, at))?;
+            cure_of_reserved(alloc, word, before, could)?
+        }
+        None if name.is_empty() => String::new(alloc),
+        None => cure_of_name(alloc, name.as_str(), could)?,
+    };
+    if told.is_empty() {
+        String::from_str(alloc, cure_at_least(could))
+    } else {
+        Ok(told)
+    }
+}
+
+/// The words for a byte of a text where it cannot go on: what was found, what could stand there, and what helps. Err:
+/// memory was refused.
+pub(crate) fn grammar_words(alloc: Global, text: &str, at: usize) -> Result<Words, AllocError> {
+    let found = found(alloc, text, at)?;
+    if at > LONGEST {
+        let cause = format!(in alloc; "the text cannot go on with {found}")?;
+        let cure = String::from_str(alloc, "look at what stands before it")?;
+        return Ok(Words { cause, cure });
+    }
+    let language = language_of(text);
+    let could = continuations_of(alloc, language, front_of(text, at))?;
+    let expected = expected(alloc, &could)?;
+    let cause = if expected.is_empty() {
+        format!(in alloc; "found {found} behind the end of the program")?
+    } else {
+        format!(in alloc; "found {found}, expected {expected}")?
+    };
+    let cure = cure(alloc, language, text, at, &could)?;
+    Ok(Words { cause, cure })
+}

@@ -1,0 +1,170 @@
+//! What other languages spell otherwise.
+
+use crate::found::stands_at;
+
+// A piece of another language, and what is written here.
+#[derive(Clone, Copy)]
+struct Spelling {
+    piece: &'static str,
+    written: &'static str,
+}
+
+// Pieces that begin at the place; the longer of two that begin alike comes first.
+const SIGNS: [Spelling; 19] = [
+    Spelling {
+        piece: "&",
+        written: "write `and`: both sides are computed",
+    },
+    Spelling {
+        piece: "|",
+        written: "write `or`: both sides are computed",
+    },
+    Spelling {
+        piece: "!",
+        written: "write `not`, and `!=` between two values",
+    },
+    Spelling {
+        piece: "=>",
+        written: "a transition leads to its state by `->`",
+    },
+    Spelling {
+        piece: ":=",
+        written: "a value is given by `=`",
+    },
+    Spelling {
+        piece: "++",
+        written: "write `x = x + 1`",
+    },
+    Spelling {
+        piece: "--",
+        written: "write `x = x - 1`",
+    },
+    Spelling {
+        piece: "+=",
+        written: "write `x = x + ..`",
+    },
+    Spelling {
+        piece: "-=",
+        written: "write `x = x - ..`",
+    },
+    Spelling {
+        piece: "*=",
+        written: "write `x = x * ..`",
+    },
+    Spelling {
+        piece: "/*",
+        written: "a comment begins with `//` and ends with its line",
+    },
+    Spelling {
+        piece: "#",
+        written: "a comment begins with `//` and ends with its line",
+    },
+    Spelling {
+        piece: "\"",
+        written: "there are no texts: a variable is a truth value or a number",
+    },
+    Spelling {
+        piece: "'",
+        written: "there are no texts: a variable is a truth value or a number",
+    },
+    Spelling {
+        piece: "?",
+        written: "there is no choice within an expression: take two transitions, or an `if` in SCL",
+    },
+    Spelling {
+        piece: "[",
+        written: "there are no arrays: give each value a name",
+    },
+    Spelling {
+        piece: ".",
+        written: "numbers are whole, and a state is named alone: count in tenths or hundredths",
+    },
+    Spelling {
+        piece: "\u{feff}",
+        written: "the file begins with a byte order mark: save it as UTF-8 without one",
+    },
+    Spelling {
+        piece: "\\",
+        written: "a line ends where it likes: nothing joins two lines",
+    },
+];
+
+// Words that stand at the place.
+const WORDS: [Spelling; 14] = [
+    Spelling {
+        piece: "else",
+        written: "a transition has no `else`: write another one behind it, without `if`; they are tested in their order",
+    },
+    Spelling {
+        piece: "const",
+        written: "there are no constants: write the number, or take a local variable",
+    },
+    Spelling {
+        piece: "var",
+        written: "a variable is declared by `input`, `output` or `local`, and `bool` or `int`",
+    },
+    Spelling {
+        piece: "boolean",
+        written: "write `bool`",
+    },
+    Spelling {
+        piece: "integer",
+        written: "write `int`",
+    },
+    Spelling {
+        piece: "float",
+        written: "there are whole numbers alone: count in tenths or hundredths",
+    },
+    Spelling {
+        piece: "signal",
+        written: "take an `output bool` or a `local bool`, and set it to false again",
+    },
+    Spelling {
+        piece: "entry",
+        written: "do it in each transition that leads to the state",
+    },
+    Spelling {
+        piece: "exit",
+        written: "do it in each transition that leaves the state",
+    },
+    Spelling {
+        piece: "during",
+        written: "write a transition of the state that leads back to it",
+    },
+    Spelling {
+        piece: "when",
+        written: "a condition stands behind `if`",
+    },
+    Spelling {
+        piece: "goto",
+        written: "a transition of a chart begins with `go`",
+    },
+    Spelling {
+        piece: "connector",
+        written: "take a state whose transitions are all `go immediate`",
+    },
+    Spelling {
+        piece: "while",
+        written: "go back by `goto` to a label, with a `pause;` on the way",
+    },
+];
+
+/// What to write for a piece of another language that stands at a byte of a text.
+pub(crate) fn for_sign(text: &str, at: usize) -> Option<&'static str> {
+    for spelling in SIGNS {
+        if stands_at(text, at, spelling.piece) {
+            return Some(spelling.written);
+        }
+    }
+    None
+}
+
+/// What to write for a word of another language.
+pub(crate) fn for_word(word: &str) -> Option<&'static str> {
+    for spelling in WORDS {
+        if word == spelling.piece {
+            return Some(spelling.written);
+        }
+    }
+    None
+}

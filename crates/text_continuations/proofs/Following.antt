@@ -1,0 +1,43 @@
+-- Where a text stops, by its one fault.
+use Rattle.std.proofs.Common.{ℕ, ◌≡◌, ◌↔◌, ◌<◌, ◌≤◌, ◌+◌, Bool, true, false, not, Option, Some, None, IsTrue, List, [], length, take, get_or, refl, sym, subst}
+use Rattle.std.proofs.lemmas.List.{take_more, take_all}
+use Rattle.sc_text.specs.declared.language.Language.{Language}
+use Rattle.sc_text.specs.declared.read_fault.Broken.{Broken}
+use Rattle.sc_text.specs.declared.read_fault.ReadFault.TheVariants as fault
+use Rattle.text_continuations.specs.Continuations.{IsFaultOf, StopsAt, is_of_grammar, AreThose, none, taken, left}
+use Rattle.text_continuations.specs.Inside.{TellsFault, IsStop, Adds, added, kept}
+
+stop_is : (l : Language) (text : List ℕ) (at : ℕ) (o : Option (Broken × ℕ)) → TellsFault l text o → IsStop o at ↔ StopsAt l text at
+stop_is l text at None tells = (λ stop. absurd stop, λ s. absurd (tells.none s.broken at s.fault))
+stop_is l text at (Some found) tells = (
+  λ stop. record {
+    broken = found.0;
+    of_grammar = stop.1;
+    fault = subst (λ place. IsFaultOf l text (fault.Text found.0 place)) stop.0 tells.has;
+  },
+  λ s. let same = tells.one s.broken at s.fault in (sym same.1, subst (λ b. IsTrue (is_of_grammar b)) same.0 s.of_grammar),
+)
+
+pub follows : (l : Language) (text : List ℕ) (at : ℕ) (o : Option (Broken × ℕ)) (stop : Bool) → TellsFault l text o
+    → IsTrue stop ↔ IsStop o at → IsTrue (not stop) ↔ (¬ StopsAt l text at)
+follows l text at o true tells is = (λ f. cc, λ free. absurd (free ((stop_is l text at o tells).0 (is.0 refl))))
+follows l text at o false tells is = (λ t stops. let no = is.1 ((stop_is l text at o tells).1 stops) in cc, λ free. cc)
+
+pub begun : {X : Type 0} (P : X → Type 0) (found : List X) → found ≡ [] → AreThose P [] found
+begun P found is = subst (AreThose P []) (sym is) none
+
+pub adds_next : {X : Type 0} (P : X → Type 0) (items found new : List X) (i : ℕ) (d : X) → i < length items
+    → AreThose P (take i items) found → Adds P (get_or items i d) found new → AreThose P (take (i + 1) items) new
+adds_next P items found new i d within those (added holds is) =
+    subst (λ front. AreThose P front new) (sym (take_more items i d within)) (subst (AreThose P _) (sym is) (taken _ _ _ those holds))
+adds_next P items found new i d within those (kept lacks is) =
+    subst (λ front. AreThose P front new) (sym (take_more items i d within)) (subst (AreThose P _) (sym is) (left _ _ _ those lacks))
+
+pub all_taken : {X : Type 0} (P : X → Type 0) (items found : List X) (i : ℕ) → length items ≤ i → AreThose P (take i items) found
+    → AreThose P items found
+all_taken P items found i past those = subst (λ front. AreThose P front found) (take_all i items past) those
+
+-- what cannot follow is not added
+pub unadded : {X : Type 0} (P : X → Type 0) (x : X) (old : List X) (can : Bool) (Q : Type 0) → can ≡ false → IsTrue can ↔ Q → (P x → Q)
+    → Adds P x old old
+unadded P x old can Q lacks is may = kept (λ holds. let yes = is.1 (may holds) in absurd (cc)) refl

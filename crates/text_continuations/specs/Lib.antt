@@ -1,0 +1,2 @@
+pub mod Continuations
+pub mod Inside

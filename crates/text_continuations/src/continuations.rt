@@ -1,0 +1,189 @@
+//! What can follow the bytes before a place of a text.
+
+ghost use Rattle.std.specs.Prelude.{◌≡◌, ◌↔◌, IfOk, IsTrue, OnOk};
+ghost use Rattle.sc_text.specs.Words.{word_text, sign_text};
+ghost use Rattle.text_continuations.specs.Continuations.{AreContinuations, AreThose, CanFollow, all_signs, all_words};
+ghost use Rattle.text_continuations.specs.Continuations.{is_of_grammar};
+ghost use Rattle.text_continuations.specs.Inside.{Adds, IsStop};
+
+use crate::faults::fault_of;
+use sc_text::{Broken, Language, Sign, Word};
+use sqlite_items::Items;
+use std::alloc::{AllocError, Global};
+
+const WORDS: [Word; 30] = [
+    Word::Chart,
+    Word::Scl,
+    Word::Input,
+    Word::Output,
+    Word::Local,
+    Word::Bool,
+    Word::Int,
+    Word::Region,
+    Word::Initial,
+    Word::Final,
+    Word::State,
+    Word::Immediate,
+    Word::If,
+    Word::Do,
+    Word::Go,
+    Word::Strong,
+    Word::Weak,
+    Word::Join,
+    Word::Else,
+    Word::Goto,
+    Word::Fork,
+    Word::Par,
+    Word::Pause,
+    Word::True,
+    Word::False,
+    Word::Not,
+    Word::And,
+    Word::Or,
+    Word::Min,
+    Word::Max,
+];
+
+const SIGNS: [Sign; 20] = [
+    Sign::Becomes,
+    Sign::Arrow,
+    Sign::OpenBrace,
+    Sign::CloseBrace,
+    Sign::OpenParenthesis,
+    Sign::CloseParenthesis,
+    Sign::Semicolon,
+    Sign::Colon,
+    Sign::Comma,
+    Sign::Plus,
+    Sign::Minus,
+    Sign::Star,
+    Sign::Slash,
+    Sign::Percent,
+    Sign::Equal,
+    Sign::NotEqual,
+    Sign::Less,
+    Sign::LessOrEqual,
+    Sign::Greater,
+    Sign::GreaterOrEqual,
+];
+
+/// What can follow the bytes before a place: whether a name, whether a number, and which words and signs.
+#[derive(Drop)]
+pub struct Continuations {
+    pub name: bool,
+    pub number: bool,
+    pub words: Items<Word>,
+    pub signs: Items<Sign>,
+}
+
+/// Whether a piece can follow the bytes of a text of this language up to a place where a token may begin. Err: memory
+/// was refused.
+#[tactic(auto, using(crate::proofs::Following::follows))]
+pub fn can_follow(
+    alloc: Global,
+    language: Language,
+    front: &str,
+    piece: &str,
+) -> Result<bool, AllocError>
+    ensures { IfOk result (λ can. IsTrue can ↔ CanFollow language front.now piece.now) }
+{
+    let text = format!(in alloc; "{front} {piece}")?;
+    let at = front.len() + 1;
+    let fault = fault_of(alloc, language, text.as_str())?;
+    Ok(!is_stop(fault, at))
+}
+
+// Whether a text with this broken cannot go on.
+fn is_of_grammar(broken: Broken) -> bool
+    ensures { result ≡ is_of_grammar broken }
+{
+    match broken {
+        Broken::Grammar | Broken::Limit => true,
+        _ => false,
+    }
+}
+
+// Whether a text of this fault cannot go on with what stands at a place.
+fn is_stop(fault: Option<(Broken, usize)>, at: usize) -> bool
+    ensures { IsTrue result ↔ IsStop fault at }
+{
+    match fault {
+        Some((broken, place)) => place == at && is_of_grammar(broken),
+        None => false,
+    }
+}
+
+// Adds a word, where it can follow.
+fn add_word(
+    alloc: Global,
+    language: Language,
+    front: &str,
+    word: Word,
+    found: &mut Items<Word>,
+) -> Result<(), AllocError>
+    ensures { OnOk result (Adds (λ w. CanFollow language front.now (word_text w)) word found.old found.new) }
+{
+    if can_follow(alloc, language, front, word.text())? {
+        found.push(word)?;
+    }
+    Ok(())
+}
+
+// Adds a sign, where it can follow.
+fn add_sign(
+    alloc: Global,
+    language: Language,
+    front: &str,
+    sign: Sign,
+    found: &mut Items<Sign>,
+) -> Result<(), AllocError>
+    ensures { OnOk result (Adds (λ s. CanFollow language front.now (sign_text s)) sign found.old found.new) }
+{
+    if can_follow(alloc, language, front, sign.text())? {
+        found.push(sign)?;
+    }
+    Ok(())
+}
+
+// Which words can follow.
+fn words(alloc: Global, language: Language, front: &str) -> Result<Items<Word>, AllocError>
+    ensures { IfOk result (AreThose (λ w. CanFollow language front.now (word_text w)) all_words) }
+{
+    let mut found = Items::new(alloc);
+    for word in WORDS {
+        add_word(alloc, language, front, word, &mut found)?;
+    }
+    Ok(found)
+}
+
+// Which signs can follow.
+fn signs(alloc: Global, language: Language, front: &str) -> Result<Items<Sign>, AllocError>
+    ensures { IfOk result (AreThose (λ s. CanFollow language front.now (sign_text s)) all_signs) }
+{
+    let mut found = Items::new(alloc);
+    for sign in SIGNS {
+        add_sign(alloc, language, front, sign, &mut found)?;
+    }
+    Ok(found)
+}
+
+/// What can follow the bytes of a text of this language up to a place where a token may begin. Reads the text before
+/// the place some fifty times. Err: memory was refused.
+pub fn continuations_of(
+    alloc: Global,
+    language: Language,
+    front: &str,
+) -> Result<Continuations, AllocError>
+    ensures { IfOk result (AreContinuations language front.now) }
+{
+    let name = can_follow(alloc, language, front, "x")?;
+    let number = can_follow(alloc, language, front, "1")?;
+    let words = words(alloc, language, front)?;
+    let signs = signs(alloc, language, front)?;
+    Ok(Continuations {
+        name,
+        number,
+        words,
+        signs,
+    })
+}
