@@ -4,8 +4,9 @@ use Rattle.std.specs.Prelude.{decimal}
 use Rattle.std.proofs.lemmas.List.{length-append, map-append}
 use Rattle.sc_graph.specs.declared.program.Variable.{Variable}
 use Rattle.core_charts.specs.declared.region.Transition.{Transition}
+use Rattle.core_charts.specs.Aborts.{has_strong, has_weak}
 use Rattle.sc_text.proofs.EachItem.{Each, each_append, each_more}
-use Rattle.abort_expansion.specs.Flags.{local, declared, declarations, given, one, flags_of, flag_count, has_strong, has_weak, counts, strong_flag_name, weak_flag_name, counter_name}
+use Rattle.abort_expansion.specs.Flags.{local, declared, declarations, given, one, flags_of, flag_count, counts, strong_flag_name, weak_flag_name, counter_name}
 use Rattle.abort_expansion.proofs.Lists.{at_front, at_seam}
 use Rattle.abort_expansion.proofs.Taken.{IsFlagIfAny, AreFlags}
 use Rattle.abort_expansion.proofs.Apart.{Unlike, Apart, apart_append, IsAdded, added_apart, letter_of}

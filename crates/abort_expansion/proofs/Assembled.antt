@@ -1,5 +1,6 @@
 -- A superstate, as it is or split, becomes states that keep the rules of core charts.
 use Rattle.std.proofs.Common.{◌≡◌, ℕ, suc, ◌+◌, ◌≤◌, ◌^◌, inl, Bool, true, false, cond, ◌||◌, if◌then◌else◌, List, [], ◌∷◌, map, length, refl, ap, sym, subst, ◌∙◌, arith}
+use Rattle.std.proofs.lemmas.Bool.{or_parts}
 use Rattle.sc_graph.specs.declared.program.Variable.{Variable}
 use Rattle.core_charts.specs.declared.features.Features.TheVariants as features
 use Rattle.core_charts.specs.declared.region.Region.{Region}
@@ -7,13 +8,14 @@ use Rattle.core_charts.specs.declared.region.State.{State}
 use Rattle.core_charts.specs.declared.region.Transition.{Transition}
 use Rattle.core_charts.specs.declared.region.Region.TheViews.{roll-State, out-State}
 use Rattle.core_charts.specs.Rules.{IsState, IsTransition, AreRegions, has_regions}
+use Rattle.core_charts.specs.Aborts.{has_strong, has_weak, has_aborts}
 use Rattle.sc_text.proofs.EachItem.{Each}
 use Rattle.abort_expansion.specs.declared.flags.Flags.{Flags}
 use Rattle.abort_expansion.specs.declared.places.Places.{Places}
 use Rattle.abort_expansion.specs.declared.pieces.Numbers.{Numbers}
 use Rattle.abort_expansion.specs.declared.pieces.Regions.{Regions}
 use Rattle.abort_expansion.specs.declared.pieces.States.{States}
-use Rattle.abort_expansion.specs.Flags.{one, is_there, flag_count, has_strong, has_weak, has_aborts, aborts_around, weak_around}
+use Rattle.abort_expansion.specs.Flags.{one, is_there, flag_count, aborts_around, weak_around}
 use Rattle.abort_expansion.specs.Transitions.{led}
 use Rattle.abort_expansion.specs.Pieces.{superstates_in, variables_in, beside}
 use Rattle.abort_expansion.specs.Superstates.{stays, is_prepared, as_it_is, split, superstate_over, prepared, forked}
@@ -27,13 +29,13 @@ use Rattle.abort_expansion.proofs.Joined.{HasShape, IsScene, StateKeeps, region_
 use Rattle.abort_expansion.proofs.Inner.{inside_of, inside_added, inside_keeps, inside_named, side_by_side, as_many_names}
 use Rattle.abort_expansion.proofs.Splitting.{IsSuperstate, sized, mine, still_some}
 use Rattle.abort_expansion.proofs.Prepared.{split_shape, split_keeps, AreLocated}
-use Rattle.abort_expansion.proofs.Staying.{stays_plain, no_flags, no_flag_count, led_all_keep, joins_led, or_none}
+use Rattle.abort_expansion.proofs.Staying.{stays_plain, no_flags, no_flag_count, led_all_keep, joins_led}
 
 weak_none : (around : List Flags) → aborts_around around ≡ false → weak_around around ≡ false
 weak_none [] h = refl
 weak_none (f ∷ around) h =
-    let both : ((is_there f.strong || is_there f.weak) ≡ false) × (aborts_around around ≡ false) = or_none (is_there f.strong || is_there f.weak) (aborts_around around) h in
-    let own : (is_there f.strong ≡ false) × (is_there f.weak ≡ false) = or_none (is_there f.strong) (is_there f.weak) both.0 in
+    let both : ((is_there f.strong || is_there f.weak) ≡ false) × (aborts_around around ≡ false) = or_parts (is_there f.strong || is_there f.weak) (aborts_around around) h in
+    let own : (is_there f.strong ≡ false) × (is_there f.weak ≡ false) = or_parts (is_there f.strong) (is_there f.weak) both.0 in
     rw own.1 (weak_none around both.1)
 
 one_begins : (a c : Bool) → a ≡ c → cond a (1 + 0) 0 ≡ one c
@@ -78,7 +80,7 @@ staying_keeps : (declared variables : List Variable) (levels m n : ℕ) (name : 
 staying_keeps declared variables levels m n name regions own around to begins at h some plain outside small scene located =
     let inside : Regions = inside_of regions own around at in
     let weak : weak_around around ≡ false = weak_none around outside in
-    let aborts : (has_strong own ≡ false) × (has_weak own ≡ false) = or_none (has_strong own) (has_weak own) plain in
+    let aborts : (has_strong own ≡ false) × (has_weak own ≡ false) = or_parts (has_strong own) (has_weak own) plain in
     let here : AreFlags variables (mine own around at) = no_flags variables (weak_around around) own at.variable plain weak in
     let there : Located variables (at.variable + flag_count (weak_around around) own) inside.variables =
     subst (λ x. Located variables x inside.variables) (omega (arith, no_flag_count (weak_around around) own plain weak)) located in

@@ -6,11 +6,12 @@ use Rattle.core_charts.specs.declared.features.Features.TheVariants as features
 use Rattle.core_charts.specs.declared.region.Region.{Region}
 use Rattle.core_charts.specs.declared.region.Transition.{Transition}
 use Rattle.core_charts.specs.Rules.{IsRegion, AreRegions, has_regions}
+use Rattle.core_charts.specs.Aborts.{has_strong, has_weak}
 use Rattle.sc_text.proofs.EachItem.{Each, each_append, each_at}
 use Rattle.abort_expansion.specs.declared.flags.Flags.{Flags}
 use Rattle.abort_expansion.specs.declared.pieces.Numbers.{Numbers}
 use Rattle.abort_expansion.specs.declared.pieces.Regions.{Regions}
-use Rattle.abort_expansion.specs.Flags.{flags_of, flag_count, given, is_there, one, has_strong, has_weak, weak_around, declarations}
+use Rattle.abort_expansion.specs.Flags.{flags_of, flag_count, given, is_there, one, weak_around, declarations}
 use Rattle.abort_expansion.specs.Pieces.{superstates_in, variables_in}
 use Rattle.abort_expansion.specs.Superstates.{within}
 use Rattle.abort_expansion.specs.Expansion.{piece_of_region, inside_superstate}

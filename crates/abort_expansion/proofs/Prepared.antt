@@ -8,13 +8,14 @@ use Rattle.core_charts.specs.declared.region.State.{State}
 use Rattle.core_charts.specs.declared.region.Transition.{Transition}
 use Rattle.core_charts.specs.declared.region.Region.TheViews.{out-State}
 use Rattle.core_charts.specs.Rules.{IsState, AreRegions, has_regions}
+use Rattle.core_charts.specs.Aborts.{has_aborts}
 use Rattle.sc_text.proofs.AddedNames.{added_is_named}
 use Rattle.sc_text.proofs.EachItem.{Each}
 use Rattle.abort_expansion.specs.declared.flags.Flags.{Flags}
 use Rattle.abort_expansion.specs.declared.places.Places.{Places}
 use Rattle.abort_expansion.specs.declared.pieces.Numbers.{Numbers}
 use Rattle.abort_expansion.specs.declared.pieces.Regions.{Regions}
-use Rattle.abort_expansion.specs.Flags.{one, has_aborts, weak_around, declarations, preparation_name, continuation_name}
+use Rattle.abort_expansion.specs.Flags.{one, weak_around, declarations, preparation_name, continuation_name}
 use Rattle.abort_expansion.specs.Pieces.{superstates_in, beside}
 use Rattle.abort_expansion.specs.Superstates.{preparation, continuation, fork, monitor, watched, forked, prepared}
 use Rattle.abort_expansion.specs.Expansion.{piece_of_region}

@@ -11,13 +11,14 @@ use Rattle.core_charts.specs.declared.region.TransitionKind.TheVariants as kind
 use Rattle.core_charts.specs.declared.region.Region.TheViews.{out-Region, out-State, out-roll-Region}
 use Rattle.core_charts.specs.Rules.{IsState, IsRegion, IsTransition, AreRegions, has_regions}
 use Rattle.core_charts.specs.Tests.{is_join}
+use Rattle.core_charts.specs.Aborts.{has_aborts, has_weak}
 use Rattle.sc_text.proofs.AddedNames.{added_is_named}
 use Rattle.sc_text.proofs.EachItem.{Each, each_append, each_more}
 use Rattle.abort_expansion.specs.declared.flags.Flags.{Flags}
 use Rattle.abort_expansion.specs.declared.places.Places.{Places}
 use Rattle.abort_expansion.specs.declared.pieces.Numbers.{Numbers}
 use Rattle.abort_expansion.specs.declared.pieces.Regions.{Regions}
-use Rattle.abort_expansion.specs.Flags.{flags_of, flag_count, one, has_aborts, has_weak, weak_around, declarations, preparation_name, continuation_name, monitor_name}
+use Rattle.abort_expansion.specs.Flags.{flags_of, flag_count, one, weak_around, declarations, preparation_name, continuation_name, monitor_name}
 use Rattle.abort_expansion.specs.Pieces.{superstates_in, variables_in}
 use Rattle.abort_expansion.specs.Superstates.{continuation, fork, monitor, watched, forked}
 use Rattle.abort_expansion.specs.Expansion.{piece_of_region}

@@ -1,5 +1,6 @@
 -- A superstate without aborts that none enclose stays as it is, with expanded regions, and keeps the rules of core charts.
 use Rattle.std.proofs.Common.{◌≡◌, ℕ, ◌+◌, ◌≤◌, Bool, true, false, not, cond, ◌||◌, ◌&&◌, IsTrue, List, [], ◌∷◌, map, count_by, refl, ap, arith}
+use Rattle.std.proofs.lemmas.Bool.{or_parts}
 use Rattle.sc_graph.specs.declared.program.Variable.{Variable}
 use Rattle.core_charts.specs.declared.features.Features.TheVariants as features
 use Rattle.core_charts.specs.declared.region.Transition.{Transition}
@@ -7,17 +8,14 @@ use Rattle.core_charts.specs.declared.region.TransitionKind.{TransitionKind}
 use Rattle.core_charts.specs.declared.region.TransitionKind.TheVariants as kind
 use Rattle.core_charts.specs.Rules.{IsTransition, allows}
 use Rattle.core_charts.specs.Tests.{is_strong, is_weak, is_join}
+use Rattle.core_charts.specs.Aborts.{has_strong, has_weak, has_aborts}
 use Rattle.sc_text.proofs.EachItem.{Each}
 use Rattle.abort_expansion.specs.declared.places.Places.{Places}
-use Rattle.abort_expansion.specs.Flags.{one, given, flags_of, flag_count, has_strong, has_weak, has_join, has_aborts, counts}
+use Rattle.abort_expansion.specs.Flags.{one, given, flags_of, flag_count, has_join, counts}
 use Rattle.abort_expansion.specs.Transitions.{led}
 use Rattle.abort_expansion.proofs.Lists.{count, count_is}
 use Rattle.abort_expansion.proofs.Taken.{IsFlagIfAny, AreFlags, ArePlaces}
 use Rattle.abort_expansion.proofs.Leaving.{InText, led_keeps}
-
-pub or_none : (a b : Bool) → (a || b) ≡ false → (a ≡ false) × (b ≡ false)
-or_none true b h = absurd cc
-or_none false b h = (refl, h)
 
 pub stays_plain : (a b : Bool) → not (a || b) ≡ true → (a ≡ false) × (b ≡ false)
 stays_plain true b h = absurd cc
@@ -40,7 +38,7 @@ counts_none false aborts weak h k = refl
 -- it is given no variables
 pub no_flags : (variables : List Variable) (weak : Bool) (own : List Transition) (x : ℕ) → has_aborts own ≡ false → weak ≡ false → AreFlags variables (flags_of weak own x)
 no_flags variables weak own x none outside =
-    let both : (has_strong own ≡ false) × (has_weak own ≡ false) = or_none (has_strong own) (has_weak own) none in
+    let both : (has_strong own ≡ false) × (has_weak own ≡ false) = or_parts (has_strong own) (has_weak own) none in
     record {
       strong = none_given variables (has_strong own) x both.0;
       weak = none_given variables (has_weak own) (x + one (has_strong own)) both.1;
@@ -49,7 +47,7 @@ no_flags variables weak own x none outside =
 
 pub no_flag_count : (weak : Bool) (own : List Transition) → has_aborts own ≡ false → weak ≡ false → flag_count weak own ≡ 0
 no_flag_count weak own none outside =
-    let both : (has_strong own ≡ false) × (has_weak own ≡ false) = or_none (has_strong own) (has_weak own) none in
+    let both : (has_strong own ≡ false) × (has_weak own ≡ false) = or_parts (has_strong own) (has_weak own) none in
     omega (arith, one_none (has_strong own) both.0, one_none (has_weak own) both.1, one_none (counts weak own) (counts_none (has_join own) (has_aborts own) weak none outside))
 
 -- ---- its transitions are terminations
@@ -65,8 +63,8 @@ pub led_all_keep : (declared variables : List Variable) (m n : ℕ) (to : Places
     → Each (IsTransition features.Core variables n true) (map (led to) own)
 led_all_keep declared variables m n to [] places h strong weak = tt
 led_all_keep declared variables m n to (t ∷ own) places h strong weak =
-    let first : (is_strong t.kind ≡ false) × (has_strong own ≡ false) = or_none (is_strong t.kind) (has_strong own) strong in
-    let second : (is_weak t.kind ≡ false) × (has_weak own ≡ false) = or_none (is_weak t.kind) (has_weak own) weak in (
+    let first : (is_strong t.kind ≡ false) × (has_strong own ≡ false) = or_parts (is_strong t.kind) (has_strong own) strong in
+    let second : (is_weak t.kind ≡ false) × (has_weak own ≡ false) = or_parts (is_weak t.kind) (has_weak own) weak in (
       led_keeps variables m n to features.Extended declared true t places h.0.taken h.0.kept (allowed_kind t.kind first.0 second.0),
       led_all_keep declared variables m n to own places h.1 first.1 second.1,
     )

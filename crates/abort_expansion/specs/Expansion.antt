@@ -9,12 +9,13 @@ use Rattle.core_charts.specs.declared.region.Region.TheOpen.{Region-F, State-F}
 use Rattle.core_charts.specs.declared.region.Region.TheViews.{roll-Region, roll-State}
 use Rattle.core_charts.specs.declared.region.Region.TheFolds.{fold-Region, fold-State}
 use Rattle.core_charts.specs.Chart.{Chart}
+use Rattle.core_charts.specs.Aborts.{has_weak}
 use Rattle.abort_expansion.specs.declared.flags.Flags.{Flags}
 use Rattle.abort_expansion.specs.declared.places.Places.{Places}
 use Rattle.abort_expansion.specs.declared.pieces.States.{States}
 use Rattle.abort_expansion.specs.declared.pieces.Regions.{Regions}
 use Rattle.abort_expansion.specs.declared.pieces.Numbers.{Numbers}
-use Rattle.abort_expansion.specs.Flags.{first_name, flag_count, flags_of, one, has_weak, aborts_around, weak_around}
+use Rattle.abort_expansion.specs.Flags.{first_name, flag_count, flags_of, one, aborts_around, weak_around}
 use Rattle.abort_expansion.specs.Transitions.{count_down, on, go}
 use Rattle.abort_expansion.specs.Pieces.{beside, RegionPiece, StatePiece, superstates_in, states_in, variables_in, expanded_regions}
 use Rattle.abort_expansion.specs.Superstates.{simple, stays, is_prepared, abandoned, within, superstate_over}

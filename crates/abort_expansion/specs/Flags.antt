@@ -6,7 +6,8 @@ use Rattle.sc_values.specs.declared.value.Kind.TheVariants as of_kind
 use Rattle.sc_graph.specs.declared.program.Variable.{Variable}
 use Rattle.sc_graph.specs.declared.program.Role.TheVariants as role
 use Rattle.core_charts.specs.declared.region.Transition.{Transition}
-use Rattle.core_charts.specs.Tests.{is_strong, is_weak, is_join}
+use Rattle.core_charts.specs.Tests.{is_join}
+use Rattle.core_charts.specs.Aborts.{has_strong, has_weak, has_aborts}
 use Rattle.abort_expansion.specs.declared.flags.Flags.{Flags}
 
 -- ---- names, of superstate s
@@ -43,17 +44,8 @@ first_name = codes "_i"
 
 -- ---- flags
 
-abbrev pub has_strong : List Transition → Bool
-has_strong all = list_any (λ t. is_strong t.kind) all
-
-abbrev pub has_weak : List Transition → Bool
-has_weak all = list_any (λ t. is_weak t.kind) all
-
 abbrev pub has_join : List Transition → Bool
 has_join all = list_any (λ t. is_join t.kind) all
-
-abbrev pub has_aborts : List Transition → Bool
-has_aborts all = has_strong all || has_weak all
 
 -- whether a superstate with these transitions has a termination counter, by whether weak aborts enclose it
 abbrev pub counts : Bool → List Transition → Bool

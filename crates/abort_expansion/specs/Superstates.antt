@@ -6,12 +6,13 @@ use Rattle.core_charts.specs.declared.region.Region.{Region}
 use Rattle.core_charts.specs.declared.region.State.{State}
 use Rattle.core_charts.specs.declared.region.Region.TheViews.{roll-Region, roll-State}
 use Rattle.core_charts.specs.Tests.{at_once, strong_aborts, weak_aborts, terminations}
+use Rattle.core_charts.specs.Aborts.{has_aborts}
 use Rattle.abort_expansion.specs.declared.flags.Flags.{Flags}
 use Rattle.abort_expansion.specs.declared.places.Places.{Places}
 use Rattle.abort_expansion.specs.declared.pieces.States.{States}
 use Rattle.abort_expansion.specs.declared.pieces.Regions.{Regions}
 use Rattle.abort_expansion.specs.declared.pieces.Numbers.{Numbers}
-use Rattle.abort_expansion.specs.Flags.{preparation_name, continuation_name, monitor_name, watching_name, abandoned_name, has_aborts, counts, flag_count, declarations, aborts_around, weak_around}
+use Rattle.abort_expansion.specs.Flags.{preparation_name, continuation_name, monitor_name, watching_name, abandoned_name, counts, flag_count, declarations, aborts_around, weak_around}
 use Rattle.abort_expansion.specs.Transitions.{is_number, put, on, go, strong_checks, weak_checks, led, led_by, answers, raising}
 use Rattle.core_charts.specs.declared.region.Effect.{Effect}
 use Rattle.abort_expansion.specs.Pieces.{beside}

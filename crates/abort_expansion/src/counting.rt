@@ -5,9 +5,9 @@ ghost use Rattle.abort_expansion.specs.Flags.{weak_around};
 ghost use Rattle.abort_expansion.specs.Pieces.{superstates_in, variables_in, past_region};
 ghost use Rattle.abort_expansion.specs.Expansion.{piece_of_region, piece_of_state, past_state, initial_number};
 
-use crate::flags::{Flags, flag_count, has_weak, weak_around};
+use crate::flags::{Flags, flag_count, weak_around};
 use crate::pieces::Numbers;
-use core_charts::{Region, State};
+use core_charts::{Region, State, has_weak};
 use std::alloc::AllocError;
 
 /// How many superstates, states and new variables there are.

@@ -1,10 +1,10 @@
 //! The variables that a superstate is given, and what of its transitions decides of them.
 
 ghost use Rattle.std.specs.Prelude.{◌≡◌, ◌+◌, ◌≤◌, ◌||◌, ◌&&◌, IfOk};
-ghost use Rattle.abort_expansion.specs.Flags.{has_strong, has_weak, has_join, has_aborts, counts, one, given};
+ghost use Rattle.abort_expansion.specs.Flags.{has_join, counts, one, given};
 ghost use Rattle.abort_expansion.specs.Flags.{flag_count, flags_of, aborts_around, weak_around};
 
-use core_charts::Transition;
+use core_charts::{Transition, has_aborts, has_strong, has_weak};
 use sc_graph::VariableId;
 use std::alloc::AllocError;
 
@@ -16,28 +16,6 @@ pub struct Flags {
     pub counter: Option<VariableId>,
 }
 
-fn has_strong(all: &[Transition]) -> bool
-    ensures { result ≡ has_strong all.now }
-{
-    for transition in all {
-        if transition.kind.is_strong() {
-            return true;
-        }
-    }
-    false
-}
-
-pub(crate) fn has_weak(all: &[Transition]) -> bool
-    ensures { result ≡ has_weak all.now }
-{
-    for transition in all {
-        if transition.kind.is_weak() {
-            return true;
-        }
-    }
-    false
-}
-
 fn has_join(all: &[Transition]) -> bool
     ensures { result ≡ has_join all.now }
 {
@@ -47,13 +25,6 @@ fn has_join(all: &[Transition]) -> bool
         }
     }
     false
-}
-
-/// Whether one of them is a strong or a weak abort.
-pub(crate) fn has_aborts(all: &[Transition]) -> bool
-    ensures { result ≡ has_aborts all.now }
-{
-    has_strong(all) || has_weak(all)
 }
 
 /// Whether a superstate with these transitions counts, by whether weak aborts enclose it.

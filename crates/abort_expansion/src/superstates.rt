@@ -1,17 +1,18 @@
 //! The states that expansion makes of a superstate, over what is inside it.
 
 ghost use Rattle.std.specs.Prelude.{◌≡◌, ◌+◌, ◌∷◌, [], Some, None, IfOk, if◌then◌else◌};
-ghost use Rattle.abort_expansion.specs.Flags.{has_aborts, declarations, local};
+ghost use Rattle.core_charts.specs.Aborts.{has_aborts};
+ghost use Rattle.abort_expansion.specs.Flags.{declarations, local};
 ghost use Rattle.abort_expansion.specs.Superstates.{stays, is_prepared, as_it_is, prepared, forked, split};
 ghost use Rattle.abort_expansion.specs.Superstates.{superstate_over, watched, monitor, continuation, fork};
 
-use crate::flags::{Flags, aborts_around, counts, has_aborts, weak_around};
+use crate::flags::{Flags, aborts_around, counts, weak_around};
 use crate::making::alone;
 use crate::names::{counter_name, strong_flag_name, weak_flag_name};
 use crate::pieces::{Numbers, Regions, States};
 use crate::places::Places;
 use crate::states::{continuation, fork, monitor, preparation};
-use core_charts::{Region, State, Transition};
+use core_charts::{Region, State, Transition, has_aborts};
 use sc_graph::{Role, Variable};
 use sc_values::{Kind, Name};
 use sqlite_items::Items;

@@ -7,6 +7,7 @@ use Rattle.sc_values.specs.declared.value.Value.TheVariants as value_is
 use Rattle.sc_values.specs.declared.operator.Combination.TheVariants as combine
 use Rattle.sc_values.specs.Access.{Access, no_access}
 use Rattle.core_charts.specs.declared.region.Transition.{Transition}
+use Rattle.core_charts.specs.Aborts.{has_aborts}
 use Rattle.chart_machine.specs.declared.standing.Standing.{Standing}
 use Rattle.chart_machine.specs.declared.standing.Standing.TheVariants as at
 use Rattle.chart_machine.specs.declared.standing.Configuration.{Configuration}
@@ -14,7 +15,6 @@ use Rattle.chart_machine.specs.declared.table.Table.{Table}
 use Rattle.chart_machine.specs.Table.{state_at}
 use Rattle.chart_machine.specs.Turns.{standing_of, guards as has_to_guard, is_guarded}
 use Rattle.chart_machine.specs.Steps.{access_of}
-use Rattle.abort_expansion.specs.Flags.{has_aborts}
 use Rattle.abort_expansion.specs.Transitions.{go, count_down}
 use Rattle.abort_expansion.specs.Superstates.{stays}
 use Rattle.tick_laws.proofs.Lists.{same_or_not}

@@ -5,9 +5,11 @@ use Rattle.std.specs.Prelude.{reverse, flat_map}
 use Rattle.std.proofs.lemmas.List.{reverse-append, append-nil}
 use Rattle.std.proofs.lemmas.Grind.{flat_map-append}
 use Rattle.std.proofs.lemmas.List.Folds.{flat_map-map}
+use Rattle.std.proofs.lemmas.Bool.{or_parts}
 use Rattle.core_charts.specs.declared.region.Transition.{Transition}
 use Rattle.core_charts.specs.declared.region.Effect.{Effect}
 use Rattle.core_charts.specs.Tests.{at_once, strong_aborts, weak_aborts, terminations}
+use Rattle.core_charts.specs.Aborts.{has_aborts}
 use Rattle.chart_machine.specs.declared.standing.Standing.{Standing}
 use Rattle.chart_machine.specs.declared.standing.Standing.TheVariants as at
 use Rattle.chart_machine.specs.declared.standing.Configuration.{Configuration}
@@ -16,7 +18,7 @@ use Rattle.chart_machine.specs.Table.{state_at}
 use Rattle.chart_machine.specs.Turns.{standing_of, guards, is_guarded, inside}
 use Rattle.chart_machine.specs.Steps.{to, state_in, verdict, access_of_trigger}
 use Rattle.abort_expansion.specs.declared.flags.Flags.{Flags}
-use Rattle.abort_expansion.specs.Flags.{has_aborts, aborts_around, is_there}
+use Rattle.abort_expansion.specs.Flags.{aborts_around, is_there}
 use Rattle.abort_expansion.specs.Transitions.{is_raised, go, check, led, strong_checks, answers}
 use Rattle.abort_expansion.specs.Superstates.{stays, closing}
 use Rattle.sc_values.specs.Access.{Access}
@@ -77,10 +79,6 @@ pub true_or_false : (b : Bool) → (b ≡ true) ⊎ (b ≡ false)
 true_or_false true = inl refl
 true_or_false false = inr refl
 
-neither : (b c : Bool) → (b || c) ≡ false → (b ≡ false) × (c ≡ false)
-neither true c e = absurd cc
-neither false c e = (refl, e)
-
 none_there : (b : Bool) (place : ℕ) (o : Option ℕ) → is_there o ≡ false → check b place o ≡ []
 none_there b place None e = refl
 none_there b place (Some x) e = absurd cc
@@ -88,8 +86,8 @@ none_there b place (Some x) e = absurd cc
 no_checks : (b : Bool) (place : ℕ) (fs : List Flags) → aborts_around fs ≡ false → strong_checks b place fs ≡ []
 no_checks b place [] e = refl
 no_checks b place (f ∷ fs) e =
-    let both = neither (is_there f.strong || is_there f.weak) (aborts_around fs) e in
-    let two = neither (is_there f.strong) (is_there f.weak) both.0 in
+    let both = or_parts (is_there f.strong || is_there f.weak) (aborts_around fs) e in
+    let two = or_parts (is_there f.strong) (is_there f.weak) both.0 in
     let own : check b place f.strong ≡ [] = none_there b place f.strong two.0 in
     let rest : strong_checks b place fs ≡ [] = no_checks b place fs both.1 in rw (own, rest) refl
 

@@ -5,10 +5,12 @@ use Rattle.std.proofs.Common.{length, slice_get, slice_set, Contains, refl, sym,
 use Rattle.std.specs.Prelude.{reverse, filter}
 use Rattle.std.specs.List.{list_any}
 use Rattle.std.proofs.lemmas.List.{reverse-append, append-nil}
+use Rattle.std.proofs.lemmas.Bool.{or_parts}
 use Rattle.sc_values.specs.declared.value.Value.TheVariants as value_is
 use Rattle.sc_values.specs.Access.{Access, no_access}
 use Rattle.core_charts.specs.declared.region.Transition.{Transition}
 use Rattle.core_charts.specs.Tests.{at_once, strong_aborts, weak_aborts, terminations}
+use Rattle.core_charts.specs.Aborts.{has_aborts}
 use Rattle.chart_machine.specs.declared.standing.Standing.{Standing}
 use Rattle.chart_machine.specs.declared.standing.Standing.TheVariants as at
 use Rattle.chart_machine.specs.declared.standing.Configuration.{Configuration}
@@ -19,7 +21,7 @@ use Rattle.chart_machine.specs.Steps.{to, moved, state_in, access_of}
 use Rattle.chart_machine.specs.Machine.{machine}
 use Rattle.abort_expansion.specs.declared.flags.Flags.{Flags}
 use Rattle.abort_expansion.specs.declared.places.Places.{Places}
-use Rattle.abort_expansion.specs.Flags.{has_aborts, has_join}
+use Rattle.abort_expansion.specs.Flags.{has_join}
 use Rattle.abort_expansion.specs.Transitions.{check, strong_checks, answers}
 use Rattle.abort_expansion.specs.Superstates.{stays}
 use Rattle.tick_laws.proofs.Lists.{same_or_not, contained}
@@ -46,11 +48,7 @@ use Rattle.abort_expansion_laws.proofs.EnteringSimple.{once_append, weak_once}
 
 no_chosen : (p : Transition → Bool) (xs : List Transition) → list_any p xs ≡ false → filter p xs ≡ []
 no_chosen p [] e = refl
-no_chosen p (x ∷ xs) e = let both = neither (p x) (list_any p xs) e in rw (both.0, no_chosen p xs both.1) refl
-  where
-    neither : (b c : Bool) → (b || c) ≡ false → (b ≡ false) × (c ≡ false)
-    neither true c e = absurd cc
-    neither false c e = (refl, e)
+no_chosen p (x ∷ xs) e = let both = or_parts (p x) (list_any p xs) e in rw (both.0, no_chosen p xs both.1) refl
 
 no_answers : (at_places : Places) (flag : Option ℕ) (n : ℕ) → answers at_places flag n [] ≡ []
 no_answers at_places None n = refl
@@ -70,17 +68,13 @@ module _ (k core : Table) (i : Images) where
   none_left : (r s : ℕ) → has_aborts (own k s) ≡ false → has_join (own k s) ≡ false →
       behind_transitions k core i r s ≡ strong_checks true (i.places_of r).left (flags_around k core i r) ++ held_back k core i r
   none_left r s no_aborts no_join =
-      let two = neither (list_any _ (own k s)) (list_any _ (own k s)) no_aborts in
+      let two = or_parts (list_any _ (own k s)) (list_any _ (own k s)) no_aborts in
       let strong : strong_aborts (own k s) ≡ [] = no_chosen _ (own k s) two.0 in
       let weak : weak_aborts (own k s) ≡ [] = no_chosen _ (own k s) two.1 in
       let join : terminations (own k s) ≡ [] = no_chosen _ (own k s) no_join in
       rw (strong, weak, join, no_answers (i.places_of r) (i.flags_of s).strong 1, no_answers (i.places_of r) (i.flags_of s).weak 1)
       (ap (λ zs. zs ++ held_back k core i r) (append-nil (strong_checks true (i.places_of r).left (flags_around k core i r) ++ []) ∙
       append-nil (strong_checks true (i.places_of r).left (flags_around k core i r))))
-    where
-      neither : (b c : Bool) → (b || c) ≡ false → (b ≡ false) × (c ≡ false)
-      neither true c e = absurd cc
-      neither false c e = (refl, e)
 
   -- the continuation of a superstate that can only be left from outside
   pub continues_with : (r s : ℕ) → has_aborts (own k s) ≡ false → has_join (own k s) ≡ false →

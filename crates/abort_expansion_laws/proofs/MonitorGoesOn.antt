@@ -3,13 +3,13 @@ use Rattle.std.proofs.Common.{◌≡◌, ◌≢◌, ℕ, zero, suc, ◌<◌, ◌
 use Rattle.std.proofs.Common.{Contains, refl, sym, ap, subst, ◌∙◌, arith}
 use Rattle.sc_values.specs.declared.value.Value.{Value}
 use Rattle.core_charts.specs.declared.region.Transition.{Transition}
+use Rattle.core_charts.specs.Aborts.{has_aborts}
 use Rattle.chart_machine.specs.declared.standing.Standing.{Standing}
 use Rattle.chart_machine.specs.declared.standing.Standing.TheVariants as at
 use Rattle.chart_machine.specs.declared.standing.Configuration.{Configuration}
 use Rattle.chart_machine.specs.declared.table.Table.{Table}
 use Rattle.chart_machine.specs.Table.{state_at}
 use Rattle.chart_machine.specs.Turns.{standing_of, has_ended, guards, is_guarded}
-use Rattle.abort_expansion.specs.Flags.{has_aborts}
 use Rattle.tick_laws.proofs.Lists.{same_or_not}
 use Rattle.chart_machine_laws.proofs.LyingIn.{around, holder}
 use Rattle.abort_expansion_laws.proofs.TablesCorrespond.{IsThere}

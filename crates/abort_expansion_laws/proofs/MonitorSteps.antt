@@ -6,6 +6,7 @@ use Rattle.std.proofs.lemmas.Option.{slice_get_past}
 use Rattle.sc_values.specs.Access.{Access, Nothing}
 use Rattle.sc_values.specs.Runs.{act_of}
 use Rattle.core_charts.specs.Tests.{is_weak}
+use Rattle.core_charts.specs.Aborts.{has_aborts}
 use Rattle.chart_machine.specs.declared.standing.Standing.{Standing}
 use Rattle.chart_machine.specs.declared.standing.Standing.TheVariants as at
 use Rattle.chart_machine.specs.declared.standing.Configuration.{Configuration}
@@ -14,7 +15,6 @@ use Rattle.chart_machine.specs.Turns.{standing_of, guards, has_work, is_guarded,
 use Rattle.chart_machine.specs.Steps.{access_of, step}
 use Rattle.chart_machine.specs.Machine.{machine}
 use Rattle.tick_laws.proofs.Lists.{same_or_not}
-use Rattle.abort_expansion.specs.Flags.{has_aborts}
 use Rattle.abort_expansion_laws.specs.Stages.{Entry, Watched, Touches}
 use Rattle.abort_expansion_laws.proofs.Supplying.{climbs_step}
 use Rattle.abort_expansion_laws.proofs.Simulation.{Segment}

@@ -1,6 +1,7 @@
 -- What the moves of a fork make of what is inside, stated alone: it is for the structure of the expansion to give.
 use Rattle.std.proofs.Common.{◌≡◌, ℕ, suc, ◌⊎◌, true, false, Some, List, length, Contains}
 use Rattle.core_charts.specs.declared.region.Transition.{Transition}
+use Rattle.core_charts.specs.Aborts.{has_aborts}
 use Rattle.chart_machine.specs.declared.standing.Standing.{Standing}
 use Rattle.chart_machine.specs.declared.standing.Standing.TheVariants as at
 use Rattle.chart_machine.specs.declared.standing.Configuration.{Configuration}
@@ -8,7 +9,6 @@ use Rattle.chart_machine.specs.declared.table.Table.{Table}
 use Rattle.chart_machine.specs.Table.{state_at}
 use Rattle.chart_machine.specs.Turns.{standing_of, is_guarded}
 use Rattle.chart_machine.specs.Steps.{moved}
-use Rattle.abort_expansion.specs.Flags.{has_aborts}
 use Rattle.abort_expansion.specs.Superstates.{is_prepared}
 use Rattle.chart_machine_laws.specs.Tree.{around, holder, IsThere}
 use Rattle.abort_expansion_laws.specs.CoreRows.{own, IsState, IsSuper, Images, flags_around}

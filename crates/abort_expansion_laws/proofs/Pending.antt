@@ -4,6 +4,7 @@ use Rattle.std.proofs.Common.{◌≡◌, ◌≢◌, ℕ, suc, ◌+◌, ◌<◌, 
 use Rattle.std.proofs.Common.{refl, sym, subst, ◌∙◌, if◌then◌else◌}
 use Rattle.sc_values.specs.declared.value.Value.{Value}
 use Rattle.core_charts.specs.declared.region.Transition.{Transition}
+use Rattle.core_charts.specs.Aborts.{has_aborts}
 use Rattle.chart_machine.specs.declared.standing.Standing.{Standing}
 use Rattle.chart_machine.specs.declared.standing.Standing.TheVariants as at
 use Rattle.chart_machine.specs.declared.standing.Configuration.{Configuration}
@@ -12,7 +13,7 @@ use Rattle.chart_machine.specs.Table.{state_at}
 use Rattle.chart_machine.specs.Turns.{standing_of, has_ended, guards as has_to_guard, is_guarded, inside}
 use Rattle.chart_machine.specs.Steps.{to, moved, state_in}
 use Rattle.abort_expansion_laws.proofs.Leaving.{at_number}
-use Rattle.abort_expansion.specs.Flags.{has_aborts, has_join}
+use Rattle.abort_expansion.specs.Flags.{has_join}
 use Rattle.abort_expansion.specs.Transitions.{go, count_down}
 use Rattle.abort_expansion.specs.Superstates.{stays, is_prepared, resets}
 use Rattle.chart_machine_laws.proofs.LyingIn.{around, holder}

@@ -5,13 +5,13 @@ use Rattle.std.specs.Prelude.{take}
 use Rattle.std.proofs.lemmas.Bool.Decides.{Decides-eqb}
 use Rattle.std.proofs.lemmas.Option.{slice_get_past, same_Some}
 use Rattle.sc_values.specs.declared.value.Value.{Value}
+use Rattle.core_charts.specs.Aborts.{has_aborts}
 use Rattle.chart_machine.specs.declared.standing.Standing.{Standing}
 use Rattle.chart_machine.specs.declared.standing.Standing.TheVariants as at
 use Rattle.chart_machine.specs.declared.standing.Configuration.{Configuration}
 use Rattle.chart_machine.specs.declared.table.Table.{Table}
 use Rattle.chart_machine.specs.Turns.{standing_of}
 use Rattle.chart_machine.specs.Machine.{stands_in, is_active}
-use Rattle.abort_expansion.specs.Flags.{has_aborts}
 use Rattle.abort_expansion.specs.Superstates.{stays}
 use Rattle.abort_expansion_laws.specs.Related.{is_behind}
 use Rattle.abort_expansion_laws.proofs.KnownVariables.{both_true, not_so}

@@ -4,8 +4,10 @@ use Rattle.std.proofs.Common.{subst, ◌∙◌, arith, if◌then◌else◌}
 use Rattle.std.specs.Prelude.{filter}
 use Rattle.std.specs.List.{list_any}
 use Rattle.std.proofs.lemmas.Bool.Decides.{Decides-eqb}
+use Rattle.std.proofs.lemmas.Bool.{or_parts}
 use Rattle.core_charts.specs.declared.region.Transition.{Transition}
 use Rattle.core_charts.specs.Tests.{is_weak}
+use Rattle.core_charts.specs.Aborts.{has_aborts}
 use Rattle.chart_machine.specs.declared.standing.Standing.{Standing}
 use Rattle.chart_machine.specs.declared.standing.Standing.TheVariants as at
 use Rattle.chart_machine.specs.declared.standing.Configuration.{Configuration}
@@ -13,7 +15,6 @@ use Rattle.chart_machine.specs.declared.table.Table.{Table}
 use Rattle.chart_machine.specs.declared.table.RegionRow.{RegionRow}
 use Rattle.chart_machine.specs.Table.{state_at, region_at}
 use Rattle.chart_machine.specs.Turns.{standing_of, may_close, has_work, inside, numbered_from}
-use Rattle.abort_expansion.specs.Flags.{has_aborts}
 use Rattle.tick_laws.proofs.Lists.{same_or_not}
 use Rattle.chart_machine_laws.proofs.LyingIn.{around, holder, IsNested, none_in, head_or_tail, head_in, tail_in}
 use Rattle.abort_expansion_laws.proofs.TablesCorrespond.{IsThere}
@@ -41,14 +42,10 @@ module _ where
   any_in p (x ∷ xs) y h e =
       ⊎_elim (λ same. head_or p x xs (ap p same ∙ e)) (λ tail. tail_or (p x) (list_any p xs) (any_in p xs y tail e)) (head_or_tail x y xs h)
 
-  neither : (b c : Bool) → (b || c) ≡ false → (b ≡ false) × (c ≡ false)
-  neither true c e = absurd cc
-  neither false c e = (refl, e)
-
   pub none_of : (p : ℕ → Bool) (xs : List ℕ) (y : ℕ) → list_any p xs ≡ false → Contains xs y → p y ≡ false
   none_of p [] y e h = absurd (none_in y h)
   none_of p (x ∷ xs) y e h =
-      let both = neither (p x) (list_any p xs) e in ⊎_elim (λ same. ap p (sym same) ∙ both.0) (λ tail. none_of p xs y both.1 tail) (head_or_tail x y xs h)
+      let both = or_parts (p x) (list_any p xs) e in ⊎_elim (λ same. ap p (sym same) ∙ both.0) (λ tail. none_of p xs y both.1 tail) (head_or_tail x y xs h)
 
   later : (b : Bool) (x : ℕ) (zs : List ℕ) (y : ℕ) → Contains zs y → Contains (if b then x ∷ zs else zs) y
   later true x zs y inner = tail_in x y zs inner
@@ -105,7 +102,7 @@ module _ where
 quiet_kept : (w w' : ℕ → Bool) (q : ℕ) → w q ≡ true → ((r : ℕ) → r ≢ q → w' r ≡ w r) → (xs : List ℕ) → list_any w xs ≡ false → list_any w' xs ≡ false
 quiet_kept w w' q works alike [] e = refl
 quiet_kept w w' q works alike (x ∷ xs) e =
-    let both = neither (w x) (list_any w xs) e in
+    let both = or_parts (w x) (list_any w xs) e in
     ⊎_elim (λ same. let wrong : true ≡ false = sym works ∙ (ap w (sym same) ∙ both.0) in absurd cc)
     (λ ne. rw (alike x ne, both.0, quiet_kept w w' q works alike xs both.1) refl) (same_or_not x q)
 

@@ -13,7 +13,7 @@ use Rattle.core_charts.specs.declared.region.Region.TheOpen.{State-F}
 use Rattle.core_charts.specs.declared.region.Region.TheViews.{out-Region, out-State}
 use Rattle.core_charts.specs.declared.region.Region.TheFolds.{fold_out-Region, fold_out-State}
 use Rattle.core_charts.specs.declared.region.State.{State}
-use Rattle.abort_expansion.specs.Flags.{has_aborts}
+use Rattle.core_charts.specs.Aborts.{has_aborts}
 use Rattle.core_charts.specs.Rules.{IsRegion, AreRegions, depth_limit}
 use Rattle.scl_graph_laws.proofs.Segments.{StandAt, stand_from, stand_first, stand_second, stand_all}
 use Rattle.chart_machine.specs.Table as tables

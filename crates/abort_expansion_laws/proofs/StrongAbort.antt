@@ -13,6 +13,7 @@ use Rattle.sc_graph.specs.Steps.{takes_kind}
 use Rattle.core_charts.specs.declared.region.Effect.{Effect}
 use Rattle.core_charts.specs.declared.region.Transition.{Transition}
 use Rattle.core_charts.specs.Tests.{at_once, strong_aborts, weak_aborts, terminations}
+use Rattle.core_charts.specs.Aborts.{has_aborts}
 use Rattle.chart_machine.specs.declared.standing.Standing.{Standing}
 use Rattle.chart_machine.specs.declared.standing.Standing.TheVariants as at
 use Rattle.chart_machine.specs.declared.standing.Configuration.{Configuration}
@@ -21,7 +22,7 @@ use Rattle.chart_machine.specs.Table.{state_at, region_at}
 use Rattle.chart_machine.specs.Turns.{standing_of, has_ended, has_work, guards, is_guarded, inside}
 use Rattle.chart_machine.specs.Steps.{to, moved, verdict, access_of, access_of_trigger, step, state_in}
 use Rattle.chart_machine.specs.Machine.{machine}
-use Rattle.abort_expansion.specs.Flags.{has_aborts, aborts_around}
+use Rattle.abort_expansion.specs.Flags.{aborts_around}
 use Rattle.abort_expansion.specs.Transitions.{put, raising, is_raised, counting, check, strong_checks, answers, place_of}
 use Rattle.abort_expansion.specs.Superstates.{all_ended, stays, closing}
 use Rattle.tick_laws.proofs.Lists.{same_or_not, map_contains, contained}

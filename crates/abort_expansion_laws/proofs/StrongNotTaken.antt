@@ -7,6 +7,7 @@ use Rattle.sc_values.specs.Access.{Nothing}
 use Rattle.sc_values.specs.Runs.{act_of}
 use Rattle.core_charts.specs.declared.region.Transition.{Transition}
 use Rattle.core_charts.specs.Tests.{strong_aborts, weak_aborts}
+use Rattle.core_charts.specs.Aborts.{has_aborts}
 use Rattle.chart_machine.specs.declared.standing.Standing.{Standing}
 use Rattle.chart_machine.specs.declared.standing.Standing.TheVariants as at
 use Rattle.chart_machine.specs.declared.standing.Configuration.{Configuration}
@@ -14,7 +15,6 @@ use Rattle.chart_machine.specs.declared.table.Table.{Table}
 use Rattle.chart_machine.specs.Turns.{standing_of, has_work, is_guarded}
 use Rattle.chart_machine.specs.Steps.{to, after, verdict, deed_of, step, access_of, access_of_trigger, state_in}
 use Rattle.chart_machine.specs.Machine.{machine}
-use Rattle.abort_expansion.specs.Flags.{has_aborts}
 use Rattle.abort_expansion.specs.Transitions.{raising}
 use Rattle.abort_expansion.specs.Superstates.{all_ended}
 use Rattle.abort_expansion_laws.specs.Stages.{Entry, Watched}

@@ -3,14 +3,15 @@ use Rattle.std.proofs.Common.{◌≡◌, ◌≢◌, ℕ, zero, suc, ◌<◌, ◌
 use Rattle.std.proofs.Common.{slice_set, unwrap_or, Contains, refl, sym, ap, subst, ◌∙◌, arith}
 use Rattle.std.specs.List.{list_all, list_any}
 use Rattle.std.proofs.lemmas.Option.{slice_get_past}
+use Rattle.std.proofs.lemmas.Bool.{or_parts}
 use Rattle.core_charts.specs.declared.region.Transition.{Transition}
+use Rattle.core_charts.specs.Aborts.{has_aborts}
 use Rattle.chart_machine.specs.declared.standing.Standing.{Standing}
 use Rattle.chart_machine.specs.declared.standing.Standing.TheVariants as at
 use Rattle.chart_machine.specs.declared.standing.Configuration.{Configuration}
 use Rattle.chart_machine.specs.declared.table.Table.{Table}
 use Rattle.chart_machine.specs.Table.{state_at}
 use Rattle.chart_machine.specs.Turns.{standing_of, has_ended, guards, is_guarded}
-use Rattle.abort_expansion.specs.Flags.{has_aborts}
 use Rattle.chart_machine_laws.proofs.LyingIn.{around, holder, none_in, head_or_tail, head_in, tail_in}
 use Rattle.abort_expansion_laws.proofs.TablesCorrespond.{IsThere}
 use Rattle.abort_expansion_laws.specs.CoreRows.{own, IsState, Images, CoreRows}
@@ -139,11 +140,7 @@ both_ways false e f = absurd cc
 pub none_among : (p : ℕ → Bool) (xs : List ℕ) (y : ℕ) → list_any p xs ≡ false → Contains xs y → p y ≡ false
 none_among p [] y e h = absurd (none_in y h)
 none_among p (x ∷ xs) y e h =
-    let both = neither_one (p x) (list_any p xs) e in ⊎_elim (λ same. ap p (sym same) ∙ both.0) (λ tail. none_among p xs y both.1 tail) (head_or_tail x y xs h)
-  where
-    neither_one : (b c : Bool) → (b || c) ≡ false → (b ≡ false) × (c ≡ false)
-    neither_one true c e = absurd cc
-    neither_one false c e = (refl, e)
+    let both = or_parts (p x) (list_any p xs) e in ⊎_elim (λ same. ap p (sym same) ∙ both.0) (λ tail. none_among p xs y both.1 tail) (head_or_tail x y xs h)
 
 none_are : (p : ℕ → Bool) (xs : List ℕ) → ((x : ℕ) → Contains xs x → p x ≡ true → ⊥) → list_any p xs ≡ false
 none_are p [] each = refl

@@ -9,6 +9,7 @@ use Rattle.core_charts.specs.declared.region.Transition.{Transition}
 use Rattle.core_charts.specs.declared.region.TransitionKind.{TransitionKind}
 use Rattle.core_charts.specs.declared.region.TransitionKind.TheVariants as kind
 use Rattle.core_charts.specs.Tests.{terminations, weak_aborts, is_weak, is_join}
+use Rattle.core_charts.specs.Aborts.{has_aborts}
 use Rattle.chart_machine.specs.declared.standing.Standing.{Standing}
 use Rattle.chart_machine.specs.declared.standing.Standing.TheVariants as at
 use Rattle.chart_machine.specs.declared.standing.Configuration.{Configuration}
@@ -16,7 +17,7 @@ use Rattle.chart_machine.specs.declared.table.Table.{Table}
 use Rattle.chart_machine.specs.Turns.{standing_of, has_ended, guards, has_work, is_guarded, inside, inside_is_done}
 use Rattle.chart_machine.specs.Steps.{to, after, verdict, deed_of, step, access_of, access_of_trigger, state_in}
 use Rattle.chart_machine.specs.Machine.{machine}
-use Rattle.abort_expansion.specs.Flags.{has_aborts, aborts_around}
+use Rattle.abort_expansion.specs.Flags.{aborts_around}
 use Rattle.abort_expansion.specs.Superstates.{all_ended, stays}
 use Rattle.abort_expansion_laws.specs.Stages.{Entry, Watched}
 use Rattle.abort_expansion_laws.proofs.Simulation.{Segment}

@@ -7,6 +7,7 @@ use Rattle.sc_graph.specs.declared.program.Variable.{Variable}
 use Rattle.core_charts.specs.declared.region.Transition.{Transition}
 use Rattle.core_charts.specs.declared.region.TransitionKind.TheVariants as kind
 use Rattle.core_charts.specs.Tests.{at_once, strong_aborts, weak_aborts, terminations}
+use Rattle.core_charts.specs.Aborts.{has_aborts}
 use Rattle.chart_machine.specs.declared.standing.Standing.TheVariants as at
 use Rattle.chart_machine.specs.declared.standing.Move.{Move}
 use Rattle.chart_machine.specs.declared.table.StateRow.{StateRow}
@@ -16,7 +17,7 @@ use Rattle.chart_machine.specs.Turns.{has_ended}
 use Rattle.chart_machine.specs.Steps.{to, state_in}
 use Rattle.abort_expansion.specs.declared.flags.Flags.{Flags}
 use Rattle.abort_expansion.specs.declared.places.Places.{Places}
-use Rattle.abort_expansion.specs.Flags.{has_aborts, aborts_around}
+use Rattle.abort_expansion.specs.Flags.{aborts_around}
 use Rattle.abort_expansion.specs.Transitions.{go, place_of, led, led_by, strong_checks, answers}
 use Rattle.abort_expansion.specs.Superstates.{simple_transitions, stays, is_prepared, resets, monitor_transitions, closing}
 use Rattle.chart_machine_laws.specs.Tree.{IsNested, around, holder}

@@ -6,7 +6,7 @@ use Rattle.core_charts.specs.declared.region.State.{State}
 use Rattle.core_charts.specs.declared.region.Region.TheOpen.{Region-F, State-F}
 use Rattle.core_charts.specs.declared.region.Region.TheFolds.{fold-Region, fold-State}
 use Rattle.core_charts.specs.Chart.{Chart}
-use Rattle.abort_expansion.specs.Flags.{has_aborts}
+use Rattle.core_charts.specs.Aborts.{has_aborts}
 
 -- of a region or a state with all that is in it: whether a superstate in it has aborts, and whether none of these lies
 -- in another one

@@ -1,3 +1,2 @@
 pub mod Lowering
-pub mod Aborts
 pub mod Inside

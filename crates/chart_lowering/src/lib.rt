@@ -1,7 +1,6 @@
 //! The lowering of charts without aborts to SCL.
 #![tactic(auto)]
 
-mod aborts;
 mod counting;
 mod labels;
 mod lowering;

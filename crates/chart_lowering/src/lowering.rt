@@ -1,13 +1,12 @@
 //! The SCL of a chart.
 
 ghost use Rattle.std.specs.Prelude.{◌≡◌, not, is_some, IfOk, IfSome, map};
-ghost use Rattle.chart_lowering.specs.Aborts.{has_aborts};
+ghost use Rattle.core_charts.specs.Aborts.{chart_has_aborts};
 ghost use Rattle.chart_lowering.specs.Inside.SomeChart.{IsSomeChart};
 ghost use Rattle.chart_lowering.specs.Lowering.{piece_of_region, root, lowered};
 
-use crate::aborts::are_aborts_in;
 use crate::regions::branches_of;
-use core_charts::{Chart, CoreChart, Region, copied_variables};
+use core_charts::{Chart, CoreChart, Region, chart_has_aborts, copied_variables};
 use sc_graph::Variable;
 use sc_values::Name;
 use scl::{Scl, Statement};
@@ -27,12 +26,12 @@ pub fn lower(alloc: Global, chart: &CoreChart) -> Result<Scl, AllocError>
 /// The SCL program of a chart without strong and weak aborts, which is a core chart as it stands. None: it
 /// has some. Err: memory was refused, or the text would have more labels than any memory holds.
 pub fn lower_without_aborts(alloc: Global, chart: &Chart) -> Result<Option<Scl>, AllocError>
-    ensures variant { IfOk result (λ made. is_some made ≡ not (has_aborts chart.now)) }
+    ensures variant { IfOk result (λ made. is_some made ≡ not (chart_has_aborts chart.now)) }
     ensures name { IfOk result (λ made. IfSome made (λ text. text.name ≡ chart.now.name)) }
     ensures variables { IfOk result (λ made. IfSome made (λ text. text.variables ≡ chart.now.variables)) }
     ensures body { IfOk result (λ made. IfSome made (λ text. text.body ≡ lowered chart.now)) }
 {
-    if are_aborts_in(chart.regions()) {
+    if chart_has_aborts(chart) {
         return Ok(None);
     }
     let text = program(alloc, chart.name(), chart.variables(), chart.regions())?;

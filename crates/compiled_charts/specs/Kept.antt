@@ -3,12 +3,12 @@ use Rattle.std.specs.Prelude.{ℕ, ◌≡◌, false, Option, List, length, take}
 use Rattle.sc_graph.specs.declared.control.Control.{Control}
 use Rattle.sc_graph.specs.Tick.{Inputs}
 use Rattle.core_charts.specs.Chart.{Chart}
+use Rattle.core_charts.specs.Aborts.{chart_has_aborts}
 use Rattle.chart_machine.specs.declared.standing.Configuration.{Configuration}
 use Rattle.chart_machine.specs.declared.table.Table.{Table}
 use Rattle.chart_machine.specs.Table.{table}
 use Rattle.chart_machine.specs.Machine as chart
 use Rattle.abort_expansion.specs.Expansion.{expanded}
-use Rattle.chart_lowering.specs.Aborts.{has_aborts}
 use Rattle.chart_lowering_laws.specs.Keeps.{Reaction, EachPair}
 use Rattle.node_states.specs.Active.{active_states, numbers_where}
 use Rattle.node_states.specs.Nodes.{state_of_node}
@@ -35,7 +35,7 @@ pub record IsReactionSeen (c : Chart) (nodes : List (Option ℕ)) (states : ℕ)
 -- the core chart's reaction is seen in these configurations, and where the chart has no aborts so is that of the chart
 pub record ShowsReaction (c : Chart) (x : CompiledChart) (ticks : List Inputs) (controls : List Control) : Type 0 where
   pub core : IsReactionSeen (expanded c) (state_of_node (expanded c)) (length (table (expanded c)).states) ticks controls
-  pub without_aborts : has_aborts c ≡ false → IsReactionSeen c x.nodes x.states ticks controls
+  pub without_aborts : chart_has_aborts c ≡ false → IsReactionSeen c x.nodes x.states ticks controls
 
 -- of whichever chart this was compiled
 abbrev pub ShowsItsReaction : CompiledChart → List Inputs → List Control → Type 0

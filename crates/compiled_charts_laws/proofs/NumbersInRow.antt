@@ -1,8 +1,9 @@
 -- Numbers in a row, and what holds of no item of a list.
 use Rattle.std.proofs.Common.{◌≡◌, ℕ, zero, suc, ◌+◌, ◌<◌, Bool, true, false, ◌||◌, Option, Some, List, [], ◌∷◌, ◌++◌, map, slice_get, refl, ap, ◌∙◌, arith}
 use Rattle.std.specs.List.{list_any}
+use Rattle.std.proofs.lemmas.Bool.{or_parts}
 use Rattle.sc_text.proofs.EachItem.{Each}
-use Rattle.chart_lowering.specs.Aborts.{some_of}
+use Rattle.core_charts.specs.Aborts.{some_of}
 
 -- numbers in a row, from this one on
 abbrev pub numbers_from : ℕ → ℕ → List (Option ℕ)
@@ -26,21 +27,9 @@ number_at (suc count) n (suc s) less =
     let same : suc n + s ≡ n + suc s = omega arith in
     number_at count (suc n) s (omega (arith, less)) ∙ ap (λ m. Some (Some m)) same
 
-pub none_of : (a b : Bool) → (a || b) ≡ false → (a ≡ false) × (b ≡ false)
-none_of true b h = absurd cc
-none_of false b h = (refl, h)
-
-pub neither : {A : Type 0} (f g : A → Bool) (xs : List A) → list_any (λ x. f x || g x) xs ≡ false → (list_any f xs ≡ false) × (list_any g xs ≡ false)
-neither f g [] h = (refl, refl)
-neither f g (x ∷ xs) h =
-    let first : ((f x || g x) ≡ false) × (list_any (λ x. f x || g x) xs ≡ false) = none_of (f x || g x) (list_any (λ x. f x || g x) xs) h in
-    let both : (f x ≡ false) × (g x ≡ false) = none_of (f x) (g x) first.0 in
-    let rest : (list_any f xs ≡ false) × (list_any g xs ≡ false) = neither f g xs first.1 in
-    (ap (λ b. b || list_any f xs) both.0 ∙ rest.0, ap (λ b. b || list_any g xs) both.1 ∙ rest.1)
-
 pub none_among : {A : Type 0} (f : A → Bool) (xs : List A) → some_of (map f xs) ≡ false → Each (λ x. f x ≡ false) xs
 none_among f [] h = tt
-none_among f (x ∷ xs) h = let both : (f x ≡ false) × (some_of (map f xs) ≡ false) = none_of (f x) (some_of (map f xs)) h in (both.0, none_among f xs both.1)
+none_among f (x ∷ xs) h = let both : (f x ≡ false) × (some_of (map f xs) ≡ false) = or_parts (f x) (some_of (map f xs)) h in (both.0, none_among f xs both.1)
 
 pub map_same : {A : Type 0} (f : A → A) (xs : List A) → Each (λ x. f x ≡ x) xs → map f xs ≡ xs
 map_same f [] h = refl

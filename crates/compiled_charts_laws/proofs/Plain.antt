@@ -4,6 +4,7 @@ use Rattle.std.proofs.Common.{◌&&◌, if◌then◌else◌, Some, None, List, [
 use Rattle.std.proofs.Common.{slice_get, unwrap_or, refl, sym, ap, subst, ◌∙◌, arith}
 use Rattle.std.proofs.lemmas.List.{append-nil}
 use Rattle.std.specs.List.{list_any}
+use Rattle.std.proofs.lemmas.Bool.{or_parts}
 use Rattle.sc_graph.specs.declared.program.Variable.{Variable}
 use Rattle.sc_text.proofs.EachItem.{Each, each_of}
 use Rattle.core_charts.specs.declared.features.Features.TheVariants as features
@@ -15,14 +16,14 @@ use Rattle.core_charts.specs.declared.region.Region.TheViews.{roll-State, out-Re
 use Rattle.core_charts.specs.declared.region.Region.TheFolds.{fold_out-Region, fold_out-State}
 use Rattle.core_charts.specs.Chart.{Chart}
 use Rattle.core_charts.specs.Rules.{IsChart, AreRegions, IsRegion, IsBareIfFinal, depth_limit}
-use Rattle.core_charts.specs.Tests.{is_strong, is_weak}
+use Rattle.core_charts.specs.Aborts.{has_strong, has_weak, has_aborts, some_of, region_aborts, state_aborts, region_has_aborts, state_has_aborts, chart_has_aborts}
 use Rattle.node_states.specs.Nodes as row
 use Rattle.abort_expansion.specs.declared.flags.Flags.{Flags}
 use Rattle.abort_expansion.specs.declared.places.Places.{Places}
 use Rattle.abort_expansion.specs.declared.pieces.States.{States}
 use Rattle.abort_expansion.specs.declared.pieces.Regions.{Regions}
 use Rattle.abort_expansion.specs.declared.pieces.Numbers.{Numbers}
-use Rattle.abort_expansion.specs.Flags.{flags_of, has_aborts, has_strong, has_weak, has_join, given, one, is_there, aborts_around, weak_around}
+use Rattle.abort_expansion.specs.Flags.{flags_of, has_join, given, one, is_there, aborts_around, weak_around}
 use Rattle.abort_expansion.specs.Transitions.{led, counting, place_of, check, strong_checks, weak_checks, on, count_down}
 use Rattle.abort_expansion.specs.Pieces.{RegionPiece, StatePiece, beside, together, expanded_regions, states_in, past_region}
 use Rattle.abort_expansion.specs.Superstates.{simple, stays, as_it_is, split, within}
@@ -30,9 +31,7 @@ use Rattle.abort_expansion.specs.StateMap.{chart_state}
 use Rattle.abort_expansion.specs.Expansion.{region_piece, state_piece, piece_of_region, piece_of_state, places, region_places, expanded_states, states_among}
 use Rattle.abort_expansion.specs.Expansion.{made, width, superstate, inside_region, past_state}
 use Rattle.abort_expansion.specs.Expansion.{expansion, expanded, state_map, whole}
-use Rattle.chart_lowering.specs.Aborts.{is_abort, some_of, region_aborts, state_aborts, aborts_in_region, aborts_in_state}
-use Rattle.chart_lowering.specs.Aborts.{has_aborts as chart_has_aborts}
-use Rattle.compiled_charts_laws.proofs.NumbersInRow.{numbers_from, more_numbers, number_at, none_of, neither, none_among, map_same}
+use Rattle.compiled_charts_laws.proofs.NumbersInRow.{numbers_from, more_numbers, number_at, none_among, map_same}
 
 -- ---- superstates around that have no aborts
 
@@ -210,23 +209,20 @@ module _ (name : List ℕ) (is_initial is_final : Bool) (regions : List Region) 
   state_width (r ∷ rs) around plain =
       ap (λ b. if b then 1 else if Rattle.abort_expansion.specs.Superstates.is_prepared around all then 3 else 2) (stays_so around plain)
 
-state_stays : (s : State) → IsBareIfFinal s → aborts_in_state s ≡ false → (some_of (map aborts_in_region (out-State s).regions) ≡ false →
+state_stays : (s : State) → IsBareIfFinal s → state_has_aborts s ≡ false → (some_of (map region_has_aborts (out-State s).regions) ≡ false →
     Each RegionStays (out-State s).regions) → StateStays s
 state_stays s bare none inside =
-    let here : (list_any is_abort (out-State s).transitions || some_of (map aborts_in_region (out-State s).regions)) ≡ false =
+    let here : (has_aborts (out-State s).transitions || some_of (map region_has_aborts (out-State s).regions)) ≡ false =
     sym (fold_out-State Bool Bool region_aborts state_aborts s) ∙ none in
-    let both : (list_any is_abort (out-State s).transitions ≡ false) × (some_of (map aborts_in_region (out-State s).regions) ≡ false) =
-    none_of (list_any is_abort (out-State s).transitions) (some_of (map aborts_in_region (out-State s).regions)) here in
-    let each : (has_strong (out-State s).transitions ≡ false) × (has_weak (out-State s).transitions ≡ false) =
-    neither (λ t. is_strong t.kind) (λ t. is_weak t.kind) (out-State s).transitions both.0 in
-    let no_aborts : has_aborts (out-State s).transitions ≡ false = ap (λ b. b || has_weak (out-State s).transitions) each.0 ∙ each.1 in
+    let both : (has_aborts (out-State s).transitions ≡ false) × (some_of (map region_has_aborts (out-State s).regions) ≡ false) =
+    or_parts (has_aborts (out-State s).transitions) (some_of (map region_has_aborts (out-State s).regions)) here in
     let regions : Each RegionStays (out-State s).regions = inside both.1 in
     let fold : piece_of_state s ≡ state_piece (opened (out-State s).name (out-State s).is_initial (out-State s).is_final (out-State s).regions
-    (out-State s).transitions bare no_aborts regions (out-State s).regions) = fold_out-State RegionPiece StatePiece region_piece state_piece s in
+    (out-State s).transitions bare both.0 regions (out-State s).regions) = fold_out-State RegionPiece StatePiece region_piece state_piece s in
     record {
       made = λ around plain to stay place begins at.
           subst (λ (p : StatePiece). p.made around to place begins at ≡ as_state s begins at.state p.states) (sym fold)
-          (state_made (out-State s).name (out-State s).is_initial (out-State s).is_final (out-State s).regions (out-State s).transitions bare no_aborts regions
+          (state_made (out-State s).name (out-State s).is_initial (out-State s).is_final (out-State s).regions (out-State s).transitions bare both.0 regions
           (out-State s).regions refl around plain to stay place begins at);
       width = λ around plain.
           ap (λ (p : StatePiece). p.width around) fold
@@ -342,23 +338,23 @@ module _ (variables : List Variable) (AreInside : List Region → Type 0) (r : R
 -- ---- charts
 
 regions_stay : (variables : List Variable) (levels : ℕ) (regions : List Region) → AreRegions features.Extended variables levels regions →
-    some_of (map aborts_in_region regions) ≡ false → Each RegionStays regions
+    some_of (map region_has_aborts regions) ≡ false → Each RegionStays regions
 regions_stay variables zero regions h none = subst (Each RegionStays) (sym h) tt
 regions_stay variables (suc levels) regions h none =
-    let each : Each (λ r. aborts_in_region r ≡ false) regions = none_among aborts_in_region regions none in
+    let each : Each (λ r. region_has_aborts r ≡ false) regions = none_among region_has_aborts regions none in
     each_of RegionStays regions (λ i r at. one r (h.each i r at)
-    (Rattle.sc_text.proofs.EachItem.each_at (λ r. aborts_in_region r ≡ false) regions each i r at) (regions_stay variables levels))
+    (Rattle.sc_text.proofs.EachItem.each_at (λ r. region_has_aborts r ≡ false) regions each i r at) (regions_stay variables levels))
   where
-    one : (r : Region) → IsRegion features.Extended variables (AreRegions features.Extended variables levels) r → aborts_in_region r ≡ false →
-        ((rs : List Region) → AreRegions features.Extended variables levels rs → some_of (map aborts_in_region rs) ≡ false → Each RegionStays rs) →
+    one : (r : Region) → IsRegion features.Extended variables (AreRegions features.Extended variables levels) r → region_has_aborts r ≡ false →
+        ((rs : List Region) → AreRegions features.Extended variables levels rs → some_of (map region_has_aborts rs) ≡ false → Each RegionStays rs) →
         RegionStays r
     one r rules quiet inner =
         let states : List State = (out-Region r).states in
-        let none : Each (λ s. aborts_in_state s ≡ false) states = none_among aborts_in_state states
+        let none : Each (λ s. state_has_aborts s ≡ false) states = none_among state_has_aborts states
         (sym (fold_out-Region Bool Bool region_aborts state_aborts r) ∙ quiet) in
         region_stays variables (AreRegions features.Extended variables levels) r rules
         (each_of StateStays states (λ i s at. state_stays s (rules.states i s at).bare
-        (Rattle.sc_text.proofs.EachItem.each_at (λ s. aborts_in_state s ≡ false) states none i s at)
+        (Rattle.sc_text.proofs.EachItem.each_at (λ s. state_has_aborts s ≡ false) states none i s at)
         (λ quiet. inner (out-State s).regions (rules.states i s at).regions quiet)))
 
 module _ (c : Chart) (rules : IsChart features.Extended c) (none : chart_has_aborts c ≡ false) where

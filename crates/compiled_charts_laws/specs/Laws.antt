@@ -5,13 +5,13 @@ use Rattle.sc_graph.specs.Valid.{IsFormed, IsValid}
 use Rattle.core_charts.specs.declared.features.Features.TheVariants as features
 use Rattle.core_charts.specs.Chart.{Chart}
 use Rattle.core_charts.specs.Rules.{IsChart}
+use Rattle.core_charts.specs.Aborts.{chart_has_aborts}
 use Rattle.chart_machine.specs.Table.{table}
 use Rattle.scl.specs.declared.program.Scl.{Scl}
 use Rattle.scl.specs.Numbering.{numbered}
 use Rattle.scl_graph.specs.Graph.{program_of}
 use Rattle.abort_expansion.specs.Expansion.{expanded, state_map}
 use Rattle.abort_expansion.specs.StateMap.{chart_state}
-use Rattle.chart_lowering.specs.Aborts.{has_aborts}
 use Rattle.node_states.specs.Nodes.{state_of_node, state_count}
 use Rattle.chart_lowering_laws.specs.Laws.{IsLowering}
 use Rattle.chart_lowering_laws.specs.Marks.{layout}
@@ -42,4 +42,4 @@ pub record IsItsOwnCore (c : Chart) : Type 0 where
 
 -- one without aborts is
 abbrev pub ChartsWithoutAbortsStay : Type 0
-ChartsWithoutAbortsStay = (c : Chart) → IsChart features.Extended c → has_aborts c ≡ false → IsItsOwnCore c
+ChartsWithoutAbortsStay = (c : Chart) → IsChart features.Extended c → chart_has_aborts c ≡ false → IsItsOwnCore c

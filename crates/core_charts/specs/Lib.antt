@@ -1,3 +1,4 @@
 pub mod Chart
 pub mod Tests
+pub mod Aborts
 pub mod Rules

@@ -1,12 +1,14 @@
 //! Charts: regions of states with transitions, strong and weak aborts and terminations, their rules and limits.
 #![tactic(auto)]
 
+mod aborts;
 mod chart;
 mod copies;
 mod features;
 mod region;
 mod rules;
 
+pub use aborts::{chart_has_aborts, has_aborts, has_strong, has_weak};
 pub use chart::{Chart, CoreChart};
 pub use copies::{copied_effects, copied_transitions, copied_variables};
 pub use features::{

@@ -5,7 +5,7 @@ use Rattle.core_charts.specs.declared.region.Region.{Region}
 use Rattle.core_charts.specs.declared.region.State.{State}
 use Rattle.core_charts.specs.declared.region.Region.TheViews.{out-Region, out-State}
 use Rattle.core_charts.specs.declared.region.Region.TheFolds.{fold_out-Region, fold_out-State}
-use Rattle.abort_expansion.specs.Flags.{has_aborts}
+use Rattle.core_charts.specs.Aborts.{has_aborts}
 use Rattle.abort_expansion_laws.specs.Flat.{Nesting, region_nesting, state_nesting, nesting_of_region, nesting_of_state}
 
 any_mapped : {A B : Type 0} (f : B → Bool) (g : A → B) (xs : List A) → list_any f (map g xs) ≡ list_any (λ x. f (g x)) xs

@@ -2,10 +2,9 @@
 
 ghost use Rattle.std.specs.Prelude.{◌≡◌, ◌↔◌, ◌&&◌, ◌||◌, not, IsTrue};
 ghost use Rattle.std.specs.List.{list_all, list_any};
-ghost use Rattle.abort_expansion.specs.Flags.{has_aborts, has_strong, has_weak};
 ghost use Rattle.abort_expansion_laws.specs.Flat.{IsFlat, nesting_of_region, nesting_of_state};
 
-use core_charts::{Chart, Region, State, Transition};
+use core_charts::{Chart, Region, State, has_aborts};
 
 // Of a piece of a chart: whether a superstate in it has aborts, and whether none of these lies in another one.
 #[derive(Clone, Copy)]
@@ -73,27 +72,4 @@ fn around(aborts: bool, inside: Nesting) -> Nesting
         has_some: aborts || inside.has_some,
         is_flat: inside.is_flat && !(aborts && inside.has_some),
     }
-}
-
-// Whether there is a strong or a weak abort among these transitions.
-fn has_aborts(transitions: &[Transition]) -> bool
-    ensures { result ≡ has_aborts transitions.now }
-{
-    has_strong(transitions) || has_weak(transitions)
-}
-
-fn has_strong(transitions: &[Transition]) -> bool
-    ensures { result ≡ has_strong transitions.now }
-{
-    transitions
-        .iter()
-        .any(|transition| transition.kind.is_strong())
-}
-
-fn has_weak(transitions: &[Transition]) -> bool
-    ensures { result ≡ has_weak transitions.now }
-{
-    transitions
-        .iter()
-        .any(|transition| transition.kind.is_weak())
 }
