@@ -16,6 +16,8 @@ use text_continuations::{Continuations, continuations_of};
 // How many bytes may stand before a place of which is told what could stand there: they are read some fifty times.
 const LONGEST: usize = 262_144;
 
+const TRANSITIONS: &str = "a transition begins with `go`, and that of a superstate with `strong`, `weak` or `join`";
+
 // What helps where the text ends too early.
 fn cure_at_end(alloc: Global, language: Language, text: &str) -> Result<String, AllocError> {
     match last_open(alloc, language, text)? {
@@ -34,37 +36,65 @@ fn cure_at_end(alloc: Global, language: Language, text: &str) -> Result<String, 
     }
 }
 
-// What helps where a sign stands that other languages have, or that has its place elsewhere.
-fn cure_of_sign(text: &str, at: usize, could: &Continuations) -> Option<&'static str> {
-    if stands_at(text, at, "==") {
-        return if has_sign(could, Sign::Becomes) {
-            Some("a value is given by `=`, and `==` compares two")
-        } else {
-            None
-        };
+// What helps where a sign stands that has its place elsewhere.
+fn cure_of_own_sign(text: &str, at: usize, could: &Continuations) -> Option<&'static str> {
+    if stands_at(text, at, "==") && has_sign(could, Sign::Becomes) {
+        return Some("a value is given by `=`, and `==` compares two");
     }
-    if stands_at(text, at, "=>") || !stands_at(text, at, "=") {
-        return if stands_at(text, at, "!=") {
-            None
-        } else {
-            for_sign(text, at)
-        };
+    if stands_at(text, at, "->") && has_word(could, Word::Go) {
+        return Some(TRANSITIONS);
     }
-    if goes_on_expression(could) {
+    if stands_at(text, at, ";") && has_sign(could, Sign::Arrow) {
+        return Some("a transition leads to a state by `->`, and its effects stand apart by `,`");
+    }
+    if is_comparison(text, at) && goes_on_expression(could) {
+        return Some("two comparisons stand apart by `and` or `or`: write `1 < x and x < 5`");
+    }
+    if stands_at(text, at, "=") && goes_on_expression(could) {
         return Some("two values are compared by `==`, and `=` gives a value");
     }
-    if has_sign(could, Sign::Semicolon) {
-        return Some(
-            "a variable begins with false or 0: give it another value in the first transition or step",
-        );
+    if stands_at(text, at, "=") && has_sign(could, Sign::Semicolon) {
+        return Some("a variable begins with false or 0: give it another value in the first transition or step");
     }
     None
+}
+
+const COMPARISONS: [&str; 6] = ["==", "!=", "<=", ">=", "<", ">"];
+
+// Whether two values are compared by what stands there.
+fn is_comparison(text: &str, at: usize) -> bool {
+    for sign in COMPARISONS {
+        if stands_at(text, at, sign) {
+            return true;
+        }
+    }
+    false
+}
+
+// What helps where a sign stands that other languages have, or that has its place elsewhere.
+fn cure_of_sign(text: &str, at: usize, could: &Continuations) -> Option<&'static str> {
+    if stands_at(text, at, "=>") {
+        return for_sign(text, at);
+    }
+    match cure_of_own_sign(text, at, could) {
+        Some(written) => Some(written),
+        None if is_comparison(text, at) => None,
+        None => for_sign(text, at),
+    }
 }
 
 // Whether this is the word `state`.
 fn is_state(token: Option<TokenKind>) -> bool {
     match token {
         Some(TokenKind::Word(Word::State)) => true,
+        _ => false,
+    }
+}
+
+// Whether this is a comma.
+fn is_comma(token: Option<TokenKind>) -> bool {
+    match token {
+        Some(TokenKind::Sign(Sign::Comma)) => true,
         _ => false,
     }
 }
@@ -91,7 +121,13 @@ fn cure_of_reserved(
             "a variable is declared by `input`, `output` or `local` before its kind",
         );
     }
-    if could.name {
+    if has_word(could, Word::Go) && (word == Word::If || word == Word::Do || word == Word::Immediate) {
+        return String::from_str(alloc, TRANSITIONS);
+    }
+    if word == Word::Do && could.name && is_comma(before) {
+        return String::from_str(alloc, "`do` stands once, before the first effect");
+    }
+    if could.name && !begins_expression(could) {
         return format!(in alloc; "`{text}` is a word of the language: take another name");
     }
     Ok(String::new(alloc))
@@ -160,11 +196,23 @@ fn cure(
         None if name.is_empty() => String::new(alloc),
         None => cure_of_name(alloc, name.as_str(), could)?,
     };
-    if told.is_empty() {
-        String::from_str(alloc, cure_at_least(could))
-    } else {
-        Ok(told)
+    if !told.is_empty() {
+        return Ok(told);
     }
+    if has_sign(could, Sign::CloseParenthesis) {
+        return cure_at_end(alloc, language, front_of(text, at));
+    }
+    String::from_str(alloc, cure_at_least(could))
+}
+
+// The words for what stands first in a text.
+fn first_words(alloc: Global, found: &str) -> Result<Words, AllocError> {
+    let cause = format!(in alloc; "found {found}, expected `chart` or `scl`")?;
+    let cure = String::from_str(
+        alloc,
+        "a text begins with `chart` or with `scl`, and a name; the words of the language are in small letters",
+    )?;
+    Ok(Words { cause, cure })
 }
 
 /// The words for a byte of a text where it cannot go on: what was found, what could stand there, and what helps. Err:
@@ -177,7 +225,11 @@ pub(crate) fn grammar_words(alloc: Global, text: &str, at: usize) -> Result<Word
         return Ok(Words { cause, cure });
     }
     let language = language_of(text);
-    let could = continuations_of(alloc, language, front_of(text, at))?;
+    let front = front_of(text, at);
+    if last_token(alloc, language, front)?.is_none() {
+        return first_words(alloc, found.as_str());
+    }
+    let could = continuations_of(alloc, language, front)?;
     let expected = expected(alloc, &could)?;
     let cause = if expected.is_empty() {
         format!(in alloc; "found {found} behind the end of the program")?

@@ -7,6 +7,7 @@ mod expected;
 mod found;
 mod fronts;
 mod grammar_words;
+mod limit_words;
 mod lines;
 mod near_names;
 mod nodes;

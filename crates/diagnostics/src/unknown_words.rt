@@ -30,7 +30,7 @@ const LABEL: Sought = Sought {
 };
 
 // What is looked up behind this token.
-fn sought(before: Option<TokenKind>) -> Sought {
+fn sought_behind(before: Option<TokenKind>) -> Sought {
     match before {
         Some(TokenKind::Sign(Sign::Arrow)) => STATE,
         Some(TokenKind::Word(Word::Goto)) => LABEL,
@@ -60,7 +60,7 @@ fn cure(
 pub(crate) fn unknown_words(alloc: Global, text: &str, at: usize) -> Result<Words, AllocError> {
     let language = language_of(text);
     let name = name_at(alloc, text, at)?;
-    let sought = sought(last_token(alloc, language, front_of(text, at))?);
+    let sought = sought_behind(last_token(alloc, language, front_of(text, at))?);
     let what = sought.what;
     let cause = format!(in alloc; "no {what} is named `{name}`")?;
     let cure = cure(alloc, language, text, name.as_str(), sought)?;

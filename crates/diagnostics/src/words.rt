@@ -2,6 +2,7 @@
 
 use crate::found::found;
 use crate::grammar_words::grammar_words;
+use crate::limit_words::limit_words;
 use crate::lines::name_at;
 use crate::rule_words::{repeated_words, rule_words};
 use crate::spellings::for_sign;
@@ -45,11 +46,19 @@ fn token_cause(alloc: Global, text: &str, at: usize) -> Result<String, AllocErro
     }
 }
 
+// What helps where no token stands.
+fn token_cure(text: &str, at: usize) -> &'static str {
+    match text.as_bytes().get(at) {
+        Some(b'_') => "let it begin with a letter",
+        Some(byte) if byte.is_ascii_digit() => "leave the 0 away: numbers are to the base of ten",
+        _ => for_sign(text, at).unwrap_or("write it otherwise; outside comments all is ASCII"),
+    }
+}
+
 // The words for a place where no token stands.
 fn token_words(alloc: Global, text: &str, at: usize) -> Result<Words, AllocError> {
     let cause = token_cause(alloc, text, at)?;
-    let written = for_sign(text, at).unwrap_or("write it otherwise; outside comments all is ASCII");
-    let cure = String::from_str(alloc, written)?;
+    let cure = String::from_str(alloc, token_cure(text, at))?;
     Ok(Words { cause, cure })
 }
 
@@ -71,10 +80,6 @@ pub(crate) fn words_of(
             "truth values and numbers do not mix: write `x != 0` for a test of a number",
         ),
         Broken::Rule => rule_words(alloc, text, at),
-        Broken::Limit => Words::of(
-            alloc,
-            "a limit is passed: what begins here is one too many or too large, or it nests one level too deep",
-            "split it: a local variable for a part of an expression, a thread for some of the branches",
-        ),
+        Broken::Limit => limit_words(alloc, text, at),
     }
 }

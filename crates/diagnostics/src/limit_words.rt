@@ -1,0 +1,64 @@
+//! A limit that is passed, in words.
+
+use crate::fronts::{front_of, last_token};
+use crate::lines::name_at;
+use crate::words::Words;
+use sc_text::{ReadFault, TokenKind, Word, language_of, tokens};
+use std::alloc::{AllocError, Global};
+
+const ANY: &str = "a limit is passed: what begins here is one too many or too large, or it nests one level too deep";
+
+// A number or a name that is too long, by its first byte.
+fn long_token(first: Option<u8>) -> &'static str {
+    match first {
+        Some(b'0'..=b'9') => "a number is at most 2147483647",
+        _ => "a name has at most 64 characters",
+    }
+}
+
+// What is one too many or too deep, where a word tells it.
+fn limit_of_word(word: Word) -> &'static str {
+    match word {
+        Word::Region => "regions nest one level too deep",
+        Word::Fork => "forks nest one level too deep",
+        Word::If => "ifs nest one level too deep",
+        Word::Par => "one branch too many",
+        Word::Go | Word::Strong | Word::Weak | Word::Join => "one transition too many",
+        _ => ANY,
+    }
+}
+
+// What is one too many, where the word before its name tells it.
+fn limit_of_name(before: Option<TokenKind>) -> &'static str {
+    match before {
+        Some(TokenKind::Word(Word::Region)) => "one region too many",
+        Some(TokenKind::Word(Word::State)) => "one state too many",
+        Some(TokenKind::Word(Word::Bool | Word::Int)) => "one variable too many",
+        _ => ANY,
+    }
+}
+
+// What passes a limit at a byte of a text.
+fn limit_at(alloc: Global, text: &str, at: usize) -> Result<&'static str, AllocError> {
+    let language = language_of(text);
+    match tokens(alloc, language, text) {
+        Ok(_) => {
+            let name = name_at(alloc, text, at)?;
+            match Word::of(name.as_bytes()) {
+                Some(word) => Ok(limit_of_word(word)),
+                None => Ok(limit_of_name(last_token(alloc, language, front_of(text, at))?)),
+            }
+        }
+        Err(ReadFault::Text(..)) => Ok(long_token(text.as_bytes().get(at).copied())),
+        Err(ReadFault::Memory) => Err(AllocError),
+    }
+}
+
+/// The words for a byte of a text at which a limit is passed. Err: memory was refused.
+pub(crate) fn limit_words(alloc: Global, text: &str, at: usize) -> Result<Words, AllocError> {
+    Words::of(
+        alloc,
+        limit_at(alloc, text, at)?,
+        "split it: a local variable for a part of an expression, a thread for some of the branches",
+    )
+}
