@@ -1,5 +1,5 @@
 -- Which variables transitions ask for and set, and which transitions stand inside regions.
-use Rattle.std.specs.Prelude.{ℕ, zero, ◌≡◌, Bool, true, false, not, ◌&&◌, nat_eq, ℤ, pos, Option, Some, None, List, [], ◌∷◌, ◌++◌, map, if◌then◌else◌}
+use Rattle.std.specs.Prelude.{ℕ, Bool, false, not, nat_eq, ℤ, pos, Option, Some, None, List, [], ◌∷◌, ◌++◌, map, if◌then◌else◌}
 use Rattle.std.specs.Ordering.{int_eq}
 use Rattle.std.specs.List.{list_any, filter, flat_map}
 use Rattle.sc_values.specs.declared.value.Value.{Value}
@@ -92,9 +92,12 @@ pub record Entry : Type 0 where
   pub is_initial : Bool
   pub transitions : List Transition
 
+abbrev pub when_initial : Entry → List Transition
+when_initial s = if s.is_initial then s.transitions else []
+
 abbrev pub entered : List Entry → List Transition
 entered [] = []
-entered (s ∷ others) = (if s.is_initial then s.transitions else []) ++ entered others
+entered (s ∷ others) = when_initial s ++ entered others
 
 abbrev pub region_entry : Region-F (List Transition) Entry → List Transition
 region_entry r = entered r.states

@@ -1,7 +1,8 @@
 //! Transitions that are never taken, since another one of their state is.
 
 ghost use Rattle.std.specs.Prelude.{◌≡◌};
-ghost use Rattle.chart_warnings.specs.Warnings.{forestalls, goes_before, is_always, is_first, is_forestalled, is_sure, turn};
+ghost use Rattle.chart_warnings.specs.Warnings.{forestalls, goes_before, is_always, is_first, is_forestalled};
+ghost use Rattle.chart_warnings.specs.Warnings.{is_sure, turn};
 
 use core_charts::{Transition, TransitionKind};
 use sc_values::Expr;

@@ -2,7 +2,8 @@
 
 ghost use Rattle.std.specs.Prelude.{◌≡◌, IfOk, map};
 ghost use Rattle.core_charts.specs.Tests.{at_once};
-ghost use Rattle.chart_warnings.specs.Names.{entered, entry_of_region, entry_of_state, joined, within, within_region, within_state};
+ghost use Rattle.chart_warnings.specs.Names.{entered, entry_of_region, entry_of_state, joined};
+ghost use Rattle.chart_warnings.specs.Names.{within, within_region, within_state};
 ghost use Rattle.chart_warnings.specs.Inside.Marks.{Tells, all_by, marked};
 
 use crate::marks::unmarked;

@@ -10,7 +10,7 @@ use crate::marks::mark;
 use sc_values::{Expr, Value};
 
 /// Marks the variables of an expression, but for this one.
-#[tactic(auto, using(crate::proofs::Marking::marked_filtered))]
+#[tactic(auto, using(crate::proofs::Marking::binary_marked))]
 pub(crate) fn mark_reads(expr: &Expr, besides: Option<u16>, marks: &mut Vec<bool>)
     ensures { marks.new.items ≡ marked (filter (is_besides besides) (variables_of expr.now)) marks.old.items }
 {

@@ -115,7 +115,8 @@ impl<'a> Scene<'a> {
             (length self.variables.now) inside.now.switched.items }
         requires counted { Tells (all_by way.Counted (within (out-State self.state.now).regions))
             (length self.variables.now) inside.now.counted.items }
-        ensures { OnOk result (warnings.new ≡ warnings.old ++ of_outputs (within (out-State self.entry.state.now).regions)
+        ensures { OnOk result (warnings.new ≡ warnings.old
+            ++ of_outputs (within (out-State self.entry.state.now).regions)
             (comes_with self.entry.states.now transition.now) self.entry.number place 0 self.entry.variables.now) }
     {
         let after = self.set_after(alloc, transition)?;
