@@ -1,0 +1,4 @@
+pub mod Codes
+pub mod Names
+pub mod Warnings
+pub mod Inside
