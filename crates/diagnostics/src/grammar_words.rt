@@ -16,7 +16,8 @@ use text_continuations::{Continuations, continuations_of};
 // How many bytes may stand before a place of which is told what could stand there: they are read some fifty times.
 const LONGEST: usize = 262_144;
 
-const TRANSITIONS: &str = "a transition begins with `go`, and that of a superstate with `strong`, `weak` or `join`";
+const TRANSITIONS: &str =
+    "a transition begins with `go`, and that of a superstate with `strong`, `weak` or `join`";
 
 // What helps where the text ends too early.
 fn cure_at_end(alloc: Global, language: Language, text: &str) -> Result<String, AllocError> {
@@ -54,7 +55,9 @@ fn cure_of_own_sign(text: &str, at: usize, could: &Continuations) -> Option<&'st
         return Some("two values are compared by `==`, and `=` gives a value");
     }
     if stands_at(text, at, "=") && has_sign(could, Sign::Semicolon) {
-        return Some("a variable begins with false or 0: give it another value in the first transition or step");
+        return Some(
+            "a variable begins with false or 0: give it another value in the first transition or step",
+        );
     }
     None
 }
@@ -121,7 +124,9 @@ fn cure_of_reserved(
             "a variable is declared by `input`, `output` or `local` before its kind",
         );
     }
-    if has_word(could, Word::Go) && (word == Word::If || word == Word::Do || word == Word::Immediate) {
+    if has_word(could, Word::Go)
+        && (word == Word::If || word == Word::Do || word == Word::Immediate)
+    {
         return String::from_str(alloc, TRANSITIONS);
     }
     if word == Word::Do && could.name && is_comma(before) {

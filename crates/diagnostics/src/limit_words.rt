@@ -6,7 +6,8 @@ use crate::words::Words;
 use sc_text::{ReadFault, TokenKind, Word, language_of, tokens};
 use std::alloc::{AllocError, Global};
 
-const ANY: &str = "a limit is passed: what begins here is one too many or too large, or it nests one level too deep";
+const ANY: &str =
+    "a limit is passed: what begins here is one too many or too large, or it nests one level too deep";
 
 // A number or a name that is too long, by its first byte.
 fn long_token(first: Option<u8>) -> &'static str {
