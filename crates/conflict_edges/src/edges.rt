@@ -10,8 +10,8 @@ ghost use Rattle.sc_graph.specs.Valid.{IsFormed};
 
 use crate::fault::ConflictFault;
 use crate::pairs::find_conflict;
-use program_edges::Users;
-use sc_graph::{ConcurrentThreads, NodeId, Program, Step};
+use program_edges::{Users, has_company};
+use sc_graph::{ConcurrentThreads, Links, NodeId, Program, Step};
 use std::alloc::Global;
 use std::marker::Model;
 
@@ -20,6 +20,7 @@ use std::marker::Model;
 pub struct Edges<'a> {
     program: &'a Program,
     threads: ConcurrentThreads<'a>,
+    links: Links,
     users: Users,
 }
 
@@ -31,7 +32,7 @@ impl<'a> Model for Edges<'a> {
 
     ghost view = { λ e. e.program.now };
 
-    ghost invariant = { λ e. AreHeld e.program.now e.threads e.users };
+    ghost invariant = { λ e. AreHeld e.program.now e.threads e.links e.users };
 }
 
 /// Nodes of which each that is concurrent with a given one must come after it: those that update the
@@ -51,12 +52,14 @@ pub fn conflicts<'a>(alloc: Global, program: &'a Program) -> Result<Edges<'a>, C
     ensures conflict { (m n : ℕ) → result ≡ Err (WriteWrite m n) → WriteConflict program.now m n }
 {
     let threads = ConcurrentThreads::of(alloc, program)?;
+    let links = Links::of(alloc, program)?;
     let users = Users::of(alloc, program)?;
-    match find_conflict(alloc, program, &threads, &users)? {
+    match find_conflict(alloc, program, &threads, &links, &users)? {
         Some((m, n)) => Err(ConflictFault::WriteWrite(m, n)),
         None => Ok(Edges {
             program,
             threads,
+            links,
             users,
         }),
     }
@@ -103,5 +106,12 @@ impl<'a> Edges<'a> {
             (Some(first), Some(second)) => self.threads.are(first, second),
             _ => false,
         }
+    }
+    /// Whether a node may be concurrent with another: where not, it is so with none. It costs a step for each thread
+    /// above it, so that where many pairs are asked for the first of them is asked for this before.
+    pub fn has_company(&self, node: NodeId) -> bool
+        ensures { (other : ℕ) → ConcurrentNodes self.now node other → IsTrue result }
+    {
+        has_company(self.program, &self.links, node)
     }
 }

@@ -4,6 +4,7 @@
 ghost use Rattle.std.specs.Prelude.{◌≡◌, ◌↔◌, IfOk, IsTrue, MatchOption, ℕ, Contains};
 ghost use Rattle.sc_values.specs.Access.{Clash};
 ghost use Rattle.sc_graph.specs.Accesses.{accesses};
+ghost use Rattle.sc_graph.specs.Links.{Tells};
 ghost use Rattle.sc_graph.specs.Protocol.{WriteConflict};
 ghost use Rattle.sc_graph.specs.Threads.{ConcurrentNodes};
 ghost use Rattle.sc_graph.specs.Valid.{IsFormed};
@@ -12,8 +13,8 @@ ghost use Rattle.conflict_edges.specs.Inside.Candidates.{AreAlike};
 ghost use Rattle.program_edges.specs.Users.{InitsAt, Lists, NoConflictOn, NoneConflict, UpdatesAt, UsersOf};
 
 use crate::choosing::candidates;
-use program_edges::Users;
-use sc_graph::{ConcurrentThreads, NodeId, Program, VariableId};
+use program_edges::{Users, has_company};
+use sc_graph::{ConcurrentThreads, Links, NodeId, Program, VariableId};
 use std::alloc::{AllocError, Global};
 
 /// Two nodes of a formed program, the smaller first, that conflict. None: there are none.
@@ -21,10 +22,12 @@ pub(crate) fn find_conflict(
     alloc: Global,
     program: &Program,
     threads: &ConcurrentThreads,
+    links: &Links,
     users: &Users,
 ) -> Result<Option<(NodeId, NodeId)>, AllocError>
     requires formed { IsFormed program.now }
     requires threads { threads.now ≡ program.now }
+    requires told { Tells program.now links.now }
     requires users { UsersOf program.now users.now }
     ensures { IfOk result (λ found. MatchOption found (HasNoConflict program.now)
         (λ s. WriteConflict program.now s.0 s.1)) }
@@ -32,7 +35,7 @@ pub(crate) fn find_conflict(
     for x in 0..program.variable_count() {
         let inits = users.inits.of(x);
         let updates = users.updates.of(x);
-        match conflict_over(alloc, program, threads, x, inits, updates)? {
+        match conflict_over(alloc, program, threads, links, x, inits, updates)? {
             Some(pair) => return Ok(Some(pair)),
             None => {}
         }
@@ -45,22 +48,24 @@ fn conflict_over(
     alloc: Global,
     program: &Program,
     threads: &ConcurrentThreads,
+    links: &Links,
     x: VariableId,
     inits: &[NodeId],
     updates: &[NodeId],
 ) -> Result<Option<(NodeId, NodeId)>, AllocError>
     requires formed { IsFormed program.now }
     requires threads { threads.now ≡ program.now }
+    requires told { Tells program.now links.now }
     requires inits { Lists inits.now (InitsAt program.now x) }
     requires updates { Lists updates.now (UpdatesAt program.now x) }
     ensures { IfOk result (λ found. MatchOption found (NoConflictOn program.now x)
         (λ s. WriteConflict program.now s.0 s.1)) }
 {
-    match conflict_in(alloc, program, threads, inits)? {
+    match conflict_in(alloc, program, threads, links, inits)? {
         Some(pair) => return Ok(Some(pair)),
         None => {}
     }
-    match conflict_in(alloc, program, threads, updates)? {
+    match conflict_in(alloc, program, threads, links, updates)? {
         Some(pair) => Ok(Some(pair)),
         None => Ok(None),
     }
@@ -71,16 +76,18 @@ fn conflict_in(
     alloc: Global,
     program: &Program,
     threads: &ConcurrentThreads,
+    links: &Links,
     nodes: &[NodeId],
 ) -> Result<Option<(NodeId, NodeId)>, AllocError>
     requires formed { IsFormed program.now }
     requires threads { threads.now ≡ program.now }
+    requires told { Tells program.now links.now }
     requires alike { AreAlike program.now nodes.now }
     ensures { IfOk result (λ found. MatchOption found (NoneConflict program.now nodes.now)
         (λ s. WriteConflict program.now s.0 s.1)) }
 {
     let few = candidates(alloc, program, nodes)?;
-    match conflict_among(program, threads, few.as_slice()) {
+    match conflict_among(program, threads, links, few.as_slice()) {
         Some(pair) => Ok(Some(pair)),
         None => Ok(None),
     }
@@ -90,30 +97,39 @@ fn conflict_in(
 fn conflict_among(
     program: &Program,
     threads: &ConcurrentThreads,
+    links: &Links,
     nodes: &[NodeId],
 ) -> Option<(NodeId, NodeId)>
-    requires { threads.now ≡ program.now }
+    requires formed { IsFormed program.now }
+    requires threads { threads.now ≡ program.now }
+    requires told { Tells program.now links.now }
     ensures { MatchOption result (NoneConflict program.now nodes.now) (λ s. WriteConflict program.now s.0 s.1) }
 {
     for m in nodes {
-        if let Some(n) = conflict_with(program, threads, *m, nodes) {
+        if let Some(n) = conflict_with(program, threads, links, *m, nodes) {
             return Some((*m, n));
         }
     }
     None
 }
 
-// One of these nodes that conflicts with a smaller one.
+// One of these nodes that conflicts with a smaller one. A node without company is compared with none.
 fn conflict_with(
     program: &Program,
     threads: &ConcurrentThreads,
+    links: &Links,
     m: NodeId,
     nodes: &[NodeId],
 ) -> Option<NodeId>
-    requires { threads.now ≡ program.now }
+    requires formed { IsFormed program.now }
+    requires threads { threads.now ≡ program.now }
+    requires told { Tells program.now links.now }
     ensures { MatchOption result ((n : ℕ) → Contains nodes.now n → ¬ WriteConflict program.now m n)
         (WriteConflict program.now m) }
 {
+    if !has_company(program, links, m) {
+        return None;
+    }
     for n in nodes {
         if is_conflict(program, threads, m, *n) {
             return Some(*n);

@@ -1,4 +1,5 @@
 mod Pieces
+mod Tallied
 mod Before
 mod Laid
 mod Branching

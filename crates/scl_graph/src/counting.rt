@@ -47,19 +47,3 @@ fn statement_counts(statement: &Statement) -> Option<Counts>
         }
     }
 }
-
-/// What the statements of a text count that is small.
-pub(crate) fn known_counts(statements: &[Statement]) -> Counts
-    requires { AreSmall (counts_of_all statements.now) }
-    ensures { result ≡ counts_of_all statements.now }
-{
-    counts(statements).unwrap()
-}
-
-/// What a statement counts that is small.
-pub(crate) fn known_statement_counts(statement: &Statement) -> Counts
-    requires { AreSmall (counts_of statement.now) }
-    ensures { result ≡ counts_of statement.now }
-{
-    statement_counts(statement).unwrap()
-}

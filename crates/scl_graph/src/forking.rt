@@ -1,14 +1,15 @@
 //! The threads that a text forks, each with its nodes.
 
-ghost use Rattle.std.specs.Prelude.{[], ◌∷◌, IfOk};
+ghost use Rattle.std.specs.Prelude.{◌≡◌, [], ◌∷◌, IfOk, map};
 ghost use Rattle.scl_graph.specs.Counting.{counts_of, counts_of_all};
 ghost use Rattle.scl_graph.specs.Inside.Forking.{AreForkedLaid, IsThreadLaid};
 ghost use Rattle.scl_graph.specs.Inside.Laying.{HasRoom};
+ghost use Rattle.scl_graph.specs.Inside.Tallies.{tally_of};
 
-use crate::counting::{known_counts, known_statement_counts};
 use crate::fault::GraphFault;
 use crate::laying::lay;
 use crate::numbers::Numbers;
+use crate::tallies::{Tally, known_counts, known_statement_counts};
 use crate::way::{Targets, Way, way_of};
 use sc_graph::{Node, Step, Thread, ThreadId};
 use scl::Statement;
@@ -17,39 +18,48 @@ use std::alloc::Global;
 /// Puts the threads that a thread forks in these statements behind the others, and their nodes. Err:
 /// memory was refused, or an expression has more than 64 operations.
 #[cycle(forking)]
+#[tactic(auto, using(crate::proofs::Tallied::tally_at, crate::proofs::Tallied::within_tallies))]
 pub(crate) fn lay_forked<T: Targets>(
     alloc: Global,
     statements: &[Statement],
+    tallies: &[Tally],
     owner: ThreadId,
     at: Numbers,
     targets: &T,
     threads: &mut Vec<Thread>,
     nodes: &mut Vec<Node>,
 ) -> Result<(), GraphFault>
-    requires { HasRoom at (counts_of_all statements.now) }
+    requires room { HasRoom at (counts_of_all statements.now) }
+    requires tallied { tallies.now ≡ map tally_of statements.now }
     ensures { IfOk result (λ _. AreForkedLaid (T.target targets.now) owner statements.now at
         threads.old.items threads.new.items nodes.old.items nodes.new.items) }
 {
     let mut here = at;
-    for statement in statements {
-        lay_forked_by(alloc, statement, owner, here, targets, threads, nodes)?;
-        here = here.past(known_statement_counts(statement));
+    for (i, statement) in statements.iter().enumerate() {
+        let tally = &tallies[i];
+        lay_forked_by(
+            alloc, statement, tally, owner, here, targets, threads, nodes,
+        )?;
+        here = here.past(known_statement_counts(statement, tally));
     }
     Ok(())
 }
 
 // Puts the threads that a statement forks behind the others, and their nodes.
 #[cycle(forking)]
+#[tactic(auto, using(crate::proofs::Tallied::first_part, crate::proofs::Tallied::second_part, crate::proofs::Tallied::branch_part, crate::proofs::Tallied::fork_is))]
 fn lay_forked_by<T: Targets>(
     alloc: Global,
     statement: &Statement,
+    tally: &Tally,
     owner: ThreadId,
     at: Numbers,
     targets: &T,
     threads: &mut Vec<Thread>,
     nodes: &mut Vec<Node>,
 ) -> Result<(), GraphFault>
-    requires { HasRoom at (counts_of statement.now) }
+    requires room { HasRoom at (counts_of statement.now) }
+    requires tallied { tally.now ≡ tally_of statement.now }
     ensures { IfOk result (λ _. AreForkedLaid (T.target targets.now) owner
         (statement.now ∷ []) at threads.old.items threads.new.items nodes.old.items nodes.new.items) }
 {
@@ -63,11 +73,14 @@ fn lay_forked_by<T: Targets>(
             first,
             second,
         } => {
+            let first = first.as_slice();
+            let second = second.as_slice();
             let inside = at.after_a_node();
-            let further = inside.past(known_counts(first.as_slice()));
+            let further = inside.past(known_counts(first, tally.part(0)));
             lay_forked(
                 alloc,
-                first.as_slice(),
+                first,
+                tally.part(0),
                 owner,
                 inside,
                 targets,
@@ -76,7 +89,8 @@ fn lay_forked_by<T: Targets>(
             )?;
             lay_forked(
                 alloc,
-                second.as_slice(),
+                second,
+                tally.part(1),
                 owner,
                 further,
                 targets,
@@ -85,15 +99,18 @@ fn lay_forked_by<T: Targets>(
             )
         }
         Statement::Fork { branches } => {
+            let bodies = branches.as_slice();
             let mut here = at;
-            for branch in branches.as_slice() {
+            for (place, branch) in bodies.iter().enumerate() {
                 let body = branch.as_slice();
-                let counts = known_counts(body);
+                let tallies = tally.part(place);
+                let counts = known_counts(body, tallies);
                 let inside = here.inside(counts);
                 let thread = here.thread;
                 lay_thread(
                     alloc,
                     body,
+                    tallies,
                     Some(owner),
                     thread,
                     inside,
@@ -101,7 +118,9 @@ fn lay_forked_by<T: Targets>(
                     threads,
                     nodes,
                 )?;
-                lay_forked(alloc, body, thread, inside, targets, threads, nodes)?;
+                lay_forked(
+                    alloc, body, tallies, thread, inside, targets, threads, nodes,
+                )?;
                 here = here.past_branch(counts);
             }
             Ok(())
@@ -113,6 +132,7 @@ fn lay_forked_by<T: Targets>(
 pub(crate) fn lay_thread<T: Targets>(
     alloc: Global,
     body: &[Statement],
+    tallies: &[Tally],
     parent: Option<ThreadId>,
     thread: ThreadId,
     at: Numbers,
@@ -120,15 +140,16 @@ pub(crate) fn lay_thread<T: Targets>(
     threads: &mut Vec<Thread>,
     nodes: &mut Vec<Node>,
 ) -> Result<(), GraphFault>
-    requires { HasRoom at (counts_of_all body.now) }
+    requires room { HasRoom at (counts_of_all body.now) }
+    requires tallied { tallies.now ≡ map tally_of body.now }
     ensures { IfOk result (λ _. IsThreadLaid (T.target targets.now) parent thread body.now at
         threads.old.items threads.new.items nodes.old.items nodes.new.items) }
 {
-    let end = at.node + known_counts(body).nodes;
+    let end = at.node + known_counts(body, tallies).nodes;
     let behind = Way::At(end);
     let entry = targets.target(&way_of(body, at.node, &behind));
     threads.push(Thread { parent, entry })?;
-    lay(alloc, body, thread, at, &behind, targets, nodes)?;
+    lay(alloc, body, tallies, thread, at, &behind, targets, nodes)?;
     nodes.push(Node {
         owner: thread,
         step: Step::Exit,

@@ -1,35 +1,40 @@
 //! The labels of a text are gathered, each with what stands behind it.
 
-ghost use Rattle.std.specs.Prelude.{◌≡◌, [], ◌∷◌, IfOk};
+ghost use Rattle.std.specs.Prelude.{◌≡◌, [], ◌∷◌, IfOk, map};
 ghost use Rattle.scl.specs.declared.statement.Statement.TheViews.{out-Statement};
 ghost use Rattle.scl_graph.specs.Inside.Gathering.{AreForkedGathered, IsGathered, landing_behind};
+ghost use Rattle.scl_graph.specs.Inside.Tallies.{tally_of};
 ghost use Rattle.scl_graph.specs.Inside.Totals.{HasRoom, totals_of, totals_of_all};
 
 use crate::labels::Labels;
 use crate::landing::{Landing, landing_of};
 use crate::spots::Spot;
-use crate::totals::{known_statement_totals, known_totals};
+use crate::tallies::{Tally, known_statement_totals, known_totals};
 use scl::Statement;
 use std::alloc::AllocError;
 
 /// Notes the labels of a thread in these statements, behind which `behind` stands. A row of labels is
 /// looked past once.
 #[cycle(gathering)]
+#[tactic(auto, using(crate::proofs::Tallied::tally_at, crate::proofs::Tallied::within_tallies))]
 pub(crate) fn gather(
     statements: &[Statement],
+    tallies: &[Tally],
     at: Spot,
     behind: &Landing,
     labels: &mut Labels,
 ) -> Result<(), AllocError>
-    requires { HasRoom at (totals_of_all statements.now) }
+    requires room { HasRoom at (totals_of_all statements.now) }
+    requires tallied { tallies.now ≡ map tally_of statements.now }
     ensures { IfOk result (λ _. IsGathered statements.now at behind.now labels.old labels.new) }
 {
     let mut here = at;
     let mut ahead = landing_of(statements, at.node, at.goto, behind);
     for (i, statement) in statements.iter().enumerate() {
-        let next = here.past(known_statement_totals(statement));
+        let tally = &tallies[i];
+        let next = here.past(known_statement_totals(statement, tally));
         let leads = landing_behind(statement, &statements[i + 1..], next, &ahead, behind);
-        gather_statement(statement, here, &leads, labels)?;
+        gather_statement(statement, tally, here, &leads, labels)?;
         ahead = leads;
         here = next;
     }
@@ -54,13 +59,16 @@ fn landing_behind(
 
 // Notes the labels of a thread in a statement, behind which `behind` stands.
 #[cycle(gathering)]
+#[tactic(auto, using(crate::proofs::Tallied::first_part, crate::proofs::Tallied::second_part))]
 fn gather_statement(
     statement: &Statement,
+    tally: &Tally,
     at: Spot,
     behind: &Landing,
     labels: &mut Labels,
 ) -> Result<(), AllocError>
-    requires { HasRoom at (totals_of statement.now) }
+    requires room { HasRoom at (totals_of statement.now) }
+    requires tallied { tally.now ≡ tally_of statement.now }
     ensures { IfOk result (λ _. IsGathered (statement.now ∷ []) at behind.now labels.old labels.new) }
 {
     match statement {
@@ -73,10 +81,12 @@ fn gather_statement(
             first,
             second,
         } => {
+            let first = first.as_slice();
+            let second = second.as_slice();
             let inside = at.after_a_node();
-            let further = inside.past(known_totals(first.as_slice()));
-            gather(first.as_slice(), inside, behind, labels)?;
-            gather(second.as_slice(), further, behind, labels)
+            let further = inside.past(known_totals(first, tally.part(0)));
+            gather(first, tally.part(0), inside, behind, labels)?;
+            gather(second, tally.part(1), further, behind, labels)
         }
         Statement::Fork { .. } => Ok(()),
     }
@@ -84,26 +94,37 @@ fn gather_statement(
 
 /// Notes the labels of the threads that are forked in these statements.
 #[cycle(gathering_forked)]
+#[tactic(auto, using(crate::proofs::Tallied::tally_at, crate::proofs::Tallied::within_tallies))]
 pub(crate) fn gather_forked(
     statements: &[Statement],
+    tallies: &[Tally],
     at: Spot,
     labels: &mut Labels,
 ) -> Result<(), AllocError>
-    requires { HasRoom at (totals_of_all statements.now) }
+    requires room { HasRoom at (totals_of_all statements.now) }
+    requires tallied { tallies.now ≡ map tally_of statements.now }
     ensures { IfOk result (λ _. AreForkedGathered statements.now at labels.old labels.new) }
 {
     let mut here = at;
-    for statement in statements {
-        gather_forked_by(statement, here, labels)?;
-        here = here.past(known_statement_totals(statement));
+    for (i, statement) in statements.iter().enumerate() {
+        let tally = &tallies[i];
+        gather_forked_by(statement, tally, here, labels)?;
+        here = here.past(known_statement_totals(statement, tally));
     }
     Ok(())
 }
 
 // Notes the labels of the threads that a statement forks.
 #[cycle(gathering_forked)]
-fn gather_forked_by(statement: &Statement, at: Spot, labels: &mut Labels) -> Result<(), AllocError>
-    requires { HasRoom at (totals_of statement.now) }
+#[tactic(auto, using(crate::proofs::Tallied::first_part, crate::proofs::Tallied::second_part, crate::proofs::Tallied::branch_part, crate::proofs::Tallied::fork_is))]
+fn gather_forked_by(
+    statement: &Statement,
+    tally: &Tally,
+    at: Spot,
+    labels: &mut Labels,
+) -> Result<(), AllocError>
+    requires room { HasRoom at (totals_of statement.now) }
+    requires tallied { tally.now ≡ tally_of statement.now }
     ensures { IfOk result (λ _. AreForkedGathered (statement.now ∷ []) at labels.old labels.new) }
 {
     match statement {
@@ -116,24 +137,24 @@ fn gather_forked_by(statement: &Statement, at: Spot, labels: &mut Labels) -> Res
             first,
             second,
         } => {
+            let first = first.as_slice();
+            let second = second.as_slice();
             let inside = at.after_a_node();
-            let further = inside.past(known_totals(first.as_slice()));
-            gather_forked(first.as_slice(), inside, labels)?;
-            gather_forked(second.as_slice(), further, labels)
+            let further = inside.past(known_totals(first, tally.part(0)));
+            gather_forked(first, tally.part(0), inside, labels)?;
+            gather_forked(second, tally.part(1), further, labels)
         }
         Statement::Fork { branches } => {
+            let bodies = branches.as_slice();
             let mut here = at;
-            for branch in branches.as_slice() {
+            for (place, branch) in bodies.iter().enumerate() {
                 let body = branch.as_slice();
-                let totals = known_totals(body);
+                let tallies = tally.part(place);
+                let totals = known_totals(body, tallies);
                 let inside = here.inside(totals);
-                gather(
-                    body,
-                    inside,
-                    &Landing::Node(inside.node + totals.nodes),
-                    labels,
-                )?;
-                gather_forked(body, inside, labels)?;
+                let end = Landing::Node(inside.node + totals.nodes);
+                gather(body, tallies, inside, &end, labels)?;
+                gather_forked(body, tallies, inside, labels)?;
                 here = here.past_branch(totals);
             }
             Ok(())

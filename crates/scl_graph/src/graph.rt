@@ -1,17 +1,18 @@
 //! The graph of an SCL program.
 
-ghost use Rattle.std.specs.Prelude.{◌≡◌, IfOk, MatchResult};
+ghost use Rattle.std.specs.Prelude.{◌≡◌, IfOk, MatchResult, map};
 ghost use Rattle.scl_graph.specs.Answers.{IsGraph, LacksGraph};
 ghost use Rattle.scl_graph.specs.Counting.{counts_of_all};
 ghost use Rattle.scl_graph.specs.Graph.{program_by};
 ghost use Rattle.scl_graph.specs.Inside.Laying.{HasRoom};
 ghost use Rattle.scl_graph.specs.Inside.Resolving.{numbered_of, small_start};
+ghost use Rattle.scl_graph.specs.Inside.Tallies.{tally_of};
 
-use crate::counting::known_counts;
 use crate::fault::GraphFault;
 use crate::forking::{lay_forked, lay_thread};
 use crate::numbers::Numbers;
 use crate::resolving::resolve;
+use crate::tallies::{Tally, known_counts, tallies_of};
 use crate::totals::totals_of;
 use crate::way::Targets;
 use sc_graph::{Program, Variable};
@@ -29,11 +30,13 @@ pub fn graph_of(alloc: Global, scl: &Scl) -> Result<Program, GraphFault>
     let Some(totals) = totals_of(body) else {
         return Err(GraphFault::Memory);
     };
-    let targets = resolve(alloc, body, totals)?;
+    let tallies = tallies_of(alloc, body)?;
+    let targets = resolve(alloc, body, tallies.as_slice(), totals)?;
     if !totals.fit_an_image() {
         return Err(GraphFault::Limit);
     }
-    match lay_program(alloc, scl.variables.as_slice(), body, &targets) {
+    let variables = scl.variables.as_slice();
+    match lay_program(alloc, variables, body, tallies.as_slice(), &targets) {
         Ok(program) => Ok(program),
         Err(_) => Err(GraphFault::Memory),
     }
@@ -45,20 +48,41 @@ fn lay_program<T: Targets>(
     alloc: Global,
     variables: &[Variable],
     body: &[Statement],
+    tallies: &[Tally],
     targets: &T,
 ) -> Result<Program, GraphFault>
-    requires { HasRoom (small_start (counts_of_all body.now)) (counts_of_all body.now) }
+    requires tallied { tallies.now ≡ map tally_of body.now }
+    requires room { HasRoom (small_start (counts_of_all body.now)) (counts_of_all body.now) }
     ensures { IfOk result (λ p. p ≡ program_by (T.target targets.now) (numbered_of variables.now body.now)) }
 {
     let at = Numbers {
         node: 0,
         thread: 1,
-        base: known_counts(body).nodes + 1,
+        base: known_counts(body, tallies).nodes + 1,
     };
     let mut threads = Vec::new(alloc);
     let mut nodes = Vec::new(alloc);
-    lay_thread(alloc, body, None, 0, at, targets, &mut threads, &mut nodes)?;
-    lay_forked(alloc, body, 0, at, targets, &mut threads, &mut nodes)?;
+    lay_thread(
+        alloc,
+        body,
+        tallies,
+        None,
+        0,
+        at,
+        targets,
+        &mut threads,
+        &mut nodes,
+    )?;
+    lay_forked(
+        alloc,
+        body,
+        tallies,
+        0,
+        at,
+        targets,
+        &mut threads,
+        &mut nodes,
+    )?;
     let variables = copied(alloc, variables)?;
     match Program::of(variables, Items::from_vec(threads), Items::from_vec(nodes)) {
         Ok(program) => Ok(program),

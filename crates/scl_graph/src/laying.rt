@@ -1,14 +1,15 @@
 //! The nodes of a thread, in the order of its text.
 
-ghost use Rattle.std.specs.Prelude.{◌≡◌, ◌+◌, ◌≤◌, ◌∷◌, [], IfOk};
+ghost use Rattle.std.specs.Prelude.{◌≡◌, ◌+◌, ◌≤◌, ◌∷◌, [], IfOk, map};
 ghost use Rattle.sc_graph.specs.Limits.{count_limit};
 ghost use Rattle.scl_graph.specs.Counting.{AreSmall, branches_counts, counts_of, counts_of_all};
 ghost use Rattle.scl_graph.specs.Inside.Laying.{HasRoom, IsLaid, children};
+ghost use Rattle.scl_graph.specs.Inside.Tallies.{fork_tally, tally_of};
 
-use crate::counting::{known_counts, known_statement_counts};
 use crate::fault::GraphFault;
 use crate::numbers::Numbers;
 use crate::steps::{lay_assignment, lay_fork, lay_pause, lay_test};
+use crate::tallies::{Tally, known_counts, known_statement_counts};
 use crate::way::{Targets, Way, way_behind, way_of};
 use sc_graph::{Node, ThreadId};
 use scl::Statement;
@@ -19,25 +20,29 @@ use std::alloc::{AllocError, Global};
 /// `behind`. A row of labels is looked past once. Err: memory was refused, or an expression has more than 64
 /// operations.
 #[cycle(laying)]
+#[tactic(auto, using(crate::proofs::Tallied::tally_at, crate::proofs::Tallied::within_tallies))]
 pub(crate) fn lay<T: Targets>(
     alloc: Global,
     statements: &[Statement],
+    tallies: &[Tally],
     owner: ThreadId,
     at: Numbers,
     behind: &Way,
     targets: &T,
     nodes: &mut Vec<Node>,
 ) -> Result<(), GraphFault>
-    requires { HasRoom at (counts_of_all statements.now) }
+    requires room { HasRoom at (counts_of_all statements.now) }
+    requires tallied { tallies.now ≡ map tally_of statements.now }
     ensures { IfOk result
         (λ _. IsLaid (T.target targets.now) owner statements.now at behind.now nodes.old.items nodes.new.items) }
 {
     let mut here = at;
     let mut ahead = way_of(statements, at.node, behind);
     for (i, statement) in statements.iter().enumerate() {
-        let next = here.past(known_statement_counts(statement));
+        let tally = &tallies[i];
+        let next = here.past(known_statement_counts(statement, tally));
         let leads = way_behind(statement, &statements[i + 1..], next.node, &ahead, behind);
-        lay_statement(alloc, statement, owner, here, &leads, targets, nodes)?;
+        lay_statement(alloc, statement, tally, owner, here, &leads, targets, nodes)?;
         ahead = leads;
         here = next;
     }
@@ -46,16 +51,19 @@ pub(crate) fn lay<T: Targets>(
 
 // Puts the nodes of a thread for a statement behind the others.
 #[cycle(laying)]
+#[tactic(auto, using(crate::proofs::Tallied::first_part, crate::proofs::Tallied::second_part, crate::proofs::Tallied::fork_is))]
 fn lay_statement<T: Targets>(
     alloc: Global,
     statement: &Statement,
+    tally: &Tally,
     owner: ThreadId,
     at: Numbers,
     behind: &Way,
     targets: &T,
     nodes: &mut Vec<Node>,
 ) -> Result<(), GraphFault>
-    requires { HasRoom at (counts_of statement.now) }
+    requires room { HasRoom at (counts_of statement.now) }
+    requires tallied { tally.now ≡ tally_of statement.now }
     ensures { IfOk result (λ _. IsLaid (T.target targets.now) owner
         (statement.now ∷ []) at behind.now nodes.old.items nodes.new.items) }
 {
@@ -71,14 +79,17 @@ fn lay_statement<T: Targets>(
             first,
             second,
         } => {
+            let first = first.as_slice();
+            let second = second.as_slice();
             let inside = at.after_a_node();
-            let further = inside.past(known_counts(first.as_slice()));
-            let then = targets.target(&way_of(first.as_slice(), inside.node, behind));
-            let other = targets.target(&way_of(second.as_slice(), further.node, behind));
+            let further = inside.past(known_counts(first, tally.part(0)));
+            let then = targets.target(&way_of(first, inside.node, behind));
+            let other = targets.target(&way_of(second, further.node, behind));
             lay_test(test, owner, then, other, nodes)?;
             lay(
                 alloc,
-                first.as_slice(),
+                first,
+                tally.part(0),
                 owner,
                 inside,
                 behind,
@@ -87,7 +98,8 @@ fn lay_statement<T: Targets>(
             )?;
             lay(
                 alloc,
-                second.as_slice(),
+                second,
+                tally.part(1),
                 owner,
                 further,
                 behind,
@@ -96,27 +108,30 @@ fn lay_statement<T: Targets>(
             )
         }
         Statement::Fork { branches } => {
-            let forked = children_of(alloc, branches.as_slice(), at.thread)?;
+            let forked = children_of(alloc, branches.as_slice(), tally, at.thread)?;
             lay_fork(at.node, owner, forked, targets.target(behind), nodes)
         }
     }
 }
 
 // The threads of a fork's branches, of which the first has this number.
+#[tactic(auto, using(crate::proofs::Tallied::branch_part))]
 fn children_of(
     alloc: Global,
     branches: &[Items<Statement>],
+    tally: &Tally,
     first: ThreadId,
 ) -> Result<Items<ThreadId>, AllocError>
     requires small { AreSmall (branches_counts branches.now) }
     requires room { first + (branches_counts branches.now).threads ≤ count_limit }
+    requires tallied { tally.now ≡ fork_tally (map (map tally_of) branches.now) }
     ensures { IfOk result (λ threads. threads ≡ children branches.now first) }
 {
     let mut threads = Items::new(alloc);
     let mut thread = first;
-    for branch in branches {
+    for (place, branch) in branches.iter().enumerate() {
         threads.push(thread)?;
-        thread += known_counts(branch.as_slice()).threads + 1;
+        thread += known_counts(branch.as_slice(), tally.part(place)).threads + 1;
     }
     Ok(threads)
 }

@@ -14,6 +14,7 @@ mod numbers;
 mod resolving;
 mod spots;
 mod steps;
+mod tallies;
 mod totals;
 mod way;
 

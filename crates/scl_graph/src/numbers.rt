@@ -6,7 +6,9 @@ ghost use Rattle.scl_graph.specs.Inside.Laying.{HasRoom, after, past};
 ghost use Rattle.scl_graph.specs.Inside.Forking.{HasBranchRoom, inside, past_branch};
 ghost use Rattle.std.specs.Option.{SomeIff};
 ghost use Rattle.scl_graph.specs.Counting.{AreSmall, as_branch, sum};
+ghost use Rattle.scl_graph.specs.Inside.Tallies.{sizes_of};
 
+use crate::totals::Totals;
 use sc_graph::{NODE_LIMIT, NodeId, ThreadId};
 
 /// How many nodes of its own thread a text has, how many threads it forks, and how many nodes these have.
@@ -72,6 +74,30 @@ impl Counts {
             lower: self.lower + other.lower,
         };
         both.if_small()
+    }
+
+    // Those of two texts together, which are small.
+    pub(crate) fn and(self, other: Counts) -> Counts
+        requires { AreSmall (sum self other) }
+        ensures { result ≡ sum self other }
+    {
+        Counts {
+            nodes: self.nodes + other.nodes,
+            threads: self.threads + other.threads,
+            lower: self.lower + other.lower,
+        }
+    }
+
+    // These totals, which are small.
+    pub(crate) fn of(totals: Totals) -> Counts
+        requires { AreSmall (sizes_of totals) }
+        ensures { result ≡ sizes_of totals }
+    {
+        Counts {
+            nodes: totals.nodes as u16,
+            threads: totals.threads as u16,
+            lower: totals.lower as u16,
+        }
     }
 
     // These counts. None: one of them is above the limit of nodes.

@@ -1,9 +1,10 @@
 //! The labels of a program are resolved: each goto's way is followed to its end.
 
-ghost use Rattle.std.specs.Prelude.{◌≡◌, [], IfOk, MatchResult};
+ghost use Rattle.std.specs.Prelude.{◌≡◌, [], IfOk, MatchResult, map};
 ghost use Rattle.scl_graph.specs.Inside.Gathering.{IsThreadGathered};
 ghost use Rattle.scl_graph.specs.Inside.Resolving.{IsResolved, IsUnresolved, last_node, small, start};
 ghost use Rattle.scl_graph.specs.Inside.Settling.{least_name, node_at, node_behind};
+ghost use Rattle.scl_graph.specs.Inside.Tallies.{tally_of};
 ghost use Rattle.scl_graph.specs.Inside.Totals.{AreCounted, totals_of_all};
 
 use crate::fault::GraphFault;
@@ -12,6 +13,7 @@ use crate::hops::{Hop, at_place, least_goto, settled};
 use crate::labels::Labels;
 use crate::landing::Landing;
 use crate::spots::Spot;
+use crate::tallies::Tally;
 use crate::totals::Totals;
 use crate::way::{Targets, Way};
 use sc_graph::{COUNT_LIMIT, NodeId};
@@ -78,14 +80,16 @@ fn small(node: u64) -> NodeId
 pub(crate) fn resolve(
     alloc: Global,
     body: &[Statement],
+    tallies: &[Tally],
     totals: Totals,
 ) -> Result<Resolved, GraphFault>
     requires counted { AreCounted (totals_of_all body.now) }
     requires totals { totals ≡ totals_of_all body.now }
+    requires tallied { tallies.now ≡ map tally_of body.now }
     ensures { MatchResult result (λ r. IsResolved body.now (last_node totals) r.labels r.table.items)
         (IsUnresolved body.now) }
 {
-    let labels = labels_of(alloc, body, totals)?;
+    let labels = labels_of(alloc, body, tallies, totals)?;
     let table = settled(alloc, labels.hops(alloc)?)?;
     match least_name(&labels, table.as_slice()) {
         Some(label) => Err(GraphFault::EmptyLoop(label)),
@@ -95,9 +99,15 @@ pub(crate) fn resolve(
 
 // The labels of a program of these statements, which count this.
 #[tactic(auto, using(crate::proofs::Gathered::thread_gathered))]
-fn labels_of(alloc: Global, body: &[Statement], totals: Totals) -> Result<Labels, AllocError>
+fn labels_of(
+    alloc: Global,
+    body: &[Statement],
+    tallies: &[Tally],
+    totals: Totals,
+) -> Result<Labels, AllocError>
     requires counted { AreCounted (totals_of_all body.now) }
     requires totals { totals ≡ totals_of_all body.now }
+    requires tallied { tallies.now ≡ map tally_of body.now }
     ensures { IfOk result (λ labels. IsThreadGathered body.now (start totals) [] labels) }
 {
     let at = Spot {
@@ -107,8 +117,9 @@ fn labels_of(alloc: Global, body: &[Statement], totals: Totals) -> Result<Labels
         goto: 0,
     };
     let mut labels = Labels::none(alloc);
-    gather(body, at, &Landing::Node(totals.nodes), &mut labels)?;
-    gather_forked(body, at, &mut labels)?;
+    let end = Landing::Node(totals.nodes);
+    gather(body, tallies, at, &end, &mut labels)?;
+    gather_forked(body, tallies, at, &mut labels)?;
     Ok(labels)
 }
 

@@ -23,8 +23,8 @@ pub(crate) struct Totals {
 }
 
 impl Totals {
-    // Those of nothing.
-    fn none() -> Totals
+    /// Those of nothing.
+    pub(crate) fn none() -> Totals
         ensures { result ≡ record { nodes = 0; threads = 0; lower = 0; jumps = 0 } }
     {
         Totals {
@@ -35,8 +35,8 @@ impl Totals {
         }
     }
 
-    // Those of so many nodes.
-    fn nodes(nodes: u64) -> Totals
+    /// Those of so many nodes.
+    pub(crate) fn nodes(nodes: u64) -> Totals
         ensures { result ≡ record { nodes = nodes; threads = 0; lower = 0; jumps = 0 } }
     {
         Totals {
@@ -47,8 +47,8 @@ impl Totals {
         }
     }
 
-    // Those of a goto.
-    fn goto() -> Totals
+    /// Those of a goto.
+    pub(crate) fn goto() -> Totals
         ensures { result ≡ record { nodes = 0; threads = 0; lower = 0; jumps = 1 } }
     {
         Totals {
@@ -85,6 +85,32 @@ impl Totals {
             jumps: self.jumps + other.jumps,
         };
         both.if_counted()
+    }
+
+    /// Those of two texts together, which are counted.
+    pub(crate) fn and(self, other: Totals) -> Totals
+        requires { AreCounted (sum self other) }
+        ensures { result ≡ sum self other }
+    {
+        Totals {
+            nodes: self.nodes + other.nodes,
+            threads: self.threads + other.threads,
+            lower: self.lower + other.lower,
+            jumps: self.jumps + other.jumps,
+        }
+    }
+
+    /// What a branch counts whose text counts this, which is counted.
+    pub(crate) fn of_branch(self) -> Totals
+        requires { AreCounted (as_branch self) }
+        ensures { result ≡ as_branch self }
+    {
+        Totals {
+            nodes: 0,
+            threads: self.threads + 1,
+            lower: self.nodes + 1 + self.lower,
+            jumps: self.jumps,
+        }
     }
 
     /// Whether a graph of this size has no more nodes and threads than an image may: beside those of the text
@@ -149,20 +175,4 @@ fn statement_totals(statement: &Statement) -> Option<Totals>
             Some(total)
         }
     }
-}
-
-/// What the statements of a text count that are counted.
-pub(crate) fn known_totals(statements: &[Statement]) -> Totals
-    requires { AreCounted (totals_of_all statements.now) }
-    ensures { result ≡ totals_of_all statements.now }
-{
-    totals_of(statements).unwrap()
-}
-
-/// What a statement counts that is counted.
-pub(crate) fn known_statement_totals(statement: &Statement) -> Totals
-    requires { AreCounted (totals_of statement.now) }
-    ensures { result ≡ totals_of statement.now }
-{
-    statement_totals(statement).unwrap()
 }

@@ -15,3 +15,9 @@ returns c =
 
 pub returns-then-is_conflict : goal.returns-then-is_conflict
 returns-then-is_conflict c = c.is_conflict.ensures.0 c.if-is_conflict.true
+
+pub returns-then-not-has_company : goal.returns-then-not-has_company
+returns-then-not-has_company c = λ n at w.
+    let e : c.has_company.result ≡ true = c.has_company.ensures n w.concurrent in
+    let f = c.if-not-has_company.true in
+    cc

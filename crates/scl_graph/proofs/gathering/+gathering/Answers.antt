@@ -12,7 +12,7 @@ use Rattle.scl_graph.proofs.SpotRooms.{spot_room_more}
 use Rattle.scl_graph.proofs.gathering.+gathering.Goals as goal
 
 pub gather-loop-i-init : goal.gather-loop-i-init
-gather-loop-i-init t c = record { room = c.requires; ahead = c.landing_of-ahead.ensures; gathered = λ new h. h }
+gather-loop-i-init t c = record { room = c.requires.room; ahead = c.landing_of-ahead.ensures; gathered = λ new h. h }
 
 pub gather-loop-i-preserved : goal.gather-loop-i-preserved
 gather-loop-i-preserved t c =
@@ -65,14 +65,14 @@ gather_statement-returns-in_ok-gather-in-If t c =
     let further : c.past-further.result ≡ past (after 1 at) (totals_of_all a) =
     c.past-further.ensures
     ∙ ap (λ k. past k c.known_totals.result) within
-    ∙ ap (past (after 1 at)) (c.known_totals.ensures ∙ ap totals_of_all c.as_slice.ensures) in
+    ∙ ap (past (after 1 at)) (c.known_totals.ensures.totals ∙ ap totals_of_all c.as_slice-first.ensures) in
     let FirstAt : Spot → Type 0 = λ k. IsGathered a k behind x y in
     let FirstOf : List Statement → Type 0 = λ zs. IsGathered zs c.after_a_node-inside.result behind x y in
-    let first : IsGathered a (after 1 at) behind x y = subst FirstAt within (subst FirstOf c.as_slice-in-If.ensures c.in_ok-gather-in-If.ensures) in
+    let first : IsGathered a (after 1 at) behind x y = subst FirstAt within (subst FirstOf c.as_slice-first.ensures c.in_ok-gather-in-If.ensures) in
     let SecondAt : Spot → Type 0 = λ k. IsGathered b k behind y z in
     let SecondOf : List Statement → Type 0 = λ zs. IsGathered zs c.past-further.result behind y z in
     ok_then c.gather-in-If.result
-    (λ v. IsGathered c.as_slice-in-If-2.result.now c.past-further.result behind y z)
+    (λ v. IsGathered c.as_slice-second.result.now c.past-further.result behind y z)
     (λ v. IsGathered (s ∷ []) at behind x z)
-    (λ v h. gathered_if s at behind x y z c.in-If.test a b c.in-If.is first (subst SecondAt further (subst SecondOf c.as_slice-in-If-2.ensures h)))
+    (λ v h. gathered_if s at behind x y z c.in-If.test a b c.in-If.is first (subst SecondAt further (subst SecondOf c.as_slice-second.ensures h)))
     c.gather-in-If.ensures

@@ -33,5 +33,5 @@ returns-in-Ok c =
     let resolved : IsResolved p.body (last_node (totals_of_all p.body)) labels table = subst Last is (subst Of c.as_slice-body.ensures c.in_ok-targets.ensures) in
     graph_is p labels table c.in-Ok.program resolved (subst FitsTotals is fits)
     (c.in-Ok.ensures
-    ∙ ap (λ v. program_by (leads_by labels table) (numbered_of v c.as_slice-body.result.now)) c.as_slice.ensures
+    ∙ ap (λ v. program_by (leads_by labels table) (numbered_of v c.as_slice-body.result.now)) c.as_slice-variables.ensures
     ∙ ap (λ b. program_by (leads_by labels table) (numbered_of p.variables b)) c.as_slice-body.ensures)

@@ -16,7 +16,7 @@ pub returns-in-Ok : goal.returns-in-Ok
 returns-in-Ok g c =
     let f : Way → ℕ = g.T.Targets.target c.args.targets.now in
     let b : List Statement = c.args.body.now in
-    let counts : c.known_counts.result ≡ counts_of_all b = c.known_counts.ensures in
+    let counts : c.known_counts.result ≡ counts_of_all b = c.known_counts.ensures.counts in
     let nodes : c.known_counts.result.nodes ≡ (counts_of_all b).nodes = ap (λ k. k.nodes) counts in
     let base : c.known_counts.result.nodes + 1 ≡ suc (counts_of_all b).nodes = omega (arith, nodes) in
     let At : ℕ → Numbers = λ n. record { node = 0; thread = 1; base = n } in

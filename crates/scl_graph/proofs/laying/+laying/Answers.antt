@@ -9,12 +9,13 @@ use Rattle.scl_graph.specs.declared.numbers.Numbers.{Numbers}
 use Rattle.scl_graph.specs.declared.way.Way.{Way}
 use Rattle.scl_graph.specs.Graph.{node}
 use Rattle.scl_graph.specs.Inside.Laying.{HasRoom, IsLaid, after, children, past, way_behind, way_in}
-use Rattle.scl_graph.specs.Counting.{counts_of, counts_of_all}
+use Rattle.scl_graph.specs.Counting.{AreSmall, branches_counts, counts_of, counts_of_all}
+use Rattle.scl_graph.proofs.Branching.{fork_room}
 use Rattle.scl_graph.proofs.Laid.{laid_none, laid_more, leads_behind, laid_if, laid_fork, ok_then, room_more, split_at}
 use Rattle.scl_graph.proofs.laying.+laying.Goals as goal
 
 pub lay-loop-i-init : goal.lay-loop-i-init
-lay-loop-i-init g t c = record { room = c.requires; ahead = c.way_of-ahead.ensures; laid = λ new h. h }
+lay-loop-i-init g t c = record { room = c.requires.room; ahead = c.way_of-ahead.ensures; laid = λ new h. h }
 
 pub lay-loop-i-preserved : goal.lay-loop-i-preserved
 lay-loop-i-preserved g t c =
@@ -69,13 +70,13 @@ lay_statement-returns-in_ok-lay-in-If g t c =
     let further : c.past-further.result ≡ past (after 1 at) (counts_of_all a) =
     c.past-further.ensures
     ∙ ap (λ m. past m c.known_counts.result) inside
-    ∙ ap (past (after 1 at)) (c.known_counts.ensures ∙ ap counts_of_all c.as_slice.ensures) in
+    ∙ ap (past (after 1 at)) (c.known_counts.ensures.counts ∙ ap counts_of_all c.as_slice-first.ensures) in
     let to_first : c.target-then.result ≡ target (way_in a (1 + at.node) behind) =
     c.target-then.ensures
-    ∙ ap target (c.way_of.ensures ∙ ap (λ zs. way_in zs c.after_a_node-inside.result.node behind) c.as_slice-in-If.ensures ∙ ap (λ m. way_in a m.node behind) inside) in
+    ∙ ap target (c.way_of.ensures ∙ ap (λ zs. way_in zs c.after_a_node-inside.result.node behind) c.as_slice-first.ensures ∙ ap (λ m. way_in a m.node behind) inside) in
     let to_second : c.target-other.result ≡ target (way_in b (1 + at.node + (counts_of_all a).nodes) behind) =
     c.target-other.ensures
-    ∙ ap target (c.way_of-in-If.ensures ∙ ap (λ zs. way_in zs c.past-further.result.node behind) c.as_slice-in-If-2.ensures ∙ ap (λ m. way_in b m.node behind) further) in
+    ∙ ap target (c.way_of-in-If.ensures ∙ ap (λ zs. way_in zs c.past-further.result.node behind) c.as_slice-second.ensures ∙ ap (λ m. way_in b m.node behind) further) in
     let test : ℕ → ℕ → List Node = λ m n. old ++ node o (step.Cond (postorder c.in-If.test) m n) ∷ [] in
     let put : tested ≡ test (target (way_in a (1 + at.node) behind)) (target (way_in b (1 + at.node + (counts_of_all a).nodes) behind)) =
     c.in_ok-lay_test-in-If.ensures
@@ -83,14 +84,14 @@ lay_statement-returns-in_ok-lay-in-If g t c =
     ∙ ap (test (target (way_in a (1 + at.node) behind))) to_second in
     let FirstAt : Numbers → Type 0 = λ m. IsLaid target o a m behind tested middle in
     let FirstOf : List Statement → Type 0 = λ zs. IsLaid target o zs c.after_a_node-inside.result behind tested middle in
-    let first : IsLaid target o a (after 1 at) behind tested middle = subst FirstAt inside (subst FirstOf c.as_slice-in-If-3.ensures c.in_ok-lay-in-If.ensures) in
+    let first : IsLaid target o a (after 1 at) behind tested middle = subst FirstAt inside (subst FirstOf c.as_slice-first.ensures c.in_ok-lay-in-If.ensures) in
     let new : List Node = c.lay-in-If.new.nodes.items in
     let SecondAt : Numbers → Type 0 = λ m. IsLaid target o b m behind middle new in
     let SecondOf : List Statement → Type 0 = λ zs. IsLaid target o zs c.past-further.result behind middle new in
     ok_then c.lay-in-If.result
-    (λ v. IsLaid target o c.as_slice-in-If-4.result.now c.past-further.result behind middle new)
+    (λ v. IsLaid target o c.as_slice-second.result.now c.past-further.result behind middle new)
     (λ v. IsLaid target o (s ∷ []) at behind old new)
-    (λ v h. laid_if target o s at behind old tested middle new c.in-If.test a b c.in-If.is put first (subst SecondAt further (subst SecondOf c.as_slice-in-If-4.ensures h)))
+    (λ v h. laid_if target o s at behind old tested middle new c.in-If.test a b c.in-If.is put first (subst SecondAt further (subst SecondOf c.as_slice-second.ensures h)))
     c.lay-in-If.ensures
 
 pub lay_statement-returns-in_ok-forked-in-Fork : goal.lay_statement-returns-in_ok-forked-in-Fork
@@ -102,10 +103,15 @@ lay_statement-returns-in_ok-forked-in-Fork g t c =
     let old : List Node = c.args.nodes.now.items in
     let new : List Node = c.lay_fork.new.nodes.items in
     let ks : List ℕ = c.in_ok-forked-in-Fork.forked in
-    let forked : ks ≡ children c.in-Fork.branches at.thread = c.in_ok-forked-in-Fork.ensures ∙ ap (λ bs. children bs at.thread) c.as_slice-in-Fork.ensures in
+    let forked : ks ≡ children c.in-Fork.branches at.thread = c.in_ok-forked-in-Fork.ensures ∙ ap (λ bs. children bs at.thread) c.as_slice.ensures in
     let put : List ℕ → ℕ → List Node = λ cs n. old ++ node o (step.Fork cs (suc at.node)) ∷ node o (step.Join n) ∷ [] in
     ok_then c.lay_fork.result
     (λ v. new ≡ put ks c.target-in-Fork.result)
     (λ v. IsLaid target o (c.args.statement.now ∷ []) at behind old new)
     (λ v h. laid_fork target o c.args.statement.now at behind old new c.in-Fork.branches c.in-Fork.is (h ∙ ap (λ cs. put cs c.target-in-Fork.result) forked ∙ ap (put (children c.in-Fork.branches at.thread)) c.target-in-Fork.ensures))
     c.lay_fork.ensures
+
+pub lay_statement-children_of-requires-clause-small : goal.lay_statement-children_of-requires-clause-small
+lay_statement-children_of-requires-clause-small g t c =
+    let Small : List (List Statement) → Type 0 = λ bs. AreSmall (branches_counts bs) in
+    subst Small (sym c.as_slice.ensures) (fork_room c.args.at c.args.statement.now c.in-Fork.branches c.in-Fork.is c.requires.room).small

@@ -4,9 +4,9 @@ use Rattle.scl_graph.specs.Counting.{AreSmall, branches_counts}
 use Rattle.scl_graph.specs.Inside.Laying.{children}
 use Rattle.scl_graph.proofs.laying.children_of.Given as goal
 
-abbrev pub invariant-loop-branch : goal.invariant-loop-branch
-invariant-loop-branch l = record {
-  numbered : l.threads ++ children (drop l.branch-index l.branches) l.thread ≡ children l.branches l.first;
-  small : AreSmall (branches_counts (drop l.branch-index l.branches));
-  room : l.thread + (branches_counts (drop l.branch-index l.branches)).threads ≤ count_limit;
+abbrev pub invariant-loop-place : goal.invariant-loop-place
+invariant-loop-place l = record {
+  numbered : l.threads ++ children (drop l.place l.branches) l.thread ≡ children l.branches l.first;
+  small : AreSmall (branches_counts (drop l.place l.branches));
+  room : l.thread + (branches_counts (drop l.place l.branches)).threads ≤ count_limit;
 }

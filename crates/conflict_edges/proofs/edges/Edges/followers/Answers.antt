@@ -11,7 +11,7 @@ returns-in-Some-Assign c =
     let init = init_of p c.args.node x c.in-Some-Assign.field-0-2 c.in-Some-Assign.field-0-1 (sym c.in-Some-Assign.ensures ∙ ap Some c.in-Some-Assign.field-0-is) in
     let P : Program → Type 0 = λ q. AreFollowers q c.args.node (record { updates = c.of.result; reads = c.of-in-Some-Assign.result }) in
     subst P c.self.view_is
-    (after_init p c.self.inside.threads c.self.inside.users c.args.node x _ c.self.invariant init c.of.ensures c.of-in-Some-Assign.ensures)
+    (after_init p c.self.inside.threads c.self.inside.links c.self.inside.users c.args.node x _ c.self.invariant init c.of.ensures c.of-in-Some-Assign.ensures)
 
 pub returns-in-Some-Update : goal.returns-in-Some-Update
 returns-in-Some-Update c =
@@ -20,4 +20,4 @@ returns-in-Some-Update c =
     let update = update_of p c.args.node x c.in-Some-Update.field-0-3 c.in-Some-Update.field-0-1 c.in-Some-Update.field-0-2 (sym c.in-Some-Update.ensures ∙ ap Some c.in-Some-Update.field-0-is) in
     let P : Program → Type 0 = λ q. AreFollowers q c.args.node (record { updates = c.nobody.result; reads = c.of-in-Some-Update.result }) in
     subst P c.self.view_is
-    (after_update p c.self.inside.threads c.self.inside.users c.args.node x _ c.self.invariant update c.nobody.ensures c.of-in-Some-Update.ensures)
+    (after_update p c.self.inside.threads c.self.inside.links c.self.inside.users c.args.node x _ c.self.invariant update c.nobody.ensures c.of-in-Some-Update.ensures)
