@@ -1,0 +1,4 @@
+pub mod Cause
+pub mod Inside
+pub mod Recent
+pub mod Words

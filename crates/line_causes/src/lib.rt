@@ -1,0 +1,16 @@
+//! What was met where a line of an input gives nothing: the line, of the bytes that were read last, and what in it.
+#![tactic(auto)]
+
+mod cause;
+mod causes;
+mod line;
+mod members;
+mod recent;
+mod tail;
+mod words;
+
+pub use cause::{Cause, Met};
+pub use causes::cause_of;
+pub use line::Line;
+pub use recent::{OfInput, Recent};
+pub use words::cause_words;
