@@ -137,7 +137,7 @@ const WORDS: [Spelling; 14] = [
     },
     Spelling {
         piece: "goto",
-        written: "a transition of a chart begins with `go`",
+        written: "a transition begins with `go`, and leads to its state by `->`",
     },
     Spelling {
         piece: "connector",
