@@ -4,6 +4,7 @@
 
 mod edges;
 mod lines;
+mod met;
 mod nodes;
 mod program_report;
 mod program_words;

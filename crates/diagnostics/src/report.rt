@@ -7,8 +7,8 @@ ghost use Rattle.diagnostics.specs.Reports.{Tells, TellsAt, TellsPlace, text_fau
 ghost use Rattle.diagnostics.specs.Spots.{place_shown};
 
 use crate::lines::marked_line;
+use crate::met::told;
 use crate::spots::{Spot, spot_of};
-use crate::words::{cause, cure};
 use sc_text::{Broken, ReadFault};
 use std::alloc::{AllocError, Global};
 
@@ -40,8 +40,9 @@ pub fn explained(
     let spot = spot_of(text, at);
     let place = spot_text(alloc, spot)?;
     let number = broken.number();
-    let cause = cause(broken);
-    let cure = cure(broken);
+    let told = told(alloc, text, broken, at);
+    let cause = told.cause;
+    let cure = told.cure;
     let marked = marked_line(alloc, text, spot)?;
     format!(in alloc; "{name}{place}: E0{number}: {cause}\n{marked}help: {cure}\n")
 }

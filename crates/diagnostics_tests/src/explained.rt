@@ -24,25 +24,25 @@ fn each_fault(rt: HostRuntime) -> Result<(), Fail> {
             "scl P {\n  output int x;\n  x = 1 $ 2;\n}\n",
             Broken::Token,
             32,
-            "p.scl:3:9: E01: nothing of the language begins here: a character that it does not use, digits that begin with 0 and go on, or in a chart a name that begins with `_`\n3 |   x = 1 $ 2;\n  |         ^\nhelp: write it otherwise; outside comments all is ASCII\n",
+            "p.scl:3:9: E01: the language does not use this character\n3 |   x = 1 $ 2;\n  |         ^\nhelp: write it otherwise; outside comments all is ASCII\n",
         ),
         (
             "scl P {\n}}",
             Broken::Grammar,
             9,
-            "p.scl:2:2: E02: the text cannot go on with this word or sign, or it ends too early\n2 | }}\n  |  ^\nhelp: look at what stands before it: a `;`, a brace or a keyword is missing, or a reserved word was taken for a name\n",
+            "p.scl:2:2: E02: the text cannot go on with this word or sign\n2 | }}\n  |  ^\nhelp: look at what stands before it: a `;`, a brace or a keyword is missing, or a reserved word was taken for a name\n",
         ),
         (
             "scl P { x = 1; }",
             Broken::Unknown,
             8,
-            "p.scl:1:9: E03: a name that is not declared, a transition to no state of its own region, or a goto to no label of its own thread\n1 | scl P { x = 1; }\n  |         ^\nhelp: declare it; a transition leads to a state beside its own: leave the superstate by one of its aborts or its `join`; put the label into the same branch\n",
+            "p.scl:1:9: E03: no variable of this name is declared\n1 | scl P { x = 1; }\n  |         ^\nhelp: declare it\n",
         ),
         (
             "scl P {\n\tL:\n\tL:\r\n}",
             Broken::Repeated,
             13,
-            "p.scl:3:2: E04: a second variable, region of one superstate, state of one region, or label of the same name\n3 |  L:\n  |  ^\nhelp: rename one of them\n",
+            "p.scl:3:2: E04: a second label of this name\n3 |  L:\n  |  ^\nhelp: rename one of them\n",
         ),
         (
             "scl P { output int x; x = true; }",
@@ -54,13 +54,13 @@ fn each_fault(rt: HostRuntime) -> Result<(), Fail> {
             "scl P { input int x; x = 1; }",
             Broken::Rule,
             21,
-            "p.scl:1:22: E06: an input is assigned; a region has no initial state, or more than one; a final state has regions or transitions; or a transition of this kind cannot stand here\n1 | scl P { input int x; x = 1; }\n  |                      ^\nhelp: assign an output or a local variable; put `initial` before one state of each region; leave a simple state by `go`, and a superstate by aborts or by its one `join`\n",
+            "p.scl:1:22: E06: an input is assigned\n1 | scl P { input int x; x = 1; }\n  |                      ^\nhelp: assign an output or a local variable\n",
         ),
         (
             "scl P { output int x; x = 2147483648; }",
             Broken::Limit,
             26,
-            "p.scl:1:27: E07: a limit is passed: what begins here is one too many or too large, or it nests one level too deep\n1 | scl P { output int x; x = 2147483648; }\n  |                           ^\nhelp: split it: a local variable for a part of an expression, a thread for some of the branches\n",
+            "p.scl:1:27: E07: a number is at most 2147483647\n1 | scl P { output int x; x = 2147483648; }\n  |                           ^\nhelp: split it: a local variable for a part of an expression, a thread for some of the branches\n",
         ),
     ] {
         assert!(rt;
@@ -76,7 +76,7 @@ fn long_lines_are_cut(rt: HostRuntime) -> Result<(), Fail> {
     let text =
         "scl P { output int first_of_the_long_names_in_this_text; first_of_the_long_names_in_this_text = first_of_the_long_names_in_this_text + $ first_of_the_long_names_in_this_text; }";
     let wanted =
-        "p.scl:1:136: E01: nothing of the language begins here: a character that it does not use, digits that begin with 0 and go on, or in a chart a name that begins with `_`\n1 | ...names_in_this_text = first_of_the_long_names_in_this_text + $ first_of_the_long_names_in_this_text; }\n  |                                                                ^\nhelp: write it otherwise; outside comments all is ASCII\n";
+        "p.scl:1:136: E01: the language does not use this character\n1 | ...names_in_this_text = first_of_the_long_names_in_this_text + $ first_of_the_long_names_in_this_text; }\n  |                                                                ^\nhelp: write it otherwise; outside comments all is ASCII\n";
     assert!(rt; is_explained(rt.alloc(), text, Broken::Token, 135, wanted)?);
     Ok(())
 }
