@@ -32,6 +32,40 @@ def edges_from(graph, protocol, m, x):
     return updates + [n for n in after if n not in updates]
 
 
+def runs_of(numbers):
+    """Numbers, one behind the other, as runs: the first and the last of each."""
+    runs = []
+    for n in numbers:
+        if runs and runs[-1][1] + 1 == n:
+            runs[-1] = (runs[-1][0], n)
+        else:
+            runs.append((n, n))
+    return runs
+
+
+def run_text(first, last):
+    return str(first) if first == last else f"{first}-{last}"
+
+
+def behind_text(after):
+    """The first 64 runs of these nodes, and how many nodes are left out."""
+    runs = runs_of(after)
+    left_out = sum(last - first + 1 for first, last in runs[64:])
+    return " ".join(run_text(*run) for run in runs[:64]) + (f" and {left_out} more" if left_out else "")
+
+
+def rows_of(graph, protocol, writers, x):
+    """The rows of nodes of one thread that write x in one way, one behind the other, and those behind each of them."""
+    rows = []
+    for m in writers:
+        how = (graph.nodes[m].owner, graph.nodes[m].kind)
+        if rows and rows[-1][1] + 1 == m and rows[-1][2] == how:
+            rows[-1][1] = m
+        else:
+            rows.append([m, m, how, edges_from(graph, protocol, m, x)])
+    return [(run_text(first, last), behind_text(after)) for first, last, _, after in rows if after]
+
+
 def listing(compiled):
     variables, graph, tables = compiled.program.variables, compiled.graph, compiled.tables
     lines = [f"nodes={len(graph.nodes)} threads={len(graph.threads)} budget={tables.budget}", "", "variables"]
@@ -44,8 +78,7 @@ def listing(compiled):
     lines += ["", "protocol edges"]
     for x, variable in enumerate(variables):
         writers = [n for n, node in enumerate(graph.nodes) if node.kind in ("assign", "update") and node.variable == x]
-        rows = [(m, edges_from(graph, compiled.edges[1], m, x)) for m in writers]
-        rows = [f"    {m:5} -> {' '.join(map(str, after))}" for m, after in rows if after]
+        rows = [f"    {nodes:>5} -> {after}" for nodes, after in rows_of(graph, compiled.edges[1], writers, x)]
         if rows:
             lines += [f"  {variable.name}", *rows]
     return "\n".join(lines) + "\n"

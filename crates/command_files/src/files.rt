@@ -44,7 +44,22 @@ pub trait Files {
         ensures same { OnErr result (contents self.new ≡ contents self.old) };
 }
 
-/// The files of the system, and where the one lies that was loaded last.
+// The name that stands for standard input, and the file from which that comes.
+const INPUT_NAME: &str = "-";
+
+const STANDARD_INPUT: &str = "/proc/self/fd/0";
+
+// The file of the system of a name that is read.
+fn read_path(name: &str) -> &str {
+    if name == INPUT_NAME {
+        STANDARD_INPUT
+    } else {
+        name
+    }
+}
+
+/// The files of the system, of which `-` is standard input where a file is read; and where the one lies that was loaded
+/// last.
 #[derive(Drop)]
 pub struct HostFiles<'a, R: SystemFiles + AllocGlobal> {
     rt: &'a R,
@@ -68,13 +83,15 @@ pub(crate) fn file_fault(error: io::Error) -> FileFault {
 
 impl<'a, R: SystemFiles + AllocGlobal> Files for HostFiles<'a, R> {
     fn load(&mut self, _alloc: Global, name: &str) -> Result<Vec<u8>, FileFault> {
-        self.loaded = place_of(self.rt, name);
-        fs::read(self.rt, name).map_err(file_fault)
+        let path = read_path(name);
+        self.loaded = place_of(self.rt, path);
+        fs::read(self.rt, path).map_err(file_fault)
     }
 
-    // The file that was loaded is not written, by whatever name: it is the one of which the bytes were made.
+    // The file that was loaded is not written, by whatever name: it is the one of which the bytes were made. Nor is one
+    // written of the name that stands for standard input.
     fn store(&mut self, alloc: Global, name: &str, bytes: &[u8]) -> Result<(), FileFault> {
-        if self.loaded.is_some() && self.loaded == place_of(self.rt, name) {
+        if name == INPUT_NAME || self.loaded.is_some() && self.loaded == place_of(self.rt, name) {
             return Err(FileFault::Named);
         }
         put(alloc, self.rt, name, bytes)

@@ -1,55 +1,97 @@
 //! The lines of protocol edges.
 
-use crate::cells::number_cell;
-use crate::steps::numbers;
+use crate::cells::right_cell;
+use crate::runs::{Runs, run_text};
 use conflict_edges::Edges;
 use sc_graph::{NodeId, Program, Step, VariableId};
-use sqlite_items::Items;
 use std::alloc::{AllocError, Global};
 
-// Whether a step writes a variable.
-fn writes(step: &Step, variable: VariableId) -> bool {
+// How a step writes a variable.
+#[derive(Clone, Copy, PartialEq, Eq)]
+enum Access {
+    Init,
+    Update,
+}
+
+// How a step writes this variable.
+fn writing(step: &Step, variable: VariableId) -> Option<Access> {
     match step {
         Step::Assign {
             variable: written,
             ..
-        } => *written == variable,
+        } if *written == variable => Some(Access::Init),
         Step::Update {
             variable: written,
             ..
-        } => *written == variable,
-        _ => false,
+        } if *written == variable => Some(Access::Update),
+        _ => None,
     }
 }
 
-// Puts those of some nodes that are concurrent with a node behind the others.
-fn put_concurrent(
+// How a node writes this variable.
+fn writing_at(program: &Program, node: NodeId, variable: VariableId) -> Option<Access> {
+    match program.step(node) {
+        Some(step) => writing(step, variable),
+        None => None,
+    }
+}
+
+// Adds those of some nodes that are concurrent with a node.
+fn add_concurrent(
     edges: &Edges<'_>,
     node: NodeId,
     others: &[NodeId],
-    kept: &mut Items<NodeId>,
+    runs: &mut Runs,
 ) -> Result<(), AllocError> {
     for other in others {
         let other = *other;
         if edges.are_concurrent(node, other) {
-            kept.push(other)?;
+            runs.add(other)?;
         }
     }
     Ok(())
 }
 
-// The line of the edges from a node: the nodes that update and then those that read. None: there is no edge.
-fn from_node(alloc: Global, edges: &Edges<'_>, node: NodeId) -> Result<Option<String>, AllocError> {
+// The nodes to which edges lead from a node: those that update and then those that read.
+fn behind(alloc: Global, edges: &Edges<'_>, node: NodeId) -> Result<String, AllocError> {
     let followers = edges.followers(node);
-    let mut kept: Items<NodeId> = Items::new(alloc);
-    put_concurrent(edges, node, followers.updates, &mut kept)?;
-    put_concurrent(edges, node, followers.reads, &mut kept)?;
-    if kept.is_empty() {
-        return Ok(None);
+    let mut runs = Runs::new(alloc);
+    add_concurrent(edges, node, followers.updates, &mut runs)?;
+    add_concurrent(edges, node, followers.reads, &mut runs)?;
+    runs.into_text()
+}
+
+// Nodes of one thread, one behind the other, that write a variable in one way. So edges lead from each to the same
+// nodes.
+#[derive(Clone, Copy)]
+struct Writers {
+    first: NodeId,
+    last: NodeId,
+    writing: Access,
+}
+
+// Whether a node that writes so comes behind these and belongs to them.
+fn goes_on(program: &Program, writers: Writers, node: NodeId, writing: Access) -> bool {
+    writers.writing == writing
+        && writers.last.checked_add(1) == Some(node)
+        && program.owner(writers.last) == program.owner(node)
+}
+
+// Puts the line of the edges from these nodes behind a text, if there are edges.
+fn put_line(
+    alloc: Global,
+    edges: &Edges<'_>,
+    writers: Writers,
+    text: &mut String,
+) -> Result<(), AllocError> {
+    let behind = behind(alloc, edges, writers.first)?;
+    if behind.is_empty() {
+        return Ok(());
     }
-    let first = number_cell(alloc, 5, node as u32)?;
-    let others = numbers(alloc, kept.as_slice())?;
-    Ok(Some(format!(in alloc; "    {first} ->{others}\n")?))
+    let numbers = run_text(alloc, writers.first, writers.last)?;
+    let first = right_cell(alloc, 5, numbers.as_str())?;
+    let line = format!(in alloc; "    {first} ->{behind}\n")?;
+    text.push_str(line.as_str())
 }
 
 // The lines of the edges from nodes that write a variable.
@@ -60,21 +102,36 @@ fn of_variable(
     variable: VariableId,
 ) -> Result<String, AllocError> {
     let mut text = String::new(alloc);
+    let mut open: Option<Writers> = None;
     for node in 0..program.node_count() {
-        match program.step(node) {
-            Some(step) if writes(step, variable) => {
-                if let Some(line) = from_node(alloc, edges, node)? {
-                    text.push_str(line.as_str())?;
+        if let Some(writing) = writing_at(program, node, variable) {
+            let alone = Writers {
+                first: node,
+                last: node,
+                writing,
+            };
+            open = match open {
+                Some(writers) if goes_on(program, writers, node, writing) => Some(Writers {
+                    first: writers.first,
+                    last: node,
+                    writing,
+                }),
+                Some(writers) => {
+                    put_line(alloc, edges, writers, &mut text)?;
+                    Some(alone)
                 }
-            }
-            _ => {}
+                None => Some(alone),
+            };
         }
+    }
+    if let Some(writers) = open {
+        put_line(alloc, edges, writers, &mut text)?;
     }
     Ok(text)
 }
 
-/// The lines of protocol edges: for each variable that has some its name, and below it a line for each node from which
-/// edges lead.
+/// The lines of protocol edges: for each variable that has some its name, and below it a line for each row of nodes of
+/// one thread that write it in one way, with the nodes to which edges lead from each of them. Err: memory was refused.
 pub(crate) fn edges_text(
     alloc: Global,
     program: &Program,

@@ -5,6 +5,7 @@ mod cells;
 mod edges;
 mod listing;
 mod nodes;
+mod runs;
 mod steps;
 mod threads;
 mod variables;

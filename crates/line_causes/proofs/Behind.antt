@@ -1,5 +1,6 @@
 -- Bytes behind lines, line feed by line feed.
-use Rattle.std.proofs.Common.{◌≡◌, ℕ, ◌+◌, ◌-◌, Bool, true, false, List, [], ◌++◌, take, drop, length, length-drop, position, Option, Some, None, is_some, refl, ap, sym, ◌∙◌, subst, arith, suc, append_assoc}
+use Rattle.std.proofs.Common.{◌≡◌, ℕ, ◌+◌, ◌-◌, Bool, true, false, List, [], ◌++◌, take, drop, length}
+use Rattle.std.proofs.Common.{length-drop, position, Option, Some, None, is_some, refl, ap, sym, ◌∙◌, subst, arith, suc, append_assoc}
 use Rattle.std.proofs.Math.Seq.{take-length}
 use Rattle.std.proofs.lemmas.Option.{cond_some}
 use Rattle.std.specs.Io.KnownBytes.{Consumes, IsAtEnd}

@@ -1,5 +1,6 @@
 -- The line that is given of the bytes that are kept.
-use Rattle.std.proofs.Common.{◌≡◌, ◌≢◌, ℕ, ◌+◌, ◌-◌, ◌<◌, ◌≤◌, Bool, true, false, List, [], ◌∷◌, ◌++◌, length, Option, Some, None, inl, inr, refl, ap, sym, ◌∙◌, subst, arith, append-nil, length-append}
+use Rattle.std.proofs.Common.{◌≡◌, ◌≢◌, ℕ, ◌+◌, ◌-◌, ◌<◌, ◌≤◌, Bool, true, false, List, [], ◌∷◌, ◌++◌}
+use Rattle.std.proofs.Common.{length, Option, Some, None, inl, inr, refl, ap, sym, ◌∙◌, subst, arith, append-nil, length-append}
 use Rattle.trace_lines.specs.Lines.{has_feed, first_line, ahead, line_limit}
 use Rattle.trace_lines.proofs.Feeds.{first_line-append, first_line-none, length-feed, length-first_line}
 use Rattle.line_causes.specs.declared.line.Line.{Line}
@@ -68,8 +69,12 @@ unknown known all none some = absurd cc
 same_of : (all other : List ℕ) → Some all ≡ Some other → all ≡ other
 same_of all other known = cc
 
-long_of : (all : List ℕ) (to_come : Option (List ℕ)) (rest : List ℕ) (n : ℕ) → line_limit < length (first_line (behind_lines n all)) → Begins n all (first_line (behind_lines n all))
-long_of all to_come rest n long = (λ e. let none_left : length (first_line (behind_lines n all)) ≡ 0 = ap (λ xs. length (first_line xs)) e in absurd (omega arith), refl)
+long_of : (all : List ℕ) (to_come : Option (List ℕ)) (rest : List ℕ) (n : ℕ) → line_limit < length (first_line (behind_lines n all))
+    → Begins n all (first_line (behind_lines n all))
+long_of all to_come rest n long = (
+  λ e. let none_left : length (first_line (behind_lines n all)) ≡ 0 = ap (λ xs. length (first_line xs)) e in absurd (omega arith),
+  refl,
+)
 
 pub long_line : (input to_come : Option (List ℕ)) (rest : List ℕ) (n : ℕ) → has_feed rest ≡ false → line_limit < length rest
     → AreBehind input n (ahead rest to_come) → IsLong input (n + 1)

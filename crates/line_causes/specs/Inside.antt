@@ -22,7 +22,8 @@ Leads held n held' n' = (input to_come : Option (List ℕ)) → AreBehind input 
 
 -- bytes and more behind them lead so to these
 abbrev pub LeadsOn : List ℕ → List ℕ → ℕ → List ℕ → ℕ → Type 0
-LeadsOn held more n held' n' = (input to_come : Option (List ℕ)) → AreBehind input n (ahead held (ahead more to_come)) → AreBehind input n' (ahead held' to_come)
+LeadsOn held more n held' n' = (input to_come : Option (List ℕ)) → AreBehind input n (ahead held (ahead more to_come))
+    → AreBehind input n' (ahead held' to_come)
 
 -- no byte is to come
 abbrev pub HasEnded : Option (List ℕ) → Type 0

@@ -25,7 +25,8 @@ fn into_object(json: Json) -> Option<Map<String, Json>>
 
 // The members of the JSON object that a line is; None where it is none.
 fn object_of(alloc: Global, line: &[u8]) -> Result<Option<Map<String, Json>>, AllocError>
-    ensures object { IfOk result (λ object. IfSome object (λ members. IsObjectOf line.now (members_view members.entries))) }
+    ensures object { IfOk result (λ object. IfSome object
+        (λ members. IsObjectOf line.now (members_view members.entries))) }
     ensures none { IfOk result (λ object. object ≡ None → (members : Members) → ¬ IsObjectOf line.now members) }
 {
     match Json::from_slice(alloc, line) {

@@ -25,8 +25,8 @@ pub(crate) fn cut(bytes: &[u8]) -> Option<(&[u8], &[u8])>
     Some((&bytes[..at], &bytes[at + 1..]))
 }
 
-/// The bytes behind the last line feed, and behind how many lines they are, where these bytes are behind `before`. None:
-/// the lines cannot be counted.
+/// The bytes behind the last line feed, and behind how many lines they are, where these bytes are behind `before`.
+/// None: the lines cannot be counted.
 #[tactic(auto, using(crate::proofs::Behind::leads_none))]
 pub(crate) fn last_line(bytes: &[u8], before: u64) -> Option<(&[u8], u64)>
     ensures { IfSome result (λ r. Leads bytes.now before r.0.now r.1) }

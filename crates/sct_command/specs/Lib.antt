@@ -1,5 +1,6 @@
 pub mod Answer
 pub mod Drawing
+pub mod Explained
 pub mod Explaining
 pub mod Keeping
 pub mod Listing
