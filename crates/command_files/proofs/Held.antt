@@ -41,10 +41,12 @@ no_compiled files name bytes f held (inl why) = inl (no_source files name bytes 
 no_compiled files name bytes f held (inr why) = inr (no_image files name bytes f held why)
 
 -- so what was made of these bytes was made of the file
-pub compiled_in : (files : Option Contents) (name items bytes : List ℕ) (r : Result Image Fault) → HasBytes files name items → bytes ≡ items → IfOk r (SpellsImage bytes) → IfOk r (IsCompiledFrom files name)
+pub compiled_in : (files : Option Contents) (name items bytes : List ℕ) (r : Result Image Fault) → HasBytes files name items → bytes ≡ items
+    → IfOk r (SpellsImage bytes) → IfOk r (IsCompiledFrom files name)
 compiled_in files name items bytes (Ok image) held same is = compiled files name bytes image (subst (HasBytes files name) (sym same) held) is
 compiled_in files name items bytes (Err f) held same is = tt
 
-pub refused_in : (files : Option Contents) (name items bytes : List ℕ) (r : Result Image Fault) → HasBytes files name items → bytes ≡ items → IfErr r (BytesLackCompiled bytes) → IfErr r (FileLacksCompiled files name)
+pub refused_in : (files : Option Contents) (name items bytes : List ℕ) (r : Result Image Fault) → HasBytes files name items → bytes ≡ items
+    → IfErr r (BytesLackCompiled bytes) → IfErr r (FileLacksCompiled files name)
 refused_in files name items bytes (Ok image) held same why = tt
 refused_in files name items bytes (Err f) held same why = no_compiled files name bytes f (subst (HasBytes files name) (sym same) held) why

@@ -15,7 +15,8 @@ use Rattle.core_charts.specs.declared.region.Region.TheViews.{roll-State, out-Re
 use Rattle.core_charts.specs.declared.region.Region.TheFolds.{fold_out-Region, fold_out-State}
 use Rattle.core_charts.specs.Chart.{Chart}
 use Rattle.core_charts.specs.Rules.{IsChart, AreRegions, IsRegion, IsBareIfFinal, depth_limit}
-use Rattle.core_charts.specs.Aborts.{has_strong, has_weak, has_aborts, some_of, region_aborts, state_aborts, region_has_aborts, state_has_aborts, chart_has_aborts}
+use Rattle.core_charts.specs.Aborts.{has_strong, has_weak, has_aborts, some_of, region_aborts, state_aborts}
+use Rattle.core_charts.specs.Aborts.{region_has_aborts, state_has_aborts, chart_has_aborts}
 use Rattle.node_states.specs.Nodes as row
 use Rattle.abort_expansion.specs.declared.flags.Flags.{Flags}
 use Rattle.abort_expansion.specs.declared.places.Places.{Places}
