@@ -33,7 +33,12 @@ pub(crate) fn going_on_ranks(
         (length program.now.nodes)) }
     ensures in_tick { IfOk result (IsFalling (InTick program.now) (length program.now.nodes)) }
 {
-    table_or_cycle(alloc, &GoingOn { program, ends }, program.node_count(), hints)
+    table_or_cycle(
+        alloc,
+        &GoingOn { program, ends },
+        program.node_count(),
+        hints,
+    )
 }
 
 /// The edges to where a thread goes on in the same tick, and over each fork whose children may all end at once,
