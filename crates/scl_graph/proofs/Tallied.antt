@@ -105,7 +105,8 @@ rows_total (b ∷ bodies) =
     ap (λ c. sum (as_branch c) (branches_total (map (map tally_of) bodies))) (row_total b)
     ∙ ap (λ c. sum (as_branch (totals_of_all b)) c) (rows_total bodies)
 
-pub branches_total_is : (bodies : List (List Statement)) (parts : List (List Tally)) → parts ≡ map (map tally_of) bodies → branches_total parts ≡ branches_totals bodies
+pub branches_total_is : (bodies : List (List Statement)) (parts : List (List Tally)) → parts ≡ map (map tally_of) bodies →
+    branches_total parts ≡ branches_totals bodies
 branches_total_is bodies parts is = ap branches_total is ∙ rows_total bodies
 
 tally_in : (xs : List Statement) (i : ℕ) (s : Statement) (t : Tally) → i < length xs → s ≡ get_or xs i s → t ≡ get_or (map tally_of xs) i t → t ≡ tally_of s
@@ -138,7 +139,8 @@ second_part s t e a b is of =
     let q : List Tally = map tally_of b in
     ap (λ x. part x 1) (of ∙ ap tally_of is ∙ tally_of_if e a b) ∙ part_of (sum (of_nodes 1) (sum (total p) (total q))) (p ∷ q ∷ []) 1
 
-pub fork_is : (s : Statement) (t : Tally) (bodies : List (List Statement)) → s ≡ variant.Fork bodies → t ≡ tally_of s → t ≡ fork_tally (map (map tally_of) bodies)
+pub fork_is : (s : Statement) (t : Tally) (bodies : List (List Statement)) → s ≡ variant.Fork bodies → t ≡ tally_of s →
+    t ≡ fork_tally (map (map tally_of) bodies)
 fork_is s t bodies is of = of ∙ ap tally_of is ∙ tally_of_fork bodies
 
 part_in : (bodies : List (List Statement)) (i : ℕ) (b : List Statement) → i < length bodies → b ≡ get_or bodies i b

@@ -47,7 +47,7 @@ pub(crate) fn lay_forked<T: Targets>(
 
 // Puts the threads that a statement forks behind the others, and their nodes.
 #[cycle(forking)]
-#[tactic(auto, using(crate::proofs::Tallied::first_part, crate::proofs::Tallied::second_part, crate::proofs::Tallied::branch_part, crate::proofs::Tallied::fork_is))]
+#[tactic(auto, using(crate::proofs::Tallied::first_part, crate::proofs::Tallied::second_part))]
 fn lay_forked_by<T: Targets>(
     alloc: Global,
     statement: &Statement,

@@ -116,7 +116,7 @@ pub(crate) fn gather_forked(
 
 // Notes the labels of the threads that a statement forks.
 #[cycle(gathering_forked)]
-#[tactic(auto, using(crate::proofs::Tallied::first_part, crate::proofs::Tallied::second_part, crate::proofs::Tallied::branch_part, crate::proofs::Tallied::fork_is))]
+#[tactic(auto, using(crate::proofs::Tallied::first_part, crate::proofs::Tallied::second_part))]
 fn gather_forked_by(
     statement: &Statement,
     tally: &Tally,

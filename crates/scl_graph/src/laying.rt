@@ -51,7 +51,7 @@ pub(crate) fn lay<T: Targets>(
 
 // Puts the nodes of a thread for a statement behind the others.
 #[cycle(laying)]
-#[tactic(auto, using(crate::proofs::Tallied::first_part, crate::proofs::Tallied::second_part, crate::proofs::Tallied::fork_is))]
+#[tactic(auto, using(crate::proofs::Tallied::first_part, crate::proofs::Tallied::second_part))]
 fn lay_statement<T: Targets>(
     alloc: Global,
     statement: &Statement,

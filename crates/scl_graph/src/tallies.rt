@@ -2,7 +2,8 @@
 
 ghost use Rattle.std.specs.Prelude.{◌≡◌, [], IfOk, map};
 ghost use Rattle.scl_graph.specs.Counting.{AreSmall, counts_of, counts_of_all};
-ghost use Rattle.scl_graph.specs.Inside.Tallies.{branches_total, fork_tally, if_tally, of_nodes, part, sizes_of, tallied, tally_of, total};
+ghost use Rattle.scl_graph.specs.Inside.Tallies.{branches_total, fork_tally, if_tally, of_nodes, tallied, total};
+ghost use Rattle.scl_graph.specs.Inside.Tallies.{part, sizes_of, tally_of};
 ghost use Rattle.scl_graph.specs.Inside.Totals.{AreCounted, sum, totals_of, totals_of_all};
 ghost use Rattle.scl_graph.specs.declared.tallies.Tally.TheViews.{out-Tally};
 
@@ -49,7 +50,6 @@ pub(crate) fn tallies_of(
 
 // The tally of a statement.
 #[cycle(tallying)]
-#[tactic(auto, using(crate::proofs::Tallied::tally_of_assign, crate::proofs::Tallied::tally_of_label, crate::proofs::Tallied::tally_of_goto, crate::proofs::Tallied::tally_of_pause, crate::proofs::Tallied::tally_of_fork, crate::proofs::Tallied::total_is, crate::proofs::Tallied::branches_total_is))]
 fn tally_of(alloc: Global, statement: &Statement) -> Result<Tally, AllocError>
     requires { AreCounted (totals_of statement.now) }
     ensures { IfOk result (λ tally. tally ≡ tally_of statement.now) }

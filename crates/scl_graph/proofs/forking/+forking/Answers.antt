@@ -1,4 +1,4 @@
-use Rattle.std.proofs.Common.{rules, ◌≡◌, ℕ, ◌+◌, Some, List, [], ◌∷◌, drop, map, ap, sym, subst, ◌∙◌}
+use Rattle.std.proofs.Common.{◌≡◌, ℕ, ◌+◌, Some, List, [], ◌∷◌, drop, map, ap, sym, subst, ◌∙◌}
 use Rattle.std.proofs.lemmas.List.{drop_all}
 use Rattle.sc_graph.specs.declared.program.Node.{Node}
 use Rattle.sc_graph.specs.declared.program.Thread.{Thread}
@@ -10,7 +10,7 @@ use Rattle.scl_graph.specs.Inside.Laying.{HasRoom, after, past}
 use Rattle.scl_graph.specs.Inside.Tallies.{fork_tally, tally_of}
 use Rattle.scl_graph.specs.Inside.Forking.{AreBranchesLaid, AreForkedLaid, HasBranchesRoom, IsThreadLaid, inside, past_branch}
 use Rattle.scl_graph.proofs.Laid.{ok_then, room_more, split_at}
-use Rattle.scl_graph.proofs.Branching.{branches_more, fork_room, further_room, inner_room, forked_fork, forked_if, forked_more, forked_none}
+use Rattle.scl_graph.proofs.Branching.{branches_more, fork_room, further_room, forked_fork, forked_if, forked_more, forked_none}
 use Rattle.scl_graph.proofs.Tallied.{branch_part, fork_is}
 use Rattle.scl_graph.proofs.forking.+forking.Goals as goal
 
@@ -139,7 +139,9 @@ lay_forked_by-known_counts-counts-requires-clause-tallied g t c =
     let whole : c.args.tally.now ≡ fork_tally (map (map tally_of) items) =
     fork_is c.args.statement.now c.args.tally.now c.in-Fork.branches c.in-Fork.is c.requires.tallied
     ∙ ap (λ bs. fork_tally (map (map tally_of) bs)) (sym c.as_slice-bodies.ensures) in
-    c.part-tallies.ensures ∙ branch_part c.args.tally.now items i b whole c.loop-place-test.true c.index-bodies-place.is ∙ ap (map tally_of) (sym c.as_slice-body.ensures)
+    c.part-tallies.ensures
+    ∙ branch_part c.args.tally.now items i b whole c.loop-place-test.true c.index-bodies-place.is
+    ∙ ap (map tally_of) (sym c.as_slice-body.ensures)
 
 pub lay_forked_by-lay_thread-requires-clause-tallied : goal.lay_forked_by-lay_thread-requires-clause-tallied
 lay_forked_by-lay_thread-requires-clause-tallied g t c =
@@ -149,4 +151,6 @@ lay_forked_by-lay_thread-requires-clause-tallied g t c =
     let whole : c.args.tally.now ≡ fork_tally (map (map tally_of) items) =
     fork_is c.args.statement.now c.args.tally.now c.in-Fork.branches c.in-Fork.is c.requires.tallied
     ∙ ap (λ bs. fork_tally (map (map tally_of) bs)) (sym c.as_slice-bodies.ensures) in
-    c.part-tallies.ensures ∙ branch_part c.args.tally.now items i b whole c.loop-place-test.true c.index-bodies-place.is ∙ ap (map tally_of) (sym c.as_slice-body.ensures)
+    c.part-tallies.ensures
+    ∙ branch_part c.args.tally.now items i b whole c.loop-place-test.true c.index-bodies-place.is
+    ∙ ap (map tally_of) (sym c.as_slice-body.ensures)

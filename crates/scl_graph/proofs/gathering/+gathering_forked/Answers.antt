@@ -1,4 +1,4 @@
-use Rattle.std.proofs.Common.{rules, ◌≡◌, ℕ, ◌+◌, List, [], ◌∷◌, drop, map, ap, sym, subst, ◌∙◌}
+use Rattle.std.proofs.Common.{◌≡◌, ℕ, ◌+◌, List, [], ◌∷◌, drop, map, ap, sym, subst, ◌∙◌}
 use Rattle.std.proofs.lemmas.List.{drop_all}
 use Rattle.scl.specs.declared.statement.Statement.{Statement}
 use Rattle.scl_graph.specs.declared.landing.Landing.{Landing}
@@ -10,7 +10,7 @@ use Rattle.scl_graph.specs.Inside.Tallies.{fork_tally, tally_of}
 use Rattle.scl_graph.specs.Inside.Gathering.{AreBranchesGathered, AreForkedGathered, IsGathered, Noted}
 use Rattle.scl_graph.proofs.Laid.{ok_then, split_at}
 use Rattle.scl_graph.proofs.Gathered.{branches_gathered_more, branches_gathered_none, lower_fork, lower_if, lower_more, lower_none}
-use Rattle.scl_graph.proofs.SpotRooms.{spot_fork_room, spot_further_room, spot_inner_room, spot_room_more}
+use Rattle.scl_graph.proofs.SpotRooms.{spot_fork_room, spot_further_room, spot_room_more}
 use Rattle.scl_graph.proofs.Tallied.{branch_part, fork_is}
 use Rattle.scl_graph.proofs.gathering.+gathering_forked.Goals as goal
 
@@ -121,3 +121,14 @@ gather_forked_by-returns-after-loop-place t c =
     let labels : Noted = c.loop-place.labels in
     let Left : List (List Statement) → Type 0 = λ zs. AreBranchesGathered zs here labels labels in
     c.loop-place.invariant.gathered labels (subst Left (sym (drop_all c.loop-place.place c.as_slice-bodies.result.now c.loop-place-test.false)) (branches_gathered_none here labels))
+
+pub gather_forked_by-known_totals-totals-requires-clause-tallied : goal.gather_forked_by-known_totals-totals-requires-clause-tallied
+gather_forked_by-known_totals-totals-requires-clause-tallied t c =
+    let items : List (List Statement) = c.as_slice-bodies.result.now in
+    let i : ℕ = c.loop-place.place in
+    let whole : c.args.tally.now ≡ fork_tally (map (map tally_of) items) =
+    fork_is c.args.statement.now c.args.tally.now c.in-Fork.branches c.in-Fork.is c.requires.tallied
+    ∙ ap (λ bs. fork_tally (map (map tally_of) bs)) (sym c.as_slice-bodies.ensures) in
+    c.part-tallies.ensures
+    ∙ branch_part c.args.tally.now items i c.index-bodies-place.result whole c.loop-place-test.true c.index-bodies-place.is
+    ∙ ap (map tally_of) (sym c.as_slice-body.ensures)

@@ -1,4 +1,4 @@
-use Rattle.std.proofs.Common.{◌≡◌, ℕ, suc, ◌+◌, List, [], ◌∷◌, ◌++◌, drop, ap, sym, subst, ◌∙◌}
+use Rattle.std.proofs.Common.{◌≡◌, ℕ, suc, ◌+◌, List, [], ◌∷◌, ◌++◌, drop, map, ap, sym, subst, ◌∙◌}
 use Rattle.std.proofs.lemmas.List.{drop_all, take_rest}
 use Rattle.sc_values.specs.Expr.{postorder}
 use Rattle.sc_graph.specs.declared.program.Node.{Node}
@@ -9,9 +9,11 @@ use Rattle.scl_graph.specs.declared.numbers.Numbers.{Numbers}
 use Rattle.scl_graph.specs.declared.way.Way.{Way}
 use Rattle.scl_graph.specs.Graph.{node}
 use Rattle.scl_graph.specs.Inside.Laying.{HasRoom, IsLaid, after, children, past, way_behind, way_in}
+use Rattle.scl_graph.specs.Inside.Tallies.{fork_tally, tally_of}
 use Rattle.scl_graph.specs.Counting.{AreSmall, branches_counts, counts_of, counts_of_all}
 use Rattle.scl_graph.proofs.Branching.{fork_room}
 use Rattle.scl_graph.proofs.Laid.{laid_none, laid_more, leads_behind, laid_if, laid_fork, ok_then, room_more, split_at}
+use Rattle.scl_graph.proofs.Tallied.{fork_is}
 use Rattle.scl_graph.proofs.laying.+laying.Goals as goal
 
 pub lay-loop-i-init : goal.lay-loop-i-init
@@ -115,3 +117,8 @@ pub lay_statement-children_of-requires-clause-small : goal.lay_statement-childre
 lay_statement-children_of-requires-clause-small g t c =
     let Small : List (List Statement) → Type 0 = λ bs. AreSmall (branches_counts bs) in
     subst Small (sym c.as_slice.ensures) (fork_room c.args.at c.args.statement.now c.in-Fork.branches c.in-Fork.is c.requires.room).small
+
+pub lay_statement-children_of-requires-clause-tallied : goal.lay_statement-children_of-requires-clause-tallied
+lay_statement-children_of-requires-clause-tallied g t c =
+    fork_is c.args.statement.now c.args.tally.now c.in-Fork.branches c.in-Fork.is c.requires.tallied
+    ∙ ap (λ bs. fork_tally (map (map tally_of) bs)) (sym c.as_slice.ensures)

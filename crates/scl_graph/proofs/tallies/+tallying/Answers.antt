@@ -25,7 +25,10 @@ tally_of-returns-in_ok-second-in-If t c =
     ok_then c.tally_of_if.result
     (λ v. v ≡ if_tally p q)
     (λ v. v ≡ tally_of c.args.statement.now)
-    (λ v h. h ∙ ap (λ x. if_tally x q) first ∙ ap (λ x. if_tally (map tally_of a) x) second ∙ sym (ap tally_of c.in-If.is ∙ tally_of_if c.in-If.test a b))
+    (λ v h. h
+    ∙ ap (λ x. if_tally x q) first
+    ∙ ap (λ x. if_tally (map tally_of a) x) second
+    ∙ sym (ap tally_of c.in-If.is ∙ tally_of_if c.in-If.test a b))
     c.tally_of_if.ensures
 
 pub tally_of-tally_of_fork-requires : goal.tally_of-tally_of_fork-requires
