@@ -53,14 +53,19 @@ def forks_of_one(n):
     return HEAD + ("fork { " + chain + "} join; ") * chains + "}"
 
 
-def labels(n):
-    """Ifs and forks in one another, as deep as may be, and so many labels in the innermost."""
+def labels(n, depth=1056):
+    """So many ifs in one another, with the forks that they need, at most as deep as may be, and so many labels in the innermost."""
     text = "".join(f"L{i}: " for i in range(n))
-    for k in range(33):
-        text = "if (A) { " * 32 + text + "} " * 32
-        if k < 32:
+    for k in range(depth):
+        text = "if (A) { " + text + "} "
+        if k % 32 == 31 and k < depth - 1:
             text = "fork { " + text + "} join; "
     return HEAD + text + "}"
+
+
+def labels_deep(n):
+    """The same, the deeper the more labels there are."""
+    return labels(n, min(1056, n * 1056 // 2400))
 
 
 def sums_of_each_other(n):
@@ -112,4 +117,4 @@ SLOW = [("a loop of one node before a row", loop_before_row), ("a row beside a c
         ("gotos into a row, in a loop", jumps_into_row), ("the same, where the row reads itself", jumps_into_reads),
         ("chains of forks of one branch", forks_of_one), ("a chart of sums of each other", sums_of_each_other),
         ("deep forks of eight branches", deep_forks), ("240 variables of few users each", few_users_each),
-        ("many forks, the last of which alone is a circle", last_circle_alone), ("gotos into loops", gotos_into_loops)]
+        ("many forks, the last of which alone is a circle", last_circle_alone), ("gotos into loops", gotos_into_loops), ("labels within ifs and forks", labels_deep)]

@@ -156,7 +156,9 @@ fn add_pairs(
     seconds: &[Group],
 ) -> Result<(), AllocError> {
     for first in firsts {
-        add_pairs_of(edges, arcs, *first, seconds)?;
+        if edges.has_company(first.node) {
+            add_pairs_of(edges, arcs, *first, seconds)?;
+        }
     }
     Ok(())
 }

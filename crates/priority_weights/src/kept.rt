@@ -130,10 +130,13 @@ fn all_fall(edges: &Edges, table: &[u32], firsts: &[NodeId], seconds: &[NodeId])
     true
 }
 
-// Whether a table falls from a node to each concurrent one of these.
+// Whether a table falls from a node to each concurrent one of these. A node without company has none.
 fn falls_to_all(edges: &Edges, table: &[u32], m: NodeId, seconds: &[NodeId]) -> bool
     ensures { IsTrue result → ((n : ℕ) → Contains seconds.now n → FallsTo edges.now table.now m n) }
 {
+    if !edges.has_company(m) {
+        return true;
+    }
     for n in seconds {
         if !falls_to(edges, table, m, *n) {
             return false;
