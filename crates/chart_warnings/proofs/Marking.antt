@@ -1,7 +1,7 @@
 -- Marks of what lists of numbers name.
 use Rattle.std.proofs.Common.{ℕ, ◌≡◌, ◌≢◌, ◌<◌, Bool, true, false, ◌||◌, not, nat_eq, Option, Some, None, List, [], ◌∷◌, ◌++◌}
 use Rattle.std.proofs.Common.{length, get_or, slice_set, replicate, map, drop, drop-cons, add-one, suc, ◌+◌}
-use Rattle.std.proofs.Common.{refl, sym, ap, subst, ◌∙◌, arith, eqb-true, if◌then◌else◌}
+use Rattle.std.proofs.Common.{refl, sym, ap, subst, ◌∙◌, arith, rules, eqb-true, if◌then◌else◌}
 use Rattle.std.specs.List.{list_any, filter, flat_map}
 use Rattle.std.proofs.lemmas.Bool.{eq-eqb}
 use Rattle.std.proofs.lemmas.List.{get_or-set_other, get_or-replicate, length-replicate}
@@ -135,13 +135,22 @@ pub both_marked : (w : Way) (some others whole : List Transition) (first second 
 both_marked w some others whole first second third one two is =
     two ∙ ap (λ m. marked (all_by w others) m) one ∙ sym (marked_within w some others first) ∙ ap (λ ts. marked (all_by w ts) first) (sym is)
 
+pub listed_marked : {X : Type 0} (f : X → List ℕ) (xs : List X) (i : ℕ) (x : X) (marks new done : List Bool) →
+    i < length xs → x ≡ get_or xs i x → new ≡ marked (f x) marks →
+    marked (flat_map f (drop i xs)) marks ≡ done → marked (flat_map f (drop (i + 1) xs)) new ≡ done
+listed_marked f xs i x marks new done less is more before =
+    ap (λ m. marked (flat_map f (drop (i + 1) xs)) m) more
+    ∙ sym (marked_append (f x) (flat_map f (drop (i + 1) xs)) marks)
+    ∙ ap (λ ys. marked (flat_map f ys) marks) (sym (split_at xs i x less is))
+    ∙ before
+
 pub piece_marked : {X : Type 0} (w : Way) (f : X → List Transition) (xs : List X) (i : ℕ) (x : X) (marks new done : List Bool) →
     i < length xs → x ≡ get_or xs i x → new ≡ marked (all_by w (f x)) marks →
     marked (all_by w (joined (map f (drop i xs)))) marks ≡ done →
     marked (all_by w (joined (map f (drop (i + 1) xs)))) new ≡ done
 piece_marked w f xs i x marks new done less is more before =
-    sym (both_marked w (f x) (joined (map f (drop (i + 1) xs))) (joined (map f (drop i xs))) marks new
-      (marked (all_by w (joined (map f (drop (i + 1) xs)))) new) more refl (ap (λ ys. joined (map f ys)) (split_at xs i x less is)))
+    both_marked w (f x) (joined (map f (drop (i + 1) xs))) (joined (map f (drop i xs))) marks new
+      (marked (all_by w (joined (map f (drop (i + 1) xs)))) new) more refl (ap (λ ys. joined (map f ys)) (split_at xs i x less is))
     ∙ before
 
 pub entry_marked : (w : Way) (xs : List State) (i : ℕ) (s : State) (marks new done : List Bool) →
@@ -149,10 +158,10 @@ pub entry_marked : (w : Way) (xs : List State) (i : ℕ) (s : State) (marks new 
     marked (all_by w (entered (map entry_of_state (drop i xs)))) marks ≡ done →
     marked (all_by w (entered (map entry_of_state (drop (i + 1) xs)))) new ≡ done
 entry_marked w xs i s marks new done less is more before =
-    sym (both_marked w (when_initial (entry_of_state s)) (entered (map entry_of_state (drop (i + 1) xs)))
+    both_marked w (when_initial (entry_of_state s)) (entered (map entry_of_state (drop (i + 1) xs)))
       (entered (map entry_of_state (drop i xs))) marks new
       (marked (all_by w (entered (map entry_of_state (drop (i + 1) xs)))) new) more refl
-      (ap (λ ys. entered (map entry_of_state ys)) (split_at xs i s less is)))
+      (ap (λ ys. entered (map entry_of_state ys)) (split_at xs i s less is))
     ∙ before
 
 pub target_marked : (states : List State) (i : ℕ) (s : State) (marks new done : List Bool) →
