@@ -1,7 +1,7 @@
 -- Marks of what lists of numbers name.
-use Rattle.std.proofs.Common.{ℕ, ◌≡◌, ◌≢◌, ◌<◌, Bool, true, false, ◌||◌, not, nat_eq, Option, Some, None, List, [], ◌∷◌, ◌++◌}
+use Rattle.std.proofs.Common.{ℕ, ◌≡◌, ◌≢◌, ◌<◌, Bool, true, false, ◌||◌, not, nat_eq, Some, None, List, [], ◌∷◌, ◌++◌}
 use Rattle.std.proofs.Common.{length, get_or, slice_set, replicate, map, drop, drop-cons, add-one, suc, ◌+◌}
-use Rattle.std.proofs.Common.{refl, sym, ap, subst, ◌∙◌, arith, rules, cond, eqb-true, if◌then◌else◌}
+use Rattle.std.proofs.Common.{refl, sym, ap, subst, ◌∙◌, rules, cond, eqb-true, if◌then◌else◌}
 use Rattle.std.specs.List.{list_any, filter, flat_map}
 use Rattle.std.proofs.lemmas.Bool.{eq-eqb}
 use Rattle.std.proofs.lemmas.List.{get_or-set_other, get_or-replicate, length-replicate}
@@ -152,7 +152,7 @@ pub piece_marked : {X : Type 0} (w : Way) (f : X → List Transition) (xs : List
     marked (all_by w (joined (map f (drop (i + 1) xs)))) new ≡ done
 piece_marked w f xs i x marks new done less is more before =
     both_marked w (f x) (joined (map f (drop (i + 1) xs))) (joined (map f (drop i xs))) marks new
-      (marked (all_by w (joined (map f (drop (i + 1) xs)))) new) more refl (ap (λ ys. joined (map f ys)) (split_at xs i x less is))
+    (marked (all_by w (joined (map f (drop (i + 1) xs)))) new) more refl (ap (λ ys. joined (map f ys)) (split_at xs i x less is))
     ∙ before
 
 pub entry_marked : (w : Way) (xs : List State) (i : ℕ) (s : State) (marks new done : List Bool) →
@@ -161,9 +161,9 @@ pub entry_marked : (w : Way) (xs : List State) (i : ℕ) (s : State) (marks new 
     marked (all_by w (entered (map entry_of_state (drop (i + 1) xs)))) new ≡ done
 entry_marked w xs i s marks new done less is more before =
     both_marked w (when_initial (entry_of_state s)) (entered (map entry_of_state (drop (i + 1) xs)))
-      (entered (map entry_of_state (drop i xs))) marks new
-      (marked (all_by w (entered (map entry_of_state (drop (i + 1) xs)))) new) more refl
-      (ap (λ ys. entered (map entry_of_state ys)) (split_at xs i s less is))
+    (entered (map entry_of_state (drop i xs))) marks new
+    (marked (all_by w (entered (map entry_of_state (drop (i + 1) xs)))) new) more refl
+    (ap (λ ys. entered (map entry_of_state ys)) (split_at xs i s less is))
     ∙ before
 
 pub immediate_marked : (w : Way) (ts : List Transition) (i : ℕ) (t : Transition) (marks new done : List Bool) →

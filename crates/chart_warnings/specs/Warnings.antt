@@ -148,7 +148,7 @@ abbrev pub of_transitions : List Variable → List State → (n k : ℕ) → Sta
 of_transitions variables states n k s [] = []
 of_transitions variables states n k s (t ∷ others) =
     (of_kind t.kind variables states n k s t
-      ++ told_where (is_forestalled 0 (out-State s).transitions k t) (warning.Forestalled n k))
+    ++ told_where (is_forestalled 0 (out-State s).transitions k t) (warning.Forestalled n k))
     ++ of_transitions variables states n (suc k) s others
 
 -- ---- the walk over the text
@@ -185,4 +185,4 @@ told_regions variables (suc levels) regions told = told_in_order (told_regions v
 abbrev pub warnings_of : Chart → List Warning
 warnings_of c =
     (told_regions c.variables depth_limit c.regions
-      (record { states = 0; warnings = of_variables (within c.regions) 0 c.variables })).warnings
+    (record { states = 0; warnings = of_variables (within c.regions) 0 c.variables })).warnings

@@ -8,7 +8,11 @@ use core_charts::{Transition, TransitionKind};
 use sc_values::Expr;
 
 /// Whether one of these transitions of a state is taken in place of that at this place, which is never taken.
-pub(crate) fn is_forestalled(transitions: &[Transition], place: usize, transition: &Transition) -> bool
+pub(crate) fn is_forestalled(
+    transitions: &[Transition],
+    place: usize,
+    transition: &Transition,
+) -> bool
     ensures { result ≡ is_forestalled 0 transitions.now place transition.now }
 {
     for (other, before) in transitions.iter().enumerate() {

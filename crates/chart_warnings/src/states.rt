@@ -60,6 +60,8 @@ pub(crate) fn warn_of_state(
 {
     let is_unreached = !state.is_initial && !is_marked(led, place);
     warn_where(is_unreached, Warning::Unreached { state: number }, warnings)?;
-    let is_kept = state.is_initial && states.len() > 1 && all_lead_back(place, state.transitions.as_slice());
+    let is_kept = state.is_initial
+        && states.len() > 1
+        && all_lead_back(place, state.transitions.as_slice());
     warn_where(is_kept, Warning::NeverLeft { state: number }, warnings)
 }

@@ -18,15 +18,26 @@ pub enum Warning {
         output: usize,
     },
     /// W02: this transition is never taken, since one without a trigger is taken before it.
-    Forestalled { state: usize, transition: usize },
+    Forestalled {
+        state: usize,
+        transition: usize,
+    },
     /// W03: nothing leads to this state.
-    Unreached { state: usize },
+    Unreached {
+        state: usize,
+    },
     /// W04: this local variable is never asked for.
-    NeverRead { variable: usize },
+    NeverRead {
+        variable: usize,
+    },
     /// W05: this output or local variable is never set.
-    NeverSet { variable: usize },
+    NeverSet {
+        variable: usize,
+    },
     /// W06: this input is never asked for.
-    NeverAsked { input: usize },
+    NeverAsked {
+        input: usize,
+    },
     /// W07: this termination is never taken, since this region of the superstate has no final state.
     NeverEnded {
         state: usize,
@@ -34,7 +45,9 @@ pub enum Warning {
         region: usize,
     },
     /// W08: this state, in which its region begins, is never left for another one of the region.
-    NeverLeft { state: usize },
+    NeverLeft {
+        state: usize,
+    },
 }
 
 impl Warning {

@@ -23,11 +23,11 @@ mark_initial-loop-state-preserved t c =
     let s : _ = c.state-item.result in
     let more : c.if-state.marks.items ≡ marked (all_by c.args.way (when_initial (entry_of_state s))) c.loop-state.marks.items =
     elim c.if-state.branch [
-      mark_initial-then-state w ↦
+      | mark_initial-then-state w ↦
           ap (λ v. v.items) w.marks-is
           ∙ w.mark_entry.ensures
-          ∙ ap (λ ts. marked (all_by c.args.way ts) c.loop-state.marks.items) (sym (initial_is_entered s w.if-state.true)) |
-      mark_initial-else-state w ↦
+          ∙ ap (λ ts. marked (all_by c.args.way ts) c.loop-state.marks.items) (sym (initial_is_entered s w.if-state.true))
+      | mark_initial-else-state w ↦
           ap (λ v. v.items) w.marks-is
           ∙ ap (λ ts. marked (all_by c.args.way ts) c.loop-state.marks.items) (sym (others_are_not s w.if-state.false))
     ] in

@@ -18,8 +18,8 @@ returns c =
     ∙ ap (λ xs. of_variables (within rs) 0 xs) c.variables.ensures.value in
     ap (λ told. told.warnings)
     (c.in_ok-tell_regions.ensures
-      ∙ ap (λ xs. told_regions xs depth_limit c.regions-2.result.now (record { states = 0; warnings = c.warn_of_variables.new.warnings }))
-      c.variables-2.ensures.value
-      ∙ ap (λ ys. told_regions vs depth_limit ys (record { states = 0; warnings = c.warn_of_variables.new.warnings }))
-      c.regions-2.ensures.value
-      ∙ ap (λ (ws : List Warning). told_regions vs depth_limit rs (record { states = 0; warnings = ws })) first)
+    ∙ ap (λ xs. told_regions xs depth_limit c.regions-2.result.now (record { states = 0; warnings = c.warn_of_variables.new.warnings }))
+    c.variables-2.ensures.value
+    ∙ ap (λ ys. told_regions vs depth_limit ys (record { states = 0; warnings = c.warn_of_variables.new.warnings }))
+    c.regions-2.ensures.value
+    ∙ ap (λ (ws : List Warning). told_regions vs depth_limit rs (record { states = 0; warnings = ws })) first)

@@ -7,6 +7,6 @@ use Rattle.chart_warnings.proofs.transitions.Scene.warn_of_outputs.Given as goal
 abbrev pub invariant-loop-number : goal.invariant-loop-number
 invariant-loop-number l =
     l.warnings ++ of_outputs (within (out-State l.self.state.now).regions) (comes_with l.self.states.now l.transition)
-      l.self.number l.place l.number (drop l.number l.self.variables.now) ≡
+    l.self.number l.place l.number (drop l.number l.self.variables.now) ≡
     l.fn.warnings ++ of_outputs (within (out-State l.self.state.now).regions) (comes_with l.self.states.now l.transition)
-      l.self.number l.place 0 l.self.variables.now
+    l.self.number l.place 0 l.self.variables.now
