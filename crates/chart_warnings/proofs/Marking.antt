@@ -1,7 +1,7 @@
 -- Marks of what lists of numbers name.
-use Rattle.std.proofs.Common.{ℕ, ◌≡◌, ◌≢◌, ◌<◌, Bool, true, false, ◌||◌, not, nat_eq, Option, Some, None, List, [], ◌∷◌, ◌++◌}
+use Rattle.std.proofs.Common.{ℕ, ◌≡◌, ◌≢◌, ◌<◌, Bool, true, false, ◌||◌, not, nat_eq, Some, None, List, [], ◌∷◌, ◌++◌}
 use Rattle.std.proofs.Common.{length, get_or, slice_set, replicate, map, drop, drop-cons, add-one, suc, ◌+◌}
-use Rattle.std.proofs.Common.{refl, sym, ap, subst, ◌∙◌, arith, eqb-true, if◌then◌else◌}
+use Rattle.std.proofs.Common.{refl, sym, ap, subst, ◌∙◌, rules, cond, eqb-true, if◌then◌else◌}
 use Rattle.std.specs.List.{list_any, filter, flat_map}
 use Rattle.std.proofs.lemmas.Bool.{eq-eqb}
 use Rattle.std.proofs.lemmas.List.{get_or-set_other, get_or-replicate, length-replicate}
@@ -9,7 +9,8 @@ use Rattle.std.proofs.lemmas.List.Elements.{filter-append}
 use Rattle.std.proofs.lemmas.Grind.{get_or-set_at, flat_map-append}
 use Rattle.sc_values.specs.declared.expression.Expr.{Expr}
 use Rattle.sc_values.specs.declared.expression.Expr.TheOpen as tree
-use Rattle.sc_values.specs.declared.expression.Expr.TheViews.{roll-Expr}
+use Rattle.sc_values.specs.declared.expression.Expr.TheVariants as expr
+use Rattle.sc_values.specs.declared.expression.Expr.TheVariants.{rolls-Binary}
 use Rattle.sc_values.specs.declared.expression.Expr.TheFolds.{fold-roll-Expr}
 use Rattle.sc_values.specs.declared.operator.BinaryOperator.{BinaryOperator}
 use Rattle.sc_values.specs.Assignment.{reads}
@@ -60,10 +61,11 @@ variables_read = induct Same (record {
 })
 
 pub binary_marked : (p : ℕ → Bool) (f : BinaryOperator) (a b : Expr) (marks : List Bool) →
-    marked (filter p (variables_of (roll-Expr (tree.Binary f a b)))) marks ≡
+    marked (filter p (variables_of (expr.Binary f a b))) marks ≡
     marked (filter p (variables_of b)) (marked (filter p (variables_of a)) marks)
 binary_marked p f a b marks =
-    ap (λ xs. marked (filter p xs) marks) (fold-roll-Expr (List ℕ) variables_step (tree.Binary f a b))
+    ap (λ e. marked (filter p (variables_of e)) marks) (sym (rolls-Binary f a b))
+    ∙ ap (λ xs. marked (filter p xs) marks) (fold-roll-Expr (List ℕ) variables_step (tree.Binary f a b))
     ∙ marked_filtered p (variables_of a) (variables_of b) marks
 
 all_besides_none : (xs : List ℕ) → filter (is_besides None) xs ≡ xs
@@ -135,13 +137,27 @@ pub both_marked : (w : Way) (some others whole : List Transition) (first second 
 both_marked w some others whole first second third one two is =
     two ∙ ap (λ m. marked (all_by w others) m) one ∙ sym (marked_within w some others first) ∙ ap (λ ts. marked (all_by w ts) first) (sym is)
 
+pub listed_marked : {X : Type 0} (f : X → List ℕ) (xs : List X) (i : ℕ) (x : X) (marks new done : List Bool) →
+    i < length xs → x ≡ get_or xs i x → new ≡ marked (f x) marks →
+    marked (flat_map f (drop i xs)) marks ≡ done → marked (flat_map f (drop (i + 1) xs)) new ≡ done
+listed_marked f xs i x marks new done less is more before =
+    ap (λ m. marked (flat_map f (drop (i + 1) xs)) m) more
+    ∙ sym (marked_append (f x) (flat_map f (drop (i + 1) xs)) marks)
+    ∙ ap (λ ys. marked (flat_map f ys) marks) (sym (split_at xs i x less is))
+    ∙ before
+
 pub piece_marked : {X : Type 0} (w : Way) (f : X → List Transition) (xs : List X) (i : ℕ) (x : X) (marks new done : List Bool) →
     i < length xs → x ≡ get_or xs i x → new ≡ marked (all_by w (f x)) marks →
     marked (all_by w (joined (map f (drop i xs)))) marks ≡ done →
     marked (all_by w (joined (map f (drop (i + 1) xs)))) new ≡ done
 piece_marked w f xs i x marks new done less is more before =
+<<<<<<< HEAD
     sym (both_marked w (f x) (joined (map f (drop (i + 1) xs))) (joined (map f (drop i xs))) marks new
     (marked (all_by w (joined (map f (drop (i + 1) xs)))) new) more refl (ap (λ ys. joined (map f ys)) (split_at xs i x less is)))
+=======
+    both_marked w (f x) (joined (map f (drop (i + 1) xs))) (joined (map f (drop i xs))) marks new
+    (marked (all_by w (joined (map f (drop (i + 1) xs)))) new) more refl (ap (λ ys. joined (map f ys)) (split_at xs i x less is))
+>>>>>>> from-h6
     ∙ before
 
 pub entry_marked : (w : Way) (xs : List State) (i : ℕ) (s : State) (marks new done : List Bool) →
@@ -149,11 +165,39 @@ pub entry_marked : (w : Way) (xs : List State) (i : ℕ) (s : State) (marks new 
     marked (all_by w (entered (map entry_of_state (drop i xs)))) marks ≡ done →
     marked (all_by w (entered (map entry_of_state (drop (i + 1) xs)))) new ≡ done
 entry_marked w xs i s marks new done less is more before =
+<<<<<<< HEAD
     sym (both_marked w (when_initial (entry_of_state s)) (entered (map entry_of_state (drop (i + 1) xs)))
     (entered (map entry_of_state (drop i xs))) marks new
     (marked (all_by w (entered (map entry_of_state (drop (i + 1) xs)))) new) more refl
     (ap (λ ys. entered (map entry_of_state ys)) (split_at xs i s less is)))
+=======
+    both_marked w (when_initial (entry_of_state s)) (entered (map entry_of_state (drop (i + 1) xs)))
+    (entered (map entry_of_state (drop i xs))) marks new
+    (marked (all_by w (entered (map entry_of_state (drop (i + 1) xs)))) new) more refl
+    (ap (λ ys. entered (map entry_of_state ys)) (split_at xs i s less is))
+>>>>>>> from-h6
     ∙ before
+
+pub immediate_marked : (w : Way) (ts : List Transition) (i : ℕ) (t : Transition) (marks new done : List Bool) →
+    i < length ts → t ≡ get_or ts i t → t.immediate ≡ true → new ≡ marked (by_transition w t) marks →
+    marked (all_by w (at_once (drop i ts))) marks ≡ done → marked (all_by w (at_once (drop (i + 1) ts))) new ≡ done
+immediate_marked w ts i t marks new done less is so more before =
+    let rest : List Transition = drop (i + 1) ts in
+    let split : at_once (drop i ts) ≡ t ∷ at_once rest =
+    ap at_once (split_at ts i t less is) ∙ ap (λ b. cond b (t ∷ at_once rest) (at_once rest)) so in
+    ap (λ m. marked (all_by w (at_once rest)) m) more
+    ∙ sym (marked_append (by_transition w t) (all_by w (at_once rest)) marks)
+    ∙ ap (λ us. marked (all_by w us) marks) (sym split)
+    ∙ before
+
+pub delayed_marked : (w : Way) (ts : List Transition) (i : ℕ) (t : Transition) (marks new done : List Bool) →
+    i < length ts → t ≡ get_or ts i t → t.immediate ≡ false → new ≡ marks →
+    marked (all_by w (at_once (drop i ts))) marks ≡ done → marked (all_by w (at_once (drop (i + 1) ts))) new ≡ done
+delayed_marked w ts i t marks new done less is so more before =
+    let rest : List Transition = drop (i + 1) ts in
+    let split : at_once (drop i ts) ≡ at_once rest =
+    ap at_once (split_at ts i t less is) ∙ ap (λ b. cond b (t ∷ at_once rest) (at_once rest)) so in
+    ap (λ m. marked (all_by w (at_once rest)) m) more ∙ ap (λ us. marked (all_by w us) marks) (sym split) ∙ before
 
 pub target_marked : (states : List State) (i : ℕ) (s : State) (marks new done : List Bool) →
     i < length states → s ≡ get_or states i s → new ≡ marked (left_for i s) marks →

@@ -1,5 +1,5 @@
 -- Which variables transitions ask for and set, and which transitions stand inside regions.
-use Rattle.std.specs.Prelude.{ℕ, Bool, false, not, nat_eq, ℤ, pos, Option, Some, None, List, [], ◌∷◌, ◌++◌, map, if◌then◌else◌}
+use Rattle.std.specs.Prelude.{ℕ, Bool, false, not, nat_eq, pos, Option, Some, None, List, [], ◌∷◌, ◌++◌, map, if◌then◌else◌}
 use Rattle.std.specs.Ordering.{int_eq}
 use Rattle.std.specs.List.{list_any, filter, flat_map}
 use Rattle.sc_values.specs.declared.value.Value.{Value}

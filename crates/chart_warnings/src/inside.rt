@@ -1,9 +1,10 @@
 //! The transitions inside regions, and those of what is entered.
 
-ghost use Rattle.std.specs.Prelude.{◌≡◌, IfOk, map};
+ghost use Rattle.std.specs.Prelude.{◌≡◌, IfOk, map, slice_get};
 ghost use Rattle.core_charts.specs.Tests.{at_once};
 ghost use Rattle.chart_warnings.specs.Names.{entered, entry_of_region, entry_of_state, joined};
 ghost use Rattle.chart_warnings.specs.Names.{within, within_region, within_state};
+ghost use Rattle.chart_warnings.specs.Warnings.{entry_at};
 ghost use Rattle.chart_warnings.specs.Inside.Marks.{Tells, all_by, marked};
 
 use crate::marks::unmarked;
@@ -54,10 +55,21 @@ fn mark_state(way: Way, state: &State, marks: &mut Vec<bool>)
     mark_transitions(way, state.transitions.as_slice(), marks);
 }
 
-/// Marks the variables that immediate transitions name in this way, of a state and of all that is entered with it.
+/// Marks the variables that immediate transitions name in this way, of the state at this place and of all that is
+/// entered with it, if there is such a state.
+pub(crate) fn mark_target(way: Way, states: &[State], target: u32, marks: &mut Vec<bool>)
+    ensures { marks.new.items ≡ marked (all_by way (entry_at (slice_get states.now target))) marks.old.items }
+{
+    match states.get(target as usize) {
+        Some(state) => mark_entry(way, state, marks),
+        None => {}
+    }
+}
+
+// Marks the variables that immediate transitions name in this way, of a state and of all that is entered with it.
 #[cycle(entry)]
 #[tactic(auto, using(crate::proofs::Marking::marked_within))]
-pub(crate) fn mark_entry(way: Way, state: &State, marks: &mut Vec<bool>)
+fn mark_entry(way: Way, state: &State, marks: &mut Vec<bool>)
     ensures { marks.new.items ≡ marked (all_by way (entry_of_state state.now).transitions) marks.old.items }
 {
     mark_immediate(way, state.transitions.as_slice(), marks);

@@ -4,13 +4,13 @@ ghost use Rattle.std.specs.Prelude.{◌≡◌, ◌++◌, IfOk, OnOk, length, sli
 ghost use Rattle.core_charts.specs.declared.region.Region.TheViews.{out-State};
 ghost use Rattle.core_charts.specs.declared.region.TransitionKind.TheVariants as kind;
 ghost use Rattle.chart_warnings.specs.Names.{within};
-ghost use Rattle.chart_warnings.specs.Warnings.{comes_with, ends, entry_at, is_output, of_kind, of_outputs, of_regions};
+ghost use Rattle.chart_warnings.specs.Warnings.{comes_with, ends, is_output, of_kind, of_outputs, of_regions};
 ghost use Rattle.chart_warnings.specs.Warnings.{of_transitions};
 ghost use Rattle.chart_warnings.specs.Inside.Marks.{Tells, all_by, marked};
 ghost use Rattle.chart_warnings.specs.declared.names.Way.TheVariants as way;
 
 use crate::forestalling::is_forestalled;
-use crate::inside::{mark_entry, named_within};
+use crate::inside::{mark_target, named_within};
 use crate::marks::{is_marked, unmarked};
 use crate::names::{Way, mark_transition};
 use crate::warning::{Warning, warn_where};
@@ -141,9 +141,7 @@ impl<'a> Scene<'a> {
     {
         let mut marks = unmarked(alloc, self.variables.len())?;
         mark_transition(Way::Set, transition, &mut marks);
-        if let Some(target) = self.states.get(transition.target as usize) {
-            mark_entry(Way::Set, target, &mut marks);
-        }
+        mark_target(Way::Set, self.states, transition.target, &mut marks);
         Ok(marks)
     }
 

@@ -1,4 +1,4 @@
-use Rattle.std.proofs.Common.{◌≡◌, ℕ, Bool, List, ap, sym, ◌∙◌}
+use Rattle.std.proofs.Common.{ℕ, Bool, List, ap, sym, ◌∙◌}
 use Rattle.std.specs.List.{filter}
 use Rattle.sc_values.specs.declared.expression.Expr.{Expr}
 use Rattle.chart_warnings.specs.Inside.Marks.{marked, is_besides, variables_of}
