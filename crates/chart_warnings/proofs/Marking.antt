@@ -151,13 +151,8 @@ pub piece_marked : {X : Type 0} (w : Way) (f : X → List Transition) (xs : List
     marked (all_by w (joined (map f (drop i xs)))) marks ≡ done →
     marked (all_by w (joined (map f (drop (i + 1) xs)))) new ≡ done
 piece_marked w f xs i x marks new done less is more before =
-<<<<<<< HEAD
-    sym (both_marked w (f x) (joined (map f (drop (i + 1) xs))) (joined (map f (drop i xs))) marks new
-    (marked (all_by w (joined (map f (drop (i + 1) xs)))) new) more refl (ap (λ ys. joined (map f ys)) (split_at xs i x less is)))
-=======
     both_marked w (f x) (joined (map f (drop (i + 1) xs))) (joined (map f (drop i xs))) marks new
     (marked (all_by w (joined (map f (drop (i + 1) xs)))) new) more refl (ap (λ ys. joined (map f ys)) (split_at xs i x less is))
->>>>>>> from-h6
     ∙ before
 
 pub entry_marked : (w : Way) (xs : List State) (i : ℕ) (s : State) (marks new done : List Bool) →
@@ -165,17 +160,10 @@ pub entry_marked : (w : Way) (xs : List State) (i : ℕ) (s : State) (marks new 
     marked (all_by w (entered (map entry_of_state (drop i xs)))) marks ≡ done →
     marked (all_by w (entered (map entry_of_state (drop (i + 1) xs)))) new ≡ done
 entry_marked w xs i s marks new done less is more before =
-<<<<<<< HEAD
-    sym (both_marked w (when_initial (entry_of_state s)) (entered (map entry_of_state (drop (i + 1) xs)))
-    (entered (map entry_of_state (drop i xs))) marks new
-    (marked (all_by w (entered (map entry_of_state (drop (i + 1) xs)))) new) more refl
-    (ap (λ ys. entered (map entry_of_state ys)) (split_at xs i s less is)))
-=======
     both_marked w (when_initial (entry_of_state s)) (entered (map entry_of_state (drop (i + 1) xs)))
     (entered (map entry_of_state (drop i xs))) marks new
     (marked (all_by w (entered (map entry_of_state (drop (i + 1) xs)))) new) more refl
     (ap (λ ys. entered (map entry_of_state ys)) (split_at xs i s less is))
->>>>>>> from-h6
     ∙ before
 
 pub immediate_marked : (w : Way) (ts : List Transition) (i : ℕ) (t : Transition) (marks new done : List Bool) →
