@@ -5,7 +5,6 @@ ghost use Rattle.std.specs.Prelude.{◌≡◌, ◌<◌, ◌≤◌};
 
 use sc_values::{Failures, OfRead, OfWrite};
 use sct_command::{HostFiles, MISUSED, REFUSED, command};
-use std::io::IsTerminal;
 use std::marker::Brand;
 use std::process::ExitCode;
 use std::rt::{Files, Stderr, Stdin, Stdout};
@@ -58,7 +57,6 @@ fn serve<R: Files + AllocGlobal + Threads + Wait + Sync, L: Ledger, M: Ledger, N
     requires reported { (streams.reported.name ≡ N.name) × (streams.reported.parts ≡ N.parts) × (0 < N.parts) }
     ensures { result ≤ MISUSED }
 {
-    let is_terminal = streams.errors.is_terminal();
     let mut files = HostFiles::new(rt);
     let mut input: OfRead<_, L> = OfRead::new(streams.input, Failures::none(streams.read));
     let mut output: OfWrite<_, M> = OfWrite::new(streams.output, Failures::none(streams.written));
@@ -71,7 +69,6 @@ fn serve<R: Files + AllocGlobal + Threads + Wait + Sync, L: Ledger, M: Ledger, N
         &mut input,
         &mut output,
         &mut errors,
-        is_terminal,
     )
 }
 

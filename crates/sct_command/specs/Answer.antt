@@ -1,5 +1,5 @@
 -- What a command leaves that was done, and what one that was refused.
-use Rattle.std.specs.Prelude.{ℕ, ◌≡◌, ◌+◌, ◌⊎◌, Bool, codes, Option, Some, None, List, [], ◌∷◌, ◌++◌}
+use Rattle.std.specs.Prelude.{ℕ, ◌≡◌, ◌+◌, ◌⊎◌, codes, Option, Some, None, List, [], ◌∷◌, ◌++◌}
 use Rattle.std.specs.Io.KnownBytes.{Appends}
 use Rattle.sc_values.specs.Streams.{GrowsInto}
 use Rattle.bytecode.specs.Image.{Image}
@@ -16,7 +16,6 @@ use Rattle.command_words.specs.Request.{Request, Check, Run, Compile, Print, Mig
 use Rattle.sct_command.specs.Sources.{Compiles, PrintsText, RefusesCompile, RefusesPrinting}
 use Rattle.command_files.specs.Storing.{IsNotStored}
 use Rattle.sct_command.specs.Drawing.{Draws, RefusesDrawing}
-use Rattle.sct_command.specs.Explained.{IsNote}
 use Rattle.sct_command.specs.Explaining.{FindsImage, RefusesExplaining}
 use Rattle.sct_command.specs.Listing.{ListsNodes, ListsPlaces, RefusesListing, RefusesPlaces}
 use Rattle.sct_command.specs.Summary.{summary_of}
@@ -140,28 +139,21 @@ writes_failed other = 0
 abbrev pub fault_line : List ℕ → List ℕ
 fault_line text = codes "sct: " ++ (text ++ line_feed ∷ [])
 
--- the line of this fault and what stands behind it, or that of memory that was refused for it, went to a sink that counts
--- its failures: whole, or a beginning of it where the sink failed
-pub record TellsFault (f : Fault) (note : List ℕ) (old new : Option (List ℕ)) (failures failures' : ℕ) : Type 0 where
+-- the line of this fault, or of memory that was refused for it, went to a sink that counts its failures: whole,
+-- or a beginning of it where the sink failed
+pub record TellsFault (f : Fault) (old new : Option (List ℕ)) (failures failures' : ℕ) : Type 0 where
   pub text : List ℕ
-  pub is : (text ≡ fault_line (fault_text f) ++ note) ⊎ (text ≡ fault_line (codes "E52"))
-  pub grows : GrowsInto old new text
-  pub whole : failures' ≡ failures → Appends old new text
-
--- the line of this fault of a request went to such a sink, and behind it, where that was wanted, what is said of it
-pub record SaysFault (wanted : Bool) (files : Option Contents) (request : Option Request) (input : Option (List ℕ)) (f : Fault)
-    (told told' : Option (List ℕ)) (failures failures' : ℕ) : Type 0 where
-  pub note : List ℕ
-  pub says : IsNote wanted files request input f note
-  pub tells : TellsFault f note told told' failures failures'
+  pub is : (text ≡ fault_text f) ⊎ (text ≡ codes "E52")
+  pub grows : GrowsInto old new (fault_line text)
+  pub whole : failures' ≡ failures → Appends old new (fault_line text)
 
 -- a request was refused for one fault, of which all that is left tells: the output, how often the input and the
--- output failed, the line of the fault, and behind it, where it was wanted, what was met
-pub record IsRefused (wanted : Bool) (files files' : Option Contents) (request : Option Request) (input old new : Option (List ℕ))
+-- output failed, and the line of the fault
+pub record IsRefused (files files' : Option Contents) (request : Option Request) (input old new : Option (List ℕ))
     (reads reads' writes writes' : ℕ)
     (told told' : Option (List ℕ)) (failures failures' : ℕ) : Type 0 where
   pub fault : Fault
   pub why : Refuses files files' request input old new fault
   pub read : reads' ≡ reads + reads_failed fault
   pub write : writes' ≡ writes + writes_failed fault
-  pub says : SaysFault wanted files request input fault told told' failures failures'
+  pub tells : TellsFault fault told told' failures failures'

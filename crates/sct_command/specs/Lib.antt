@@ -1,6 +1,5 @@
 pub mod Answer
 pub mod Drawing
-pub mod Explained
 pub mod Explaining
 pub mod Keeping
 pub mod Listing
