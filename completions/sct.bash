@@ -11,10 +11,10 @@ _sct() {
     return
   fi
   if [[ $word == -* ]]; then
-    local options='--explain --help'
+    local options=--help
     case $command in
-      list) options='--source --explain --help' ;;
-      run) options='--workers --explain --help' ;;
+      list) options='--source --help' ;;
+      run) options='--workers --help' ;;
     esac
     mapfile -t COMPREPLY < <(compgen -W "$options" -- "$word")
     return

@@ -1,3 +1,2 @@
-pub mod Explained
 pub mod Said
 pub mod Request

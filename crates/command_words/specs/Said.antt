@@ -83,13 +83,12 @@ by_value s word None = option_and_then (with_source s) (source_in word)
 abbrev pub valued : Said → List ℕ → Option Said
 valued s word = by_value s word (workers_in word)
 
--- a word that may be an option. `--explain` says nothing of what is asked for
+-- a word that may be an option
 abbrev pub opened : Said → List ℕ → Option Said
 opened s word =
     if bytes_eq word (codes "--") then Some (record s { next = next.Name })
     else if bytes_eq word (codes "--workers") then Some (record s { next = next.Number })
     else if bytes_eq word (codes "--source") then Some (record s { next = next.Source })
-    else if bytes_eq word (codes "--explain") then Some s
     else if is_option word then valued s word
     else named s word
 

@@ -166,7 +166,7 @@ impl<'a> Said<'a> {
         }
     }
 
-    // With a word that may be an option. `--explain` says nothing of what is asked for.
+    // With a word that may be an option.
     fn opened(self, word: &'a str) -> Option<Said<'a>>
         ensures { option_map said_seen result ≡ opened (said_seen self.entry) word.now }
     {
@@ -174,7 +174,6 @@ impl<'a> Said<'a> {
             "--" => Some(self.awaits(Next::Name)),
             "--workers" => Some(self.awaits(Next::Number)),
             "--source" => Some(self.awaits(Next::Source)),
-            "--explain" => Some(self),
             word if is_option(word) => self.valued(word),
             word => self.named(word),
         }

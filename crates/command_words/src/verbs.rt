@@ -184,14 +184,6 @@ fn compile_command<'a>(alloc: Global) -> Result<Command<'a>, AllocError> {
         .arg(image)
 }
 
-// The option that each command has.
-fn explain_option<'a>(alloc: Global) -> Arg<'a> {
-    Arg::new(alloc, "explain")
-        .long("explain")
-        .help("Says beside a fault what was met, as where standard error is a terminal")
-        .action(ArgAction::SetTrue)
-}
-
 // What is known of a verb.
 fn described<'a>(alloc: Global, verb: Verb) -> Result<Command<'a>, AllocError> {
     match verb {
@@ -224,7 +216,7 @@ fn program<'a>(alloc: Global) -> Result<Command<'a>, AllocError> {
 pub(crate) fn sct_command<'a>(alloc: Global) -> Result<Command<'a>, AllocError> {
     let mut command = program(alloc)?;
     for verb in VERBS {
-        let described = described(alloc, verb)?.arg(explain_option(alloc))?;
+        let described = described(alloc, verb)?;
         command = command.subcommand(described)?;
     }
     Ok(command)
