@@ -1,0 +1,4 @@
+mod Coming
+mod Lines
+mod Listed
+mod Playing
