@@ -40,8 +40,8 @@ const RUN_HELP: &str = r#"Input, a line for each tick (an input that is not name
 
 Output, a line for each:
   {"out":{"x":1,"y":1},"steps":7,"tick":1}
-and with --chart FILE behind the tick the paths of the active states:
-  {"out":{"O":1},"steps":9,"tick":2,"states":["ABO.WaitAB/B.Wait"]}
+and with --chart, of abro.chart:
+  {"out":{"O":true},"steps":11,"tick":3,"states":["Main.ABO","Main.ABO/Body.Done"]}
 
 Status:
   0  the whole input was played
