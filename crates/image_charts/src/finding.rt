@@ -3,7 +3,7 @@
 ghost use Rattle.std.specs.Prelude.{◌≡◌, ◌↔◌, IfErr, IfOk, IsTrue};
 ghost use Rattle.std.specs.Str.{IsUtf8};
 ghost use Rattle.chart_reader.specs.Read.{IsRead};
-ghost use Rattle.image_charts.specs.Charts.{IsChartOf, IsNotChartOf};
+ghost use Rattle.image_charts.specs.Charts.{IsChartOf, IsNotChartOf, SpellsNoChart};
 
 use crate::states::ChartStates;
 use bytecode::{Image, encode};
@@ -16,18 +16,15 @@ use std::alloc::{AllocError, Global};
 use std::str;
 use verifier::Verified;
 
-// The chart that these bytes of the file of this name spell, of which an image is asked for.
-fn chart_in(alloc: Global, name: &str, bytes: &[u8], image: &Verified) -> Result<Chart, Fault>
+// The chart that these bytes spell as text.
+fn chart_in(alloc: Global, bytes: &[u8]) -> Result<Chart, ReadFault>
     ensures text { IfOk result (λ _. IsUtf8 bytes.now) }
     ensures read { IfOk result (IsRead bytes.now) }
-    ensures fault { IfErr result (IsNotChartOf name.now bytes.now image.now) }
+    ensures fault { IfErr result (SpellsNoChart bytes.now) }
 {
     match str::from_utf8(bytes) {
-        Ok(text) => match read_chart(alloc, text) {
-            Ok(chart) => Ok(chart),
-            Err(fault) => Err(Fault::Text(fault)),
-        },
-        Err(_) => Err(Fault::Text(ReadFault::Text(Broken::Token, 0))),
+        Ok(text) => read_chart(alloc, text),
+        Err(_) => Err(ReadFault::Text(Broken::Token, 0)),
     }
 }
 
@@ -52,7 +49,10 @@ pub fn chart_of(
     ensures found { IfOk result (IsChartOf bytes.now image.now) }
     ensures fault { IfErr result (IsNotChartOf name.now bytes.now image.now) }
 {
-    let chart = chart_in(alloc, name, bytes, image)?;
+    let chart = match chart_in(alloc, bytes) {
+        Ok(chart) => chart,
+        Err(fault) => return Err(Fault::Text(fault)),
+    };
     let compiled = match compile_chart(alloc, &chart) {
         Ok(compiled) => compiled,
         Err(fault) => return Err(Fault::Program(fault)),

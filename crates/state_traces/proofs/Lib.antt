@@ -1,4 +1,5 @@
 mod Coming
 mod Lines
 mod Listed
+mod Plain
 mod Playing

@@ -3,7 +3,7 @@
 use Rattle.std.specs.Prelude.{ℕ, ◌≡◌, Option, List, [], ◌∷◌, ◌++◌}
 use Rattle.std.specs.List.{concat}
 use Rattle.std.specs.Io.KnownBytes.{Appends}
-use Rattle.serde_json.specs.Data.{Members}
+use Rattle.serde_json.specs.Data.{Members, no_members}
 use Rattle.sc_values.specs.Streams.{GrowsInto}
 use Rattle.sc_graph.specs.declared.control.Control.{Control}
 use Rattle.sc_graph.specs.Tick.{Inputs, initial}
@@ -17,6 +17,9 @@ use Rattle.state_traces.specs.Lines.{told_line}
 -- what stands of a configuration in the line of the tick that ends in it
 abbrev pub Words : Type 0
 Words = Control → Members
+
+abbrev pub no_words : Words
+no_words c = no_members
 
 -- line number k makes a tick from c to d, of which this is shown
 pub record Shows (words : Words) (image : Image) (k : ℕ) (c : Control) (line : List ℕ) (d : Control) (shown : List ℕ) : Type 0 where

@@ -13,7 +13,8 @@ use trace_lines::Interface;
 fn open_again(line: &mut Vec<u8>)
     ensures { line.new.items ≡ take (length line.old.items - 2) line.old.items }
 {
-    line.truncate(line.len().saturating_sub(2));
+    let before = line.len().saturating_sub(2);
+    line.truncate(before);
 }
 
 /// Makes `line` the output line of a tick of this number that ended in a configuration: its steps, the values of the
