@@ -23,7 +23,7 @@ pub fn play_with<S: Source, K: Sink, W: Words>(
 ) -> Result<u64, PlayFault>
     ensures whole { IfOk result (λ ticks. (out : List (List ℕ)) × (ticks ≡ min (length out) greatest)
         × Plays (W.words words.now) verified.now
-            (S.to_come source.old) (K.taken sink.old) (K.taken sink.new) out Good) }
+        (S.to_come source.old) (K.taken sink.old) (K.taken sink.new) out Good) }
     ensures fault { IfErr result (Leaves (W.words words.now) verified.now
         (S.to_come source.old) (K.taken sink.old) (K.taken sink.new)) }
     ensures read { IsErrOf result PlayFault.Read

@@ -73,7 +73,9 @@ pub(crate) fn begin<S: Source, K: Sink, W: Words>(
     let interface = Interface::of(alloc, program.variables())?;
     let mut lines = Lines::new(alloc)?;
     let room = TickSpace::of(alloc, verified)?;
-    go_on(alloc, words, &interface, room, control, &mut lines, source, sink)
+    go_on(
+        alloc, words, &interface, room, control, &mut lines, source, sink,
+    )
 }
 
 // Plays the lines of an input, none of which was read.

@@ -16,11 +16,6 @@ pub trait Words {
 
     /// Puts the members for this configuration behind a line, each with a comma before it, and the brace that ends the
     /// object.
-    fn put(
-        &self,
-        alloc: Global,
-        line: &mut Vec<u8>,
-        control: &Control,
-    ) -> Result<(), AllocError>
+    fn put(&self, alloc: Global, line: &mut Vec<u8>, control: &Control) -> Result<(), AllocError>
         ensures { OnOk result (line.new.items ≡ line.old.items ++ members_text true (words self.now control.now)) };
 }
