@@ -36,5 +36,6 @@ pub(crate) fn write_line<W: Words>(
     interface.write_line(line, tick, steps, control.variables.as_slice())?;
     open_again(line);
     words.put(alloc, line, control)?;
-    line.push(b'\n')
+    line.push(b'\n')?;
+    Ok(())
 }

@@ -2,6 +2,8 @@ use Rattle.std.proofs.Common.{◌≡◌, ◌∙◌, ◌+◌, Err, ap, sym, subst
 use Rattle.std.specs.Io.KnownBytes.{Appends, IsAtEnd}
 use Rattle.std.proofs.lemmas.Result.{err_from_is_err_and}
 use Rattle.sc_values.specs.Streams.{GrowsInto}
+use Rattle.sc_graph.specs.Tick.{Rests}
+use Rattle.bytecode.specs.Image.{Image}
 use Rattle.trace_lines.specs.Lines.{ahead, TakesLine, IsTooLong}
 use Rattle.trace_lines.specs.declared.lines.LinesFault.TheVariants as lines_fault
 use Rattle.trace_lines.specs.declared.lines.LineEnd.TheVariants as line_end
@@ -19,6 +21,7 @@ loop-turn-init g c = record {
   played =
       none_played (g.W.Words.words c.args.words.now) c.args.room (g.S.Source.to_come c.args.source.now) (g.K.Sink.taken c.args.sink.now) c.args.lines.now c.args.control
       c.requires.lines c.requires.initial;
+  names = c.requires.interface;
   rests = c.requires.rests;
   room = refl;
   none_read = refl;
@@ -81,7 +84,7 @@ returns-in_err-after g c =
     subst (λ bytes. Tells l.room.program c.next_number-next.result bytes fault) c.deref.ensures.value c.in_err-after.ensures.fault in
     let tells : Tells i.program (next_number l.number) line fault =
     subst (λ k. Tells i.program k line fault) c.next_number-next.ensures
-    (subst (λ image. Tells image.program c.next_number-next.result line fault) l.invariant.room at_room) in
+    (subst (λ (image : Image). Tells image.program c.next_number-next.result line fault) l.invariant.room at_room) in
     let takes : TakesLine now now' line = search rules in
     let reads : g.S.Source.failures c.next.new.source ≡ g.S.Source.failures l.source = search rules in
     let exit = err_from_is_err_and c.from_residual.result c.from_residual.ensures.1 in
@@ -114,7 +117,7 @@ returns-then-not-write g c =
     subst (λ bytes. Shows w l.room next l.control bytes after written) c.deref.ensures.value c.in_ok-after.ensures.shows in
     let shows : Shows w i (next_number l.number) l.control line after written =
     subst (λ k. Shows w i k l.control line after written) c.next_number-next.ensures
-    (subst (λ image. Shows w image next l.control line after written) l.invariant.room at_room) in
+    (subst (λ (image : Image). Shows w image next l.control line after written) l.invariant.room at_room) in
     let takes : TakesLine now now' line = search rules in
     let reads : g.S.Source.failures c.next.new.source ≡ g.S.Source.failures l.source = search rules in
     let some : GrowsInto (g.K.Sink.taken l.sink) taken written = subst (GrowsInto (g.K.Sink.taken l.sink) taken) given c.write.ensures.some in
@@ -144,7 +147,7 @@ returns-then-is_last g c =
     subst (λ bytes. Shows w l.room next l.control bytes after written) c.deref.ensures.value c.in_ok-after.ensures.shows in
     let shows : Shows w i (next_number l.number) l.control line after written =
     subst (λ k. Shows w i k l.control line after written) c.next_number-next.ensures
-    (subst (λ image. Shows w image next l.control line after written) l.invariant.room at_room) in
+    (subst (λ (image : Image). Shows w image next l.control line after written) l.invariant.room at_room) in
     let takes : TakesLine now now' line = search rules in
     let reads : g.S.Source.failures c.next.new.source ≡ g.S.Source.failures l.source = search rules in
     let appends : Appends (g.K.Sink.taken l.sink) taken written =
@@ -179,7 +182,7 @@ loop-turn-preserved g c =
     subst (λ bytes. Shows w l.room next l.control bytes after written) c.deref.ensures.value c.in_ok-after.ensures.shows in
     let shows : Shows w i (next_number l.number) l.control line after written =
     subst (λ k. Shows w i k l.control line after written) c.next_number-next.ensures
-    (subst (λ image. Shows w image next l.control line after written) l.invariant.room at_room) in
+    (subst (λ (image : Image). Shows w image next l.control line after written) l.invariant.room at_room) in
     let takes : TakesLine now now' line = search rules in
     let reads : g.S.Source.failures c.next.new.source ≡ g.S.Source.failures l.source = search rules in
     let appends : Appends (g.K.Sink.taken l.sink) taken written =
@@ -190,7 +193,8 @@ loop-turn-preserved g c =
     let feed : c.in-Ok-Some.end ≡ line_end.Feed = feed_of c.in-Ok-Some.end (λ i. let yes = c.is_last.ensures.1 i in let no = c.if-is_last.false in absurd cc) in
     record {
       played = played;
-      rests = search rules;
+      names = subst (λ (image : Image). l.interface ≡ image.program.variables) (sym c.in_ok-after.ensures.room) l.invariant.names;
+      rests = subst (λ (image : Image). Rests image.program after) (sym c.in_ok-after.ensures.room) c.in_ok-after.ensures.rests;
       room = c.in_ok-after.ensures.room ∙ l.invariant.room;
       none_read = reads ∙ l.invariant.none_read;
       none_write = c.write.ensures.none_failed c.if-not-write.false ∙ l.invariant.none_write;
