@@ -40,6 +40,7 @@ fn are_same(alloc: Global, image: &Image, other: &Image) -> Result<bool, AllocEr
 
 /// The chart that the bytes of the file of this name spell, where this is its image. Err: the bytes are no text (E01
 /// at its first place); the text spells no chart, or one that has no image; or the chart has another image.
+#[tactic(auto, using(crate::proofs::Found::found, crate::proofs::Found::other, crate::proofs::Found::lacks))]
 pub fn chart_of(
     alloc: Global,
     name: &str,
