@@ -1,5 +1,5 @@
 mod Coming
 mod Lines
-mod Listed
+pub mod Listed
 mod Plain
 mod Playing

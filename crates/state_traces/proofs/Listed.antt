@@ -5,7 +5,7 @@ use Rattle.serde_json.specs.Data.{Members}
 use Rattle.serde_json.specs.Written.{comma_if, items_text, members_text}
 use Rattle.serde_json.proofs.OnLiterals.{serde_json_on_literals}
 use Rattle.state_traces.specs.Lines.{paths_at, states_member, texts}
-use Rattle.state_traces.specs.Inside.Listed.{list_text, text_at}
+use Rattle.state_traces.specs.Listed.{list_text, states_text, text_at}
 
 pub text_there : (shown : List (String Global)) (n : ℕ) (text : String Global) → slice_get shown n ≡ Some text → text_at (map string_bytes shown) n ≡ string_bytes text
 text_there [] n text there = absurd cc
@@ -34,19 +34,21 @@ member_is : (paths : List (List ℕ)) → members_text true (states_member paths
 unfolding serde_json_on_literals
 member_is paths = refl
 
+-- the member of the paths of states is told by their texts
+pub told_by : (shown paths : List (List ℕ)) (ns : List ℕ) → shown ≡ map quoted paths → states_text shown ns ≡ members_text true (states_member (paths_at paths ns))
+told_by shown paths ns same =
+    ap (λ all. codes ",\"states\":[" ++ (list_text false all ns ++ 125 ∷ [])) same
+    ∙ ap (λ t. codes ",\"states\":[" ++ (t ++ 125 ∷ [])) (list_is false paths ns)
+    ∙ sym (member_is (paths_at paths ns))
+
 regroup : (line head all : List ℕ) → ((line ++ head) ++ all) ++ 125 ∷ [] ≡ line ++ (head ++ (all ++ 125 ∷ []))
 regroup line head all = simp append_assoc
 
 -- the three pieces of the member, one behind the other
-pub states_put : (line begun listed ended : List ℕ) (shown : List (String Global)) (active : List ℕ) → begun ≡ line ++ codes ",\"states\":["
-    → listed ++ 93 ∷ [] ≡ begun ++ list_text false (map string_bytes shown) active → ended ≡ listed ++ codes "]}"
-    → (paths : List (List ℕ)) → map string_bytes shown ≡ map quoted paths → ended ≡ line ++ members_text true (states_member (paths_at paths active))
-states_put line begun listed ended shown active is_begun is_listed is_ended paths same =
+pub states_put : (line begun listed ended : List ℕ) (shown : List (List ℕ)) (ns : List ℕ) → begun ≡ line ++ codes ",\"states\":[" → listed ++ 93 ∷ [] ≡ begun ++ list_text false shown ns
+    → ended ≡ listed ++ codes "]}" → ended ≡ line ++ states_text shown ns
+states_put line begun listed ended shown ns is_begun is_listed is_ended =
     let closed : listed ++ 93 ∷ 125 ∷ [] ≡ (listed ++ 93 ∷ []) ++ 125 ∷ [] = sym (append_assoc listed (93 ∷ []) (125 ∷ [])) in
-    let text : list_text false (map string_bytes shown) active ≡ items_text false (texts (paths_at paths active)) =
-    ap (λ all. list_text false all active) same ∙ list_is false paths active in
     is_ended ∙ closed ∙ ap (λ t. t ++ 125 ∷ []) is_listed
-    ∙ ap (λ t. (t ++ list_text false (map string_bytes shown) active) ++ 125 ∷ []) is_begun
-    ∙ ap (λ t. ((line ++ codes ",\"states\":[") ++ t) ++ 125 ∷ []) text
-    ∙ regroup line (codes ",\"states\":[") (items_text false (texts (paths_at paths active)))
-    ∙ ap (λ t. line ++ t) (sym (member_is (paths_at paths active)))
+    ∙ ap (λ t. (t ++ list_text false shown ns) ++ 125 ∷ []) is_begun
+    ∙ regroup line (codes ",\"states\":[") (list_text false shown ns)

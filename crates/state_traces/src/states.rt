@@ -1,10 +1,8 @@
 //! The active states of a chart, as a line tells of them.
 
-ghost use Rattle.std.specs.Prelude.{◌≡◌, ◌++◌, ◌∷◌, [], true, false, ℕ, List, IfOk, OnOk, map, string_bytes};
+ghost use Rattle.std.specs.Prelude.{◌≡◌, ◌++◌, ◌∷◌, [], true, false, IfOk, OnOk, map, string_bytes};
 ghost use Rattle.json.specs.Print.{quoted};
-ghost use Rattle.serde_json.specs.Written.{members_text};
-ghost use Rattle.state_traces.specs.Lines.{paths_at, states_member};
-ghost use Rattle.state_traces.specs.Inside.Listed.{list_text, text_at};
+ghost use Rattle.state_traces.specs.Listed.{list_text, states_text, text_at};
 
 use serde_json::Value as Json;
 use std::alloc::{AllocError, Global};
@@ -75,8 +73,7 @@ fn put_all(line: &mut Vec<u8>, shown: &[String], places: &[u32]) -> Result<(), A
 /// ends the object. `shown` are the paths of all states, as JSON writes them.
 #[tactic(auto, using(crate::proofs::Listed::states_put))]
 pub fn put_states(line: &mut Vec<u8>, shown: &[String], active: &[u32]) -> Result<(), AllocError>
-    ensures { OnOk result ((paths : List (List ℕ)) → map string_bytes shown.now ≡ map quoted paths
-        → line.new.items ≡ line.old.items ++ members_text true (states_member (paths_at paths active.now))) }
+    ensures { OnOk result (line.new.items ≡ line.old.items ++ states_text (map string_bytes shown.now) active.now) }
 {
     line.extend_from_slice(b",\"states\":[")?;
     put_all(line, shown, active)?;

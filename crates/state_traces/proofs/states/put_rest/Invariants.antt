@@ -1,5 +1,5 @@
 use Rattle.std.proofs.Common.{◌≡◌, ◌++◌, true, drop, map, string_bytes}
-use Rattle.state_traces.specs.Inside.Listed.{list_text}
+use Rattle.state_traces.specs.Listed.{list_text}
 use Rattle.state_traces.proofs.states.put_rest.Given as goal
 
 -- what is left shows what is missing

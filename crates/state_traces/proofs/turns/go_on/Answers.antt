@@ -193,7 +193,7 @@ loop-turn-preserved g c =
     let feed : c.in-Ok-Some.end ≡ line_end.Feed = feed_of c.in-Ok-Some.end (λ i. let yes = c.is_last.ensures.1 i in let no = c.if-is_last.false in absurd cc) in
     record {
       played = played;
-      names = subst (λ (image : Image). l.interface ≡ image.program.variables) (sym c.in_ok-after.ensures.room) l.invariant.names;
+      names = subst (λ (image : Image). c.args.interface.now ≡ image.program.variables) (sym c.in_ok-after.ensures.room) l.invariant.names;
       rests = subst (λ (image : Image). Rests image.program after) (sym c.in_ok-after.ensures.room) c.in_ok-after.ensures.rests;
       room = c.in_ok-after.ensures.room ∙ l.invariant.room;
       none_read = reads ∙ l.invariant.none_read;
