@@ -16,6 +16,8 @@ there option word k (size, is, at) =
 absent : (option word : List ℕ) → LacksTextAt option word 0 → value_in option word ≡ None
 absent option word lacks = subst (λ b. (if b then Some (drop (length option) word) else None) ≡ None) (starts_text false option word lacks) refl
 
-pub said : (option word : List ℕ) (r : Option (Bor (List ℕ))) → MatchOption r (FindsTextPrefix option word None) (λ x. StripsPrefix (FindsTextPrefix option) word x.now) → option_map (λ s. s.now) r ≡ value_in option word
+pub said : (option word : List ℕ) (r : Option (Bor (List ℕ)))
+    → MatchOption r (FindsTextPrefix option word None) (λ x. StripsPrefix (FindsTextPrefix option) word x.now)
+    → option_map (λ s. s.now) r ≡ value_in option word
 said option word None lacks = sym (absent option word lacks)
 said option word (Some x) (k, found, rest, size) = ap Some rest ∙ sym (there option word k found)

@@ -1,9 +1,9 @@
 //! The words behind a verb, one after the other: its options with their values, and the names of files.
 
 ghost use Rattle.std.specs.Prelude.{◌≡◌, map, option_map, string_bytes};
-ghost use Rattle.command_words.specs.Said.{chart_in, names_seen, said_seen, source_in, step, workers_in, workers_named};
-ghost use Rattle.command_words.specs.Said.{by_file, ended, opened, read_on, said_by, start, valued, with_name, with_source};
-ghost use Rattle.command_words.specs.Said.{is_option, named, with_chart, with_workers};
+ghost use Rattle.command_words.specs.Said.{names_seen, said_seen, source_in, step, workers_in, workers_named};
+ghost use Rattle.command_words.specs.Said.{ended, opened, read_on, said_by, start, valued, with_name, with_source};
+ghost use Rattle.command_words.specs.Said.{by_file, chart_in, is_option, named, with_chart, with_workers};
 
 use crate::workers::Workers;
 

@@ -1,5 +1,6 @@
 -- How a trace grows, line by line.
-use Rattle.std.proofs.Common.{◌≡◌, ℕ, min, Option, Some, None, option_map, Result, Err, List, [], ◌∷◌, ◌++◌, length, refl, ap, sym, ◌∙◌, subst, arith, append_assoc, append-nil, length-append, inl}
+use Rattle.std.proofs.Common.{◌≡◌, ℕ, min, Option, Some, None, option_map, Result, Err, List, [], ◌∷◌}
+use Rattle.std.proofs.Common.{◌++◌, length, refl, ap, sym, ◌∙◌, subst, arith, append_assoc, append-nil, length-append, inl}
 use Rattle.std.specs.List.{concat}
 use Rattle.std.specs.Io.KnownBytes.{Appends, IsAtEnd}
 use Rattle.std.proofs.lemmas.List.Folds.{concat-append}
@@ -40,13 +41,15 @@ at_start words image start old =
     }
 
 -- nothing was taken
-pub none_played : (words : Words) (image : Image) (start old : Option (List ℕ)) (held : List ℕ) (c : Control) → held ≡ [] → c ≡ initial image.program → Played words image start (ahead held start) 0 c old old
+pub none_played : (words : Words) (image : Image) (start old : Option (List ℕ)) (held : List ℕ) (c : Control) → held ≡ [] → c ≡ initial image.program
+    → Played words image start (ahead held start) 0 c old old
 none_played words image start old held c none first =
     subst (λ d. Played words image start (ahead held start) 0 d old old) (sym first)
     (subst (λ bytes. Played words image start (ahead bytes start) 0 (initial image.program) old old) (sym none) (at_start words image start old))
 
 -- one line more was taken, and its line of output written
-pub one_played : (words : Words) (image : Image) (start now now' : Option (List ℕ)) (k : ℕ) (c d : Control) (old new new' : Option (List ℕ)) (line shown : List ℕ)
+pub one_played : (words : Words) (image : Image) (start now now' : Option (List ℕ)) (k : ℕ) (c d : Control) (old new new' : Option (List ℕ))
+      (line shown : List ℕ)
     → Played words image start now k c old new → TakesLine now now' line → Shows words image (next_number k) c line d shown → Appends new new' shown
     → Played words image start now' (next_number k) d old new'
 one_played words image start now now' k c d old new new' line shown a takes shows writes =
@@ -56,7 +59,8 @@ one_played words image start now now' k c d old new new' line shown a takes show
       leads = λ rest cut. subst (Cut start) (sym (append_assoc a.done (line ∷ []) rest)) (a.leads (line ∷ rest) (cut_taken now now' line rest takes cut));
       goes = λ lines rest end trace.
           subst (λ xs. Trace words image xs ((a.out ++ shown ∷ []) ++ rest) end) (sym (append_assoc a.done (line ∷ []) lines))
-          (subst (λ ys. Trace words image (a.done ++ line ∷ lines) ys end) (sym (append_assoc a.out (shown ∷ []) rest)) (a.goes (line ∷ lines) (shown ∷ rest) end (d, shows, trace)));
+          (subst (λ ys. Trace words image (a.done ++ line ∷ lines) ys end) (sym (append_assoc a.out (shown ∷ []) rest))
+          (a.goes (line ∷ lines) (shown ∷ rest) end (d, shows, trace)));
       shown = omega (arith, a.shown, length-append a.out (shown ∷ []));
       written =
           subst (Appends old new') (sym (concat-append a.out (shown ∷ []) ∙ ap (λ last. concat a.out ++ last) (append-nil shown)))
@@ -64,7 +68,8 @@ one_played words image start now now' k c d old new new' line shown a takes show
     }
 
 -- the trace of the lines so far
-so_far : (words : Words) (image : Image) (start now : Option (List ℕ)) (k : ℕ) (c : Control) (old new : Option (List ℕ)) (a : Played words image start now k c old new) → Trace words image a.done a.out Good
+so_far : (words : Words) (image : Image) (start now : Option (List ℕ)) (k : ℕ) (c : Control) (old new : Option (List ℕ))
+      (a : Played words image start now k c old new) → Trace words image a.done a.out Good
 so_far words image start now k c old new a =
     subst (λ xs. Trace words image xs a.out Good) (append-nil a.done)
     (subst (λ ys. Trace words image (a.done ++ []) ys Good) (append-nil a.out) (a.goes [] [] Good refl))
@@ -85,7 +90,8 @@ all_played words image start now k c old new a ended = (
 )
 
 -- a line ends the trace
-ends_at : (words : Words) (image : Image) (start now : Option (List ℕ)) (k : ℕ) (c : Control) (old new : Option (List ℕ)) (line : List ℕ) (rest : List (List ℕ)) (end : End)
+ends_at : (words : Words) (image : Image) (start now : Option (List ℕ)) (k : ℕ) (c : Control) (old new : Option (List ℕ)) (line : List ℕ)
+      (rest : List (List ℕ)) (end : End)
     → Played words image start now k c old new → Cut now (line ∷ rest) → EndsAt image.program (next_number k) line end
     → (out : List (List ℕ)) × Plays words image start old new out end
 ends_at words image start now k c old new line rest end a cut ends = (
@@ -137,7 +143,8 @@ wanted_appends None bytes = tt
 wanted_appends (Some xs) bytes = refl
 
 -- the line of output could not be written, or not to its end
-pub stopped_writing : (words : Words) (image : Image) (start now now' : Option (List ℕ)) (k : ℕ) (c d : Control) (old new new' : Option (List ℕ)) (line shown : List ℕ)
+pub stopped_writing : (words : Words) (image : Image) (start now now' : Option (List ℕ)) (k : ℕ) (c d : Control) (old new new' : Option (List ℕ))
+      (line shown : List ℕ)
     → Played words image start now k c old new → TakesLine now now' line → Shows words image (next_number k) c line d shown → GrowsInto new new' shown
     → PlaysPart words image start old new'
 unfolding one_played
@@ -163,10 +170,13 @@ stopped_reading words image start now k c old new lines_fault.Read a long = stop
 stopped_reading words image start now k c old new lines_fault.TooLong a long = refused_long words image start now k c old new a (long refl)
 
 -- the next line makes no tick
-pub stopped_reacting : (words : Words) (image : Image) (start now now' : Option (List ℕ)) (k : ℕ) (c : Control) (old new : Option (List ℕ)) (line : List ℕ) (f : PlayFault)
+pub stopped_reacting : (words : Words) (image : Image) (start now now' : Option (List ℕ)) (k : ℕ) (c : Control) (old new : Option (List ℕ))
+      (line : List ℕ) (f : PlayFault)
     → Played words image start now k c old new → TakesLine now now' line → Tells image.program (next_number k) line f → Leaves words image start old new f
-stopped_reacting words image start now now' k c old new line (play_fault.Input n) a takes tells = refused words image start now now' k c old new line (NoInputs n) a takes tells
-stopped_reacting words image start now now' k c old new line (play_fault.NotJson n) a takes tells = refused words image start now now' k c old new line (NoObject n) a takes tells
+stopped_reacting words image start now now' k c old new line (play_fault.Input n) a takes tells =
+    refused words image start now now' k c old new line (NoInputs n) a takes tells
+stopped_reacting words image start now now' k c old new line (play_fault.NotJson n) a takes tells =
+    refused words image start now now' k c old new line (NoObject n) a takes tells
 stopped_reacting words image start now now' k c old new line play_fault.Memory a takes tells = stopped words image start now k c old new a
 stopped_reacting words image start now now' k c old new line play_fault.Read a takes tells = absurd tells
 stopped_reacting words image start now now' k c old new line play_fault.Write a takes tells = absurd tells

@@ -71,7 +71,6 @@ fn put_all(line: &mut Vec<u8>, shown: &[String], places: &[u32]) -> Result<(), A
 
 /// Puts the member that tells of the states of these numbers behind a line, with a comma before it, and the brace that
 /// ends the object. `shown` are the paths of all states, as JSON writes them.
-#[tactic(auto, using(crate::proofs::Listed::states_put))]
 pub fn put_states(line: &mut Vec<u8>, shown: &[String], active: &[u32]) -> Result<(), AllocError>
     ensures { OnOk result (line.new.items ≡ line.old.items ++ states_text (map string_bytes shown.now) active.now) }
 {

@@ -9,7 +9,8 @@ use Rattle.trace_player.specs.Trace.{Good, greatest}
 use Rattle.state_traces.specs.Trace.{Words, Plays, Leaves}
 
 -- the lines of an input were played, from so many failures of the source and the sink to so many
-pub record CameTo (words : Words) (image : Image) (input old new : Option (List ℕ)) (reads reads' writes writes' : ℕ) (progress progress' : Option Progress) (result : Result ℕ PlayFault) : Type 0 where
+pub record CameTo (words : Words) (image : Image) (input old new : Option (List ℕ))
+    (reads reads' writes writes' : ℕ) (progress progress' : Option Progress) (result : Result ℕ PlayFault) : Type 0 where
   pub whole : IfOk result (λ ticks. (out : List (List ℕ)) × (ticks ≡ min (length out) greatest) × Plays words image input old new out Good)
   pub fault : IfErr result (Leaves words image input old new)
   pub read : result ≡ Err play_fault.Read → reads' ≡ reads + 1

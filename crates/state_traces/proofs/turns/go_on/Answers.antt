@@ -13,13 +13,15 @@ use Rattle.trace_player.proofs.Playing.{one_fault}
 use Rattle.state_traces.specs.Trace.{Shows, Leaves}
 use Rattle.state_traces.specs.Inside.Faults.{Tells, unread}
 use Rattle.state_traces.proofs.Coming.{came_well, came_off, came_short, came_cut}
-use Rattle.state_traces.proofs.Playing.{Played, none_played, one_played, all_played, stopped, stopped_reading, stopped_reacting, stopped_writing, unread_read, unread_no_write, tells_no_read, tells_no_write}
+use Rattle.state_traces.proofs.Playing.{Played, none_played, one_played, all_played, stopped, stopped_reading}
+use Rattle.state_traces.proofs.Playing.{stopped_reacting, stopped_writing, unread_read, unread_no_write, tells_no_read, tells_no_write}
 use Rattle.state_traces.proofs.turns.go_on.Goals as goal
 
 pub loop-turn-init : goal.loop-turn-init
 loop-turn-init g c = record {
   played =
-      none_played (g.W.Words.words c.args.words.now) c.args.room (g.S.Source.to_come c.args.source.now) (g.K.Sink.taken c.args.sink.now) c.args.lines.now c.args.control
+      none_played (g.W.Words.words c.args.words.now) c.args.room (g.S.Source.to_come c.args.source.now) (g.K.Sink.taken c.args.sink.now)
+      c.args.lines.now c.args.control
       c.requires.lines c.requires.initial;
   names = c.requires.interface;
   rests = c.requires.rests;

@@ -7,7 +7,9 @@ use Rattle.state_traces.proofs.turns.go_on.Given as goal
 
 abbrev pub invariant-loop-turn : goal.invariant-loop-turn
 invariant-loop-turn g l = record {
-  played : Played (g.W.Words.words l.words) l.fn.room (g.S.Source.to_come l.fn.source) (ahead l.lines (g.S.Source.to_come l.source)) l.number l.control (g.K.Sink.taken l.fn.sink) (g.K.Sink.taken l.sink);
+  played :
+      Played (g.W.Words.words l.words) l.fn.room (g.S.Source.to_come l.fn.source) (ahead l.lines (g.S.Source.to_come l.source))
+      l.number l.control (g.K.Sink.taken l.fn.sink) (g.K.Sink.taken l.sink);
   names : l.interface ≡ l.room.program.variables;
   rests : Rests l.room.program l.control;
   room : l.room ≡ l.fn.room;
