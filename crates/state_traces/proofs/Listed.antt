@@ -1,5 +1,5 @@
 -- The active states, as a line tells of them.
-use Rattle.std.proofs.Common.{Result, Ok, Err, OnOk}
+use Rattle.std.specs.Prelude.{Result, Ok, Err, OnOk, is_ok, if◌then◌else◌}
 use Rattle.std.proofs.Common.{◌≡◌, ◌∙◌, ℕ, zero, suc, Bool, true, false, Option, Some, None, List, []}
 use Rattle.std.proofs.Common.{◌∷◌, ◌++◌, String, Global, map, get_or, slice_get, string_bytes, codes, refl, ap, sym, append_assoc}
 use Rattle.json.specs.Print.{quoted}
@@ -59,6 +59,6 @@ states_put line begun listed ended shown ns is_begun is_listed is_ended =
     ∙ regroup line (codes ",\"states\":[") (list_text false shown ns)
 
 pub ended : {A E : Type 0} (r : Result A E) (line begun listed end : List ℕ) (shown : List (List ℕ)) (ns : List ℕ) → begun ≡ line ++ codes ",\"states\":["
-    → listed ++ 93 ∷ [] ≡ begun ++ list_text false shown ns → OnOk r (end ≡ listed ++ codes "]}") → OnOk r (end ≡ line ++ states_text shown ns)
+    → listed ++ 93 ∷ [] ≡ begun ++ list_text false shown ns → end ≡ (if is_ok r then listed ++ codes "]}" else listed) → OnOk r (end ≡ line ++ states_text shown ns)
 ended (Ok a) line begun listed end shown ns is_begun is_listed is_ended = states_put line begun listed end shown ns is_begun is_listed is_ended
 ended (Err e) line begun listed end shown ns is_begun is_listed is_ended = tt
