@@ -1,9 +1,8 @@
 -- The active states, as a line tells of them.
 use Rattle.std.specs.Prelude.{Result, Ok, Err, OnOk, is_ok, if◌then◌else◌}
-use Rattle.std.proofs.Common.{◌≡◌, ◌∙◌, ℕ, zero, suc, Bool, true, false, Option, Some, None, List, []}
+use Rattle.std.proofs.Common.{◌≡◌, ◌∙◌, ℕ, zero, suc, Bool, true, false, Some, None, List, []}
 use Rattle.std.proofs.Common.{◌∷◌, ◌++◌, String, Global, map, get_or, slice_get, string_bytes, codes, refl, ap, sym, append_assoc}
 use Rattle.json.specs.Print.{quoted}
-use Rattle.serde_json.specs.Data.{Members}
 use Rattle.serde_json.specs.Written.{comma_if, items_text, members_text}
 use Rattle.serde_json.proofs.OnLiterals.{serde_json_on_literals}
 use Rattle.state_traces.specs.Lines.{paths_at, states_member, texts}

@@ -13,9 +13,11 @@ to_plain image k c [] (shown ∷ out) end goes = goes
 to_plain image k c (line ∷ lines) [] end goes = goes
 to_plain image k c (line ∷ lines) (shown ∷ out) end goes =
     let d = goes.0 in
-    let shows = goes.1 in
-    (d, record { inputs = shows.inputs; steps = shows.steps; gives = shows.gives; reacts = shows.reacts; is = shows.is },
-    to_plain image (next_number k) d lines out end goes.2)
+    let shows = goes.1 in (
+      d,
+      record { inputs = shows.inputs; steps = shows.steps; gives = shows.gives; reacts = shows.reacts; is = shows.is },
+      to_plain image (next_number k) d lines out end goes.2,
+    )
 
 pub of_plain : (image : Image) (k : ℕ) (c : Control) (lines out : List (List ℕ)) (end : End) → plain.Goes image k c lines out end
     → Goes no_words image k c lines out end
@@ -24,6 +26,8 @@ of_plain image k c [] (shown ∷ out) end goes = goes
 of_plain image k c (line ∷ lines) [] end goes = goes
 of_plain image k c (line ∷ lines) (shown ∷ out) end goes =
     let d = goes.0 in
-    let shows = goes.1 in
-    (d, record { inputs = shows.inputs; steps = shows.steps; gives = shows.gives; reacts = shows.reacts; is = shows.is },
-    of_plain image (next_number k) d lines out end goes.2)
+    let shows = goes.1 in (
+      d,
+      record { inputs = shows.inputs; steps = shows.steps; gives = shows.gives; reacts = shows.reacts; is = shows.is },
+      of_plain image (next_number k) d lines out end goes.2,
+    )

@@ -1,5 +1,5 @@
 -- How a trace grows, line by line.
-use Rattle.std.proofs.Common.{◌≡◌, ℕ, min, Option, Some, None, option_map, Result, Err, List, [], ◌∷◌}
+use Rattle.std.proofs.Common.{◌≡◌, ℕ, min, Option, Some, None, option_map, List, [], ◌∷◌}
 use Rattle.std.proofs.Common.{◌++◌, length, refl, ap, sym, ◌∙◌, subst, arith, append_assoc, append-nil, length-append, inl}
 use Rattle.std.specs.List.{concat}
 use Rattle.std.specs.Io.KnownBytes.{Appends, IsAtEnd}
@@ -49,7 +49,7 @@ none_played words image start old held c none first =
 
 -- one line more was taken, and its line of output written
 pub one_played : (words : Words) (image : Image) (start now now' : Option (List ℕ)) (k : ℕ) (c d : Control) (old new new' : Option (List ℕ))
-      (line shown : List ℕ)
+    (line shown : List ℕ)
     → Played words image start now k c old new → TakesLine now now' line → Shows words image (next_number k) c line d shown → Appends new new' shown
     → Played words image start now' (next_number k) d old new'
 one_played words image start now now' k c d old new new' line shown a takes shows writes =
@@ -69,7 +69,7 @@ one_played words image start now now' k c d old new new' line shown a takes show
 
 -- the trace of the lines so far
 so_far : (words : Words) (image : Image) (start now : Option (List ℕ)) (k : ℕ) (c : Control) (old new : Option (List ℕ))
-      (a : Played words image start now k c old new) → Trace words image a.done a.out Good
+    (a : Played words image start now k c old new) → Trace words image a.done a.out Good
 so_far words image start now k c old new a =
     subst (λ xs. Trace words image xs a.out Good) (append-nil a.done)
     (subst (λ ys. Trace words image (a.done ++ []) ys Good) (append-nil a.out) (a.goes [] [] Good refl))
@@ -91,7 +91,7 @@ all_played words image start now k c old new a ended = (
 
 -- a line ends the trace
 ends_at : (words : Words) (image : Image) (start now : Option (List ℕ)) (k : ℕ) (c : Control) (old new : Option (List ℕ)) (line : List ℕ)
-      (rest : List (List ℕ)) (end : End)
+    (rest : List (List ℕ)) (end : End)
     → Played words image start now k c old new → Cut now (line ∷ rest) → EndsAt image.program (next_number k) line end
     → (out : List (List ℕ)) × Plays words image start old new out end
 ends_at words image start now k c old new line rest end a cut ends = (
@@ -144,7 +144,7 @@ wanted_appends (Some xs) bytes = refl
 
 -- the line of output could not be written, or not to its end
 pub stopped_writing : (words : Words) (image : Image) (start now now' : Option (List ℕ)) (k : ℕ) (c d : Control) (old new new' : Option (List ℕ))
-      (line shown : List ℕ)
+    (line shown : List ℕ)
     → Played words image start now k c old new → TakesLine now now' line → Shows words image (next_number k) c line d shown → GrowsInto new new' shown
     → PlaysPart words image start old new'
 unfolding one_played
@@ -171,7 +171,7 @@ stopped_reading words image start now k c old new lines_fault.TooLong a long = r
 
 -- the next line makes no tick
 pub stopped_reacting : (words : Words) (image : Image) (start now now' : Option (List ℕ)) (k : ℕ) (c : Control) (old new : Option (List ℕ))
-      (line : List ℕ) (f : PlayFault)
+    (line : List ℕ) (f : PlayFault)
     → Played words image start now k c old new → TakesLine now now' line → Tells image.program (next_number k) line f → Leaves words image start old new f
 stopped_reacting words image start now now' k c old new line (play_fault.Input n) a takes tells =
     refused words image start now now' k c old new line (NoInputs n) a takes tells
