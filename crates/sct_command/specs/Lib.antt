@@ -4,5 +4,6 @@ pub mod Explaining
 pub mod Keeping
 pub mod Listing
 pub mod Sources
+pub mod States
 pub mod Summary
 pub mod Writing

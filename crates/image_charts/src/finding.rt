@@ -1,0 +1,65 @@
+//! Whether a text is the one that an image was compiled from.
+
+ghost use Rattle.std.specs.Prelude.{◌≡◌, ◌↔◌, IfErr, IfOk, IsTrue};
+ghost use Rattle.std.specs.Str.{IsUtf8};
+ghost use Rattle.chart_reader.specs.Read.{IsRead};
+ghost use Rattle.image_charts.specs.Charts.{IsChartOf, IsNotChartOf, SpellsNoChart};
+
+use crate::states::ChartStates;
+use bytecode::{Image, encode};
+use chart_reader::read_chart;
+use command_files::{Fault, shown_name};
+use compiled_charts::compile_chart;
+use core_charts::Chart;
+use sc_text::{Broken, ReadFault};
+use std::alloc::{AllocError, Global};
+use std::str;
+use verifier::Verified;
+
+// The chart that these bytes spell as text.
+fn chart_in(alloc: Global, bytes: &[u8]) -> Result<Chart, ReadFault>
+    ensures text { IfOk result (λ _. IsUtf8 bytes.now) }
+    ensures read { IfOk result (IsRead bytes.now) }
+    ensures fault { IfErr result (SpellsNoChart bytes.now) }
+{
+    match str::from_utf8(bytes) {
+        Ok(text) => read_chart(alloc, text),
+        Err(_) => Err(ReadFault::Text(Broken::Token, 0)),
+    }
+}
+
+// Whether two images are the same: whether the same bytes spell them.
+#[tactic(auto, using(crate::proofs::Same::same_spelling))]
+fn are_same(alloc: Global, image: &Image, other: &Image) -> Result<bool, AllocError>
+    ensures { IfOk result (λ same. IsTrue same ↔ (image.now ≡ other.now)) }
+{
+    let bytes = encode(alloc, image)?;
+    let others = encode(alloc, other)?;
+    Ok(bytes.as_slice() == others.as_slice())
+}
+
+/// The chart that the bytes of the file of this name spell, where this is its image. Err: the bytes are no text (E01
+/// at its first place); the text spells no chart, or one that has no image; or the chart has another image.
+#[tactic(auto, using(crate::proofs::Found::found, crate::proofs::Found::other, crate::proofs::Found::lacks))]
+pub fn chart_of(
+    alloc: Global,
+    name: &str,
+    bytes: &[u8],
+    image: &Verified,
+) -> Result<ChartStates, Fault>
+    ensures found { IfOk result (IsChartOf bytes.now image.now) }
+    ensures fault { IfErr result (IsNotChartOf name.now bytes.now image.now) }
+{
+    let chart = match chart_in(alloc, bytes) {
+        Ok(chart) => chart,
+        Err(fault) => return Err(Fault::Text(fault)),
+    };
+    let compiled = match compile_chart(alloc, &chart) {
+        Ok(compiled) => compiled,
+        Err(fault) => return Err(Fault::Program(fault)),
+    };
+    if !are_same(alloc, compiled.image().image(), image.image())? {
+        return Err(Fault::Source(shown_name(alloc, name)?));
+    }
+    Ok(ChartStates::of(alloc, &chart, compiled)?)
+}

@@ -1,0 +1,8 @@
+//! The chart of an image: the text that the image was compiled from, held beside it, to tell which states are active.
+#![tactic(auto)]
+
+mod finding;
+mod states;
+
+pub use finding::chart_of;
+pub use states::ChartStates;

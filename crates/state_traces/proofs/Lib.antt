@@ -1,0 +1,5 @@
+mod Coming
+mod Lines
+pub mod Listed
+mod Plain
+mod Playing

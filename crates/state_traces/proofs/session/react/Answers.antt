@@ -1,0 +1,5 @@
+use Rattle.std.proofs.Common.{Err, refl, ap, inr}
+use Rattle.state_traces.proofs.session.react.Goals as goal
+
+pub returns-in-Err-NotJson-clause-fault : goal.returns-in-Err-NotJson-clause-fault
+returns-in-Err-NotJson-clause-fault g c = (refl, inr (c.in-Err-NotJson.ensures.not_json (ap Err c.in-Err-NotJson.field-0-is)))
