@@ -7,7 +7,7 @@ use Rattle.sc_graph.specs.declared.control.Control.{Control}
 use Rattle.core_charts.specs.Chart.{Chart}
 use Rattle.chart_reader.specs.Read.{IsRead}
 use Rattle.bytecode.specs.Image.{Image}
-use Rattle.compiler.specs.Charts.{IsChartNotCompiled}
+use Rattle.compiler.specs.Charts.{ChartLacksImage}
 use Rattle.compiler.specs.declared.fault.CompileFault.{CompileFault}
 use Rattle.node_states.specs.Active.{active_states}
 use Rattle.state_paths.specs.Paths.{paths_of}
@@ -34,7 +34,7 @@ other name bytes image chart compiled shown text read is differs named =
     (named, record { chart = chart; text = text; read = read; compiled = compiled; is = is; differs = differs })
 
 -- it has none
-pub lacks : (name bytes : List ℕ) (image : Image) (chart : Chart) (f : CompileFault) → IsUtf8 bytes → IsRead bytes chart → IsChartNotCompiled chart f
+pub lacks : (name bytes : List ℕ) (image : Image) (chart : Chart) (f : CompileFault) → IsUtf8 bytes → IsRead bytes chart → ChartLacksImage chart f
     → IsNotChartOf name bytes image (fault.Program f)
 lacks name bytes image chart f text read none = record { chart = chart; text = text; read = read; none = none }
 

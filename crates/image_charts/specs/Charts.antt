@@ -9,7 +9,7 @@ use Rattle.core_charts.specs.Chart.{Chart}
 use Rattle.chart_drafts.specs.Checked.{IsTextFault}
 use Rattle.chart_reader.specs.Read.{IsRead}
 use Rattle.bytecode.specs.Image.{Image}
-use Rattle.compiler.specs.Charts.{IsChartNotCompiled}
+use Rattle.compiler.specs.Charts.{ChartLacksImage}
 use Rattle.compiler.specs.declared.fault.CompileFault.{CompileFault}
 use Rattle.node_states.specs.Active.{active_states}
 use Rattle.state_paths.specs.Paths.{paths_of}
@@ -51,7 +51,7 @@ pub record LacksImage (bytes : List ℕ) (f : CompileFault) : Type 0 where
   pub chart : Chart
   pub text : IsUtf8 bytes
   pub read : IsRead bytes chart
-  pub none : IsChartNotCompiled chart f
+  pub none : ChartLacksImage chart f
 
 -- they spell a chart whose image is another one
 pub record IsOtherChart (bytes : List ℕ) (image : Image) : Type 0 where

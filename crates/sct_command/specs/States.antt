@@ -4,7 +4,7 @@ use Rattle.bytecode.specs.Image.{Image}
 use Rattle.command_files.specs.declared.fault.Fault.{Fault}
 use Rattle.command_files.specs.declared.fault.Fault.TheVariants as fault
 use Rattle.command_files.specs.Files.{Contents, HasBytes}
-use Rattle.command_files.specs.Images.{IsLoaded, IsNotLoaded}
+use Rattle.command_files.specs.Images.{IsLoaded, FileLacksImage}
 use Rattle.trace_player.specs.declared.player.PlayFault.{PlayFault}
 use Rattle.trace_player.specs.Trace.{Good}
 use Rattle.state_traces.specs.Trace.{Plays, Leaves}
@@ -42,7 +42,7 @@ pub record IsOtherThan (files : Option Contents) (name chart : List ℕ) (f : Fa
 
 -- there is no valid image in the first file, or nothing in the second, or what is there is not the image's chart
 abbrev pub HasNoStates : Option Contents → List ℕ → List ℕ → Fault → Type 0
-HasNoStates files name chart f = IsNotLoaded files name f ⊎ (IsNotLoaded files chart f ⊎ IsOtherThan files name chart f)
+HasNoStates files name chart f = FileLacksImage files name f ⊎ (FileLacksImage files chart f ⊎ IsOtherThan files name chart f)
 
 -- what a run beside a chart leaves that is refused: nothing was written, but what the player left
 abbrev pub RefusesStates : Option Contents → List ℕ → List ℕ → Option (List ℕ) → Option (List ℕ) → Option (List ℕ) → Fault → Type 0
