@@ -86,19 +86,20 @@ fn cure_of_sign(text: &str, at: usize, could: &Continuations) -> Option<&'static
     }
 }
 
-// Whether this is the word `state`.
-fn is_state(token: Option<TokenKind>) -> bool {
-    match token {
-        Some(TokenKind::Word(Word::State)) => true,
-        _ => false,
-    }
+// What stands before a place, as far as it tells what is meant there.
+#[derive(Clone, Copy, PartialEq, Eq)]
+enum Before {
+    State,
+    Comma,
+    Other,
 }
 
-// Whether this is a comma.
-fn is_comma(token: Option<TokenKind>) -> bool {
+// What this token is.
+fn before_of(token: Option<TokenKind>) -> Before {
     match token {
-        Some(TokenKind::Sign(Sign::Comma)) => true,
-        _ => false,
+        Some(TokenKind::Word(Word::State)) => Before::State,
+        Some(TokenKind::Sign(Sign::Comma)) => Before::Comma,
+        _ => Before::Other,
     }
 }
 
@@ -111,11 +112,11 @@ fn is_foreign(language: Language, word: Word) -> bool {
 fn cure_of_reserved(
     alloc: Global,
     word: Word,
-    before: Option<TokenKind>,
+    before: Before,
     could: &Continuations,
 ) -> Result<String, AllocError> {
     let text = word.text();
-    if is_state(before) && (word == Word::Initial || word == Word::Final) {
+    if before == Before::State && (word == Word::Initial || word == Word::Final) {
         return format!(in alloc; "write `{text} state`");
     }
     if (word == Word::Bool || word == Word::Int) && has_word(could, Word::Input) {
@@ -129,7 +130,7 @@ fn cure_of_reserved(
     {
         return String::from_str(alloc, TRANSITIONS);
     }
-    if word == Word::Do && could.name && is_comma(before) {
+    if word == Word::Do && could.name && before == Before::Comma {
         return String::from_str(alloc, "`do` stands once, before the first effect");
     }
     if could.name && !begins_expression(could) {
@@ -195,7 +196,7 @@ fn cure(
     let told = match Word::of(name.as_bytes()) {
         Some(word) if is_foreign(language, word) => cure_of_name(alloc, name.as_str(), could)?,
         Some(word) => {
-            let before = last_token(alloc, language, front_of(text, at))?;
+            let before = before_of(last_token(alloc, language, front_of(text, at))?);
             cure_of_reserved(alloc, word, before, could)?
         }
         None if name.is_empty() => String::new(alloc),
