@@ -226,7 +226,7 @@ state_stays s bare none inside =
           (out-State s).regions refl around plain to stay place begins at);
       width = λ around plain.
           ap (λ (p : StatePiece). p.width around) fold
-          ∙ state_width (out-State s).name (out-State s).is_initial (out-State s).is_final (out-State s).regions (out-State s).transitions bare no_aborts
+          ∙ state_width (out-State s).name (out-State s).is_initial (out-State s).is_final (out-State s).regions (out-State s).transitions bare both.0
           regions (out-State s).regions around plain;
       initial = ap (λ (p : StatePiece). p.is_initial) fold;
       states =
