@@ -1,5 +1,6 @@
 -- What was found of a text and an image.
 use Rattle.std.proofs.Common.{◌≡◌, ◌≢◌, ◌∙◌, ℕ, true, List, ◌++◌, String, Global, map, string_bytes, refl, ap, subst, sym}
+use Rattle.std.specs.Prelude.{Result, Ok, Err, OnOk}
 use Rattle.std.specs.Str.{IsUtf8}
 use Rattle.json.specs.Print.{quoted}
 use Rattle.serde_json.specs.Written.{members_text}
@@ -13,34 +14,71 @@ use Rattle.node_states.specs.Active.{active_states}
 use Rattle.state_paths.specs.Paths.{paths_of}
 use Rattle.compiled_charts.specs.Compiled.{CompiledChart, IsCompiledChart}
 use Rattle.command_files.specs.FaultText.{shown_name}
+use Rattle.command_files.specs.declared.fault.Fault.{Fault}
 use Rattle.command_files.specs.declared.fault.Fault.TheVariants as fault
 use Rattle.state_traces.specs.Lines.{paths_at, states_member}
 use Rattle.state_traces.specs.Listed.{states_text}
 use Rattle.state_traces.proofs.Listed.{told_by}
 use Rattle.image_charts.specs.Charts.{IsChartOf, IsNotChartOf, NamedStates, state_words}
+use Rattle.image_charts.specs.Inside.Beside.{Differ, HasImage, LacksIt}
 
--- the text is the chart of the image
-pub found : (bytes : List ℕ) (image : Image) (chart : Chart) (compiled : CompiledChart) (states : NamedStates) → IsUtf8 bytes → IsRead bytes chart
-    → IsCompiledChart chart compiled
-    → compiled.image ≡ image → states ≡ record { compiled = compiled; paths = paths_of chart } → IsChartOf bytes image states
-found bytes image chart compiled states text read is same made =
-    subst (IsChartOf bytes image) (sym made) (record { chart = chart; text = text; read = read; compiled = is; same = same; paths = refl })
+-- the chart of an image, compiled
+pub has_image : (image : Image) (chart : Chart) (compiled : CompiledChart) (states : NamedStates) → IsCompiledChart chart compiled
+    → compiled.image ≡ image → states ≡ record { compiled = compiled; paths = paths_of chart } → HasImage chart image states
+has_image image chart compiled states is same made =
+    subst (HasImage chart image) (sym made) (record { compiled = is; same = same; paths = refl })
 
--- it is that of another one
-pub other : (name bytes : List ℕ) (image : Image) (chart : Chart) (compiled : CompiledChart) (shown : String Global) → IsUtf8 bytes → IsRead bytes chart
-    → IsCompiledChart chart compiled
-    → compiled.image ≢ image → string_bytes shown ≡ shown_name name → IsNotChartOf name bytes image (fault.Source shown)
-other name bytes image chart compiled shown text read is differs named =
-    (named, record { chart = chart; text = text; read = read; compiled = compiled; is = is; differs = differs })
+-- the chart has another image
+pub differ : (name : List ℕ) (image : Image) (chart : Chart) (compiled : CompiledChart) (f : Fault) → IsCompiledChart chart compiled
+    → Differ name compiled.image image f → LacksIt name chart image f
+differ name image chart compiled fault.Memory is differs = tt
+differ name image chart compiled (fault.Source shown) is differs =
+    (differs.0, record { compiled = compiled; is = is; differs = differs.1 })
+differ name image chart compiled (fault.Image f) is differs = absurd differs
+differ name image chart compiled (fault.Rule f) is differs = absurd differs
+differ name image chart compiled (fault.Text f) is differs = absurd differs
+differ name image chart compiled (fault.Program f) is differs = absurd differs
+differ name image chart compiled (fault.Play f) is differs = absurd differs
+differ name image chart compiled fault.Write is differs = absurd differs
+differ name image chart compiled (fault.File shown) is differs = absurd differs
 
+<<<<<<< HEAD
 -- it has none
 pub lacks : (name bytes : List ℕ) (image : Image) (chart : Chart) (f : CompileFault) → IsUtf8 bytes → IsRead bytes chart → ChartLacksImage chart f
     → IsNotChartOf name bytes image (fault.Program f)
 lacks name bytes image chart f text read none = record { chart = chart; text = text; read = read; none = none }
+=======
+-- the text spells the chart of the image
+pub found : (bytes : List ℕ) (image : Image) (chart : Chart) (states : NamedStates) → IsUtf8 bytes → IsRead bytes chart → HasImage chart image states
+    → IsChartOf bytes image states
+found bytes image chart states text read has =
+    record { chart = chart; text = text; read = read; compiled = has.compiled; same = has.same; paths = has.paths }
+
+-- the text spells a chart that has no image, or another one
+pub lacks : (name bytes : List ℕ) (image : Image) (chart : Chart) (f : Fault) → IsUtf8 bytes → IsRead bytes chart → LacksIt name chart image f
+    → IsNotChartOf name bytes image f
+lacks name bytes image chart fault.Memory text read gone = tt
+lacks name bytes image chart (fault.Program f) text read gone = record { chart = chart; text = text; read = read; none = gone }
+lacks name bytes image chart (fault.Source shown) text read gone =
+    let other = gone.1 in
+    (gone.0, record { chart = chart; text = text; read = read; compiled = other.compiled; is = other.is; differs = other.differs })
+lacks name bytes image chart (fault.Image f) text read gone = absurd gone
+lacks name bytes image chart (fault.Rule f) text read gone = absurd gone
+lacks name bytes image chart (fault.Text f) text read gone = absurd gone
+lacks name bytes image chart (fault.Play f) text read gone = absurd gone
+lacks name bytes image chart fault.Write text read gone = absurd gone
+lacks name bytes image chart (fault.File shown) text read gone = absurd gone
+>>>>>>> from-h4
 
 -- what was put behind a line tells of the active states
-pub states_told : (s : NamedStates) (c : Control) (shown : List (List ℕ)) (active line line' : List ℕ)
+states_told : (s : NamedStates) (c : Control) (shown : List (List ℕ)) (active line line' : List ℕ)
     → active ≡ active_states s.compiled.nodes s.compiled.states c → shown ≡ map quoted s.paths
     → line' ≡ line ++ states_text shown active → line' ≡ line ++ members_text true (state_words s c)
 states_told s c shown active line line' is same put =
     put ∙ ap (λ t. line ++ t) (told_by shown s.paths active same) ∙ ap (λ ns. line ++ members_text true (states_member (paths_at s.paths ns))) is
+
+pub states_put : {A E : Type 0} (r : Result A E) (s : NamedStates) (c : Control) (shown : List (List ℕ)) (active line line' : List ℕ)
+    → active ≡ active_states s.compiled.nodes s.compiled.states c → shown ≡ map quoted s.paths
+    → OnOk r (line' ≡ line ++ states_text shown active) → OnOk r (line' ≡ line ++ members_text true (state_words s c))
+states_put (Ok a) s c shown active line line' is same put = states_told s c shown active line line' is same put
+states_put (Err e) s c shown active line line' is same put = tt

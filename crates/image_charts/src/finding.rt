@@ -4,6 +4,7 @@ ghost use Rattle.std.specs.Prelude.{◌≡◌, ◌↔◌, IfErr, IfOk, IsTrue};
 ghost use Rattle.std.specs.Str.{IsUtf8};
 ghost use Rattle.chart_reader.specs.Read.{IsRead};
 ghost use Rattle.image_charts.specs.Charts.{IsChartOf, IsNotChartOf, SpellsNoChart};
+ghost use Rattle.image_charts.specs.Inside.Beside.{Differ, HasImage, LacksIt};
 
 use crate::states::ChartStates;
 use bytecode::{Image, encode};
@@ -29,7 +30,6 @@ fn chart_in(alloc: Global, bytes: &[u8]) -> Result<Chart, ReadFault>
 }
 
 // Whether two images are the same: whether the same bytes spell them.
-#[tactic(auto, using(crate::proofs::Same::same_spelling))]
 fn are_same(alloc: Global, image: &Image, other: &Image) -> Result<bool, AllocError>
     ensures { IfOk result (λ same. IsTrue same ↔ (image.now ≡ other.now)) }
 {
@@ -38,9 +38,34 @@ fn are_same(alloc: Global, image: &Image, other: &Image) -> Result<bool, AllocEr
     Ok(bytes.as_slice() == others.as_slice())
 }
 
+// Compares two images. Err: they are not the same, which is told of the file of this name.
+fn compare(alloc: Global, name: &str, image: &Image, other: &Image) -> Result<(), Fault>
+    ensures same { IfOk result (λ _. image.now ≡ other.now) }
+    ensures fault { IfErr result (Differ name.now image.now other.now) }
+{
+    if !are_same(alloc, image, other)? {
+        return Err(Fault::Source(shown_name(alloc, name)?));
+    }
+    Ok(())
+}
+
+// A chart that is compiled, where this is its image. Err: it has none, or another one.
+#[tactic(auto, using(crate::proofs::Found::has_image, crate::proofs::Found::differ))]
+fn beside(alloc: Global, name: &str, chart: &Chart, image: &Verified) -> Result<ChartStates, Fault>
+    ensures found { IfOk result (HasImage chart.now image.now) }
+    ensures fault { IfErr result (LacksIt name.now chart.now image.now) }
+{
+    let compiled = match compile_chart(alloc, chart) {
+        Ok(compiled) => compiled,
+        Err(fault) => return Err(Fault::Program(fault)),
+    };
+    compare(alloc, name, compiled.image().image(), image.image())?;
+    Ok(ChartStates::of(alloc, chart, compiled)?)
+}
+
 /// The chart that the bytes of the file of this name spell, where this is its image. Err: the bytes are no text (E01
 /// at its first place); the text spells no chart, or one that has no image; or the chart has another image.
-#[tactic(auto, using(crate::proofs::Found::found, crate::proofs::Found::other, crate::proofs::Found::lacks))]
+#[tactic(auto, using(crate::proofs::Found::found, crate::proofs::Found::lacks))]
 pub fn chart_of(
     alloc: Global,
     name: &str,
@@ -54,12 +79,6 @@ pub fn chart_of(
         Ok(chart) => chart,
         Err(fault) => return Err(Fault::Text(fault)),
     };
-    let compiled = match compile_chart(alloc, &chart) {
-        Ok(compiled) => compiled,
-        Err(fault) => return Err(Fault::Program(fault)),
-    };
-    if !are_same(alloc, compiled.image().image(), image.image())? {
-        return Err(Fault::Source(shown_name(alloc, name)?));
-    }
-    Ok(ChartStates::of(alloc, &chart, compiled)?)
+    let states = beside(alloc, name, &chart, image)?;
+    Ok(states)
 }

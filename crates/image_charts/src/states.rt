@@ -59,7 +59,6 @@ impl Words for ChartStates {
 
     ghost words = { λ s. state_words s };
 
-    #[tactic(auto, using(crate::proofs::Found::states_told))]
     fn put(&self, alloc: Global, line: &mut Vec<u8>, control: &Control) -> Result<(), AllocError> {
         let active = self.compiled.active(alloc, control)?;
         put_states(line, &self.shown, active.as_slice())
