@@ -42,12 +42,6 @@ differ name image chart compiled (fault.Play f) is differs = absurd differs
 differ name image chart compiled fault.Write is differs = absurd differs
 differ name image chart compiled (fault.File shown) is differs = absurd differs
 
-<<<<<<< HEAD
--- it has none
-pub lacks : (name bytes : List ℕ) (image : Image) (chart : Chart) (f : CompileFault) → IsUtf8 bytes → IsRead bytes chart → ChartLacksImage chart f
-    → IsNotChartOf name bytes image (fault.Program f)
-lacks name bytes image chart f text read none = record { chart = chart; text = text; read = read; none = none }
-=======
 -- the text spells the chart of the image
 pub found : (bytes : List ℕ) (image : Image) (chart : Chart) (states : NamedStates) → IsUtf8 bytes → IsRead bytes chart → HasImage chart image states
     → IsChartOf bytes image states
@@ -68,7 +62,6 @@ lacks name bytes image chart (fault.Text f) text read gone = absurd gone
 lacks name bytes image chart (fault.Play f) text read gone = absurd gone
 lacks name bytes image chart fault.Write text read gone = absurd gone
 lacks name bytes image chart (fault.File shown) text read gone = absurd gone
->>>>>>> from-h4
 
 -- what was put behind a line tells of the active states
 states_told : (s : NamedStates) (c : Control) (shown : List (List ℕ)) (active line line' : List ℕ)
