@@ -30,7 +30,7 @@ record Named (variables : List Variable) (a : Input) : Type 0 where
   kind : variable.kind ≡ kind_of a.1
 
 -- no two of these variables have one name
-NewNames : List Variable → Type 0
+abbrev NewNames : List Variable → Type 0
 NewNames variables = (x y : ℕ) (a b : Variable) → x < y → slice_get variables x ≡ Some a → slice_get variables y ≡ Some b → a.name ≢ b.name
 
 bool_kind : (is_false is_true : Bool) (v : Value) → (if is_false then Some (value.Bool false) else if is_true then Some (value.Bool true) else None) ≡ Some v → kind.Bool ≡ kind_of v

@@ -68,7 +68,7 @@ fn hold<'a>(
 
 // Puts the values of the variables of a machine into cells. Whether there are as many; else nothing has changed.
 fn show_values(machine: &Machine<'_>, values: &mut [i32]) -> bool
-    ensures { MatchBool result (ShowValues values.new machine.now) (values.new ≡ values.old) }
+    ensures shown { MatchBool result (ShowValues values.new machine.now) (values.new ≡ values.old) }
     ensures long { length values.new ≡ length values.old }
 {
     let shown = machine.control().variables.as_slice();
