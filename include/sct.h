@@ -113,12 +113,12 @@ size_t sct_state_count(const sct_machine *machine);
 const char *sct_state_name(const sct_machine *machine, size_t number);
 
 /* Whether a state is active between two ticks, as 1 or 0. SCT_NUMBER: there is none of this number. SCT_NULL. */
-sct_status sct_active(sct_machine *machine, size_t number, int *active);
+sct_status sct_active(const sct_machine *machine, size_t number, int *active);
 
 /* The configuration of a machine between two ticks as bytes, of which there are always as many for one image. They go into
  * `bytes`, a buffer of `capacity` bytes, and `length` takes their count. `bytes` may be null where `capacity` is 0. Inputs
  * that were given for the next tick are no part of it. SCT_BUFFER: `length` has the length that is needed. SCT_NULL. */
-sct_status sct_save(sct_machine *machine, uint8_t *bytes, size_t capacity, size_t *length);
+sct_status sct_save(const sct_machine *machine, uint8_t *bytes, size_t capacity, size_t *length);
 
 /* Puts a machine into the configuration in these bytes. They are accepted exactly where a machine of this image can rest in
  * them, whoever made them. Inputs that were given for the next tick stay. SCT_CONTROL, SCT_MEMORY, SCT_NULL. */

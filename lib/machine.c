@@ -322,12 +322,13 @@ const char *sct_state_name(const sct_machine *machine, size_t number) {
   return machine->state_names + machine->state_starts[number];
 }
 
-sct_status sct_active(sct_machine *machine, size_t number, int *active) {
+sct_status sct_active(const sct_machine *machine, size_t number, int *active) {
+  sct_machine *own = (sct_machine *)machine; /* its handle is taken and put back */
   bool is = false;
   int32_t status;
   if (machine == NULL || active == NULL) return SCT_NULL;
   if (number >= machine->states) return SCT_NUMBER;
-  status = sct_machine_active(&machine->image, &machine->handle, (uint32_t)number, &is);
+  status = sct_machine_active(&own->image, &own->handle, (uint32_t)number, &is);
   if (status == SCT_OK) *active = is;
   return (sct_status)status;
 }
@@ -350,14 +351,14 @@ static uint32_t cell_at(const uint8_t *bytes) {
   return (uint32_t)bytes[0] | (uint32_t)bytes[1] << 8 | (uint32_t)bytes[2] << 16 | (uint32_t)bytes[3] << 24;
 }
 
-sct_status sct_save(sct_machine *machine, uint8_t *bytes, size_t capacity, size_t *length) {
+sct_status sct_save(const sct_machine *machine, uint8_t *bytes, size_t capacity, size_t *length) {
+  sct_machine *own = (sct_machine *)machine; /* its handle is taken and put back */
   int32_t status;
   size_t at;
   if (machine == NULL || length == NULL || (bytes == NULL && capacity > 0)) return SCT_NULL;
   *length = saved_length(machine);
   if (capacity < *length) return SCT_BUFFER;
-  status = sct_machine_save(&machine->image, &machine->handle, machine->saved_values, machine->variables, machine->saved_statuses,
-                            machine->threads);
+  status = sct_machine_save(&own->image, &own->handle, own->saved_values, machine->variables, own->saved_statuses, machine->threads);
   if (status != SCT_OK) return (sct_status)status;
   for (at = 0; at < machine->variables; at++) put_cell(bytes + 4 * at, (uint32_t)machine->saved_values[at]);
   for (at = 0; at < machine->threads; at++) put_cell(bytes + 4 * (machine->variables + at), machine->saved_statuses[at]);

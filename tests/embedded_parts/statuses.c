@@ -114,7 +114,7 @@ static void refuse_variables(sct_machine *machine) {
   HOLDS(truth == 77 && value == 77);
 }
 
-static int32_t sum_of(sct_machine *machine) {
+static int32_t sum_of(const sct_machine *machine) {
   int32_t sum = -77;
   HOLDS(sct_get_int(machine, SUM, &sum) == SCT_OK);
   return sum;
@@ -153,13 +153,13 @@ static const char chart[] =
     "  }\n"
     "}\n";
 
-static int is_active(sct_machine *machine, size_t number) {
+static int is_active(const sct_machine *machine, size_t number) {
   int active = 77;
   HOLDS(sct_active(machine, number, &active) == SCT_OK);
   return active;
 }
 
-static void ask_states(sct_machine *none) {
+static void ask_states(const sct_machine *none) {
   sct_machine *machine = NULL;
   int active = 77;
   HOLDS(sct_state_count(NULL) == 0 && sct_state_name(NULL, 0) == NULL && sct_active(NULL, 0, &active) == SCT_NULL);
