@@ -1,4 +1,4 @@
-//! A machine inside another program: images from texts and bytes, and ticks over cells.
+//! A machine inside another program: images and machines behind handles, and ticks over cells.
 #![tactic(auto)]
 
 mod buffers;
@@ -7,7 +7,6 @@ mod cells;
 mod controls;
 mod fault;
 mod handles;
-mod images;
 mod inputs;
 mod loose;
 mod machine;
@@ -21,7 +20,6 @@ pub use cells::{status_cell, status_in, value_cell, value_in};
 pub use controls::{control_in, put_control, put_values};
 pub use fault::MachineFault;
 pub use handles::{ImageHandle, MachineHandle};
-pub use images::{image_of_text, verified_image};
 pub use machine::Machine;
 pub use opened::Opened;
 pub use rows::{VariableRow, names_of, put_rows};

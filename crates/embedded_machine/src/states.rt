@@ -1,22 +1,16 @@
 //! The states of charts: their names, and which of them are active.
 
 ghost use Rattle.std.specs.Prelude.{◌≡◌, IfOk, length, map, string_bytes};
-ghost use Rattle.sc_text.specs.declared.language.Language.TheVariants as language;
-ghost use Rattle.sc_text.specs.FirstToken.{IsIn};
 ghost use Rattle.std.specs.List.{list_any};
 ghost use Rattle.node_states.specs.Active.{is_active, is_number, rests_at, rests_in};
 ghost use Rattle.node_states.specs.StandsFor.{stands_for};
 ghost use Rattle.state_paths.specs.Paths.{paths_of};
-ghost use Rattle.embedded_machine.specs.Opened.{AreOfChart, AreStatesOf, ended_by_zero, no_states};
+ghost use Rattle.embedded_machine.specs.Opened.{ended_by_zero, no_states};
 
-use abort_expansion::expand;
-use chart_reader::read_chart;
-use command_files::Fault;
-use compiler::CompileFault;
+use abort_expansion::{ExpandFault, expand};
 use core_charts::Chart;
 use node_states::stands_for;
 use sc_graph::{Control, Status};
-use sc_text::{Language, language_of};
 use sqlite_items::Items;
 use state_paths::paths_of;
 use std::alloc::{AllocError, Global};
@@ -41,13 +35,25 @@ impl Model for States {
 
 impl States {
     /// None, where there is no chart.
-    pub(crate) fn none(alloc: Global) -> States
+    pub fn none(alloc: Global) -> States
         ensures { result ≡ no_states }
     {
         States {
             nodes: Items::new(alloc),
             paths: Vec::new(alloc),
         }
+    }
+
+    /// Those of a chart. Err: it is not expanded, since its core chart has more variables than a program may; or memory was
+    /// refused.
+    pub fn of_chart(alloc: Global, chart: &Chart) -> Result<States, ExpandFault>
+        ensures nodes { IfOk result (λ s. s.nodes ≡ stands_for chart.now) }
+        ensures paths { IfOk result (λ s. s.paths ≡ paths_of chart.now) }
+    {
+        let (core, map) = expand(alloc, chart)?;
+        let nodes = stands_for(alloc, &core, &map)?;
+        let paths = paths_of(alloc, chart)?;
+        Ok(States { nodes, paths })
     }
 
     /// How many there are.
@@ -114,39 +120,4 @@ fn rests_at(status: Status) -> Option<u16>
         Status::Waiting(node) | Status::Paused(node) => Some(node),
         Status::Absent | Status::Ended | Status::At(_) => None,
     }
-}
-
-/// The states of the chart that a text spells; none where it spells a program. Err: the first fault of the chart's text,
-/// or why it is not expanded; or memory was refused.
-pub(crate) fn states_of(alloc: Global, text: &str) -> Result<States, Fault>
-    ensures { IfOk result (AreStatesOf text.now) }
-{
-    match language_of(text) {
-        Language::Chart => states_in(alloc, text),
-        Language::Scl => Ok(States::none(alloc)),
-    }
-}
-
-// The states of the chart that a text spells.
-fn states_in(alloc: Global, text: &str) -> Result<States, Fault>
-    ensures { IfOk result (AreOfChart text.now) }
-{
-    match read_chart(alloc, text) {
-        Ok(chart) => states_of_chart(alloc, &chart),
-        Err(fault) => Err(Fault::Text(fault)),
-    }
-}
-
-// The states of a chart.
-fn states_of_chart(alloc: Global, chart: &Chart) -> Result<States, Fault>
-    ensures nodes { IfOk result (λ s. s.nodes ≡ stands_for chart.now) }
-    ensures paths { IfOk result (λ s. s.paths ≡ paths_of chart.now) }
-{
-    let (core, map) = match expand(alloc, chart) {
-        Ok(expansion) => expansion,
-        Err(fault) => return Err(Fault::Program(CompileFault::Expansion(fault))),
-    };
-    let nodes = stands_for(alloc, &core, &map)?;
-    let paths = paths_of(alloc, chart)?;
-    Ok(States { nodes, paths })
 }

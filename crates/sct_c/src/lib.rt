@@ -6,16 +6,17 @@ ghost use Rattle.command_files.specs.FaultText.{fault_text};
 ghost use Rattle.command_files.specs.declared.fault.Fault.{Fault as Why};
 ghost use Rattle.node_states.specs.Active.{is_active};
 ghost use Rattle.embedded_machine.specs.Cells.{HoldControl};
-ghost use Rattle.embedded_machine.specs.Opened.{IsNoImageOf, IsOpenedText, SpellsItsImage, no_states};
+ghost use Rattle.embedded_machine.specs.Opened.{no_states};
+ghost use Rattle.embedded_texts.specs.Texts.{IsNoImageOf, IsOpenedText, SpellsItsImage};
 ghost use Rattle.embedded_machine.specs.Ticks.{Holds, IsFirst, RestoredHeld, ShowValues, SpellValid, TickedHeld};
 ghost use Rattle.sct_c.specs.Told.{HoldsImage, TellsWhy};
 
 use command_files::Fault;
 use embedded_machine::{
-    ImageHandle, MachineFault, MachineHandle, Opened, VariableRow, hold_image, image_of_text,
-    names_of, open_machine, put_beginning, put_bytes, put_rows, react, restore, save,
-    state_is_active,
+    ImageHandle, MachineFault, MachineHandle, Opened, VariableRow, hold_image, names_of,
+    open_machine, put_beginning, put_bytes, put_rows, react, restore, save, state_is_active,
 };
+use embedded_texts::{image_of_text, opened_image, opened_text};
 use std::alloc::Global;
 
 // Statuses, as sct.h has them.
@@ -160,7 +161,7 @@ pub extern "C" fn sct_image_open(
     ensures held { result ≡ pos 0 → HoldsImage image.new.image (λ o. SpellValid bytes.now o.image × (o.states ≡ no_states)) }
     ensures same { result ≢ pos 0 → image.new.image ≡ image.old.image }
 {
-    match Opened::image(alloc, bytes) {
+    match opened_image(alloc, bytes) {
         Ok(opened) => hold(alloc, opened, image, counts),
         Err(fault) => put_words(alloc, &fault, words, &mut lengths.words, IMAGE),
     }
@@ -180,7 +181,7 @@ pub extern "C" fn sct_text_open(
     ensures held { result ≡ pos 0 → HoldsImage image.new.image (IsOpenedText text.now) }
     ensures same { result ≢ pos 0 → image.new.image ≡ image.old.image }
 {
-    match Opened::text(alloc, text) {
+    match opened_text(alloc, text) {
         Ok(opened) => hold(alloc, opened, image, counts),
         Err(fault) => put_words(alloc, &fault, words, &mut lengths.words, TEXT),
     }
