@@ -14,8 +14,8 @@ use embedded_machine::{Opened, States};
 use sc_text::{Language, language_of};
 use std::alloc::Global;
 
-/// What these bytes spell as an image, in either version of the layout; nothing is known of a chart. Err: they spell none, or
-/// why it is not valid; or memory was refused.
+/// What these bytes spell as an image, in either version of the layout; nothing is known of a chart. Err: they spell
+/// none, or why it is not valid; or memory was refused.
 pub fn opened_image(alloc: Global, bytes: &[u8]) -> Result<Opened, Fault>
     ensures valid { IfOk result (λ o. SpellValid bytes.now o.image) }
     ensures states { IfOk result (λ o. o.states ≡ no_states) }
@@ -24,8 +24,8 @@ pub fn opened_image(alloc: Global, bytes: &[u8]) -> Result<Opened, Fault>
     Ok(Opened::of(verified, States::none(alloc)))
 }
 
-/// The image of the program, or of the chart, that this text spells, with the states of the chart. Err: it spells none, or why
-/// it has no image; or memory was refused.
+/// The image of the program, or of the chart, that this text spells, with the states of the chart. Err: it spells
+/// none, or why it has no image; or memory was refused.
 pub fn opened_text(alloc: Global, bytes: &[u8]) -> Result<Opened, Fault>
     ensures { IfOk result (IsOpenedText bytes.now) }
 {
@@ -35,8 +35,8 @@ pub fn opened_text(alloc: Global, bytes: &[u8]) -> Result<Opened, Fault>
     Ok(Opened::of(verified, states))
 }
 
-// The states of the chart that a text spells; none where it spells a program. Err: the first fault of the chart's text, or
-// why it is not expanded; or memory was refused.
+// The states of the chart that a text spells; none where it spells a program. Err: the first fault of the chart's
+// text, or why it is not expanded; or memory was refused.
 fn states_of(alloc: Global, text: &str) -> Result<States, Fault>
     ensures { IfOk result (AreStatesOf text.now) }
 {

@@ -46,8 +46,8 @@ pub struct Lengths {
     pub words: usize,
 }
 
-/// What an image counts: variables and threads, the states of its chart, and the bytes of the names of both, a zero byte
-/// behind each.
+/// What an image counts: variables and threads, the states of its chart, and the bytes of the names of both, a zero
+/// byte behind each.
 #[repr(C)]
 #[derive(Clone, Copy, Debug)]
 pub struct Counts {
@@ -70,7 +70,8 @@ fn status_of(fault: MachineFault) -> i32
     }
 }
 
-// Puts as much of the words of a fault into a buffer as has room there. The status, or that memory was refused for them.
+// Puts as much of the words of a fault into a buffer as has room there. The status, or that memory was refused for
+// them.
 fn put_words(alloc: Global, fault: &Fault, words: &mut [u8], length: &mut usize, status: i32) -> i32
     requires { (status ≡ pos 3) ⊎ (status ≡ pos 4) }
     ensures status { (result ≡ status) ⊎ (result ≡ pos 2) }
@@ -86,9 +87,9 @@ fn put_words(alloc: Global, fault: &Fault, words: &mut [u8], length: &mut usize,
     }
 }
 
-/// Compiles a text into the bytes of an image. 0: the first of the bytes in `image`, as many as `lengths` says, spell the
-/// image of the text. 8: there is no room for so many, and nothing else was written. 3: the text is refused, for the fault
-/// whose words `words` begins with, or all of them, as many as `lengths` says. 2: memory was refused.
+/// Compiles a text into the bytes of an image. 0: the first of the bytes in `image`, as many as `lengths` says, spell
+/// the image of the text. 8: there is no room for so many, and nothing else was written. 3: the text is refused, for
+/// the fault whose words `words` begins with, or all of them, as many as `lengths` says. 2: memory was refused.
 #[unsafe(no_mangle)]
 pub extern "C" fn sct_text_compile(
     alloc: Global,
@@ -147,8 +148,8 @@ fn counts_of(alloc: Global, opened: &Opened) -> Option<Counts> {
     })
 }
 
-/// Opens the image in these bytes behind a handle. 0: it is valid, and the handle holds it. 4: it is none, and `words` begins
-/// with the words why. 2: memory was refused. Where it is refused the handle is as it was.
+/// Opens the image in these bytes behind a handle. 0: it is valid, and the handle holds it. 4: it is none, and `words`
+/// begins with the words why. 2: memory was refused. Where it is refused the handle is as it was.
 #[unsafe(no_mangle)]
 pub extern "C" fn sct_image_open(
     alloc: Global,
@@ -158,7 +159,8 @@ pub extern "C" fn sct_image_open(
     image: &mut ImageHandle,
     counts: &mut Counts,
 ) -> i32
-    ensures held { result ≡ pos 0 → HoldsImage image.new.image (λ o. SpellValid bytes.now o.image × (o.states ≡ no_states)) }
+    ensures held { result ≡ pos 0
+        → HoldsImage image.new.image (λ o. SpellValid bytes.now o.image × (o.states ≡ no_states)) }
     ensures same { result ≢ pos 0 → image.new.image ≡ image.old.image }
 {
     match opened_image(alloc, bytes) {
@@ -167,8 +169,8 @@ pub extern "C" fn sct_image_open(
     }
 }
 
-/// Compiles a text and opens its image behind a handle, with the states of its chart. 0, 2: as `sct_image_open`. 3: the text is
-/// refused, and `words` begins with the words why.
+/// Compiles a text and opens its image behind a handle, with the states of its chart. 0, 2: as `sct_image_open`. 3:
+/// the text is refused, and `words` begins with the words why.
 #[unsafe(no_mangle)]
 pub extern "C" fn sct_text_open(
     alloc: Global,
@@ -187,8 +189,8 @@ pub extern "C" fn sct_text_open(
     }
 }
 
-/// The variables of the image behind a handle, and their names and those of its chart's states, a zero byte behind each. 8:
-/// there are not as many rows, or there is no room for the names. 2: memory was refused.
+/// The variables of the image behind a handle, and their names and those of its chart's states, a zero byte behind
+/// each. 8: there are not as many rows, or there is no room for the names. 2: memory was refused.
 #[unsafe(no_mangle)]
 pub extern "C" fn sct_image_names(
     alloc: Global,
@@ -249,7 +251,8 @@ pub extern "C" fn sct_machine_react<'a>(
     values: &mut [i32],
     steps: &mut u64,
 ) -> i32
-    ensures ticked { result ≡ pos 0 → TickedHeld inputs.now values.new steps.new machine.old.machine machine.new.machine }
+    ensures ticked { result ≡ pos 0
+        → TickedHeld inputs.now values.new steps.new machine.old.machine machine.new.machine }
     ensures same { result ≢ pos 0 → machine.new.machine ≡ machine.old.machine }
     ensures values { result ≢ pos 0 → values.new ≡ values.old }
 {
@@ -271,7 +274,8 @@ pub extern "C" fn sct_machine_save<'a>(
     values: &mut [i32],
     statuses: &mut [u32],
 ) -> i32
-    ensures saved { result ≡ pos 0 → Holds machine.new.machine (λ m. HoldControl values.new statuses.new m.control) }
+    ensures saved { result ≡ pos 0
+        → Holds machine.new.machine (λ m. HoldControl values.new statuses.new m.control) }
     ensures same { machine.new.machine ≡ machine.old.machine }
 {
     match save(alloc, image, machine, values, statuses) {
@@ -289,7 +293,8 @@ pub extern "C" fn sct_machine_restore<'a>(
     values: &[i32],
     statuses: &[u32],
 ) -> i32
-    ensures restored { result ≡ pos 0 → RestoredHeld values.now statuses.now machine.old.machine machine.new.machine }
+    ensures restored { result ≡ pos 0
+        → RestoredHeld values.now statuses.now machine.old.machine machine.new.machine }
     ensures same { result ≢ pos 0 → machine.new.machine ≡ machine.old.machine }
 {
     match restore(alloc, image, machine, values, statuses) {
