@@ -33,7 +33,8 @@ record Named (variables : List Variable) (a : Input) : Type 0 where
 abbrev NewNames : List Variable → Type 0
 NewNames variables = (x y : ℕ) (a b : Variable) → x < y → slice_get variables x ≡ Some a → slice_get variables y ≡ Some b → a.name ≢ b.name
 
-bool_kind : (is_false is_true : Bool) (v : Value) → (if is_false then Some (value.Bool false) else if is_true then Some (value.Bool true) else None) ≡ Some v → kind.Bool ≡ kind_of v
+bool_kind : (is_false is_true : Bool) (v : Value)
+    → (if is_false then Some (value.Bool false) else if is_true then Some (value.Bool true) else None) ≡ Some v → kind.Bool ≡ kind_of v
 bool_kind true other v is = ap kind_of (same_Some (value.Bool false) v is)
 bool_kind false true v is = ap kind_of (same_Some (value.Bool true) v is)
 bool_kind false false v is = absurd (none-some v is)
@@ -48,9 +49,11 @@ behind x variables a d = record { number = suc d.number; variable = d.variable; 
 named : (variables : List Variable) (cells : List ℤ) (i : ℕ) (a : Input) → slice_get (inputs_in variables cells) i ≡ Some a → Named variables a
 named [] cells i a is = absurd (none-some a is)
 named (x ∷ variables) [] i a is = absurd (none-some a is)
-named (x ∷ variables) (n ∷ cells) i a is = at x.role refl (value_in x.kind n) (of_kind x.kind n) i is (λ k later. behind x variables a (named variables cells k a later))
+named (x ∷ variables) (n ∷ cells) i a is = at x.role refl (value_in x.kind n) (of_kind x.kind n) i is (λ k later. behind x variables a
+    (named variables cells k a later))
   where
-    at : (r : Role) → x.role ≡ r → (given : Option Value) → ((v : Value) → given ≡ Some v → x.kind ≡ kind_of v) → (i : ℕ) → slice_get (with_input x r given (inputs_in variables cells)) i ≡ Some a
+    at : (r : Role) → x.role ≡ r → (given : Option Value) → ((v : Value) → given ≡ Some v → x.kind ≡ kind_of v) → (i : ℕ)
+        → slice_get (with_input x r given (inputs_in variables cells)) i ≡ Some a
         → ((k : ℕ) → slice_get (inputs_in variables cells) k ≡ Some a → Named (x ∷ variables) a) → Named (x ∷ variables) a
     at role.Input same (Some v) fits zero is later = record {
       number = 0;
@@ -65,14 +68,16 @@ named (x ∷ variables) (n ∷ cells) i a is = at x.role refl (value_in x.kind n
     at role.Output same given fits i is later = later i is
     at role.Local same given fits i is later = later i is
 
-once : (variables : List Variable) → NewNames variables → (cells : List ℤ) (i j : ℕ) (a b : Input) → i < j → slice_get (inputs_in variables cells) i ≡ Some a → slice_get (inputs_in variables cells) j ≡ Some b
+once : (variables : List Variable) → NewNames variables → (cells : List ℤ) (i j : ℕ) (a b : Input) → i < j
+    → slice_get (inputs_in variables cells) i ≡ Some a → slice_get (inputs_in variables cells) j ≡ Some b
     → a.0 ≢ b.0
 once [] new cells i j a b less first second = absurd (none-some a first)
 once (x ∷ variables) new [] i j a b less first second = absurd (none-some a first)
 once (x ∷ variables) new (n ∷ cells) i j a b less first second = at x.role (value_in x.kind n) i j less first second
     (λ k l below. once variables (λ y z c d smaller. new (suc y) (suc z) c d (omega (arith, smaller))) cells k l a b below)
   where
-    at : (r : Role) (given : Option Value) (i j : ℕ) → i < j → slice_get (with_input x r given (inputs_in variables cells)) i ≡ Some a → slice_get (with_input x r given (inputs_in variables cells)) j ≡ Some b
+    at : (r : Role) (given : Option Value) (i j : ℕ) → i < j → slice_get (with_input x r given (inputs_in variables cells)) i ≡ Some a
+        → slice_get (with_input x r given (inputs_in variables cells)) j ≡ Some b
         → ((k l : ℕ) → k < l → slice_get (inputs_in variables cells) k ≡ Some a → slice_get (inputs_in variables cells) l ≡ Some b → a.0 ≢ b.0) → a.0 ≢ b.0
     at role.Input (Some v) zero zero less first second later = absurd (omega (arith, less))
     at role.Input (Some v) (suc i) zero less first second later = absurd (omega (arith, less))

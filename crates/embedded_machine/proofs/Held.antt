@@ -39,12 +39,14 @@ module _ (R : RattleType) where
   module _ {M : Type 1} {𝓤 : Ura M} (𝓛 : Logic 𝓤) where
     -- where a box is, its pointer may be compared with null
     pub tested : (p : Ptr) (x : R.Denot) → ent 𝓤 (sem 𝓛 (boxed p x)) (guard 𝓤 (Testable p) (sem 𝓛 (boxed p x)))
-    tested p x = fact_use 𝓤 (Testable p) (via 𝓤 _ (snd∗ 𝓤 (sem 𝓛 (lies_at R full_share p x)) (sem 𝓛 (ghosts.dealloc_token heap (bare (lone R.mir)) p))) (dealloc_token-Testable 𝓛 heap (bare (lone R.mir)) p)) (guard_i 𝓤 (Testable p) (sem 𝓛 (boxed p x)))
+    tested p x = fact_use 𝓤 (Testable p) (via 𝓤 _ (snd∗ 𝓤 (sem 𝓛 (lies_at R full_share p x)) (sem 𝓛 (ghosts.dealloc_token heap (bare (lone R.mir)) p)))
+        (dealloc_token-Testable 𝓛 heap (bare (lone R.mir)) p)) (guard_i 𝓤 (Testable p) (sem 𝓛 (boxed p x)))
 
   module _ {M : Type 1} {𝓤 : Ura M} {𝓛 : Logic 𝓤} {K : Type 0} {Γ : List (Item 𝓤)} {G : Goal 𝓤 𝓛.H} where
     -- a box is put behind a pointer
     pub hold : K → (p : Ptr) (x : R.Denot) → Step K 𝓛 (‵ (held_at R p (Some x)) ∷ Γ) G (‵ (boxed p x) ∷ Γ) G
-    hold t p x = step (λ s. use1 𝓛 (given (Testable p) (‵ (boxed p x))) (tested 𝓛 p x) $ learn t (λ e. nothing t $ fpack t (Testable p) (λ _. ftrue) e $ fjoin t $ s))
+    hold t p x = step (λ s. use1 𝓛 (given (Testable p) (‵ (boxed p x))) (tested 𝓛 p x) $ learn t (λ e. nothing t $ fpack t (Testable p) (λ _. ftrue) e $
+        fjoin t $ s))
 
     -- nothing is held and the pointer is null, or a box is there
     pub either_held : K → (p : Ptr) (k : Option R.Denot) → (p ≡ null_ptr → k ≡ None → Seq K 𝓛 Γ G)
@@ -69,8 +71,10 @@ abbrev pub word : Bor Image.Denot → Val
 word r = vptr r.ref_ptr.0 r.ref_ptr.1
 
 module _ {M : Type 1} {𝓤 : Ura M} {𝓛 : Logic 𝓤} {K : Type 0} {Γ : List (Item 𝓤)} {G : Goal 𝓤 𝓛.H} where
-  pub image_out : K → (d : Image.Denot) (vs : List Val) → (vs ≡ alone (ptr_val d.at) ∷ [] → Seq K 𝓛 (‵ (image.the_heap d) ∷ Γ) G) → Seq K 𝓛 (‵ (Image.own_val d vs) ∷ Γ) G
-  image_out t d vs k = fsplit t $ fpick t (λ vss. fsplit t $ feq_l t (λ ev. fsplit t $ feq_l t (λ ep. drop t $ k (subst (λ (ps : List Val). vs ≡ vstruct (of_list (ps ++ [])) ∷ []) ep ev))))
+  pub image_out : K → (d : Image.Denot) (vs : List Val) → (vs ≡ alone (ptr_val d.at) ∷ [] → Seq K 𝓛 (‵ (image.the_heap d) ∷ Γ) G)
+      → Seq K 𝓛 (‵ (Image.own_val d vs) ∷ Γ) G
+  image_out t d vs k = fsplit t $ fpick t (λ vss. fsplit t $ feq_l t (λ ev. fsplit t $ feq_l t (λ ep. drop t $
+      k (subst (λ (ps : List Val). vs ≡ vstruct (of_list (ps ++ [])) ∷ []) ep ev))))
 
   pub image_in : K → (d : Image.Denot) → Step K 𝓛 (‵ (Image.own_val d (alone (ptr_val d.at) ∷ [])) ∷ Γ) G (‵ (image.the_heap d) ∷ Γ) G
   image_in t d = step (λ s. let v : Val = alone (ptr_val d.at) in
@@ -80,11 +84,16 @@ module _ {M : Type 1} {𝓤 : Ura M} {𝓛 : Logic 𝓤} {K : Type 0} {Γ : List
   module _ (κ : Lft) where
     pub machine_out : K → (d : (Machine κ).Denot) (vs : List Val)
         → (vs ≡ both (ptr_val d.at) (word d.image) ∷ [] → Seq K 𝓛 (‵ (machine.the_heap κ d) ∷ Γ) G) → Seq K 𝓛 (‵ ((Machine κ).own_val d vs) ∷ Γ) G
-    machine_out t d vs k = fsplit t $ fpick t (λ vss. fsplit t $ feq_l t (λ ev. fsplit t $ feq_l t (λ ep. fsplit t $ fsplit t $ feq_l t (λ ei. drop t $ drop t $
-        k (subst (λ (is : List Val). vs ≡ vstruct (of_list (ptr_val d.at ∷ (is ++ []))) ∷ []) ei (subst (λ (ps : List Val). vs ≡ vstruct (of_list (ps ++ (vss.1.0 ++ []))) ∷ []) ep ev))))))
+    machine_out t d vs k = fsplit t $ fpick t (λ vss. fsplit t $ feq_l t (λ ev. fsplit t $ feq_l t (λ ep. fsplit t $ fsplit t $ feq_l t (λ ei. drop t $
+        drop t $
+        k (subst (λ (is : List Val). vs ≡ vstruct (of_list (ptr_val d.at ∷ (is ++ []))) ∷
+            []) ei (subst (λ (ps : List Val). vs ≡ vstruct (of_list (ps ++ (vss.1.0 ++ []))) ∷ []) ep ev))))))
 
     pub machine_in : K → (d : (Machine κ).Denot)
-        → Step K 𝓛 (‵ ((Machine κ).own_val d (both (ptr_val d.at) (word d.image) ∷ [])) ∷ Γ) G (‵ (machine.the_heap κ d) ∷ ‵ ((Ref κ).own_val d.image (word d.image ∷ [])) ∷ Γ) G
+        → Step K 𝓛 (‵ ((Machine κ).own_val d (both (ptr_val d.at) (word d.image) ∷ [])) ∷ Γ) G (‵ (machine.the_heap κ d) ∷
+            ‵ ((Ref κ).own_val d.image (word d.image ∷ [])) ∷ Γ) G
     machine_in t d = step (λ s. let v : Val = both (ptr_val d.at) (word d.image) in
-        nothing t $ move t (2 ∷ 0 ∷ []) $ fjoin t $ feq_i t (List Val) (ptr_val d.at ∷ []) (ptr_val d.at ∷ []) refl $ fjoin t $ feq_i t (List Val) (v ∷ []) (v ∷ []) refl $ fjoin t $
-        fpack t (Valss (RawPtr ∷ Ref κ ∷ [])) (within (shape (machine.the_type (record { mir = named 0; lft = κ }))) (d.at, (d.image, tt)) (v ∷ [])) (ptr_val d.at ∷ [], (word d.image ∷ [], tt)) $ fjoin t $ s)
+        nothing t $ move t (2 ∷ 0 ∷ []) $ fjoin t $ feq_i t (List Val) (ptr_val d.at ∷ []) (ptr_val d.at ∷ []) refl $ fjoin t $
+        feq_i t (List Val) (v ∷ []) (v ∷ []) refl $ fjoin t $
+        fpack t (Valss (RawPtr ∷ Ref κ ∷ [])) (within (shape (machine.the_type (record { mir = named 0; lft = κ }))) (d.at, (d.image, tt)) (v ∷
+            [])) (ptr_val d.at ∷ [], (word d.image ∷ [], tt)) $ fjoin t $ s)

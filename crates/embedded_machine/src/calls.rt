@@ -29,8 +29,8 @@ pub fn hold_image(
     Ok(())
 }
 
-/// Opens a machine of an image, before its first tick, whose values go into cells, one for each variable. Err: there are not
-/// as many cells; or memory was refused. Nothing has changed then.
+/// Opens a machine of an image, before its first tick, whose values go into cells, one for each variable. Err: there
+/// are not as many cells; or memory was refused. Nothing has changed then.
 pub fn open_machine<'a>(
     alloc: Global,
     image: &'a ImageHandle,
@@ -79,9 +79,9 @@ fn show_values(machine: &Machine<'_>, values: &mut [i32]) -> bool
     true
 }
 
-/// One tick of the machine behind a handle, by the inputs in cells, whose values go into cells; how many steps it took. After
-/// the first tick it takes no memory. Err: there is none; or there are not as many cells as variables, or one of an input
-/// holds no value of its kind; or memory was refused. Nothing has changed then.
+/// One tick of the machine behind a handle, by the inputs in cells, whose values go into cells; how many steps it
+/// took. After the first tick it takes no memory. Err: there is none; or there are not as many cells as variables, or
+/// one of an input holds no value of its kind; or memory was refused. Nothing has changed then.
 pub fn react<'a>(
     alloc: Global,
     image: &'a ImageHandle,
@@ -89,7 +89,8 @@ pub fn react<'a>(
     inputs: &[i32],
     values: &mut [i32],
 ) -> Result<u64, MachineFault>
-    ensures ticked { IfOk result (λ steps. TickedHeld inputs.now values.new steps handle.old.machine handle.new.machine) }
+    ensures ticked { IfOk result (λ steps.
+        TickedHeld inputs.now values.new steps handle.old.machine handle.new.machine) }
     ensures same { OnErr result (handle.new.machine ≡ handle.old.machine) }
     ensures values { OnErr result (values.new ≡ values.old) }
 {
@@ -111,7 +112,8 @@ fn react_shown(
     inputs: &[i32],
     values: &mut [i32],
 ) -> Result<u64, MachineFault>
-    ensures ticked { IfOk result (λ steps. Ticked inputs.now steps machine.old machine.new × ShowValues values.new machine.new) }
+    ensures ticked { IfOk result (λ steps.
+        Ticked inputs.now steps machine.old machine.new × ShowValues values.new machine.new) }
     ensures same { OnErr result (machine.new ≡ machine.old) }
     ensures values { OnErr result (values.new ≡ values.old) }
 {
@@ -123,8 +125,8 @@ fn react_shown(
     Ok(steps)
 }
 
-/// Puts the configuration of the machine behind a handle into cells, one for each variable and one for each thread. Err: there
-/// is no machine, or there are not as many cells; nothing has changed then.
+/// Puts the configuration of the machine behind a handle into cells, one for each variable and one for each thread.
+/// Err: there is no machine, or there are not as many cells; nothing has changed then.
 pub fn save<'a>(
     alloc: Global,
     image: &'a ImageHandle,
@@ -161,8 +163,8 @@ fn save_control(
     Ok(())
 }
 
-/// Puts the machine behind a handle into the configuration in these cells, in which it rests. Err: there is no machine, or
-/// they hold no such configuration; or memory was refused. Nothing has changed then.
+/// Puts the machine behind a handle into the configuration in these cells, in which it rests. Err: there is no
+/// machine, or they hold no such configuration; or memory was refused. Nothing has changed then.
 pub fn restore<'a>(
     alloc: Global,
     image: &'a ImageHandle,
@@ -200,8 +202,8 @@ fn restore_one(
     Ok(())
 }
 
-/// Whether the state of this number is active in the configuration of the machine behind a handle. Err: there is no machine,
-/// or its chart has no such state.
+/// Whether the state of this number is active in the configuration of the machine behind a handle. Err: there is no
+/// machine, or its chart has no such state.
 pub fn state_is_active<'a>(
     alloc: Global,
     image: &'a ImageHandle,

@@ -8,9 +8,9 @@ use crate::fault::MachineFault;
 use sc_graph::{Role, Variable};
 use tick_core::Inputs;
 
-/// Makes inputs those that these cells give, one cell for each variable; what is no input gives nothing, whatever its cell
-/// holds. They take no memory where as many stood there before. Err: there are not as many cells, or one of an input holds
-/// no value of its kind; or memory was refused.
+/// Makes inputs those that these cells give, one cell for each variable; what is no input gives nothing, whatever its
+/// cell holds. They take no memory where as many stood there before. Err: there are not as many cells, or one of an
+/// input holds no value of its kind; or memory was refused.
 pub(crate) fn give_all(
     inputs: &mut Inputs,
     variables: &[Variable],

@@ -80,9 +80,9 @@ impl<'a> Machine<'a> {
         &self.control
     }
 
-    /// One tick under the inputs of these cells, one for each variable; how many steps it took. After the first it takes no
-    /// memory. Err: there are not as many cells, or one of an input holds no value of its kind; or memory was refused.
-    /// Nothing has changed then.
+    /// One tick under the inputs of these cells, one for each variable; how many steps it took. After the first it
+    /// takes no memory. Err: there are not as many cells, or one of an input holds no value of its kind; or memory was
+    /// refused. Nothing has changed then.
     #[tactic(auto, using(crate::proofs::Accepted::cells_accepted))]
     pub fn react(&mut self, alloc: Global, cells: &[i32]) -> Result<u64, MachineFault>
         ensures ticked { IfOk result (λ steps. Ticked cells.now steps self.old self.new) }

@@ -44,8 +44,8 @@ impl States {
         }
     }
 
-    /// Those of a chart. Err: it is not expanded, since its core chart has more variables than a program may; or memory was
-    /// refused.
+    /// Those of a chart. Err: it is not expanded, since its core chart has more variables than a program may; or
+    /// memory was refused.
     pub fn of_chart(alloc: Global, chart: &Chart) -> Result<States, ExpandFault>
         ensures nodes { IfOk result (λ s. s.nodes ≡ stands_for chart.now) }
         ensures paths { IfOk result (λ s. s.paths ≡ paths_of chart.now) }

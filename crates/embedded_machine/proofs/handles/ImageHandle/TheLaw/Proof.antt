@@ -10,5 +10,6 @@ use Rattle.embedded_machine.proofs.Lent.{lent_laws, lends}
 use Rattle.embedded_machine.proofs.handles.ImageHandle.TheLaw.Statement.{statement}
 
 pub shares : statement
-shares = of_Lends C.struct C.the_codes C.the_heap C.the_lent (λ d p. lent_laws image.the_row image_laws.the_row_laws.shr_laws d.at d.image) (copy_shared RawPtr-field RawPtr-copy, tt)
+shares = of_Lends C.struct C.the_codes C.the_heap C.the_lent (λ d p. lent_laws image.the_row image_laws.the_row_laws.shr_laws d.at d.image)
+    (copy_shared RawPtr-field RawPtr-copy, tt)
     (λ M 𝓤 𝓛 d p. lends 𝓛 image.the_row (C.the_row).lives (image_laws.the_row_laws.shares 𝓛) d.at d.image)

@@ -62,15 +62,18 @@ stayed = (stay_none_ref (0 ∷ []) tt (plain (λ _. Image)) yes, tt)
 
 pub get_spec : {M : Type 1} → statement M
 get_spec 𝓤 𝓛 𝓜 𝓡 wired =
-    let c = clauses 𝓛 𝓜.mem 𝓡.returns in let W = walk_of 𝓛 ended stayed c in let 𝓣 = tables 𝓤 𝓛.H 𝓜 𝓡 𝓡.env in let fn = code.function in let R : RattleType = verified.the_row in
+    let c = clauses 𝓛 𝓜.mem 𝓡.returns in let W = walk_of 𝓛 ended stayed c in let 𝓣 = tables 𝓤 𝓛.H 𝓜 𝓡 𝓡.env in let fn = code.function in
+    let R : RattleType = verified.the_row in
     proved 𝓛 ended stayed c 𝓜 𝓡 (Goes-none_ref 𝓛 1 (0 ∷ []) tt (plain (λ _. Image)) yes, tt) #self fn (code.unfolded 𝓤 𝓛.H 𝓜 𝓡 wired)
     (λ κs. (shr_vals, tt)) (λ κs. (shr_Tells (named 0) κs.0 Image, tt)) (λ κs qs bounds a g are.
     let κ = κs.0 in let q = qs.0 in let b = a.0.ref_ptr.0 in let o = a.0.ref_ptr.1 in let d = a.0.now in let at : ℕ × ℕ = (block_of d.at, count_of d.at) in
     let y : W.Ghost = ((κs, qs, bounds, a, (shr_vals a.0, tt)), g) in
     qed 𝓛 (((‵ (flft κ q) ⊛ ‵ ftrue) ⊛ ‵ ((ShrRef (named 0) κ Image).own_val a.0 (shr_vals a.0)) ⊛ ‵ ftrue) ∷ raw (fact 𝓤 (IsSome d.image)) ∷ []) ∵
-    split ! $ split ! $ move ! (2 ∷ []) $ split ! $ keep ! (4 ∷ 0 ∷ 2 ∷ []) $ heard ! (IsSome d.image) (λ some. let x = (held d.image some).0 in let is = (held d.image some).1 in
+    split ! $ split ! $ move ! (2 ∷ []) $ split ! $ keep ! (4 ∷ 0 ∷ 2 ∷ []) $ heard ! (IsSome d.image) (λ some. let x = (held d.image some).0 in
+    let is = (held d.image some).1 in
     fsplit ! $ drop ! $ shr_dup ! Image image_laws.the_row_laws.shr_laws d b o κ $
-    use1 𝓛 (‵ (S 𝓛 κ b o d) ⊛ ‵ (fhide (lent_of R d.at d.image κ))) (lent_out 𝓛 image.struct image.the_codes image.the_heap image.the_lent κ d b o) $ split ! $ move ! (1 ∷ []) $
+    use1 𝓛 (‵ (S 𝓛 κ b o d) ⊛ ‵ (fhide (lent_of R d.at d.image κ))) (lent_out 𝓛 image.struct image.the_codes image.the_heap image.the_lent κ d b o) $
+    split ! $ move ! (1 ∷ []) $
     rewrite ! 0 (λ (k : Option OpenedImage). ‵ (fhide (lent_of R d.at k κ))) is refl $
     unhide ! $ fsplit ! $ drop ! $ fsplit ! $ use1 𝓛 (raw (fact 𝓤 (InBlock d.at))) (in_block_says 𝓛 d.at) $ heard ! (InBlock d.at) (λ inb. hide ! $
     -- [the image, shared; the handle's word, shared; the handle, shared; the token]
@@ -80,5 +83,6 @@ get_spec 𝓤 𝓛 𝓜 𝓡 wired =
     exec ! 𝓣.C 𝓣.Λ (env fn.locals l) (after 1 fn.body) (at_ret _ (W.post y)) $ pointer_out ! tt d.at inb b (o + 0) $
     sets ! (of_opd ! (get ! refl)) refl (tt, tt) $ returns ! (look_at ! 0 refl) $ free_all ! refl $ keep ! (0 ∷ 3 ∷ 2 ∷ []) $
     suffices ! _ (ends_at 𝓛 ended stayed c y (vptr at.0 at.1) (record { ref_ptr = at; now = x }) (tt, tt) (tt, tt)) $ says ! is $
-    nothing ! $ move ! (1 ∷ 0 ∷ []) $ join ! $ frame ! $ feq_i ! (List Val) (vptr b o ∷ []) (vptr b o ∷ []) refl $ fjoin ! $ nothing ! $ move ! (1 ∷ 0 ∷ []) $ fjoin ! $ frame ! $
+    nothing ! $ move ! (1 ∷ 0 ∷ []) $ join ! $ frame ! $ feq_i ! (List Val) (vptr b o ∷ []) (vptr b o ∷ []) refl $ fjoin ! $ nothing ! $
+    move ! (1 ∷ 0 ∷ []) $ fjoin ! $ frame ! $
     feq_i ! (List Val) (vptr at.0 at.1 ∷ []) (vptr at.0 at.1 ∷ []) refl $ fjoin ! $ done !)))))

@@ -29,11 +29,14 @@ pub empty_spec : {M : Type 1} → statement M
 empty_spec 𝓤 𝓛 𝓜 𝓡 wired =
     let H = 𝓛.H in let 𝓣 = tables 𝓤 H 𝓜 𝓡 𝓡.env in let c = clauses 𝓛 𝓜.mem 𝓡.returns in let fn = code.function in
     let hs : Stays ended.signature.params ended.kept = (stay_dropped (denote.Builtin.RefOf (0 ∷ []) tt (plain (λ κs. Image)) (λ κs. tt)) yes, tt) in
-    proved_at 𝓛 ended hs c 𝓜 𝓡 (Goes-dropped 𝓛 1 (denote.Builtin.RefOf (0 ∷ []) tt (plain (λ κs. Image)) (λ κs. tt)) yes (λ κs x f. refl), tt) #self fn (code.unfolded 𝓤 H 𝓜 𝓡 wired) (λ z are.
-    let κs = z.0.0 in let qs = z.0.1 in let κ = κs.0 in let Post : Val → SProp 𝓤 = (walk_of 𝓛 ended hs c).post z in let Run : List Val → SProp 𝓤 = λ ws. WpFn 𝓤 H 𝓣.C 𝓣.Λ fn ws Post in
+    proved_at 𝓛 ended hs c 𝓜 𝓡 (Goes-dropped 𝓛 1 (denote.Builtin.RefOf (0 ∷
+        []) tt (plain (λ κs. Image)) (λ κs. tt)) yes (λ κs x f. refl), tt) #self fn (code.unfolded 𝓤 H 𝓜 𝓡 wired) (λ z are.
+    let κs = z.0.0 in let qs = z.0.1 in let κ = κs.0 in let Post : Val → SProp 𝓤 = (walk_of 𝓛 ended hs c).post z in
+    let Run : List Val → SProp 𝓤 = λ ws. WpFn 𝓤 H 𝓣.C 𝓣.Λ fn ws Post in
     let image = z.0.3.0 in let r : Val = word image in
     let d : (Machine κ).Denot = record { at = null_ptr; image = image; machine = None } in
-    qed 𝓛 (((‵ (flft κs.0 qs.0) ⊛ ‵ ftrue) ⊛ ‵ (owns (types_at ended.signature.params κs) z.0.3 z.0.4)) ∷ raw ((c κs z.0.3).requires z.1) ∷ []) ∵ split ! $ move ! (1 ∷ []) $ fsplit ! $ fsplit ! $ feq_l ! (λ e.
+    qed 𝓛 (((‵ (flft κs.0 qs.0) ⊛ ‵ ftrue) ⊛ ‵ (owns (types_at ended.signature.params κs) z.0.3 z.0.4)) ∷ raw ((c κs z.0.3).requires z.1) ∷ []) ∵ split ! $
+    move ! (1 ∷ []) $ fsplit ! $ fsplit ! $ feq_l ! (λ e.
     feq_i ! (List Val) (r ∷ []) (r ∷ []) refl $ fjoin ! $
     suffices ! (Run (r ∷ [])) (subst (λ (us : List Val). ent 𝓤 (Run (r ∷ [])) (Run us)) (sym (λ i. e i ++ [])) (id⊢ 𝓤 (Run (r ∷ [])))) $
     enter ! 𝓣.C 𝓣.Λ fn (r ∷ []) Post $ alloc_all ! (λ l. pass_all ! refl ((tt, tt), tt) $
