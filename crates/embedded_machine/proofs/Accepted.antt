@@ -1,5 +1,6 @@
 -- The inputs that cells give are accepted, whatever the cells hold.
-use Rattle.std.proofs.Common.{◌≡◌, ◌≢◌, ℕ, zero, suc, ◌<◌, ℤ, pos, Bool, true, false, if◌then◌else◌, List, [], ◌∷◌, Option, Some, None, slice_get, refl, sym, ap, ◌∙◌, arith}
+use Rattle.std.proofs.Common.{◌≡◌, ◌≢◌, ℕ, zero, suc, ◌<◌, ℤ, pos, Bool, true, false, if◌then◌else◌, List, [], ◌∷◌, Option, Some, None}
+use Rattle.std.proofs.Common.{slice_get, refl, sym, ap, ◌∙◌, arith}
 use Rattle.std.proofs.lemmas.Option.{none-some, same_Some}
 use Rattle.sc_values.specs.declared.value.Value.{Value}
 use Rattle.std.specs.Ordering.{int_eq}
@@ -91,5 +92,5 @@ once (x ∷ variables) new (n ∷ cells) i j a b less first second = at x.role (
 pub cells_accepted : (p : Program) (q : Tables) → IsValid p q → (cells : List ℤ) → AreAccepted p (inputs_in p.variables cells)
 cells_accepted p q valid cells = record {
   named = λ i name v is. let d = named p.variables cells i (name, v) is in (d.number, d.variable, d.is, d.name, d.role, d.kind);
-  once = once p.variables (λ x y a b less i j. (valid.size (place.Variable y) b j).new_name x a less i) cells;
+  once = once p.variables (λ x y a b less i j. ((valid.size (place.Variable y)).0 b j).new_name x a less i) cells;
 }

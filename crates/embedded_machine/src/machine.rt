@@ -67,7 +67,8 @@ impl<'a> Machine<'a> {
 
     /// How many variables it has.
     pub fn variable_count(&self) -> usize
-        ensures { result ≡ length self.now.control.variables }
+        ensures shown { result ≡ length self.now.control.variables }
+        ensures declared { result ≡ length self.now.opened.image.program.variables }
     {
         self.control.variables.len()
     }
