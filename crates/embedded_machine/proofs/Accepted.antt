@@ -14,7 +14,7 @@ use Rattle.sc_graph.specs.declared.program.Role.TheVariants as role
 use Rattle.sc_graph.specs.declared.place.Place.TheVariants as place
 use Rattle.sc_graph.specs.declared.tables.Tables.{Tables}
 use Rattle.sc_graph.specs.Program.{Program}
-use Rattle.sc_graph.specs.Tick.{Inputs, AreAccepted}
+use Rattle.sc_graph.specs.Tick.{AreAccepted}
 use Rattle.sc_graph.specs.Valid.{IsValid}
 use Rattle.embedded_machine.specs.Cells.{inputs_in, value_in, with_input}
 

@@ -87,13 +87,13 @@ module _ {M : Type 1} {𝓤 : Ura M} {𝓛 : Logic 𝓤} {K : Type 0} {Γ : List
     machine_out t d vs k = fsplit t $ fpick t (λ vss. fsplit t $ feq_l t (λ ev. fsplit t $ feq_l t (λ ep. fsplit t $ fsplit t $ feq_l t (λ ei. drop t $
         drop t $
         k (subst (λ (is : List Val). vs ≡ vstruct (of_list (ptr_val d.at ∷ (is ++ []))) ∷
-            []) ei (subst (λ (ps : List Val). vs ≡ vstruct (of_list (ps ++ (vss.1.0 ++ []))) ∷ []) ep ev))))))
+        []) ei (subst (λ (ps : List Val). vs ≡ vstruct (of_list (ps ++ (vss.1.0 ++ []))) ∷ []) ep ev))))))
 
     pub machine_in : K → (d : (Machine κ).Denot)
         → Step K 𝓛 (‵ ((Machine κ).own_val d (both (ptr_val d.at) (word d.image) ∷ [])) ∷ Γ) G (‵ (machine.the_heap κ d) ∷
-            ‵ ((Ref κ).own_val d.image (word d.image ∷ [])) ∷ Γ) G
+        ‵ ((Ref κ).own_val d.image (word d.image ∷ [])) ∷ Γ) G
     machine_in t d = step (λ s. let v : Val = both (ptr_val d.at) (word d.image) in
         nothing t $ move t (2 ∷ 0 ∷ []) $ fjoin t $ feq_i t (List Val) (ptr_val d.at ∷ []) (ptr_val d.at ∷ []) refl $ fjoin t $
         feq_i t (List Val) (v ∷ []) (v ∷ []) refl $ fjoin t $
         fpack t (Valss (RawPtr ∷ Ref κ ∷ [])) (within (shape (machine.the_type (record { mir = named 0; lft = κ }))) (d.at, (d.image, tt)) (v ∷
-            [])) (ptr_val d.at ∷ [], (word d.image ∷ [], tt)) $ fjoin t $ s)
+        [])) (ptr_val d.at ∷ [], (word d.image ∷ [], tt)) $ fjoin t $ s)

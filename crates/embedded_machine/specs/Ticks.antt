@@ -1,5 +1,5 @@
 -- Ticks of a machine, and what a call to it leaves.
-use Rattle.std.specs.Prelude.{ℕ, ◌≡◌, ℤ, pos, Option, Some, None, List, [], length, map}
+use Rattle.std.specs.Prelude.{ℕ, ◌≡◌, ℤ, Option, Some, None, List, length, map}
 use Rattle.sc_graph.specs.declared.control.Control.{Control}
 use Rattle.sc_graph.specs.Tick.{Inputs, AreAccepted, Rests, initial, start}
 use Rattle.sc_graph.specs.Valid.{IsValid}

@@ -15,11 +15,7 @@ use std::alloc::{AllocError, Global};
 use std::mem;
 
 /// Puts an image behind a handle, whose own is closed. Err: memory was refused; nothing has changed.
-pub fn hold_image(
-    alloc: Global,
-    opened: Opened,
-    handle: &mut ImageHandle,
-) -> Result<(), AllocError>
+pub fn hold_image(alloc: Global, opened: Opened, handle: &mut ImageHandle) -> Result<(), AllocError>
     ensures held { OnOk result (handle.new.image ≡ Some opened) }
     ensures same { OnErr result (handle.new.image ≡ handle.old.image) }
 {

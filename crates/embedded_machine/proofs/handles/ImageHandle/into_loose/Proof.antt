@@ -42,8 +42,14 @@ into_loose_spec 𝓤 𝓛 𝓜 𝓡 wired =
     let c = clauses 𝓛 𝓜.mem 𝓡.returns in let fn = code.function in
     let R : RattleType = verified.the_row in
     let hs : Stays ended.signature.params ended.kept = (stay_dropped (plain (λ _. Image)) yes, (stay_dropped (plain (λ _. Z)) yes, tt)) in
-    proved_at 𝓛 ended hs c 𝓜 𝓡 (Goes-dropped 𝓛 0 (plain (λ _. Image)) yes (λ κs x f. refl), (Goes-dropped 𝓛 0 (plain (λ _. Z)) yes
-        (λ κs x f. refl), tt)) #self fn (code.unfolded 𝓤 H 𝓜 𝓡 wired) (λ z are.
+    proved_at 𝓛 ended hs c 𝓜 𝓡 (
+      Goes-dropped 𝓛 0 (plain (λ _. Image)) yes (λ κs x f. refl),
+      (
+        Goes-dropped 𝓛 0 (plain (λ _. Z)) yes
+            (λ κs x f. refl),
+        tt,
+      ),
+    ) #self fn (code.unfolded 𝓤 H 𝓜 𝓡 wired) (λ z are.
     let κs = z.0.0 in let qs = z.0.1 in let L : RattleType = Loose R Z LZ ghosts in
     let v = z.0.3.0 in let a = z.0.3.1.0 in let Post : Val → SProp 𝓤 = (walk_of 𝓛 ended hs c).post z in
     let Run : List Val → SProp 𝓤 = λ ws. WpFn 𝓤 H 𝓣.C 𝓣.Λ fn ws Post in let Out : RattleType = type_at ended.signature.result κs in
@@ -53,7 +59,7 @@ into_loose_spec 𝓤 𝓛 𝓜 𝓡 wired =
     let of_ptr : Ptr → Val = λ p. alone (ptr_val p) in
     let starts : (p : Ptr) → v.at ≡ p → ent 𝓤 (Run (of_ptr p ∷ h ∷ [])) (Run (z.0.4.0 ++ (z.0.4.1.0 ++ []))) = λ p is. let w : Val = of_ptr p in
     subst (λ (us : List Val). ent 𝓤 (Run (w ∷ h ∷ [])) (Run us)) (sym (λ i. (ws ∙ ap (λ (q : Ptr). of_ptr q ∷ []) is) i ++ (eh i ++ []))) (id⊢ 𝓤 (Run (w ∷
-        h ∷ []))) in
+    h ∷ []))) in
     either_held R ! v.at v.image
     (λ is none. let w : Val = of_ptr null_ptr in suffices ! (Run (w ∷ h ∷ [])) (starts null_ptr is) $
     enter ! 𝓣.C 𝓣.Λ fn (w ∷ h ∷ []) Post $ alloc_all ! (λ l. pass_all ! refl ((tt, (record { fits = lit< tt }, tt)), (fits, tt)) $ let Ev = env fn.locals l in

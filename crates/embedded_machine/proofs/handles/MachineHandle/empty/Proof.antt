@@ -29,8 +29,11 @@ pub empty_spec : {M : Type 1} → statement M
 empty_spec 𝓤 𝓛 𝓜 𝓡 wired =
     let H = 𝓛.H in let 𝓣 = tables 𝓤 H 𝓜 𝓡 𝓡.env in let c = clauses 𝓛 𝓜.mem 𝓡.returns in let fn = code.function in
     let hs : Stays ended.signature.params ended.kept = (stay_dropped (denote.Builtin.RefOf (0 ∷ []) tt (plain (λ κs. Image)) (λ κs. tt)) yes, tt) in
-    proved_at 𝓛 ended hs c 𝓜 𝓡 (Goes-dropped 𝓛 1 (denote.Builtin.RefOf (0 ∷
-        []) tt (plain (λ κs. Image)) (λ κs. tt)) yes (λ κs x f. refl), tt) #self fn (code.unfolded 𝓤 H 𝓜 𝓡 wired) (λ z are.
+    proved_at 𝓛 ended hs c 𝓜 𝓡 (
+      Goes-dropped 𝓛 1 (denote.Builtin.RefOf (0 ∷
+          []) tt (plain (λ κs. Image)) (λ κs. tt)) yes (λ κs x f. refl),
+      tt,
+    ) #self fn (code.unfolded 𝓤 H 𝓜 𝓡 wired) (λ z are.
     let κs = z.0.0 in let qs = z.0.1 in let κ = κs.0 in let Post : Val → SProp 𝓤 = (walk_of 𝓛 ended hs c).post z in
     let Run : List Val → SProp 𝓤 = λ ws. WpFn 𝓤 H 𝓣.C 𝓣.Λ fn ws Post in
     let image = z.0.3.0 in let r : Val = word image in

@@ -42,8 +42,14 @@ into_loose_spec 𝓤 𝓛 𝓜 𝓡 wired =
     let H = 𝓛.H in let 𝓣 = tables 𝓤 H 𝓜 𝓡 𝓡.env in let Z : RattleType = global.the_row in let LZ = heap_laws.the_row_laws in
     let c = clauses 𝓛 𝓜.mem 𝓡.returns in let fn = code.function in
     let hs : Stays ended.signature.params ended.kept = (stay_dropped (plain (λ κs. Machine κs.0)) yes, (stay_dropped (plain (λ _. Z)) yes, tt)) in
-    proved_at 𝓛 ended hs c 𝓜 𝓡 (Goes-dropped 𝓛 1 (plain (λ κs. Machine κs.0)) yes (λ κs x f. refl), (Goes-dropped 𝓛 1 (plain (λ _. Z)) yes
-        (λ κs x f. refl), tt)) #self fn (code.unfolded 𝓤 H 𝓜 𝓡 wired) (λ z are.
+    proved_at 𝓛 ended hs c 𝓜 𝓡 (
+      Goes-dropped 𝓛 1 (plain (λ κs. Machine κs.0)) yes (λ κs x f. refl),
+      (
+        Goes-dropped 𝓛 1 (plain (λ _. Z)) yes
+            (λ κs x f. refl),
+        tt,
+      ),
+    ) #self fn (code.unfolded 𝓤 H 𝓜 𝓡 wired) (λ z are.
     let κs = z.0.0 in let qs = z.0.1 in let κ = κs.0 in let R : RattleType = machine.the_row (record { mir = named 0; lft = κ }) in
     let L : RattleType = Loose R Z LZ ghosts in
     let v = z.0.3.0 in let a = z.0.3.1.0 in let Post : Val → SProp 𝓤 = (walk_of 𝓛 ended hs c).post z in
@@ -54,7 +60,7 @@ into_loose_spec 𝓤 𝓛 𝓜 𝓡 wired =
     let of_ptr : Ptr → Val = λ p. both (ptr_val p) (word v.image) in
     let starts : (p : Ptr) → v.at ≡ p → ent 𝓤 (Run (of_ptr p ∷ h ∷ [])) (Run (z.0.4.0 ++ (z.0.4.1.0 ++ []))) = λ p is. let w : Val = of_ptr p in
     subst (λ (us : List Val). ent 𝓤 (Run (w ∷ h ∷ [])) (Run us)) (sym (λ i. (ws ∙ ap (λ (q : Ptr). of_ptr q ∷ []) is) i ++ (eh i ++ []))) (id⊢ 𝓤 (Run (w ∷
-        h ∷ []))) in
+    h ∷ []))) in
     either_held R ! v.at v.machine
     (λ is none. let w : Val = of_ptr null_ptr in suffices ! (Run (w ∷ h ∷ [])) (starts null_ptr is) $
     enter ! 𝓣.C 𝓣.Λ fn (w ∷ h ∷ []) Post $ alloc_all ! (λ l. pass_all ! refl ((tt, (record { fits = lit< tt }, (tt, tt))), (fits, tt)) $

@@ -8,8 +8,8 @@ pub ticked-control-requires-clause-accepted : goal.ticked-control-requires-claus
 ticked-control-requires-clause-accepted c =
     let image = c.verified.result.now in
     let inputs : c.give_all.new.inputs ≡ inputs_in image.program.variables c.args.cells.now =
-        c.in_ok-give_all.ensures ∙ ap (λ vs. inputs_in vs c.args.cells.now) (c.variables.ensures ∙ ap (λ p. p.variables) (c.program-program.ensures ∙ ap
-            (λ i. i.program) c.image.ensures.value)) in
+    c.in_ok-give_all.ensures ∙ ap (λ vs. inputs_in vs c.args.cells.now) (c.variables.ensures ∙ ap (λ p. p.variables) (c.program-program.ensures ∙ ap
+    (λ i. i.program) c.image.ensures.value)) in
     let space : c.in-Some.space ≡ image = cc in
     subst (λ i. AreAccepted i.program c.give_all.new.inputs) (sym space)
     (subst (AreAccepted image.program) (sym inputs) (cells_accepted image.program image.tables c.image.ensures.valid c.args.cells.now))
