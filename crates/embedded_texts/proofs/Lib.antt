@@ -1,1 +1,1 @@
-mod Images
+mod Refused

@@ -11,7 +11,7 @@ use verifier::{Verified, verify};
 
 /// The bytes of the image of the program, or of the chart, that this text spells, in version 2 of the layout. Err: it
 /// spells none, or why it has no image; or memory was refused.
-#[tactic(auto, using(crate::proofs::Images::no_image))]
+#[tactic(auto, using(crate::proofs::Refused::no_image))]
 pub fn image_of_text(alloc: Global, text: &[u8]) -> Result<Vec<u8>, Fault>
     ensures compiled { IfOk result (λ bytes. SpellsItsImage text.now bytes.items) }
     ensures fault { IfErr result (λ fault. IsNoImageOf text.now fault) }
