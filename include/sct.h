@@ -27,7 +27,7 @@ typedef enum sct_status {
   SCT_MEMORY = 2,  /* memory was refused */
   SCT_TEXT = 3,    /* the text is refused: the fault says why */
   SCT_IMAGE = 4,   /* the bytes spell no image, or none that keeps the rules: the fault says why */
-  SCT_NUMBER = 5,  /* no variable has this number, or this name */
+  SCT_NUMBER = 5,  /* no variable has this number, or this name; or no state has this number */
   SCT_ROLE = 6,    /* the variable is no input */
   SCT_KIND = 7,    /* the variable is of the other kind, or the value is none of its kind */
   SCT_BUFFER = 8,  /* the buffer is too short; the length that it needs was written */
@@ -69,10 +69,11 @@ sct_status sct_compile(const char *text, size_t text_length, uint8_t *image, siz
  * SCT_IMAGE: `fault` says why. SCT_MEMORY, SCT_NULL. Where it is refused `*machine` is null. */
 sct_status sct_open(const uint8_t *image, size_t image_length, sct_machine **machine, sct_fault *fault);
 
-/* Compiles a text as sct_compile does, and opens its image. */
+/* Compiles a text as sct_compile does, and opens its image; of a chart the states are known then. SCT_TEXT: `fault` says why. */
 sct_status sct_open_text(const char *text, size_t text_length, sct_machine **machine, sct_fault *fault);
 
-/* Gives back all memory of a machine, which is not used again. A null pointer is let pass. */
+/* Gives back all memory of a machine, which is not used again: what a later call with it does is not defined, as of memory that
+ * was given to free. A null pointer is let pass. */
 void sct_close(sct_machine *machine);
 
 /* How many variables a machine has; 0 of a null pointer. */
@@ -95,13 +96,24 @@ sct_status sct_set_bool(sct_machine *machine, size_t number, int value);
 sct_status sct_set_int(sct_machine *machine, size_t number, int32_t value);
 
 /* One tick, under the inputs that were given since the last one. `steps` takes how many steps it took, and may be null. The
- * inputs are taken back then. The image is decoded and verified anew in each tick, which takes memory and gives it back
- * (docs/performance.md has what that costs). SCT_MEMORY: the machine and its inputs are as they were. SCT_NULL. */
+ * inputs are taken back then. Memory is taken in the first tick alone; a later one takes none. SCT_MEMORY: the machine and its
+ * inputs are as they were. SCT_NULL. */
 sct_status sct_react(sct_machine *machine, uint64_t *steps);
 
 /* The value of a variable after the last tick, or before the first: 0 or 1 of a truth value. SCT_NUMBER, SCT_KIND, SCT_NULL. */
 sct_status sct_get_bool(const sct_machine *machine, size_t number, int *value);
 sct_status sct_get_int(const sct_machine *machine, size_t number, int32_t *value);
+
+/* How many states the chart has from whose text a machine was opened; 0 where it was opened from an image, or from the text of
+ * a program, which has none. */
+size_t sct_state_count(const sct_machine *machine);
+
+/* The name of a state, with the regions and states that it is in, as `Main.Running/Left.Belt`. It lives as long as the machine.
+ * Null where no state has this number. States are numbered from 0 in the order of the text. */
+const char *sct_state_name(const sct_machine *machine, size_t number);
+
+/* Whether a state is active between two ticks, as 1 or 0. SCT_NUMBER: there is none of this number. SCT_NULL. */
+sct_status sct_active(const sct_machine *machine, size_t number, int *active);
 
 /* The configuration of a machine between two ticks as bytes, of which there are always as many for one image. They go into
  * `bytes`, a buffer of `capacity` bytes, and `length` takes their count. `bytes` may be null where `capacity` is 0. Inputs

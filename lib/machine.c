@@ -1,7 +1,6 @@
 /*
- * machine.c: the calls of sct.h. It keeps the bytes of an image and the cells of a configuration, tests what a caller can get
- * wrong, and leaves all else to the proved calls of proved.h: each configuration that stands in a machine was written by one
- * of them, or was held to fit by one.
+ * machine.c: the calls of sct.h. It keeps the handles of an image and of a machine, and the cells of inputs and values, tests
+ * what a caller can get wrong, and leaves all else to the proved calls of proved.h.
  */
 #include "../include/sct.h"
 
@@ -10,18 +9,22 @@
 
 #include <string.h>
 
-/* All parts lie in one block of memory, behind this. */
+/* What is C's own of a machine lies in one block of memory, behind this; the handles lead to what is proved. */
 struct sct_machine {
+  struct sct_image_handle image;
+  struct sct_machine_handle handle;
   size_t variables;
   size_t threads;
-  size_t image_length;
+  size_t states;
   size_t *name_starts;
+  size_t *state_starts;
   struct sct_row *rows;
   int32_t *inputs;
   int32_t *values;
-  uint32_t *statuses;
-  uint8_t *image;
+  int32_t *saved_values; /* what is on its way to or from bytes */
+  uint32_t *saved_statuses;
   char *names; /* each with a zero byte behind it */
+  char *state_names;
 };
 
 /* What stands where a slice of no items begins: its pointer is not null. */
@@ -41,11 +44,6 @@ const char *sct_status_words(sct_status status) {
     case SCT_CONTROL: return "the bytes hold no configuration of this machine";
   }
   return "no status";
-}
-
-/* The status of a call on the image of a machine, which was valid when it was opened: what is refused of it now is memory. */
-static sct_status of_machine(int32_t status) {
-  return status == SCT_IMAGE ? SCT_MEMORY : (sct_status)status;
 }
 
 /* ---- faults */
@@ -112,75 +110,70 @@ static int has_room(size_t *size, size_t count, size_t each) {
   return 1;
 }
 
-/* A machine with its parts, of which none is filled. Null: memory was refused. */
-static sct_machine *room_for(size_t image_length, const struct sct_counts *counts) {
-  size_t size = sizeof(sct_machine), words = counts->variables;
+/* A machine with room for its parts, none of which is filled. Null: memory was refused. */
+static sct_machine *room_for(const struct sct_counts *counts) {
+  size_t size = sizeof(sct_machine), variables = counts->variables, states = counts->states;
   sct_machine *machine;
   struct rattle_tried tried;
-  char *at;
-  if (!has_room(&size, words, sizeof(size_t)) || !has_room(&size, words, sizeof(struct sct_row)) ||
-      !has_room(&size, words, 2 * sizeof(int32_t)) || !has_room(&size, counts->threads, sizeof(uint32_t)) ||
-      !has_room(&size, image_length, 1) || !has_room(&size, counts->names, 1) || !has_room(&size, words, 1))
+  if (!has_room(&size, variables, sizeof(size_t)) || !has_room(&size, states, sizeof(size_t)) ||
+      !has_room(&size, variables, sizeof(struct sct_row)) || !has_room(&size, variables, 3 * sizeof(int32_t)) ||
+      !has_room(&size, counts->threads, sizeof(uint32_t)) || !has_room(&size, counts->names, 1) ||
+      !has_room(&size, counts->state_names, 1))
     return NULL;
   tried = rattle_alloc(size, 16);
   if (!tried.has) return NULL;
   machine = (sct_machine *)tried.at;
-  machine->variables = words;
+  machine->variables = variables;
   machine->threads = counts->threads;
-  machine->image_length = image_length;
-  at = (char *)(machine + 1);
-  machine->name_starts = (size_t *)(void *)at;
-  machine->rows = (struct sct_row *)(void *)(machine->name_starts + words);
-  machine->inputs = (int32_t *)(void *)(machine->rows + words);
-  machine->values = machine->inputs + words;
-  machine->statuses = (uint32_t *)(void *)(machine->values + words);
-  machine->image = (uint8_t *)(machine->statuses + counts->threads);
-  machine->names = (char *)(machine->image + image_length);
+  machine->states = states;
+  machine->name_starts = (size_t *)(void *)(machine + 1);
+  machine->state_starts = machine->name_starts + variables;
+  machine->rows = (struct sct_row *)(void *)(machine->state_starts + states);
+  machine->inputs = (int32_t *)(void *)(machine->rows + variables);
+  machine->values = machine->inputs + variables;
+  machine->saved_values = machine->values + variables;
+  machine->saved_statuses = (uint32_t *)(void *)(machine->saved_values + variables);
+  machine->names = (char *)(machine->saved_statuses + counts->threads);
+  machine->state_names = machine->names + counts->names;
   return machine;
 }
 
-/* Moves the names apart, so that a zero byte stands behind each: the last first, since they move up. */
-static void part_names(sct_machine *machine, size_t length) {
-  size_t number = machine->variables, from = length, to = length + number;
-  while (number > 0) {
-    number--;
-    machine->names[--to] = 0;
-    from -= machine->rows[number].name_length;
-    to -= machine->rows[number].name_length;
-    memmove(machine->names + to, machine->names + from, machine->rows[number].name_length);
-    machine->name_starts[number] = to;
+/* Finds where each name begins, of those that stand in a row with a zero byte behind each. */
+static void find_starts(const char *names, size_t *starts, size_t count) {
+  size_t number, at = 0;
+  for (number = 0; number < count; number++) {
+    starts[number] = at;
+    at += strlen(names + at) + 1;
   }
 }
 
-/* Fills the parts of a machine by its image. */
-static int32_t fill(sct_machine *machine, size_t names) {
-  int32_t status = sct_image_variables(machine->image, machine->image_length, machine->rows, machine->variables,
-                                       (uint8_t *)machine->names, names);
-  if (status != SCT_OK) return status;
-  part_names(machine, names);
-  memset(machine->inputs, 0, machine->variables * sizeof(int32_t));
-  return sct_cells_first(machine->image, machine->image_length, machine->values, machine->variables, machine->statuses, machine->threads);
+/* Where a slice of bytes begins, of which there may be none. */
+static const uint8_t *bytes_at(const void *bytes, size_t length) {
+  return length > 0 ? (const uint8_t *)bytes : (const uint8_t *)nothing;
 }
 
-sct_status sct_open(const uint8_t *image, size_t image_length, sct_machine **machine, sct_fault *fault) {
-  struct sct_lengths lengths = {0, 0};
-  struct sct_counts counts = {0, 0, 0};
-  char words[sizeof fault->words];
-  sct_machine *made;
-  int32_t status;
-  if (machine == NULL) return SCT_NULL;
-  *machine = NULL;
-  if (image == NULL && image_length > 0) return SCT_NULL;
-  memset(words, 0, sizeof words);
-  forget(fault);
-  status = sct_image_counts(image_length > 0 ? image : (const uint8_t *)nothing, image_length, (uint8_t *)words, sizeof words - 1,
-                            &lengths, &counts);
-  if (status != SCT_OK) return tell(status, words, NULL, 0, fault);
-  made = room_for(image_length, &counts);
-  if (made == NULL) return SCT_MEMORY;
-  memcpy(made->image, image, image_length);
-  status = fill(made, counts.names);
-  if (status != SCT_OK) {
+/* Fills the parts of a machine by its image, and opens it. */
+static int32_t fill(sct_machine *machine, const struct sct_counts *counts) {
+  int32_t status = sct_image_names(&machine->image, machine->rows, machine->variables, (uint8_t *)machine->names, counts->names,
+                                   (uint8_t *)machine->state_names, counts->state_names);
+  if (status != SCT_OK) return status;
+  find_starts(machine->names, machine->name_starts, machine->variables);
+  find_starts(machine->state_names, machine->state_starts, machine->states);
+  memset(machine->inputs, 0, machine->variables * sizeof(int32_t));
+  return sct_machine_open(&machine->image, &machine->handle, machine->values, machine->variables);
+}
+
+/* Gives the machine of an image that was opened; where memory is refused, the image is closed. */
+static sct_status machine_of(struct sct_image_handle image, const struct sct_counts *counts, sct_machine **machine) {
+  sct_machine *made = room_for(counts);
+  if (made == NULL) {
+    sct_image_close(image);
+    return SCT_MEMORY;
+  }
+  made->image = image;
+  made->handle.at = NULL;
+  made->handle.image = &made->image;
+  if (fill(made, counts) != SCT_OK) {
     sct_close(made);
     return SCT_MEMORY; /* the image is valid, so nothing else can have been refused */
   }
@@ -188,24 +181,38 @@ sct_status sct_open(const uint8_t *image, size_t image_length, sct_machine **mac
   return SCT_OK;
 }
 
-sct_status sct_open_text(const char *text, size_t text_length, sct_machine **machine, sct_fault *fault) {
-  size_t length = 0;
-  struct rattle_tried image;
-  sct_status status;
+/* What opens bytes behind a handle: an image, or a text. */
+typedef int32_t opens(const uint8_t *, size_t, uint8_t *, size_t, struct sct_lengths *, struct sct_image_handle *, struct sct_counts *);
+
+static sct_status open_by(opens *call, const void *bytes, size_t length, sct_machine **machine, sct_fault *fault) {
+  struct sct_lengths lengths = {0, 0};
+  struct sct_counts counts = {0, 0, 0, 0, 0};
+  struct sct_image_handle image = {NULL};
+  char words[sizeof fault->words];
+  int32_t status;
   if (machine == NULL) return SCT_NULL;
   *machine = NULL;
-  status = sct_compile(text, text_length, NULL, 0, &length, fault);
-  if (status != SCT_BUFFER) return status;
-  image = rattle_alloc(length, 1);
-  if (!image.has) return SCT_MEMORY;
-  status = sct_compile(text, text_length, (uint8_t *)image.at, length, &length, fault);
-  if (status == SCT_OK) status = sct_open((const uint8_t *)image.at, length, machine, fault);
-  rattle_dealloc(image.at);
-  return status;
+  if (bytes == NULL && length > 0) return SCT_NULL;
+  memset(words, 0, sizeof words);
+  forget(fault);
+  status = call(bytes_at(bytes, length), length, (uint8_t *)words, sizeof words - 1, &lengths, &image, &counts);
+  if (status != SCT_OK) return tell(status, words, (const char *)bytes, length, fault);
+  return machine_of(image, &counts, machine);
+}
+
+sct_status sct_open(const uint8_t *image, size_t image_length, sct_machine **machine, sct_fault *fault) {
+  return open_by(sct_image_open, image, image_length, machine, fault);
+}
+
+sct_status sct_open_text(const char *text, size_t text_length, sct_machine **machine, sct_fault *fault) {
+  return open_by(sct_text_open, text, text_length, machine, fault);
 }
 
 void sct_close(sct_machine *machine) {
-  if (machine != NULL) rattle_dealloc(machine);
+  if (machine == NULL) return;
+  sct_machine_close(machine->handle);
+  sct_image_close(machine->image);
+  rattle_dealloc(machine);
 }
 
 /* ---- variables */
@@ -273,9 +280,9 @@ sct_status sct_react(sct_machine *machine, uint64_t *steps) {
   uint64_t count = 0;
   int32_t status;
   if (machine == NULL) return SCT_NULL;
-  status = sct_cells_tick(machine->image, machine->image_length, machine->inputs, machine->variables, machine->values,
-                          machine->variables, machine->statuses, machine->threads, &count);
-  if (status != SCT_OK) return of_machine(status);
+  status = sct_machine_react(&machine->image, &machine->handle, machine->inputs, machine->variables, machine->values,
+                             machine->variables, &count);
+  if (status != SCT_OK) return (sct_status)status;
   memset(machine->inputs, 0, machine->variables * sizeof(int32_t));
   if (steps != NULL) *steps = count;
   return SCT_OK;
@@ -304,6 +311,28 @@ sct_status sct_get_int(const sct_machine *machine, size_t number, int32_t *value
   return status;
 }
 
+/* ---- states of a chart */
+
+size_t sct_state_count(const sct_machine *machine) {
+  return machine != NULL ? machine->states : 0;
+}
+
+const char *sct_state_name(const sct_machine *machine, size_t number) {
+  if (machine == NULL || number >= machine->states) return NULL;
+  return machine->state_names + machine->state_starts[number];
+}
+
+sct_status sct_active(const sct_machine *machine, size_t number, int *active) {
+  sct_machine *own = (sct_machine *)machine; /* its handle is taken and put back */
+  bool is = false;
+  int32_t status;
+  if (machine == NULL || active == NULL) return SCT_NULL;
+  if (number >= machine->states) return SCT_NUMBER;
+  status = sct_machine_active(&own->image, &own->handle, (uint32_t)number, &is);
+  if (status == SCT_OK) *active = is;
+  return (sct_status)status;
+}
+
 /* ---- configurations */
 
 static size_t saved_length(const sct_machine *machine) {
@@ -323,43 +352,36 @@ static uint32_t cell_at(const uint8_t *bytes) {
 }
 
 sct_status sct_save(const sct_machine *machine, uint8_t *bytes, size_t capacity, size_t *length) {
+  sct_machine *own = (sct_machine *)machine; /* its handle is taken and put back */
+  int32_t status;
   size_t at;
   if (machine == NULL || length == NULL || (bytes == NULL && capacity > 0)) return SCT_NULL;
   *length = saved_length(machine);
   if (capacity < *length) return SCT_BUFFER;
-  for (at = 0; at < machine->variables; at++) put_cell(bytes + 4 * at, (uint32_t)machine->values[at]);
-  for (at = 0; at < machine->threads; at++) put_cell(bytes + 4 * (machine->variables + at), machine->statuses[at]);
+  status = sct_machine_save(&own->image, &own->handle, own->saved_values, machine->variables, own->saved_statuses, machine->threads);
+  if (status != SCT_OK) return (sct_status)status;
+  for (at = 0; at < machine->variables; at++) put_cell(bytes + 4 * at, (uint32_t)machine->saved_values[at]);
+  for (at = 0; at < machine->threads; at++) put_cell(bytes + 4 * (machine->variables + at), machine->saved_statuses[at]);
   return SCT_OK;
 }
 
 sct_status sct_restore(sct_machine *machine, const uint8_t *bytes, size_t length) {
-  struct rattle_tried cells;
-  uint32_t *statuses;
-  int32_t *values;
   int32_t status;
   size_t at;
   if (machine == NULL || (bytes == NULL && length > 0)) return SCT_NULL;
   if (length != saved_length(machine)) return SCT_CONTROL;
-  cells = rattle_alloc(length, 4);
-  if (!cells.has) return SCT_MEMORY;
-  values = (int32_t *)cells.at;
-  statuses = (uint32_t *)cells.at + machine->variables;
   for (at = 0; at < machine->variables; at++) {
     uint32_t cell = cell_at(bytes + 4 * at);
-    memcpy(values + at, &cell, sizeof cell);
+    memcpy(machine->saved_values + at, &cell, sizeof cell);
   }
-  for (at = 0; at < machine->threads; at++) statuses[at] = cell_at(bytes + 4 * (machine->variables + at));
-  status = sct_cells_fit(machine->image, machine->image_length, values, machine->variables, statuses, machine->threads);
-  if (status == SCT_OK) {
-    memcpy(machine->values, values, machine->variables * sizeof(int32_t));
-    memcpy(machine->statuses, statuses, machine->threads * sizeof(uint32_t));
-  }
-  rattle_dealloc(cells.at);
-  return of_machine(status);
+  for (at = 0; at < machine->threads; at++) machine->saved_statuses[at] = cell_at(bytes + 4 * (machine->variables + at));
+  status = sct_machine_restore(&machine->image, &machine->handle, machine->saved_values, machine->variables,
+                               machine->saved_statuses, machine->threads);
+  if (status == SCT_OK) memcpy(machine->values, machine->saved_values, machine->variables * sizeof(int32_t));
+  return (sct_status)status;
 }
 
 sct_status sct_reset(sct_machine *machine) {
   if (machine == NULL) return SCT_NULL;
-  return of_machine(sct_cells_first(machine->image, machine->image_length, machine->values, machine->variables, machine->statuses,
-                                    machine->threads));
+  return (sct_status)sct_machine_open(&machine->image, &machine->handle, machine->values, machine->variables);
 }

@@ -17,7 +17,7 @@ import enum
 import os
 from ctypes import POINTER, byref, c_char, c_char_p, c_int, c_int32, c_size_t, c_uint8, c_uint64, c_void_p
 from types import TracebackType
-from typing import Dict, List, Mapping, NamedTuple, Optional, Type, Union
+from typing import Callable, Dict, List, Mapping, NamedTuple, Optional, Type, Union
 
 Value = Union[bool, int]
 
@@ -113,6 +113,10 @@ _SIGNATURES = {
     "sct_react": (c_int, [c_void_p, POINTER(c_uint64)]),
     "sct_get_bool": (c_int, [c_void_p, c_size_t, POINTER(c_int)]),
     "sct_get_int": (c_int, [c_void_p, c_size_t, POINTER(c_int32)]),
+    "sct_open_text": (c_int, [c_char_p, c_size_t, POINTER(c_void_p), POINTER(_Fault)]),
+    "sct_state_count": (c_size_t, [c_void_p]),
+    "sct_state_name": (c_char_p, [c_void_p, c_size_t]),
+    "sct_active": (c_int, [c_void_p, c_size_t, POINTER(c_int)]),
     "sct_save": (c_int, [c_void_p, c_void_p, c_size_t, POINTER(c_size_t)]),
     "sct_restore": (c_int, [c_void_p, c_char_p, c_size_t]),
     "sct_reset": (c_int, [c_void_p]),
@@ -163,16 +167,22 @@ class Machine:
 
     def __init__(self, image: bytes) -> None:
         """Opens an image, before its first tick. ImageFault: the bytes spell no valid one."""
-        self._at = c_void_p()
-        fault = _Fault()
-        _check(_library.sct_open(image, len(image), byref(self._at), byref(fault)), fault=fault)
-        self._variables = [self._variable(number) for number in range(_library.sct_variable_count(self._at))]
-        self._by_name = {variable.name: variable for variable in self._variables}
+        self._open(_library.sct_open, image)
 
     @classmethod
     def of_text(cls, text: str) -> "Machine":
         """Compiles a chart or an SCL program, and opens its image. TextFault: the text is refused."""
-        return cls(compile_text(text))
+        machine = cls.__new__(cls)
+        machine._open(_library.sct_open_text, text.encode())
+        return machine
+
+    def _open(self, call: Callable[..., int], spelt: bytes) -> None:
+        self._at = c_void_p()
+        fault = _Fault()
+        _check(call(spelt, len(spelt), byref(self._at), byref(fault)), fault=fault)
+        self._variables = [self._variable(number) for number in range(_library.sct_variable_count(self._at))]
+        self._by_name = {variable.name: variable for variable in self._variables}
+        self._states = [_library.sct_state_name(self._at, number).decode() for number in range(_library.sct_state_count(self._at))]
 
     def _variable(self, number: int) -> Variable:
         kind, role = c_int(), c_int()
@@ -243,6 +253,20 @@ class Machine:
             self.set(name, value)
         self.tick()
         return self.outputs()
+
+    @property
+    def states(self) -> List[str]:
+        """The names of the states of its chart, in the order of the text. None where it was not opened from the text of a chart."""
+        return list(self._states)
+
+    def active(self) -> List[str]:
+        """The names of the states that are active between two ticks."""
+        return [name for number, name in enumerate(self._states) if self._is_active(number)]
+
+    def _is_active(self, number: int) -> bool:
+        active = c_int()
+        _check(_library.sct_active(self._at, number, byref(active)), number)
+        return bool(active.value)
 
     def save(self) -> bytes:
         """Its configuration as bytes, which any machine of the same image takes."""

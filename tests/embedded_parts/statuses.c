@@ -143,6 +143,39 @@ static void refuse_configurations(sct_machine *machine) {
   HOLDS(sct_set_int(machine, N, INT32_MIN) == SCT_OK && sct_react(machine, NULL) == SCT_OK && sum_of(machine) == INT32_MIN + 5);
 }
 
+static const char chart[] =
+    "chart doors {\n"
+    "  input bool open;\n"
+    "  output bool light;\n"
+    "  region Main {\n"
+    "    initial state Shut { go to Open if open do light = true; }\n"
+    "    state Open { go to Shut if !open do light = false; }\n"
+    "  }\n"
+    "}\n";
+
+static int is_active(const sct_machine *machine, size_t number) {
+  int active = 77;
+  HOLDS(sct_active(machine, number, &active) == SCT_OK);
+  return active;
+}
+
+static void ask_states(const sct_machine *none) {
+  sct_machine *machine = NULL;
+  int active = 77;
+  HOLDS(sct_state_count(NULL) == 0 && sct_state_name(NULL, 0) == NULL && sct_active(NULL, 0, &active) == SCT_NULL);
+  HOLDS(sct_state_count(none) == 0 && sct_state_name(none, 0) == NULL && sct_active(none, 0, &active) == SCT_NUMBER);
+  HOLDS(sct_open_text(chart, strlen(chart), &machine, NULL) == SCT_OK);
+  if (machine == NULL) return;
+  HOLDS(sct_state_count(machine) == 2 && strcmp(sct_state_name(machine, 0), "Main.Shut") == 0);
+  HOLDS(strcmp(sct_state_name(machine, 1), "Main.Open") == 0 && sct_state_name(machine, 2) == NULL);
+  HOLDS(sct_active(machine, 0, NULL) == SCT_NULL && sct_active(machine, 2, &active) == SCT_NUMBER && active == 77);
+  HOLDS(!is_active(machine, 0) && !is_active(machine, 1)); /* before the first tick no thread rests */
+  HOLDS(sct_react(machine, NULL) == SCT_OK && is_active(machine, 0) && !is_active(machine, 1));
+  HOLDS(sct_set_bool(machine, 0, 1) == SCT_OK && sct_react(machine, NULL) == SCT_OK && !is_active(machine, 0) && is_active(machine, 1));
+  HOLDS(sct_react(machine, NULL) == SCT_OK && is_active(machine, 0) && !is_active(machine, 1));
+  sct_close(machine);
+}
+
 int main(void) {
   sct_machine *machine = NULL;
   int status;
@@ -152,6 +185,7 @@ int main(void) {
   refuse_nulls(machine);
   refuse_variables(machine);
   refuse_configurations(machine);
+  ask_states(machine);
   sct_close(machine);
   for (status = SCT_OK; status <= SCT_CONTROL; status++) HOLDS(strcmp(sct_status_words((sct_status)status), "no status") != 0);
   printf("%d passed, %d failed\n", passed, failed);

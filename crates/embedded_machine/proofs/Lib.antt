@@ -1,1 +1,4 @@
-mod Ticked
+pub mod Values
+pub mod Lent
+pub mod Held
+mod Accepted

@@ -1,5 +1,5 @@
 -- Values, statuses and inputs as the numbers that cross to a caller in C: a cell each.
-use Rattle.std.specs.Prelude.{ℕ, ◌≡◌, ◌+◌, ◌*◌, ℤ, pos, Bool, true, false, if◌then◌else◌, Option, Some, None, List, [], ◌∷◌, map}
+use Rattle.std.specs.Prelude.{ℕ, ◌≡◌, ◌+◌, ℤ, pos, true, false, if◌then◌else◌, Option, Some, None, List, [], ◌∷◌, map}
 use Rattle.std.specs.Ordering.{int_eq}
 use Rattle.sc_values.specs.declared.value.Value.{Value}
 use Rattle.sc_values.specs.declared.value.Value.TheVariants as value

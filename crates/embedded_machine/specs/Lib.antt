@@ -1,3 +1,6 @@
-pub mod Rows
 pub mod Cells
+pub mod Rows
+pub mod Buffers
+pub mod Opened
 pub mod Ticks
+pub mod Held

@@ -1,17 +1,18 @@
--- Ticks of a machine, and of an image and a configuration that are given as bytes and cells.
-use Rattle.std.specs.Prelude.{ℕ, ◌≡◌, ℤ, List, length}
+-- Ticks of a machine, and what a call to it leaves.
+use Rattle.std.specs.Prelude.{ℕ, ◌≡◌, ℤ, Option, Some, None, List, length, map}
 use Rattle.sc_graph.specs.declared.control.Control.{Control}
-use Rattle.sc_graph.specs.Tick.{Inputs, AreAccepted, Rests, start}
+use Rattle.sc_graph.specs.Tick.{Inputs, AreAccepted, Rests, initial, start}
 use Rattle.sc_graph.specs.Valid.{IsValid}
 use Rattle.bytecode.specs.Image.{Image}
 use Rattle.bytecode.specs.Reading.Image.{version_of}
 use Rattle.bytecode.specs.Spells.{Spells}
 use Rattle.tick_core.specs.Whole.{WholeTick}
-use Rattle.embedded_machine.specs.Cells.{HoldControl, inputs_in}
+use Rattle.embedded_machine.specs.Cells.{HoldControl, inputs_in, value_cell}
+use Rattle.embedded_machine.specs.Opened.{OpenedImage}
 
--- a machine between two ticks: its image, and the configuration in which it rests
+-- a machine between two ticks: what is opened, and the configuration in which it rests
 pub record Resting : Type 0 where
-  pub image : Image
+  pub opened : OpenedImage
   pub control : Control
 
 -- under these inputs, which are accepted, a whole tick of so many steps leads from c to d, its only end
@@ -26,19 +27,35 @@ pub record SpellValid (bytes : List ℕ) (image : Image) : Type 0 where
   pub spelt : Spells (version_of bytes) bytes image
   pub valid : IsValid image.program image.tables
 
--- a tick of the image, under the inputs of these cells, leads from the configuration in the cells `values` and
--- `statuses` to the one in the cells `after` and `statuses_after`
-pub record TicksOn (image : Image) (inputs values : List ℤ) (statuses : List ℕ) (after : List ℤ) (statuses_after : List ℕ) (steps : ℕ) : Type 0 where
-  pub from : Control
-  pub to : Control
-  pub rests : Rests image.program from
-  pub held : HoldControl values statuses from
-  pub reacts : Reacts image (inputs_in image.program.variables inputs) from to steps
-  pub rests_after : Rests image.program to
-  pub held_after : HoldControl after statuses_after to
+-- a tick by the inputs in cells leads from one machine to another, which is of the same image
+pub record Ticked (inputs : List ℤ) (steps : ℕ) (before after : Resting) : Type 0 where
+  pub same : after.opened ≡ before.opened
+  pub reacts : Reacts before.opened.image (inputs_in before.opened.image.program.variables inputs) before.control after.control steps
 
--- a tick of the image that the bytes spell leads from cells to cells
-pub record TicksTo (bytes : List ℕ) (inputs values : List ℤ) (statuses : List ℕ) (after : List ℤ) (statuses_after : List ℕ) (steps : ℕ) : Type 0 where
-  pub image : Image
-  pub spelt : SpellValid bytes image
-  pub ticks : TicksOn image inputs values statuses after statuses_after steps
+-- the cells hold the values of the variables of a machine
+abbrev pub ShowValues : List ℤ → Resting → Type 0
+ShowValues cells m = map value_cell m.control.variables ≡ cells
+
+-- what a handle holds before and after a tick, whose values are then in cells
+abbrev pub TickedHeld : (inputs values : List ℤ) (steps : ℕ) (before after : Option Resting) → Type 0
+TickedHeld inputs values steps (Some m) (Some n) = Ticked inputs steps m n × ShowValues values n
+TickedHeld inputs values steps other others = ⊥
+
+-- the machine goes into the configuration in these cells, in which it rests
+pub record Restored (values : List ℤ) (statuses : List ℕ) (before after : Resting) : Type 0 where
+  pub same : after.opened ≡ before.opened
+  pub held : HoldControl values statuses after.control
+  pub rests : Rests before.opened.image.program after.control
+
+abbrev pub RestoredHeld : List ℤ → List ℕ → (before after : Option Resting) → Type 0
+RestoredHeld values statuses (Some m) (Some n) = Restored values statuses m n
+RestoredHeld values statuses other others = ⊥
+
+-- the machine before its first tick
+abbrev pub IsFirst : OpenedImage → Resting → Type 0
+IsFirst opened m = (m.opened ≡ opened) × (m.control ≡ initial opened.image.program)
+
+-- a handle holds a machine of which this holds
+abbrev pub Holds : Option Resting → (Resting → Type 0) → Type 0
+Holds (Some m) says = says m
+Holds None says = ⊥

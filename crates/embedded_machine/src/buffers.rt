@@ -1,6 +1,7 @@
 //! Buffers of a caller's.
 
-ghost use Rattle.std.specs.Prelude.{◌≡◌, ◌≤◌, MatchBool, length, take};
+ghost use Rattle.std.specs.Prelude.{◌≡◌, ◌<◌, ◌≤◌, ℕ, MatchBool, get_or, length, take};
+ghost use Rattle.embedded_machine.specs.Buffers.{BeginsAs};
 
 /// Puts bytes at the beginning of a buffer. Whether there is room for them; else nothing has changed.
 pub fn put_bytes(from: &[u8], into: &mut [u8]) -> bool
@@ -23,8 +24,13 @@ fn put_all(from: &[u8], into: &mut [u8])
 }
 
 /// Puts as many of these bytes at the beginning of a buffer as have room there.
-pub fn put_beginning(from: &[u8], into: &mut [u8]) {
-    for (place, byte) in into.iter_mut().zip(from) {
-        *place = *byte;
+pub fn put_beginning(from: &[u8], into: &mut [u8])
+    ensures length { length into.new ≡ length into.old }
+    ensures begins { BeginsAs from.now into.new }
+{
+    for at in 0..into.len() {
+        if at < from.len() {
+            into[at] = from[at];
+        }
     }
 }

@@ -80,7 +80,8 @@ pub fn put_control(control: &Control, values: &mut [i32], statuses: &mut [u32])
     put_statuses(control.statuses.as_slice(), statuses);
 }
 
-fn put_values(values: &[Value], cells: &mut [i32])
+/// Puts values into cells, of which there are as many.
+pub fn put_values(values: &[Value], cells: &mut [i32])
     requires { length cells.old ≡ length values.now }
     ensures { map value_cell values.now ≡ cells.new }
 {

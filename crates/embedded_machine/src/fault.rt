@@ -8,12 +8,14 @@ use std::alloc::{AllocError, AllocFailed};
 /// Why a machine refuses. Nothing has changed then.
 #[derive(Clone, Copy, Debug, PartialEq, Eq)]
 pub enum MachineFault {
-    /// The bytes spell no image, or none that keeps the rules; or memory was refused while they were looked at.
-    Image,
     /// The cells hold no configuration in which the program rests, or are not as many.
     Control,
     /// There is not one cell for each variable, or the cell of an input holds no value of its kind.
     Input,
+    /// There is no state of this number.
+    Number,
+    /// There is no machine: it was closed, or never opened.
+    Closed,
     /// Memory was refused.
     Memory,
 }

@@ -1,22 +1,26 @@
-//! A machine inside another program: images from texts and bytes, and ticks over cells.
+//! A machine inside another program: images and machines behind handles, and ticks over cells.
 #![tactic(auto)]
 
 mod buffers;
+mod calls;
 mod cells;
 mod controls;
 mod fault;
-mod images;
+mod handles;
 mod inputs;
+mod loose;
 mod machine;
+mod opened;
 mod rows;
-mod ticking;
+mod states;
 
 pub use buffers::{put_beginning, put_bytes};
+pub use calls::{hold_image, open_machine, react, restore, save, state_is_active};
 pub use cells::{status_cell, status_in, value_cell, value_in};
-pub use controls::{control_in, put_control};
+pub use controls::{control_in, put_control, put_values};
 pub use fault::MachineFault;
-pub use images::{image_of_text, verified_image};
-pub use inputs::inputs_in;
+pub use handles::{ImageHandle, MachineHandle};
 pub use machine::Machine;
+pub use opened::Opened;
 pub use rows::{VariableRow, names_of, put_rows};
-pub use ticking::{first_cells, fit_cells, tick_cells};
+pub use states::States;

@@ -1,122 +1,147 @@
-//! Machines: an image, and the configuration in which it rests.
+//! Machines: what is opened, and the configuration in which it rests.
 
-ghost use Rattle.std.specs.Prelude.{◌≡◌, IfOk, MatchOption};
+ghost use Rattle.std.specs.Prelude.{◌≡◌, IfOk, OnErr, length};
 ghost use Rattle.sc_graph.specs.Tick.{AreAccepted, Rests, initial};
 ghost use Rattle.embedded_machine.specs.Cells.{inputs_in};
-ghost use Rattle.embedded_machine.specs.Ticks.{Reacts};
+ghost use Rattle.embedded_machine.specs.Ticks.{IsFirst, Reacts, Ticked};
 
 use crate::fault::MachineFault;
-use crate::inputs::inputs_in;
-use sc_graph::{Control, Program};
+use crate::inputs::give_all;
+use crate::opened::Opened;
+use sc_graph::Control;
+use sqlite_items::Items;
 use std::alloc::{AllocError, Global};
 use std::marker::Model;
+use std::mem;
 use tick_core::{Inputs, TickSpace};
-use verifier::Verified;
 
-/// A machine between two ticks. Contracts see its image and the configuration in which it rests.
+/// A machine between two ticks. Contracts see what is opened, and the configuration in which it rests.
 #[derive(Drop)]
 pub struct Machine<'a> {
-    verified: &'a Verified,
-    space: TickSpace<'a>,
+    opened: &'a Opened,
+    space: Option<TickSpace<'a>>,
     control: Control,
+    inputs: Inputs,
 }
 
 impl<'a> Model for Machine<'a> {
-    ghost use Rattle.std.specs.Prelude.{◌≡◌};
+    ghost use Rattle.std.specs.Prelude.{◌≡◌, Some};
     ghost use Rattle.sc_graph.specs.Tick.{Rests};
     ghost use Rattle.embedded_machine.specs.Ticks.{Resting};
 
     ghost Value = { Resting };
 
-    ghost view = { λ m. record { image = m.verified.now; control = m.control } };
+    ghost view = { λ m. record { opened = m.opened.now; control = m.control } };
 
-    ghost invariant = { λ m. (m.space ≡ m.verified.now) × Rests m.verified.now.program m.control };
+    ghost invariant = { λ m. (m.space ≡ Some m.opened.now.image) × Rests m.opened.now.image.program m.control };
+}
+
+// A tick that is over: the configuration in which it ended, and its room.
+struct Ended<'a> {
+    control: Control,
+    space: TickSpace<'a>,
+    steps: u64,
 }
 
 impl<'a> Machine<'a> {
     /// The machine of an image before its first tick. Err: memory was refused.
-    pub fn of(alloc: Global, verified: &'a Verified) -> Result<Machine<'a>, AllocError>
-        ensures image { IfOk result (λ m. m.image ≡ verified.now) }
-        ensures first { IfOk result (λ m. m.control ≡ initial verified.now.program) }
+    pub fn of(alloc: Global, opened: &'a Opened) -> Result<Machine<'a>, AllocError>
+        ensures { IfOk result (IsFirst opened.now) }
     {
-        let control = Control::initial(alloc, verified.image().program())?;
-        Machine::resting(alloc, verified, control)
-    }
-
-    /// The machine of an image in a configuration in which it rests. Err: memory was refused.
-    pub fn resting(
-        alloc: Global,
-        verified: &'a Verified,
-        control: Control,
-    ) -> Result<Machine<'a>, AllocError>
-        requires { Rests verified.now.program control }
-        ensures image { IfOk result (λ m. m.image ≡ verified.now) }
-        ensures control { IfOk result (λ m. m.control ≡ control) }
-    {
-        let space = TickSpace::of(alloc, verified)?;
+        let control = Control::initial(alloc, opened.verified().image().program())?;
+        let space = TickSpace::of(alloc, opened.verified())?;
         Ok(Machine {
-            verified,
-            space,
+            opened,
+            space: Some(space),
             control,
+            inputs: Items::new(alloc),
         })
     }
 
-    /// The program of its image.
-    pub fn program(&self) -> &Program
-        ensures { result.now ≡ self.now.image.program }
+    /// What is opened.
+    pub fn opened(&self) -> &'a Opened
+        ensures { result.now ≡ self.now.opened }
     {
-        self.verified.image().program()
+        self.opened
+    }
+
+    /// How many variables it has.
+    pub fn variable_count(&self) -> usize
+        ensures shown { result ≡ length self.now.control.variables }
+        ensures declared { result ≡ length self.now.opened.image.program.variables }
+    {
+        self.control.variables.len()
     }
 
     /// The configuration in which it rests.
     pub fn control(&self) -> &Control
         ensures value { result.now ≡ self.now.control }
-        ensures rests { Rests self.now.image.program result.now }
+        ensures rests { Rests self.now.opened.image.program result.now }
     {
         &self.control
     }
 
-    /// One tick: the machine after it, and how many steps it took. It takes no memory. None: the inputs are not
-    /// accepted.
-    pub fn react(self, inputs: &Inputs) -> Option<(Machine<'a>, u64)>
-        ensures { MatchOption result (¬ AreAccepted self.entry.image.program inputs.now) (λ r.
-            (r.0.image ≡ self.entry.image) × Reacts self.entry.image inputs.now self.entry.control r.0.control r.1) }
+    /// One tick under the inputs of these cells, one for each variable; how many steps it took. After the first it
+    /// takes no memory. Err: there are not as many cells, or one of an input holds no value of its kind; or memory was
+    /// refused. Nothing has changed then.
+    #[tactic(auto, using(crate::proofs::Accepted::cells_accepted))]
+    pub fn react(&mut self, alloc: Global, cells: &[i32]) -> Result<u64, MachineFault>
+        ensures ticked { IfOk result (λ steps. Ticked cells.now steps self.old self.new) }
+        ensures same { OnErr result (self.new ≡ self.old) }
     {
-        let Machine {
-            verified,
-            space,
-            control,
-        } = self;
-        let mut state = match space.go_on(control, inputs) {
-            Ok(state) => state,
-            Err(_) => return None,
+        let program = self.opened.verified().image().program();
+        give_all(&mut self.inputs, program.variables(), cells)?;
+        let control = mem::replace(&mut self.control, nothing(alloc));
+        let space = match self.space.take() {
+            Some(space) => space,
+            None => unreachable!(),
         };
-        state.run_alone();
-        let steps = state.history().len() as u64;
-        let (control, space) = state.hand_over();
-        let machine = Machine {
-            verified,
-            space,
+        let Ended {
             control,
-        };
-        Some((machine, steps))
+            space,
+            steps,
+        } = ticked(space, control, &self.inputs);
+        self.control = control;
+        self.space = Some(space);
+        Ok(steps)
     }
 
-    /// One tick under the inputs of these cells, one for each variable: the machine after it, and how many steps it took.
-    /// Err: there are not as many cells, or one of an input holds no value of its kind; or memory was refused.
-    pub fn react_by_cells(
-        self,
-        alloc: Global,
-        cells: &[i32],
-    ) -> Result<(Machine<'a>, u64), MachineFault>
-        ensures image { IfOk result (λ r. r.0.image ≡ self.entry.image) }
-        ensures reacts { IfOk result (λ r. Reacts self.entry.image
-            (inputs_in self.entry.image.program.variables cells.now) self.entry.control r.0.control r.1) }
+    /// Puts it into a configuration in which it rests.
+    pub fn put(&mut self, control: Control)
+        requires { Rests self.old.opened.image.program control }
+        ensures opened { self.new.opened ≡ self.old.opened }
+        ensures control { self.new.control ≡ control }
     {
-        let inputs = inputs_in(alloc, self.program().variables(), cells)?;
-        match self.react(&inputs) {
-            Some(reacted) => Ok(reacted),
-            None => Err(MachineFault::Input),
-        }
+        self.control = control;
+    }
+}
+
+// No configuration of any program. It takes no memory.
+fn nothing(alloc: Global) -> Control {
+    Control {
+        variables: Items::new(alloc),
+        statuses: Items::new(alloc),
+    }
+}
+
+// A whole tick.
+fn ticked<'a>(space: TickSpace<'a>, control: Control, inputs: &Inputs) -> Ended<'a>
+    requires rests { Rests space.program control }
+    requires accepted { AreAccepted space.program inputs.now }
+    ensures room { result.space ≡ space.entry }
+    ensures rests { Rests space.entry.program result.control }
+    ensures reacts { Reacts space.entry inputs.now control result.control result.steps }
+{
+    let mut state = match space.go_on(control, inputs) {
+        Ok(state) => state,
+        Err(_) => unreachable!(),
+    };
+    state.run_alone();
+    let steps = state.history().len() as u64;
+    let (control, space) = state.hand_over();
+    Ended {
+        control,
+        space,
+        steps,
     }
 }

@@ -1,6 +1,7 @@
 //! The variables of a program as rows, and their names as bytes.
 
-ghost use Rattle.std.specs.Prelude.{◌≡◌, length, map};
+ghost use Rattle.std.specs.Prelude.{◌≡◌, IfOk, length, map};
+ghost use Rattle.embedded_machine.specs.Opened.{ended_by_zero};
 ghost use Rattle.embedded_machine.specs.Rows.{row_of, kind_cell, role_cell};
 
 use sc_graph::{Role, Variable};
@@ -56,11 +57,14 @@ pub fn put_rows(variables: &[Variable], rows: &mut [VariableRow])
     }
 }
 
-/// The bytes of the names of variables, one name behind the other.
-pub fn names_of(alloc: Global, variables: &[Variable]) -> Result<Vec<u8>, AllocError> {
+/// The bytes of the names of variables, a zero byte behind each.
+pub fn names_of(alloc: Global, variables: &[Variable]) -> Result<Vec<u8>, AllocError>
+    ensures { IfOk result (λ bytes. bytes.items ≡ ended_by_zero (map (λ x. x.name) variables.now)) }
+{
     let mut bytes = Vec::new(alloc);
     for variable in variables {
         bytes.extend_from_slice(variable.name.as_bytes())?;
+        bytes.push(0)?;
     }
     Ok(bytes)
 }

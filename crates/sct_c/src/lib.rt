@@ -1,28 +1,36 @@
 //! The calls that a program in C makes: each makes one of `embedded_machine`, and says its clauses again.
 #![tactic(auto)]
 
-ghost use Rattle.std.specs.Prelude.{◌≡◌, ◌≢◌, pos};
-ghost use Rattle.bytecode.specs.Image.{Image};
-ghost use Rattle.sc_graph.specs.Tick.{Rests, initial};
-ghost use Rattle.sc_graph.specs.declared.control.Control.{Control as Held};
+ghost use Rattle.std.specs.Prelude.{◌≡◌, ◌≢◌, ◌<◌, ◌⊎◌, pos, IsSome, Some, length, take};
+ghost use Rattle.command_files.specs.FaultText.{fault_text};
+ghost use Rattle.command_files.specs.declared.fault.Fault.{Fault as Why};
+ghost use Rattle.node_states.specs.Active.{is_active};
 ghost use Rattle.embedded_machine.specs.Cells.{HoldControl};
-ghost use Rattle.embedded_machine.specs.Ticks.{SpellValid, TicksTo};
+ghost use Rattle.embedded_machine.specs.Opened.{no_states};
+ghost use Rattle.embedded_texts.specs.Texts.{IsNoImageOf, IsOpenedText, SpellsItsImage};
+ghost use Rattle.embedded_machine.specs.Ticks.{Holds, IsFirst, RestoredHeld, ShowValues, SpellValid, TickedHeld};
+ghost use Rattle.sct_c.specs.Told.{HoldsImage, TellsWhy};
 
 use command_files::Fault;
 use embedded_machine::{
-    MachineFault, VariableRow, first_cells, fit_cells, image_of_text, names_of, put_beginning,
-    put_bytes, put_rows, tick_cells, verified_image,
+    ImageHandle, MachineFault, MachineHandle, Opened, VariableRow, hold_image, names_of,
+    open_machine, put_beginning, put_bytes, put_rows, react, restore, save, state_is_active,
 };
+use embedded_texts::{image_of_text, opened_image, opened_text};
 use std::alloc::Global;
 
 // Statuses, as sct.h has them.
 const OK: i32 = 0;
+
+const CLOSED: i32 = 1;
 
 const MEMORY: i32 = 2;
 
 const TEXT: i32 = 3;
 
 const IMAGE: i32 = 4;
+
+const NUMBER: i32 = 5;
 
 const KIND: i32 = 7;
 
@@ -38,30 +46,36 @@ pub struct Lengths {
     pub words: usize,
 }
 
-/// What an image counts.
+/// What an image counts: variables and threads, the states of its chart, and the bytes of the names of both, a zero
+/// byte behind each.
 #[repr(C)]
 #[derive(Clone, Copy, Debug)]
 pub struct Counts {
     pub variables: usize,
     pub threads: usize,
     pub names: usize,
+    pub states: usize,
+    pub state_names: usize,
 }
 
 fn status_of(fault: MachineFault) -> i32
     ensures { result ≢ pos 0 }
 {
     match fault {
-        MachineFault::Image => IMAGE,
+        MachineFault::Closed => CLOSED,
+        MachineFault::Number => NUMBER,
         MachineFault::Control => CONTROL,
         MachineFault::Input => KIND,
         MachineFault::Memory => MEMORY,
     }
 }
 
-// Puts as much of the words of a fault into a buffer as has room there.
+// Puts as much of the words of a fault into a buffer as has room there. The status, or that memory was refused for
+// them.
 fn put_words(alloc: Global, fault: &Fault, words: &mut [u8], length: &mut usize, status: i32) -> i32
-    requires { status ≢ pos 0 }
-    ensures { result ≢ pos 0 }
+    requires { (status ≡ pos 3) ⊎ (status ≡ pos 4) }
+    ensures status { (result ≡ status) ⊎ (result ≡ pos 2) }
+    ensures told { result ≢ pos 2 → TellsWhy (fault_text fault.now) words.new length.new }
 {
     match format!(in alloc; "{fault}") {
         Ok(text) => {
@@ -74,8 +88,8 @@ fn put_words(alloc: Global, fault: &Fault, words: &mut [u8], length: &mut usize,
 }
 
 /// Compiles a text into the bytes of an image. 0: the first of the bytes in `image`, as many as `lengths` says, spell
-/// the
-/// image of the text. 8: there is no room for so many. 3: the text is refused, and `words` begins with the words why.
+/// the image of the text. 8: there is no room for so many, and nothing else was written. 3: the text is refused, for
+/// the fault whose words `words` begins with, or all of them, as many as `lengths` says. 2: memory was refused.
 #[unsafe(no_mangle)]
 pub extern "C" fn sct_text_compile(
     alloc: Global,
@@ -83,7 +97,12 @@ pub extern "C" fn sct_text_compile(
     image: &mut [u8],
     words: &mut [u8],
     lengths: &mut Lengths,
-) -> i32 {
+) -> i32
+    ensures compiled { result ≡ pos 0 → SpellsItsImage text.now (take lengths.new.given image.new) }
+    ensures kept { result ≢ pos 0 → image.new ≡ image.old }
+    ensures fault { result ≡ pos 3 → (fault : Why) × IsNoImageOf text.now fault
+        × TellsWhy (fault_text fault) words.new lengths.new.words }
+{
     match image_of_text(alloc, text) {
         Ok(bytes) => {
             lengths.given = bytes.len();
@@ -93,91 +112,151 @@ pub extern "C" fn sct_text_compile(
     }
 }
 
-/// Verifies the image in these bytes, and counts. 0: it is valid. 4: it is none, and `words` begins with the words why.
-#[unsafe(no_mangle)]
-pub extern "C" fn sct_image_counts(
-    alloc: Global,
-    image: &[u8],
-    words: &mut [u8],
-    lengths: &mut Lengths,
-    counts: &mut Counts,
-) -> i32
-    ensures { result ≡ pos 0 → (spelt : Image) × SpellValid image.now spelt }
+// Puts what is opened behind a handle, and counts it.
+fn hold(alloc: Global, opened: Opened, image: &mut ImageHandle, counts: &mut Counts) -> i32
+    ensures held { result ≡ pos 0 → image.new.image ≡ Some opened }
+    ensures same { result ≢ pos 0 → image.new.image ≡ image.old.image }
+    ensures status { (result ≡ pos 0) ⊎ (result ≡ pos 2) }
 {
-    match verified_image(alloc, image) {
-        Ok(verified) => {
-            let program = verified.image().program();
-            let Ok(names) = names_of(alloc, program.variables()) else {
-                return MEMORY;
-            };
-            counts.variables = program.variables().len();
-            counts.threads = program.thread_count() as usize;
-            counts.names = names.len();
+    let Some(counted) = counts_of(alloc, &opened) else {
+        return MEMORY;
+    };
+    match hold_image(alloc, opened, image) {
+        Ok(()) => {
+            *counts = counted;
             OK
         }
+        Err(_) => MEMORY,
+    }
+}
+
+// What there is of an image. None: memory was refused.
+fn counts_of(alloc: Global, opened: &Opened) -> Option<Counts> {
+    let program = opened.verified().image().program();
+    let Ok(names) = names_of(alloc, program.variables()) else {
+        return None;
+    };
+    let Ok(state_names) = opened.states().names(alloc) else {
+        return None;
+    };
+    Some(Counts {
+        variables: program.variables().len(),
+        threads: program.thread_count() as usize,
+        names: names.len(),
+        states: opened.states().count(),
+        state_names: state_names.len(),
+    })
+}
+
+/// Opens the image in these bytes behind a handle. 0: it is valid, and the handle holds it. 4: it is none, and `words`
+/// begins with the words why. 2: memory was refused. Where it is refused the handle is as it was.
+#[unsafe(no_mangle)]
+pub extern "C" fn sct_image_open(
+    alloc: Global,
+    bytes: &[u8],
+    words: &mut [u8],
+    lengths: &mut Lengths,
+    image: &mut ImageHandle,
+    counts: &mut Counts,
+) -> i32
+    ensures held { result ≡ pos 0
+        → HoldsImage image.new.image (λ o. SpellValid bytes.now o.image × (o.states ≡ no_states)) }
+    ensures same { result ≢ pos 0 → image.new.image ≡ image.old.image }
+{
+    match opened_image(alloc, bytes) {
+        Ok(opened) => hold(alloc, opened, image, counts),
         Err(fault) => put_words(alloc, &fault, words, &mut lengths.words, IMAGE),
     }
 }
 
-/// The variables of the image in these bytes: a row for each, and the bytes of their names, one name behind the other. 8:
-/// there are not as many rows, or there is no room for the names.
+/// Compiles a text and opens its image behind a handle, with the states of its chart. 0, 2: as `sct_image_open`. 3:
+/// the text is refused, and `words` begins with the words why.
 #[unsafe(no_mangle)]
-pub extern "C" fn sct_image_variables(
+pub extern "C" fn sct_text_open(
     alloc: Global,
-    image: &[u8],
+    text: &[u8],
+    words: &mut [u8],
+    lengths: &mut Lengths,
+    image: &mut ImageHandle,
+    counts: &mut Counts,
+) -> i32
+    ensures held { result ≡ pos 0 → HoldsImage image.new.image (IsOpenedText text.now) }
+    ensures same { result ≢ pos 0 → image.new.image ≡ image.old.image }
+{
+    match opened_text(alloc, text) {
+        Ok(opened) => hold(alloc, opened, image, counts),
+        Err(fault) => put_words(alloc, &fault, words, &mut lengths.words, TEXT),
+    }
+}
+
+/// The variables of the image behind a handle, and their names and those of its chart's states, a zero byte behind
+/// each. 8: there are not as many rows, or there is no room for the names. 2: memory was refused.
+#[unsafe(no_mangle)]
+pub extern "C" fn sct_image_names(
+    alloc: Global,
+    image: &ImageHandle,
     rows: &mut [VariableRow],
     names: &mut [u8],
-) -> i32 {
-    let Ok(verified) = verified_image(alloc, image) else {
-        return IMAGE;
-    };
-    let variables = verified.image().program().variables();
+    states: &mut [u8],
+) -> i32
+    requires { IsSome image.now.image }
+{
+    let opened = image.get();
+    let variables = opened.verified().image().program().variables();
     let Ok(bytes) = names_of(alloc, variables) else {
         return MEMORY;
     };
-    if rows.len() != variables.len() || !put_bytes(&bytes, names) {
+    let Ok(paths) = opened.states().names(alloc) else {
+        return MEMORY;
+    };
+    if rows.len() != variables.len() || !put_bytes(&bytes, names) || !put_bytes(&paths, states) {
         return BUFFER;
     }
     put_rows(variables, rows);
     OK
 }
 
-/// Puts the configuration before the first tick of the image in these bytes into cells.
+/// Closes the image behind a handle, which is not used again; no machine of it is.
 #[unsafe(no_mangle)]
-pub extern "C" fn sct_cells_first(
+pub extern "C" fn sct_image_close(alloc: Global, image: ImageHandle) {
+    drop(image.into_box(alloc));
+}
+
+/// Opens a machine of the image behind a handle, before its first tick. The values of its variables go into cells.
+#[unsafe(no_mangle)]
+pub extern "C" fn sct_machine_open<'a>(
     alloc: Global,
-    image: &[u8],
+    image: &'a ImageHandle,
+    machine: &mut MachineHandle<'a>,
     values: &mut [i32],
-    statuses: &mut [u32],
 ) -> i32
-    ensures first { result ≡ pos 0 → (spelt : Image) × SpellValid image.now spelt
-        × HoldControl values.new statuses.new (initial spelt.program) }
-    ensures values { result ≢ pos 0 → values.new ≡ values.old }
-    ensures statuses { result ≢ pos 0 → statuses.new ≡ statuses.old }
+    requires { IsSome image.now.image }
+    ensures first { result ≡ pos 0 → Holds machine.new.machine (λ m. (Some m.opened ≡ image.now.image)
+        × IsFirst m.opened m × ShowValues values.new m) }
+    ensures same { result ≢ pos 0 → machine.new.machine ≡ machine.old.machine }
 {
-    match first_cells(alloc, image, values, statuses) {
+    match open_machine(alloc, image, machine, values) {
         Ok(()) => OK,
         Err(fault) => status_of(fault),
     }
 }
 
-/// One tick of the image in these bytes, by the inputs in cells, from the configuration in `values` and `statuses` to the
-/// one that stands there behind.
+/// One tick of the machine behind a handle, by the inputs in cells. The values of its variables go into cells.
 #[unsafe(no_mangle)]
-pub extern "C" fn sct_cells_tick(
+pub extern "C" fn sct_machine_react<'a>(
     alloc: Global,
-    image: &[u8],
+    image: &'a ImageHandle,
+    machine: &mut MachineHandle<'a>,
     inputs: &[i32],
     values: &mut [i32],
-    statuses: &mut [u32],
     steps: &mut u64,
 ) -> i32
-    ensures ticks { result ≡ pos 0
-        → TicksTo image.now inputs.now values.old statuses.old values.new statuses.new steps.new }
+    ensures ticked { result ≡ pos 0
+        → TickedHeld inputs.now values.new steps.new machine.old.machine machine.new.machine }
+    ensures same { result ≢ pos 0 → machine.new.machine ≡ machine.old.machine }
     ensures values { result ≢ pos 0 → values.new ≡ values.old }
-    ensures statuses { result ≢ pos 0 → statuses.new ≡ statuses.old }
 {
-    match tick_cells(alloc, image, inputs, values, statuses) {
+    match react(alloc, image, machine, inputs, values) {
         Ok(count) => {
             *steps = count;
             OK
@@ -186,19 +265,68 @@ pub extern "C" fn sct_cells_tick(
     }
 }
 
-/// Whether these cells hold a configuration in which the program of the image in these bytes rests. 0: they do.
+/// Puts the configuration of the machine behind a handle into cells.
 #[unsafe(no_mangle)]
-pub extern "C" fn sct_cells_fit(
+pub extern "C" fn sct_machine_save<'a>(
     alloc: Global,
-    image: &[u8],
-    values: &[i32],
-    statuses: &[u32],
+    image: &'a ImageHandle,
+    machine: &mut MachineHandle<'a>,
+    values: &mut [i32],
+    statuses: &mut [u32],
 ) -> i32
-    ensures { result ≡ pos 0 → (spelt : Image) × SpellValid image.now spelt × (held : Held)
-        × Rests spelt.program held × HoldControl values.now statuses.now held }
+    ensures saved { result ≡ pos 0
+        → Holds machine.new.machine (λ m. HoldControl values.new statuses.new m.control) }
+    ensures same { machine.new.machine ≡ machine.old.machine }
 {
-    match fit_cells(alloc, image, values, statuses) {
+    match save(alloc, image, machine, values, statuses) {
         Ok(()) => OK,
         Err(fault) => status_of(fault),
     }
+}
+
+/// Puts the machine behind a handle into the configuration in these cells, in which it rests.
+#[unsafe(no_mangle)]
+pub extern "C" fn sct_machine_restore<'a>(
+    alloc: Global,
+    image: &'a ImageHandle,
+    machine: &mut MachineHandle<'a>,
+    values: &[i32],
+    statuses: &[u32],
+) -> i32
+    ensures restored { result ≡ pos 0
+        → RestoredHeld values.now statuses.now machine.old.machine machine.new.machine }
+    ensures same { result ≢ pos 0 → machine.new.machine ≡ machine.old.machine }
+{
+    match restore(alloc, image, machine, values, statuses) {
+        Ok(()) => OK,
+        Err(fault) => status_of(fault),
+    }
+}
+
+/// Whether the state of this number of the machine's chart is active, as 1 or 0.
+#[unsafe(no_mangle)]
+pub extern "C" fn sct_machine_active<'a>(
+    alloc: Global,
+    image: &'a ImageHandle,
+    machine: &mut MachineHandle<'a>,
+    number: u32,
+    active: &mut bool,
+) -> i32
+    ensures active { result ≡ pos 0 → Holds machine.new.machine (λ m.
+        (active.new ≡ is_active m.opened.states.nodes m.control number) × (number < length m.opened.states.paths)) }
+    ensures same { machine.new.machine ≡ machine.old.machine }
+{
+    match state_is_active(alloc, image, machine, number) {
+        Ok(is) => {
+            *active = is;
+            OK
+        }
+        Err(fault) => status_of(fault),
+    }
+}
+
+/// Closes the machine behind a handle, which is not used again.
+#[unsafe(no_mangle)]
+pub extern "C" fn sct_machine_close(alloc: Global, machine: MachineHandle<'_>) {
+    drop(machine.into_box(alloc));
 }

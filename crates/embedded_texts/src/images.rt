@@ -1,9 +1,7 @@
 //! Images from texts and from bytes.
 
 ghost use Rattle.std.specs.Prelude.{◌≡◌, IfErr, IfOk};
-ghost use Rattle.bytecode.specs.Image.{Image};
-ghost use Rattle.bytecode.specs.Spells.{Spells};
-ghost use Rattle.command_files.specs.Sources.{SpellsImage, BytesLackCompiled};
+ghost use Rattle.embedded_texts.specs.Texts.{IsNoImageOf, SpellsItsImage};
 ghost use Rattle.embedded_machine.specs.Ticks.{SpellValid};
 
 use bytecode::{decode_either, encode};
@@ -13,9 +11,10 @@ use verifier::{Verified, verify};
 
 /// The bytes of the image of the program, or of the chart, that this text spells, in version 2 of the layout. Err: it
 /// spells none, or why it has no image; or memory was refused.
+#[tactic(auto, using(crate::proofs::Refused::no_image))]
 pub fn image_of_text(alloc: Global, text: &[u8]) -> Result<Vec<u8>, Fault>
-    ensures compiled { IfOk result (λ bytes.
-        (image : Image) × SpellsImage text.now image × Spells 2 bytes.items image) }
+    ensures compiled { IfOk result (λ bytes. SpellsItsImage text.now bytes.items) }
+    ensures fault { IfErr result (λ fault. IsNoImageOf text.now fault) }
 {
     let verified = compile_bytes(alloc, text)?;
     let bytes = encode(alloc, verified.image())?;

@@ -1,0 +1,93 @@
+-- `into_loose` tests the pointer, and has the box at it.
+use Rattle.std.proofs.Common.{◌≡◌, List, [], ◌∷◌, ◌++◌, refl, sym, ap, ◌∙◌, subst, lit<}
+use mir.Syntax.{named}
+use mir.Val.{Val, vptr, vcons, vnil}
+use base.Logic.{SProp, ent, emp, id⊢}
+use base.Fml.{ftrue, flft}
+use prog.Wp.{WpFn}
+use types.Kit.{‵, raw, ◌⊛◌, at_ret, ◌$◌, ◌∵◌, !, qed, by, move, keep, split, fsplit, fjoin, suffices, use0, use1}
+use types.Run.{stop, fld, lit, of_opd, bin, no_more, and_then, first, branches, exec, returns, enter}
+use types.ByLocal.{alloc_all, pass_all, free_all, look_at, get, get_in, sets, sets_last, env}
+use types.Part.{agg, sub, whole}
+use types.Match.{live}
+use contract.Monad.{fact, fact_i}
+use contract.Running.{tables}
+use denote.Exit.{yes}
+use denote.RattleType.{RattleType, owns}
+use denote.RawPtr.{Ptr, block_ptr, null_ptr, ptr_val, tests_null}
+use denote.Signature.{types_at, type_at, plain}
+use denote.Param.{layout}
+use denote.Steps.{nothing}
+use denote.Triple.Walked.{Stays, stay_dropped, walk_of, Goes-dropped}
+use Rattle.std.specs.declared.option.Option.TheVariants.{None, Some}
+use Rattle.std.specs.contracts.alloc.Global as global
+use Rattle.std.specs.contracts.impls.GlobalAllocator.TheImpl.{ghosts}
+use Rattle.std.proofs.alloc.Calls.{handle_tells}
+use Rattle.std.proofs.alloc.Global.TheLaws as heap_laws
+use Rattle.std.proofs.alloc.Shapes.{after}
+use Rattle.std.proofs.cell.Inside.{Good}
+use Rattle.std.proofs.option.Made.{Some-of, none_of}
+use Rattle.std.proofs.ResultValues.{and_tt}
+use Rattle.std.proofs.raw_atomic.Walks.{proved_at, leaves}
+use Rattle.embedded_machine.proofs.Values.{both, Loose, al, loose_good, loose_in}
+use Rattle.embedded_machine.proofs.Held.{Machine, word, machine_out, either_held}
+use Rattle.embedded_machine.specs.contracts.machine.Machine as machine
+use Rattle.embedded_machine.specs.contracts.handles.MachineHandle.into_loose.{ended, clauses}
+use Rattle.embedded_machine.specs.contracts.handles.MachineHandle.into_loose.Key.{name as #self}
+use Rattle.embedded_machine.proofs.handles.MachineHandle.into_loose.Statement.{statement}
+use Rattle.embedded_machine.proofs.handles.MachineHandle.into_loose.Code as code
+
+pub into_loose_spec : {M : Type 1} → statement M
+into_loose_spec 𝓤 𝓛 𝓜 𝓡 wired =
+    let H = 𝓛.H in let 𝓣 = tables 𝓤 H 𝓜 𝓡 𝓡.env in let Z : RattleType = global.the_row in let LZ = heap_laws.the_row_laws in
+    let c = clauses 𝓛 𝓜.mem 𝓡.returns in let fn = code.function in
+    let hs : Stays ended.signature.params ended.kept = (stay_dropped (plain (λ κs. Machine κs.0)) yes, (stay_dropped (plain (λ _. Z)) yes, tt)) in
+    proved_at 𝓛 ended hs c 𝓜 𝓡 (
+      Goes-dropped 𝓛 1 (plain (λ κs. Machine κs.0)) yes (λ κs x f. refl),
+      (
+        Goes-dropped 𝓛 1 (plain (λ _. Z)) yes
+            (λ κs x f. refl),
+        tt,
+      ),
+    ) #self fn (code.unfolded 𝓤 H 𝓜 𝓡 wired) (λ z are.
+    let κs = z.0.0 in let qs = z.0.1 in let κ = κs.0 in let R : RattleType = machine.the_row (record { mir = named 0; lft = κ }) in
+    let L : RattleType = Loose R Z LZ ghosts in
+    let v = z.0.3.0 in let a = z.0.3.1.0 in let Post : Val → SProp 𝓤 = (walk_of 𝓛 ended hs c).post z in
+    let Run : List Val → SProp 𝓤 = λ ws. WpFn 𝓤 H 𝓣.C 𝓣.Λ fn ws Post in let Out : RattleType = type_at ended.signature.result κs in
+    qed 𝓛 (((‵ (flft κs.0 qs.0) ⊛ ‵ ftrue) ⊛ ‵ (owns (types_at ended.signature.params κs) z.0.3 z.0.4)) ∷ raw ((c κs z.0.3).requires z.1) ∷ []) ∵ split ! $
+    move ! (1 ∷ []) $ fsplit ! $ machine_out κ ! v z.0.4.0 (λ ws.
+    move ! (1 ∷ []) $ fsplit ! $ handle_tells (al R Z LZ ghosts) ! a z.0.4.1.0 (λ h eh fits. move ! (2 ∷ []) $
+    let of_ptr : Ptr → Val = λ p. both (ptr_val p) (word v.image) in
+    let starts : (p : Ptr) → v.at ≡ p → ent 𝓤 (Run (of_ptr p ∷ h ∷ [])) (Run (z.0.4.0 ++ (z.0.4.1.0 ++ []))) = λ p is. let w : Val = of_ptr p in
+    subst (λ (us : List Val). ent 𝓤 (Run (w ∷ h ∷ [])) (Run us)) (sym (λ i. (ws ∙ ap (λ (q : Ptr). of_ptr q ∷ []) is) i ++ (eh i ++ []))) (id⊢ 𝓤 (Run (w ∷
+    h ∷ []))) in
+    either_held R ! v.at v.machine
+    (λ is none. let w : Val = of_ptr null_ptr in suffices ! (Run (w ∷ h ∷ [])) (starts null_ptr is) $
+    enter ! 𝓣.C 𝓣.Λ fn (w ∷ h ∷ []) Post $ alloc_all ! (λ l. pass_all ! refl ((tt, (record { fits = lit< tt }, (tt, tt))), (fits, tt)) $
+    let Ev = env fn.locals l in
+    sets ! (of_opd ! (get_in ! (fld ! refl (stop !)) (sub ! 0 refl (whole !)))) refl (tt, record { fits = lit< tt }) $
+    sets ! (bin ! (get ! refl) (lit ! tt) tt) refl (tt, tt) $
+    first ! $ branches ! (get ! refl)
+    (λ _. sets_last ! (agg ! (and_then ! (lit ! tt) (no_more !))) refl (tt, (record { fits = lit< tt }, tt)) $
+    exec ! 𝓣.C 𝓣.Λ Ev (after 3 fn.body) (at_ret Ev Post) $
+    sets ! (of_opd ! (get ! refl)) refl (tt, (record { fits = lit< tt }, tt)) $ use0 𝓛 (‵ (Out.own_val None (live 0 vnil ∷ []))) (none_of 𝓛 L) $
+    use0 𝓛 (raw (fact 𝓤 (v.machine ≡ None))) (fact_i 𝓤 (v.machine ≡ None) (emp 𝓤) none) $ nothing ! $ nothing ! $ fjoin ! $ nothing ! $ fjoin ! $
+    returns ! (look_at ! 0 refl) $ free_all ! refl $ keep ! (5 ∷ 0 ∷ 2 ∷ 1 ∷ []) $
+    by ! (leaves 𝓛 ended hs c z (live 0 vnil) None (tt, (tt, tt)) (tt, (tt, tt))))
+    (λ wrong. absurd wrong)))
+    (λ b o x is some t. let w : Val = of_ptr (block_ptr b o) in let made : Val = both (vptr b o) h in let typed = loose_good R Z LZ ghosts b o h fits in
+    let v₁ : Val = live 1 (vcons made vnil) in
+    let d : L.Denot = record { at = block_ptr b o; alloc = a; value = x } in
+    let good : Good (layout Out) v₁ = (and_tt _ typed.0, (record { fits = lit< tt }, (typed.1, tt))) in
+    suffices ! (Run (w ∷ h ∷ [])) (starts (block_ptr b o) is) $
+    enter ! 𝓣.C 𝓣.Λ fn (w ∷ h ∷ []) Post $ alloc_all ! (λ l. pass_all ! refl ((tt, (tt, (tt, tt))), (fits, tt)) $ let Ev = env fn.locals l in
+    sets ! (of_opd ! (get_in ! (fld ! refl (stop !)) (sub ! 0 refl (whole !)))) refl (tt, tt) $
+    sets ! (bin ! (get ! refl) (lit ! tt) (tests_null (block_ptr b o) t)) refl (tt, tt) $
+    first ! $ branches ! (get ! refl) (λ wrong. absurd wrong)
+    (λ _. sets ! (agg ! (and_then ! (get ! refl) (and_then ! (get ! refl) (no_more !)))) refl typed $
+    sets_last ! (agg ! (and_then ! (lit ! tt) (and_then ! (get ! refl) (no_more !)))) refl good $
+    exec ! 𝓣.C 𝓣.Λ Ev (after 3 fn.body) (at_ret Ev Post) $ sets ! (of_opd ! (get ! refl)) refl good $
+    loose_in R Z LZ ghosts ! b o h a x $ use1 𝓛 (‵ (Out.own_val (Some d) (v₁ ∷ []))) (Some-of 𝓛 L d made) $
+    use0 𝓛 (raw (fact 𝓤 (v.machine ≡ Some x))) (fact_i 𝓤 (v.machine ≡ Some x) (emp 𝓤) some) $ nothing ! $ nothing ! $ fjoin ! $ nothing ! $ fjoin ! $
+    returns ! (look_at ! 0 refl) $ free_all ! refl $ keep ! (4 ∷ 0 ∷ 2 ∷ 1 ∷ []) $
+    by ! (leaves 𝓛 ended hs c z v₁ (Some d) (tt, (tt, tt)) (tt, (tt, tt)))))))))

@@ -1,0 +1,61 @@
+//! What is opened of bytes and of texts.
+
+ghost use Rattle.std.specs.Prelude.{◌≡◌, IfOk};
+ghost use Rattle.sc_text.specs.declared.language.Language.TheVariants as language;
+ghost use Rattle.embedded_machine.specs.Opened.{no_states};
+ghost use Rattle.embedded_machine.specs.Ticks.{SpellValid};
+ghost use Rattle.embedded_texts.specs.Texts.{AreOfChart, AreStatesOf, IsOpenedText};
+
+use crate::images::verified_image;
+use chart_reader::read_chart;
+use command_files::{Fault, compile_bytes, text_of};
+use compiler::CompileFault;
+use embedded_machine::{Opened, States};
+use sc_text::{Language, language_of};
+use std::alloc::Global;
+
+/// What these bytes spell as an image, in either version of the layout; nothing is known of a chart. Err: they spell
+/// none, or why it is not valid; or memory was refused.
+pub fn opened_image(alloc: Global, bytes: &[u8]) -> Result<Opened, Fault>
+    ensures valid { IfOk result (λ o. SpellValid bytes.now o.image) }
+    ensures states { IfOk result (λ o. o.states ≡ no_states) }
+{
+    let verified = verified_image(alloc, bytes)?;
+    Ok(Opened::of(verified, States::none(alloc)))
+}
+
+/// The image of the program, or of the chart, that this text spells, with the states of the chart. Err: it spells
+/// none, or why it has no image; or memory was refused.
+pub fn opened_text(alloc: Global, bytes: &[u8]) -> Result<Opened, Fault>
+    ensures { IfOk result (IsOpenedText bytes.now) }
+{
+    let verified = compile_bytes(alloc, bytes)?;
+    let text = text_of(bytes)?;
+    let states = states_of(alloc, text)?;
+    Ok(Opened::of(verified, states))
+}
+
+// The states of the chart that a text spells; none where it spells a program. Err: the first fault of the chart's
+// text, or why it is not expanded; or memory was refused.
+fn states_of(alloc: Global, text: &str) -> Result<States, Fault>
+    ensures { IfOk result (AreStatesOf text.now) }
+{
+    match language_of(text) {
+        Language::Chart => states_in(alloc, text),
+        Language::Scl => Ok(States::none(alloc)),
+    }
+}
+
+// The states of the chart that a text spells.
+fn states_in(alloc: Global, text: &str) -> Result<States, Fault>
+    ensures { IfOk result (AreOfChart text.now) }
+{
+    let chart = match read_chart(alloc, text) {
+        Ok(chart) => chart,
+        Err(fault) => return Err(Fault::Text(fault)),
+    };
+    match States::of_chart(alloc, &chart) {
+        Ok(states) => Ok(states),
+        Err(fault) => Err(Fault::Program(CompileFault::Expansion(fault))),
+    }
+}
