@@ -1,15 +1,13 @@
 -- The regions of a chart that keeps its rules, walked over at every depth; and that each region of a table has a state.
-use Rattle.std.proofs.Common.{◌≡◌, ℕ, zero, suc, ◌+◌, ◌<◌, ◌≤◌, Bool, true, false, not, ◌||◌, cond, Option, Some, None, List, [], ◌∷◌, ◌++◌, map, length}
+use Rattle.std.proofs.Common.{◌≡◌, ℕ, zero, suc, ◌+◌, ◌<◌, ◌≤◌, Bool, true, false, cond, Some, List, [], ◌∷◌, ◌++◌, map, length}
 use Rattle.std.proofs.Common.{count_by, slice_get, refl, sym, ap, subst, ◌∙◌, arith}
 use Rattle.std.specs.Prelude.{IsTrue}
 use Rattle.std.specs.List.{list_any}
 use Rattle.std.proofs.lemmas.List.Recursion.{is_count_by}
-use Rattle.std.proofs.lemmas.Option.{none-some}
 use Rattle.sc_graph.specs.declared.program.Variable.{Variable}
-use Rattle.sc_text.proofs.EachItem.{Each, each_of, each_append, each_at}
+use Rattle.sc_text.proofs.EachItem.{Each, each_of, each_append}
 use Rattle.core_charts.specs.declared.features.Features.{Features}
 use Rattle.core_charts.specs.declared.region.Region.{Region}
-use Rattle.core_charts.specs.declared.region.Region.TheOpen.{Region-F, State-F}
 use Rattle.core_charts.specs.declared.region.Region.TheViews.{out-Region, out-State}
 use Rattle.core_charts.specs.declared.region.Region.TheFolds.{fold_out-Region, fold_out-State}
 use Rattle.core_charts.specs.declared.region.State.{State}

@@ -1,18 +1,16 @@
 -- What the table of each expanded flat chart has, where aborts are around something.
-use Rattle.std.proofs.Common.{◌≡◌, ℕ, ◌+◌, ◌<◌, ◌≤◌, ◌⊎◌, inl, inr, ⊎_elim, Bool, true, false, ◌||◌, ◌&&◌, Option, Some, None, List, [], ◌∷◌, ◌++◌, map, length}
-use Rattle.std.proofs.Common.{slice_get, unwrap_or, Contains, refl, sym, ap, subst, ◌∙◌, arith}
+use Rattle.std.proofs.Common.{◌≡◌, ℕ, ◌+◌, ◌≤◌, ◌⊎◌, inl, inr, ⊎_elim, Bool, true, false, ◌||◌, ◌&&◌, Option, Some, None, List, [], ◌∷◌, ◌++◌, map, length}
+use Rattle.std.proofs.Common.{unwrap_or, Contains, refl, sym, ap, subst, ◌∙◌, arith}
 use Rattle.std.specs.Prelude.{reverse}
-use Rattle.std.specs.List.{list_any}
 use Rattle.std.proofs.lemmas.List.{reverse-append}
 use Rattle.std.proofs.lemmas.Option.{slice_get_past}
 use Rattle.core_charts.specs.declared.features.Features.TheVariants as features
 use Rattle.core_charts.specs.Chart.{Chart}
 use Rattle.core_charts.specs.Rules.{IsChart}
-use Rattle.core_charts.specs.declared.region.Transition.{Transition}
 use Rattle.chart_machine.specs.declared.table.StateRow.{StateRow}
 use Rattle.chart_machine.specs.declared.table.Table.{Table}
 use Rattle.chart_machine.specs.Table.{table}
-use Rattle.chart_machine_laws.specs.Tree.{IsTree, around, holder}
+use Rattle.chart_machine_laws.specs.Tree.{around, holder}
 use Rattle.chart_machine_laws.proofs.LyingIn.{none_in, head_in, tail_in, head_or_tail, around_around}
 use Rattle.chart_machine_laws.proofs.ChartTables.{within_or_past}
 use Rattle.abort_expansion.specs.declared.flags.Flags.{Flags}
@@ -20,7 +18,7 @@ use Rattle.abort_expansion.specs.Flags.{has_strong, has_weak, has_join, has_abor
 use Rattle.abort_expansion.specs.Superstates.{is_prepared}
 use Rattle.abort_expansion.specs.Expansion.{expanded}
 use Rattle.abort_expansion_laws.specs.Flat.{IsFlat}
-use Rattle.abort_expansion_laws.specs.CoreRows.{own, IsState, Images, flags_around}
+use Rattle.abort_expansion_laws.specs.CoreRows.{own, Images, flags_around}
 use Rattle.abort_expansion_laws.proofs.InsideLeaves.{FlatRows}
 use Rattle.abort_expansion_laws.proofs.AfterOpening.{one_in_other}
 use Rattle.abort_expansion_laws.proofs.Walked.{World, FlagsFit}

@@ -1,6 +1,6 @@
 -- In a flat chart no superstate with aborts lies inside another one with such, by the numbers of its table.
-use Rattle.std.proofs.Common.{◌≡◌, ℕ, zero, suc, ◌+◌, ◌<◌, ◌≤◌, ⊎_elim, Bool, true, false}
-use Rattle.std.proofs.Common.{not, ◌||◌, ◌&&◌, Some, List, [], ◌∷◌, map, slice_get, Contains, refl, sym}
+use Rattle.std.proofs.Common.{◌≡◌, ℕ, zero, suc, ◌+◌, ◌<◌, ⊎_elim, Bool, true, false}
+use Rattle.std.proofs.Common.{not, ◌||◌, ◌&&◌, List, [], ◌∷◌, map, Contains, refl, sym}
 use Rattle.std.proofs.Common.{ap, subst, ◌∙◌, arith}
 use Rattle.std.specs.List.{list_all, list_any}
 use Rattle.sc_graph.specs.declared.program.Variable.{Variable}
@@ -8,7 +8,7 @@ use Rattle.sc_text.proofs.EachItem.{Each, each_of}
 use Rattle.core_charts.specs.declared.features.Features.{Features}
 use Rattle.core_charts.specs.declared.features.Features.TheVariants as features
 use Rattle.core_charts.specs.declared.region.Region.{Region}
-use Rattle.core_charts.specs.declared.region.Region.TheOpen.{Region-F, State-F}
+use Rattle.core_charts.specs.declared.region.Region.TheOpen.{Region-F}
 use Rattle.core_charts.specs.declared.region.Region.TheViews.{out-Region, out-State}
 use Rattle.core_charts.specs.declared.region.Region.TheFolds.{fold_out-Region, fold_out-State}
 use Rattle.core_charts.specs.declared.region.State.{State}
@@ -21,9 +21,9 @@ use Rattle.chart_machine.specs.Table.{Piece, table, whole, side_by_side, behind,
 use Rattle.chart_machine.specs.Table.{region_piece, state_piece, piece_of_region, piece_of_state}
 use Rattle.chart_machine_laws.specs.Tree.{around, holder}
 use Rattle.chart_machine_laws.proofs.LyingIn.{none_in, head_or_tail}
-use Rattle.chart_machine_laws.proofs.RowsOfPieces.{Holds, IsSized, AllSized, state_sized, region_sized, side_states}
+use Rattle.chart_machine_laws.proofs.RowsOfPieces.{Holds, IsSized, AllSized, state_sized, region_sized}
 use Rattle.chart_machine_laws.proofs.TableTrees.{OnceInitial}
-use Rattle.chart_machine_laws.proofs.ChartTables.{holds_whole, within_or_past}
+use Rattle.chart_machine_laws.proofs.ChartTables.{holds_whole}
 use Rattle.abort_expansion.specs.Flags.{has_aborts}
 use Rattle.abort_expansion_laws.specs.Flat.{Nesting, region_nesting, state_nesting, nesting_of_region, nesting_of_state, IsFlat}
 use Rattle.abort_expansion_laws.specs.CoreRows.{own}

@@ -1,11 +1,9 @@
 -- Where the states of one region stand in a table, one after the other, and what is inside them.
-use Rattle.std.proofs.Common.{◌≡◌, ℕ, suc, ◌+◌, ⊎_elim, Bool, true, false, List, [], ◌∷◌, ◌++◌, length, refl, sym, subst, ◌∙◌, arith, if◌then◌else◌}
+use Rattle.std.proofs.Common.{◌≡◌, ℕ, ◌+◌, Bool, true, false, List, [], ◌∷◌, ◌++◌, length, refl, sym, subst, arith, if◌then◌else◌}
 use Rattle.chart_machine.specs.declared.table.Table.{Table}
 use Rattle.chart_machine.specs.declared.table.TablePosition.{TablePosition}
-use Rattle.chart_machine.specs.declared.table.SubtreeRows.{SubtreeRows}
 use Rattle.chart_machine.specs.declared.table.StatesRows.{StatesRows}
-use Rattle.chart_machine.specs.Table.{Piece, states_in, regions_in, with_region, past_states, rows_of_state_at, next_behind, in_region, followed_by}
-use Rattle.chart_machine.specs.Table.{regions_in_initial}
+use Rattle.chart_machine.specs.Table.{Piece, states_in, with_region, past_states, rows_of_state_at, next_behind, in_region, followed_by}
 use Rattle.chart_machine_laws.proofs.RowsOfPieces.{StatesAt, RegionsAt, Holds, states_from, states_first, states_second, regions_from, regions_first}
 use Rattle.chart_machine_laws.proofs.RowsOfPieces.{regions_second, IsSized, AllSized}
 use Rattle.chart_machine_laws.proofs.TableTrees.{NoneInitial, OnceInitial, none_first}

@@ -1,15 +1,13 @@
 -- Each tick but the first begins with related configurations, without a step.
-use Rattle.std.proofs.Common.{◌≡◌, ◌≢◌, ℕ, suc, ◌+◌, ◌<◌, ◌≤◌, Bool, true, false, Option, Some, None, List, [], ◌∷◌, ◌++◌, map, length, slice_get, Contains}
+use Rattle.std.proofs.Common.{◌≡◌, ◌≢◌, ℕ, suc, ◌≤◌, Bool, true, false, Option, Some, None, List, [], ◌∷◌, ◌++◌, length, slice_get, Contains}
 use Rattle.std.proofs.Common.{zero, ◌&&◌, unwrap_or}
 use Rattle.std.specs.List.{list_all}
 use Rattle.chart_machine.specs.Machine.{is_outside}
 use Rattle.std.proofs.Common.{refl, sym, ap, subst, ◌∙◌, arith}
 use Rattle.std.proofs.lemmas.List.{length-append, length-map}
-use Rattle.sc_values.specs.declared.value.Value.{Value}
-use Rattle.sc_values.specs.declared.value.Value.TheVariants as value_is
 use Rattle.sc_graph.specs.Tick.{Inputs, values_at_start}
 use Rattle.core_charts.specs.declared.region.Transition.{Transition}
-use Rattle.core_charts.specs.Tests.{strong_aborts, weak_aborts, terminations, closing_tests, is_strong, is_weak, is_join}
+use Rattle.core_charts.specs.Tests.{strong_aborts, weak_aborts, closing_tests, is_strong, is_weak, is_join}
 use Rattle.core_charts.specs.declared.region.TransitionKind.{TransitionKind}
 use Rattle.core_charts.specs.declared.region.TransitionKind.TheVariants as kind
 use Rattle.chart_machine.specs.declared.standing.Standing.{Standing}

@@ -1,29 +1,24 @@
 -- What more the table of each expanded chart has: the map of states, flags and counters, and what nothing lies inside of.
 use Rattle.std.proofs.Common.{◌≡◌, ◌≢◌, ℕ, zero, suc, ◌+◌, ◌<◌, ◌≤◌, ◌⊎◌, inl, inr, ⊎_elim, Bool, true, false, ◌||◌, ◌&&◌, Option, Some, None, List, []}
 use Rattle.std.proofs.Common.{◌∷◌, ◌++◌, map, length, slice_get, Contains, refl, sym, ap, subst, ◌∙◌, arith, if◌then◌else◌}
-use Rattle.std.specs.Prelude.{nat_eq, option_map}
-use Rattle.std.proofs.lemmas.Bool.Decides.{Decides-eqb}
+use Rattle.std.specs.Prelude.{option_map}
 use Rattle.std.proofs.lemmas.Option.{same_Some, slice_get_within}
 use Rattle.sc_values.specs.declared.value.Kind.TheVariants as kind_is
 use Rattle.sc_graph.specs.Steps.{takes_kind}
 use Rattle.core_charts.specs.declared.features.Features.TheVariants as features
 use Rattle.core_charts.specs.Chart.{Chart}
 use Rattle.core_charts.specs.Rules.{IsChart}
-use Rattle.core_charts.specs.declared.region.Region.{Region}
-use Rattle.core_charts.specs.declared.region.Region.TheViews.{out-Region}
-use Rattle.core_charts.specs.declared.region.Region.TheFolds.{fold_out-Region}
-use Rattle.core_charts.specs.declared.region.Transition.{Transition}
 use Rattle.chart_machine.specs.declared.table.StateRow.{StateRow}
 use Rattle.chart_machine.specs.declared.table.Table.{Table}
-use Rattle.chart_machine.specs.Table.{Piece, table, state_at, region_numbers, region_piece, state_piece, piece_of_region as table_of_region}
+use Rattle.chart_machine.specs.Table.{table, state_at}
 use Rattle.chart_machine.specs.Turns.{inside}
-use Rattle.chart_machine_laws.specs.Tree.{IsThere, IsTree, around, holder}
-use Rattle.chart_machine_laws.proofs.LyingIn.{none_in, head_in, tail_in, head_or_tail}
+use Rattle.chart_machine_laws.specs.Tree.{around, holder}
+use Rattle.chart_machine_laws.proofs.LyingIn.{head_in, head_or_tail}
 use Rattle.chart_machine_laws.proofs.ChartTables.{within_or_past, around_there, no_regions_past}
 use Rattle.abort_expansion.specs.declared.flags.Flags.{Flags}
-use Rattle.abort_expansion.specs.Flags.{has_strong, has_weak, has_join, has_aborts, counts, given, one, flags_of, weak_around, local}
+use Rattle.abort_expansion.specs.Flags.{has_strong, has_weak, has_join, has_aborts, counts, given, one, weak_around, local}
 use Rattle.abort_expansion.specs.Superstates.{stays, is_prepared}
-use Rattle.abort_expansion.specs.Expansion.{expanded, state_map}
+use Rattle.abort_expansion.specs.Expansion.{expanded}
 use Rattle.abort_expansion_laws.specs.CoreRows.{own, IsState, IsSuper, IsSimple, Images, flags_around, CoreRows}
 use Rattle.abort_expansion_laws.proofs.AllLeave.{inside_around}
 use Rattle.abort_expansion_laws.proofs.TablesCorrespond.{contains_map}

@@ -1,5 +1,5 @@
 -- What entering the regions of a superstate makes of regions, it makes of those inside of the superstate alone.
-use Rattle.std.proofs.Common.{◌≡◌, ◌≢◌, ℕ, zero, suc, ◌+◌, ◌<◌, ◌≤◌, ⊎_elim, Bool, true, false, Some, List, [], ◌∷◌, ◌++◌, map, length, slice_get, slice_set}
+use Rattle.std.proofs.Common.{◌≡◌, ℕ, zero, suc, ◌+◌, ◌<◌, ⊎_elim, Bool, true, false, List, [], ◌∷◌, ◌++◌, map, length, slice_set}
 use Rattle.std.proofs.Common.{Contains, refl, sym, ap, subst, ◌∙◌, arith}
 use Rattle.sc_graph.specs.declared.program.Variable.{Variable}
 use Rattle.sc_text.proofs.EachItem.{Each, each_of, each_append, each_more}
@@ -21,7 +21,7 @@ use Rattle.chart_machine.specs.Table.{Piece, table, whole, state_at, side_by_sid
 use Rattle.chart_machine.specs.Table.{regions_in_initial, rows_of_state_at, in_region, come_to, region_piece, state_piece, piece_of_region, piece_of_state}
 use Rattle.chart_machine.specs.Table.{entered_state, is_superstate}
 use Rattle.chart_machine.specs.Steps.{moved}
-use Rattle.chart_machine_laws.specs.Tree.{around, holder}
+use Rattle.chart_machine_laws.specs.Tree.{around}
 use Rattle.chart_machine_laws.proofs.LyingIn.{none_in, head_in, tail_in, head_or_tail}
 use Rattle.chart_machine_laws.proofs.RowsOfPieces.{Holds, IsSized, AllSized, state_sized, region_sized, side_states}
 use Rattle.chart_machine_laws.proofs.TableTrees.{OnceInitial}

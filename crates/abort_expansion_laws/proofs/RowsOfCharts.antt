@@ -1,35 +1,27 @@
 -- The table of each expanded chart has the rows that the simulation takes of it.
-use Rattle.std.proofs.Common.{◌≡◌, ◌≢◌, ℕ, zero, suc, ◌+◌, ◌<◌, ◌≤◌, ◌⊎◌, inl, inr, ⊎_elim}
-use Rattle.std.proofs.Common.{Bool, true, false, ◌||◌, ◌&&◌, Option, Some, None, List, [], ◌∷◌, ◌++◌}
+use Rattle.std.proofs.Common.{◌≡◌, ℕ, zero, suc, ◌+◌, ◌<◌, ◌≤◌, ◌⊎◌, inl, inr, ⊎_elim}
+use Rattle.std.proofs.Common.{Bool, true, false, ◌||◌, Some, None, List, [], ◌∷◌}
 use Rattle.std.proofs.Common.{map, length, slice_get, unwrap_or, Contains, refl, sym, ap, subst, ◌∙◌, arith}
-use Rattle.std.specs.Prelude.{filter}
-use Rattle.std.specs.List.{list_any}
-use Rattle.std.proofs.lemmas.Option.{none-some, same_Some, slice_get_past}
-use Rattle.sc_text.proofs.EachItem.{each_at}
+use Rattle.std.proofs.lemmas.Option.{same_Some}
 use Rattle.core_charts.specs.declared.features.Features.TheVariants as features
 use Rattle.core_charts.specs.Chart.{Chart}
-use Rattle.core_charts.specs.Rules.{IsChart, depth_limit}
+use Rattle.core_charts.specs.Rules.{IsChart}
 use Rattle.core_charts.specs.declared.region.Transition.{Transition}
 use Rattle.core_charts.specs.Tests.{strong_aborts, weak_aborts, is_strong, is_weak}
-use Rattle.chart_machine.specs.declared.table.StateRow.{StateRow}
-use Rattle.chart_machine.specs.declared.table.RegionRow.{RegionRow}
 use Rattle.chart_machine.specs.declared.table.Table.{Table}
-use Rattle.chart_machine.specs.Table.{table, whole, state_at, region_at, states_in, piece_of_region as table_of_region}
+use Rattle.chart_machine.specs.Table.{table}
 use Rattle.chart_machine.specs.Steps.{state_in}
 use Rattle.chart_machine_laws.specs.Tree.{IsThere, IsTree, around, holder}
 use Rattle.chart_machine_laws.proofs.LyingIn.{none_in, head_or_tail}
 use Rattle.chart_machine_laws.proofs.ChartTables.{chart_is_tree, nothing_around, within_or_past, no_regions_past}
-use Rattle.abort_expansion.specs.declared.flags.Flags.{Flags}
-use Rattle.abort_expansion.specs.Flags.{has_strong, has_weak, has_join, has_aborts, counts, given, one, flags_of, weak_around, aborts_around, is_there}
-use Rattle.abort_expansion.specs.Superstates.{stays, is_prepared}
+use Rattle.abort_expansion.specs.Flags.{has_strong, has_weak, has_aborts, counts, one, flags_of, weak_around}
 use Rattle.abort_expansion.specs.Expansion.{expanded, expansion}
-use Rattle.abort_expansion_laws.specs.CoreRows.{own, IsState, is_final, IsSuper, IsSimple, Images, flags_around, CoreRows}
-use Rattle.abort_expansion_laws.specs.CoreRows.{RegionImage, SimpleImage, FinalImage, StayingImage, SplitImage, WatcherImage}
+use Rattle.abort_expansion_laws.specs.CoreRows.{own, IsState, IsSuper, Images, flags_around, CoreRows}
+use Rattle.abort_expansion_laws.specs.CoreRows.{WatcherImage}
 use Rattle.abort_expansion_laws.proofs.TablesCorrespond.{contains_map}
 use Rattle.abort_expansion_laws.proofs.Walked.{World, StateImage, images_of, RegionFits, StateFits, FlagsFit, WatcherFits, Origin, thread, watcher, OwnerFits}
 use Rattle.abort_expansion_laws.proofs.Walked.{past_thread, thread_by, IsFlag}
-use Rattle.abort_expansion_laws.proofs.ChartWalk.{rows_have, HasState}
-use Rattle.abort_expansion_laws.proofs.WalkedWhole.{world, facts, chart_size, core_size, image_past, owner_else, top}
+use Rattle.abort_expansion_laws.proofs.WalkedWhole.{world, facts, chart_size, core_size, image_past, owner_else}
 use Rattle.abort_expansion_laws.proofs.TableEnds.{first_state, no_holder_past, no_entered_past, no_states_past, any_first}
 use Rattle.abort_expansion_laws.proofs.TableEnds.{given_some, given_is}
 

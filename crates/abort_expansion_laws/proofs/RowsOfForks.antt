@@ -1,16 +1,14 @@
 -- The rows of a fork and of a monitor, where they stand in the table of a core chart.
-use Rattle.std.proofs.Common.{◌≡◌, ℕ, suc, ◌+◌, Bool, true, false, List, [], ◌∷◌, ◌++◌, map, length, refl, sym, ap, subst, ◌∙◌, arith}
+use Rattle.std.proofs.Common.{◌≡◌, ℕ, suc, ◌+◌, Bool, true, false, List, [], ◌∷◌, map, length, refl, sym, ap, subst, ◌∙◌, arith}
 use Rattle.core_charts.specs.declared.region.Region.{Region}
 use Rattle.core_charts.specs.declared.region.Transition.{Transition}
-use Rattle.core_charts.specs.declared.region.Region.TheOpen.{Region-F, State-F}
-use Rattle.core_charts.specs.declared.region.Region.TheViews.{roll-Region, out-Region}
+use Rattle.core_charts.specs.declared.region.Region.TheOpen.{Region-F}
+use Rattle.core_charts.specs.declared.region.Region.TheViews.{out-Region}
 use Rattle.core_charts.specs.declared.region.Region.TheFolds.{fold-roll-Region, fold_out-Region}
 use Rattle.core_charts.specs.declared.region.State.{State}
-use Rattle.core_charts.specs.Tests.{at_once, strong_aborts, weak_aborts, terminations}
+use Rattle.core_charts.specs.Tests.{strong_aborts, weak_aborts}
 use Rattle.chart_machine.specs.declared.standing.Standing.TheVariants as at
 use Rattle.chart_machine.specs.declared.standing.Move.{Move}
-use Rattle.chart_machine.specs.declared.table.StateRow.{StateRow}
-use Rattle.chart_machine.specs.declared.table.RegionRow.{RegionRow}
 use Rattle.chart_machine.specs.declared.table.StatesRows.{StatesRows}
 use Rattle.chart_machine.specs.declared.table.Table.{Table}
 use Rattle.chart_machine.specs.declared.table.TablePosition.{TablePosition}
@@ -25,8 +23,8 @@ use Rattle.chart_machine_laws.specs.Tree.{around}
 use Rattle.chart_machine_laws.proofs.RowsOfPieces.{Holds, IsSized, AllSized, regions_first, regions_second, regions_from, inner_first, region_sized}
 use Rattle.chart_machine_laws.proofs.TableTrees.{OnceInitial}
 use Rattle.abort_expansion_laws.specs.CoreRows.{simple_row, fork_row}
-use Rattle.abort_expansion_laws.proofs.SimpleRows.{rolled, rolled_piece}
-use Rattle.abort_expansion_laws.proofs.InRegionRows.{InRegionAt, first_holds, rest_holds, spot_of}
+use Rattle.abort_expansion_laws.proofs.SimpleRows.{rolled}
+use Rattle.abort_expansion_laws.proofs.InRegionRows.{InRegionAt, rest_holds}
 use Rattle.abort_expansion_laws.proofs.WalkSimple.{one_row, one_sized, one_begins, one_state}
 
 -- ---- a region: its row, and its states

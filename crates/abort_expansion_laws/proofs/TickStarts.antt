@@ -1,12 +1,11 @@
 -- The start of each tick but the first: what rests alike is related when it is woken.
-use Rattle.std.proofs.Common.{◌≡◌, ◌≢◌, ℕ, zero, suc, ◌+◌, ◌<◌, ◌≤◌, ◌⊎◌, inl, inr, ⊎_elim, Bool, true, false, not, ◌||◌, ◌&&◌, Option, Some, None, List, []}
-use Rattle.std.proofs.Common.{◌∷◌, ◌++◌, map, length, slice_get, unwrap_or, Contains, refl, sym, ap, subst, ◌∙◌, arith, if◌then◌else◌}
-use Rattle.std.specs.Prelude.{filter, reverse, flat_map}
-use Rattle.std.specs.List.{list_all, list_any}
+use Rattle.std.proofs.Common.{◌≡◌, ◌≢◌, ℕ, zero, suc, ◌<◌, ◌≤◌, ◌⊎◌, inl, inr, ⊎_elim, Bool, true, false, not, ◌||◌, Option, Some, None, List, []}
+use Rattle.std.proofs.Common.{◌∷◌, ◌++◌, map, length, unwrap_or, Contains, refl, sym, ap, subst, ◌∙◌, arith}
+use Rattle.std.specs.Prelude.{filter, reverse}
+use Rattle.std.specs.List.{list_any}
 use Rattle.std.proofs.lemmas.List.{append_assoc, append-nil, length-map}
 use Rattle.std.proofs.lemmas.List.Folds.{flat_map-map}
 use Rattle.std.proofs.lemmas.Option.{slice_get_past}
-use Rattle.sc_values.specs.declared.value.Value.{Value}
 use Rattle.sc_graph.specs.Tick.{Inputs, values_at_start}
 use Rattle.core_charts.specs.declared.region.Transition.{Transition}
 use Rattle.core_charts.specs.Tests.{strong_aborts, weak_aborts, terminations, closing_tests, is_strong, is_weak, is_join}
@@ -21,20 +20,20 @@ use Rattle.chart_machine.specs.Machine.{woken, guarded_first}
 use Rattle.abort_expansion.specs.declared.flags.Flags.{Flags}
 use Rattle.abort_expansion.specs.Flags.{has_strong, has_weak, has_join, has_aborts, aborts_around}
 use Rattle.abort_expansion.specs.Transitions.{check, led, strong_checks, weak_checks, raising}
-use Rattle.abort_expansion.specs.Superstates.{stays, all_ended}
+use Rattle.abort_expansion.specs.Superstates.{stays}
 use Rattle.chart_machine_laws.specs.Tree.{IsNested, IsThere, around, holder}
 use Rattle.abort_expansion_laws.specs.CoreRows.{own, IsState, IsSuper, IsSimple, joins, Images, CoreRows, flags_around}
-use Rattle.abort_expansion_laws.specs.Related.{Each, AreAmong, raise_each, front, held_back, tests_of}
+use Rattle.abort_expansion_laws.specs.Related.{Each, front, held_back, tests_of}
 use Rattle.abort_expansion_laws.specs.Related.{is_behind, Stands, outside, ended, left, trying, guarding}
-use Rattle.abort_expansion_laws.specs.Related.{staying, within, behind, Watches, guards, waits, elsewhere, still_in, not_ended, Stores, IsInside, guarded}
-use Rattle.abort_expansion_laws.specs.Related.{open_inside, FlagsAreDown, Closes, Related, IsCalm, calm_outside, calm_ended, calm_trying, calm_within}
+use Rattle.abort_expansion_laws.specs.Related.{staying, within, behind, IsInside, guarded}
+use Rattle.abort_expansion_laws.specs.Related.{open_inside}
 use Rattle.abort_expansion_laws.proofs.StageReached.{any_in}
 use Rattle.abort_expansion_laws.proofs.InsideLeaves.{FlatRows, none_checked}
 use Rattle.abort_expansion_laws.proofs.Owed.{RestsIn, rests_outside, rests_ended, rests_left}
-use Rattle.abort_expansion_laws.proofs.Owed.{rests_trying, rests_staying, rests_within, rests_behind, WatchRests}
-use Rattle.abort_expansion_laws.proofs.Owed.{watch_within, watch_elsewhere, Resting}
-use Rattle.abort_expansion_laws.proofs.WokenConfigurations.{numbered_from, numbered_are, all_among, raising_is, each_kept, IsLocal, variables_started}
-use Rattle.abort_expansion_laws.proofs.WokenConfigurations.{started_size, behind_same, woken_at, woken_ended, present_before, present_after, guards_then}
+use Rattle.abort_expansion_laws.proofs.Owed.{rests_trying, rests_staying, rests_within, rests_behind}
+use Rattle.abort_expansion_laws.proofs.Owed.{Resting}
+use Rattle.abort_expansion_laws.proofs.WokenConfigurations.{IsLocal}
+use Rattle.abort_expansion_laws.proofs.WokenConfigurations.{woken_at, woken_ended, guards_then}
 use Rattle.abort_expansion_laws.proofs.WokenConfigurations.{open_then, behind_too}
 
 -- ---- of transitions

@@ -1,5 +1,5 @@
 -- A superstate that is split: its fork, with a monitor where it has aborts, and its continuation, over what is inside it.
-use Rattle.std.proofs.Common.{◌≡◌, ◌≢◌, ℕ, suc, ◌+◌, ◌<◌, ◌≤◌, Bool, true, false, ◌||◌, Option, Some, None, List, [], ◌∷◌, ◌++◌, map, length, refl, sym, ap}
+use Rattle.std.proofs.Common.{◌≡◌, ◌≢◌, ℕ, suc, ◌+◌, ◌<◌, Bool, true, false, ◌||◌, Some, List, [], ◌∷◌, ◌++◌, map, length, refl, sym, ap}
 use Rattle.std.proofs.Common.{subst, ◌∙◌, arith, unwrap_or, if◌then◌else◌}
 use Rattle.std.specs.Prelude.{reverse}
 use Rattle.std.proofs.lemmas.List.{length-append, map-append, reverse-append}
@@ -13,7 +13,7 @@ use Rattle.chart_machine.specs.declared.table.TablePosition.{TablePosition}
 use Rattle.chart_machine.specs.Table.{Piece, state_at, region_at, states_in, regions_in, region_numbers, state_numbers, side_by_side, state_piece}
 use Rattle.chart_machine.specs.Table.{within as table_within, piece_of_region as table_of_region, piece_of_state as table_of_state, past_states, next_behind}
 use Rattle.chart_machine.specs.Table.{come_to}
-use Rattle.chart_machine.specs.Steps.{to, state_in}
+use Rattle.chart_machine.specs.Steps.{state_in}
 use Rattle.core_charts.specs.Tests.{at_once, strong_aborts, first_closing_tests}
 use Rattle.abort_expansion.specs.declared.flags.Flags.{Flags}
 use Rattle.abort_expansion.specs.declared.places.Places.{Places}
@@ -21,27 +21,25 @@ use Rattle.abort_expansion.specs.declared.pieces.States.{States}
 use Rattle.abort_expansion.specs.declared.pieces.Regions.{Regions}
 use Rattle.abort_expansion.specs.declared.pieces.Numbers.{Numbers}
 use Rattle.abort_expansion.specs.Flags.{has_aborts, has_weak, flag_count, flags_of, weak_around, declarations, continuation_name}
-use Rattle.abort_expansion.specs.Pieces.{RegionPiece, expanded_regions, variables_in}
+use Rattle.abort_expansion.specs.Pieces.{expanded_regions, variables_in}
 use Rattle.abort_expansion.specs.Superstates.{stays, is_prepared, within, forked, fork, watched, monitor, continuation}
 use Rattle.abort_expansion.specs.Expansion.{piece_of_region}
 use Rattle.chart_machine_laws.specs.Tree.{IsThere, around, holder}
 use Rattle.chart_machine_laws.proofs.RowsOfPieces.{Holds, IsSized, AllSized, state_sized}
 use Rattle.chart_machine_laws.proofs.TableTrees.{NoneInitial, OnceInitial}
-use Rattle.scl_graph_laws.proofs.Segments.{StandAt, stand_from, stand_first, stand_second}
-use Rattle.abort_expansion_laws.specs.CoreRows.{own, IsState, is_final, ends, IsSuper, IsSimple, joins, simple_row, fork_row, Images, counter_over, watchers}
-use Rattle.abort_expansion_laws.specs.CoreRows.{SplitImage}
-use Rattle.abort_expansion_laws.proofs.SimpleRows.{rolled, rolled_piece}
+use Rattle.scl_graph_laws.proofs.Segments.{stand_from, stand_first, stand_second}
+use Rattle.abort_expansion_laws.specs.CoreRows.{own, IsState, is_final, ends, IsSuper, joins, simple_row, fork_row, watchers}
+use Rattle.abort_expansion_laws.proofs.SimpleRows.{rolled_piece}
 use Rattle.abort_expansion_laws.proofs.InRegionRows.{InRegionAt, first_holds, rest_holds, spot_of}
-use Rattle.abort_expansion_laws.proofs.SideRows.{past_side, side_head, side_first, side_second, states_append, regions_append, sized_append, numbers_append}
+use Rattle.abort_expansion_laws.proofs.SideRows.{past_side, side_first, side_second, states_append, sized_append, numbers_append}
 use Rattle.abort_expansion_laws.proofs.Walked.{World, StateImage, ValuesAt, values_from, values_first, values_second, images_of, i, RegionFits, StateFits}
 use Rattle.abort_expansion_laws.proofs.Walked.{CoreStateFits, Origin, thread, watcher, OwnerFits, InRegion, Range, range_none, range_one, range_both, range_to}
 use Rattle.abort_expansion_laws.proofs.Walked.{FlagsFit, WatcherFits, range_more, behind_by}
-use Rattle.abort_expansion_laws.proofs.Walks.{Part, Fits, Entries, StateStands, RegionsStand, StateWalk, RegionsWalk, RegionWalks, pieces_of}
+use Rattle.abort_expansion_laws.proofs.Walks.{Part, Fits, StateStands, RegionsStand, RegionsWalk, RegionWalks, pieces_of}
 use Rattle.abort_expansion_laws.proofs.WalkSide.{walk_side}
 use Rattle.abort_expansion_laws.proofs.LocalImages.{Located, split_image, preparing, continuing}
 use Rattle.abort_expansion_laws.proofs.WalkSimple.{state_there, region_there, located, one_row, one_sized, one_begins, one_state}
-use Rattle.abort_expansion_laws.proofs.RowsOfForks.{region_around, some_regions, super_row, super_inside, watching, MonitorRows, monitor_rows, monitor_sized}
-use Rattle.abort_expansion_laws.proofs.RowsOfForks.{monitor_states}
+use Rattle.abort_expansion_laws.proofs.RowsOfForks.{some_regions, super_row, watching, MonitorRows}
 use Rattle.abort_expansion_laws.proofs.FlagOwners.{flag_owners, owners_long, declarations_long, flags_owned, flags_declared, owners_range, weak_inside}
 use Rattle.abort_expansion_laws.proofs.AddedMonitors.{watched_sized, no_entries, watched_many, watched_numbers, monitor_there}
 use Rattle.abort_expansion_laws.proofs.AddedMonitors.{none_first, first_around, numbers_many}

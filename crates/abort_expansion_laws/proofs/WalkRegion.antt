@@ -1,51 +1,45 @@
 -- A region of a chart, and its thread.
-use Rattle.std.proofs.Common.{◌≡◌, ℕ, zero, suc, ◌+◌, ◌<◌, ◌≤◌, ⊎_elim, Bool, true, false}
-use Rattle.std.proofs.Common.{◌||◌, ◌&&◌, Option, Some, None, List, [], ◌∷◌, ◌++◌, map, length, slice_get}
-use Rattle.std.proofs.Common.{unwrap_or, refl, sym, ap, subst, ◌∙◌, arith, if◌then◌else◌}
+use Rattle.std.proofs.Common.{◌≡◌, ℕ, suc, ◌+◌, ◌<◌, Bool, true, false}
+use Rattle.std.proofs.Common.{Option, Some, List, [], ◌∷◌, ◌++◌, map, length, slice_get}
+use Rattle.std.proofs.Common.{unwrap_or, refl, sym, ap, subst, ◌∙◌, arith}
 use Rattle.std.specs.List.{list_any}
 use Rattle.std.proofs.lemmas.List.{length-append, map-append}
-use Rattle.std.proofs.lemmas.Option.{none-some, slice_get_past}
 use Rattle.sc_text.proofs.EachItem.{Each}
 use Rattle.core_charts.specs.declared.region.Region.{Region}
 use Rattle.core_charts.specs.declared.region.Region.TheOpen.{Region-F}
 use Rattle.core_charts.specs.declared.region.Region.TheViews.{roll-Region, out-Region}
 use Rattle.core_charts.specs.declared.region.Region.TheFolds.{fold-roll-Region, fold_out-Region}
 use Rattle.core_charts.specs.declared.region.State.{State}
-use Rattle.chart_machine.specs.declared.standing.Standing.TheVariants as at
-use Rattle.chart_machine.specs.declared.table.RegionRow.{RegionRow}
-use Rattle.chart_machine.specs.declared.table.Table.{Table}
 use Rattle.chart_machine.specs.declared.table.TablePosition.{TablePosition}
-use Rattle.chart_machine.specs.Table.{Piece, state_at, region_at, states_in, regions_in}
-use Rattle.chart_machine.specs.Table.{region_numbers, state_numbers, past_states, inside_region, side_by_side}
+use Rattle.chart_machine.specs.Table.{Piece, region_at, states_in}
+use Rattle.chart_machine.specs.Table.{state_numbers, past_states, inside_region}
 use Rattle.chart_machine.specs.Table.{regions_in_initial, piece_of_state as table_of_state, piece_of_region as table_of_region}
 use Rattle.chart_machine.specs.Table.{region_piece as table_region_piece, state_piece as table_state_piece}
-use Rattle.chart_machine.specs.Steps.{to, state_in}
+use Rattle.chart_machine.specs.Steps.{state_in}
 use Rattle.chart_machine_laws.specs.Tree.{IsThere, around, holder}
 use Rattle.chart_machine_laws.proofs.RowsOfPieces.{Holds, IsSized, AllSized, region_sized}
-use Rattle.chart_machine_laws.proofs.TableTrees.{NoneInitial, OnceInitial}
-use Rattle.chart_machine_laws.proofs.ChartTables.{within_or_past}
+use Rattle.chart_machine_laws.proofs.TableTrees.{OnceInitial}
 use Rattle.scl_graph_laws.proofs.Segments.{StandAt, stand_from, stand_first, stand_second, stand_all}
 use Rattle.abort_expansion.specs.declared.flags.Flags.{Flags}
 use Rattle.abort_expansion.specs.declared.places.Places.{Places}
 use Rattle.abort_expansion.specs.declared.pieces.States.{States}
 use Rattle.abort_expansion.specs.declared.pieces.Regions.{Regions}
 use Rattle.abort_expansion.specs.declared.pieces.Numbers.{Numbers}
-use Rattle.abort_expansion.specs.Flags.{weak_around, aborts_around, one, abandoned_name, first_name}
-use Rattle.abort_expansion.specs.Transitions.{go, on, count_down, place_of}
-use Rattle.abort_expansion.specs.Pieces.{RegionPiece, StatePiece, beside}
-use Rattle.abort_expansion.specs.Expansion.{piece_of_region, piece_of_state, region_piece, state_piece, expanded_states, places, widths, states_among}
+use Rattle.abort_expansion.specs.Flags.{weak_around, aborts_around, one}
+use Rattle.abort_expansion.specs.Pieces.{RegionPiece, StatePiece}
+use Rattle.abort_expansion.specs.Expansion.{piece_of_region, region_piece, state_piece, expanded_states, places, states_among}
 use Rattle.abort_expansion.specs.Expansion.{variables_among, begins_anew, initial_place, initial_number}
 use Rattle.abort_expansion.specs.Expansion.{new_initial, left_behind, region_places, region_over, named}
-use Rattle.abort_expansion_laws.specs.CoreRows.{is_final, Images, flags_around, counter_over, RegionImage}
-use Rattle.abort_expansion_laws.proofs.InRegionRows.{InRegionAt, more_hold, next_past, none_append, once_append, none_once}
+use Rattle.abort_expansion_laws.specs.CoreRows.{is_final, flags_around, counter_over, RegionImage}
+use Rattle.abort_expansion_laws.proofs.InRegionRows.{InRegionAt, more_hold, next_past, none_append, once_append}
 use Rattle.abort_expansion_laws.proofs.SideRows.{states_append, sized_append, side_head}
-use Rattle.abort_expansion_laws.proofs.Walked.{World, StateImage, ValuesAt, values_from, values_first, values_second, images_of, i, RegionFits, InRegion}
-use Rattle.abort_expansion_laws.proofs.Walked.{CoreStateFits, thread, Range, range_none, range_one, range_both, range_to, StateFits, OwnerFits, past_thread}
+use Rattle.abort_expansion_laws.proofs.Walked.{World, ValuesAt, values_from, values_first, values_second, i, RegionFits, InRegion}
+use Rattle.abort_expansion_laws.proofs.Walked.{CoreStateFits, thread, Range, range_both, range_to}
 use Rattle.abort_expansion_laws.proofs.Walked.{thread_by, places_by}
-use Rattle.abort_expansion_laws.proofs.Walks.{Part, Fits, Entries, RegionsStand, RegionsWalk, RegionWalks, StateWalks, pieces_of}
+use Rattle.abort_expansion_laws.proofs.Walks.{Fits, RegionsStand, RegionsWalk, RegionWalks, StateWalks, pieces_of}
 use Rattle.abort_expansion_laws.proofs.WalkSimple.{one_row, one_sized, one_begins, one_state}
 use Rattle.abort_expansion_laws.proofs.RowsOfForks.{region_rows}
-use Rattle.abort_expansion_laws.proofs.WalkStates.{expanded_pieces, EachPlace, FirstFits, BeginsWith, StatesStand, StatesWalk, walk_states, numbers_append}
+use Rattle.abort_expansion_laws.proofs.WalkStates.{expanded_pieces, EachPlace, FirstFits, StatesStand, StatesWalk, walk_states, numbers_append}
 use Rattle.abort_expansion_laws.proofs.WalkStates.{numbers_long, pieces_long}
 use Rattle.abort_expansion_laws.proofs.StatePlaces.{region_there_at, each_place, first_there, initial_held, begins_where, first_number}
 use Rattle.abort_expansion_laws.proofs.RegionEnds.{new_sized, new_many, new_long, new_variables, new_once, new_held, left_sized}

@@ -1,22 +1,21 @@
 -- The regions of one superstate, or of the chart, walked over one after the other.
-use Rattle.std.proofs.Common.{◌≡◌, ℕ, suc, ◌+◌, ◌≤◌, Option, List, [], ◌∷◌, ◌++◌, map, length, refl, sym, ap, subst, ◌∙◌, arith}
+use Rattle.std.proofs.Common.{◌≡◌, ℕ, ◌+◌, Option, List, [], ◌∷◌, ◌++◌, map, length, refl, sym, ap, subst, ◌∙◌, arith}
 use Rattle.std.proofs.lemmas.List.{length-append, map-append}
-use Rattle.sc_graph.specs.declared.program.Variable.{Variable}
 use Rattle.sc_text.proofs.EachItem.{Each}
 use Rattle.core_charts.specs.declared.region.Region.{Region}
 use Rattle.chart_machine.specs.declared.table.TablePosition.{TablePosition}
 use Rattle.chart_machine.specs.Table.{Piece, states_in, regions_in, behind, side_by_side, region_numbers, piece_of_region as table_of_region}
-use Rattle.chart_machine_laws.proofs.RowsOfPieces.{Holds, IsSized, AllSized}
-use Rattle.scl_graph_laws.proofs.Segments.{StandAt, stand_from, stand_first, stand_second}
+use Rattle.chart_machine_laws.proofs.RowsOfPieces.{Holds, AllSized}
+use Rattle.scl_graph_laws.proofs.Segments.{stand_from, stand_first, stand_second}
 use Rattle.abort_expansion.specs.declared.flags.Flags.{Flags}
 use Rattle.abort_expansion.specs.declared.pieces.Regions.{Regions}
 use Rattle.abort_expansion.specs.declared.pieces.Numbers.{Numbers}
 use Rattle.abort_expansion.specs.Flags.{weak_around}
-use Rattle.abort_expansion.specs.Pieces.{RegionPiece, expanded_regions, variables_in, past_region}
+use Rattle.abort_expansion.specs.Pieces.{expanded_regions, variables_in, past_region}
 use Rattle.abort_expansion.specs.Pieces.{states_in as expanded_states_in}
 use Rattle.abort_expansion.specs.Expansion.{piece_of_region}
 use Rattle.abort_expansion_laws.proofs.SideRows.{past_side, side_head, side_tail, side_first, side_second, states_append, sized_append, numbers_append}
-use Rattle.abort_expansion_laws.proofs.Walked.{World, ValuesAt, values_from, values_first, values_second, Range, range_none, range_both, range_to}
+use Rattle.abort_expansion_laws.proofs.Walked.{World, values_from, values_first, values_second, range_none, range_both, range_to}
 use Rattle.abort_expansion_laws.proofs.Walked.{StateFits, CoreStateFits, OwnerFits, i}
 use Rattle.abort_expansion_laws.proofs.Walks.{Part, Fits, Entries, RegionsStand, RegionsWalk, RegionWalks, SideWalks}
 

@@ -3,37 +3,29 @@ use Rattle.std.proofs.Common.{◌≡◌, ◌≢◌, ℕ, suc, ◌+◌, ◌<◌, 
 use Rattle.std.proofs.Common.{subst, ◌∙◌, arith, unwrap_or}
 use Rattle.std.specs.Prelude.{reverse}
 use Rattle.std.proofs.lemmas.Option.{slice_get_past}
-use Rattle.core_charts.specs.declared.region.Region.{Region}
 use Rattle.core_charts.specs.declared.region.Transition.{Transition}
-use Rattle.core_charts.specs.declared.region.Region.TheOpen.{State-F}
 use Rattle.core_charts.specs.declared.region.State.{State}
-use Rattle.chart_machine.specs.declared.standing.Standing.TheVariants as at
 use Rattle.chart_machine.specs.declared.standing.Move.{Move}
 use Rattle.chart_machine.specs.declared.table.StateRow.{StateRow}
 use Rattle.chart_machine.specs.declared.table.RegionRow.{RegionRow}
 use Rattle.chart_machine.specs.declared.table.Table.{Table}
 use Rattle.chart_machine.specs.declared.table.TablePosition.{TablePosition}
 use Rattle.chart_machine.specs.Table.{Piece, state_at, region_at, states_in, piece_of_state as table_of_state, state_piece as table_state_piece}
-use Rattle.chart_machine.specs.Steps.{to, state_in}
-use Rattle.core_charts.specs.Tests.{at_once}
 use Rattle.abort_expansion.specs.declared.flags.Flags.{Flags}
 use Rattle.abort_expansion.specs.declared.places.Places.{Places}
 use Rattle.abort_expansion.specs.declared.pieces.Numbers.{Numbers}
 use Rattle.abort_expansion.specs.Flags.{has_aborts, has_join}
-use Rattle.abort_expansion.specs.Pieces.{RegionPiece, StatePiece}
 use Rattle.abort_expansion.specs.Superstates.{simple_transitions, simple}
-use Rattle.abort_expansion.specs.Expansion.{state_piece}
-use Rattle.chart_machine_laws.specs.Tree.{IsThere, around, holder}
-use Rattle.chart_machine_laws.proofs.RowsOfPieces.{Holds, IsSized, AllSized, state_sized}
-use Rattle.chart_machine_laws.proofs.TableTrees.{NoneInitial, OnceInitial}
+use Rattle.chart_machine_laws.specs.Tree.{IsThere, holder}
+use Rattle.chart_machine_laws.proofs.RowsOfPieces.{Holds, IsSized, state_sized}
 use Rattle.chart_machine_laws.proofs.ChartTables.{within_or_past}
 use Rattle.abort_expansion_laws.specs.CoreRows.{own, IsState, is_final, IsSuper, IsSimple, simple_row, Images, flags_around}
 use Rattle.abort_expansion_laws.specs.CoreRows.{SimpleImage, FinalImage, StayingImage, SplitImage}
 use Rattle.abort_expansion_laws.proofs.SimpleRows.{rolled, rolled_piece}
 use Rattle.abort_expansion_laws.proofs.InRegionRows.{InRegionAt, first_holds, spot_of}
-use Rattle.abort_expansion_laws.proofs.Walked.{World, StateImage, no_flags, images_of, i, RegionFits, StateFits, CoreStateFits, Origin, thread, OwnerFits}
-use Rattle.abort_expansion_laws.proofs.Walked.{behind_by, InRegion, Range, range_none, range_one, FlagsFit, WatcherFits}
-use Rattle.abort_expansion_laws.proofs.Walks.{Part, Fits, Entries, StateStands, StateWalk, pieces_of}
+use Rattle.abort_expansion_laws.proofs.Walked.{World, StateImage, no_flags, images_of, i, RegionFits, StateFits, CoreStateFits, thread, OwnerFits}
+use Rattle.abort_expansion_laws.proofs.Walked.{behind_by, InRegion, range_none, range_one}
+use Rattle.abort_expansion_laws.proofs.Walks.{Fits, StateStands, StateWalk, pieces_of}
 use Rattle.abort_expansion_laws.proofs.LocalImages.{Located, simple_image, final_image}
 
 -- who has a row is there

@@ -1,5 +1,5 @@
 -- Any state of a chart, and what it becomes.
-use Rattle.std.proofs.Common.{◌≡◌, ℕ, suc, ◌+◌, ◌<◌, Bool, true, false, ◌||◌, Option, Some, List, [], ◌∷◌, ◌++◌, map, length, refl, sym, ap, subst, ◌∙◌, arith}
+use Rattle.std.proofs.Common.{◌≡◌, ℕ, suc, ◌+◌, ◌<◌, Bool, true, false, Some, List, [], ◌∷◌, ◌++◌, map, length, refl, sym, ap, subst, ◌∙◌, arith}
 use Rattle.std.proofs.Common.{unwrap_or, if◌then◌else◌}
 use Rattle.sc_text.proofs.EachItem.{Each}
 use Rattle.core_charts.specs.declared.region.Region.{Region}
@@ -12,7 +12,6 @@ use Rattle.core_charts.specs.Rules.{IsBareIfFinal}
 use Rattle.chart_machine.specs.declared.table.TablePosition.{TablePosition}
 use Rattle.chart_machine.specs.Table.{Piece, states_in, past_states, next_behind, piece_of_region as table_of_region, piece_of_state as table_of_state}
 use Rattle.chart_machine.specs.Table.{region_piece as table_region_piece, state_piece as table_state_piece}
-use Rattle.chart_machine.specs.Steps.{state_in}
 use Rattle.chart_machine.specs.Table.{state_at}
 use Rattle.abort_expansion.specs.declared.flags.Flags.{Flags}
 use Rattle.abort_expansion.specs.declared.places.Places.{Places}
@@ -22,15 +21,13 @@ use Rattle.abort_expansion.specs.Flags.{has_aborts, has_join, preparation_name}
 use Rattle.abort_expansion.specs.Pieces.{RegionPiece, StatePiece, beside}
 use Rattle.abort_expansion.specs.Superstates.{stays, is_prepared, prepared, superstate_over, split}
 use Rattle.abort_expansion.specs.Expansion.{piece_of_region, piece_of_state, region_piece, state_piece}
-use Rattle.chart_machine_laws.specs.Tree.{holder}
-use Rattle.chart_machine_laws.proofs.RowsOfPieces.{Holds, IsSized, AllSized, state_sized}
+use Rattle.chart_machine_laws.proofs.RowsOfPieces.{IsSized, state_sized}
 use Rattle.chart_machine_laws.proofs.TableTrees.{NoneInitial, OnceInitial}
-use Rattle.scl_graph_laws.proofs.Segments.{StandAt, stand_from}
 use Rattle.abort_expansion_laws.specs.CoreRows.{simple_row}
 use Rattle.abort_expansion_laws.proofs.SimpleRows.{rolled}
-use Rattle.abort_expansion_laws.proofs.InRegionRows.{InRegionAt, rest_holds, none_append, none_once}
-use Rattle.abort_expansion_laws.proofs.Walked.{World, ValuesAt, values_from, Range, range_to, range_more, CoreStateFits, thread, StateFits, OwnerFits, InRegion}
-use Rattle.abort_expansion_laws.proofs.Walks.{Part, Fits, Entries, StateStands, StateWalk, StateWalksBy, StateCounts, StateWalks, RegionWalks, pieces_of}
+use Rattle.abort_expansion_laws.proofs.InRegionRows.{InRegionAt, rest_holds}
+use Rattle.abort_expansion_laws.proofs.Walked.{World, values_from, Range, range_to, range_more, CoreStateFits, thread}
+use Rattle.abort_expansion_laws.proofs.Walks.{Fits, StateStands, StateWalk, StateWalksBy, StateCounts, StateWalks, RegionWalks, pieces_of}
 use Rattle.abort_expansion_laws.proofs.WalkSide.{counts_side, sized_side}
 use Rattle.abort_expansion_laws.proofs.LocalImages.{preparing}
 use Rattle.abort_expansion_laws.proofs.WalkSimple.{walk_simple, one_row, one_sized, one_begins, one_state}

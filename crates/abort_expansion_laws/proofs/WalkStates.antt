@@ -1,14 +1,13 @@
 -- The states of a region, walked over one after the other.
-use Rattle.std.proofs.Common.{◌≡◌, ℕ, zero, suc, ◌+◌, ◌<◌, ◌≤◌, Bool, true, false, not, ◌&&◌, Option, Some, None, List, [], ◌∷◌, ◌++◌, map, length, slice_get}
-use Rattle.std.proofs.Common.{unwrap_or, refl, sym, ap, subst, ◌∙◌, arith}
+use Rattle.std.proofs.Common.{◌≡◌, ℕ, suc, ◌+◌, Bool, true, false, not, ◌&&◌, Option, Some, List, [], ◌∷◌, ◌++◌, map, length, slice_get}
+use Rattle.std.proofs.Common.{refl, sym, ap, subst, ◌∙◌, arith}
 use Rattle.std.proofs.lemmas.List.{length-append, map-append, append_assoc}
 use Rattle.sc_text.proofs.EachItem.{Each}
 use Rattle.core_charts.specs.declared.region.State.{State}
-use Rattle.chart_machine.specs.declared.table.Table.{Table}
 use Rattle.chart_machine.specs.declared.table.TablePosition.{TablePosition}
 use Rattle.chart_machine.specs.Table.{Piece, region_at, states_in, state_numbers, past_states, next_behind, piece_of_state as table_of_state}
 use Rattle.chart_machine_laws.specs.Tree.{holder}
-use Rattle.chart_machine_laws.proofs.RowsOfPieces.{Holds, IsSized, AllSized}
+use Rattle.chart_machine_laws.proofs.RowsOfPieces.{Holds, AllSized}
 use Rattle.chart_machine_laws.proofs.TableTrees.{NoneInitial, OnceInitial}
 use Rattle.scl_graph_laws.proofs.Segments.{StandAt, stand_from, stand_first, stand_second}
 use Rattle.abort_expansion.specs.declared.flags.Flags.{Flags}
@@ -17,11 +16,11 @@ use Rattle.abort_expansion.specs.declared.pieces.States.{States}
 use Rattle.abort_expansion.specs.declared.pieces.Numbers.{Numbers}
 use Rattle.abort_expansion.specs.Flags.{weak_around}
 use Rattle.abort_expansion.specs.Pieces.{StatePiece, beside}
-use Rattle.abort_expansion.specs.Expansion.{piece_of_state, expanded_states, past_state, places, widths, states_among, variables_among}
+use Rattle.abort_expansion.specs.Expansion.{piece_of_state, expanded_states, past_state, places, widths, variables_among}
 use Rattle.abort_expansion_laws.specs.CoreRows.{is_final}
 use Rattle.abort_expansion_laws.proofs.InRegionRows.{InRegionAt, first_holds, rest_holds, more_hold, spot_of, next_past, none_append, once_append, none_once}
 use Rattle.abort_expansion_laws.proofs.SideRows.{states_append, sized_append}
-use Rattle.abort_expansion_laws.proofs.Walked.{World, StateImage, ValuesAt, InRegion}
+use Rattle.abort_expansion_laws.proofs.Walked.{World, InRegion}
 use Rattle.abort_expansion_laws.proofs.Walks.{Part, Fits, Entries, StateStands, StateWalk, StateWalks, pieces_of}
 use Rattle.abort_expansion_laws.proofs.WalkSide.{fits_none, fits_both, fits_to, entries_first, entries_second}
 

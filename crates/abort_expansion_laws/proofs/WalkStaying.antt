@@ -1,6 +1,6 @@
 -- A superstate that stays as it is, over what is inside it.
-use Rattle.std.proofs.Common.{◌≡◌, ◌≢◌, ℕ, suc, ◌+◌, ◌<◌, ◌≤◌, inl, inr, Bool, true, false}
-use Rattle.std.proofs.Common.{not, ◌||◌, ◌&&◌, Option, Some, None, List, [], ◌∷◌, ◌++◌, map, length, refl}
+use Rattle.std.proofs.Common.{◌≡◌, ◌≢◌, ℕ, suc, ◌+◌, ◌<◌, inl, inr, Bool, true, false}
+use Rattle.std.proofs.Common.{not, ◌||◌, ◌&&◌, Some, List, [], ◌∷◌, ◌++◌, map, length, refl}
 use Rattle.std.proofs.Common.{sym, ap, subst, ◌∙◌, arith}
 use Rattle.std.specs.Prelude.{reverse, filter}
 use Rattle.std.specs.List.{list_any}
@@ -9,11 +9,11 @@ use Rattle.sc_text.proofs.EachItem.{Each}
 use Rattle.core_charts.specs.declared.region.Region.{Region}
 use Rattle.core_charts.specs.declared.region.Transition.{Transition}
 use Rattle.core_charts.specs.declared.region.State.{State}
-use Rattle.core_charts.specs.Tests.{at_once, strong_aborts, weak_aborts, first_closing_tests, is_strong, is_weak}
+use Rattle.core_charts.specs.Tests.{at_once, strong_aborts, first_closing_tests, is_strong, is_weak}
 use Rattle.chart_machine.specs.declared.standing.Move.{Move}
 use Rattle.chart_machine.specs.declared.table.Table.{Table}
 use Rattle.chart_machine.specs.declared.table.TablePosition.{TablePosition}
-use Rattle.chart_machine.specs.Table.{Piece, state_at, states_in, region_numbers, side_by_side, state_piece, come_to, is_superstate}
+use Rattle.chart_machine.specs.Table.{Piece, state_at, states_in, region_numbers, side_by_side, state_piece, come_to}
 use Rattle.chart_machine.specs.Table.{within as table_within, piece_of_region as table_of_region, piece_of_state as table_of_state}
 use Rattle.abort_expansion.specs.declared.flags.Flags.{Flags}
 use Rattle.abort_expansion.specs.declared.places.Places.{Places}
@@ -26,9 +26,8 @@ use Rattle.abort_expansion.specs.Transitions.{led}
 use Rattle.abort_expansion.specs.Pieces.{expanded_regions, variables_in}
 use Rattle.abort_expansion.specs.Superstates.{stays, within, as_it_is}
 use Rattle.abort_expansion.specs.Expansion.{piece_of_region}
-use Rattle.chart_machine_laws.specs.Tree.{around, holder}
-use Rattle.chart_machine_laws.proofs.RowsOfPieces.{Holds, IsSized, AllSized, state_sized}
-use Rattle.chart_machine_laws.proofs.TableTrees.{NoneInitial, OnceInitial}
+use Rattle.chart_machine_laws.specs.Tree.{holder}
+use Rattle.chart_machine_laws.proofs.RowsOfPieces.{Holds, IsSized, state_sized}
 use Rattle.abort_expansion_laws.specs.CoreRows.{own, IsState, is_final, ends, IsSuper, fork_row}
 use Rattle.abort_expansion_laws.proofs.SimpleRows.{rolled, rolled_piece}
 use Rattle.abort_expansion_laws.proofs.InRegionRows.{InRegionAt, first_holds, spot_of}

@@ -7,7 +7,6 @@ use Rattle.sc_text.proofs.EachItem.{Each}
 use Rattle.core_charts.specs.declared.features.Features.TheVariants as features
 use Rattle.core_charts.specs.Chart.{Chart}
 use Rattle.core_charts.specs.Rules.{IsChart, depth_limit}
-use Rattle.chart_machine.specs.declared.table.Table.{Table}
 use Rattle.chart_machine.specs.Table.{table, whole, side_by_side, states_in, region_numbers, piece_of_region as table_of_region}
 use Rattle.chart_machine_laws.proofs.ChartTables.{holds_whole}
 use Rattle.chart_machine_laws.proofs.RowsOfPieces.{side_states}
@@ -16,8 +15,8 @@ use Rattle.abort_expansion.specs.Flags.{weak_around}
 use Rattle.abort_expansion.specs.Pieces.{variables_in}
 use Rattle.abort_expansion.specs.Expansion.{expanded, expansion, state_map, piece_of_region, whole as first_numbers}
 use Rattle.abort_expansion.specs.StateMap.{chart_state}
-use Rattle.abort_expansion_laws.proofs.Walked.{World, StateImage, no_flags, nowhere, ValuesAt, images_of, i}
-use Rattle.abort_expansion_laws.proofs.Walks.{Part, Fits, RegionsStand, RegionsWalk, RegionWalks}
+use Rattle.abort_expansion_laws.proofs.Walked.{World, StateImage, no_flags, nowhere, ValuesAt}
+use Rattle.abort_expansion_laws.proofs.Walks.{Fits, RegionsStand, RegionsWalk, RegionWalks}
 use Rattle.abort_expansion_laws.proofs.WalkSide.{walk_side, sized_side}
 use Rattle.abort_expansion_laws.proofs.ChartWalk.{regions_walk}
 

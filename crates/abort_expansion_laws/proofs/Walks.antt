@@ -1,12 +1,11 @@
 -- What a walk over a chart and its core chart gives, of states and of regions, wherever they stand.
-use Rattle.std.proofs.Common.{◌≡◌, ℕ, ◌+◌, ◌≤◌, Bool, true, false, Option, Some, List, [], ◌∷◌, ◌++◌, map, length}
+use Rattle.std.proofs.Common.{◌≡◌, ℕ, ◌+◌, ◌≤◌, Bool, false, Option, Some, List, [], ◌∷◌, ◌++◌, map, length}
 use Rattle.std.specs.Prelude.{reverse}
-use Rattle.sc_text.proofs.EachItem.{Each}
 use Rattle.core_charts.specs.declared.region.Region.{Region}
 use Rattle.core_charts.specs.declared.region.State.{State}
 use Rattle.chart_machine.specs.declared.table.TablePosition.{TablePosition}
 use Rattle.chart_machine.specs.declared.table.SubtreeRows.{SubtreeRows}
-use Rattle.chart_machine.specs.Table.{Piece, states_in, regions_in, side_by_side, region_numbers, state_numbers, region_at}
+use Rattle.chart_machine.specs.Table.{Piece, states_in, side_by_side, region_numbers, state_numbers, region_at}
 use Rattle.chart_machine.specs.Table.{piece_of_region as table_of_region, piece_of_state as table_of_state}
 use Rattle.chart_machine_laws.specs.Tree.{holder}
 use Rattle.chart_machine_laws.proofs.RowsOfPieces.{Holds, IsSized, AllSized}
@@ -18,7 +17,7 @@ use Rattle.abort_expansion.specs.declared.pieces.States.{States}
 use Rattle.abort_expansion.specs.declared.pieces.Regions.{Regions}
 use Rattle.abort_expansion.specs.declared.pieces.Numbers.{Numbers}
 use Rattle.abort_expansion.specs.Flags.{weak_around}
-use Rattle.abort_expansion.specs.Pieces.{RegionPiece, StatePiece, expanded_regions, variables_in}
+use Rattle.abort_expansion.specs.Pieces.{StatePiece, expanded_regions, variables_in}
 use Rattle.abort_expansion.specs.Expansion.{piece_of_region, piece_of_state}
 use Rattle.abort_expansion_laws.specs.CoreRows.{is_final, counter_over}
 use Rattle.abort_expansion_laws.proofs.InRegionRows.{InRegionAt}
