@@ -31,13 +31,13 @@ use Rattle.abort_expansion_laws.proofs.TickStarts.{StartRows, kept_none, neither
 use Rattle.abort_expansion_laws.proofs.TickStarts as starts
 use Rattle.abort_expansion_laws.proofs.WokenMonitors.{monitor_woken}
 
-weak_no_join : (t : TransitionKind) → is_weak t ≡ true → is_join t ≡ false
+pub weak_no_join : (t : TransitionKind) → is_weak t ≡ true → is_join t ≡ false
 weak_no_join kind.Go e = refl
 weak_no_join kind.Strong e = refl
 weak_no_join kind.Weak e = refl
 weak_no_join kind.Join e = absurd cc
 
-each_more : (P Q : Transition → Bool) (p q : Bool) (ts : List Transition) → ((t : Transition) → P t ≡ p → Q t ≡ q) → Each (λ t. P t ≡ p) ts →
+pub each_more : (P Q : Transition → Bool) (p q : Bool) (ts : List Transition) → ((t : Transition) → P t ≡ p → Q t ≡ q) → Each (λ t. P t ≡ p) ts →
     Each (λ t. Q t ≡ q) ts
 each_more P Q p q [] h all = tt
 each_more P Q p q (t ∷ ts) h all = (h t all.0, each_more P Q p q ts h all.1)

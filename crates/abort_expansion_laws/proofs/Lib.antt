@@ -88,4 +88,8 @@ pub mod WokenMonitors
 pub mod LaterTicks
 pub mod LocalVariables
 pub mod FlatChartRows
+pub mod ChecksInside
+pub mod FrontsChanged
+pub mod LastStrongFails
+pub mod LastStrongFollowed
 pub mod Proved

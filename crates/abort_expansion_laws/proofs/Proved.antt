@@ -65,6 +65,9 @@ pub use Rattle.abort_expansion_laws.proofs.OpenedInside.{opened_elsewhere}
 pub use Rattle.abort_expansion_laws.proofs.LaterTicks.{woken_related}
 pub use Rattle.abort_expansion_laws.proofs.LocalVariables.{added_are_local}
 pub use Rattle.abort_expansion_laws.proofs.FlatChartRows.{flat_rows, fork_rows, start_rows, later_ticks_begin}
+pub use Rattle.abort_expansion_laws.proofs.ChecksInside.{checks_pass}
+pub use Rattle.abort_expansion_laws.proofs.LastStrongFails.{related_then}
+pub use Rattle.abort_expansion_laws.proofs.LastStrongFollowed.{last_strong_followed}
 
 pub checked : ◌≡◌ {A = ℕ} 0 0
 checked = refl

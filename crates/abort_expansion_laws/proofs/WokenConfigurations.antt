@@ -147,7 +147,7 @@ module _ (k : Table) where
 -- ---- who has ended has ended
 
 module _ (k core : Table) (i : Images) (c e : Configuration) (same : (r : ℕ) → has_ended (standing_of e r) ≡ has_ended (standing_of c r)) where
-  all_ended_too : (rs : List ℕ) → list_all (λ r. has_ended (standing_of e r)) rs ≡ list_all (λ r. has_ended (standing_of c r)) rs
+  pub all_ended_too : (rs : List ℕ) → list_all (λ r. has_ended (standing_of e r)) rs ≡ list_all (λ r. has_ended (standing_of c r)) rs
   all_ended_too [] = refl
   all_ended_too (r ∷ rs) = rw (same r, all_ended_too rs) refl
 
