@@ -92,4 +92,6 @@ pub mod ChecksInside
 pub mod FrontsChanged
 pub mod LastStrongFails
 pub mod LastStrongFollowed
+pub mod IdleChart
+pub mod LastTests
 pub mod Proved
