@@ -94,4 +94,5 @@ pub mod LastStrongFails
 pub mod LastStrongFollowed
 pub mod IdleChart
 pub mod LastTests
+pub mod LeftTests
 pub mod Proved
