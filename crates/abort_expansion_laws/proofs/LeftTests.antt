@@ -56,7 +56,7 @@ join_no_weak Rattle.core_charts.specs.declared.region.TransitionKind.TheVariants
 join_no_weak Rattle.core_charts.specs.declared.region.TransitionKind.TheVariants.Weak e = absurd cc
 join_no_weak Rattle.core_charts.specs.declared.region.TransitionKind.TheVariants.Join e = refl
 
-kept_is : (P : Transition → Bool) (ts : List Transition) (n : ℕ) (t : Transition) → slice_get (filter P ts) n ≡ Some t → P t ≡ true
+pub kept_is : (P : Transition → Bool) (ts : List Transition) (n : ℕ) (t : Transition) → slice_get (filter P ts) n ≡ Some t → P t ≡ true
 kept_is P ts n t e = among (filter P ts) n (each_kept P ts) e
   where
     among : (us : List Transition) (n : ℕ) → Each (λ u. P u ≡ true) us → slice_get us n ≡ Some t → P t ≡ true
@@ -81,7 +81,7 @@ module _ (k core : Table) (i : Images) (rows : CoreRows k core i) (flat : FlatRo
   idle_here : (r : ℕ) → has_work k c (standing_of c r) ≡ false
   idle_here r = idle k core i c d related deep over r
 
-  works_not : (r : ℕ) (x : Standing) → standing_of c r ≡ x → has_work k c x ≡ true → ⊥
+  pub works_not : (r : ℕ) (x : Standing) → standing_of c r ≡ x → has_work k c x ≡ true → ⊥
   works_not r x e works = let wrong : true ≡ false = sym works ∙ (sym (ap (has_work k c) e) ∙ idle_here r) in absurd cc
 
   -- ---- a superstate with aborts in which somebody stands: its stage is 3
@@ -141,7 +141,7 @@ module _ (k core : Table) (i : Images) (rows : CoreRows k core i) (flat : FlatRo
 
   -- ---- weak checks
 
-  find_weak : (zs : List ℕ) → ((o : ℕ) × Contains zs o × ((x : ℕ) × ((i.flags_of o).weak ≡ Some x))) ⊎ ((s : ℕ) → Contains zs s → (i.flags_of s).weak ≡ None)
+  pub find_weak : (zs : List ℕ) → ((o : ℕ) × Contains zs o × ((x : ℕ) × ((i.flags_of o).weak ≡ Some x))) ⊎ ((s : ℕ) → Contains zs s → (i.flags_of s).weak ≡ None)
   find_weak [] = inr (λ s h. absurd (none_in s h))
   find_weak (z ∷ zs) = by_flag (i.flags_of z).weak refl (find_weak zs)
     where
@@ -160,7 +160,7 @@ module _ (k core : Table) (i : Images) (rows : CoreRows k core i) (flat : FlatRo
       either true = refl
       either false = refl
 
-  one_held : (r o x : ℕ) → Contains (around k r) o → (i.flags_of o).weak ≡ Some x →
+  pub one_held : (r o x : ℕ) → Contains (around k r) o → (i.flags_of o).weak ≡ Some x →
       held_back k core i r ≡ go true (Some (is_raised x)) [] (i.places_of r).left ∷ []
   one_held r o x inner flag =
       flat_map-map (λ f. check true (i.places_of r).left f.weak) i.flags_of (reverse (around k r))
@@ -208,7 +208,7 @@ module _ (k core : Table) (i : Images) (rows : CoreRows k core i) (flat : FlatRo
                   ⊎_elim (λ same. subst (λ v. Contains (i.main_of v ∷ map i.main_of zs) (i.main_of o)) (sym same) (head_in (i.main_of o) (map i.main_of zs)))
                   (λ tail. tail_in (i.main_of z) (i.main_of o) (map i.main_of zs) (mapped zs tail)) (head_or_tail z o zs h)
 
-  front_none : (r : ℕ) (b : Bool) → front k core i b c r ≡ []
+  pub front_none : (r : ℕ) (b : Bool) → front k core i b c r ≡ []
   front_none r b = rw (free k core i c d related deep over (around k r)) refl
 
   region_ends : (r : ℕ) → IsThere k r → (x y : Standing) → standing_of c r ≡ x → Stands k core i c r x y → EndsAt (i.thread_of r) y
@@ -261,7 +261,7 @@ module _ (k core : Table) (i : Images) (rows : CoreRows k core i) (flat : FlatRo
           or_true true = refl
           or_true false = refl
 
-  none_raised : (immediate : Transition → Bool) (flag : Option ℕ) → raise_each immediate flag [] ≡ []
+  pub none_raised : (immediate : Transition → Bool) (flag : Option ℕ) → raise_each immediate flag [] ≡ []
   none_raised immediate None = refl
   none_raised immediate (Some x) = refl
 

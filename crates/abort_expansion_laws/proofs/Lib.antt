@@ -95,4 +95,5 @@ pub mod LastStrongFollowed
 pub mod IdleChart
 pub mod LastTests
 pub mod LeftTests
+pub mod RestsAtLast
 pub mod Proved
