@@ -106,7 +106,8 @@ module _ (k core : Table) (i : Images) (rows : CoreRows k core i) (tree : IsNest
     one_check n e done there inner _ _ stands goal (nothing_checked y) =
         no_step (machine core) corr Told told e (AtHome Others (corr.home x) 1) (Done want d (suc n)) (skipped n e done (λ is around_it. stands ∙ sym goal))
     one_check n e done there inner _ _ stands goal (checked b u rest) =
-        silent_step (machine core) corr Told told e (placed e (i.thread_of n) u rest) (i.thread_of n) (Some (corr.home x, 1)) (tests x) (AtHome Others (corr.home x) 1) (AtHome Others (corr.home x) 1)
+        silent_step (machine core) corr Told told e (placed e (i.thread_of n) u rest) (i.thread_of n) (Some (corr.home x, 1)) (tests x) (AtHome Others
+        (corr.home x) 1) (AtHome Others (corr.home x) 1)
         (Done want d (suc n))
         (fails core e (i.thread_of n) u (sees b n) rest (free_around e done.free (around core (i.thread_of n))) stands
         (lowered_verdict x e.variables (ap (λ vs. slice_get vs x) done.variables ∙ down)))
@@ -137,7 +138,8 @@ module _ (k core : Table) (i : Images) (rows : CoreRows k core i) (tree : IsNest
             record {
               variables = done.variables;
               size = set_length e.regions (i.thread_of n) (at.Trying u rest) ∙ done.size;
-              free = λ g. ⊎_elim (λ same. ap (λ z. has_to_guard (standing_of (placed e (i.thread_of n) u rest) z)) same ∙ ap has_to_guard here) (λ ne. ap has_to_guard (other g ne) ∙ done.free g) (same_or_not g (i.thread_of n));
+              free = λ g. ⊎_elim (λ same. ap (λ z. has_to_guard (standing_of (placed e (i.thread_of n) u rest) z)) same ∙ ap has_to_guard here)
+              (λ ne. ap has_to_guard (other g ne) ∙ done.free g) (same_or_not g (i.thread_of n));
               passed = λ q is around_it lt.
                   ⊎_elim
                   (λ same. ap (λ z. standing_of (placed e (i.thread_of n) u rest)

@@ -166,7 +166,8 @@ module _ (c : Chart) (rules : IsChart features.Extended c) (core_rules : IsChart
 
 -- each tick of a flat chart but the first begins with related configurations, without a step of the core
 module _ (c : Chart) (rules : IsChart features.Extended c) (core_rules : IsChart features.Core (expanded c)) (flat : IsFlat c)
-    (before core_before : Configuration) (rests : Resting (table c) (table (expanded c)) (whole.i c rules core_rules) before core_before) (inputs : Inputs) where
+    (before core_before : Configuration) (rests : Resting (table c) (table (expanded c)) (whole.i c rules core_rules) before core_before)
+    (inputs : Inputs) where
   abbrev theirs : Images
   theirs = whole.i c rules core_rules
 

@@ -74,7 +74,8 @@ module _ (k core : Table) (i : Images) (c c' : Configuration) (ends : (r : ℕ) 
     stands_dropped none _ _ (ended inner) calm = ended (λ s ss round. still_behind s ∙ inner s ss round)
     stands_dropped none _ _ (left s ss round over) calm = left s ss round (still_behind s ∙ over)
     stands_dropped none _ _ (trying s tests simple held) calm =
-        subst (λ zs. Stands k core i c' q (at.Trying s tests) (tail_of (at.Trying (i.main_of s) (zs ++ map (led (i.places_of q)) tests ++ held_back k core i q))))
+        subst (λ zs. Stands k core i c' q (at.Trying s tests) (tail_of (at.Trying (i.main_of s) (zs ++ map (led
+        (i.places_of q)) tests ++ held_back k core i q))))
         (sym (one false))
         (subst (λ zs. Stands k core i c' q (at.Trying s tests) (at.Trying (i.main_of s) (zs ++ map (led (i.places_of q)) tests ++ held_back k core i q)))
         (none false) (trying s tests simple held))

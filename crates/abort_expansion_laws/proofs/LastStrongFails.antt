@@ -173,7 +173,8 @@ module _ (k core : Table) (i : Images) (rows : CoreRows k core i) (flat : FlatRo
     front_one q b inner = rw (is_guarded_before q inner) (one_check k core i rows flat tree core_children children o x has flag q b inner)
 
     -- who is not inside sees the same superstates guard
-    front_same : (q : ℕ) → IsThere k q → (Contains (around k q) o → ⊥) → standing_of c q ≢ at.Outside → (b : Bool) → front k core i b c' q ≡ front k core i b c q
+    front_same : (q : ℕ) → IsThere k q → (Contains (around k q) o → ⊥) → standing_of c q ≢ at.Outside → (b : Bool) →
+        front k core i b c' q ≡ front k core i b c q
     front_same q is out present b =
         rw (same_guards (around k q) (λ s h e.
         out (subst (Contains (around k q))
@@ -287,7 +288,8 @@ module _ (k core : Table) (i : Images) (rows : CoreRows k core i) (flat : FlatRo
               (⊎_elim
               (λ f. subst (λ w. Watches k core i u w (standing_of d (i.watcher_of u))) (sym (ap (standing_of c') f ∙ here))
               (not_watched u ne (standing_of c (holder k u)) (standing_of d (i.watcher_of u)) (related.watchers u is has_too) (ap (standing_of c) f ∙ stands)))
-              (λ f. subst (λ w. Watches k core i u w (standing_of d (i.watcher_of u))) (sym (elsewhere_in_chart (holder k u) f)) (related.watchers u is has_too))
+              (λ f. subst (λ w. Watches k core i u w (standing_of d (i.watcher_of u))) (sym (elsewhere_in_chart (holder k u) f))
+              (related.watchers u is has_too))
               (same_or_not (holder k u) r))
 
       -- ---- who is inside
@@ -305,7 +307,8 @@ module _ (k core : Table) (i : Images) (rows : CoreRows k core i) (flat : FlatRo
           same : holder k s ≡ r → IsInside k core i s (standing_of c (holder k s))
           same f =
               let one : s ≡ o = opened_inside s (subst (IsInside k core i s) (ap (standing_of c') f ∙ here) h) in
-              subst (IsInside k core i s) (sym (ap (standing_of c) f ∙ stands)) (subst (λ v. IsInside k core i v (at.Guarding o (t ∷ []))) (sym one) (guarded (t ∷ [])))
+              subst (IsInside k core i s) (sym (ap (standing_of c) f ∙ stands)) (subst (λ v. IsInside k core i v (at.Guarding o (t ∷ []))) (sym one)
+              (guarded (t ∷ [])))
 
           other : holder k s ≢ r → IsInside k core i s (standing_of c (holder k s))
           other ne = subst (IsInside k core i s) (elsewhere_in_chart (holder k s) ne) h

@@ -266,7 +266,8 @@ module _ (k core : Table) (i : Images) (rows : CoreRows k core i) (flat : FlatRo
               },
               tt,
             );
-            climbs = λ more climbs. climbs_step corr (Stage k i.thread_of c d) Home (Watched r (i.watcher_of o) 0 Access_here) more own_stages stages_stay climbs;
+            climbs = λ more climbs. climbs_step corr (Stage k i.thread_of c d) Home (Watched r
+            (i.watcher_of o) 0 Access_here) more own_stages stages_stay climbs;
             reaches = refl;
           }
 
@@ -274,7 +275,8 @@ module _ (k core : Table) (i : Images) (rows : CoreRows k core i) (flat : FlatRo
           HasFirst (λ b. last.check_of k core i rows flat tree core_children children c d related r o x o_there super t stands has flag b q) y →
           Passes k core i rows tree counts written_at Told told o x flag_of high_flag not_counter written_first Others q y (tail_of y)
       passes_of q _ (one_first b u rest) = checked b u rest
-      passes_of q y (none_first z same) = subst (Passes k core i rows tree counts written_at Told told o x flag_of high_flag not_counter written_first Others q y)
+      passes_of q y (none_first z same) =
+          subst (Passes k core i rows tree counts written_at Told told o x flag_of high_flag not_counter written_first Others q y)
           (sym same) (nothing_checked y)
 
       second : Segment (machine core) corr Told d1 Home (λ z. Home) []

@@ -26,7 +26,8 @@ use Rattle.chart_machine_laws.proofs.LyingIn.{none_in, head_in, tail_in, head_or
 use Rattle.abort_expansion_laws.specs.Stages.{Entry, Silent, Correspondence}
 use Rattle.abort_expansion_laws.specs.CoreRows.{own, IsState, Images, CoreRows, pair, flags_around}
 use Rattle.abort_expansion_laws.specs.Related.{Each, front, held_back, tests_of, Stands, outside, ended, left, trying, acting, entering, guarding, staying}
-use Rattle.abort_expansion_laws.specs.Related.{within, behind, Watches, waits, elsewhere, raise_each, still_in, not_ended, Stores, IsInside, guarded, open_inside}
+use Rattle.abort_expansion_laws.specs.Related.{within, behind, Watches, waits, elsewhere, raise_each}
+use Rattle.abort_expansion_laws.specs.Related.{still_in, not_ended, Stores, IsInside, guarded, open_inside}
 use Rattle.abort_expansion_laws.specs.Related.{Closes, Related, AreAmong}
 use Rattle.abort_expansion_laws.specs.Related.{guards as watch_guards}
 use Rattle.abort_expansion_laws.specs.StageReached.{some_work, stage_of, Stage}
@@ -141,7 +142,8 @@ module _ (k core : Table) (i : Images) (rows : CoreRows k core i) (flat : FlatRo
 
   -- ---- weak checks
 
-  pub find_weak : (zs : List ℕ) → ((o : ℕ) × Contains zs o × ((x : ℕ) × ((i.flags_of o).weak ≡ Some x))) ⊎ ((s : ℕ) → Contains zs s → (i.flags_of s).weak ≡ None)
+  pub find_weak : (zs : List ℕ) → ((o : ℕ) × Contains zs o × ((x : ℕ) × ((i.flags_of o).weak ≡ Some x))) ⊎ ((s : ℕ) → Contains zs s →
+      (i.flags_of s).weak ≡ None)
   find_weak [] = inr (λ s h. absurd (none_in s h))
   find_weak (z ∷ zs) = by_flag (i.flags_of z).weak refl (find_weak zs)
     where

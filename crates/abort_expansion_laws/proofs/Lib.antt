@@ -96,4 +96,5 @@ pub mod IdleChart
 pub mod LastTests
 pub mod LeftTests
 pub mod RestsAtLast
+pub mod TicksFinish
 pub mod Proved

@@ -268,6 +268,14 @@ module _ (c : Chart) (rules : IsChart features.Extended c) (core_rules : IsChart
   abbrev pub stage_of_write : ℕ → ℕ
   stage_of_write x = if is_counter x then 1 else (if is_it (i.flags_of (w.of_flag x)).strong x then 0 else 2)
 
+  pub writes_low : (x : ℕ) → stage_of_write x < 3
+  writes_low x = below (is_counter x) (is_it (i.flags_of (w.of_flag x)).strong x)
+    where
+      below : (a b : Bool) → (if a then 1 else (if b then 0 else 2)) < 3
+      below true b = omega arith
+      below false true = omega arith
+      below false false = omega arith
+
   owned : (s x : ℕ) → IsFlag (i.flags_of s) x → w.of_flag x ≡ s
   owned s x is = (whole.flag_from c rules core_rules s x is).owned x is
 

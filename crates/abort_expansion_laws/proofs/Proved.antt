@@ -68,6 +68,11 @@ pub use Rattle.abort_expansion_laws.proofs.FlatChartRows.{flat_rows, fork_rows, 
 pub use Rattle.abort_expansion_laws.proofs.ChecksInside.{checks_pass}
 pub use Rattle.abort_expansion_laws.proofs.LastStrongFails.{related_then}
 pub use Rattle.abort_expansion_laws.proofs.LastStrongFollowed.{last_strong_followed}
+pub use Rattle.abort_expansion_laws.proofs.IdleChart.{nobody_guards, idle}
+pub use Rattle.abort_expansion_laws.proofs.LastTests.{tests_end, all_passed}
+pub use Rattle.abort_expansion_laws.proofs.LeftTests.{all_end}
+pub use Rattle.abort_expansion_laws.proofs.RestsAtLast.{rests_at_last}
+pub use Rattle.abort_expansion_laws.proofs.TicksFinish.{ticks_finish}
 
 pub checked : ◌≡◌ {A = ℕ} 0 0
 checked = refl

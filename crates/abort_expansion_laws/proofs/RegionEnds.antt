@@ -47,7 +47,8 @@ module _ (counter : Option ℕ) (target number : ℕ) where
   new_once true ys none once = (λ e. none refl, once)
   new_once false ys none once = once
 
-  pub new_held : (anew : Bool) (core : Table) (more : List Piece) (next : ℕ) (b : TablePosition) → InRegionAt core (pieces_of (anew_states anew) ++ more) next b →
+  pub new_held : (anew : Bool) (core : Table) (more : List Piece) (next : ℕ) (b : TablePosition) →
+      InRegionAt core (pieces_of (anew_states anew) ++ more) next b →
       Range (λ n. holder core n ≡ b.holder) b.state (b.state + states_in (pieces_of (anew_states anew)))
   new_held true core more next b h =
       range_one (λ n. holder core n ≡ b.holder) b.state (b.state + states_in (pieces_of (anew_states true)))
