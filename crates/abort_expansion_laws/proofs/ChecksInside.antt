@@ -1,5 +1,5 @@
 -- When all strong tests of a superstate have failed, the strong check of each thread inside fails, one region after the other.
-use Rattle.std.proofs.Common.{◌≡◌, ◌≢◌, ℕ, zero, suc, pos, ◌+◌, ◌<◌, ◌≤◌, ◌⊎◌, inl, inr, ⊎_elim, Bool, true, false, Option, Some, None, List, [], ◌∷◌}
+use Rattle.std.proofs.Common.{◌≡◌, ◌≢◌, ℕ, zero, suc, pos, ◌+◌, ◌<◌, ◌≤◌, ◌⊎◌, inr, ⊎_elim, Bool, false, Option, Some, List, [], ◌∷◌}
 use Rattle.std.proofs.Common.{map, length, slice_get, slice_set, Contains, refl, sym, ap, subst, ◌∙◌, arith}
 use Rattle.sc_values.specs.declared.value.Value.TheVariants as value_is
 use Rattle.sc_values.specs.Access.{Access}
@@ -139,7 +139,7 @@ module _ (k core : Table) (i : Images) (rows : CoreRows k core i) (tree : IsNest
               variables = done.variables;
               size = set_length e.regions (i.thread_of n) (at.Trying u rest) ∙ done.size;
               free = λ g. ⊎_elim (λ same. ap (λ z. has_to_guard (standing_of (placed e (i.thread_of n) u rest) z)) same ∙ ap has_to_guard here)
-              (λ ne. ap has_to_guard (other g ne) ∙ done.free g) (same_or_not g (i.thread_of n));
+                  (λ ne. ap has_to_guard (other g ne) ∙ done.free g) (same_or_not g (i.thread_of n));
               passed = λ q is around_it lt.
                   ⊎_elim
                   (λ same. ap (λ z. standing_of (placed e (i.thread_of n) u rest)

@@ -1,11 +1,9 @@
 -- The last strong test of a superstate fails: its inside has its turn, and each thread there goes on behind its strong check.
-use Rattle.std.proofs.Common.{◌≡◌, ◌≢◌, ℕ, zero, suc, pos, ◌+◌, ◌<◌, ◌≤◌, ◌⊎◌, inl, inr, ⊎_elim, Bool, true, false, not, ◌||◌, ◌&&◌, Option, Some, None}
-use Rattle.std.proofs.Common.{List, [], ◌∷◌, ◌++◌, map, length, slice_get, slice_set, Contains, refl, sym, ap, subst, ◌∙◌, arith, if◌then◌else◌}
-use Rattle.std.specs.List.{list_all, list_any}
+use Rattle.std.proofs.Common.{◌≡◌, ◌≢◌, ℕ, pos, ◌<◌, ◌⊎◌, inl, inr, ⊎_elim, Bool, true, false, not, ◌&&◌, Some}
+use Rattle.std.proofs.Common.{List, [], ◌∷◌, ◌++◌, map, length, slice_get, slice_set, Contains, refl, sym, ap, subst, ◌∙◌, arith}
 use Rattle.sc_values.specs.declared.value.Value.TheVariants as value_is
-use Rattle.sc_values.specs.Access.{Access}
 use Rattle.core_charts.specs.declared.region.Transition.{Transition}
-use Rattle.core_charts.specs.Tests.{strong_aborts, weak_aborts, terminations, closing_tests, is_weak, is_join}
+use Rattle.core_charts.specs.Tests.{weak_aborts, terminations, closing_tests, is_weak, is_join}
 use Rattle.chart_machine.specs.declared.standing.Standing.{Standing}
 use Rattle.chart_machine.specs.declared.standing.Standing.TheVariants as at
 use Rattle.chart_machine.specs.declared.standing.Configuration.{Configuration}
@@ -20,9 +18,9 @@ use Rattle.chart_machine_laws.specs.Tree.{IsNested, IsThere, around, holder}
 use Rattle.chart_machine_laws.proofs.LyingIn.{head_in, tail_in}
 use Rattle.chart_machine_laws.proofs.ChartTables.{around_there}
 use Rattle.tick_laws.proofs.Lists.{same_or_not, contained}
-use Rattle.abort_expansion_laws.specs.CoreRows.{own, IsState, IsSuper, joins, Images, CoreRows, flags_around}
-use Rattle.abort_expansion_laws.specs.Related.{front, held_back, tests_of, is_behind, Stands, outside, ended, left, trying, acting, entering, guarding, staying}
-use Rattle.abort_expansion_laws.specs.Related.{within, behind, Watches, waits, elsewhere, raises, raise_each, still_in, Stores, IsInside, guarded, open_inside}
+use Rattle.abort_expansion_laws.specs.CoreRows.{own, IsState, IsSuper, Images, CoreRows, flags_around}
+use Rattle.abort_expansion_laws.specs.Related.{front, is_behind, Stands}
+use Rattle.abort_expansion_laws.specs.Related.{within, Watches, waits, elsewhere, raises, raise_each, still_in, Stores, IsInside, guarded, open_inside}
 use Rattle.abort_expansion_laws.specs.Related.{FlagsAreDown, Closes, Related, IsCalm, calm_outside, calm_ended, calm_trying, calm_within}
 use Rattle.abort_expansion_laws.specs.Related.{guards as watch_guards}
 use Rattle.abort_expansion_laws.proofs.StageReached.{any_in, holds_other}
@@ -35,8 +33,8 @@ use Rattle.abort_expansion_laws.proofs.MoreValues.{verdict_over_more}
 use Rattle.abort_expansion_laws.proofs.TestFails.{fails}
 use Rattle.abort_expansion_laws.proofs.AfterOpening.{one_in_other}
 use Rattle.abort_expansion_laws.proofs.LaterTicks.{weak_no_join, each_more}
-use Rattle.abort_expansion_laws.proofs.WokenConfigurations.{numbered_from, numbered_are, all_among, raising_is, each_kept, behind_too}
-use Rattle.abort_expansion_laws.proofs.FrontsChanged.{tail_of, HasFirst, one_first, none_first, stands_to, has_first, stands_dropped}
+use Rattle.abort_expansion_laws.proofs.WokenConfigurations.{numbered_from, numbered_are, all_among, raising_is, each_kept}
+use Rattle.abort_expansion_laws.proofs.FrontsChanged.{tail_of, HasFirst, stands_to, has_first, stands_dropped}
 
 map_empty : (xs : List (ℕ × Transition)) → map (λ (x : ℕ × Transition). x.1) xs ≡ [] → xs ≡ []
 map_empty [] e = refl

@@ -1,6 +1,6 @@
 -- The last strong test of a superstate that fails is followed: by the monitor's test, and the strong check of each thread inside.
-use Rattle.std.proofs.Common.{◌≡◌, ◌≢◌, ℕ, zero, suc, pos, ◌+◌, ◌<◌, ◌≤◌, ◌⊎◌, inl, inr, ⊎_elim, Bool, true, false, ◌||◌, Option, Some, None}
-use Rattle.std.proofs.Common.{List, [], ◌∷◌, ◌++◌, length, slice_set, Contains, refl, sym, ap, subst, ◌∙◌, arith, if◌then◌else◌}
+use Rattle.std.proofs.Common.{◌≡◌, ◌≢◌, ℕ, suc, ◌≤◌, inl, inr, ⊎_elim, Bool, true, false, ◌||◌, Option, Some, None}
+use Rattle.std.proofs.Common.{List, [], ◌∷◌, length, slice_set, Contains, refl, sym, ap, subst, ◌∙◌, arith}
 use Rattle.std.specs.List.{list_any}
 use Rattle.std.proofs.lemmas.Option.{same_Some}
 use Rattle.sc_values.specs.Access.{Access}
@@ -267,7 +267,7 @@ module _ (k core : Table) (i : Images) (rows : CoreRows k core i) (flat : FlatRo
               tt,
             );
             climbs = λ more climbs. climbs_step corr (Stage k i.thread_of c d) Home (Watched r
-            (i.watcher_of o) 0 Access_here) more own_stages stages_stay climbs;
+                (i.watcher_of o) 0 Access_here) more own_stages stages_stay climbs;
             reaches = refl;
           }
 

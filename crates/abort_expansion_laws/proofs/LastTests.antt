@@ -1,5 +1,5 @@
 -- At the end of a tick each thread has one test left at most, which fails, at stage 3 of the superstate whose flag or counter it reads.
-use Rattle.std.proofs.Common.{◌≡◌, ◌≢◌, ℕ, zero, suc, ◌+◌, ◌<◌, ◌≤◌, ◌⊎◌, inl, inr, ⊎_elim, Bool, true, false, Option, Some, None, List, [], ◌∷◌}
+use Rattle.std.proofs.Common.{◌≡◌, ◌≢◌, ℕ, zero, suc, ◌+◌, ◌<◌, ◌≤◌, ◌⊎◌, ⊎_elim, false, Option, Some, List, [], ◌∷◌}
 use Rattle.std.proofs.Common.{length, slice_set, unwrap_or, refl, sym, ap, subst, ◌∙◌, arith}
 use Rattle.std.proofs.lemmas.Option.{slice_get_past, same_Some}
 use Rattle.sc_values.specs.Access.{Access}

@@ -10,25 +10,25 @@ use Rattle.sc_values.specs.declared.value.Value.TheVariants as value_is
 use Rattle.sc_values.specs.Access.{Access}
 use Rattle.sc_values.specs.Runs.{IsOver}
 use Rattle.core_charts.specs.declared.region.Transition.{Transition}
-use Rattle.core_charts.specs.Tests.{weak_aborts, terminations, is_weak, is_join}
+use Rattle.core_charts.specs.Tests.{terminations, is_weak, is_join}
 use Rattle.chart_machine.specs.declared.standing.Standing.{Standing}
 use Rattle.chart_machine.specs.declared.standing.Standing.TheVariants as at
 use Rattle.chart_machine.specs.declared.standing.Configuration.{Configuration}
 use Rattle.chart_machine.specs.declared.table.Table.{Table}
 use Rattle.chart_machine.specs.Table.{state_at}
-use Rattle.chart_machine.specs.Turns.{standing_of, has_ended, guards as has_to_guard, has_work, may_close, inside}
+use Rattle.chart_machine.specs.Turns.{standing_of, has_ended, has_work, inside}
 use Rattle.chart_machine.specs.Machine.{machine}
 use Rattle.abort_expansion.specs.Flags.{has_weak, has_join, has_aborts}
-use Rattle.abort_expansion.specs.Transitions.{go, is_raised, is_number, check, weak_checks, led}
+use Rattle.abort_expansion.specs.Transitions.{go, is_raised, is_number, check}
 use Rattle.abort_expansion.specs.Superstates.{all_ended}
 use Rattle.chart_machine_laws.specs.Tree.{IsNested, IsThere, around, holder}
 use Rattle.chart_machine_laws.proofs.LyingIn.{none_in, head_in, tail_in, head_or_tail}
 use Rattle.abort_expansion_laws.specs.Stages.{Entry, Silent, Correspondence}
-use Rattle.abort_expansion_laws.specs.CoreRows.{own, IsState, Images, CoreRows, pair, flags_around}
-use Rattle.abort_expansion_laws.specs.Related.{Each, front, held_back, tests_of, Stands, outside, ended, left, trying, acting, entering, guarding, staying}
+use Rattle.abort_expansion_laws.specs.CoreRows.{own, IsState, Images, CoreRows, pair}
+use Rattle.abort_expansion_laws.specs.Related.{Each, front, held_back, Stands, outside, ended, left, trying, acting, entering, guarding, staying}
 use Rattle.abort_expansion_laws.specs.Related.{within, behind, Watches, waits, elsewhere, raise_each}
 use Rattle.abort_expansion_laws.specs.Related.{still_in, not_ended, Stores, IsInside, guarded, open_inside}
-use Rattle.abort_expansion_laws.specs.Related.{Closes, Related, AreAmong}
+use Rattle.abort_expansion_laws.specs.Related.{Closes, Related}
 use Rattle.abort_expansion_laws.specs.Related.{guards as watch_guards}
 use Rattle.abort_expansion_laws.specs.StageReached.{some_work, stage_of, Stage}
 use Rattle.abort_expansion_laws.proofs.KnownVariables.{present_there}
@@ -40,8 +40,8 @@ use Rattle.abort_expansion_laws.proofs.OpensFork.{OpeningRows}
 use Rattle.abort_expansion_laws.proofs.WokenConfigurations.{each_kept}
 use Rattle.abort_expansion_laws.proofs.TickStarts.{StartRows, no_weak_checks, some_kept}
 use Rattle.abort_expansion_laws.proofs.LaterTicks.{weak_no_join, each_more}
-use Rattle.abort_expansion_laws.proofs.IdleChart.{nobody_guards, free, idle}
-use Rattle.abort_expansion_laws.proofs.LastTests.{last_of, Ends, nothing_left, one_left}
+use Rattle.abort_expansion_laws.proofs.IdleChart.{free, idle}
+use Rattle.abort_expansion_laws.proofs.LastTests.{Ends, nothing_left, one_left}
 
 none_any : (P : ℕ → Bool) (xs : List ℕ) → ((y : ℕ) → P y ≡ false) → list_any P xs ≡ false
 none_any P [] none = refl
