@@ -97,4 +97,6 @@ pub mod LastTests
 pub mod LeftTests
 pub mod RestsAtLast
 pub mod TicksFinish
+pub mod EnteredMoves
+pub mod StillBegun
 pub mod Proved

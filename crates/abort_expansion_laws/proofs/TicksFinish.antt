@@ -46,4 +46,5 @@ module _ (c : Chart) (rules : IsChart features.Extended c) (core_rules : IsChart
   ticks_finish at_end core_at_end related over begun =
       rests_at_last k core i (whole.rows_of_chart c rules core_rules) (flat_rows c rules core_rules flat) (whole.tree c rules core_rules).nested
       (is_counter c rules core_rules) (stage_of_write c rules core_rules) (counter_rows c rules core_rules) (opening_rows c rules core_rules)
-      (start_rows c rules core_rules flat) (writes_low c rules core_rules) Told told at_end core_at_end related (whole.tree c rules core_rules).deeper over begun
+      (start_rows c rules core_rules flat) (writes_low c rules core_rules) Told told at_end core_at_end related
+      (whole.tree c rules core_rules).deeper over begun
