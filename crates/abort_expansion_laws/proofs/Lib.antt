@@ -96,7 +96,7 @@ pub mod IdleChart
 pub mod LastTests
 pub mod LeftTests
 pub mod RestsAtLast
-pub mod TicksFinish
 pub mod EnteredMoves
 pub mod StillBegun
+pub mod TicksFinish
 pub mod Proved

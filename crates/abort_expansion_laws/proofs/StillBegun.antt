@@ -7,6 +7,9 @@ use Rattle.sc_values.specs.declared.value.Value.{Value}
 use Rattle.sc_values.specs.Operator.{kind_of}
 use Rattle.sc_values.specs.Expr.{value as value_of}
 use Rattle.sc_graph.specs.Steps.{only_if, takes_kind}
+use Rattle.core_charts.specs.declared.features.Features.{Features}
+use Rattle.core_charts.specs.Chart.{Chart}
+use Rattle.core_charts.specs.Rules.{IsChart}
 use Rattle.core_charts.specs.declared.region.Effect.{Effect}
 use Rattle.core_charts.specs.declared.region.Transition.{Transition}
 use Rattle.chart_machine.specs.declared.deed.Deed.{Deed}
@@ -15,15 +18,21 @@ use Rattle.chart_machine.specs.declared.standing.Standing.TheVariants as at
 use Rattle.chart_machine.specs.declared.standing.Move.{Move}
 use Rattle.chart_machine.specs.declared.standing.Configuration.{Configuration}
 use Rattle.chart_machine.specs.declared.table.Table.{Table}
-use Rattle.chart_machine.specs.Table.{state_at}
+use Rattle.chart_machine.specs.Table.{table, state_at}
 use Rattle.chart_machine.specs.Turns.{standing_of, inside, is_enabled}
 use Rattle.chart_machine.specs.Steps.{to, moved, after, verdict, state_in, dropped, acts, taken, tested, entering_on, guarding_on, effected, deed_of, step}
-use Rattle.chart_machine_laws.specs.Tree.{around}
+use Rattle.chart_machine_laws.specs.Tree.{IsThere, around}
 use Rattle.chart_machine_laws.proofs.LyingIn.{none_in, head_in, tail_in}
 use Rattle.abort_expansion_laws.proofs.AllLeave.{inside_around}
 use Rattle.tick_laws.proofs.Lists.{same_or_not}
 use Rattle.abort_expansion_laws.proofs.Unchanged.{get_same, get_other}
-use Rattle.abort_expansion_laws.proofs.EnteredMoves.{Comes, Enters}
+use Rattle.abort_expansion_laws.proofs.EnteredMoves.{Comes, Enters, entering_comes}
+use Rattle.sc_graph.specs.Tick.{Inputs}
+use Rattle.chart_machine.specs.Machine.{start}
+use Rattle.abort_expansion_laws.specs.CoreRows.{Images}
+use Rattle.abort_expansion_laws.proofs.Owed.{Resting}
+use Rattle.abort_expansion_laws.proofs.WokenConfigurations.{woken_at, present_after}
+use Rattle.abort_expansion_laws.proofs.LaterTicks.{chart_has_begun}
 
 module _ (k : Table) (enters : (s : ℕ) → Enters (state_at k s)) (q : ℕ) (root : around k q ≡ []) where
   abbrev Spares : Move → Type 0
@@ -131,3 +140,20 @@ module _ (k : Table) (enters : (s : ℕ) → Enters (state_at k s)) (q : ℕ) (r
           subst (λ z. standing_of z q ≢ at.Outside) (same_Some (after d c) next e)
           (all_moved d.moves c.regions (deed_spares c r (standing_of c r) d is) before)
       by_enabled false o is e = absurd cc
+
+-- a region that lies in no superstate is entered
+abbrev pub HasBegun : Table → Configuration → Type 0
+HasBegun k c = (r : ℕ) × IsThere k r × (around k r ≡ []) × (standing_of c r ≢ at.Outside)
+
+pub charts_stay_begun : (f : Features) (h : Chart) → IsChart f h → (c next : Configuration) (r : ℕ) → step (table h) r c ≡ Some next →
+    HasBegun (table h) c → HasBegun (table h) next
+charts_stay_begun f h rules c next r steps begun =
+    (begun.0, begun.1, begun.2, still_begun (table h) (entering_comes f h rules) begun.0 begun.2 c next r steps begun.3)
+
+-- so it is when a tick begins behind another one
+pub starts_begun : (k core : Table) (i : Images) (before core_before : Configuration) → Resting k core i before core_before → (inputs : Inputs) →
+    HasBegun k (start k inputs before)
+starts_begun k core i before core_before rests inputs =
+    rw (chart_has_begun k core i before core_before rests)
+    (rests.begun.0, rests.begun.1, rests.begun.2,
+    λ e. present_after k (standing_of before rests.begun.0) rests.begun.3 (sym (woken_at k before.regions rests.begun.0) ∙ e))

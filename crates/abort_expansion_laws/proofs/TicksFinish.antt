@@ -24,6 +24,7 @@ use Rattle.abort_expansion_laws.proofs.RowsOfCharts as whole
 use Rattle.abort_expansion_laws.proofs.MoreRows.{opening_rows, counter_rows, is_counter, stage_of_write, writes_low}
 use Rattle.abort_expansion_laws.proofs.FlatChartRows.{flat_rows, start_rows}
 use Rattle.abort_expansion_laws.proofs.RestsAtLast.{rests_at_last}
+use Rattle.abort_expansion_laws.proofs.StillBegun.{HasBegun}
 
 module _ (c : Chart) (rules : IsChart features.Extended c) (core_rules : IsChart features.Core (expanded c)) (flat : IsFlat c)
     (Told : Configuration → Entry → Type 0)
@@ -38,7 +39,7 @@ module _ (c : Chart) (rules : IsChart features.Extended c) (core_rules : IsChart
   i = whole.i c rules core_rules
 
   pub ticks_finish : (at_end core_at_end : Configuration) → Related k core i at_end core_at_end → IsOver (machine k) at_end →
-      ((r : ℕ) × IsThere k r × (around k r ≡ []) × (standing_of at_end r ≢ at.Outside)) →
+      HasBegun k at_end →
       Segment (machine core)
       (pair k core i (whole.rows_of_chart c rules core_rules) (whole.tree c rules core_rules).nested (is_counter c rules core_rules)
       (stage_of_write c rules core_rules)) Told core_at_end (Stage k i.thread_of at_end core_at_end) (Stage k i.thread_of at_end) []
