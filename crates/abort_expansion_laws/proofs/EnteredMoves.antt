@@ -1,5 +1,5 @@
 -- Who is entered comes to stand somewhere: no move of entering leads outside.
-use Rattle.std.proofs.Common.{◌≡◌, ◌≢◌, ℕ, zero, suc, ◌+◌, Bool, true, false, List, [], ◌∷◌, map, slice_get, unwrap_or, refl, sym, subst}
+use Rattle.std.proofs.Common.{◌≢◌, ℕ, zero, suc, ◌+◌, Bool, true, false, List, [], ◌∷◌, map, slice_get, unwrap_or, sym, subst}
 use Rattle.sc_graph.specs.declared.program.Variable.{Variable}
 use Rattle.sc_text.proofs.EachItem.{Each, each_append, each_of}
 use Rattle.core_charts.specs.declared.features.Features.{Features}
@@ -12,7 +12,6 @@ use Rattle.core_charts.specs.declared.region.Region.TheFolds.{fold_out-Region, f
 use Rattle.core_charts.specs.Chart.{Chart}
 use Rattle.core_charts.specs.Rules.{IsChart, IsState, IsRegion, AreRegions, depth_limit}
 use Rattle.core_charts.specs.Tests.{at_once, strong_aborts, first_closing_tests}
-use Rattle.chart_machine.specs.declared.standing.Standing.{Standing}
 use Rattle.chart_machine.specs.declared.standing.Standing.TheVariants as at
 use Rattle.chart_machine.specs.declared.standing.Move.{Move}
 use Rattle.chart_machine.specs.declared.table.StateRow.{StateRow}

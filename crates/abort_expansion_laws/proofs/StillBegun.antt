@@ -1,5 +1,5 @@
 -- A region of the chart that is entered stays so: no step leads outside of it.
-use Rattle.std.proofs.Common.{◌≡◌, ◌≢◌, ℕ, ◌<◌, ◌≤◌, ◌⊎◌, inl, inr, ⊎_elim, Bool, true, false, Option, Some, None, List, [], ◌∷◌, ◌++◌, map, length}
+use Rattle.std.proofs.Common.{◌≡◌, ◌≢◌, ℕ, ◌<◌, ◌≤◌, ◌⊎◌, ⊎_elim, Bool, true, false, Option, Some, None, List, [], ◌∷◌, map, length}
 use Rattle.std.proofs.Common.{slice_get, slice_set, unwrap_or, option_map, option_and_then, if◌then◌else◌, Contains, refl, sym, ap, subst, ◌∙◌, arith}
 use Rattle.std.proofs.lemmas.Option.{same_Some, slice_get_past}
 use Rattle.sc_text.proofs.EachItem.{Each, each_append, each_more}
@@ -20,7 +20,7 @@ use Rattle.chart_machine.specs.declared.standing.Configuration.{Configuration}
 use Rattle.chart_machine.specs.declared.table.Table.{Table}
 use Rattle.chart_machine.specs.Table.{table, state_at}
 use Rattle.chart_machine.specs.Turns.{standing_of, inside, is_enabled}
-use Rattle.chart_machine.specs.Steps.{to, moved, after, verdict, state_in, dropped, acts, taken, tested, entering_on, guarding_on, effected, deed_of, step}
+use Rattle.chart_machine.specs.Steps.{to, moved, after, verdict, state_in, dropped, acts, taken, entering_on, guarding_on, effected, deed_of, step}
 use Rattle.chart_machine_laws.specs.Tree.{IsThere, around}
 use Rattle.chart_machine_laws.proofs.LyingIn.{none_in, head_in, tail_in}
 use Rattle.abort_expansion_laws.proofs.AllLeave.{inside_around}
@@ -154,6 +154,9 @@ charts_stay_begun f h rules c next r steps begun =
 pub starts_begun : (k core : Table) (i : Images) (before core_before : Configuration) → Resting k core i before core_before → (inputs : Inputs) →
     HasBegun k (start k inputs before)
 starts_begun k core i before core_before rests inputs =
-    rw (chart_has_begun k core i before core_before rests)
-    (rests.begun.0, rests.begun.1, rests.begun.2,
-    λ e. present_after k (standing_of before rests.begun.0) rests.begun.3 (sym (woken_at k before.regions rests.begun.0) ∙ e))
+    rw (chart_has_begun k core i before core_before rests) (
+      rests.begun.0,
+      rests.begun.1,
+      rests.begun.2,
+      λ e. present_after k (standing_of before rests.begun.0) rests.begun.3 (sym (woken_at k before.regions rests.begun.0) ∙ e),
+    )

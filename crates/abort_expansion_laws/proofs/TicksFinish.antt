@@ -1,17 +1,14 @@
 -- Each tick of a flat chart ends at rest: what its core has held back fails, or is passed.
-use Rattle.std.proofs.Common.{◌≡◌, ◌≢◌, ℕ, Option, []}
+use Rattle.std.proofs.Common.{ℕ, Option, []}
 use Rattle.sc_values.specs.Access.{Access}
 use Rattle.sc_values.specs.Runs.{IsOver}
 use Rattle.core_charts.specs.declared.features.Features.TheVariants as features
 use Rattle.core_charts.specs.Chart.{Chart}
 use Rattle.core_charts.specs.Rules.{IsChart}
-use Rattle.chart_machine.specs.declared.standing.Standing.TheVariants as at
 use Rattle.chart_machine.specs.declared.standing.Configuration.{Configuration}
 use Rattle.chart_machine.specs.declared.table.Table.{Table}
 use Rattle.chart_machine.specs.Table.{table}
-use Rattle.chart_machine.specs.Turns.{standing_of}
 use Rattle.chart_machine.specs.Machine.{machine}
-use Rattle.chart_machine_laws.specs.Tree.{IsThere, around}
 use Rattle.abort_expansion.specs.Expansion.{expanded}
 use Rattle.abort_expansion_laws.specs.Flat.{IsFlat}
 use Rattle.abort_expansion_laws.specs.Stages.{Entry, Silent}
