@@ -99,4 +99,5 @@ pub mod RestsAtLast
 pub mod EnteredMoves
 pub mod StillBegun
 pub mod TicksFinish
+pub mod RestedCharts
 pub mod Proved

@@ -74,6 +74,7 @@ pub use Rattle.abort_expansion_laws.proofs.LeftTests.{all_end}
 pub use Rattle.abort_expansion_laws.proofs.RestsAtLast.{rests_at_last}
 pub use Rattle.abort_expansion_laws.proofs.StillBegun.{still_begun, charts_stay_begun, starts_begun}
 pub use Rattle.abort_expansion_laws.proofs.TicksFinish.{ticks_finish}
+pub use Rattle.abort_expansion_laws.proofs.RestedCharts.{rested_over, rested_seen}
 
 pub checked : ◌≡◌ {A = ℕ} 0 0
 checked = refl
