@@ -158,6 +158,7 @@ module _ (k core : Table) (i : Images) (rows : CoreRows k core i) (tree : IsNest
         fresh = (p.ready s o).0;
         empty = λ t inner. set_other d.regions h t W (in_fork_ne t inner) ∙ empty t inner;
         forked = λ t inner. at_z t;
+        in_fork = λ apart. (fork.join, fork.joined, here);
       }
 
   -- ---- who is not in the fork stands as before

@@ -1,5 +1,5 @@
 -- What the moves of a fork make of what is inside, stated alone: it is for the structure of the expansion to give.
-use Rattle.std.proofs.Common.{◌≡◌, ℕ, suc, ◌⊎◌, true, false, Some, List, length, Contains}
+use Rattle.std.proofs.Common.{◌≡◌, ℕ, suc, ◌⊎◌, true, false, Some, List, [], ◌∷◌, length, Contains}
 use Rattle.core_charts.specs.declared.region.Transition.{Transition}
 use Rattle.core_charts.specs.Aborts.{has_aborts}
 use Rattle.chart_machine.specs.declared.standing.Standing.{Standing}
@@ -8,10 +8,10 @@ use Rattle.chart_machine.specs.declared.standing.Configuration.{Configuration}
 use Rattle.chart_machine.specs.declared.table.Table.{Table}
 use Rattle.chart_machine.specs.Table.{state_at}
 use Rattle.chart_machine.specs.Turns.{standing_of, is_guarded}
-use Rattle.chart_machine.specs.Steps.{moved}
-use Rattle.abort_expansion.specs.Superstates.{is_prepared}
+use Rattle.chart_machine.specs.Steps.{moved, state_in}
+use Rattle.abort_expansion.specs.Superstates.{is_prepared, stays}
 use Rattle.chart_machine_laws.specs.Tree.{around, holder, IsThere}
-use Rattle.abort_expansion_laws.specs.CoreRows.{own, IsState, IsSuper, Images, flags_around}
+use Rattle.abort_expansion_laws.specs.CoreRows.{own, IsState, IsSuper, joins, Images, flags_around}
 use Rattle.abort_expansion_laws.specs.Related.{Watches, IsInside}
 use Rattle.abort_expansion_laws.proofs.Leaving.{at_number}
 use Rattle.abort_expansion_laws.proofs.Pending.{IsOpening, IsJoining, Over, Waits, Covered, still_going, Flagged, IsFresh, IsEmpty}
@@ -37,6 +37,10 @@ module _ (k core : Table) (i : Images) where
     pub fresh : IsFresh k core i c s
     pub empty : IsEmpty k core i c d s
     pub forked : HasForked d e s
+    -- where the superstate is split its thread is in the fork
+    pub in_fork : stays (flags_around k core i (holder k s)) (own k s) ≡ false →
+        (join : ℕ) × (state_in core (i.thread_of (holder k s)) join ≡ i.behind_of s)
+        × (standing_of e (i.thread_of (holder k s)) ≡ at.Within (i.main_of s) (joins join ∷ []))
 
   pub record OpenedRows : Type 0 where
     pub waits : (c d e : Configuration) (s : ℕ) → Opens c d e s → (q : ℕ) → IsThere k q → Contains (around k q) s → Waits k core i c e q

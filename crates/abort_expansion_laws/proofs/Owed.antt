@@ -61,6 +61,8 @@ module _ (k core : Table) (i : Images) where
     pub enclosed : (r s : ℕ) → IsThere k r → standing_of c r ≢ at.Outside → Contains (around k r) s → IsInside k core i s (standing_of c (holder k s))
     pub opened : (s r : ℕ) → IsState k s → IsInside k core i s (standing_of c (holder k s)) → Contains (state_at k s).regions r → standing_of c r ≢ at.Outside
     pub closes_last : (s : ℕ) (tests : List Transition) → standing_of c (holder k s) ≡ at.Within s tests → Closes k core i s tests
+    -- a region of the chart is entered, so neither takes the next tick for the first
+    pub begun : (r : ℕ) × IsThere k r × (around k r ≡ []) × (standing_of c r ≢ at.Outside)
 
   -- ---- the start of a tick
 

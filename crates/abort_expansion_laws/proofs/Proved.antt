@@ -53,6 +53,28 @@ pub use Rattle.abort_expansion_laws.proofs.JoinsFork.{continues_with, joins_fork
 pub use Rattle.abort_expansion_laws.proofs.WaitsAfterJoin.{joined_pending, reached_then}
 pub use Rattle.abort_expansion_laws.proofs.ForkJoined.{joined_up}
 pub use Rattle.abort_expansion_laws.proofs.EnteredSettles.{entered_settles}
+pub use Rattle.abort_expansion_laws.proofs.WalkSide.{walk_side}
+pub use Rattle.abort_expansion_laws.proofs.WalkState.{walk_state}
+pub use Rattle.abort_expansion_laws.proofs.WalkStates.{walk_states}
+pub use Rattle.abort_expansion_laws.proofs.WalkRegion.{walk_region}
+pub use Rattle.abort_expansion_laws.proofs.ChartWalk.{regions_walk, rows_have}
+pub use Rattle.abort_expansion_laws.proofs.RowsOfCharts.{rows_of_chart}
+pub use Rattle.abort_expansion_laws.proofs.MoreRows.{map_of_chart, opening_rows, counter_rows}
+pub use Rattle.abort_expansion_laws.proofs.FlatStates.{flat_inside}
+pub use Rattle.abort_expansion_laws.proofs.OpenedInside.{opened_elsewhere}
+pub use Rattle.abort_expansion_laws.proofs.LaterTicks.{woken_related}
+pub use Rattle.abort_expansion_laws.proofs.LocalVariables.{added_are_local}
+pub use Rattle.abort_expansion_laws.proofs.FlatChartRows.{flat_rows, fork_rows, start_rows, later_ticks_begin}
+pub use Rattle.abort_expansion_laws.proofs.ChecksInside.{checks_pass}
+pub use Rattle.abort_expansion_laws.proofs.LastStrongFails.{related_then}
+pub use Rattle.abort_expansion_laws.proofs.LastStrongFollowed.{last_strong_followed}
+pub use Rattle.abort_expansion_laws.proofs.IdleChart.{nobody_guards, idle}
+pub use Rattle.abort_expansion_laws.proofs.LastTests.{tests_end, all_passed}
+pub use Rattle.abort_expansion_laws.proofs.LeftTests.{all_end}
+pub use Rattle.abort_expansion_laws.proofs.RestsAtLast.{rests_at_last}
+pub use Rattle.abort_expansion_laws.proofs.StillBegun.{still_begun, charts_stay_begun, starts_begun}
+pub use Rattle.abort_expansion_laws.proofs.TicksFinish.{ticks_finish}
+pub use Rattle.abort_expansion_laws.proofs.RestedCharts.{rested_over, rested_seen}
 
 pub checked : ◌≡◌ {A = ℕ} 0 0
 checked = refl

@@ -26,7 +26,7 @@ use Rattle.abort_expansion.specs.declared.pieces.Numbers.{Numbers}
 use Rattle.abort_expansion.specs.Flags.{flags_of, weak_around, aborts_around, preparation_name, continuation_name}
 use Rattle.abort_expansion.specs.Pieces.{beside, RegionPiece, StatePiece, superstates_in, states_in, past_region, expanded_regions}
 use Rattle.abort_expansion.specs.Superstates.{stays, is_prepared, as_it_is, prepared, forked, within, monitor, watched, abandoned, simple}
-use Rattle.abort_expansion.specs.Expansion.{is_superstate, made, state_piece, region_piece, piece_of_region, piece_of_state, past_state, expanded_states}
+use Rattle.abort_expansion.specs.Expansion.{is_superstate, state_piece, region_piece, piece_of_region, piece_of_state, past_state, expanded_states}
 use Rattle.abort_expansion.specs.Expansion.{begins_anew}
 use Rattle.abort_expansion.specs.Expansion.{initial_place, initial_number, new_initial, left_behind, region_places, region_over, inside_superstate}
 use Rattle.abort_expansion.specs.Expansion.{superstates_among, states_among, whole, expanded, state_map}

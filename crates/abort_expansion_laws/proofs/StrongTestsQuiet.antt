@@ -12,7 +12,7 @@ use Rattle.sc_graph.specs.declared.control.Status.{Status}
 use Rattle.sc_graph.specs.declared.control.Status.TheVariants as status
 use Rattle.sc_graph.specs.declared.program.Step.TheVariants as steps
 use Rattle.sc_graph.specs.Program.{Program, parent_of, owner_of, step_at}
-use Rattle.sc_graph.specs.Threads.{IsFork, Below, ConcurrentNodes}
+use Rattle.sc_graph.specs.Threads.{Below}
 use Rattle.sc_graph.specs.Accesses.{accesses}
 use Rattle.sc_graph.specs.Control.{status_of}
 use Rattle.sc_graph.specs.Steps.{Effect, after, effect}

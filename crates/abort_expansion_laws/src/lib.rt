@@ -4,14 +4,12 @@
 //! has for each region and state (`specs/CoreRows`), is listed in `proofs/Proved`; what is open, in `proofs/Owed`.
 #![tactic(auto)]
 
-ghost use Rattle.abort_expansion_laws.specs.Laws.{StagesKeepOrder};
+ghost use Rattle.abort_expansion_laws.specs.Laws.{ExpandedChartsHaveRows, StagesKeepOrder};
 ghost use Rattle.abort_expansion_laws.specs.StateNames.{StatesAreMapped};
 
 /// A run of a core chart is admissible where the run of its chart is, if what belongs to a superstate with aborts is
-/// done in
-/// stages that never fall, and no strong test is overwritten; so it is for each two tables whose rows belong together as
-/// those of a chart and its core chart do. That the rows of each expanded chart do is not proved. This function does
-/// nothing; its contract is the law.
+/// done in stages that never fall, and no strong test is overwritten; so it is for each two tables whose rows belong
+/// together as those of a chart and its core chart do. This function does nothing; its contract is the law.
 pub fn stages_are_kept()
     ensures { StagesKeepOrder }
 {}
@@ -20,4 +18,11 @@ pub fn stages_are_kept()
 /// stands, as its name tells. This function does nothing; its contract is the law.
 pub fn states_are_mapped()
     ensures { StatesAreMapped }
+{}
+
+/// The rows of a chart and of its core chart belong together: each region has its thread, each state what stands for it,
+/// each superstate with aborts its monitor, with the transitions of the expansion. This function does nothing; its
+/// contract is the law.
+pub fn expanded_charts_have_rows()
+    ensures { ExpandedChartsHaveRows }
 {}

@@ -1,0 +1,58 @@
+-- What a monitor adds to a fork, where there is one.
+use Rattle.std.proofs.Common.{if◌then◌else◌}
+use Rattle.std.proofs.Common.{◌≡◌, ℕ, suc, ◌+◌, Bool, true, false, Option, None, List, [], ◌∷◌, map, length, refl, ap}
+use Rattle.std.proofs.Common.{arith}
+use Rattle.core_charts.specs.declared.region.Region.{Region}
+use Rattle.core_charts.specs.declared.region.Transition.{Transition}
+use Rattle.chart_machine.specs.declared.table.Table.{Table}
+use Rattle.chart_machine.specs.declared.table.TablePosition.{TablePosition}
+use Rattle.chart_machine.specs.Table.{states_in, region_numbers, side_by_side}
+use Rattle.chart_machine.specs.Table.{piece_of_region as table_of_region}
+use Rattle.abort_expansion.specs.declared.flags.Flags.{Flags}
+use Rattle.abort_expansion.specs.Superstates.{watched, monitor}
+use Rattle.abort_expansion.specs.Expansion.{piece_of_region}
+use Rattle.chart_machine_laws.specs.Tree.{around}
+use Rattle.chart_machine_laws.proofs.RowsOfPieces.{Holds, AllSized}
+use Rattle.abort_expansion_laws.proofs.SideRows.{side_head}
+use Rattle.abort_expansion_laws.proofs.Walked.{ValuesAt}
+use Rattle.abort_expansion_laws.proofs.RowsOfForks.{region_around, MonitorRows, monitor_rows, monitor_sized}
+use Rattle.abort_expansion_laws.proofs.RowsOfForks.{monitor_states}
+
+-- ---- what a monitor adds, where there is one
+
+pub watched_sized : (b : Bool) (s : ℕ) (around : List Flags) (f : Flags) (all : List Transition) →
+    AllSized (map table_of_region (watched b (monitor s around f all)))
+watched_sized true s around f all = (monitor_sized s around f all, tt)
+watched_sized false s around f all = tt
+
+abbrev pub no_entries : Bool → List (Option ℕ)
+no_entries b = if b then None ∷ None ∷ [] else []
+
+pub watched_many : (b : Bool) (s : ℕ) (around : List Flags) (f : Flags) (all : List Transition) →
+    states_in (map table_of_region (watched b (monitor s around f all))) ≡ length (no_entries b)
+watched_many true s around f all = omega (arith, monitor_states s around f all)
+watched_many false s around f all = refl
+
+pub watched_numbers : (b : Bool) (m : Region) (n x : ℕ) → region_numbers (map table_of_region (watched b m)) n ≡ (if b then (if b then n else x) ∷ [] else [])
+watched_numbers true m n x = refl
+watched_numbers false m n x = refl
+
+pub monitor_there : (b : Bool) (s : ℕ) (around : List Flags) (f : Flags) (all : List Transition) (core : Table) (spot : TablePosition) → b ≡ true →
+    Holds core spot (side_by_side (map table_of_region (watched b (monitor s around f all))) spot) → MonitorRows s around f all core spot
+monitor_there true s around f all core spot certain h =
+    monitor_rows s around f all core spot (side_head core (table_of_region (monitor s around f all)) [] spot h)
+monitor_there false s around f all core spot certain h = absurd cc
+
+pub none_first : (b : Bool) (g : ℕ → Option ℕ) (n : ℕ) → b ≡ true → ValuesAt g n (no_entries b) → g n ≡ None
+none_first true g n certain h = h.0
+none_first false g n certain h = absurd cc
+
+pub first_around : (cs : List Region) (core : Table) (spot : TablePosition) (x : ℕ) (xs : List ℕ) →
+    region_numbers (map table_of_region cs) spot.region ≡ x ∷ xs → Holds core spot (side_by_side (map table_of_region cs) spot) →
+    around core spot.region ≡ spot.around
+first_around [] core spot x xs e h = absurd cc
+first_around (c ∷ cs) core spot x xs e h = region_around core c spot (side_head core (table_of_region c) (map table_of_region cs) spot h)
+
+pub numbers_many : (regions : List Region) (n : ℕ) → length (region_numbers (map table_of_region regions) n) ≡ length (map piece_of_region regions)
+numbers_many [] n = refl
+numbers_many (r ∷ regions) n = ap suc (numbers_many regions (n + (table_of_region r).regions))

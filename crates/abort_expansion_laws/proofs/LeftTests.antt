@@ -1,0 +1,326 @@
+-- When a chart's tick is over, what its core has left: a weak check in each thread inside of a superstate with weak aborts, and the
+-- count test of each monitor that has one. They fail.
+use Rattle.std.proofs.Common.{◌≡◌, ◌≢◌, ℕ, zero, suc, pos, ◌+◌, ◌<◌, ◌≤◌, ◌⊎◌, inl, inr, ⊎_elim, Bool, true, false, not, ◌||◌, ◌&&◌, Option, Some, None}
+use Rattle.std.proofs.Common.{List, [], ◌∷◌, ◌++◌, map, length, slice_get, unwrap_or, Contains, refl, sym, ap, subst, ◌∙◌, arith, if◌then◌else◌}
+use Rattle.std.specs.Prelude.{filter, reverse}
+use Rattle.std.specs.List.{list_all, list_any}
+use Rattle.std.proofs.lemmas.List.Folds.{flat_map-map}
+use Rattle.std.proofs.lemmas.Option.{none-some, same_Some, slice_get_past}
+use Rattle.sc_values.specs.declared.value.Value.TheVariants as value_is
+use Rattle.sc_values.specs.Access.{Access}
+use Rattle.sc_values.specs.Runs.{IsOver}
+use Rattle.core_charts.specs.declared.region.Transition.{Transition}
+use Rattle.core_charts.specs.Tests.{terminations, is_weak, is_join}
+use Rattle.chart_machine.specs.declared.standing.Standing.{Standing}
+use Rattle.chart_machine.specs.declared.standing.Standing.TheVariants as at
+use Rattle.chart_machine.specs.declared.standing.Configuration.{Configuration}
+use Rattle.chart_machine.specs.declared.table.Table.{Table}
+use Rattle.chart_machine.specs.Table.{state_at}
+use Rattle.chart_machine.specs.Turns.{standing_of, has_ended, has_work, inside}
+use Rattle.chart_machine.specs.Machine.{machine}
+use Rattle.abort_expansion.specs.Flags.{has_join}
+use Rattle.core_charts.specs.Aborts.{has_weak, has_aborts}
+use Rattle.abort_expansion.specs.Transitions.{go, is_raised, is_number, check}
+use Rattle.abort_expansion.specs.Superstates.{all_ended}
+use Rattle.chart_machine_laws.specs.Tree.{IsNested, IsThere, around, holder}
+use Rattle.chart_machine_laws.proofs.LyingIn.{none_in, head_in, tail_in, head_or_tail}
+use Rattle.abort_expansion_laws.specs.Stages.{Entry, Silent, Correspondence}
+use Rattle.abort_expansion_laws.specs.CoreRows.{own, IsState, Images, CoreRows, pair}
+use Rattle.abort_expansion_laws.specs.Related.{Each, front, held_back, Stands, outside, ended, left, trying, acting, entering, guarding, staying}
+use Rattle.abort_expansion_laws.specs.Related.{within, behind, Watches, waits, elsewhere, raise_each}
+use Rattle.abort_expansion_laws.specs.Related.{still_in, not_ended, Stores, IsInside, guarded, open_inside}
+use Rattle.abort_expansion_laws.specs.Related.{Closes, Related}
+use Rattle.abort_expansion_laws.specs.Related.{guards as watch_guards}
+use Rattle.abort_expansion_laws.specs.StageReached.{some_work, stage_of, Stage}
+use Rattle.abort_expansion_laws.proofs.KnownVariables.{present_there}
+use Rattle.abort_expansion_laws.proofs.InsideLeaves.{FlatRows, one_checked}
+use Rattle.abort_expansion_laws.proofs.MoreValues.{lowered_verdict, other_verdict}
+use Rattle.abort_expansion_laws.proofs.FlagAccess.{raised_access, number_access}
+use Rattle.abort_expansion_laws.proofs.StartingRegions.{CounterRows}
+use Rattle.abort_expansion_laws.proofs.OpensFork.{OpeningRows}
+use Rattle.abort_expansion_laws.proofs.WokenConfigurations.{each_kept}
+use Rattle.abort_expansion_laws.proofs.TickStarts.{StartRows, no_weak_checks, some_kept}
+use Rattle.abort_expansion_laws.proofs.LaterTicks.{weak_no_join, each_more}
+use Rattle.abort_expansion_laws.proofs.IdleChart.{free, idle}
+use Rattle.abort_expansion_laws.proofs.LastTests.{Ends, nothing_left, one_left}
+
+none_any : (P : ℕ → Bool) (xs : List ℕ) → ((y : ℕ) → P y ≡ false) → list_any P xs ≡ false
+none_any P [] none = refl
+none_any P (x ∷ xs) none = rw (none x, none_any P xs none) refl
+
+each_none : (P : Transition → Bool) (ts : List Transition) → Each (λ t. P t ≡ false) ts → list_any P ts ≡ false
+each_none P [] all = refl
+each_none P (t ∷ ts) all = rw (all.0, each_none P ts all.1) refl
+
+join_no_weak : (t : Rattle.core_charts.specs.declared.region.TransitionKind.TransitionKind) → is_join t ≡ true → is_weak t ≡ false
+join_no_weak Rattle.core_charts.specs.declared.region.TransitionKind.TheVariants.Go e = refl
+join_no_weak Rattle.core_charts.specs.declared.region.TransitionKind.TheVariants.Strong e = refl
+join_no_weak Rattle.core_charts.specs.declared.region.TransitionKind.TheVariants.Weak e = absurd cc
+join_no_weak Rattle.core_charts.specs.declared.region.TransitionKind.TheVariants.Join e = refl
+
+pub kept_is : (P : Transition → Bool) (ts : List Transition) (n : ℕ) (t : Transition) → slice_get (filter P ts) n ≡ Some t → P t ≡ true
+kept_is P ts n t e = among (filter P ts) n (each_kept P ts) e
+  where
+    among : (us : List Transition) (n : ℕ) → Each (λ u. P u ≡ true) us → slice_get us n ≡ Some t → P t ≡ true
+    among [] n all e = absurd (none-some t e)
+    among (u ∷ us) zero all e = subst (λ z. P z ≡ true) (same_Some u t e) all.0
+    among (u ∷ us) (suc n) all e = among us n all.1 e
+
+module _ (k core : Table) (i : Images) (rows : CoreRows k core i) (flat : FlatRows k core i) (tree : IsNested k) (counts : ℕ → Bool) (written_at : ℕ → ℕ)
+    (counters : CounterRows k core i rows counts written_at) (opening : OpeningRows k core i rows) (start_rows : StartRows k core i rows)
+    (written_low : (x : ℕ) → written_at x < 3) (Told : Configuration → Entry → Type 0)
+    (told : (e : Configuration) (t : ℕ) (stage : Option (ℕ × ℕ)) (a : Access) → Told e (Silent t stage a))
+    (c d : Configuration) (related : Related k core i c d) (deep : (q s : ℕ) → Contains (around k q) s → holder k s < q) (over : IsOver (machine k) c) where
+  abbrev pub corr : Correspondence
+  corr = pair k core i rows tree counts written_at
+
+  abbrev pub Reached : ℕ → ℕ → Type 0
+  Reached h n = Stage k i.thread_of c d h n
+
+  abbrev pub EndsAt : ℕ → Standing → Type 0
+  EndsAt t y = Ends core corr Told told d Reached t y
+
+  idle_here : (r : ℕ) → has_work k c (standing_of c r) ≡ false
+  idle_here r = idle k core i c d related deep over r
+
+  pub works_not : (r : ℕ) (x : Standing) → standing_of c r ≡ x → has_work k c x ≡ true → ⊥
+  works_not r x e works = let wrong : true ≡ false = sym works ∙ (sym (ap (has_work k c) e) ∙ idle_here r) in absurd cc
+
+  -- ---- a superstate with aborts in which somebody stands: its stage is 3
+
+  module _ (o : ℕ) (is : IsInside k core i o (standing_of c (holder k o))) (has : has_aborts (own k o) ≡ true) where
+    opened_tests : (x : Standing) → standing_of c (holder k o) ≡ x → IsInside k core i o x → (tests : List Transition) ×
+        (standing_of c (holder k o) ≡ at.Within o tests)
+    opened_tests _ e (guarded tests) = absurd (works_not (holder k o) (at.Guarding o tests) e refl)
+    opened_tests _ e (open_inside tests) = (tests, e)
+
+    holder_there : IsThere k (holder k o)
+    holder_there = present_there k core i c d related (holder k o) (present (standing_of c (holder k o)) is)
+      where
+        present : (x : Standing) → IsInside k core i o x → x ≢ at.Outside
+        present _ (guarded tests) e = absurd cc
+        present _ (open_inside tests) e = absurd cc
+
+    no_weak : (tests : List Transition) → standing_of c (holder k o) ≡ at.Within o tests → list_any (λ t. is_weak t.kind) tests ≡ false
+    no_weak tests e = by_some closes.some closes.no_join closes.are
+      where
+        closes : Closes k core i o tests
+        closes = related.closes_last o tests e
+
+        by_some : (some : List Transition) → Each (λ t. is_join t.kind ≡ false) some → tests ≡ some ++ terminations (own k o) →
+            list_any (λ t. is_weak t.kind) tests ≡ false
+        by_some [] none are =
+            ap (list_any (λ t. is_weak t.kind)) are ∙
+            each_none (λ t. is_weak t.kind) (terminations (own k o))
+            (each_more (λ t. is_join t.kind) (λ t. is_weak t.kind) true false (terminations (own k o)) (λ t join. join_no_weak t.kind join)
+            (each_kept (λ t. is_join t.kind) (own k o)))
+        by_some (t ∷ some) none are =
+            absurd (works_not (holder k o) (at.Within o (t ∷ some ++ terminations (own k o))) (e ∙ ap (at.Within o) are) (rw (none.0) refl))
+
+    stage_is : stage_of k c (standing_of c (holder k o)) ≡ 3
+    stage_is =
+        let found = opened_tests (standing_of c (holder k o)) refl is in
+        let quiet : some_work k c o ≡ false = none_any (λ r. has_work k c (standing_of c r)) (inside k o) idle_here in
+        ap (stage_of k c) found.1 ∙ rw (has, quiet, no_weak found.0 found.1) refl
+
+    module _ (x : ℕ) (owner : rows.of_flag x ≡ o) where
+      home_is : corr.home x ≡ i.thread_of (holder k o)
+      home_is = ap (λ s. holder core (i.main_of s)) owner ∙ rows.held o
+
+      most : (n : ℕ) → Reached (corr.home x) n → n ≤ 3
+      most n before = let le = before.regions (holder k o) holder_there home_is in omega (le, stage_is, arith)
+
+      reaches : Reached (corr.home x) 3
+      reaches =
+          record {
+            regions = λ q q_there e.
+                let same : holder k o ≡ q = rows.region_once (holder k o) q (sym home_is ∙ e) in
+                let three : stage_of k c (standing_of c q) ≡ 3 = subst (λ p. stage_of k c (standing_of c p) ≡ 3) same stage_is in omega (three, arith);
+            chart = λ e.
+                let root : holder k o ≡ 0 = rows.region_once (holder k o) 0 (sym home_is ∙ e) in
+                let lt = holder_there.0 in absurd (omega (root, lt, arith));
+          }
+
+  -- ---- weak checks
+
+  pub find_weak : (zs : List ℕ) → ((o : ℕ) × Contains zs o × ((x : ℕ) × ((i.flags_of o).weak ≡ Some x))) ⊎ ((s : ℕ) → Contains zs s →
+      (i.flags_of s).weak ≡ None)
+  find_weak [] = inr (λ s h. absurd (none_in s h))
+  find_weak (z ∷ zs) = by_flag (i.flags_of z).weak refl (find_weak zs)
+    where
+      by_flag : (w : Option ℕ) → (i.flags_of z).weak ≡ w →
+          (((o : ℕ) × Contains zs o × ((x : ℕ) × ((i.flags_of o).weak ≡ Some x))) ⊎ ((s : ℕ) → Contains zs s → (i.flags_of s).weak ≡ None)) →
+          ((o : ℕ) × Contains (z ∷ zs) o × ((x : ℕ) × ((i.flags_of o).weak ≡ Some x))) ⊎ ((s : ℕ) → Contains (z ∷ zs) s → (i.flags_of s).weak ≡ None)
+      by_flag (Some x) e rest = inl (z, head_in z zs, (x, e))
+      by_flag None e (inl some) = inl (some.0, tail_in z some.0 zs some.1, some.2)
+      by_flag None e (inr none) =
+          inr (λ s h. ⊎_elim (λ same. subst (λ v. (i.flags_of v).weak ≡ None) same e) (λ tail. none s tail) (head_or_tail z s zs h))
+
+  weak_aborts_of : (s x : ℕ) → (i.flags_of s).weak ≡ Some x → has_aborts (own k s) ≡ true
+  weak_aborts_of s x e = rw (start_rows.weak_for s x e) (either (Rattle.abort_expansion.specs.Flags.has_strong (own k s)))
+    where
+      either : (a : Bool) → (a || true) ≡ true
+      either true = refl
+      either false = refl
+
+  pub one_held : (r o x : ℕ) → Contains (around k r) o → (i.flags_of o).weak ≡ Some x →
+      held_back k core i r ≡ go true (Some (is_raised x)) [] (i.places_of r).left ∷ []
+  one_held r o x inner flag =
+      flat_map-map (λ f. check true (i.places_of r).left f.weak) i.flags_of (reverse (around k r))
+      ∙ (one_checked k tree (λ s. check true (i.places_of r).left (i.flags_of s).weak) (around k r) r o refl inner
+      (λ s h differs. ap (check true (i.places_of r).left) (none s h differs)) ∙ ap (check true (i.places_of r).left) flag)
+    where
+      none : (s : ℕ) → Contains (around k r) s → s ≢ o → (i.flags_of s).weak ≡ None
+      none s h differs = by_flag (i.flags_of s).weak refl
+        where
+          by_flag : (w : Option ℕ) → (i.flags_of s).weak ≡ w → (i.flags_of s).weak ≡ None
+          by_flag None e = e
+          by_flag (Some y) e = absurd (differs (flat.flat_around r o s inner h (weak_aborts_of o x flag) (weak_aborts_of s y e)))
+
+  -- a thread with its weak checks alone
+  weak_left : (r : ℕ) → IsThere k r → standing_of c r ≢ at.Outside → (u : ℕ) → EndsAt (i.thread_of r) (at.Trying u (held_back k core i r))
+  weak_left r is present u = by_weak (find_weak (around k r))
+    where
+      by_weak : ((o : ℕ) × Contains (around k r) o × ((x : ℕ) × ((i.flags_of o).weak ≡ Some x))) ⊎
+          ((s : ℕ) → Contains (around k r) s → (i.flags_of s).weak ≡ None) → EndsAt (i.thread_of r) (at.Trying u (held_back k core i r))
+      by_weak (inr none) =
+          subst (λ zs. EndsAt (i.thread_of r) (at.Trying u zs))
+          (sym (no_weak_checks i.flags_of true (i.places_of r).left k tree (around k r) none)) (nothing_left (at.Trying u []) refl)
+      by_weak (inl some) =
+          let o : ℕ = some.0 in
+          let x : ℕ = some.2.0 in
+          let flag : (i.flags_of o).weak ≡ Some x = some.2.1 in
+          let has : has_aborts (own k o) ≡ true = weak_aborts_of o x flag in
+          let inside_o : IsInside k core i o (standing_of c (holder k o)) = related.enclosed r o is present some.1 in
+          let owner : rows.of_flag x ≡ o = (opening.flag_of o x (inr (inl flag))).0 in
+          let low : slice_get d.variables x ≡ Some (value_is.Int (pos 0)) =
+          subst (λ f. Stores k core i d.variables f 0) flag (related.flags o (start_rows.super_there r o some.1) inside_o).weak in
+          subst (λ zs. EndsAt (i.thread_of r) (at.Trying u zs)) (sym (one_held r o x some.1 flag))
+          (one_left u x (go true (Some (is_raised x)) [] (i.places_of r).left) (lowered_verdict x d.variables low) (raised_access x) (rows.weak_added o x flag)
+          (inr (inr (counters.weak_not o x flag, within o x owner some.1), (3, refl, written_low x))) (most o inside_o has x owner)
+          (reaches o inside_o has x owner))
+        where
+          within : (o x : ℕ) → rows.of_flag x ≡ o → Contains (around k r) o → Contains (around core (i.thread_of r)) (i.main_of (rows.of_flag x))
+          within o x owner inner =
+              subst (λ s. Contains (around core (i.thread_of r)) (i.main_of s)) (sym owner)
+              (subst (λ zs. Contains zs (i.main_of o)) (sym (rows.encloses r)) (mapped (around k r) inner))
+            where
+              mapped : (zs : List ℕ) → Contains zs o → Contains (map i.main_of zs) (i.main_of o)
+              mapped [] h = absurd (none_in o h)
+              mapped (z ∷ zs) h =
+                  ⊎_elim (λ same. subst (λ v. Contains (i.main_of v ∷ map i.main_of zs) (i.main_of o)) (sym same) (head_in (i.main_of o) (map i.main_of zs)))
+                  (λ tail. tail_in (i.main_of z) (i.main_of o) (map i.main_of zs) (mapped zs tail)) (head_or_tail z o zs h)
+
+  pub front_none : (r : ℕ) (b : Bool) → front k core i b c r ≡ []
+  front_none r b = rw (free k core i c d related deep over (around k r)) refl
+
+  region_ends : (r : ℕ) → IsThere k r → (x y : Standing) → standing_of c r ≡ x → Stands k core i c r x y → EndsAt (i.thread_of r) y
+  region_ends r is _ _ e outside = nothing_left at.Outside refl
+  region_ends r is _ _ e (ended inner) = nothing_left at.Ended refl
+  region_ends r is _ _ e (left s ss round over_it) = nothing_left at.Outside refl
+  region_ends r is _ _ e (trying s [] simple held) =
+      subst (λ f. EndsAt (i.thread_of r) (at.Trying (i.main_of s) (f ++ [] ++ held_back k core i r))) (sym (front_none r false))
+      (weak_left r is (λ out. let wrong : at.Trying s [] ≡ at.Outside = sym e ∙ out in absurd cc) (i.main_of s))
+  region_ends r is _ _ e (trying s (t ∷ tests) simple held) = absurd (works_not r (at.Trying s (t ∷ tests)) e refl)
+  region_ends r is _ _ e (acting s u p f effects lt) = absurd (works_not r (at.Acting s (f ∷ effects) p) e refl)
+  region_ends r is _ _ e (entering s fork t tests super held leads) = absurd (works_not r (at.Entering s (t ∷ tests)) e refl)
+  region_ends r is _ _ e (guarding s join t tests has held leads) = absurd (works_not r (at.Guarding s (t ∷ tests)) e refl)
+  region_ends r is _ _ e (staying s tests super held stay) = nothing_left _ refl
+  region_ends r is _ _ e (within s join tests super held apart still leads) = nothing_left _ refl
+  region_ends r is _ _ e (behind s tests super held over_it) =
+      subst (λ f. EndsAt (i.thread_of r) (at.Trying (i.behind_of s) (f ++ held_back k core i r))) (sym (front_none r true))
+      (weak_left r is (λ out. let wrong : at.Within s tests ≡ at.Outside = sym e ∙ out in absurd cc) (i.behind_of s))
+
+  -- ---- count tests
+
+  still_none : (rs : List ℕ) → still_in k core i c rs ≡ 0 → list_all (λ r. has_ended (standing_of c r)) rs ≡ true
+  still_none [] e = refl
+  still_none (r ∷ rs) e = by_end (has_ended (standing_of c r)) refl e (λ rest. still_none rs rest)
+    where
+      by_end : (b : Bool) → has_ended (standing_of c r) ≡ b → (if b then 0 else 1) + still_in k core i c rs ≡ 0 →
+          (still_in k core i c rs ≡ 0 → list_all (λ q. has_ended (standing_of c q)) rs ≡ true) →
+          (has_ended (standing_of c r) && list_all (λ q. has_ended (standing_of c q)) rs) ≡ true
+      by_end true is e rest = rw (is) (rest (omega (e, arith)))
+      by_end false is e rest = absurd (omega (e, arith))
+
+  -- a counter is not down to 0: else the termination would have its turn
+  not_counted : (o x : ℕ) (tests : List Transition) → standing_of c (holder k o) ≡ at.Within o tests → (i.flags_of o).counter ≡ Some x →
+      not_ended k core i c o ≢ 0
+  not_counted o x tests e flag none = by_tests tests e (related.closes_last o tests e)
+    where
+      join : (t : Transition) × ((more : List Transition) × (terminations (own k o) ≡ t ∷ more))
+      join = some_kept (λ t. is_join t.kind) (own k o) (counters.counter_joins o x flag)
+
+      by_tests : (tests : List Transition) → standing_of c (holder k o) ≡ at.Within o tests → Closes k core i o tests → ⊥
+      by_tests [] e closes = none_left closes.some closes.are
+        where
+          none_left : (some : List Transition) → [] ≡ some ++ terminations (own k o) → ⊥
+          none_left [] are = let wrong : [] ≡ join.0 ∷ join.1.0 = are ∙ join.1.1 in absurd cc
+          none_left (u ∷ some) are = absurd cc
+      by_tests (t ∷ tests) e closes =
+          works_not (holder k o) (at.Within o (t ∷ tests)) e (rw (still_none (state_at k o).regions none) (or_true (not (is_join t.kind))))
+        where
+          or_true : (b : Bool) → (b || true) ≡ true
+          or_true true = refl
+          or_true false = refl
+
+  pub none_raised : (immediate : Transition → Bool) (flag : Option ℕ) → raise_each immediate flag [] ≡ []
+  none_raised immediate None = refl
+  none_raised immediate (Some x) = refl
+
+  count_left : (o : ℕ) → IsState k o → has_aborts (own k o) ≡ true → (tests : List Transition) → standing_of c (holder k o) ≡ at.Within o tests →
+      EndsAt (i.watcher_of o) (at.Trying (i.watching_of o) (all_ended (i.flags_of o).counter))
+  count_left o is has tests e = by_counter (i.flags_of o).counter refl
+    where
+      inside_o : IsInside k core i o (standing_of c (holder k o))
+      inside_o = subst (IsInside k core i o) (sym e) (open_inside tests)
+
+      by_counter : (f : Option ℕ) → (i.flags_of o).counter ≡ f → EndsAt (i.watcher_of o) (at.Trying (i.watching_of o) (all_ended (i.flags_of o).counter))
+      by_counter None flag =
+          subst (λ f. EndsAt (i.watcher_of o) (at.Trying (i.watching_of o) (all_ended f))) (sym flag) (nothing_left (at.Trying (i.watching_of o) []) refl)
+      by_counter (Some x) flag =
+          let owner : rows.of_flag x ≡ o = counters.counter_of o x flag in
+          let stored : slice_get d.variables x ≡ Some (value_is.Int (pos (not_ended k core i c o))) =
+          subst (λ f. Stores k core i d.variables f (not_ended k core i c o)) flag (related.flags o is inside_o).counter in
+          subst (λ f. EndsAt (i.watcher_of o) (at.Trying (i.watching_of o) (all_ended f))) (sym flag)
+          (one_left (i.watching_of o) x (go true (Some (is_number x 0)) [] 1) (other_verdict x (not_ended k core i c o) 0 d.variables stored
+          (not_counted o x tests e flag)) (number_access x 0) (rows.counter_added o x flag)
+          (inr (inl (counters.counter_counts o x flag, ap i.watcher_of (sym owner)), (3, refl, written_low x))) (most o inside_o has x owner)
+          (reaches o inside_o has x owner))
+
+  watcher_ends : (o : ℕ) → IsState k o → has_aborts (own k o) ≡ true → (x y : Standing) → standing_of c (holder k o) ≡ x → Watches k core i o x y →
+      EndsAt (i.watcher_of o) y
+  watcher_ends o is has _ _ e (watch_guards some among) = absurd (works_not (holder k o) (at.Guarding o (map (λ z. z.1) some)) e refl)
+  watcher_ends o is has _ _ e (waits [] ends among only) =
+      subst (λ zs. EndsAt (i.watcher_of o) (at.Trying (i.watching_of o) (zs ++ all_ended (i.flags_of o).counter)))
+      (sym (none_raised (λ t. t.immediate) (i.flags_of o).weak)) (count_left o is has ends e)
+  watcher_ends o is has _ _ e (waits (z ∷ some) ends among only) =
+      let weak : is_weak z.1.kind ≡ true = kept_is (λ t. is_weak t.kind) (own k o) z.0 z.1 among.0 in
+      let no_join : is_join z.1.kind ≡ false = weak_no_join z.1.kind weak in
+      absurd (works_not (holder k o) (at.Within o (z.1 ∷ (map (λ w. w.1) some ++ ends))) e (rw (no_join) refl))
+  watcher_ends o is has _ _ e (elsewhere x one two) = nothing_left at.Outside refl
+
+  -- ---- each thread of the core
+
+  pub all_end : (t : ℕ) → EndsAt t (standing_of d t)
+  all_end zero = subst (EndsAt zero) (sym related.no_core) (nothing_left at.Outside refl)
+  all_end (suc j) = by_place (below j (length core.regions))
+    where
+      below : (n m : ℕ) → (n < m) ⊎ (m ≤ n)
+      below n m = grind arith
+
+      by_sort : (t : ℕ) → ((r : ℕ) × IsThere k r × (t ≡ i.thread_of r)) ⊎ ((s : ℕ) × IsState k s × (has_aborts (own k s) ≡ true) × (t ≡ i.watcher_of s)) →
+          EndsAt t (standing_of d t)
+      by_sort t (inl is) =
+          subst (λ g. EndsAt g (standing_of d g)) (sym is.2)
+          (region_ends is.0 is.1 (standing_of c is.0) (standing_of d (i.thread_of is.0)) refl (related.regions is.0 is.1))
+      by_sort t (inr is) =
+          subst (λ g. EndsAt g (standing_of d g)) (sym is.3)
+          (watcher_ends is.0 is.1 is.2 (standing_of c (holder k is.0)) (standing_of d (i.watcher_of is.0)) refl (related.watchers is.0 is.1 is.2))
+
+      by_place : (j < length core.regions) ⊎ (length core.regions ≤ j) → EndsAt (suc j) (standing_of d (suc j))
+      by_place (inl lt) = by_sort (suc j) (rows.each (suc j) (omega arith, omega (lt, arith)))
+      by_place (inr past) =
+          let size = related.core_regions in
+          subst (EndsAt (suc j))
+          (sym (ap (λ o. unwrap_or o at.Outside) (slice_get_past d.regions (suc j) (omega (past, size, arith))))) (nothing_left at.Outside refl)

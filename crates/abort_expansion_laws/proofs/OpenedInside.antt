@@ -1,0 +1,224 @@
+-- What entering the regions of a superstate makes of regions, it makes of those inside of the superstate alone.
+use Rattle.std.proofs.Common.{◌≡◌, ℕ, zero, suc, ◌+◌, ◌<◌, ⊎_elim, Bool, true, false, List, [], ◌∷◌, ◌++◌, map, length, slice_set}
+use Rattle.std.proofs.Common.{Contains, refl, sym, ap, subst, ◌∙◌, arith}
+use Rattle.sc_graph.specs.declared.program.Variable.{Variable}
+use Rattle.sc_text.proofs.EachItem.{Each, each_of, each_append, each_more}
+use Rattle.core_charts.specs.declared.features.Features.{Features}
+use Rattle.core_charts.specs.declared.region.Region.{Region}
+use Rattle.core_charts.specs.declared.region.Region.TheOpen.{Region-F}
+use Rattle.core_charts.specs.declared.region.Region.TheViews.{out-Region, out-State}
+use Rattle.core_charts.specs.declared.region.Region.TheFolds.{fold_out-Region, fold_out-State}
+use Rattle.core_charts.specs.declared.region.State.{State}
+use Rattle.core_charts.specs.declared.region.Transition.{Transition}
+use Rattle.core_charts.specs.Chart.{Chart}
+use Rattle.core_charts.specs.Rules.{IsChart, IsRegion, AreRegions, depth_limit}
+use Rattle.core_charts.specs.Tests.{at_once, strong_aborts, first_closing_tests}
+use Rattle.chart_machine.specs.declared.standing.Standing.{Standing}
+use Rattle.chart_machine.specs.declared.standing.Move.{Move}
+use Rattle.chart_machine.specs.declared.table.Table.{Table}
+use Rattle.chart_machine.specs.declared.table.TablePosition.{TablePosition}
+use Rattle.chart_machine.specs.Table.{Piece, table, whole, state_at, side_by_side, behind, within, inside_region, states_in, next_behind, past_states}
+use Rattle.chart_machine.specs.Table.{regions_in_initial, rows_of_state_at, in_region, come_to, region_piece, state_piece, piece_of_region, piece_of_state}
+use Rattle.chart_machine.specs.Table.{entered_state, is_superstate}
+use Rattle.chart_machine.specs.Steps.{moved}
+use Rattle.chart_machine_laws.specs.Tree.{around}
+use Rattle.chart_machine_laws.proofs.LyingIn.{none_in, head_in, tail_in, head_or_tail}
+use Rattle.chart_machine_laws.proofs.RowsOfPieces.{Holds, IsSized, AllSized, state_sized, region_sized, side_states}
+use Rattle.chart_machine_laws.proofs.TableTrees.{OnceInitial}
+use Rattle.chart_machine_laws.proofs.ChartTables.{holds_whole}
+use Rattle.abort_expansion_laws.proofs.Leaving.{at_number, set_other}
+use Rattle.abort_expansion_laws.proofs.InRegionRows.{InRegionAt, first_holds, rest_holds, spot_of}
+use Rattle.abort_expansion_laws.proofs.SideRows.{side_head, side_tail}
+use Rattle.abort_expansion_laws.proofs.Walked.{Range, range_none, range_both, range_to, range_more}
+use Rattle.abort_expansion_laws.proofs.RowsOfForks.{region_rows}
+use Rattle.abort_expansion_laws.proofs.ChartWalk.{one_state_begins}
+
+module _ (k : Table) where
+  -- the region of a move has these superstates around it
+  abbrev MoveIn : List ℕ → Move → Type 0
+  MoveIn zs m = (o : ℕ) → Contains zs o → Contains (around k m.region) o
+
+  abbrev pub MovesIn : List ℕ → List Move → Type 0
+  MovesIn zs ms = Each (MoveIn zs) ms
+
+  abbrev OpensInside : ℕ → Type 0
+  OpensInside s = MovesIn (s ∷ []) (state_at k s).opened
+
+  fewer : (xs ys : List ℕ) (ms : List Move) → ((o : ℕ) → Contains ys o → Contains xs o) → MovesIn xs ms → MovesIn ys ms
+  fewer xs ys ms into h = each_more (MoveIn xs) (MoveIn ys) ms (λ m inner o has. inner o (into o has)) h
+
+  record RegionMoves (r : Region) : Type 0 where
+    enters : (a : TablePosition) → Holds k a ((piece_of_region r).parts a) → MovesIn a.around ((piece_of_region r).parts a).entered
+    opens : (a : TablePosition) → Holds k a ((piece_of_region r).parts a) → Range OpensInside a.state (a.state + (piece_of_region r).states)
+    sized : IsSized (piece_of_region r)
+
+  record StateMovesBy (p : Piece) : Type 0 where
+    enters : (a : TablePosition) → Holds k a (p.parts a) → around k a.holder ≡ a.around → MovesIn a.around (p.parts a).entered
+    opens : (a : TablePosition) → Holds k a (p.parts a) → around k a.holder ≡ a.around → Range OpensInside a.state (a.state + p.states)
+    sized : IsSized p
+
+  abbrev StateMoves : State → Type 0
+  StateMoves s = StateMovesBy (piece_of_state s)
+
+  sized_regions : (regions : List Region) → Each RegionMoves regions → AllSized (map piece_of_region regions)
+  sized_regions [] each = tt
+  sized_regions (r ∷ regions) each = (each.0.sized, sized_regions regions each.1)
+
+  sized_states : (states : List State) → Each StateMoves states → AllSized (map piece_of_state states)
+  sized_states [] each = tt
+  sized_states (s ∷ states) each = (each.0.sized, sized_states states each.1)
+
+  side_enters : (regions : List Region) → Each RegionMoves regions → (a : TablePosition) → Holds k a (side_by_side (map piece_of_region regions) a) →
+      MovesIn a.around (side_by_side (map piece_of_region regions) a).entered
+  side_enters [] each a holds = tt
+  side_enters (r ∷ regions) each a holds =
+      each_append (MoveIn a.around) ((piece_of_region r).parts a).entered _ (each.0.enters a (side_head k (piece_of_region r)
+      (map piece_of_region regions) a holds))
+      (side_enters regions each.1 (behind (piece_of_region r) a)
+      (side_tail k (piece_of_region r) (map piece_of_region regions) a each.0.sized holds))
+
+  side_opens : (regions : List Region) → Each RegionMoves regions → (a : TablePosition) → Holds k a (side_by_side (map piece_of_region regions) a) →
+      Range OpensInside a.state (a.state + states_in (map piece_of_region regions))
+  side_opens [] each a holds = range_none OpensInside a.state (a.state + 0) (omega arith)
+  side_opens (r ∷ regions) each a holds =
+      let p : Piece = piece_of_region r in
+      range_to OpensInside a.state ((a.state + p.states) + states_in (map piece_of_region regions)) (a.state + states_in (p ∷ map piece_of_region regions))
+      (omega arith)
+      (range_both OpensInside a.state (a.state + p.states) ((a.state + p.states) + states_in (map piece_of_region regions))
+      (each.0.opens a (side_head k p (map piece_of_region regions) a holds))
+      (side_opens regions each.1 (behind p a) (side_tail k p (map piece_of_region regions) a each.0.sized holds)))
+
+  inner_enters : (states : List State) → Each StateMoves states → (a : TablePosition) (next : ℕ) → InRegionAt k (map piece_of_state states) next a →
+      OnceInitial (map piece_of_state states) → around k a.holder ≡ a.around → MovesIn a.around (in_region (map piece_of_state states) next a).entered
+  inner_enters [] each a next rows once around_it = tt
+  inner_enters (s ∷ states) each a next rows once around_it =
+      let p : Piece = piece_of_state s in
+      let ps : List Piece = map piece_of_state states in
+      by_first p.is_initial (first_holds k p ps next a rows)
+      (inner_enters states each.1 (past_states p.states a) (next_behind p next) (rest_holds k p ps next a each.0.sized once rows) once.1 around_it)
+    where
+      by_first : (b : Bool) → Holds k (spot_of b next a) ((piece_of_state s).parts (spot_of b next a)) →
+          MovesIn a.around (in_region (map piece_of_state states) (next_behind (piece_of_state s) next) (past_states (piece_of_state s).states a)).entered →
+          MovesIn a.around ((rows_of_state_at b (piece_of_state s).parts next a).entered
+          ++ (in_region (map piece_of_state states) (next_behind (piece_of_state s) next) (past_states (piece_of_state s).states a)).entered)
+      by_first true holds rest = each_append (MoveIn a.around) ((piece_of_state s).parts a).entered _ (each.0.enters a holds around_it) rest
+      by_first false holds rest = rest
+
+  inner_opens : (states : List State) → Each StateMoves states → (a : TablePosition) (next : ℕ) → InRegionAt k (map piece_of_state states) next a →
+      OnceInitial (map piece_of_state states) → around k a.holder ≡ a.around → Range OpensInside a.state (a.state + states_in (map piece_of_state states))
+  inner_opens [] each a next rows once around_it = range_none OpensInside a.state (a.state + 0) (omega arith)
+  inner_opens (s ∷ states) each a next rows once around_it =
+      let p : Piece = piece_of_state s in
+      let ps : List Piece = map piece_of_state states in
+      range_to OpensInside a.state ((a.state + p.states) + states_in ps) (a.state + states_in (p ∷ ps)) (omega arith)
+      (range_both OpensInside a.state (a.state + p.states) ((a.state + p.states) + states_in ps)
+      (each.0.opens (spot_of p.is_initial next a) (first_holds k p ps next a rows) around_it)
+      (inner_opens states each.1 (past_states p.states a) (next_behind p next) (rest_holds k p ps next a each.0.sized once rows) once.1 around_it))
+
+  module _ (name : List ℕ) (initial final : Bool) (regions : List Region) (all : List Transition) (each : Each RegionMoves regions) where
+    abbrev layer : Piece
+    layer = state_piece (record { name = name; is_initial = initial; is_final = final; regions = map piece_of_region regions; transitions = all })
+
+    own_move : (a : TablePosition) → around k a.holder ≡ a.around → (o : ℕ) → Contains a.around o → Contains (around k a.holder) o
+    own_move a around_it o h = subst (λ zs. Contains zs o) (sym around_it) h
+
+    opened_in : (a : TablePosition) → Holds k a (layer.parts a) →
+        MovesIn (a.state ∷ a.around) (side_by_side (map piece_of_region regions) (within a)).entered
+    opened_in a holds = side_enters regions each (within a) (record { states = holds.states.1; regions = holds.regions })
+
+    come_in : (a : TablePosition) → around k a.holder ≡ a.around → (strong closing : List Transition) (opened : List Move) →
+        MovesIn (a.state ∷ a.around) opened → MovesIn a.around (come_to a.holder a.state strong closing opened)
+    come_in a around_it [] closing opened h = (
+      own_move a around_it,
+      fewer (a.state ∷ a.around) a.around opened (λ o has. tail_in a.state o a.around has) h,
+    )
+    come_in a around_it (t ∷ strong) closing opened h = (own_move a around_it, tt)
+
+    entered_in : (a : TablePosition) → around k a.holder ≡ a.around → (ends super : Bool) (opened : List Move) → MovesIn (a.state ∷ a.around) opened →
+        MovesIn a.around (entered_state ends super a all opened)
+    entered_in a around_it true super opened h = (own_move a around_it, tt)
+    entered_in a around_it false false opened h = (own_move a around_it, tt)
+    entered_in a around_it false true opened h = come_in a around_it (at_once (strong_aborts all)) (first_closing_tests all) opened h
+
+    only_head : (a : TablePosition) (o : ℕ) → Contains (a.state ∷ []) o → Contains (a.state ∷ a.around) o
+    only_head a o h =
+        ⊎_elim (λ same. subst (Contains (a.state ∷ a.around)) same (head_in a.state a.around)) (λ none. absurd (none_in o none)) (head_or_tail a.state o [] h)
+
+    layer_moves : StateMovesBy layer
+    layer_moves =
+        record {
+          enters = λ a holds around_it.
+              entered_in a around_it final (is_superstate (map piece_of_region regions)) (side_by_side (map piece_of_region regions) (within a)).entered
+              (opened_in a holds);
+          opens = λ a holds around_it.
+              range_more OpensInside a.state (a.state + suc (states_in (map piece_of_region regions)))
+              (subst (MovesIn (a.state ∷ [])) (sym (ap (λ z. z.opened) holds.states.0))
+              (fewer (a.state ∷ a.around) (a.state ∷ []) (side_by_side (map piece_of_region regions) (within a)).entered (only_head a) (opened_in a holds)))
+              (range_to OpensInside (suc a.state) (suc a.state + states_in (map piece_of_region regions)) (a.state + suc (states_in
+              (map piece_of_region regions)))
+              (omega arith) (side_opens regions each (within a) (record { states = holds.states.1; regions = holds.regions })));
+          sized = state_sized (record { name = name; is_initial = initial; is_final = final; regions = map piece_of_region regions; transitions = all })
+              (sized_regions regions each);
+        }
+
+  state_moves : (s : State) → Each RegionMoves (out-State s).regions → StateMoves s
+  state_moves s each =
+      let o = out-State s in
+      subst StateMovesBy (sym (fold_out-State Piece Piece region_piece state_piece s)) (layer_moves o.name o.is_initial o.is_final o.regions o.transitions each)
+
+  abbrev layer_of : Region → Region-F Piece Piece
+  layer_of r = record { name = (out-Region r).name; states = map piece_of_state (out-Region r).states }
+
+  region_moves : (r : Region) → OnceInitial (map piece_of_state (out-Region r).states) → Each StateMoves (out-Region r).states → RegionMoves r
+  region_moves r once each =
+      record {
+        enters = λ a holds.
+            subst (λ p. MovesIn a.around (p.parts a).entered) (sym is)
+            (let rows = region_rows k (layer_of r) a sized (subst (λ p. Holds k a (p.parts a)) is holds) in
+            inner_enters (out-Region r).states each (inside_region a) (suc a.region + regions_in_initial (map piece_of_state (out-Region r).states)) rows.1 once
+            (ap (λ z. z.around) rows.0));
+        opens = λ a holds.
+            subst (λ p. Range OpensInside a.state (a.state + p.states)) (sym is)
+            (let rows = region_rows k (layer_of r) a sized (subst (λ p. Holds k a (p.parts a)) is holds) in
+            inner_opens (out-Region r).states each (inside_region a) (suc a.region + regions_in_initial (map piece_of_state (out-Region r).states)) rows.1 once
+            (ap (λ z. z.around) rows.0));
+        sized = subst IsSized (sym is) (region_sized (layer_of r) sized);
+      }
+    where
+      is : piece_of_region r ≡ region_piece (layer_of r)
+      is = fold_out-Region Piece Piece region_piece state_piece r
+
+      sized : AllSized (map piece_of_state (out-Region r).states)
+      sized = sized_states (out-Region r).states each
+
+  regions_move : (f : Features) (variables : List Variable) (levels : ℕ) (regions : List Region) → AreRegions f variables levels regions →
+      Each RegionMoves regions
+  regions_move f variables zero regions rules = subst (Each RegionMoves) (sym rules) tt
+  regions_move f variables (suc levels) regions rules =
+      each_of RegionMoves regions (λ n r is. one r (rules.each n r is) (λ rs inner. regions_move f variables levels rs inner))
+    where
+      one : (r : Region) → IsRegion f variables (AreRegions f variables levels) r →
+          ((rs : List Region) → AreRegions f variables levels rs → Each RegionMoves rs) → RegionMoves r
+      one r region inner =
+          region_moves r (one_state_begins (out-Region r).states region.one_initial)
+          (each_of StateMoves (out-Region r).states (λ j s is. state_moves s (inner (out-State s).regions (region.states j s is).regions)))
+
+-- for each state of a chart that keeps its rules
+opened_within : (f : Features) (c : Chart) → IsChart f c → (s : ℕ) → s < length (table c).states → MovesIn (table c) (s ∷ []) (state_at (table c) s).opened
+opened_within f c rules s lt =
+    let each : Each (RegionMoves (table c)) c.regions = regions_move (table c) f c.variables depth_limit c.regions rules.regions in
+    let size : length (table c).states ≡ states_in (map piece_of_region c.regions) =
+    side_states (map piece_of_region c.regions) whole (sized_regions (table c) c.regions each) in
+    side_opens (table c) c.regions each whole (holds_whole c.variables c.regions) s (omega arith) (omega (lt, size, arith))
+
+-- so what is not inside stays where it is
+unmoved : (k : Table) (s t : ℕ) → ¬ Contains (around k t) s → (ms : List Move) → MovesIn k (s ∷ []) ms → (zs : List Standing) →
+    at_number (moved ms zs) t ≡ at_number zs t
+unmoved k s t out [] h zs = refl
+unmoved k s t out (m ∷ ms) h zs =
+    unmoved k s t out ms h.1 (slice_set zs m.region m.standing) ∙
+    set_other zs m.region t m.standing (λ same. out (subst (λ q. Contains (around k q) s) (sym same) (h.0 s (head_in s []))))
+
+pub opened_elsewhere : (f : Features) (c : Chart) → IsChart f c → (s t : ℕ) (zs : List Standing) → s < length (table c).states →
+    ¬ Contains (around (table c) t) s → at_number (moved (state_at (table c) s).opened zs) t ≡ at_number zs t
+opened_elsewhere f c rules s t zs lt out = unmoved (table c) s t out (state_at (table c) s).opened (opened_within f c rules s lt) zs

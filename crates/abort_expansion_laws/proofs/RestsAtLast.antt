@@ -1,0 +1,158 @@
+-- The end of a tick: when the chart is over, its core makes the tests it has held back, and both rest alike.
+use Rattle.std.proofs.Common.{◌≡◌, ◌≢◌, ℕ, ◌<◌, ◌⊎◌, inl, inr, Bool, true, false, Option, Some, None, [], ◌∷◌, ◌++◌, map, length, Contains}
+use Rattle.std.proofs.Common.{refl, sym, ap, subst, ◌∙◌}
+use Rattle.sc_values.specs.Access.{Access}
+use Rattle.sc_values.specs.Runs.{IsOver}
+use Rattle.core_charts.specs.Tests.{is_weak, is_join}
+use Rattle.chart_machine.specs.declared.standing.Standing.{Standing}
+use Rattle.chart_machine.specs.declared.standing.Standing.TheVariants as at
+use Rattle.chart_machine.specs.declared.standing.Configuration.{Configuration}
+use Rattle.chart_machine.specs.declared.table.Table.{Table}
+use Rattle.chart_machine.specs.Turns.{standing_of, has_work}
+use Rattle.chart_machine.specs.Machine.{machine}
+use Rattle.abort_expansion.specs.Superstates.{all_ended}
+use Rattle.chart_machine_laws.specs.Tree.{IsNested, IsThere, around, holder}
+use Rattle.abort_expansion_laws.proofs.Simulation.{Segment}
+use Rattle.abort_expansion_laws.specs.Stages.{Entry, Silent, Correspondence}
+use Rattle.abort_expansion_laws.specs.CoreRows.{own, Images, CoreRows, pair}
+use Rattle.abort_expansion_laws.specs.Related.{front, held_back, Stands, outside, ended, left, trying, acting, entering, guarding, staying}
+use Rattle.abort_expansion_laws.specs.Related.{within, behind, Watches, waits, elsewhere, FlagsAreDown, Related}
+use Rattle.abort_expansion_laws.specs.Related.{guards as watch_guards}
+use Rattle.abort_expansion_laws.specs.StageReached.{Stage}
+use Rattle.abort_expansion_laws.proofs.InsideLeaves.{FlatRows}
+use Rattle.abort_expansion_laws.proofs.StartingRegions.{CounterRows}
+use Rattle.abort_expansion_laws.proofs.OpensFork.{OpeningRows}
+use Rattle.abort_expansion_laws.proofs.Supplying.{climbs_fewer}
+use Rattle.abort_expansion_laws.proofs.TickStarts.{StartRows, no_weak_checks}
+use Rattle.abort_expansion_laws.proofs.LaterTicks.{weak_no_join}
+use Rattle.abort_expansion_laws.proofs.Unchanged.{no_guards}
+use Rattle.abort_expansion_laws.proofs.LastTests.{last_of, Done, Passing, tests_end, all_passed}
+use Rattle.abort_expansion_laws.proofs.LeftTests as left_tests
+use Rattle.abort_expansion_laws.proofs.Owed.{RestsIn, rests_outside, rests_ended, rests_left, rests_trying, rests_staying, rests_within, rests_behind}
+use Rattle.abort_expansion_laws.proofs.Owed.{WatchRests, watch_within, watch_elsewhere, Resting}
+
+module _ (k core : Table) (i : Images) (rows : CoreRows k core i) (flat : FlatRows k core i) (tree : IsNested k) (counts : ℕ → Bool) (written_at : ℕ → ℕ)
+    (counters : CounterRows k core i rows counts written_at) (opening : OpeningRows k core i rows) (start_rows : StartRows k core i rows)
+    (written_low : (x : ℕ) → written_at x < 3) (Told : Configuration → Entry → Type 0)
+    (told : (e : Configuration) (t : ℕ) (stage : Option (ℕ × ℕ)) (a : Access) → Told e (Silent t stage a))
+    (c d : Configuration) (related : Related k core i c d) (deep : (q s : ℕ) → Contains (around k q) s → holder k s < q) (over : IsOver (machine k) c) where
+  abbrev corr : Correspondence
+  corr = pair k core i rows tree counts written_at
+
+  abbrev Reached : ℕ → ℕ → Type 0
+  Reached h n = Stage k i.thread_of c d h n
+
+  works_not : (r : ℕ) (x : Standing) → standing_of c r ≡ x → has_work k c x ≡ true → ⊥
+  works_not =
+      left_tests.works_not k core i rows flat tree counts written_at counters opening start_rows written_low Told told c d related deep over
+
+  -- ---- where each region rests
+
+  held_last : (r u : ℕ) → last_of (at.Trying u (held_back k core i r)) ≡ at.Trying u []
+  held_last r u =
+      by_weak
+      (left_tests.find_weak k core i rows flat tree counts written_at counters opening start_rows written_low Told told c d related deep over (around k r))
+    where
+      by_weak : ((o : ℕ) × Contains (around k r) o × ((x : ℕ) × ((i.flags_of o).weak ≡ Some x))) ⊎
+          ((s : ℕ) → Contains (around k r) s → (i.flags_of s).weak ≡ None) → last_of (at.Trying u (held_back k core i r)) ≡ at.Trying u []
+      by_weak (inr none) =
+          ap (λ zs. last_of (at.Trying u zs)) (no_weak_checks i.flags_of true (i.places_of r).left k tree (around k r) none)
+      by_weak (inl some) =
+          ap (λ zs. last_of (at.Trying u zs))
+          (left_tests.one_held k core i rows flat tree counts written_at counters opening start_rows written_low Told told c d related deep over r some.0
+          some.2.0 some.1 some.2.1)
+
+  free_of_front : (r : ℕ) (b : Bool) → front k core i b c r ≡ []
+  free_of_front =
+      left_tests.front_none k core i rows flat tree counts written_at counters opening start_rows written_low Told told c d related deep over
+
+  region_rests : (r : ℕ) (x y : Standing) → standing_of c r ≡ x → Stands k core i c r x y → RestsIn k core i c r x (last_of y)
+  region_rests r _ _ e outside = rests_outside
+  region_rests r _ _ e (ended inner) = rests_ended inner
+  region_rests r _ _ e (left s ss round over_it) = rests_left s ss round over_it
+  region_rests r _ _ e (trying s [] simple held) =
+      subst (RestsIn k core i c r (at.Trying s []))
+      (sym (ap (λ f. last_of (at.Trying (i.main_of s) (f ++ [] ++ held_back k core i r))) (free_of_front r false) ∙ held_last r (i.main_of s)))
+      (rests_trying s simple held)
+  region_rests r _ _ e (trying s (t ∷ tests) simple held) = absurd (works_not r (at.Trying s (t ∷ tests)) e refl)
+  region_rests r _ _ e (acting s u p f effects lt) = absurd (works_not r (at.Acting s (f ∷ effects) p) e refl)
+  region_rests r _ _ e (entering s fork t tests super held leads) = absurd (works_not r (at.Entering s (t ∷ tests)) e refl)
+  region_rests r _ _ e (guarding s join t tests has held leads) = absurd (works_not r (at.Guarding s (t ∷ tests)) e refl)
+  region_rests r _ _ e (staying s tests super held stay) = rests_staying s tests super held stay
+  region_rests r _ _ e (within s join tests super held apart still leads) = rests_within s join tests super held apart still leads
+  region_rests r _ _ e (behind s tests super held over_it) =
+      subst (RestsIn k core i c r (at.Within s tests))
+      (sym (ap (λ f. last_of (at.Trying (i.behind_of s) (f ++ held_back k core i r))) (free_of_front r true) ∙ held_last r (i.behind_of s)))
+      (rests_behind s tests super held over_it)
+
+  -- ---- and each monitor
+
+  count_last : (u : ℕ) (f : Option ℕ) → last_of (at.Trying u (all_ended f)) ≡ at.Trying u []
+  count_last u None = refl
+  count_last u (Some x) = refl
+
+  watcher_rests : (o : ℕ) (x y : Standing) → standing_of c (holder k o) ≡ x → Watches k core i o x y → WatchRests k core i o x (last_of y)
+  watcher_rests o _ _ e (watch_guards some among) = absurd (works_not (holder k o) (at.Guarding o (map (λ z. z.1) some)) e refl)
+  watcher_rests o _ _ e (waits [] ends among only) =
+      subst (WatchRests k core i o (at.Within o ends))
+      (sym
+      (ap (λ zs. last_of (at.Trying (i.watching_of o) (zs ++ all_ended (i.flags_of o).counter)))
+      (left_tests.none_raised k core i rows flat tree counts written_at counters opening start_rows written_low Told told c d related deep over
+      (λ t. t.immediate) (i.flags_of o).weak) ∙ count_last (i.watching_of o) (i.flags_of o).counter)) (watch_within ends)
+  watcher_rests o _ _ e (waits (z ∷ some) ends among only) =
+      let weak : is_weak z.1.kind ≡ true =
+      left_tests.kept_is (λ t. is_weak t.kind) (own k o) z.0 z.1 among.0 in
+      let no_join : is_join z.1.kind ≡ false = weak_no_join z.1.kind weak in
+      absurd (works_not (holder k o) (at.Within o (z.1 ∷ (map (λ w. w.1) some ++ ends))) e (rw (no_join) refl))
+  watcher_rests o _ _ e (elsewhere x one two) = watch_elsewhere x two
+
+  -- ---- both configurations
+
+  module _ (begun : (r : ℕ) × IsThere k r × (around k r ≡ []) × (standing_of c r ≢ at.Outside)) where
+    rests : (e : Configuration) → Done core corr Told told d Reached (length d.regions) e → Resting k core i c e
+    rests e done =
+        record {
+          more = related.more;
+          variables = done.variables ∙ related.variables;
+          flag_count = ap (λ vs. length vs) done.variables ∙ related.flag_count;
+          chart_regions = related.chart_regions;
+          core_regions = done.size ∙ related.core_regions;
+          values = related.values;
+          no_chart = related.no_chart;
+          no_core = passed 0 ∙ ap last_of related.no_core;
+          regions = λ r is.
+              subst (RestsIn k core i c r (standing_of c r)) (sym (passed (i.thread_of r)))
+              (region_rests r (standing_of c r) (standing_of d (i.thread_of r)) refl (related.regions r is));
+          watchers = λ o is has.
+              subst (WatchRests k core i o (standing_of c (holder k o))) (sym (passed (i.watcher_of o)))
+              (watcher_rests o (standing_of c (holder k o)) (standing_of d (i.watcher_of o)) refl (related.watchers o is has));
+          flags = λ s is inner. subst (λ vs. FlagsAreDown k core i c vs s) (sym done.variables) (related.flags s is inner);
+          enclosed = related.enclosed;
+          opened = related.opened;
+          closes_last = related.closes_last;
+          begun = begun;
+        }
+      where
+        passed : (t : ℕ) → standing_of e t ≡ last_of (standing_of d t)
+        passed = all_passed core corr Told told d Reached e done
+
+    pub rests_at_last : Segment (machine core) corr Told d (Stage k i.thread_of c d) (Stage k i.thread_of c) [] (Resting k core i c)
+    rests_at_last =
+        record {
+          log = tests.log;
+          last = tests.last;
+          follows = tests.follows;
+          charted = tests.charted;
+          fits = tests.fits;
+          climbs = λ rest climbs.
+              tests.climbs rest
+              (climbs_fewer corr (Stage k i.thread_of c tests.last) Reached rest
+              (λ h n before. record { regions = before.regions; chart = before.chart }) climbs);
+          reaches = rests tests.last tests.reaches;
+        }
+      where
+        tests : Passing core corr Told told d Reached d (Done core corr Told told d Reached (length d.regions))
+        tests =
+            tests_end core corr Told told d Reached
+            (left_tests.all_end k core i rows flat tree counts written_at counters opening start_rows written_low Told told c d related deep over)
+            (no_guards k core i rows c d related)

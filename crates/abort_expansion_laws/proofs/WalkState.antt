@@ -1,0 +1,274 @@
+-- Any state of a chart, and what it becomes.
+use Rattle.std.proofs.Common.{◌≡◌, ℕ, suc, ◌+◌, ◌<◌, Bool, true, false, Some, List, [], ◌∷◌, ◌++◌, map, length, refl, sym, ap, subst, ◌∙◌, arith}
+use Rattle.std.proofs.Common.{unwrap_or, if◌then◌else◌}
+use Rattle.sc_text.proofs.EachItem.{Each}
+use Rattle.core_charts.specs.declared.region.Region.{Region}
+use Rattle.core_charts.specs.declared.region.Region.TheOpen.{State-F}
+use Rattle.core_charts.specs.declared.region.Region.TheViews.{out-State}
+use Rattle.core_charts.specs.declared.region.Region.TheFolds.{fold_out-State}
+use Rattle.core_charts.specs.declared.region.Transition.{Transition}
+use Rattle.core_charts.specs.declared.region.State.{State}
+use Rattle.core_charts.specs.Rules.{IsBareIfFinal}
+use Rattle.chart_machine.specs.declared.table.TablePosition.{TablePosition}
+use Rattle.chart_machine.specs.Table.{Piece, states_in, past_states, next_behind, piece_of_region as table_of_region, piece_of_state as table_of_state}
+use Rattle.chart_machine.specs.Table.{region_piece as table_region_piece, state_piece as table_state_piece}
+use Rattle.chart_machine.specs.Table.{state_at}
+use Rattle.abort_expansion.specs.declared.flags.Flags.{Flags}
+use Rattle.abort_expansion.specs.declared.places.Places.{Places}
+use Rattle.abort_expansion.specs.declared.pieces.States.{States}
+use Rattle.abort_expansion.specs.declared.pieces.Numbers.{Numbers}
+use Rattle.abort_expansion.specs.Flags.{has_join, preparation_name}
+use Rattle.core_charts.specs.Aborts.{has_aborts}
+use Rattle.abort_expansion.specs.Pieces.{RegionPiece, StatePiece, beside}
+use Rattle.abort_expansion.specs.Superstates.{stays, is_prepared, prepared, superstate_over, split}
+use Rattle.abort_expansion.specs.Expansion.{piece_of_region, piece_of_state, region_piece, state_piece}
+use Rattle.chart_machine_laws.proofs.RowsOfPieces.{IsSized, state_sized}
+use Rattle.chart_machine_laws.proofs.TableTrees.{NoneInitial, OnceInitial}
+use Rattle.abort_expansion_laws.specs.CoreRows.{simple_row}
+use Rattle.abort_expansion_laws.proofs.SimpleRows.{rolled}
+use Rattle.abort_expansion_laws.proofs.InRegionRows.{InRegionAt, rest_holds}
+use Rattle.abort_expansion_laws.proofs.Walked.{World, values_from, Range, range_to, range_more, CoreStateFits, thread}
+use Rattle.abort_expansion_laws.proofs.Walks.{Fits, StateStands, StateWalk, StateWalksBy, StateCounts, StateWalks, RegionWalks, pieces_of}
+use Rattle.abort_expansion_laws.proofs.WalkSide.{counts_side, sized_side}
+use Rattle.abort_expansion_laws.proofs.LocalImages.{preparing}
+use Rattle.abort_expansion_laws.proofs.WalkSimple.{walk_simple, one_row, one_sized, one_begins, one_state}
+use Rattle.abort_expansion_laws.proofs.WalkStaying.{walk_staying}
+use Rattle.abort_expansion_laws.proofs.WalkFork as forks
+
+module _ (name : List ℕ) (initial : Bool) (r : Region) (others : List Region) (all : List Transition) (walks : Each RegionWalks (r ∷ others))
+    (few : length (map piece_of_region (r ∷ others)) < 2147483648) (flags : List Flags) (places : Places) (numbers : Numbers) (a b : TablePosition)
+    (next place : ℕ) (begins : Bool) where
+  abbrev regions : List Region
+  regions = r ∷ others
+
+  abbrev piece : Piece
+  piece = forks.chart_piece name initial r others all walks flags places numbers a b next place begins b.state
+
+  abbrev count : ℕ
+  count = forks.variables name initial r others all walks flags places numbers a b next place begins b.state
+
+  -- without a preparation
+  walk_fork : stays flags all ≡ false → is_prepared flags all ≡ false →
+      StateWalk piece (forks.made name initial r others all walks flags places numbers a b next place begins b.state) count false 2 flags places place begins
+      numbers a b next
+  walk_fork apart plain =
+      record {
+        image = forks.image name initial r others all walks flags places numbers a b next place begins b.state;
+        inner = (forks.inner name initial r others all walks flags places numbers a b next place begins b.state).part.states;
+        owners = forks.owners name initial r others all walks flags places numbers a b next place begins b.state;
+        entry = refl;
+        placed = refl;
+        core_sized = forks.sizes name initial r others all walks flags places numbers a b next place begins b.state;
+        core_many = forks.many name initial r others all walks flags places numbers a b next place begins b.state;
+        long_states = ap suc (forks.inner name initial r others all walks flags places numbers a b next place begins b.state).long_states;
+        long_owners = forks.long_owners name initial r others all walks flags places numbers a b next place begins b.state;
+        long_variables = forks.long_variables name initial r others all walks flags places numbers a b next place begins b.state;
+        wide = refl;
+        first = (_, (_, refl));
+        stands = (_, refl);
+        not_initial = forks.not_initial name initial r others all walks flags places numbers a b next place begins b.state;
+        one_initial = forks.one_initial name initial r others all walks flags places numbers a b next place begins b.state;
+        final_is = λ w holds. forks.not_ends name initial r others all walks flags places numbers a b next place begins b.state w holds;
+        held_chart = λ w holds. ap (λ z. z.holder) holds.states.0;
+        held_core = λ w more rows once. forks.held_core name initial r others all walks flags places numbers a b next place begins b.state w.core more rows;
+        facts = λ w more stands.
+            forks.fork_fits name initial r others all walks flags places numbers a b next place begins b.state w more stands
+            (forks.state_fits name initial r others all walks flags places numbers a b next place begins b.state w more stands few apart
+            (stands.entries.mapped.0 ∙ ap Some stands.entries.numbered)
+            (λ certain. let wrong : true ≡ false = sym certain ∙ plain in absurd cc) (λ e. refl));
+      }
+
+  -- with one
+  abbrev n : ℕ
+  n = length (map piece_of_region regions)
+
+  abbrev preparation_state : State
+  preparation_state = rolled (preparation_name numbers.superstate) begins false []
+      (preparing places (forks.f name initial r others all walks flags places numbers a b next place begins b.state) n all (suc place))
+
+  abbrev first_piece : Piece
+  first_piece = table_of_state preparation_state
+
+  abbrev later : TablePosition
+  later = past_states first_piece.states b
+
+  abbrev later_next : ℕ
+  later_next = next_behind first_piece next
+
+  abbrev fork_made : States
+  fork_made = forks.made name initial r others all walks flags places numbers a later later_next (suc place) false b.state
+
+  abbrev both_made : States
+  both_made = beside (prepared n all (forks.f name initial r others all walks flags places numbers a b next place begins b.state) places place begins numbers)
+      fork_made
+
+  first_state : first_piece.states ≡ 1
+  first_state = one_state (preparation_name numbers.superstate) begins false
+      (preparing places (forks.f name initial r others all walks flags places numbers a b next place begins b.state) n all (suc place))
+
+  first_sized : IsSized first_piece
+  first_sized = one_sized (preparation_name numbers.superstate) begins false
+      (preparing places (forks.f name initial r others all walks flags places numbers a b next place begins b.state) n all (suc place))
+
+  first_begins : first_piece.is_initial ≡ begins
+  first_begins = one_begins (preparation_name numbers.superstate) begins false
+      (preparing places (forks.f name initial r others all walks flags places numbers a b next place begins b.state) n all (suc place))
+
+  none_later : NoneInitial (pieces_of fork_made.states)
+  none_later = forks.not_initial name initial r others all walks flags places numbers a later later_next (suc place) false b.state refl
+
+  later_rows : (w : World) (more : List Piece) → InRegionAt w.core (pieces_of both_made.states ++ more) next b →
+      OnceInitial (pieces_of both_made.states ++ more) → InRegionAt w.core (pieces_of fork_made.states ++ more) later_next later
+  later_rows w more rows once = rest_holds w.core first_piece (pieces_of fork_made.states ++ more) next b first_sized once rows
+
+  module _ (apart : stays flags all ≡ false) (is : is_prepared flags all ≡ true) (w : World) (more : List Piece)
+      (stands : StateStands w piece both_made flags places place numbers a b next more
+      (forks.part name initial r others all walks flags places numbers a later later_next (suc place) false b.state)) where
+    first_row : state_at w.core b.state ≡ simple_row b.holder b.state
+        (preparing places (forks.f name initial r others all walks flags places numbers a b next place begins b.state) n all (suc place))
+    first_row = (one_row (preparation_name numbers.superstate) begins false
+        (preparing places (forks.f name initial r others all walks flags places numbers a b next place begins b.state) n all (suc place)) w.core
+        (pieces_of fork_made.states ++ more) next b stands.core).states.0
+
+    later_stands : StateStands w piece fork_made flags places (suc place) numbers a later later_next more
+        (forks.part name initial r others all walks flags places numbers a later later_next (suc place) false b.state)
+    later_stands =
+        record {
+          chart = stands.chart;
+          core = later_rows w more stands.core stands.once;
+          once = stands.once.1;
+          declared = stands.declared;
+          entries =
+              record {
+                mapped = values_from w.m (suc b.state) later.state fork_made.stands_for (omega (arith, first_state)) stands.entries.mapped.1;
+                images = stands.entries.images;
+                owned = stands.entries.owned;
+                low = stands.entries.low;
+                numbered = stands.entries.numbered;
+              };
+          region =
+              record {
+                region = stands.region.region;
+                thread = stands.region.thread;
+                around_chart = stands.region.around_chart;
+                around_core = stands.region.around_core;
+                forks = stands.region.forks;
+                flags_are = stands.region.flags_are;
+                places_are = stands.region.places_are;
+              };
+          placed = stands.placed.1;
+        }
+
+    prepared_fits : Fits w a.state (a.state + piece.states) b.state (b.state + states_in (pieces_of both_made.states)) numbers.variable
+        (numbers.variable + count)
+    prepared_fits =
+        let inner = forks.fork_fits name initial r others all walks flags places numbers a later later_next (suc place) false b.state w more later_stands
+        (forks.state_fits name initial r others all walks flags places numbers a later later_next (suc place) false b.state w more later_stands few apart
+        (stands.entries.mapped.0 ∙ ap Some stands.entries.numbered)
+        (λ e. (suc place, ap (λ o. unwrap_or o 0) stands.placed.1.0, first_row))
+        (λ denied. let wrong : true ≡ false = sym is ∙ denied in absurd cc)) in
+        record {
+          states = inner.states;
+          core_states =
+              range_more (CoreStateFits w) b.state (b.state + states_in (pieces_of both_made.states))
+              (thread a.holder stands.region.region.here (ap (λ z. z.holder) first_row ∙ sym stands.region.thread))
+              (range_to (CoreStateFits w) (suc b.state) (later.state + states_in (pieces_of fork_made.states))
+              (b.state + states_in (pieces_of both_made.states)) (omega arith)
+              (subst (λ m. Range (CoreStateFits w) m (later.state + states_in (pieces_of fork_made.states))) (omega (arith, first_state)) inner.core_states));
+          owners = inner.owners;
+        }
+
+  walk_prepared : stays flags all ≡ false → is_prepared flags all ≡ true → StateWalk piece both_made count false 3 flags places place begins numbers a b next
+  walk_prepared apart certain =
+      record {
+        image = forks.image name initial r others all walks flags places numbers a later later_next (suc place) false b.state;
+        inner = (forks.inner name initial r others all walks flags places numbers a later later_next (suc place) false b.state).part.states;
+        owners = forks.owners name initial r others all walks flags places numbers a later later_next (suc place) false b.state;
+        entry = refl;
+        placed = refl;
+        core_sized = (first_sized, forks.sizes name initial r others all walks flags places numbers a later later_next (suc place) false b.state);
+        core_many = omega (arith, first_state, forks.many name initial r others all walks flags places numbers a later later_next (suc place) false b.state);
+        long_states = ap suc (forks.inner name initial r others all walks flags places numbers a later later_next (suc place) false b.state).long_states;
+        long_owners = forks.long_owners name initial r others all walks flags places numbers a later later_next (suc place) false b.state;
+        long_variables = forks.long_variables name initial r others all walks flags places numbers a later later_next (suc place) false b.state;
+        wide = refl;
+        first = (_, (_, refl));
+        stands = (_, refl);
+        not_initial = λ denied. (first_begins ∙ denied, none_later);
+        one_initial = (
+          λ initial. none_later,
+          forks.one_initial name initial r others all walks flags places numbers a later later_next
+              (suc place) false b.state,
+        );
+        final_is = λ w holds. forks.not_ends name initial r others all walks flags places numbers a later later_next (suc place) false b.state w holds;
+        held_chart = λ w holds. ap (λ z. z.holder) holds.states.0;
+        held_core = λ w more rows once.
+            forks.held_core name initial r others all walks flags places numbers a later later_next (suc place) false b.state w.core more
+            (later_rows w more rows once);
+        facts = λ w more stands. prepared_fits apart certain w more stands;
+      }
+
+  -- ---- by what it needs
+
+  by_split : stays flags all ≡ false → (p : Bool) → is_prepared flags all ≡ p →
+      StateWalk piece (if p then both_made else forks.made name initial r others all walks flags places numbers a b next place begins b.state) count false
+      (if p then 3 else 2) flags places place begins numbers a b next
+  by_split apart true is = walk_prepared apart is
+  by_split apart false is = walk_fork apart is
+
+  walk_super : (s : Bool) → stays flags all ≡ s →
+      StateWalk piece (if s then Rattle.abort_expansion.specs.Superstates.as_it_is name all
+      (forks.inside name initial r others all walks flags places numbers a b
+      next place begins b.state) places begins numbers
+      else (if is_prepared flags all then both_made else forks.made name initial r others all walks flags places numbers a b next place begins b.state)) count
+      false (if s then 1 else (if is_prepared flags all then 3 else 2)) flags places place begins numbers a b next
+  walk_super true stay = walk_staying name initial r others all walks flags places numbers a b next place begins stay few
+  walk_super false apart = by_split apart (is_prepared flags all) refl
+
+-- ---- any state
+
+abbrev chart_layer : (name : List ℕ) (initial final : Bool) (regions : List Region) (all : List Transition) → State-F Piece Piece
+chart_layer name initial final regions all =
+    record { name = name; is_initial = initial; is_final = final; regions = map table_of_region regions; transitions = all }
+
+abbrev core_layer : (name : List ℕ) (initial final : Bool) (regions : List Region) (all : List Transition) → State-F RegionPiece StatePiece
+core_layer name initial final regions all =
+    record { name = name; is_initial = initial; is_final = final; regions = map piece_of_region regions; transitions = all }
+
+walk_layer : (name : List ℕ) (initial final : Bool) (regions : List Region) (all : List Transition) → (regions ≡ [] →
+    (has_aborts all ≡ false) × (has_join all ≡ false)) →
+    length (map piece_of_region regions) < 2147483648 → (final ≡ true → regions ≡ []) → Each RegionWalks regions →
+    StateWalksBy (table_state_piece (chart_layer name initial final regions all)) (state_piece (core_layer name initial final regions all))
+walk_layer name initial final [] all plain few bare walks flags places place begins numbers a b next =
+    walk_simple name initial all (plain refl) flags places begins numbers a b next place final
+walk_layer name initial true (r ∷ others) all plain few bare walks flags places place begins numbers a b next =
+    let wrong : r ∷ others ≡ [] = bare refl in absurd cc
+walk_layer name initial false (r ∷ others) all plain few bare walks flags places place begins numbers a b next =
+    walk_super name initial r others all walks few flags places numbers a b next place begins (stays flags all) refl
+
+count_layer : (name : List ℕ) (initial final : Bool) (regions : List Region) (all : List Transition) → Each RegionWalks regions →
+    StateCounts (table_state_piece (chart_layer name initial final regions all)) (state_piece (core_layer name initial final regions all))
+count_layer name initial final regions all walks =
+    record {
+      states = ap suc (counts_side regions walks);
+      initial = refl;
+      sized = state_sized (chart_layer name initial final regions all) (sized_side regions walks);
+    }
+
+pub walk_state : (s : State) → ((out-State s).regions ≡ [] → (has_aborts (out-State s).transitions ≡ false) × (has_join (out-State s).transitions ≡ false)) →
+    length (map piece_of_region (out-State s).regions) < 2147483648 → IsBareIfFinal s →
+    Each RegionWalks (out-State s).regions → StateWalks s
+walk_state s plain few bare walks =
+    let o = out-State s in
+    record {
+      walks =
+          subst (λ p. StateWalksBy p (piece_of_state s)) (sym (fold_out-State Piece Piece table_region_piece table_state_piece s))
+          (subst (StateWalksBy (table_state_piece (chart_layer o.name o.is_initial o.is_final o.regions o.transitions)))
+          (sym (fold_out-State RegionPiece StatePiece region_piece state_piece s))
+          (walk_layer o.name o.is_initial o.is_final o.regions o.transitions plain few (λ ends. (bare ends).0) walks));
+      counts =
+          subst (λ p. StateCounts p (piece_of_state s)) (sym (fold_out-State Piece Piece table_region_piece table_state_piece s))
+          (subst (StateCounts (table_state_piece (chart_layer o.name o.is_initial o.is_final o.regions o.transitions)))
+          (sym (fold_out-State RegionPiece StatePiece region_piece state_piece s))
+          (count_layer o.name o.is_initial o.is_final o.regions o.transitions walks));
+    }

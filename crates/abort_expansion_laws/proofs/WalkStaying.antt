@@ -1,0 +1,346 @@
+-- A superstate that stays as it is, over what is inside it.
+use Rattle.std.proofs.Common.{◌≡◌, ◌≢◌, ℕ, suc, ◌+◌, ◌<◌, inl, inr, Bool, true, false}
+use Rattle.std.proofs.Common.{not, ◌||◌, ◌&&◌, Some, List, [], ◌∷◌, ◌++◌, map, length, refl}
+use Rattle.std.proofs.Common.{sym, ap, subst, ◌∙◌, arith}
+use Rattle.std.specs.Prelude.{reverse, filter}
+use Rattle.std.specs.List.{list_any}
+use Rattle.std.proofs.lemmas.List.{map-append, reverse-append}
+use Rattle.sc_text.proofs.EachItem.{Each}
+use Rattle.core_charts.specs.declared.region.Region.{Region}
+use Rattle.core_charts.specs.declared.region.Transition.{Transition}
+use Rattle.core_charts.specs.declared.region.State.{State}
+use Rattle.core_charts.specs.Tests.{at_once, strong_aborts, first_closing_tests, is_strong, is_weak}
+use Rattle.chart_machine.specs.declared.standing.Move.{Move}
+use Rattle.chart_machine.specs.declared.table.Table.{Table}
+use Rattle.chart_machine.specs.declared.table.TablePosition.{TablePosition}
+use Rattle.chart_machine.specs.Table.{Piece, state_at, states_in, region_numbers, side_by_side, state_piece, come_to}
+use Rattle.chart_machine.specs.Table.{within as table_within, piece_of_region as table_of_region, piece_of_state as table_of_state}
+use Rattle.abort_expansion.specs.declared.flags.Flags.{Flags}
+use Rattle.abort_expansion.specs.declared.places.Places.{Places}
+use Rattle.abort_expansion.specs.declared.pieces.States.{States}
+use Rattle.abort_expansion.specs.declared.pieces.Regions.{Regions}
+use Rattle.abort_expansion.specs.declared.pieces.Numbers.{Numbers}
+use Rattle.abort_expansion.specs.Flags.{has_join, counts, one}
+use Rattle.core_charts.specs.Aborts.{has_strong, has_weak, has_aborts}
+use Rattle.abort_expansion.specs.Flags.{given, flag_count, flags_of, weak_around, aborts_around, is_there}
+use Rattle.abort_expansion.specs.Transitions.{led}
+use Rattle.abort_expansion.specs.Pieces.{expanded_regions, variables_in}
+use Rattle.abort_expansion.specs.Superstates.{stays, within, as_it_is}
+use Rattle.abort_expansion.specs.Expansion.{piece_of_region}
+use Rattle.chart_machine_laws.specs.Tree.{holder}
+use Rattle.chart_machine_laws.proofs.RowsOfPieces.{Holds, IsSized, state_sized}
+use Rattle.abort_expansion_laws.specs.CoreRows.{own, IsState, is_final, ends, IsSuper, fork_row}
+use Rattle.abort_expansion_laws.proofs.SimpleRows.{rolled, rolled_piece}
+use Rattle.abort_expansion_laws.proofs.InRegionRows.{InRegionAt, first_holds, spot_of}
+use Rattle.abort_expansion_laws.proofs.Walked.{World, StateImage, no_flags, ValuesAt, values_from, images_of, i, RegionFits, StateFits, CoreStateFits, thread}
+use Rattle.abort_expansion_laws.proofs.Walked.{behind_by, OwnerFits, Range, range_to, range_more, FlagsFit, IsFlag}
+use Rattle.abort_expansion_laws.proofs.Walks.{Part, Fits, StateStands, RegionsStand, StateWalk, RegionsWalk, RegionWalks, pieces_of}
+use Rattle.abort_expansion_laws.proofs.WalkSide.{walk_side}
+use Rattle.abort_expansion_laws.proofs.LocalImages.{Located, staying_image}
+use Rattle.abort_expansion_laws.proofs.WalkSimple.{state_there, located}
+use Rattle.abort_expansion_laws.proofs.RowsOfForks.{some_regions, super_row}
+use Rattle.abort_expansion_laws.proofs.FlagOwners.{weak_inside}
+use Rattle.abort_expansion_laws.proofs.AddedMonitors.{first_around, numbers_many}
+
+-- ---- who stays has no aborts, and none are around it
+
+not_either : (a b : Bool) → not (a || b) ≡ true → (a ≡ false) × (b ≡ false)
+not_either true b e = absurd cc
+not_either false true e = absurd cc
+not_either false false e = (refl, refl)
+
+either : (a b : Bool) → (a || b) ≡ false → (a ≡ false) × (b ≡ false)
+either true b e = absurd cc
+either false b e = (refl, e)
+
+weak_too : (fs : List Flags) → aborts_around fs ≡ false → weak_around fs ≡ false
+weak_too [] e = refl
+weak_too (f ∷ fs) e =
+    let both = either (is_there f.strong || is_there f.weak) (aborts_around fs) e in
+    let two = either (is_there f.strong) (is_there f.weak) both.0 in rw (two.1) (weak_too fs both.1)
+
+none_given : (a b c : Bool) (x y z : ℕ) → a ≡ false → b ≡ false → c ≡ false →
+    ◌≡◌ {A = Flags} (record { strong = given a x; weak = given b y; counter = given c z }) no_flags
+none_given a b c x y z e f g = rw (e, f, g) refl
+
+pub record HasNone (flags : List Flags) (all : List Transition) : Type 0 where
+  pub strong : has_strong all ≡ false
+  pub weak : has_weak all ≡ false
+  pub counted : counts (weak_around flags) all ≡ false
+
+pub has_none : (flags : List Flags) (all : List Transition) → stays flags all ≡ true → HasNone flags all
+has_none flags all stay =
+    let both = not_either (has_aborts all) (aborts_around flags) stay in
+    let two = either (has_strong all) (has_weak all) both.0 in
+    record { strong = two.0; weak = two.1; counted = rw (two.0, two.1, weak_too flags both.1) (and_false (has_join all)) }
+  where
+    and_false : (b : Bool) → (b && false) ≡ false
+    and_false true = refl
+    and_false false = refl
+
+led_none : (P : Transition → Bool) (places : Places) → ((t : Transition) → P (led places t) ≡ P t) → (all : List Transition) → list_any P all ≡ false →
+    filter P (map (led places) all) ≡ []
+led_none P places same [] e = refl
+led_none P places same (t ∷ all) e =
+    let both = either (P t) (list_any P all) e in rw (same t ∙ both.0) (led_none P places same all both.1)
+
+module _ (name : List ℕ) (initial : Bool) (r : Region) (others : List Region) (all : List Transition) (walks : Each RegionWalks (r ∷ others))
+    (flags : List Flags) (places : Places) (numbers : Numbers) (a b : TablePosition) (next place : ℕ) (begins : Bool) (stay : stays flags all ≡ true)
+    (few : length (map piece_of_region (r ∷ others)) < 2147483648) where
+  abbrev regions : List Region
+  regions = r ∷ others
+
+  abbrev weak : Bool
+  weak = weak_around flags
+
+  abbrev f : Flags
+  f = flags_of weak all numbers.variable
+
+  abbrev inside_at : Numbers
+  inside_at = within weak all numbers
+
+  abbrev inside : Regions
+  inside = expanded_regions (map piece_of_region regions) (flags ++ f ∷ []) f.counter inside_at
+
+  abbrev spot : TablePosition
+  spot = spot_of begins next b
+
+  abbrev chart_piece : Piece
+  chart_piece = state_piece (record { name = name; is_initial = initial; is_final = false; regions = map table_of_region regions; transitions = all })
+
+  inner : RegionsWalk (side_by_side (map table_of_region regions) (table_within a)) (states_in (map table_of_region regions))
+      (region_numbers (map table_of_region regions) a.region) inside (variables_in (weak_around (flags ++ f ∷ [])) (map piece_of_region regions))
+      (flags ++ f ∷ []) f.counter inside_at (table_within a) (table_within spot)
+  inner = walk_side regions walks (flags ++ f ∷ []) f.counter inside_at (table_within a) (table_within spot)
+
+  abbrev ps : List Piece
+  ps = map table_of_region inside.regions
+
+  abbrev made : States
+  made = as_it_is name all inside places begins numbers
+
+  abbrev core_all : List Transition
+  core_all = map (led places) all
+
+  abbrev core_state : State
+  core_state = rolled name begins false inside.regions core_all
+
+  abbrev layer : Piece
+  layer = state_piece (record { name = name; is_initial = begins; is_final = false; regions = ps; transitions = core_all })
+
+  piece : table_of_state core_state ≡ layer
+  piece = rolled_piece name begins false inside.regions core_all
+
+  none : HasNone flags all
+  none = has_none flags all stay
+
+  no_count : flag_count weak all ≡ 0
+  no_count = rw (none.counted, none.strong, none.weak) refl
+
+  f_none : f ≡ no_flags
+  f_none = none_given (has_strong all) (has_weak all) (counts weak all) numbers.variable (numbers.variable + one (has_strong all))
+      (numbers.variable + one (has_strong all) + one (has_weak all)) none.strong none.weak none.counted
+
+  no_flag : (x : ℕ) → IsFlag f x → ⊥
+  no_flag x is = not_one (subst (λ z. IsFlag z x) f_none is)
+    where
+      not_one : IsFlag no_flags x → ⊥
+      not_one (inl e) = absurd cc
+      not_one (inr (inl e)) = absurd cc
+      not_one (inr (inr e)) = absurd cc
+
+  abbrev image : StateImage
+  image = record {
+    main = b.state;
+    entry = b.state;
+    behind = b.state;
+    flags = f;
+    watcher = spot.region;
+    watching = b.state;
+    watched = b.state;
+    places = places;
+    stays_on = true;
+  }
+
+  abbrev part : Part
+  part = record { states = image ∷ inner.part.states; owners = inner.part.owners }
+
+  abbrev variables : ℕ
+  variables = flag_count weak all + variables_in (weak || has_weak all) (map piece_of_region regions)
+
+  inner_variables : variables_in (weak_around (flags ++ f ∷ [])) (map piece_of_region regions) ≡
+      variables_in (weak || has_weak all) (map piece_of_region regions)
+  inner_variables = ap (λ z. variables_in z (map piece_of_region regions)) (weak_inside flags weak all numbers.variable)
+
+  core_states : (table_of_state core_state).states ≡ suc (states_in ps)
+  core_states = ap (λ p. p.states) piece
+
+  core_begins : (table_of_state core_state).is_initial ≡ begins
+  core_begins = ap (λ p. p.is_initial) piece
+
+  core_sized : IsSized (table_of_state core_state)
+  core_sized = subst IsSized (sym piece)
+      (state_sized (record { name = name; is_initial = begins; is_final = false; regions = ps; transitions = core_all }) inner.core_sized)
+
+  core_rows : (core : Table) (more : List Piece) → InRegionAt core (table_of_state core_state ∷ more) next b → Holds core spot (layer.parts spot)
+  core_rows core more rows = first_holds core layer more next b (subst (λ p. InRegionAt core (p ∷ more) next b) piece rows)
+
+  not_ends : (w : World) → Holds w.k a (chart_piece.parts a) → is_final w.k a.state ≡ false
+  not_ends w holds =
+      ap (λ z. ends z.entered) holds.states.0 ∙ come (at_once (strong_aborts all)) (side_by_side (map table_of_region regions) (table_within a)).entered
+    where
+      come : (strong : List Transition) (opened : List Move) → ends (come_to a.holder a.state strong (first_closing_tests all) opened) ≡ false
+      come [] [] = refl
+      come [] (m ∷ moves) = refl
+      come (t ∷ strong) opened = refl
+
+  module _ (w : World) (more : List Piece) (stands : StateStands w chart_piece made flags places place numbers a b next more part) where
+    img : w.image a.state ≡ image
+    img = stands.entries.images.0
+
+    main_is : (i w).main_of a.state ≡ b.state
+    main_is = ap (λ z. z.main) img
+
+    held : holder w.k a.state ≡ a.holder
+    held = ap (λ z. z.holder) stands.chart.states.0
+
+    regions_row : (state_at w.k a.state).regions ≡ region_numbers (map table_of_region regions) a.region
+    regions_row = ap (λ z. z.regions) stands.chart.states.0
+
+    super : IsSuper w.k a.state
+    super empty = let wrong : region_numbers (map table_of_region regions) a.region ≡ [] = sym regions_row ∙ empty in absurd cc
+
+    loc : Located w.k w.core (images_of w) a.state b.holder flags places all
+    loc = located w a b flags places a.state all stands.region held (ap (λ z. z.transitions) stands.chart.states.0)
+
+    here_of : (ms : List Move) → (state_at w.k a.state).entered ≡ ms → ms ≢ [] → IsState w.k a.state
+    here_of [] e some = absurd (some refl)
+    here_of (m ∷ ms) e some = state_there w.k a.state m ms e
+
+    here : IsState w.k a.state
+    here = here_of _ (ap (λ z. z.entered) stands.chart.states.0) (come (at_once (strong_aborts all)))
+      where
+        come : (strong : List Transition) → come_to a.holder a.state strong (first_closing_tests all) (side_by_side (map table_of_region regions)
+            (table_within a)).entered ≢ []
+        come [] empty = absurd cc
+        come (t ∷ strong) empty = absurd cc
+
+    fork_rows : Holds w.core spot (layer.parts spot)
+    fork_rows = core_rows w.core more stands.core
+
+    inner_stands : RegionsStand w (side_by_side (map table_of_region regions) (table_within a)) inside (flags ++ f ∷ []) f.counter inside_at (table_within a)
+        (table_within spot) inner.part
+    inner_stands =
+        record {
+          chart_rows = record { states = stands.chart.states.1; regions = stands.chart.regions };
+          core = record { states = fork_rows.states.1; regions = fork_rows.regions };
+          declared = Rattle.scl_graph_laws.proofs.Segments.stand_from w.core.variables numbers.variable inside_at.variable inside.variables
+              (omega (arith, no_count)) stands.declared;
+          entries =
+              record {
+                mapped = stands.entries.mapped.1;
+                images = stands.entries.images.1;
+                owned = values_from w.of_flag numbers.variable inside_at.variable inner.part.owners (omega (arith, no_count)) stands.entries.owned;
+                low = omega (arith, stands.entries.low);
+                numbered = ap suc stands.entries.numbered;
+              };
+          forks = ap (λ n. n ∷ b.around) (sym main_is) ∙ ap (λ zs. (i w).main_of a.state ∷ zs) stands.region.forks;
+          flags_are =
+              ap (λ zs. zs ++ f ∷ []) stands.region.flags_are ∙
+              (ap (λ z. map (i w).flags_of (reverse a.around) ++ z ∷ []) (sym (ap (λ z. z.flags) img)) ∙
+              (sym (map-append (i w).flags_of (reverse a.around) (a.state ∷ [])) ∙
+              ap (map (i w).flags_of) (sym (reverse-append (a.state ∷ []) a.around))));
+          counter_is = ap (λ z. z.flags.counter) (sym img);
+        }
+
+    threads : map (i w).thread_of (region_numbers (map table_of_region regions) a.region) ≡ region_numbers ps spot.region
+    threads = inner.threads w inner_stands
+
+    row : state_at w.core b.state ≡ fork_row b.holder b.state (map (i w).thread_of (state_at w.k a.state).regions) core_all (state_at w.core b.state).opened
+    row = subst (λ zs. state_at w.core b.state ≡ fork_row b.holder b.state zs core_all (state_at w.core b.state).opened)
+        (sym (ap (map (i w).thread_of) regions_row ∙ threads))
+        (super_row w.core name begins inside.regions core_all (some_regions ps spot.region _ _ (sym threads))
+        (led_none (λ t. is_strong t.kind) places (λ t. refl) all none.strong) (led_none (λ t. is_weak t.kind) places (λ t. refl) all none.weak) spot fork_rows)
+
+    flags_fit : FlagsFit w a.state
+    flags_fit =
+        record {
+          first = numbers.variable;
+          are = rw (ap (λ z. z.flags) img, loc.flags_are, loc.own_is) refl;
+          low = stands.entries.low;
+          owned = λ x is. absurd (no_flag x (subst (λ z. IsFlag z x) (ap (λ z. z.flags) img) is));
+          declared = λ x is. absurd (no_flag x (subst (λ z. IsFlag z x) (ap (λ z. z.flags) img) is));
+        }
+
+    stays_there : stays (Rattle.abort_expansion_laws.proofs.Walked.around_flags w (holder w.k a.state)) (own w.k a.state) ≡ true
+    stays_there = rw (loc.flags_are, loc.own_is) stay
+
+    state_fits : StateFits w a.state
+    state_fits =
+        record {
+          here = here;
+          region = subst (RegionFits w) (sym held) stands.region.region;
+          mapped = ap w.m main_is ∙ (stands.entries.mapped.0 ∙ ap Some stands.entries.numbered);
+          entry_mapped = ap w.m (ap (λ z. z.entry) img) ∙ (stands.entries.mapped.0 ∙ ap Some stands.entries.numbered);
+          held = ap (holder w.core) main_is ∙ (ap (λ z. z.holder) row ∙ sym loc.thread_is);
+          simple = λ certain. absurd (super certain.no_regions);
+          final = λ certain. let wrong : true ≡ false = sym certain ∙ not_ends w stands.chart in absurd cc;
+          staying = λ is same. staying_image w.k w.core (images_of w) a.state b.holder flags places all loc b.state main_is (ap (λ z. z.entry) img) row;
+          split = λ is differs. let wrong : true ≡ false = sym stays_there ∙ differs in absurd cc;
+          split_mapped = λ is differs. let wrong : true ≡ false = sym stays_there ∙ differs in absurd cc;
+          watcher = λ is has.
+              let denied : has_aborts all ≡ false = rw (none.strong, none.weak) refl in
+              let wrong : true ≡ false = sym (subst (λ z. has_aborts z ≡ true) loc.own_is has) ∙ denied in absurd cc;
+          watches = λ is. rw (img, loc.thread_is, stands.region.around_core)
+              (first_around inside.regions w.core (table_within spot) _ _ (sym threads) inner_stands.core);
+          flags = λ is. flags_fit;
+          flagless = λ empty. absurd (super empty);
+          bare = λ empty. absurd (super empty);
+          behind_past = λ is same. ap (λ z. behind_by w z a.state) img;
+          numbered = (regions, (a.region, regions_row));
+          few = subst (λ n. n < 2147483648) (sym (ap length regions_row ∙ numbers_many regions a.region)) few;
+        }
+
+    staying_fits : Fits w a.state (a.state + chart_piece.states) b.state (b.state + states_in (pieces_of made.states)) numbers.variable
+        (numbers.variable + variables)
+    staying_fits =
+        record {
+          states =
+              range_more (StateFits w) a.state (a.state + chart_piece.states) state_fits
+              (range_to (StateFits w) (suc a.state) (suc a.state + states_in (map table_of_region regions)) (a.state + chart_piece.states) (omega arith)
+              (inner.facts w inner_stands).states);
+          core_states =
+              range_more (CoreStateFits w) b.state (b.state + states_in (pieces_of made.states))
+              (thread a.holder stands.region.region.here (ap (λ z. z.holder) row ∙ sym stands.region.thread))
+              (range_to (CoreStateFits w) (suc b.state) (suc b.state + states_in ps) (b.state + states_in (pieces_of made.states)) (omega (arith, core_states))
+              (inner.facts w inner_stands).core_states);
+          owners =
+              subst (λ n. Range (OwnerFits w) n (numbers.variable + variables)) (omega (arith, no_count))
+              (range_to (OwnerFits w) inside_at.variable
+              (inside_at.variable + variables_in (weak_around (flags ++ f ∷ [])) (map piece_of_region regions)) (numbers.variable + variables)
+              (omega (arith, inner_variables)) (inner.facts w inner_stands).owners);
+        }
+
+  pub walk_staying : StateWalk chart_piece made variables false 1 flags places place begins numbers a b next
+  walk_staying =
+      record {
+        image = image;
+        inner = inner.part.states;
+        owners = inner.part.owners;
+        entry = refl;
+        placed = refl;
+        core_sized = (core_sized, tt);
+        core_many = omega (arith, core_states, inner.core_many);
+        long_states = ap suc inner.long_states;
+        long_owners = omega (arith, inner.long_owners, no_count, inner_variables);
+        long_variables = omega (arith, inner.long_variables, no_count, inner_variables);
+        wide = refl;
+        first = (core_state, ([], refl));
+        stands = (inside.stands_for, refl);
+        not_initial = λ denied. (core_begins ∙ denied, tt);
+        one_initial = (λ e. tt, tt);
+        final_is = λ w holds. not_ends w holds;
+        held_chart = λ w holds. ap (λ z. z.holder) holds.states.0;
+        held_core = λ w more rows once. ap (λ z. z.holder) (core_rows w.core more rows).states.0;
+        facts = λ w more stands. staying_fits w more stands;
+      }
