@@ -157,7 +157,7 @@ module _ (k core : Table) (i : Images) (rows : CoreRows k core i) (flat : FlatRo
           inr (λ s h. ⊎_elim (λ same. subst (λ v. (i.flags_of v).weak ≡ None) same e) (λ tail. none s tail) (head_or_tail z s zs h))
 
   weak_aborts_of : (s x : ℕ) → (i.flags_of s).weak ≡ Some x → has_aborts (own k s) ≡ true
-  weak_aborts_of s x e = rw (start_rows.weak_for s x e) (either (Rattle.abort_expansion.specs.Flags.has_strong (own k s)))
+  weak_aborts_of s x e = rw (start_rows.weak_for s x e) (either (Rattle.core_charts.specs.Aborts.has_strong (own k s)))
     where
       either : (a : Bool) → (a || true) ≡ true
       either true = refl
