@@ -4,7 +4,14 @@ ghost use Rattle.std.specs.Prelude.{◌≡◌, ◌<◌, IfOk, None, OnErr, OnOk,
 ghost use Rattle.node_states.specs.Active.{is_active};
 ghost use Rattle.embedded_machine.specs.Cells.{HoldControl};
 ghost use Rattle.embedded_machine.specs.Ticks.{
-    Holds, IsFirst, ResetHeld, Restored, RestoredHeld, ShowValues, Ticked, TickedHeld,
+  Holds,
+  IsFirst,
+  ResetHeld,
+  Restored,
+  RestoredHeld,
+  ShowValues,
+  Ticked,
+  TickedHeld,
 };
 
 use crate::buffers::put_bytes;
