@@ -1,6 +1,6 @@
 /*
- * machine.c: the calls of sct.h. It keeps the handles of an image and of a machine, and the cells of inputs and values, tests
- * what a caller can get wrong, and leaves all else to the proved calls of proved.h.
+ * machine.c: the calls of sct.h. It keeps the handle of a machine, and the cells of inputs and values, tests what a caller can
+ * get wrong, and leaves all else to the proved calls of proved.h.
  */
 #include "../include/sct.h"
 
@@ -9,9 +9,8 @@
 
 #include <string.h>
 
-/* What is C's own of a machine lies in one block of memory, behind this; the handles lead to what is proved. */
+/* What is C's own of a machine lies in one block of memory, behind this; the handle leads to what is proved. */
 struct sct_machine {
-  struct sct_image_handle image;
   struct sct_machine_handle handle;
   size_t variables;
   size_t threads;
@@ -152,27 +151,25 @@ static const uint8_t *bytes_at(const void *bytes, size_t length) {
   return length > 0 ? (const uint8_t *)bytes : (const uint8_t *)nothing;
 }
 
-/* Fills the parts of a machine by its image, and opens it. */
+/* Fills the parts of a machine by what is behind its handle. */
 static int32_t fill(sct_machine *machine, const struct sct_counts *counts) {
-  int32_t status = sct_image_names(&machine->image, machine->rows, machine->variables, (uint8_t *)machine->names, counts->names,
-                                   (uint8_t *)machine->state_names, counts->state_names);
+  int32_t status = sct_machine_names(&machine->handle, machine->rows, machine->variables, (uint8_t *)machine->names, counts->names,
+                                     (uint8_t *)machine->state_names, counts->state_names);
   if (status != SCT_OK) return status;
   find_starts(machine->names, machine->name_starts, machine->variables);
   find_starts(machine->state_names, machine->state_starts, machine->states);
   memset(machine->inputs, 0, machine->variables * sizeof(int32_t));
-  return sct_machine_open(&machine->image, &machine->handle, machine->values, machine->variables);
+  return sct_machine_save(&machine->handle, machine->values, machine->variables, machine->saved_statuses, machine->threads);
 }
 
-/* Gives the machine of an image that was opened; where memory is refused, the image is closed. */
-static sct_status machine_of(struct sct_image_handle image, const struct sct_counts *counts, sct_machine **machine) {
+/* Gives the machine behind a handle that was opened; where memory is refused, it is closed. */
+static sct_status machine_of(struct sct_machine_handle handle, const struct sct_counts *counts, sct_machine **machine) {
   sct_machine *made = room_for(counts);
   if (made == NULL) {
-    sct_image_close(image);
+    sct_machine_close(&handle);
     return SCT_MEMORY;
   }
-  made->image = image;
-  made->handle.at = NULL;
-  made->handle.image = &made->image;
+  made->handle = handle;
   if (fill(made, counts) != SCT_OK) {
     sct_close(made);
     return SCT_MEMORY; /* the image is valid, so nothing else can have been refused */
@@ -182,12 +179,12 @@ static sct_status machine_of(struct sct_image_handle image, const struct sct_cou
 }
 
 /* What opens bytes behind a handle: an image, or a text. */
-typedef int32_t opens(const uint8_t *, size_t, uint8_t *, size_t, struct sct_lengths *, struct sct_image_handle *, struct sct_counts *);
+typedef int32_t opens(const uint8_t *, size_t, uint8_t *, size_t, struct sct_lengths *, struct sct_machine_handle *, struct sct_counts *);
 
 static sct_status open_by(opens *call, const void *bytes, size_t length, sct_machine **machine, sct_fault *fault) {
   struct sct_lengths lengths = {0, 0};
   struct sct_counts counts = {0, 0, 0, 0, 0};
-  struct sct_image_handle image = {NULL};
+  struct sct_machine_handle handle = {NULL};
   char words[sizeof fault->words];
   int32_t status;
   if (machine == NULL) return SCT_NULL;
@@ -195,9 +192,9 @@ static sct_status open_by(opens *call, const void *bytes, size_t length, sct_mac
   if (bytes == NULL && length > 0) return SCT_NULL;
   memset(words, 0, sizeof words);
   forget(fault);
-  status = call(bytes_at(bytes, length), length, (uint8_t *)words, sizeof words - 1, &lengths, &image, &counts);
+  status = call(bytes_at(bytes, length), length, (uint8_t *)words, sizeof words - 1, &lengths, &handle, &counts);
   if (status != SCT_OK) return tell(status, words, (const char *)bytes, length, fault);
-  return machine_of(image, &counts, machine);
+  return machine_of(handle, &counts, machine);
 }
 
 sct_status sct_open(const uint8_t *image, size_t image_length, sct_machine **machine, sct_fault *fault) {
@@ -210,8 +207,7 @@ sct_status sct_open_text(const char *text, size_t text_length, sct_machine **mac
 
 void sct_close(sct_machine *machine) {
   if (machine == NULL) return;
-  sct_machine_close(machine->handle);
-  sct_image_close(machine->image);
+  sct_machine_close(&machine->handle);
   rattle_dealloc(machine);
 }
 
@@ -280,8 +276,7 @@ sct_status sct_react(sct_machine *machine, uint64_t *steps) {
   uint64_t count = 0;
   int32_t status;
   if (machine == NULL) return SCT_NULL;
-  status = sct_machine_react(&machine->image, &machine->handle, machine->inputs, machine->variables, machine->values,
-                             machine->variables, &count);
+  status = sct_machine_react(&machine->handle, machine->inputs, machine->variables, machine->values, machine->variables, &count);
   if (status != SCT_OK) return (sct_status)status;
   memset(machine->inputs, 0, machine->variables * sizeof(int32_t));
   if (steps != NULL) *steps = count;
@@ -328,7 +323,7 @@ sct_status sct_active(const sct_machine *machine, size_t number, int *active) {
   int32_t status;
   if (machine == NULL || active == NULL) return SCT_NULL;
   if (number >= machine->states) return SCT_NUMBER;
-  status = sct_machine_active(&own->image, &own->handle, (uint32_t)number, &is);
+  status = sct_machine_active(&own->handle, (uint32_t)number, &is);
   if (status == SCT_OK) *active = is;
   return (sct_status)status;
 }
@@ -358,7 +353,7 @@ sct_status sct_save(const sct_machine *machine, uint8_t *bytes, size_t capacity,
   if (machine == NULL || length == NULL || (bytes == NULL && capacity > 0)) return SCT_NULL;
   *length = saved_length(machine);
   if (capacity < *length) return SCT_BUFFER;
-  status = sct_machine_save(&own->image, &own->handle, own->saved_values, machine->variables, own->saved_statuses, machine->threads);
+  status = sct_machine_save(&own->handle, own->saved_values, machine->variables, own->saved_statuses, machine->threads);
   if (status != SCT_OK) return (sct_status)status;
   for (at = 0; at < machine->variables; at++) put_cell(bytes + 4 * at, (uint32_t)machine->saved_values[at]);
   for (at = 0; at < machine->threads; at++) put_cell(bytes + 4 * (machine->variables + at), machine->saved_statuses[at]);
@@ -375,13 +370,16 @@ sct_status sct_restore(sct_machine *machine, const uint8_t *bytes, size_t length
     memcpy(machine->saved_values + at, &cell, sizeof cell);
   }
   for (at = 0; at < machine->threads; at++) machine->saved_statuses[at] = cell_at(bytes + 4 * (machine->variables + at));
-  status = sct_machine_restore(&machine->image, &machine->handle, machine->saved_values, machine->variables,
-                               machine->saved_statuses, machine->threads);
+  status = sct_machine_restore(&machine->handle, machine->saved_values, machine->variables, machine->saved_statuses,
+                               machine->threads);
   if (status == SCT_OK) memcpy(machine->values, machine->saved_values, machine->variables * sizeof(int32_t));
   return (sct_status)status;
 }
 
 sct_status sct_reset(sct_machine *machine) {
+  int32_t status;
   if (machine == NULL) return SCT_NULL;
-  return (sct_status)sct_machine_open(&machine->image, &machine->handle, machine->values, machine->variables);
+  status = sct_machine_reset(&machine->handle);
+  if (status != SCT_OK) return (sct_status)status;
+  return (sct_status)sct_machine_save(&machine->handle, machine->values, machine->variables, machine->saved_statuses, machine->threads);
 }

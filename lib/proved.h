@@ -1,11 +1,9 @@
 /*
  * proved.h: the calls of the proved part of the library (crates/sct_c), as C declares them. A slice is a pointer, which is
- * not null, and a count. Each keeps nothing behind the call but what handles hold, and changes what it is lent alone.
+ * not null, and a count. Each keeps nothing behind the call but what a handle holds, and changes what it is lent alone.
  *
- * What is assumed of whoever calls them: a handle is made null, and written by these calls alone. That of an image stays where
- * it is, and is not opened again nor closed, while a machine of it is open; each call of a machine is given the handle of its
- * image, which the handle of the machine names from the first on. A handle that was closed is not used again. Calls that want
- * an image (sct_image_names, sct_machine_open) are made where it was opened.
+ * What is assumed of whoever calls them: a handle is made null, and written by these calls alone; none is copied where both are
+ * used.
  */
 #ifndef SCT_PROVED_H
 #define SCT_PROVED_H
@@ -33,32 +31,26 @@ struct sct_row {
   uint32_t name_length;
 };
 
-struct sct_image_handle {
-  void *at;
-};
-
 struct sct_machine_handle {
   void *at;
-  const struct sct_image_handle *image;
 };
 
 int32_t sct_text_compile(const uint8_t *text, size_t text_length, uint8_t *image, size_t capacity, uint8_t *words, size_t room,
                          struct sct_lengths *lengths);
 int32_t sct_image_open(const uint8_t *bytes, size_t length, uint8_t *words, size_t room, struct sct_lengths *lengths,
-                       struct sct_image_handle *image, struct sct_counts *counts);
+                       struct sct_machine_handle *machine, struct sct_counts *counts);
 int32_t sct_text_open(const uint8_t *text, size_t text_length, uint8_t *words, size_t room, struct sct_lengths *lengths,
-                      struct sct_image_handle *image, struct sct_counts *counts);
-int32_t sct_image_names(const struct sct_image_handle *image, struct sct_row *rows, size_t row_count, uint8_t *names, size_t room,
-                        uint8_t *states, size_t states_room);
-void sct_image_close(struct sct_image_handle image);
-int32_t sct_machine_open(const struct sct_image_handle *image, struct sct_machine_handle *machine, int32_t *values, size_t value_count);
-int32_t sct_machine_react(const struct sct_image_handle *image, struct sct_machine_handle *machine, const int32_t *inputs,
-                          size_t input_count, int32_t *values, size_t value_count, uint64_t *steps);
-int32_t sct_machine_save(const struct sct_image_handle *image, struct sct_machine_handle *machine, int32_t *values,
-                         size_t value_count, uint32_t *statuses, size_t status_count);
-int32_t sct_machine_restore(const struct sct_image_handle *image, struct sct_machine_handle *machine, const int32_t *values,
-                            size_t value_count, const uint32_t *statuses, size_t status_count);
-int32_t sct_machine_active(const struct sct_image_handle *image, struct sct_machine_handle *machine, uint32_t number, bool *active);
-void sct_machine_close(struct sct_machine_handle machine);
+                      struct sct_machine_handle *machine, struct sct_counts *counts);
+int32_t sct_machine_names(struct sct_machine_handle *machine, struct sct_row *rows, size_t row_count, uint8_t *names, size_t room,
+                          uint8_t *states, size_t states_room);
+int32_t sct_machine_react(struct sct_machine_handle *machine, const int32_t *inputs, size_t input_count, int32_t *values,
+                          size_t value_count, uint64_t *steps);
+int32_t sct_machine_save(struct sct_machine_handle *machine, int32_t *values, size_t value_count, uint32_t *statuses,
+                         size_t status_count);
+int32_t sct_machine_restore(struct sct_machine_handle *machine, const int32_t *values, size_t value_count, const uint32_t *statuses,
+                            size_t status_count);
+int32_t sct_machine_active(struct sct_machine_handle *machine, uint32_t number, bool *active);
+int32_t sct_machine_reset(struct sct_machine_handle *machine);
+void sct_machine_close(struct sct_machine_handle *machine);
 
 #endif

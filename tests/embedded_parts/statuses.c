@@ -148,8 +148,8 @@ static const char chart[] =
     "  input bool open;\n"
     "  output bool light;\n"
     "  region Main {\n"
-    "    initial state Shut { go to Open if open do light = true; }\n"
-    "    state Open { go to Shut if !open do light = false; }\n"
+    "    initial state Shut { go if open do light = true -> Open; }\n"
+    "    state Open { go if not open do light = false -> Shut; }\n"
     "  }\n"
     "}\n";
 

@@ -2,19 +2,17 @@
 use Rattle.std.proofs.Common.{◌≡◌, ℕ, List, [], ◌∷◌, ◌++◌, refl, subst}
 use seplogic.Ra.Ura.{Ura}
 use mir.Raw.{raw as bare}
-use mir.Syntax.{named}
-use mir.Val.{Val, vptr, vstruct, vcons, vnil, of_list}
+use mir.Val.{Val, vstruct, vcons, vnil, of_list}
 use base.Logic.{ent, guard, guard_i, never, via, fst∗, snd∗}
 use base.Fraction.{full_share}
 use base.Fml.{Lft, ftrue}
 use types.Logic.{Logic, sem}
-use types.Kit.{Item, Goal, Seq, Step, step, ‵, given, ◌$◌, move, drop, learn, use1, fsplit, fjoin, fpick, fpack, feq_i, feq_l}
+use types.Kit.{Item, Goal, Seq, Step, step, ‵, given, ◌$◌, drop, learn, use1, fsplit, fjoin, fpick, fpack, feq_i, feq_l}
 use contract.Monad.{fact_use}
 use denote.RattleType.{RattleType, Valss}
 use denote.Builtin.{RawPtr}
 use denote.Memory.{lone}
 use denote.RawPtr.{Ptr, block_ptr, null_ptr, ptr_val, lies_at, Testable, in_a_block}
-use denote.Ref.{Bor, ShrRef}
 use denote.Steps.{nothing}
 use denote.Struct.Struct.{within}
 use denote.Struct.Owning.{shape}
@@ -24,9 +22,7 @@ use Rattle.std.specs.contracts.impls.GlobalAllocator.TheImpl.{ghosts}
 use Rattle.std.specs.declared.option.Option.{Option}
 use Rattle.std.specs.declared.option.Option.TheVariants.{None, Some}
 use Rattle.embedded_machine.specs.Held.{heap, held_at}
-use Rattle.embedded_machine.specs.contracts.handles.ImageHandle as image
-use Rattle.embedded_machine.specs.contracts.handles.MachineHandle as machine
-use Rattle.embedded_machine.proofs.Values.{both}
+use Rattle.embedded_machine.specs.contracts.handles.MachineHandle as handle
 
 -- a struct of one field, by value
 abbrev pub alone : Val → Val
@@ -57,43 +53,16 @@ module _ (R : RattleType) where
         in_a_block t p (λ q. boxed q x) (fst∗ 𝓤 (never 𝓤) (sem 𝓛 (ghosts.dealloc_token heap (bare (lone R.mir)) null_ptr))) (λ b o e.
         use1 𝓛 (given (Testable (block_ptr b o)) (‵ (boxed (block_ptr b o) x))) (tested 𝓛 (block_ptr b o) x) $ learn t (λ s. one b o x e refl s))
 
-abbrev pub Image : RattleType
-Image = image.the_row
-
-abbrev pub Machine : Lft → RattleType
-Machine κ = machine.the_row (record { mir = named 0; lft = κ })
-
--- a `&` to the handle of an image
-abbrev pub Ref : Lft → RattleType
-Ref κ = ShrRef (named 0) κ Image
-
-abbrev pub word : Bor Image.Denot → Val
-word r = vptr r.ref_ptr.0 r.ref_ptr.1
+abbrev pub Handle : RattleType
+Handle = handle.the_row
 
 module _ {M : Type 1} {𝓤 : Ura M} {𝓛 : Logic 𝓤} {K : Type 0} {Γ : List (Item 𝓤)} {G : Goal 𝓤 𝓛.H} where
-  pub image_out : K → (d : Image.Denot) (vs : List Val) → (vs ≡ alone (ptr_val d.at) ∷ [] → Seq K 𝓛 (‵ (image.the_heap d) ∷ Γ) G)
-      → Seq K 𝓛 (‵ (Image.own_val d vs) ∷ Γ) G
-  image_out t d vs k = fsplit t $ fpick t (λ vss. fsplit t $ feq_l t (λ ev. fsplit t $ feq_l t (λ ep. drop t $
+  pub handle_out : K → (d : Handle.Denot) (vs : List Val) → (vs ≡ alone (ptr_val d.at) ∷ [] → Seq K 𝓛 (‵ (handle.the_heap d) ∷ Γ) G)
+      → Seq K 𝓛 (‵ (Handle.own_val d vs) ∷ Γ) G
+  handle_out t d vs k = fsplit t $ fpick t (λ vss. fsplit t $ feq_l t (λ ev. fsplit t $ feq_l t (λ ep. drop t $
       k (subst (λ (ps : List Val). vs ≡ vstruct (of_list (ps ++ [])) ∷ []) ep ev))))
 
-  pub image_in : K → (d : Image.Denot) → Step K 𝓛 (‵ (Image.own_val d (alone (ptr_val d.at) ∷ [])) ∷ Γ) G (‵ (image.the_heap d) ∷ Γ) G
-  image_in t d = step (λ s. let v : Val = alone (ptr_val d.at) in
+  pub handle_in : K → (d : Handle.Denot) → Step K 𝓛 (‵ (Handle.own_val d (alone (ptr_val d.at) ∷ [])) ∷ Γ) G (‵ (handle.the_heap d) ∷ Γ) G
+  handle_in t d = step (λ s. let v : Val = alone (ptr_val d.at) in
       nothing t $ feq_i t (List Val) (ptr_val d.at ∷ []) (ptr_val d.at ∷ []) refl $ fjoin t $ feq_i t (List Val) (v ∷ []) (v ∷ []) refl $ fjoin t $
-      fpack t (Valss (RawPtr ∷ [])) (within (shape image.the_type) (d.at, tt) (v ∷ [])) (ptr_val d.at ∷ [], tt) $ fjoin t $ s)
-
-  module _ (κ : Lft) where
-    pub machine_out : K → (d : (Machine κ).Denot) (vs : List Val)
-        → (vs ≡ both (ptr_val d.at) (word d.image) ∷ [] → Seq K 𝓛 (‵ (machine.the_heap κ d) ∷ Γ) G) → Seq K 𝓛 (‵ ((Machine κ).own_val d vs) ∷ Γ) G
-    machine_out t d vs k = fsplit t $ fpick t (λ vss. fsplit t $ feq_l t (λ ev. fsplit t $ feq_l t (λ ep. fsplit t $ fsplit t $ feq_l t (λ ei. drop t $
-        drop t $
-        k (subst (λ (is : List Val). vs ≡ vstruct (of_list (ptr_val d.at ∷ (is ++ []))) ∷
-        []) ei (subst (λ (ps : List Val). vs ≡ vstruct (of_list (ps ++ (vss.1.0 ++ []))) ∷ []) ep ev))))))
-
-    pub machine_in : K → (d : (Machine κ).Denot)
-        → Step K 𝓛 (‵ ((Machine κ).own_val d (both (ptr_val d.at) (word d.image) ∷ [])) ∷ Γ) G (‵ (machine.the_heap κ d) ∷
-        ‵ ((Ref κ).own_val d.image (word d.image ∷ [])) ∷ Γ) G
-    machine_in t d = step (λ s. let v : Val = both (ptr_val d.at) (word d.image) in
-        nothing t $ move t (2 ∷ 0 ∷ []) $ fjoin t $ feq_i t (List Val) (ptr_val d.at ∷ []) (ptr_val d.at ∷ []) refl $ fjoin t $
-        feq_i t (List Val) (v ∷ []) (v ∷ []) refl $ fjoin t $
-        fpack t (Valss (RawPtr ∷ Ref κ ∷ [])) (within (shape (machine.the_type (record { mir = named 0; lft = κ }))) (d.at, (d.image, tt)) (v ∷
-        [])) (ptr_val d.at ∷ [], (word d.image ∷ [], tt)) $ fjoin t $ s)
+      fpack t (Valss (RawPtr ∷ [])) (within (shape handle.the_type) (d.at, tt) (v ∷ [])) (ptr_val d.at ∷ [], tt) $ fjoin t $ s)

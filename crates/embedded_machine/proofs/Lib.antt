@@ -1,4 +1,3 @@
 pub mod Values
-pub mod Lent
 pub mod Held
 mod Accepted

@@ -55,6 +55,11 @@ RestoredHeld values statuses other others = ⊥
 abbrev pub IsFirst : OpenedImage → Resting → Type 0
 IsFirst opened m = (m.opened ≡ opened) × (m.control ≡ initial opened.image.program)
 
+-- the machine goes before its first tick again
+abbrev pub ResetHeld : (before after : Option Resting) → Type 0
+ResetHeld (Some m) (Some n) = IsFirst m.opened n
+ResetHeld other others = ⊥
+
 -- a handle holds a machine of which this holds
 abbrev pub Holds : Option Resting → (Resting → Type 0) → Type 0
 Holds (Some m) says = says m

@@ -1,87 +1,60 @@
-//! What is done with handles: images and machines are opened, machines tick, are saved, restored and closed.
+//! What is done with handles: machines are opened, tick, are saved, restored, reset and closed.
 
-ghost use Rattle.std.specs.Prelude.{◌≡◌, ◌<◌, IfOk, IsSome, MatchBool, OnErr, OnOk, Some, length};
+ghost use Rattle.std.specs.Prelude.{◌≡◌, ◌<◌, IfOk, None, OnErr, OnOk, Some, length};
 ghost use Rattle.node_states.specs.Active.{is_active};
 ghost use Rattle.embedded_machine.specs.Cells.{HoldControl};
-ghost use Rattle.embedded_machine.specs.Ticks.{Holds, IsFirst, Restored, RestoredHeld, ShowValues, Ticked, TickedHeld};
+ghost use Rattle.embedded_machine.specs.Ticks.{
+  Holds,
+  IsFirst,
+  ResetHeld,
+  Restored,
+  RestoredHeld,
+  ShowValues,
+  Ticked,
+  TickedHeld,
+};
 
+use crate::buffers::put_bytes;
 use crate::controls::{control_in, put_control, put_values};
 use crate::fault::MachineFault;
-use crate::handles::{ImageHandle, MachineHandle};
+use crate::handles::MachineHandle;
 use crate::machine::Machine;
 use crate::opened::Opened;
+use crate::rows::{VariableRow, names_of, put_rows};
 use sc_graph::Control;
 use std::alloc::{AllocError, Global};
 use std::mem;
 
-/// Puts an image behind a handle, whose own is closed. Err: memory was refused; nothing has changed.
-pub fn hold_image(alloc: Global, opened: Opened, handle: &mut ImageHandle) -> Result<(), AllocError>
-    ensures held { OnOk result (handle.new.image ≡ Some opened) }
-    ensures same { OnErr result (handle.new.image ≡ handle.old.image) }
-{
-    let boxed = Box::new(alloc, opened)?;
-    let before = mem::replace(handle, ImageHandle::of(boxed));
-    drop(before.into_box(alloc));
-    Ok(())
-}
-
-/// Opens a machine of an image, before its first tick, whose values go into cells, one for each variable. Err: there
-/// are not as many cells; or memory was refused. Nothing has changed then.
-pub fn open_machine<'a>(
+/// Opens a machine of an image behind a handle, whose own is closed, before its first tick. Err: memory was refused;
+/// nothing has changed.
+pub fn open_machine(
     alloc: Global,
-    image: &'a ImageHandle,
-    handle: &mut MachineHandle<'a>,
-    values: &mut [i32],
-) -> Result<(), MachineFault>
-    requires { IsSome image.now.image }
-    ensures first { OnOk result (Holds handle.new.machine (λ m. (Some m.opened ≡ image.now.image)
-        × IsFirst m.opened m × ShowValues values.new m)) }
+    opened: Opened,
+    handle: &mut MachineHandle,
+) -> Result<(), AllocError>
+    ensures first { OnOk result (Holds handle.new.machine (IsFirst opened)) }
     ensures same { OnErr result (handle.new.machine ≡ handle.old.machine) }
-    ensures values { OnErr result (values.new ≡ values.old) }
 {
-    let opened = image.get();
     let machine = Machine::of(alloc, opened)?;
     let boxed = Box::new(alloc, machine)?;
-    if !show_values(boxed.as_ref(), values) {
-        return Err(MachineFault::Control);
-    }
-    hold(alloc, image, handle, boxed);
+    hold(alloc, handle, boxed);
     Ok(())
 }
 
 // Puts a machine behind a handle, whose own is closed.
-fn hold<'a>(
-    alloc: Global,
-    image: &'a ImageHandle,
-    handle: &mut MachineHandle<'a>,
-    boxed: Box<Machine<'a>>,
-)
-    ensures { handle.new.machine ≡ Some boxed.entry.value }
+fn hold(alloc: Global, handle: &mut MachineHandle, boxed: Box<Machine>)
+    ensures { handle.new.machine ≡ Some boxed.value }
 {
-    let before = mem::replace(handle, MachineHandle::of(image, boxed));
+    let before = mem::replace(handle, MachineHandle::of(boxed));
     drop(before.into_box(alloc));
 }
 
-// Puts the values of the variables of a machine into cells. Whether there are as many; else nothing has changed.
-fn show_values(machine: &Machine<'_>, values: &mut [i32]) -> bool
-    ensures shown { MatchBool result (ShowValues values.new machine.now) (values.new ≡ values.old) }
-    ensures long { length values.new ≡ length values.old }
-{
-    let shown = machine.control().variables.as_slice();
-    if shown.len() != values.len() {
-        return false;
-    }
-    put_values(shown, values);
-    true
-}
-
 /// One tick of the machine behind a handle, by the inputs in cells, whose values go into cells; how many steps it
-/// took. After the first tick it takes no memory. Err: there is none; or there are not as many cells as variables, or
-/// one of an input holds no value of its kind; or memory was refused. Nothing has changed then.
-pub fn react<'a>(
+/// took. Err: there is none; or there are not as many cells as variables, or one of an input holds no value of its kind;
+/// or memory was refused. Nothing has changed then.
+pub fn react(
     alloc: Global,
-    image: &'a ImageHandle,
-    handle: &mut MachineHandle<'a>,
+    handle: &mut MachineHandle,
     inputs: &[i32],
     values: &mut [i32],
 ) -> Result<u64, MachineFault>
@@ -90,11 +63,11 @@ pub fn react<'a>(
     ensures same { OnErr result (handle.new.machine ≡ handle.old.machine) }
     ensures values { OnErr result (values.new ≡ values.old) }
 {
-    let taken = mem::replace(handle, MachineHandle::empty(image));
+    let taken = mem::replace(handle, MachineHandle::empty());
     match taken.into_box(alloc) {
         Some(mut boxed) => {
             let result = react_shown(alloc, boxed.as_mut(), inputs, values);
-            hold(alloc, image, handle, boxed);
+            hold(alloc, handle, boxed);
             result
         }
         None => Err(MachineFault::Closed),
@@ -104,7 +77,7 @@ pub fn react<'a>(
 // One tick of a machine, whose values go into cells.
 fn react_shown(
     alloc: Global,
-    machine: &mut Machine<'_>,
+    machine: &mut Machine,
     inputs: &[i32],
     values: &mut [i32],
 ) -> Result<u64, MachineFault>
@@ -123,21 +96,20 @@ fn react_shown(
 
 /// Puts the configuration of the machine behind a handle into cells, one for each variable and one for each thread.
 /// Err: there is no machine, or there are not as many cells; nothing has changed then.
-pub fn save<'a>(
+pub fn save(
     alloc: Global,
-    image: &'a ImageHandle,
-    handle: &mut MachineHandle<'a>,
+    handle: &mut MachineHandle,
     values: &mut [i32],
     statuses: &mut [u32],
 ) -> Result<(), MachineFault>
     ensures saved { OnOk result (Holds handle.new.machine (λ m. HoldControl values.new statuses.new m.control)) }
     ensures same { handle.new.machine ≡ handle.old.machine }
 {
-    let taken = mem::replace(handle, MachineHandle::empty(image));
+    let taken = mem::replace(handle, MachineHandle::empty());
     match taken.into_box(alloc) {
         Some(boxed) => {
             let result = save_control(boxed.as_ref().control(), values, statuses);
-            hold(alloc, image, handle, boxed);
+            hold(alloc, handle, boxed);
             result
         }
         None => Err(MachineFault::Closed),
@@ -161,21 +133,20 @@ fn save_control(
 
 /// Puts the machine behind a handle into the configuration in these cells, in which it rests. Err: there is no
 /// machine, or they hold no such configuration; or memory was refused. Nothing has changed then.
-pub fn restore<'a>(
+pub fn restore(
     alloc: Global,
-    image: &'a ImageHandle,
-    handle: &mut MachineHandle<'a>,
+    handle: &mut MachineHandle,
     values: &[i32],
     statuses: &[u32],
 ) -> Result<(), MachineFault>
     ensures restored { OnOk result (RestoredHeld values.now statuses.now handle.old.machine handle.new.machine) }
     ensures same { OnErr result (handle.new.machine ≡ handle.old.machine) }
 {
-    let taken = mem::replace(handle, MachineHandle::empty(image));
+    let taken = mem::replace(handle, MachineHandle::empty());
     match taken.into_box(alloc) {
         Some(mut boxed) => {
             let result = restore_one(alloc, boxed.as_mut(), values, statuses);
-            hold(alloc, image, handle, boxed);
+            hold(alloc, handle, boxed);
             result
         }
         None => Err(MachineFault::Closed),
@@ -185,7 +156,7 @@ pub fn restore<'a>(
 // Puts a machine into the configuration in these cells.
 fn restore_one(
     alloc: Global,
-    machine: &mut Machine<'_>,
+    machine: &mut Machine,
     values: &[i32],
     statuses: &[u32],
 ) -> Result<(), MachineFault>
@@ -200,21 +171,20 @@ fn restore_one(
 
 /// Whether the state of this number is active in the configuration of the machine behind a handle. Err: there is no
 /// machine, or its chart has no such state.
-pub fn state_is_active<'a>(
+pub fn state_is_active(
     alloc: Global,
-    image: &'a ImageHandle,
-    handle: &mut MachineHandle<'a>,
+    handle: &mut MachineHandle,
     number: u32,
 ) -> Result<bool, MachineFault>
     ensures active { IfOk result (λ active. Holds handle.new.machine (λ m.
         (active ≡ is_active m.opened.states.nodes m.control number) × (number < length m.opened.states.paths))) }
     ensures same { handle.new.machine ≡ handle.old.machine }
 {
-    let taken = mem::replace(handle, MachineHandle::empty(image));
+    let taken = mem::replace(handle, MachineHandle::empty());
     match taken.into_box(alloc) {
         Some(boxed) => {
             let result = active_in(boxed.as_ref(), number);
-            hold(alloc, image, handle, boxed);
+            hold(alloc, handle, boxed);
             result
         }
         None => Err(MachineFault::Closed),
@@ -222,7 +192,7 @@ pub fn state_is_active<'a>(
 }
 
 // Whether the state of this number is active. Err: the chart has none.
-fn active_in(machine: &Machine<'_>, number: u32) -> Result<bool, MachineFault>
+fn active_in(machine: &Machine, number: u32) -> Result<bool, MachineFault>
     ensures { IfOk result (λ active. (active ≡ is_active machine.now.opened.states.nodes machine.now.control number)
         × (number < length machine.now.opened.states.paths)) }
 {
@@ -231,4 +201,80 @@ fn active_in(machine: &Machine<'_>, number: u32) -> Result<bool, MachineFault>
         return Err(MachineFault::Number);
     }
     Ok(states.is_active(machine.control(), number))
+}
+
+/// Puts the machine behind a handle before its first tick again. Err: there is none, or memory was refused; nothing has
+/// changed.
+pub fn reset(alloc: Global, handle: &mut MachineHandle) -> Result<(), MachineFault>
+    ensures first { OnOk result (ResetHeld handle.old.machine handle.new.machine) }
+    ensures same { OnErr result (handle.new.machine ≡ handle.old.machine) }
+{
+    let taken = mem::replace(handle, MachineHandle::empty());
+    match taken.into_box(alloc) {
+        Some(mut boxed) => {
+            let result = reset_one(alloc, boxed.as_mut());
+            hold(alloc, handle, boxed);
+            result
+        }
+        None => Err(MachineFault::Closed),
+    }
+}
+
+// Puts a machine before its first tick again.
+fn reset_one(alloc: Global, machine: &mut Machine) -> Result<(), MachineFault>
+    ensures first { OnOk result (IsFirst machine.old.opened machine.new) }
+    ensures same { OnErr result (machine.new ≡ machine.old) }
+{
+    let control = Control::initial(alloc, machine.opened().verified().image().program())?;
+    machine.put(control);
+    Ok(())
+}
+
+/// Closes the machine behind a handle, which holds none then.
+pub fn close(alloc: Global, handle: &mut MachineHandle)
+    ensures { handle.new.machine ≡ None }
+{
+    let taken = mem::replace(handle, MachineHandle::empty());
+    drop(taken.into_box(alloc));
+}
+
+/// Puts the variables of the machine behind a handle into rows, and their names and those of the states of its chart
+/// into buffers, a zero byte behind each. Err: there is none; or there are not as many rows, or a buffer has no room;
+/// or memory was refused.
+pub fn tell_names(
+    alloc: Global,
+    handle: &mut MachineHandle,
+    rows: &mut [VariableRow],
+    names: &mut [u8],
+    states: &mut [u8],
+) -> Result<(), MachineFault>
+    ensures { handle.new.machine ≡ handle.old.machine }
+{
+    let taken = mem::replace(handle, MachineHandle::empty());
+    match taken.into_box(alloc) {
+        Some(boxed) => {
+            let result = tell_names_of(alloc, boxed.as_ref().opened(), rows, names, states);
+            hold(alloc, handle, boxed);
+            result
+        }
+        None => Err(MachineFault::Closed),
+    }
+}
+
+// Puts the variables of an image into rows, and their names and those of the states of its chart into buffers.
+fn tell_names_of(
+    alloc: Global,
+    opened: &Opened,
+    rows: &mut [VariableRow],
+    names: &mut [u8],
+    states: &mut [u8],
+) -> Result<(), MachineFault> {
+    let variables = opened.verified().image().program().variables();
+    let bytes = names_of(alloc, variables)?;
+    let paths = opened.states().names(alloc)?;
+    if rows.len() != variables.len() || !put_bytes(&bytes, names) || !put_bytes(&paths, states) {
+        return Err(MachineFault::Control);
+    }
+    put_rows(variables, rows);
+    Ok(())
 }

@@ -1,4 +1,4 @@
-//! A machine inside another program: images and machines behind handles, and ticks over cells.
+//! A machine inside another program: machines behind handles, and ticks over cells.
 #![tactic(auto)]
 
 mod buffers;
@@ -15,11 +15,11 @@ mod rows;
 mod states;
 
 pub use buffers::{put_beginning, put_bytes};
-pub use calls::{hold_image, open_machine, react, restore, save, state_is_active};
+pub use calls::{close, open_machine, react, reset, restore, save, state_is_active, tell_names};
 pub use cells::{status_cell, status_in, value_cell, value_in};
 pub use controls::{control_in, put_control, put_values};
 pub use fault::MachineFault;
-pub use handles::{ImageHandle, MachineHandle};
+pub use handles::MachineHandle;
 pub use machine::Machine;
 pub use opened::Opened;
 pub use rows::{VariableRow, names_of, put_rows};

@@ -17,52 +17,47 @@ use tick_core::{Inputs, TickSpace};
 
 /// A machine between two ticks. Contracts see what is opened, and the configuration in which it rests.
 #[derive(Drop)]
-pub struct Machine<'a> {
-    opened: &'a Opened,
-    space: Option<TickSpace<'a>>,
+pub struct Machine {
+    opened: Opened,
     control: Control,
     inputs: Inputs,
 }
 
-impl<'a> Model for Machine<'a> {
-    ghost use Rattle.std.specs.Prelude.{◌≡◌, Some};
+impl Model for Machine {
     ghost use Rattle.sc_graph.specs.Tick.{Rests};
     ghost use Rattle.embedded_machine.specs.Ticks.{Resting};
 
     ghost Value = { Resting };
 
-    ghost view = { λ m. record { opened = m.opened.now; control = m.control } };
+    ghost view = { λ m. record { opened = m.opened; control = m.control } };
 
-    ghost invariant = { λ m. (m.space ≡ Some m.opened.now.image) × Rests m.opened.now.image.program m.control };
+    ghost invariant = { λ m. Rests m.opened.image.program m.control };
 }
 
-// A tick that is over: the configuration in which it ended, and its room.
-struct Ended<'a> {
+// A tick that is over: the configuration in which it ended.
+struct Ended {
     control: Control,
-    space: TickSpace<'a>,
     steps: u64,
 }
 
-impl<'a> Machine<'a> {
+impl Machine {
     /// The machine of an image before its first tick. Err: memory was refused.
-    pub fn of(alloc: Global, opened: &'a Opened) -> Result<Machine<'a>, AllocError>
-        ensures { IfOk result (IsFirst opened.now) }
+    pub fn of(alloc: Global, opened: Opened) -> Result<Machine, AllocError>
+        ensures { IfOk result (IsFirst opened) }
     {
         let control = Control::initial(alloc, opened.verified().image().program())?;
-        let space = TickSpace::of(alloc, opened.verified())?;
         Ok(Machine {
             opened,
-            space: Some(space),
             control,
             inputs: Items::new(alloc),
         })
     }
 
     /// What is opened.
-    pub fn opened(&self) -> &'a Opened
+    pub fn opened(&self) -> &Opened
         ensures { result.now ≡ self.now.opened }
     {
-        self.opened
+        &self.opened
     }
 
     /// How many variables it has.
@@ -81,9 +76,8 @@ impl<'a> Machine<'a> {
         &self.control
     }
 
-    /// One tick under the inputs of these cells, one for each variable; how many steps it took. After the first it
-    /// takes no memory. Err: there are not as many cells, or one of an input holds no value of its kind; or memory was
-    /// refused. Nothing has changed then.
+    /// One tick under the inputs of these cells, one for each variable; how many steps it took. Err: there are not as
+    /// many cells, or one of an input holds no value of its kind; or memory was refused. Nothing has changed then.
     #[tactic(auto, using(crate::proofs::Accepted::cells_accepted))]
     pub fn react(&mut self, alloc: Global, cells: &[i32]) -> Result<u64, MachineFault>
         ensures ticked { IfOk result (λ steps. Ticked cells.now steps self.old self.new) }
@@ -91,18 +85,10 @@ impl<'a> Machine<'a> {
     {
         let program = self.opened.verified().image().program();
         give_all(&mut self.inputs, program.variables(), cells)?;
+        let space = TickSpace::of(alloc, self.opened.verified())?;
         let control = mem::replace(&mut self.control, nothing(alloc));
-        let space = match self.space.take() {
-            Some(space) => space,
-            None => unreachable!(),
-        };
-        let Ended {
-            control,
-            space,
-            steps,
-        } = ticked(space, control, &self.inputs);
+        let Ended { control, steps } = ticked(space, control, &self.inputs);
         self.control = control;
-        self.space = Some(space);
         Ok(steps)
     }
 
@@ -125,10 +111,9 @@ fn nothing(alloc: Global) -> Control {
 }
 
 // A whole tick.
-fn ticked<'a>(space: TickSpace<'a>, control: Control, inputs: &Inputs) -> Ended<'a>
+fn ticked(space: TickSpace<'_>, control: Control, inputs: &Inputs) -> Ended
     requires rests { Rests space.program control }
     requires accepted { AreAccepted space.program inputs.now }
-    ensures room { result.space ≡ space.entry }
     ensures rests { Rests space.entry.program result.control }
     ensures reacts { Reacts space.entry inputs.now control result.control result.steps }
 {
@@ -138,10 +123,6 @@ fn ticked<'a>(space: TickSpace<'a>, control: Control, inputs: &Inputs) -> Ended<
     };
     state.run_alone();
     let steps = state.history().len() as u64;
-    let (control, space) = state.hand_over();
-    Ended {
-        control,
-        space,
-        steps,
-    }
+    let (control, _) = state.hand_over();
+    Ended { control, steps }
 }

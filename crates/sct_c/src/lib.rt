@@ -1,20 +1,18 @@
 //! The calls that a program in C makes: each makes one of `embedded_machine`, and says its clauses again.
 #![tactic(auto)]
 
-ghost use Rattle.std.specs.Prelude.{◌≡◌, ◌≢◌, ◌<◌, ◌⊎◌, pos, IsSome, Some, length, take};
+ghost use Rattle.std.specs.Prelude.{◌≡◌, ◌≢◌, ◌<◌, ◌⊎◌, None, pos, length, take};
 ghost use Rattle.command_files.specs.FaultText.{fault_text};
-ghost use Rattle.command_files.specs.declared.fault.Fault.{Fault as Why};
 ghost use Rattle.node_states.specs.Active.{is_active};
 ghost use Rattle.embedded_machine.specs.Cells.{HoldControl};
-ghost use Rattle.embedded_machine.specs.Opened.{no_states};
-ghost use Rattle.embedded_texts.specs.Texts.{IsNoImageOf, IsOpenedText, SpellsItsImage};
-ghost use Rattle.embedded_machine.specs.Ticks.{Holds, IsFirst, RestoredHeld, ShowValues, SpellValid, TickedHeld};
-ghost use Rattle.sct_c.specs.Told.{HoldsImage, TellsWhy};
+ghost use Rattle.embedded_machine.specs.Ticks.{Holds, IsFirst, ResetHeld, RestoredHeld, TickedHeld};
+ghost use Rattle.embedded_texts.specs.Texts.{SpellsItsImage};
+ghost use Rattle.sct_c.specs.Told.{OpensImage, OpensText, TellsRefused, TellsWhy};
 
 use command_files::Fault;
 use embedded_machine::{
-    ImageHandle, MachineFault, MachineHandle, Opened, VariableRow, hold_image, names_of,
-    open_machine, put_beginning, put_bytes, put_rows, react, restore, save, state_is_active,
+    MachineFault, MachineHandle, Opened, VariableRow, close, names_of, open_machine, put_beginning,
+    put_bytes, react, reset, restore, save, state_is_active, tell_names,
 };
 use embedded_texts::{image_of_text, opened_image, opened_text};
 use std::alloc::Global;
@@ -100,8 +98,7 @@ pub extern "C" fn sct_text_compile(
 ) -> i32
     ensures compiled { result ≡ pos 0 → SpellsItsImage text.now (take lengths.new.given image.new) }
     ensures kept { result ≢ pos 0 → image.new ≡ image.old }
-    ensures fault { result ≡ pos 3 → (fault : Why) × IsNoImageOf text.now fault
-        × TellsWhy (fault_text fault) words.new lengths.new.words }
+    ensures fault { result ≡ pos 3 → TellsRefused text.now words.new lengths.new.words }
 {
     match image_of_text(alloc, text) {
         Ok(bytes) => {
@@ -112,16 +109,16 @@ pub extern "C" fn sct_text_compile(
     }
 }
 
-// Puts what is opened behind a handle, and counts it.
-fn hold(alloc: Global, opened: Opened, image: &mut ImageHandle, counts: &mut Counts) -> i32
-    ensures held { result ≡ pos 0 → image.new.image ≡ Some opened }
-    ensures same { result ≢ pos 0 → image.new.image ≡ image.old.image }
+// Opens a machine of what is opened behind a handle, and counts what there is of it.
+fn hold(alloc: Global, opened: Opened, machine: &mut MachineHandle, counts: &mut Counts) -> i32
+    ensures first { result ≡ pos 0 → Holds machine.new.machine (IsFirst opened) }
+    ensures same { result ≢ pos 0 → machine.new.machine ≡ machine.old.machine }
     ensures status { (result ≡ pos 0) ⊎ (result ≡ pos 2) }
 {
     let Some(counted) = counts_of(alloc, &opened) else {
         return MEMORY;
     };
-    match hold_image(alloc, opened, image) {
+    match open_machine(alloc, opened, machine) {
         Ok(()) => {
             *counts = counted;
             OK
@@ -148,94 +145,60 @@ fn counts_of(alloc: Global, opened: &Opened) -> Option<Counts> {
     })
 }
 
-/// Opens the image in these bytes behind a handle. 0: it is valid, and the handle holds it. 4: it is none, and `words`
-/// begins with the words why. 2: memory was refused. Where it is refused the handle is as it was.
+/// Opens a machine of the image in these bytes behind a handle, before its first tick. 0: the image is valid, and the
+/// handle holds its machine. 4: it is none, and `words` begins with the words why. 2: memory was refused. Where it is
+/// refused the handle is as it was.
 #[unsafe(no_mangle)]
 pub extern "C" fn sct_image_open(
     alloc: Global,
     bytes: &[u8],
     words: &mut [u8],
     lengths: &mut Lengths,
-    image: &mut ImageHandle,
+    machine: &mut MachineHandle,
     counts: &mut Counts,
 ) -> i32
-    ensures held { result ≡ pos 0
-        → HoldsImage image.new.image (λ o. SpellValid bytes.now o.image × (o.states ≡ no_states)) }
-    ensures same { result ≢ pos 0 → image.new.image ≡ image.old.image }
+    ensures opened { result ≡ pos 0 → OpensImage bytes.now machine.new.machine }
+    ensures same { result ≢ pos 0 → machine.new.machine ≡ machine.old.machine }
 {
     match opened_image(alloc, bytes) {
-        Ok(opened) => hold(alloc, opened, image, counts),
+        Ok(opened) => hold(alloc, opened, machine, counts),
         Err(fault) => put_words(alloc, &fault, words, &mut lengths.words, IMAGE),
     }
 }
 
-/// Compiles a text and opens its image behind a handle, with the states of its chart. 0, 2: as `sct_image_open`. 3:
-/// the text is refused, and `words` begins with the words why.
+/// Compiles a text and opens a machine of its image behind a handle, with the states of its chart. 0, 2: as
+/// `sct_image_open`. 3: the text is refused, and `words` begins with the words why.
 #[unsafe(no_mangle)]
 pub extern "C" fn sct_text_open(
     alloc: Global,
     text: &[u8],
     words: &mut [u8],
     lengths: &mut Lengths,
-    image: &mut ImageHandle,
+    machine: &mut MachineHandle,
     counts: &mut Counts,
 ) -> i32
-    ensures held { result ≡ pos 0 → HoldsImage image.new.image (IsOpenedText text.now) }
-    ensures same { result ≢ pos 0 → image.new.image ≡ image.old.image }
+    ensures opened { result ≡ pos 0 → OpensText text.now machine.new.machine }
+    ensures same { result ≢ pos 0 → machine.new.machine ≡ machine.old.machine }
 {
     match opened_text(alloc, text) {
-        Ok(opened) => hold(alloc, opened, image, counts),
+        Ok(opened) => hold(alloc, opened, machine, counts),
         Err(fault) => put_words(alloc, &fault, words, &mut lengths.words, TEXT),
     }
 }
 
-/// The variables of the image behind a handle, and their names and those of its chart's states, a zero byte behind
-/// each. 8: there are not as many rows, or there is no room for the names. 2: memory was refused.
+/// The variables of the machine behind a handle, and their names and those of its chart's states, a zero byte behind
+/// each. 5: there are not as many rows, or there is no room for the names. 2: memory was refused.
 #[unsafe(no_mangle)]
-pub extern "C" fn sct_image_names(
+pub extern "C" fn sct_machine_names(
     alloc: Global,
-    image: &ImageHandle,
+    machine: &mut MachineHandle,
     rows: &mut [VariableRow],
     names: &mut [u8],
     states: &mut [u8],
 ) -> i32
-    requires { IsSome image.now.image }
+    ensures same { machine.new.machine ≡ machine.old.machine }
 {
-    let opened = image.get();
-    let variables = opened.verified().image().program().variables();
-    let Ok(bytes) = names_of(alloc, variables) else {
-        return MEMORY;
-    };
-    let Ok(paths) = opened.states().names(alloc) else {
-        return MEMORY;
-    };
-    if rows.len() != variables.len() || !put_bytes(&bytes, names) || !put_bytes(&paths, states) {
-        return BUFFER;
-    }
-    put_rows(variables, rows);
-    OK
-}
-
-/// Closes the image behind a handle, which is not used again; no machine of it is.
-#[unsafe(no_mangle)]
-pub extern "C" fn sct_image_close(alloc: Global, image: ImageHandle) {
-    drop(image.into_box(alloc));
-}
-
-/// Opens a machine of the image behind a handle, before its first tick. The values of its variables go into cells.
-#[unsafe(no_mangle)]
-pub extern "C" fn sct_machine_open<'a>(
-    alloc: Global,
-    image: &'a ImageHandle,
-    machine: &mut MachineHandle<'a>,
-    values: &mut [i32],
-) -> i32
-    requires { IsSome image.now.image }
-    ensures first { result ≡ pos 0 → Holds machine.new.machine (λ m. (Some m.opened ≡ image.now.image)
-        × IsFirst m.opened m × ShowValues values.new m) }
-    ensures same { result ≢ pos 0 → machine.new.machine ≡ machine.old.machine }
-{
-    match open_machine(alloc, image, machine, values) {
+    match tell_names(alloc, machine, rows, names, states) {
         Ok(()) => OK,
         Err(fault) => status_of(fault),
     }
@@ -243,10 +206,9 @@ pub extern "C" fn sct_machine_open<'a>(
 
 /// One tick of the machine behind a handle, by the inputs in cells. The values of its variables go into cells.
 #[unsafe(no_mangle)]
-pub extern "C" fn sct_machine_react<'a>(
+pub extern "C" fn sct_machine_react(
     alloc: Global,
-    image: &'a ImageHandle,
-    machine: &mut MachineHandle<'a>,
+    machine: &mut MachineHandle,
     inputs: &[i32],
     values: &mut [i32],
     steps: &mut u64,
@@ -256,7 +218,7 @@ pub extern "C" fn sct_machine_react<'a>(
     ensures same { result ≢ pos 0 → machine.new.machine ≡ machine.old.machine }
     ensures values { result ≢ pos 0 → values.new ≡ values.old }
 {
-    match react(alloc, image, machine, inputs, values) {
+    match react(alloc, machine, inputs, values) {
         Ok(count) => {
             *steps = count;
             OK
@@ -267,10 +229,9 @@ pub extern "C" fn sct_machine_react<'a>(
 
 /// Puts the configuration of the machine behind a handle into cells.
 #[unsafe(no_mangle)]
-pub extern "C" fn sct_machine_save<'a>(
+pub extern "C" fn sct_machine_save(
     alloc: Global,
-    image: &'a ImageHandle,
-    machine: &mut MachineHandle<'a>,
+    machine: &mut MachineHandle,
     values: &mut [i32],
     statuses: &mut [u32],
 ) -> i32
@@ -278,7 +239,7 @@ pub extern "C" fn sct_machine_save<'a>(
         → Holds machine.new.machine (λ m. HoldControl values.new statuses.new m.control) }
     ensures same { machine.new.machine ≡ machine.old.machine }
 {
-    match save(alloc, image, machine, values, statuses) {
+    match save(alloc, machine, values, statuses) {
         Ok(()) => OK,
         Err(fault) => status_of(fault),
     }
@@ -286,10 +247,9 @@ pub extern "C" fn sct_machine_save<'a>(
 
 /// Puts the machine behind a handle into the configuration in these cells, in which it rests.
 #[unsafe(no_mangle)]
-pub extern "C" fn sct_machine_restore<'a>(
+pub extern "C" fn sct_machine_restore(
     alloc: Global,
-    image: &'a ImageHandle,
-    machine: &mut MachineHandle<'a>,
+    machine: &mut MachineHandle,
     values: &[i32],
     statuses: &[u32],
 ) -> i32
@@ -297,7 +257,7 @@ pub extern "C" fn sct_machine_restore<'a>(
         → RestoredHeld values.now statuses.now machine.old.machine machine.new.machine }
     ensures same { result ≢ pos 0 → machine.new.machine ≡ machine.old.machine }
 {
-    match restore(alloc, image, machine, values, statuses) {
+    match restore(alloc, machine, values, statuses) {
         Ok(()) => OK,
         Err(fault) => status_of(fault),
     }
@@ -305,10 +265,9 @@ pub extern "C" fn sct_machine_restore<'a>(
 
 /// Whether the state of this number of the machine's chart is active, as 1 or 0.
 #[unsafe(no_mangle)]
-pub extern "C" fn sct_machine_active<'a>(
+pub extern "C" fn sct_machine_active(
     alloc: Global,
-    image: &'a ImageHandle,
-    machine: &mut MachineHandle<'a>,
+    machine: &mut MachineHandle,
     number: u32,
     active: &mut bool,
 ) -> i32
@@ -316,7 +275,7 @@ pub extern "C" fn sct_machine_active<'a>(
         (active.new ≡ is_active m.opened.states.nodes m.control number) × (number < length m.opened.states.paths)) }
     ensures same { machine.new.machine ≡ machine.old.machine }
 {
-    match state_is_active(alloc, image, machine, number) {
+    match state_is_active(alloc, machine, number) {
         Ok(is) => {
             *active = is;
             OK
@@ -325,8 +284,22 @@ pub extern "C" fn sct_machine_active<'a>(
     }
 }
 
-/// Closes the machine behind a handle, which is not used again.
+/// Puts the machine behind a handle before its first tick again.
 #[unsafe(no_mangle)]
-pub extern "C" fn sct_machine_close(alloc: Global, machine: MachineHandle<'_>) {
-    drop(machine.into_box(alloc));
+pub extern "C" fn sct_machine_reset(alloc: Global, machine: &mut MachineHandle) -> i32
+    ensures first { result ≡ pos 0 → ResetHeld machine.old.machine machine.new.machine }
+    ensures same { result ≢ pos 0 → machine.new.machine ≡ machine.old.machine }
+{
+    match reset(alloc, machine) {
+        Ok(()) => OK,
+        Err(fault) => status_of(fault),
+    }
+}
+
+/// Closes the machine behind a handle, which holds none then.
+#[unsafe(no_mangle)]
+pub extern "C" fn sct_machine_close(alloc: Global, machine: &mut MachineHandle)
+    ensures { machine.new.machine ≡ None }
+{
+    close(alloc, machine);
 }

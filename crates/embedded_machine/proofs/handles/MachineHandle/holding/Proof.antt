@@ -1,17 +1,16 @@
--- `holding` keeps the pointer of the loose box.
+-- `holding` keeps the pointer of the loose box, cast.
 use Rattle.std.proofs.Common.{◌≡◌, List, [], ◌∷◌, ◌++◌, refl, sym, subst}
-use mir.Syntax.{named}
 use mir.Val.{Val, vptr}
 use base.Logic.{SProp, ent, emp, id⊢}
-use base.Fml.{ftrue, flft}
+use base.Fml.{ftrue}
 use prog.Wp.{WpFn}
-use types.Kit.{‵, raw, feq_l, feq_i, ◌⊛◌, ◌$◌, ◌∵◌, !, qed, by, move, keep, split, fsplit, fjoin, suffices, use0}
+use types.Kit.{‵, raw, ◌⊛◌, ◌$◌, ◌∵◌, !, qed, by, move, keep, split, fsplit, fjoin, suffices, use0}
 use types.Run.{stop, fld, of_opd, no_more, and_then, returns, enter}
 use types.ByLocal.{alloc_all, pass_all, free_all, look_at, get, get_in, sets}
 use types.Part.{agg, sub, whole}
 use contract.Monad.{fact, fact_i}
 use contract.Running.{tables}
-use denote.Exit.{yes, no}
+use denote.Exit.{yes}
 use denote.RattleType.{RattleType, owns}
 use denote.RawPtr.{block_ptr}
 use denote.Signature.{types_at, plain}
@@ -20,12 +19,11 @@ use denote.Triple.Walked.{Stays, stay_dropped, walk_of, Goes-dropped}
 use Rattle.std.specs.declared.option.Option.TheVariants.{Some}
 use Rattle.std.specs.contracts.alloc.Global as global
 use Rattle.std.specs.contracts.impls.GlobalAllocator.TheImpl.{ghosts}
-use Rattle.std.proofs.alloc.Calls.{Goes-blank}
 use Rattle.std.proofs.alloc.Global.TheLaws as heap_laws
 use Rattle.std.proofs.raw_atomic.Walks.{proved_at, leaves}
 use Rattle.embedded_machine.proofs.Values.{both, Loose, loose_good, loose_out}
-use Rattle.embedded_machine.proofs.Held.{Image, Machine, word, machine_in, hold}
-use Rattle.embedded_machine.specs.contracts.machine.Machine as machine
+use Rattle.embedded_machine.proofs.Held.{Handle, alone, handle_in, hold}
+use Rattle.embedded_machine.specs.contracts.machine.Machine as held
 use Rattle.embedded_machine.specs.contracts.handles.MachineHandle.holding.{ended, clauses}
 use Rattle.embedded_machine.specs.contracts.handles.MachineHandle.holding.Key.{name as #self}
 use Rattle.embedded_machine.proofs.handles.MachineHandle.holding.Statement.{statement}
@@ -33,41 +31,22 @@ use Rattle.embedded_machine.proofs.handles.MachineHandle.holding.Code as code
 
 pub holding_spec : {M : Type 1} → statement M
 holding_spec 𝓤 𝓛 𝓜 𝓡 wired =
-    let H = 𝓛.H in let 𝓣 = tables 𝓤 H 𝓜 𝓡 𝓡.env in let Z : RattleType = global.the_row in let LZ = heap_laws.the_row_laws in
-    let c = clauses 𝓛 𝓜.mem 𝓡.returns in let fn = code.function in
-    let hs : Stays ended.signature.params ended.kept = (
-      stay_dropped (denote.Builtin.RefOf (0 ∷
-          []) tt (plain (λ κs. Image)) (λ κs. tt)) yes,
-      (
-        stay_dropped (plain (λ κs. Loose (machine.the_row
-            (record { mir = named 0; lft = κs.0 })) Z LZ ghosts)) no,
-        tt,
-      ),
-    ) in
-    proved_at 𝓛 ended hs c 𝓜 𝓡 (
-      Goes-dropped 𝓛 1 (denote.Builtin.RefOf (0 ∷
-          []) tt (plain (λ κs. Image)) (λ κs. tt)) yes (λ κs x f. refl),
-      (
-        Goes-blank 𝓛 1 (plain (λ κs. Loose (machine.the_row
-            (record { mir = named 0; lft = κs.0 })) Z LZ ghosts)) no (λ κs x f. tt),
-        tt,
-      ),
-    ) #self fn (code.unfolded 𝓤 H 𝓜 𝓡 wired) (λ z are.
-    let κs = z.0.0 in let qs = z.0.1 in let κ = κs.0 in let Post : Val → SProp 𝓤 = (walk_of 𝓛 ended hs c).post z in
+    let H = 𝓛.H in let 𝓣 = tables 𝓤 H 𝓜 𝓡 𝓡.env in let R : RattleType = held.the_row in let Z : RattleType = global.the_row in
+    let LZ = heap_laws.the_row_laws in let c = clauses 𝓛 𝓜.mem 𝓡.returns in let fn = code.function in
+    let L : RattleType = Loose R Z LZ ghosts in let hs : Stays ended.signature.params ended.kept = (stay_dropped (plain (λ _. L)) yes, tt) in
+    proved_at 𝓛 ended hs c 𝓜 𝓡 (Goes-dropped 𝓛 0 (plain (λ _. L)) yes (λ κs x f. refl), tt) #self fn (code.unfolded 𝓤 H 𝓜 𝓡 wired) (λ z are.
+    let κs = z.0.0 in let v = z.0.3.0 in let Post : Val → SProp 𝓤 = (walk_of 𝓛 ended hs c).post z in
     let Run : List Val → SProp 𝓤 = λ ws. WpFn 𝓤 H 𝓣.C 𝓣.Λ fn ws Post in
-    let image = z.0.3.0 in let r : Val = word image in
-    let R : RattleType = machine.the_row (record { mir = named 0; lft = κ }) in let v = z.0.3.1.0 in
-    qed 𝓛 (((‵ (flft κs.0 qs.0) ⊛ ‵ ftrue) ⊛ ‵ (owns (types_at ended.signature.params κs) z.0.3 z.0.4)) ∷ raw ((c κs z.0.3).requires z.1) ∷ []) ∵ split ! $
-    move ! (1 ∷ []) $ fsplit ! $ fsplit ! $ feq_l ! (λ e.
-    feq_i ! (List Val) (r ∷ []) (r ∷ []) refl $ fjoin ! $ move ! (1 ∷ []) $ fsplit ! $ loose_out R Z LZ ghosts ! v z.0.4.1.0 (λ b o h at ws fits.
+    qed 𝓛 ((‵ ftrue ⊛ ‵ (owns (types_at ended.signature.params κs) z.0.3 z.0.4)) ∷ raw ((c κs z.0.3).requires z.1) ∷ []) ∵ split ! $ move ! (1 ∷ []) $
+    fsplit ! $ loose_out R Z LZ ghosts ! v z.0.4.0 (λ b o h e ws fits.
     let w : Val = both (vptr b o) h in let typed = loose_good R Z LZ ghosts b o h fits in
-    let d : (Machine κ).Denot = record { at = block_ptr b o; image = image; machine = Some v.value } in
-    suffices ! (Run (r ∷ w ∷ [])) (subst (λ (us : List Val). ent 𝓤 (Run (r ∷ w ∷ [])) (Run us)) (sym (λ i. e i ++ (ws i ++ []))) (id⊢ 𝓤 (Run (r ∷ w ∷ [])))) $
-    enter ! 𝓣.C 𝓣.Λ fn (r ∷ w ∷ []) Post $ alloc_all ! (λ l. pass_all ! refl ((tt, tt), (typed, tt)) $
+    let d : Handle.Denot = record { at = block_ptr b o; machine = Some v.value } in
+    suffices ! (Run (w ∷ [])) (subst (λ (us : List Val). ent 𝓤 (Run (w ∷ [])) (Run us)) (sym (λ i. ws i ++ [])) (id⊢ 𝓤 (Run (w ∷ [])))) $
+    enter ! 𝓣.C 𝓣.Λ fn (w ∷ []) Post $ alloc_all ! (λ l. pass_all ! refl (typed, tt) $
     sets ! (of_opd ! (get_in ! (fld ! refl (stop !)) (sub ! 0 refl (whole !)))) refl (tt, tt) $
-    sets ! (agg ! (and_then ! (get ! refl) (and_then ! (get ! refl) (no_more !)))) refl (tt, (tt, (tt, tt))) $
-    hold R ! (block_ptr b o) v.value $ move ! (0 ∷ 3 ∷ []) $ machine_in κ ! d $
-    use0 𝓛 (raw (fact 𝓤 (Some v.value ≡ Some v.value))) (fact_i 𝓤 (Some v.value ≡ Some v.value) (emp 𝓤) refl) $ nothing ! $ nothing ! $ fjoin ! $ nothing ! $
-    fjoin ! $
+    sets ! (of_opd ! (get ! refl)) refl (tt, tt) $
+    sets ! (agg ! (and_then ! (get ! refl) (no_more !))) refl (tt, (tt, tt)) $
+    hold R ! (block_ptr b o) v.value $ handle_in ! d $
+    use0 𝓛 (raw (fact 𝓤 (Some v.value ≡ Some v.value))) (fact_i 𝓤 (Some v.value ≡ Some v.value) (emp 𝓤) refl) $ nothing ! $ nothing ! $ fjoin ! $
     returns ! (look_at ! 0 refl) $ free_all ! refl $ keep ! (5 ∷ 0 ∷ 2 ∷ 1 ∷ []) $
-    by ! (leaves 𝓛 ended hs c z (both (vptr b o) r) d (tt, (tt, tt)) (tt, (tt, tt)))))))
+    by ! (leaves 𝓛 ended hs c z (alone (vptr b o)) d (tt, tt) (tt, tt)))))

@@ -1,9 +1,8 @@
 -- `into_loose` tests the pointer, and has the box at it.
 use Rattle.std.proofs.Common.{◌≡◌, List, [], ◌∷◌, ◌++◌, refl, sym, ap, ◌∙◌, subst, lit<}
-use mir.Syntax.{named}
 use mir.Val.{Val, vptr, vcons, vnil}
 use base.Logic.{SProp, ent, emp, id⊢}
-use base.Fml.{ftrue, flft}
+use base.Fml.{ftrue}
 use prog.Wp.{WpFn}
 use types.Kit.{‵, raw, ◌⊛◌, at_ret, ◌$◌, ◌∵◌, !, qed, by, move, keep, split, fsplit, fjoin, suffices, use0, use1}
 use types.Run.{stop, fld, lit, of_opd, bin, no_more, and_then, first, branches, exec, returns, enter}
@@ -30,8 +29,8 @@ use Rattle.std.proofs.option.Made.{Some-of, none_of}
 use Rattle.std.proofs.ResultValues.{and_tt}
 use Rattle.std.proofs.raw_atomic.Walks.{proved_at, leaves}
 use Rattle.embedded_machine.proofs.Values.{both, Loose, al, loose_good, loose_in}
-use Rattle.embedded_machine.proofs.Held.{Machine, word, machine_out, either_held}
-use Rattle.embedded_machine.specs.contracts.machine.Machine as machine
+use Rattle.embedded_machine.proofs.Held.{Handle, alone, handle_out, either_held}
+use Rattle.embedded_machine.specs.contracts.machine.Machine as held
 use Rattle.embedded_machine.specs.contracts.handles.MachineHandle.into_loose.{ended, clauses}
 use Rattle.embedded_machine.specs.contracts.handles.MachineHandle.into_loose.Key.{name as #self}
 use Rattle.embedded_machine.proofs.handles.MachineHandle.into_loose.Statement.{statement}
@@ -41,30 +40,29 @@ pub into_loose_spec : {M : Type 1} → statement M
 into_loose_spec 𝓤 𝓛 𝓜 𝓡 wired =
     let H = 𝓛.H in let 𝓣 = tables 𝓤 H 𝓜 𝓡 𝓡.env in let Z : RattleType = global.the_row in let LZ = heap_laws.the_row_laws in
     let c = clauses 𝓛 𝓜.mem 𝓡.returns in let fn = code.function in
-    let hs : Stays ended.signature.params ended.kept = (stay_dropped (plain (λ κs. Machine κs.0)) yes, (stay_dropped (plain (λ _. Z)) yes, tt)) in
+    let R : RattleType = held.the_row in
+    let hs : Stays ended.signature.params ended.kept = (stay_dropped (plain (λ _. Handle)) yes, (stay_dropped (plain (λ _. Z)) yes, tt)) in
     proved_at 𝓛 ended hs c 𝓜 𝓡 (
-      Goes-dropped 𝓛 1 (plain (λ κs. Machine κs.0)) yes (λ κs x f. refl),
+      Goes-dropped 𝓛 0 (plain (λ _. Handle)) yes (λ κs x f. refl),
       (
-        Goes-dropped 𝓛 1 (plain (λ _. Z)) yes
+        Goes-dropped 𝓛 0 (plain (λ _. Z)) yes
             (λ κs x f. refl),
         tt,
       ),
     ) #self fn (code.unfolded 𝓤 H 𝓜 𝓡 wired) (λ z are.
-    let κs = z.0.0 in let qs = z.0.1 in let κ = κs.0 in let R : RattleType = machine.the_row (record { mir = named 0; lft = κ }) in
-    let L : RattleType = Loose R Z LZ ghosts in
+    let κs = z.0.0 in let qs = z.0.1 in let L : RattleType = Loose R Z LZ ghosts in
     let v = z.0.3.0 in let a = z.0.3.1.0 in let Post : Val → SProp 𝓤 = (walk_of 𝓛 ended hs c).post z in
     let Run : List Val → SProp 𝓤 = λ ws. WpFn 𝓤 H 𝓣.C 𝓣.Λ fn ws Post in let Out : RattleType = type_at ended.signature.result κs in
-    qed 𝓛 (((‵ (flft κs.0 qs.0) ⊛ ‵ ftrue) ⊛ ‵ (owns (types_at ended.signature.params κs) z.0.3 z.0.4)) ∷ raw ((c κs z.0.3).requires z.1) ∷ []) ∵ split ! $
-    move ! (1 ∷ []) $ fsplit ! $ machine_out κ ! v z.0.4.0 (λ ws.
+    qed 𝓛 ((‵ ftrue ⊛ ‵ (owns (types_at ended.signature.params κs) z.0.3 z.0.4)) ∷ raw ((c κs z.0.3).requires z.1) ∷ []) ∵ split ! $ move ! (1 ∷ []) $
+    fsplit ! $ handle_out ! v z.0.4.0 (λ ws.
     move ! (1 ∷ []) $ fsplit ! $ handle_tells (al R Z LZ ghosts) ! a z.0.4.1.0 (λ h eh fits. move ! (2 ∷ []) $
-    let of_ptr : Ptr → Val = λ p. both (ptr_val p) (word v.image) in
+    let of_ptr : Ptr → Val = λ p. alone (ptr_val p) in
     let starts : (p : Ptr) → v.at ≡ p → ent 𝓤 (Run (of_ptr p ∷ h ∷ [])) (Run (z.0.4.0 ++ (z.0.4.1.0 ++ []))) = λ p is. let w : Val = of_ptr p in
     subst (λ (us : List Val). ent 𝓤 (Run (w ∷ h ∷ [])) (Run us)) (sym (λ i. (ws ∙ ap (λ (q : Ptr). of_ptr q ∷ []) is) i ++ (eh i ++ []))) (id⊢ 𝓤 (Run (w ∷
     h ∷ []))) in
     either_held R ! v.at v.machine
     (λ is none. let w : Val = of_ptr null_ptr in suffices ! (Run (w ∷ h ∷ [])) (starts null_ptr is) $
-    enter ! 𝓣.C 𝓣.Λ fn (w ∷ h ∷ []) Post $ alloc_all ! (λ l. pass_all ! refl ((tt, (record { fits = lit< tt }, (tt, tt))), (fits, tt)) $
-    let Ev = env fn.locals l in
+    enter ! 𝓣.C 𝓣.Λ fn (w ∷ h ∷ []) Post $ alloc_all ! (λ l. pass_all ! refl ((tt, (record { fits = lit< tt }, tt)), (fits, tt)) $ let Ev = env fn.locals l in
     sets ! (of_opd ! (get_in ! (fld ! refl (stop !)) (sub ! 0 refl (whole !)))) refl (tt, record { fits = lit< tt }) $
     sets ! (bin ! (get ! refl) (lit ! tt) tt) refl (tt, tt) $
     first ! $ branches ! (get ! refl)
@@ -80,11 +78,12 @@ into_loose_spec 𝓤 𝓛 𝓜 𝓡 wired =
     let d : L.Denot = record { at = block_ptr b o; alloc = a; value = x } in
     let good : Good (layout Out) v₁ = (and_tt _ typed.0, (record { fits = lit< tt }, (typed.1, tt))) in
     suffices ! (Run (w ∷ h ∷ [])) (starts (block_ptr b o) is) $
-    enter ! 𝓣.C 𝓣.Λ fn (w ∷ h ∷ []) Post $ alloc_all ! (λ l. pass_all ! refl ((tt, (tt, (tt, tt))), (fits, tt)) $ let Ev = env fn.locals l in
+    enter ! 𝓣.C 𝓣.Λ fn (w ∷ h ∷ []) Post $ alloc_all ! (λ l. pass_all ! refl ((tt, (tt, tt)), (fits, tt)) $ let Ev = env fn.locals l in
     sets ! (of_opd ! (get_in ! (fld ! refl (stop !)) (sub ! 0 refl (whole !)))) refl (tt, tt) $
     sets ! (bin ! (get ! refl) (lit ! tt) (tests_null (block_ptr b o) t)) refl (tt, tt) $
     first ! $ branches ! (get ! refl) (λ wrong. absurd wrong)
-    (λ _. sets ! (agg ! (and_then ! (get ! refl) (and_then ! (get ! refl) (no_more !)))) refl typed $
+    (λ _. sets ! (of_opd ! (get ! refl)) refl (tt, tt) $
+    sets ! (agg ! (and_then ! (get ! refl) (and_then ! (get ! refl) (no_more !)))) refl typed $
     sets_last ! (agg ! (and_then ! (lit ! tt) (and_then ! (get ! refl) (no_more !)))) refl good $
     exec ! 𝓣.C 𝓣.Λ Ev (after 3 fn.body) (at_ret Ev Post) $ sets ! (of_opd ! (get ! refl)) refl good $
     loose_in R Z LZ ghosts ! b o h a x $ use1 𝓛 (‵ (Out.own_val (Some d) (v₁ ∷ []))) (Some-of 𝓛 L d made) $
