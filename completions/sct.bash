@@ -14,7 +14,7 @@ _sct() {
     local options=--help
     case $command in
       list) options='--source --help' ;;
-      run) options='--workers --chart --help' ;;
+      run) options='--workers --help' ;;
     esac
     mapfile -t COMPREPLY < <(compgen -W "$options" -- "$word")
     return
@@ -24,7 +24,6 @@ _sct() {
     compile | scl | explain | dot) ending='*.@(chart|scl)' ;;
   esac
   [[ $before == --source ]] && ending='*.@(chart|scl)'
-  [[ $before == --chart ]] && ending='*.chart'
   [[ $command == compile && $COMP_CWORD -gt 2 ]] && ending='*.image'
   mapfile -t COMPREPLY < <(shopt -s extglob; compgen -f -X "!$ending" -- "$word"; compgen -d -- "$word")
   compopt -o filenames 2> /dev/null

@@ -15,4 +15,3 @@ complete -c sct -n '__fish_seen_subcommand_from compile scl explain dot check li
 complete -c sct -n '__fish_seen_subcommand_from compile scl explain dot check list run migrate' -F
 complete -c sct -n '__fish_seen_subcommand_from list' -l source -r -F -d 'The text that it was compiled from'
 complete -c sct -n '__fish_seen_subcommand_from run' -l workers -x -a '1 2 3 4 5 6 7 8' -d 'How many threads serve'
-complete -c sct -n '__fish_seen_subcommand_from run' -l chart -r -F -d 'The chart that it was compiled from: its active states are told'

@@ -6,11 +6,10 @@ use Rattle.command_words.specs.Said.{Names, NoName, One, Two, Said, said_by}
 use Rattle.command_words.specs.declared.arguments.Request.{Request as Words}
 use Rattle.command_words.specs.declared.arguments.Request.TheVariants as words
 
--- a request, with the name of a file or of two; a run by so many workers, or beside the chart of the image
+-- a request, with the name of a file or of two; a run by so many workers
 pub data Request : Type 0 where
   Check : (name : List ℕ) → Request
   Run : (name : List ℕ) (workers : ℕ) → Request
-  RunStates : (name chart : List ℕ) → Request
   Compile : (from to : List ℕ) → Request
   Print : (name : List ℕ) → Request
   Migrate : (from to : List ℕ) → Request
@@ -23,7 +22,6 @@ pub data Request : Type 0 where
 abbrev pub seen : Words → Request
 seen (words.Check name) = Check name.now
 seen (words.Run name workers) = Run name.now workers.number
-seen (words.RunStates name chart) = RunStates name.now chart.now
 seen (words.Compile from to) = Compile from.now to.now
 seen (words.Print name) = Print name.now
 seen (words.Migrate from to) = Migrate from.now to.now
@@ -36,17 +34,16 @@ seen (words.Draw name) = Draw name.now
 abbrev pub usual_workers : ℕ
 usual_workers = 2
 
--- a run of one file, with its chart or without. With it one thread serves, whatever is said
-abbrev pub run_of : Option ℕ → Option (List ℕ) → Option (List ℕ) → Names → Option Request
-run_of workers None None (One name) = Some (Run name (unwrap_or workers usual_workers))
-run_of workers None (Some chart) (One name) = Some (RunStates name chart)
-run_of workers source chart names = None
+-- a run of one file
+abbrev pub run_of : Option ℕ → Option (List ℕ) → Names → Option Request
+run_of workers None (One name) = Some (Run name (unwrap_or workers usual_workers))
+run_of workers source names = None
 
 -- a listing of one file, with a source or without
-abbrev pub list_of : Option ℕ → Option (List ℕ) → Option (List ℕ) → Names → Option Request
-list_of None None None (One name) = Some (ListNodes name)
-list_of None (Some source) None (One name) = Some (ListPlaces name source)
-list_of workers source chart names = None
+abbrev pub list_of : Option ℕ → Option (List ℕ) → Names → Option Request
+list_of None None (One name) = Some (ListNodes name)
+list_of None (Some source) (One name) = Some (ListPlaces name source)
+list_of workers source names = None
 
 -- what another verb asks for with these names
 abbrev pub asked : List ℕ → Names → Option Request
@@ -63,16 +60,16 @@ asked verb (Two from to) =
 asked verb NoName = None
 
 -- which has no option
-abbrev pub asked_plainly : List ℕ → Option ℕ → Option (List ℕ) → Option (List ℕ) → Names → Option Request
-asked_plainly verb None None None names = asked verb names
-asked_plainly verb workers source chart names = None
+abbrev pub asked_plainly : List ℕ → Option ℕ → Option (List ℕ) → Names → Option Request
+asked_plainly verb None None names = asked verb names
+asked_plainly verb workers source names = None
 
 -- what a verb asks for with what is said behind it
 abbrev pub request_by : List ℕ → Said → Option Request
 request_by verb s =
-    if bytes_eq verb (codes "run") then run_of s.workers s.source s.chart s.names
-    else if bytes_eq verb (codes "list") then list_of s.workers s.source s.chart s.names
-    else asked_plainly verb s.workers s.source s.chart s.names
+    if bytes_eq verb (codes "run") then run_of s.workers s.source s.names
+    else if bytes_eq verb (codes "list") then list_of s.workers s.source s.names
+    else asked_plainly verb s.workers s.source s.names
 
 -- the request of the words behind the program's name
 abbrev pub request_of : List (List ℕ) → Option Request
@@ -82,7 +79,6 @@ request_of (verb ∷ words) = option_and_then (request_by verb) (said_by words)
 -- a run is asked for, which alone reads the input
 abbrev pub IsRun : Option Request → Type 0
 IsRun (Some (Run name workers)) = Unit {0}
-IsRun (Some (RunStates name chart)) = Unit {0}
 IsRun request = ⊥
 
 -- an image is asked for, by compiling or by migration, which alone write a file

@@ -1,6 +1,5 @@
 -- What the words behind a verb say: its options with their values, and the names of files.
-use Rattle.std.specs.Prelude.{ℕ, Bool, false, ◌==◌, ◌-◌, ◌||◌, nat_eq, nat_lt, if◌then◌else◌, codes}
-use Rattle.std.specs.Prelude.{is_some, Option, Some, None, option_map, List, [], ◌∷◌, length, take, drop}
+use Rattle.std.specs.Prelude.{ℕ, Bool, false, ◌==◌, ◌-◌, ◌||◌, nat_eq, nat_lt, if◌then◌else◌, codes, is_some, Option, Some, None, option_map, List, [], ◌∷◌, take, drop}
 use Rattle.std.specs.List.{starts_with}
 use Rattle.std.specs.Option.{option_and_then}
 use Rattle.std.specs.Str.{bytes_eq}
@@ -22,7 +21,6 @@ pub record Said : Type 0 where
   pub next : Next
   pub workers : Option ℕ
   pub source : Option (List ℕ)
-  pub chart : Option (List ℕ)
   pub names : Names
 
 abbrev pub names_seen : GivenNames → Names
@@ -35,12 +33,11 @@ said_seen s = record {
   next = s.next;
   workers = option_map (λ w. w.number) s.workers;
   source = option_map (λ name. name.now) s.source;
-  chart = option_map (λ name. name.now) s.chart;
   names = names_seen s.names;
 }
 
 abbrev pub start : Said
-start = record { next = next.Any; workers = None; source = None; chart = None; names = NoName }
+start = record { next = next.Any; workers = None; source = None; names = NoName }
 
 abbrev pub hyphen : ℕ
 hyphen = 45
@@ -59,17 +56,9 @@ workers_named word = None
 abbrev pub workers_in : List ℕ → Option ℕ
 workers_in word = if bytes_eq (take 10 word) (codes "--workers=") then workers_named (drop 10 word) else None
 
--- what a word says behind an option
-abbrev pub value_in : List ℕ → List ℕ → Option (List ℕ)
-value_in option word = if starts_with nat_eq word option then Some (drop (length option) word) else None
-
 -- the source that `--source=FILE` says
 abbrev pub source_in : List ℕ → Option (List ℕ)
-source_in word = value_in (codes "--source=") word
-
--- the chart that `--chart=FILE` says
-abbrev pub chart_in : List ℕ → Option (List ℕ)
-chart_in word = value_in (codes "--chart=") word
+source_in word = if starts_with nat_eq word (codes "--source=") then Some (drop 9 word) else None
 
 abbrev pub with_name : Names → List ℕ → Option Names
 with_name NoName name = Some (One name)
@@ -83,21 +72,13 @@ with_workers s n = if is_some s.workers then None else Some (record s { next = n
 abbrev pub with_source : Said → List ℕ → Option Said
 with_source s source = if is_some s.source then None else Some (record s { next = next.Any; source = Some source })
 
-abbrev pub with_chart : Said → List ℕ → Option Said
-with_chart s chart = if is_some s.chart then None else Some (record s { next = next.Any; chart = Some chart })
-
 abbrev pub named : Said → List ℕ → Option Said
 named s name = option_map (λ names. record s { names = names }) (with_name s.names name)
-
--- an option with the name of a file in one word
-abbrev pub by_file : Said → List ℕ → Option (List ℕ) → Option Said
-by_file s word (Some source) = with_source s source
-by_file s word None = option_and_then (with_chart s) (chart_in word)
 
 -- an option with its value in one word
 abbrev pub by_value : Said → List ℕ → Option ℕ → Option Said
 by_value s word (Some n) = with_workers s n
-by_value s word None = by_file s word (source_in word)
+by_value s word None = option_and_then (with_source s) (source_in word)
 
 abbrev pub valued : Said → List ℕ → Option Said
 valued s word = by_value s word (workers_in word)
@@ -108,7 +89,6 @@ opened s word =
     if bytes_eq word (codes "--") then Some (record s { next = next.Name })
     else if bytes_eq word (codes "--workers") then Some (record s { next = next.Number })
     else if bytes_eq word (codes "--source") then Some (record s { next = next.Source })
-    else if bytes_eq word (codes "--chart") then Some (record s { next = next.Chart })
     else if is_option word then valued s word
     else named s word
 
@@ -116,7 +96,6 @@ abbrev pub taken_for : Next → Said → List ℕ → Option Said
 taken_for next.Any s word = opened s word
 taken_for next.Number s word = option_and_then (with_workers s) (workers_named word)
 taken_for next.Source s word = if is_option word then None else with_source s word
-taken_for next.Chart s word = if is_option word then None else with_chart s word
 taken_for next.Name s word = named s word
 
 -- one more word

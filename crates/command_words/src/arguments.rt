@@ -22,8 +22,6 @@ pub enum Request<'a> {
     Check(&'a str),
     /// Run the image in this file by so many workers.
     Run(&'a str, Workers),
-    /// Run the image in the first file, and tell which states of the chart in the second are active.
-    RunStates(&'a str, &'a str),
     /// Write the image of the chart or SCL text in the first file to the second.
     Compile(&'a str, &'a str),
     /// Print the SCL text in this file, or that of the chart in it.
@@ -70,16 +68,13 @@ fn shown(alloc: Global, error: &Error) -> Unread {
     }
 }
 
-// A run of one file, with its chart or without.
+// A run of one file.
 fn run_of<'a>(said: &Said<'a>) -> Option<Request<'a>>
     ensures { option_map seen result ≡ run_of (said_seen said.now).workers (said_seen said.now).source
-        (said_seen said.now).chart (said_seen said.now).names }
+        (said_seen said.now).names }
 {
-    match (said.source, said.chart, said.names) {
-        (None, None, Names::One(name)) => {
-            Some(Request::Run(name, said.workers.unwrap_or(USUAL_WORKERS)))
-        }
-        (None, Some(chart), Names::One(name)) => Some(Request::RunStates(name, chart)),
+    match (said.source, said.names) {
+        (None, Names::One(name)) => Some(Request::Run(name, said.workers.unwrap_or(USUAL_WORKERS))),
         _ => None,
     }
 }
@@ -87,11 +82,11 @@ fn run_of<'a>(said: &Said<'a>) -> Option<Request<'a>>
 // A listing of one file.
 fn list_of<'a>(said: &Said<'a>) -> Option<Request<'a>>
     ensures { option_map seen result ≡ list_of (said_seen said.now).workers (said_seen said.now).source
-        (said_seen said.now).chart (said_seen said.now).names }
+        (said_seen said.now).names }
 {
-    match (said.workers, said.source, said.chart, said.names) {
-        (None, None, None, Names::One(name)) => Some(Request::ListNodes(name)),
-        (None, Some(source), None, Names::One(name)) => Some(Request::ListPlaces(name, source)),
+    match (said.workers, said.source, said.names) {
+        (None, None, Names::One(name)) => Some(Request::ListNodes(name)),
+        (None, Some(source), Names::One(name)) => Some(Request::ListPlaces(name, source)),
         _ => None,
     }
 }
@@ -114,10 +109,10 @@ fn asked<'a>(verb: &str, names: Names<'a>) -> Option<Request<'a>>
 // The same, of a verb that has no option.
 fn asked_plainly<'a>(verb: &str, said: &Said<'a>) -> Option<Request<'a>>
     ensures { option_map seen result ≡ asked_plainly verb.now (said_seen said.now).workers (said_seen said.now).source
-        (said_seen said.now).chart (said_seen said.now).names }
+        (said_seen said.now).names }
 {
-    match (said.workers, said.source, said.chart) {
-        (None, None, None) => asked(verb, said.names),
+    match (said.workers, said.source) {
+        (None, None) => asked(verb, said.names),
         _ => None,
     }
 }

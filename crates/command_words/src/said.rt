@@ -3,7 +3,7 @@
 ghost use Rattle.std.specs.Prelude.{◌≡◌, map, option_map, string_bytes};
 ghost use Rattle.command_words.specs.Said.{names_seen, said_seen, source_in, step, workers_in, workers_named};
 ghost use Rattle.command_words.specs.Said.{ended, opened, read_on, said_by, start, valued, with_name, with_source};
-ghost use Rattle.command_words.specs.Said.{by_file, chart_in, is_option, named, with_chart, with_workers};
+ghost use Rattle.command_words.specs.Said.{is_option, named, with_workers};
 
 use crate::workers::Workers;
 
@@ -24,8 +24,6 @@ pub(crate) enum Next {
     Number,
     /// The name of a source.
     Source,
-    /// The name of a chart.
-    Chart,
     /// A name, whatever it begins with: a `--` stood before.
     Name,
 }
@@ -38,8 +36,6 @@ pub(crate) struct Said<'a> {
     pub(crate) workers: Option<Workers>,
     /// The source, where one was said.
     pub(crate) source: Option<&'a str>,
-    /// The chart, where one was said.
-    pub(crate) chart: Option<&'a str>,
     /// The files.
     pub(crate) names: Names<'a>,
 }
@@ -81,14 +77,6 @@ fn source_in(word: &str) -> Option<&str>
     word.strip_prefix("--source=")
 }
 
-// The name of the chart that an option says in one word.
-#[tactic(auto, using(crate::proofs::Sources::said))]
-fn chart_in(word: &str) -> Option<&str>
-    ensures { option_map (λ s. s.now) result ≡ chart_in word.now }
-{
-    word.strip_prefix("--chart=")
-}
-
 // One more name.
 fn with_name<'a>(names: Names<'a>, name: &'a str) -> Option<Names<'a>>
     ensures { option_map names_seen result ≡ with_name (names_seen names.entry) name.now }
@@ -109,7 +97,6 @@ impl<'a> Said<'a> {
             next: Next::Any,
             workers: None,
             source: None,
-            chart: None,
             names: Names::None,
         }
     }
@@ -124,7 +111,6 @@ impl<'a> Said<'a> {
                 next: Next::Any,
                 workers: Some(workers),
                 source: self.source,
-                chart: self.chart,
                 names: self.names,
             }),
         }
@@ -140,23 +126,6 @@ impl<'a> Said<'a> {
                 next: Next::Any,
                 workers: self.workers,
                 source: Some(source),
-                chart: self.chart,
-                names: self.names,
-            }),
-        }
-    }
-
-    // With the chart, which is said once.
-    fn with_chart(self, chart: &'a str) -> Option<Said<'a>>
-        ensures { option_map said_seen result ≡ with_chart (said_seen self.entry) chart.now }
-    {
-        match self.chart {
-            Some(_) => None,
-            None => Some(Said {
-                next: Next::Any,
-                workers: self.workers,
-                source: self.source,
-                chart: Some(chart),
                 names: self.names,
             }),
         }
@@ -171,7 +140,6 @@ impl<'a> Said<'a> {
             next: self.next,
             workers: self.workers,
             source: self.source,
-            chart: self.chart,
             names,
         })
     }
@@ -182,17 +150,7 @@ impl<'a> Said<'a> {
     {
         match workers_in(word.as_bytes()) {
             Some(workers) => self.with_workers(workers),
-            None => self.filed(word),
-        }
-    }
-
-    // With an option that says the name of a file in the same word.
-    fn filed(self, word: &'a str) -> Option<Said<'a>>
-        ensures { option_map said_seen result ≡ by_file (said_seen self.entry) word.now (source_in word.now) }
-    {
-        match source_in(word) {
-            Some(source) => self.with_source(source),
-            None => self.with_chart(chart_in(word)?),
+            None => self.with_source(source_in(word)?),
         }
     }
 
@@ -204,7 +162,6 @@ impl<'a> Said<'a> {
             next,
             workers: self.workers,
             source: self.source,
-            chart: self.chart,
             names: self.names,
         }
     }
@@ -217,7 +174,6 @@ impl<'a> Said<'a> {
             "--" => Some(self.awaits(Next::Name)),
             "--workers" => Some(self.awaits(Next::Number)),
             "--source" => Some(self.awaits(Next::Source)),
-            "--chart" => Some(self.awaits(Next::Chart)),
             word if is_option(word) => self.valued(word),
             word => self.named(word),
         }
@@ -230,9 +186,8 @@ impl<'a> Said<'a> {
         match self.next {
             Next::Any => self.opened(word),
             Next::Number => self.with_workers(workers_named(word.as_bytes())?),
-            Next::Source | Next::Chart if is_option(word) => None,
+            Next::Source if is_option(word) => None,
             Next::Source => self.with_source(word),
-            Next::Chart => self.with_chart(word),
             Next::Name => self.named(word),
         }
     }
@@ -243,7 +198,7 @@ impl<'a> Said<'a> {
     {
         match self.next {
             Next::Any | Next::Name => Some(self),
-            Next::Number | Next::Source | Next::Chart => None,
+            Next::Number | Next::Source => None,
         }
     }
 

@@ -40,8 +40,6 @@ const RUN_HELP: &str = r#"Input, a line for each tick (an input that is not name
 
 Output, a line for each:
   {"out":{"x":1,"y":1},"steps":7,"tick":1}
-and with --chart, of abro.chart:
-  {"out":{"O":true},"steps":11,"tick":3,"states":["Main.ABO","Main.ABO/Body.Done"]}
 
 Status:
   0  the whole input was played
@@ -153,17 +151,11 @@ fn run_command<'a>(alloc: Global) -> Result<Command<'a>, AllocError> {
         .value_parser(WORKERS)
         .hide_possible_values(true)
         .default_value("2");
-    let chart = Arg::new(alloc, "chart")
-        .long("chart")
-        .value_name("FILE")
-        .help("The chart that it was compiled from: each line tells which of its states are active")
-        .action(ArgAction::Set);
     Command::new(alloc, "run")
         .about("Plays standard input to standard output, a tick for each line")
         .after_help(RUN_HELP)
         .arg(image_name(alloc))?
-        .arg(workers)?
-        .arg(chart)
+        .arg(workers)
 }
 
 // The command over two files.

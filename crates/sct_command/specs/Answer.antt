@@ -12,13 +12,12 @@ use Rattle.command_files.specs.FaultText.{fault_text}
 use Rattle.command_files.specs.Files.{Contents, Stores}
 use Rattle.command_files.specs.Images.{IsLoaded, FileLacksImage}
 use Rattle.trace_lines.specs.Lines.{line_feed}
-use Rattle.command_words.specs.Request.{Request, Check, Run, RunStates, Compile, Print, Migrate, ListNodes, ListPlaces, Explain, Draw}
+use Rattle.command_words.specs.Request.{Request, Check, Run, Compile, Print, Migrate, ListNodes, ListPlaces, Explain, Draw}
 use Rattle.sct_command.specs.Sources.{Compiles, PrintsText, RefusesCompile, RefusesPrinting}
 use Rattle.command_files.specs.Storing.{IsNotStored}
 use Rattle.sct_command.specs.Drawing.{Draws, RefusesDrawing}
 use Rattle.sct_command.specs.Explaining.{FindsImage, RefusesExplaining}
 use Rattle.sct_command.specs.Listing.{ListsNodes, ListsPlaces, RefusesListing, RefusesPlaces}
-use Rattle.sct_command.specs.States.{PlaysStates, RefusesStates}
 use Rattle.sct_command.specs.Summary.{summary_of}
 use Rattle.sct_command.specs.Writing.{WritesPart, WritesText}
 use Rattle.trace_player.specs.Trace.{Plays, Good, Leaves}
@@ -47,13 +46,12 @@ pub record Migrates (files files' : Option Contents) (from to : List ℕ) (old n
   pub stored : Stores files files' to bytes
   pub written : Appends old new (summary_of image)
 
--- what was done for a request: a summary, a whole trace, one with active states, an image, a text, an image in version 2, a listing, a summary
+-- what was done for a request: a summary, a whole trace, an image, a text, an image in version 2, a listing, a summary
 -- of what compiles, a drawing, or for none the help
 abbrev pub Does : Option Contents → Option Contents → Option Request → Option (List ℕ) → Option (List ℕ)
     → Option (List ℕ) → Type 0
 Does files files' (Some (Check name)) input old new = SumsUp files name old new
 Does files files' (Some (Run name workers)) input old new = PlaysWhole files name input old new
-Does files files' (Some (RunStates name chart)) input old new = PlaysStates files name chart input old new
 Does files files' (Some (Compile from to)) input old new = Compiles files files' from to old new
 Does files files' (Some (Print name)) input old new = PrintsText files name old new
 Does files files' (Some (Migrate from to)) input old new = Migrates files files' from to old new
@@ -118,7 +116,6 @@ abbrev pub Refuses : Option Contents → Option Contents → Option Request → 
     → Option (List ℕ) → Fault → Type 0
 Refuses files files' (Some (Check name)) input old new f = RefusesCheck files name old new f
 Refuses files files' (Some (Run name workers)) input old new f = RefusesRun files name input old new f
-Refuses files files' (Some (RunStates name chart)) input old new f = RefusesStates files name chart input old new f
 Refuses files files' (Some (Compile from to)) input old new f = RefusesCompile files files' from to old new f
 Refuses files files' (Some (Print name)) input old new f = RefusesPrinting files name old new f
 Refuses files files' (Some (Migrate from to)) input old new f = RefusesMigration files files' from to old new f

@@ -4,6 +4,5 @@ pub mod Explaining
 pub mod Keeping
 pub mod Listing
 pub mod Sources
-pub mod States
 pub mod Summary
 pub mod Writing

@@ -18,7 +18,6 @@ use crate::list_places::list_places;
 use crate::migrate::migrate;
 use crate::print::print_text;
 use crate::run::run;
-use crate::run_states::run_states;
 use command_files::{Fault, Files};
 use command_words::{Request, Unread, read_words};
 use sc_values::{Sink, Source, write_all};
@@ -108,7 +107,6 @@ fn perform<T: Threads + Wait + Sync, F: Files, R: Source, W: Sink>(
     match request {
         Request::Check(name) => check(alloc, name, files, output),
         Request::Run(name, workers) => run(rt, alloc, name, workers, files, input, output),
-        Request::RunStates(name, chart) => run_states(alloc, name, chart, files, input, output),
         Request::Compile(from, to) => compile(alloc, from, to, files, output),
         Request::Print(name) => print_text(alloc, name, files, output),
         Request::Migrate(from, to) => migrate(alloc, from, to, files, output),

@@ -13,7 +13,6 @@ mod list_places;
 mod migrate;
 mod print;
 mod run;
-mod run_states;
 mod summary;
 
 pub use command_files::{Fault, FileFault, Files, HostFiles, load_verified, one_line};
