@@ -1,3 +1,5 @@
 pub mod Values
 pub mod Held
 mod Accepted
+mod Resting
+mod Uneven

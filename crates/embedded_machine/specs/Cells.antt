@@ -1,5 +1,5 @@
 -- Values, statuses and inputs as the numbers that cross to a caller in C: a cell each.
-use Rattle.std.specs.Prelude.{ℕ, ◌≡◌, ◌+◌, ℤ, pos, true, false, if◌then◌else◌, Option, Some, None, List, [], ◌∷◌, map}
+use Rattle.std.specs.Prelude.{ℕ, ◌≡◌, ◌+◌, ◌-◌, nat_eq, nat_lt, ℤ, pos, true, false, if◌then◌else◌, Option, Some, None, List, [], ◌∷◌, map}
 use Rattle.std.specs.Ordering.{int_eq}
 use Rattle.sc_values.specs.declared.value.Value.{Value}
 use Rattle.sc_values.specs.declared.value.Value.TheVariants as value
@@ -31,6 +31,17 @@ status_cell status.Ended = 1
 status_cell (status.Waiting n) = 131072 + n
 status_cell (status.Paused n) = 196608 + n
 status_cell (status.At n) = 262144 + n
+
+-- the status that a cell holds
+abbrev pub status_in : ℕ → Option Status
+status_in n =
+    if nat_eq n 0 then Some status.Absent
+    else if nat_eq n 1 then Some status.Ended
+    else if nat_lt n 131072 then None
+    else if nat_lt n 196608 then Some (status.Waiting (n - 131072))
+    else if nat_lt n 262144 then Some (status.Paused (n - 196608))
+    else if nat_lt n 327680 then Some (status.At (n - 262144))
+    else None
 
 -- the cells hold this configuration: one for each variable, and one for each thread
 pub record HoldControl (values : List ℤ) (statuses : List ℕ) (c : Control) : Type 0 where

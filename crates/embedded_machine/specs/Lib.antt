@@ -3,4 +3,6 @@ pub mod Rows
 pub mod Buffers
 pub mod Opened
 pub mod Ticks
+pub mod Refusals
 pub mod Held
+pub mod Inside

@@ -1,11 +1,12 @@
 //! Buffers of a caller's.
 
-ghost use Rattle.std.specs.Prelude.{◌≡◌, ◌<◌, ◌≤◌, ℕ, MatchBool, get_or, length, take};
+ghost use Rattle.std.specs.Prelude.{◌≡◌, ◌↔◌, ◌<◌, ◌≤◌, ℕ, IsTrue, MatchBool, get_or, length, take};
 ghost use Rattle.embedded_machine.specs.Buffers.{BeginsAs};
 
 /// Puts bytes at the beginning of a buffer. Whether there is room for them; else nothing has changed.
 pub fn put_bytes(from: &[u8], into: &mut [u8]) -> bool
-    ensures { MatchBool result (take (length from.now) into.new ≡ from.now) (into.new ≡ into.old) }
+    ensures put { MatchBool result (take (length from.now) into.new ≡ from.now) (into.new ≡ into.old) }
+    ensures room { IsTrue result ↔ (length from.now ≤ length into.old) }
 {
     if from.len() > into.len() {
         return false;
@@ -14,7 +15,8 @@ pub fn put_bytes(from: &[u8], into: &mut [u8]) -> bool
     true
 }
 
-fn put_all(from: &[u8], into: &mut [u8])
+/// Puts bytes at the beginning of a buffer, which has room for them.
+pub(crate) fn put_all(from: &[u8], into: &mut [u8])
     requires { length from.now ≤ length into.old }
     ensures { take (length from.now) into.new ≡ from.now }
 {

@@ -1,8 +1,22 @@
 //! What is done with handles: machines are opened, tick, are saved, restored, reset and closed.
 
-ghost use Rattle.std.specs.Prelude.{◌≡◌, ◌<◌, IfOk, None, OnErr, OnOk, Some, length};
+ghost use Rattle.std.specs.Prelude.{◌≡◌, ◌<◌, IfErr, IfOk, None, OnErr, OnOk, Some, length};
 ghost use Rattle.node_states.specs.Active.{is_active};
 ghost use Rattle.embedded_machine.specs.Cells.{HoldControl};
+ghost use Rattle.embedded_machine.specs.Refusals.{
+  AreForControl,
+  AreForTick,
+  ClosedOrMemory,
+  HasState,
+  HaveRoom,
+  HeldLacks,
+  HeldLacksOrMemory,
+  HoldRestOf,
+  Lacks,
+  LacksOrMemory,
+  TellNames,
+};
+ghost use Rattle.embedded_machine.specs.declared.fault.MachineFault.TheVariants as fault;
 ghost use Rattle.embedded_machine.specs.Ticks.{
   Holds,
   IsFirst,
@@ -14,7 +28,7 @@ ghost use Rattle.embedded_machine.specs.Ticks.{
   TickedHeld,
 };
 
-use crate::buffers::put_bytes;
+use crate::buffers::put_all;
 use crate::controls::{control_in, put_control, put_values};
 use crate::fault::MachineFault;
 use crate::handles::MachineHandle;
@@ -60,6 +74,9 @@ pub fn react(
 ) -> Result<u64, MachineFault>
     ensures ticked { IfOk result (λ steps.
         TickedHeld inputs.now values.new steps handle.old.machine handle.new.machine) }
+    ensures asked { OnOk result (Holds handle.old.machine (AreForTick inputs.now values.old)) }
+    ensures lacks { IfErr result
+        (HeldLacksOrMemory (AreForTick inputs.now values.old) fault.Input handle.old.machine) }
     ensures same { OnErr result (handle.new.machine ≡ handle.old.machine) }
     ensures values { OnErr result (values.new ≡ values.old) }
 {
@@ -83,6 +100,8 @@ fn react_shown(
 ) -> Result<u64, MachineFault>
     ensures ticked { IfOk result (λ steps.
         Ticked inputs.now steps machine.old machine.new × ShowValues values.new machine.new) }
+    ensures asked { OnOk result (AreForTick inputs.now values.old machine.old) }
+    ensures lacks { IfErr result (LacksOrMemory (AreForTick inputs.now values.old machine.old) fault.Input) }
     ensures same { OnErr result (machine.new ≡ machine.old) }
     ensures values { OnErr result (values.new ≡ values.old) }
 {
@@ -103,6 +122,11 @@ pub fn save(
     statuses: &mut [u32],
 ) -> Result<(), MachineFault>
     ensures saved { OnOk result (Holds handle.new.machine (λ m. HoldControl values.new statuses.new m.control)) }
+    ensures asked { OnOk result (Holds handle.old.machine (λ m. AreForControl values.old statuses.old m.control)) }
+    ensures lacks { IfErr result
+        (HeldLacks (λ m. AreForControl values.old statuses.old m.control) fault.Room handle.old.machine) }
+    ensures values { OnErr result (values.new ≡ values.old) }
+    ensures statuses { OnErr result (statuses.new ≡ statuses.old) }
     ensures same { handle.new.machine ≡ handle.old.machine }
 {
     let taken = mem::replace(handle, MachineHandle::empty());
@@ -122,10 +146,14 @@ fn save_control(
     values: &mut [i32],
     statuses: &mut [u32],
 ) -> Result<(), MachineFault>
-    ensures { OnOk result (HoldControl values.new statuses.new control.now) }
+    ensures saved { OnOk result (HoldControl values.new statuses.new control.now) }
+    ensures asked { OnOk result (AreForControl values.old statuses.old control.now) }
+    ensures lacks { IfErr result (Lacks (AreForControl values.old statuses.old control.now) fault.Room) }
+    ensures values { OnErr result (values.new ≡ values.old) }
+    ensures statuses { OnErr result (statuses.new ≡ statuses.old) }
 {
     if control.variables.len() != values.len() || control.statuses.len() != statuses.len() {
-        return Err(MachineFault::Control);
+        return Err(MachineFault::Room);
     }
     put_control(control, values, statuses);
     Ok(())
@@ -140,6 +168,8 @@ pub fn restore(
     statuses: &[u32],
 ) -> Result<(), MachineFault>
     ensures restored { OnOk result (RestoredHeld values.now statuses.now handle.old.machine handle.new.machine) }
+    ensures lacks { IfErr result
+        (HeldLacksOrMemory (HoldRestOf values.now statuses.now) fault.Control handle.old.machine) }
     ensures same { OnErr result (handle.new.machine ≡ handle.old.machine) }
 {
     let taken = mem::replace(handle, MachineHandle::empty());
@@ -161,6 +191,7 @@ fn restore_one(
     statuses: &[u32],
 ) -> Result<(), MachineFault>
     ensures restored { OnOk result (Restored values.now statuses.now machine.old machine.new) }
+    ensures lacks { IfErr result (LacksOrMemory (HoldRestOf values.now statuses.now machine.old) fault.Control) }
     ensures same { OnErr result (machine.new ≡ machine.old) }
 {
     let program = machine.opened().verified().image().program();
@@ -178,6 +209,7 @@ pub fn state_is_active(
 ) -> Result<bool, MachineFault>
     ensures active { IfOk result (λ active. Holds handle.new.machine (λ m.
         (active ≡ is_active m.opened.states.nodes m.control number) × (number < length m.opened.states.paths))) }
+    ensures lacks { IfErr result (HeldLacks (HasState number) fault.Number handle.old.machine) }
     ensures same { handle.new.machine ≡ handle.old.machine }
 {
     let taken = mem::replace(handle, MachineHandle::empty());
@@ -193,8 +225,10 @@ pub fn state_is_active(
 
 // Whether the state of this number is active. Err: the chart has none.
 fn active_in(machine: &Machine, number: u32) -> Result<bool, MachineFault>
-    ensures { IfOk result (λ active. (active ≡ is_active machine.now.opened.states.nodes machine.now.control number)
+    ensures active { IfOk result (λ active.
+        (active ≡ is_active machine.now.opened.states.nodes machine.now.control number)
         × (number < length machine.now.opened.states.paths)) }
+    ensures lacks { IfErr result (Lacks (HasState number machine.now) fault.Number) }
 {
     let states = machine.opened().states();
     if number as usize >= states.count() {
@@ -207,6 +241,7 @@ fn active_in(machine: &Machine, number: u32) -> Result<bool, MachineFault>
 /// changed.
 pub fn reset(alloc: Global, handle: &mut MachineHandle) -> Result<(), MachineFault>
     ensures first { OnOk result (ResetHeld handle.old.machine handle.new.machine) }
+    ensures lacks { IfErr result (ClosedOrMemory handle.old.machine) }
     ensures same { OnErr result (handle.new.machine ≡ handle.old.machine) }
 {
     let taken = mem::replace(handle, MachineHandle::empty());
@@ -223,6 +258,7 @@ pub fn reset(alloc: Global, handle: &mut MachineHandle) -> Result<(), MachineFau
 // Puts a machine before its first tick again.
 fn reset_one(alloc: Global, machine: &mut Machine) -> Result<(), MachineFault>
     ensures first { OnOk result (IsFirst machine.old.opened machine.new) }
+    ensures lacks { IfErr result (λ told. told ≡ fault.Memory) }
     ensures same { OnErr result (machine.new ≡ machine.old) }
 {
     let control = Control::initial(alloc, machine.opened().verified().image().program())?;
@@ -240,7 +276,7 @@ pub fn close(alloc: Global, handle: &mut MachineHandle)
 
 /// Puts the variables of the machine behind a handle into rows, and their names and those of the states of its chart
 /// into buffers, a zero byte behind each. Err: there is none; or there are not as many rows, or a buffer has no room;
-/// or memory was refused.
+/// or memory was refused. Nothing has changed then.
 pub fn tell_names(
     alloc: Global,
     handle: &mut MachineHandle,
@@ -248,12 +284,19 @@ pub fn tell_names(
     names: &mut [u8],
     states: &mut [u8],
 ) -> Result<(), MachineFault>
-    ensures { handle.new.machine ≡ handle.old.machine }
+    ensures told { OnOk result (Holds handle.new.machine (TellNames rows.new names.new states.new)) }
+    ensures asked { OnOk result (Holds handle.old.machine (HaveRoom rows.old names.old states.old)) }
+    ensures lacks { IfErr result
+        (HeldLacksOrMemory (HaveRoom rows.old names.old states.old) fault.Room handle.old.machine) }
+    ensures rows { OnErr result (rows.new ≡ rows.old) }
+    ensures names { OnErr result (names.new ≡ names.old) }
+    ensures states { OnErr result (states.new ≡ states.old) }
+    ensures same { handle.new.machine ≡ handle.old.machine }
 {
     let taken = mem::replace(handle, MachineHandle::empty());
     match taken.into_box(alloc) {
         Some(boxed) => {
-            let result = tell_names_of(alloc, boxed.as_ref().opened(), rows, names, states);
+            let result = tell_names_of(alloc, boxed.as_ref(), rows, names, states);
             hold(alloc, handle, boxed);
             result
         }
@@ -261,20 +304,29 @@ pub fn tell_names(
     }
 }
 
-// Puts the variables of an image into rows, and their names and those of the states of its chart into buffers.
+// Puts the variables of a machine into rows, and their names and those of the states of its chart into buffers.
 fn tell_names_of(
     alloc: Global,
-    opened: &Opened,
+    machine: &Machine,
     rows: &mut [VariableRow],
     names: &mut [u8],
     states: &mut [u8],
-) -> Result<(), MachineFault> {
-    let variables = opened.verified().image().program().variables();
+) -> Result<(), MachineFault>
+    ensures told { OnOk result (TellNames rows.new names.new states.new machine.now) }
+    ensures asked { OnOk result (HaveRoom rows.old names.old states.old machine.now) }
+    ensures lacks { IfErr result (LacksOrMemory (HaveRoom rows.old names.old states.old machine.now) fault.Room) }
+    ensures rows { OnErr result (rows.new ≡ rows.old) }
+    ensures names { OnErr result (names.new ≡ names.old) }
+    ensures states { OnErr result (states.new ≡ states.old) }
+{
+    let variables = machine.opened().verified().image().program().variables();
     let bytes = names_of(alloc, variables)?;
-    let paths = opened.states().names(alloc)?;
-    if rows.len() != variables.len() || !put_bytes(&bytes, names) || !put_bytes(&paths, states) {
-        return Err(MachineFault::Control);
+    let paths = machine.opened().states().names(alloc)?;
+    if rows.len() != variables.len() || bytes.len() > names.len() || paths.len() > states.len() {
+        return Err(MachineFault::Room);
     }
     put_rows(variables, rows);
+    put_all(&bytes, names);
+    put_all(&paths, states);
     Ok(())
 }

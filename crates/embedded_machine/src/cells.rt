@@ -2,7 +2,7 @@
 
 ghost use Rattle.std.specs.Prelude.{◌≡◌, IfSome};
 ghost use Rattle.sc_values.specs.Operator.{kind_of};
-ghost use Rattle.embedded_machine.specs.Cells.{status_cell, value_cell, value_in};
+ghost use Rattle.embedded_machine.specs.Cells.{status_cell, status_in, value_cell, value_in};
 
 use sc_graph::Status;
 use sc_values::{Kind, Value};
@@ -53,7 +53,8 @@ pub fn status_cell(status: Status) -> u32
 
 /// The status that a cell holds; None where it holds none.
 pub fn status_in(cell: u32) -> Option<Status>
-    ensures { IfSome result (λ status. status_cell status ≡ cell) }
+    ensures status { result ≡ status_in cell }
+    ensures cell { IfSome result (λ status. status_cell status ≡ cell) }
 {
     if cell == 0 {
         Some(Status::Absent)

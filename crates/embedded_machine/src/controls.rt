@@ -1,8 +1,13 @@
 //! Configurations in cells.
 
-ghost use Rattle.std.specs.Prelude.{◌≡◌, IfOk, length, map};
+ghost use Rattle.std.specs.Prelude.{◌≡◌, ◌⊎◌, IfErr, IfOk, Some, false, length, map};
+ghost use Rattle.std.specs.Option.{is_some};
+ghost use Rattle.std.specs.List.{list_all};
 ghost use Rattle.sc_graph.specs.Tick.{Rests};
-ghost use Rattle.embedded_machine.specs.Cells.{HoldControl, status_cell, value_cell};
+ghost use Rattle.embedded_machine.specs.Cells.{HoldControl, status_cell, status_in, value_cell};
+ghost use Rattle.embedded_machine.specs.Inside.{values_read};
+ghost use Rattle.embedded_machine.specs.Refusals.{HoldRest, LacksOrMemory};
+ghost use Rattle.embedded_machine.specs.declared.fault.MachineFault.TheVariants as fault;
 
 use crate::cells::{status_cell, status_in, value_cell, value_in};
 use crate::fault::MachineFault;
@@ -12,6 +17,7 @@ use sqlite_items::Items;
 use std::alloc::Global;
 
 /// The configuration that these cells hold, in which the program rests. Err: they hold none; or memory was refused.
+#[tactic(auto, using(crate::proofs::Resting::wrong_count, crate::proofs::Resting::wrong_thread_count, crate::proofs::Resting::unread_value, crate::proofs::Resting::unread_status, crate::proofs::Resting::restless))]
 pub fn control_in(
     alloc: Global,
     program: &Program,
@@ -20,8 +26,10 @@ pub fn control_in(
 ) -> Result<Control, MachineFault>
     ensures rests { IfOk result (Rests program.now) }
     ensures held { IfOk result (HoldControl values.now statuses.now) }
+    ensures lacks { IfErr result (LacksOrMemory (HoldRest values.now statuses.now program.now) fault.Control) }
 {
-    if values.len() != program.variables().len() {
+    let threads = program.thread_count() as usize;
+    if values.len() != program.variables().len() || statuses.len() != threads {
         return Err(MachineFault::Control);
     }
     let variables = values_in(alloc, program.variables(), values)?;
@@ -44,7 +52,10 @@ fn values_in(
     cells: &[i32],
 ) -> Result<Items<Value>, MachineFault>
     requires { length variables.now ≡ length cells.now }
-    ensures { IfOk result (λ values. map value_cell values ≡ cells.now) }
+    ensures cells { IfOk result (λ values. map value_cell values ≡ cells.now) }
+    ensures read { IfOk result (λ values. map (λ v. Some v) values ≡ values_read variables.now cells.now) }
+    ensures lacks { IfErr result (λ told. (told ≡ fault.Memory) ⊎ ((told ≡ fault.Control)
+        × (list_all is_some (values_read variables.now cells.now) ≡ false))) }
 {
     let mut values = Items::new(alloc);
     for at in 0..cells.len() {
@@ -58,7 +69,10 @@ fn values_in(
 
 // The statuses that cells hold.
 fn statuses_in(alloc: Global, cells: &[u32]) -> Result<Items<Status>, MachineFault>
-    ensures { IfOk result (λ statuses. map status_cell statuses ≡ cells.now) }
+    ensures cells { IfOk result (λ statuses. map status_cell statuses ≡ cells.now) }
+    ensures read { IfOk result (λ statuses. map (λ s. Some s) statuses ≡ map status_in cells.now) }
+    ensures lacks { IfErr result (λ told. (told ≡ fault.Memory) ⊎ ((told ≡ fault.Control)
+        × (list_all is_some (map status_in cells.now) ≡ false))) }
 {
     let mut statuses = Items::new(alloc);
     for at in 0..cells.len() {

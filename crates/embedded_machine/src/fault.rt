@@ -8,8 +8,10 @@ use std::alloc::{AllocError, AllocFailed};
 /// Why a machine refuses. Nothing has changed then.
 #[derive(Clone, Copy, Debug, PartialEq, Eq)]
 pub enum MachineFault {
-    /// The cells hold no configuration in which the program rests, or are not as many.
+    /// The cells hold no configuration in which the program rests.
     Control,
+    /// There are not as many cells or rows as what goes out, or a buffer has no room for it.
+    Room,
     /// There is not one cell for each variable, or the cell of an input holds no value of its kind.
     Input,
     /// There is no state of this number.

@@ -1,8 +1,10 @@
 //! Machines: what is opened, and the configuration in which it rests.
 
-ghost use Rattle.std.specs.Prelude.{◌≡◌, IfOk, OnErr, length};
+ghost use Rattle.std.specs.Prelude.{◌≡◌, IfErr, IfOk, IsTrue, OnErr, OnOk, length};
 ghost use Rattle.sc_graph.specs.Tick.{AreAccepted, Rests, initial};
 ghost use Rattle.embedded_machine.specs.Cells.{inputs_in};
+ghost use Rattle.embedded_machine.specs.Refusals.{LacksOrMemory, give_inputs};
+ghost use Rattle.embedded_machine.specs.declared.fault.MachineFault.TheVariants as fault;
 ghost use Rattle.embedded_machine.specs.Ticks.{IsFirst, Reacts, Ticked};
 
 use crate::fault::MachineFault;
@@ -81,6 +83,9 @@ impl Machine {
     #[tactic(auto, using(crate::proofs::Accepted::cells_accepted))]
     pub fn react(&mut self, alloc: Global, cells: &[i32]) -> Result<u64, MachineFault>
         ensures ticked { IfOk result (λ steps. Ticked cells.now steps self.old self.new) }
+        ensures given { OnOk result (IsTrue (give_inputs self.old.opened.image.program.variables cells.now)) }
+        ensures lacks { IfErr result (LacksOrMemory
+            (IsTrue (give_inputs self.old.opened.image.program.variables cells.now)) fault.Input) }
         ensures same { OnErr result (self.new ≡ self.old) }
     {
         let program = self.opened.verified().image().program();

@@ -1,13 +1,33 @@
 //! The calls that a program in C makes: each makes one of `embedded_machine`, and says its clauses again.
 #![tactic(auto)]
 
-ghost use Rattle.std.specs.Prelude.{◌≡◌, ◌≢◌, ◌<◌, ◌⊎◌, None, pos, length, take};
+ghost use Rattle.std.specs.Prelude.{◌≡◌, ◌≢◌, ◌<◌, ◌⊎◌, IfSome, None, pos, length, take};
 ghost use Rattle.command_files.specs.FaultText.{fault_text};
 ghost use Rattle.node_states.specs.Active.{is_active};
 ghost use Rattle.embedded_machine.specs.Cells.{HoldControl};
+ghost use Rattle.embedded_machine.specs.Refusals.{
+  AreForControl,
+  AreForTick,
+  ClosedOrMemory,
+  HasState,
+  HaveRoom,
+  HeldLacks,
+  HeldLacksOrMemory,
+  HoldRestOf,
+  TellNames,
+};
 ghost use Rattle.embedded_machine.specs.Ticks.{Holds, IsFirst, ResetHeld, RestoredHeld, TickedHeld};
+ghost use Rattle.embedded_machine.specs.declared.fault.MachineFault.TheVariants as fault;
 ghost use Rattle.embedded_texts.specs.Texts.{SpellsItsImage};
-ghost use Rattle.sct_c.specs.Told.{OpensImage, OpensText, TellsRefused, TellsWhy};
+ghost use Rattle.sct_c.specs.Told.{
+  IsCounted,
+  OpensImage,
+  OpensText,
+  Tells,
+  TellsRefused,
+  TellsWhy,
+  status_of,
+};
 
 use command_files::Fault;
 use embedded_machine::{
@@ -57,13 +77,15 @@ pub struct Counts {
 }
 
 fn status_of(fault: MachineFault) -> i32
-    ensures { result ≢ pos 0 }
+    ensures status { result ≡ status_of fault }
+    ensures some { result ≢ pos 0 }
 {
     match fault {
         MachineFault::Closed => CLOSED,
         MachineFault::Number => NUMBER,
         MachineFault::Control => CONTROL,
         MachineFault::Input => KIND,
+        MachineFault::Room => BUFFER,
         MachineFault::Memory => MEMORY,
     }
 }
@@ -112,7 +134,9 @@ pub extern "C" fn sct_text_compile(
 // Opens a machine of what is opened behind a handle, and counts what there is of it.
 fn hold(alloc: Global, opened: Opened, machine: &mut MachineHandle, counts: &mut Counts) -> i32
     ensures first { result ≡ pos 0 → Holds machine.new.machine (IsFirst opened) }
+    ensures counted { result ≡ pos 0 → IsCounted opened counts.new }
     ensures same { result ≢ pos 0 → machine.new.machine ≡ machine.old.machine }
+    ensures uncounted { result ≢ pos 0 → counts.new ≡ counts.old }
     ensures status { (result ≡ pos 0) ⊎ (result ≡ pos 2) }
 {
     let Some(counted) = counts_of(alloc, &opened) else {
@@ -128,7 +152,9 @@ fn hold(alloc: Global, opened: Opened, machine: &mut MachineHandle, counts: &mut
 }
 
 // What there is of an image. None: memory was refused.
-fn counts_of(alloc: Global, opened: &Opened) -> Option<Counts> {
+fn counts_of(alloc: Global, opened: &Opened) -> Option<Counts>
+    ensures { IfSome result (IsCounted opened.now) }
+{
     let program = opened.verified().image().program();
     let Ok(names) = names_of(alloc, program.variables()) else {
         return None;
@@ -157,8 +183,10 @@ pub extern "C" fn sct_image_open(
     machine: &mut MachineHandle,
     counts: &mut Counts,
 ) -> i32
-    ensures opened { result ≡ pos 0 → OpensImage bytes.now machine.new.machine }
+    ensures opened { result ≡ pos 0 → OpensImage bytes.now machine.new.machine counts.new }
     ensures same { result ≢ pos 0 → machine.new.machine ≡ machine.old.machine }
+    ensures uncounted { result ≢ pos 0 → counts.new ≡ counts.old }
+    ensures status { (result ≡ pos 0) ⊎ ((result ≡ pos 2) ⊎ (result ≡ pos 4)) }
 {
     match opened_image(alloc, bytes) {
         Ok(opened) => hold(alloc, opened, machine, counts),
@@ -177,8 +205,10 @@ pub extern "C" fn sct_text_open(
     machine: &mut MachineHandle,
     counts: &mut Counts,
 ) -> i32
-    ensures opened { result ≡ pos 0 → OpensText text.now machine.new.machine }
+    ensures opened { result ≡ pos 0 → OpensText text.now machine.new.machine counts.new }
     ensures same { result ≢ pos 0 → machine.new.machine ≡ machine.old.machine }
+    ensures uncounted { result ≢ pos 0 → counts.new ≡ counts.old }
+    ensures status { (result ≡ pos 0) ⊎ ((result ≡ pos 2) ⊎ (result ≡ pos 3)) }
 {
     match opened_text(alloc, text) {
         Ok(opened) => hold(alloc, opened, machine, counts),
@@ -187,7 +217,8 @@ pub extern "C" fn sct_text_open(
 }
 
 /// The variables of the machine behind a handle, and their names and those of its chart's states, a zero byte behind
-/// each. 5: there are not as many rows, or there is no room for the names. 2: memory was refused.
+/// each. 8: there are not as many rows, or there is no room for the names. 1: there is no machine. 2: memory was
+/// refused.
 #[unsafe(no_mangle)]
 pub extern "C" fn sct_machine_names(
     alloc: Global,
@@ -196,6 +227,13 @@ pub extern "C" fn sct_machine_names(
     names: &mut [u8],
     states: &mut [u8],
 ) -> i32
+    ensures told { result ≡ pos 0 → Holds machine.new.machine (TellNames rows.new names.new states.new) }
+    ensures asked { result ≡ pos 0 → Holds machine.old.machine (HaveRoom rows.old names.old states.old) }
+    ensures lacks { result ≢ pos 0 → Tells result
+        (HeldLacksOrMemory (HaveRoom rows.old names.old states.old) fault.Room machine.old.machine) }
+    ensures rows { result ≢ pos 0 → rows.new ≡ rows.old }
+    ensures names { result ≢ pos 0 → names.new ≡ names.old }
+    ensures states { result ≢ pos 0 → states.new ≡ states.old }
     ensures same { machine.new.machine ≡ machine.old.machine }
 {
     match tell_names(alloc, machine, rows, names, states) {
@@ -204,7 +242,8 @@ pub extern "C" fn sct_machine_names(
     }
 }
 
-/// One tick of the machine behind a handle, by the inputs in cells. The values of its variables go into cells.
+/// One tick of the machine behind a handle, by the inputs in cells. The values of its variables go into cells. 7: the
+/// cell of an input holds no value of its kind, or there are not as many cells. 1, 2: as `sct_machine_names`.
 #[unsafe(no_mangle)]
 pub extern "C" fn sct_machine_react(
     alloc: Global,
@@ -215,8 +254,12 @@ pub extern "C" fn sct_machine_react(
 ) -> i32
     ensures ticked { result ≡ pos 0
         → TickedHeld inputs.now values.new steps.new machine.old.machine machine.new.machine }
+    ensures asked { result ≡ pos 0 → Holds machine.old.machine (AreForTick inputs.now values.old) }
+    ensures lacks { result ≢ pos 0 → Tells result
+        (HeldLacksOrMemory (AreForTick inputs.now values.old) fault.Input machine.old.machine) }
     ensures same { result ≢ pos 0 → machine.new.machine ≡ machine.old.machine }
     ensures values { result ≢ pos 0 → values.new ≡ values.old }
+    ensures steps { result ≢ pos 0 → steps.new ≡ steps.old }
 {
     match react(alloc, machine, inputs, values) {
         Ok(count) => {
@@ -227,7 +270,7 @@ pub extern "C" fn sct_machine_react(
     }
 }
 
-/// Puts the configuration of the machine behind a handle into cells.
+/// Puts the configuration of the machine behind a handle into cells. 8: there are not as many. 1: there is no machine.
 #[unsafe(no_mangle)]
 pub extern "C" fn sct_machine_save(
     alloc: Global,
@@ -237,6 +280,12 @@ pub extern "C" fn sct_machine_save(
 ) -> i32
     ensures saved { result ≡ pos 0
         → Holds machine.new.machine (λ m. HoldControl values.new statuses.new m.control) }
+    ensures asked { result ≡ pos 0
+        → Holds machine.old.machine (λ m. AreForControl values.old statuses.old m.control) }
+    ensures lacks { result ≢ pos 0 → Tells result
+        (HeldLacks (λ m. AreForControl values.old statuses.old m.control) fault.Room machine.old.machine) }
+    ensures values { result ≢ pos 0 → values.new ≡ values.old }
+    ensures statuses { result ≢ pos 0 → statuses.new ≡ statuses.old }
     ensures same { machine.new.machine ≡ machine.old.machine }
 {
     match save(alloc, machine, values, statuses) {
@@ -245,7 +294,8 @@ pub extern "C" fn sct_machine_save(
     }
 }
 
-/// Puts the machine behind a handle into the configuration in these cells, in which it rests.
+/// Puts the machine behind a handle into the configuration in these cells, in which it rests. 9: they hold none. 1, 2:
+/// as `sct_machine_names`.
 #[unsafe(no_mangle)]
 pub extern "C" fn sct_machine_restore(
     alloc: Global,
@@ -255,6 +305,8 @@ pub extern "C" fn sct_machine_restore(
 ) -> i32
     ensures restored { result ≡ pos 0
         → RestoredHeld values.now statuses.now machine.old.machine machine.new.machine }
+    ensures lacks { result ≢ pos 0 → Tells result
+        (HeldLacksOrMemory (HoldRestOf values.now statuses.now) fault.Control machine.old.machine) }
     ensures same { result ≢ pos 0 → machine.new.machine ≡ machine.old.machine }
 {
     match restore(alloc, machine, values, statuses) {
@@ -263,7 +315,8 @@ pub extern "C" fn sct_machine_restore(
     }
 }
 
-/// Whether the state of this number of the machine's chart is active, as 1 or 0.
+/// Whether the state of this number of the machine's chart is active, as 1 or 0. 5: there is none of this number. 1:
+/// there is no machine.
 #[unsafe(no_mangle)]
 pub extern "C" fn sct_machine_active(
     alloc: Global,
@@ -273,6 +326,8 @@ pub extern "C" fn sct_machine_active(
 ) -> i32
     ensures active { result ≡ pos 0 → Holds machine.new.machine (λ m.
         (active.new ≡ is_active m.opened.states.nodes m.control number) × (number < length m.opened.states.paths)) }
+    ensures lacks { result ≢ pos 0 → Tells result (HeldLacks (HasState number) fault.Number machine.old.machine) }
+    ensures untold { result ≢ pos 0 → active.new ≡ active.old }
     ensures same { machine.new.machine ≡ machine.old.machine }
 {
     match state_is_active(alloc, machine, number) {
@@ -284,10 +339,11 @@ pub extern "C" fn sct_machine_active(
     }
 }
 
-/// Puts the machine behind a handle before its first tick again.
+/// Puts the machine behind a handle before its first tick again. 1, 2: as `sct_machine_names`.
 #[unsafe(no_mangle)]
 pub extern "C" fn sct_machine_reset(alloc: Global, machine: &mut MachineHandle) -> i32
     ensures first { result ≡ pos 0 → ResetHeld machine.old.machine machine.new.machine }
+    ensures lacks { result ≢ pos 0 → Tells result (ClosedOrMemory machine.old.machine) }
     ensures same { result ≢ pos 0 → machine.new.machine ≡ machine.old.machine }
 {
     match reset(alloc, machine) {
