@@ -1,12 +1,14 @@
 -- What functions that note flaws and look up names say of themselves. It is proved, and no contract of a whole text rests
 -- on what it means.
-use Rattle.std.specs.Prelude.{ℕ, ◌≡◌, Bool, true, false, Option, Some, None, List, [], ◌∷◌, if◌then◌else◌}
-use Rattle.std.specs.Str.{bytes_eq}
-use Rattle.std.specs.BTreeMap.{get}
-use Rattle.std.specs.Cmp.Lexicographic.{slice_cmp}
+use Rattle.std.specs.Prelude.{ℕ, ◌≡◌, Option, Some, None, List, [], ◌∷◌, if◌then◌else◌, nat_eq}
+use Rattle.std.specs.BTreeMap as tree
+use Rattle.std.specs.HashMap as hash
+use Rattle.std.specs.Cmp.Lexicographic.{pointwise, slice_cmp}
 use Rattle.std.specs.Ordering.{nat_cmp}
 use Rattle.drafts.specs.declared.flaw.Flaw.{Flaw}
 use Rattle.drafts.specs.declared.index.Index.{Index}
+use Rattle.drafts.specs.declared.index.Places.{Places}
+use Rattle.drafts.specs.declared.index.Places.TheVariants as table
 use Rattle.drafts.specs.Flaws.{place_among}
 use Rattle.drafts.specs.First.{comes_before}
 
@@ -23,11 +25,11 @@ first_behind found (f ∷ flaws) = first_behind (Some (earlier found f)) flaws
 
 -- ---- tables of names
 
+-- the place that a table has at a name
+abbrev pub place_in : Places → List ℕ → Option ℕ
+place_in (table.ByHash places) q = hash.get (pointwise nat_eq) places q
+place_in (table.InOrder places) q = tree.get (slice_cmp nat_cmp) places q
+
 -- at each name stands its place among these
 pub record IsIndex (names : List (List ℕ)) (index : Index) : Type 0 where
-  pub places : (q : List ℕ) → get (slice_cmp nat_cmp) index.places q ≡ place_among names q
-
--- what a table has at q, once it has a name at this place where it had none
-abbrev pub with_name : List ℕ → ℕ → Option ℕ → List ℕ → Option ℕ
-with_name name at (Some p) q = Some p
-with_name name at None q = if bytes_eq name q then Some at else None
+  pub places : (q : List ℕ) → place_in index.places q ≡ place_among names q

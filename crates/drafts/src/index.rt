@@ -1,32 +1,45 @@
 //! Names, looked up in a table that is made once.
 
-ghost use Rattle.std.specs.Prelude.{◌≡◌, ℕ, List, IfOk, OnOk};
-ghost use Rattle.std.specs.BTreeMap.{get};
-ghost use Rattle.std.specs.Cmp.Lexicographic.{slice_cmp};
-ghost use Rattle.std.specs.Ordering.{nat_cmp};
+ghost use Rattle.std.specs.Prelude.{◌≡◌, ℕ, List, IfOk};
 ghost use Rattle.drafts.specs.Flaws.{place_among, is_among, is_at, is_repeated};
-ghost use Rattle.drafts.specs.Inside.{IsIndex, with_name};
+ghost use Rattle.drafts.specs.Inside.{IsIndex, place_in};
 
+use crate::crowding::is_crowded;
 use sc_values::Name;
 use std::alloc::{AllocError, Global};
-use std::collections::BTreeMap;
+use std::collections::{BTreeMap, HashMap};
 
 /// Some names, each with its place among them.
 #[derive(Drop)]
 pub struct Index {
-    places: BTreeMap<Name, usize>,
+    places: Places,
+}
+
+// By their hash, or where too many have alike ones, in their order.
+enum Places {
+    ByHash(HashMap<Name, usize>),
+    InOrder(BTreeMap<Name, usize>),
+}
+
+impl Drop for Places {
+    fn drop(self) {
+        match self {
+            Places::ByHash(places) => drop(places),
+            Places::InOrder(places) => drop(places),
+        }
+    }
 }
 
 impl Index {
     /// The table of these names. Err: memory was refused.
-    #[tactic(auto, using(crate::proofs::Indexed::place_in_more))]
     pub fn of(alloc: Global, names: &[Name]) -> Result<Index, AllocError>
         ensures { IfOk result (λ index. IsIndex names.now index) }
     {
-        let mut places = BTreeMap::new(alloc);
-        for at in 0..names.len() {
-            note(&mut places, names[at], at)?;
-        }
+        let places = if is_crowded(alloc, names)? {
+            in_order(alloc, names)?
+        } else {
+            by_hash(alloc, names)?
+        };
         Ok(Index { places })
     }
 
@@ -34,7 +47,11 @@ impl Index {
     pub fn place(&self, name: Name) -> Option<usize>
         ensures { (names : List (List ℕ)) → IsIndex names self.now → result ≡ place_among names name }
     {
-        match self.places.get(&name) {
+        let found = match &self.places {
+            Places::ByHash(places) => places.get(&name),
+            Places::InOrder(places) => places.get(&name),
+        };
+        match found {
             Some(at) => Some(*at),
             None => None,
         }
@@ -64,15 +81,28 @@ fn is_at(at: usize, place: Option<usize>) -> bool
     }
 }
 
-// Puts a name at this place, where it has none yet.
-#[tactic(auto, using(crate::proofs::Indexed::noted, crate::proofs::Indexed::kept))]
-fn note(places: &mut BTreeMap<Name, usize>, name: Name, at: usize) -> Result<(), AllocError>
-    ensures { OnOk result ((q : List ℕ) → get (slice_cmp nat_cmp) places.new q ≡ with_name name at
-        (get (slice_cmp nat_cmp) places.old q) q) }
+// Of equal names the first has the last word, so the last goes in first.
+fn by_hash(alloc: Global, names: &[Name]) -> Result<Places, AllocError>
+    ensures { IfOk result (λ places. (q : List ℕ) → place_in places q ≡ place_among names.now q) }
 {
-    if places.contains_key(&name) {
-        return Ok(());
+    let mut places = HashMap::with_capacity(alloc, names.len())?;
+    let mut left = names.len();
+    while left > 0 {
+        left -= 1;
+        places.insert(names[left], left)?;
     }
-    places.insert(name, at)?;
-    Ok(())
+    Ok(Places::ByHash(places))
+}
+
+// The same in a table that nobody can crowd.
+fn in_order(alloc: Global, names: &[Name]) -> Result<Places, AllocError>
+    ensures { IfOk result (λ places. (q : List ℕ) → place_in places q ≡ place_among names.now q) }
+{
+    let mut places = BTreeMap::new(alloc);
+    let mut left = names.len();
+    while left > 0 {
+        left -= 1;
+        places.insert(names[left], left)?;
+    }
+    Ok(Places::InOrder(places))
 }
