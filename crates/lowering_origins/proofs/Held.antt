@@ -3,8 +3,9 @@ use Rattle.std.proofs.Common.{◌≡◌, ℕ, zero, suc, ◌+◌, Some, List, []
 use Rattle.core_charts.specs.declared.region.Effect.{Effect}
 use Rattle.core_charts.specs.declared.region.Transition.{Transition}
 use Rattle.graph_origins.specs.Points.{Point}
-use Rattle.lowering_origins.specs.declared.origin.PointOrigin.{PointOrigin}
-use Rattle.lowering_origins.specs.Laws.{IsFrom, all_effects}
+use Rattle.chart_elements.specs.declared.element.Element.{Element}
+use Rattle.chart_elements.specs.Elements.{all_effects}
+use Rattle.lowering_origins.specs.Laws.{IsFrom}
 
 -- these effects stand among all from number m on
 abbrev pub At : List Effect → ℕ → List Effect → Type 0
@@ -101,27 +102,27 @@ held_whole (t ∷ ts) =
 
 -- ---- rows
 
-abbrev pub AllFrom : List Transition → List PointOrigin → List Point → Type 0
+abbrev pub AllFrom : List Transition → List Element → List Point → Type 0
 AllFrom all [] [] = Unit {0}
 AllFrom all (o ∷ origins) (p ∷ points) = IsFrom all o p × AllFrom all origins points
 AllFrom all origins points = ⊥
 
-pub from_append : (all : List Transition) (a b : List PointOrigin) (x y : List Point) → AllFrom all a x → AllFrom all b y →
+pub from_append : (all : List Transition) (a b : List Element) (x y : List Point) → AllFrom all a x → AllFrom all b y →
     AllFrom all (a ++ b) (x ++ y)
 from_append all [] b [] y h i = i
 from_append all [] b (p ∷ x) y h i = absurd h
 from_append all (o ∷ a) b [] y h i = absurd h
 from_append all (o ∷ a) b (p ∷ x) y h i = (h.0, from_append all a b x y h.1 i)
 
-pub from_length : (all : List Transition) (origins : List PointOrigin) (points : List Point) → AllFrom all origins points →
+pub from_length : (all : List Transition) (origins : List Element) (points : List Point) → AllFrom all origins points →
     length origins ≡ length points
 from_length all [] [] h = refl
 from_length all [] (p ∷ points) h = absurd h
 from_length all (o ∷ origins) [] h = absurd h
 from_length all (o ∷ origins) (p ∷ points) h = ap suc (from_length all origins points h.1)
 
-pub from_at : (all : List Transition) (origins : List PointOrigin) (points : List Point) → AllFrom all origins points →
-    (k : ℕ) (o : PointOrigin) (p : Point) → slice_get origins k ≡ Some o → slice_get points k ≡ Some p → IsFrom all o p
+pub from_at : (all : List Transition) (origins : List Element) (points : List Point) → AllFrom all origins points →
+    (k : ℕ) (o : Element) (p : Point) → slice_get origins k ≡ Some o → slice_get points k ≡ Some p → IsFrom all o p
 from_at all [] [] h k o p i j = absurd (cc)
 from_at all [] (q ∷ points) h k o p i j = absurd h
 from_at all (n ∷ origins) [] h k o p i j = absurd h

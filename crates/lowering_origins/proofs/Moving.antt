@@ -12,23 +12,23 @@ use Rattle.chart_lowering.specs.declared.targets.Targets.{Targets}
 use Rattle.chart_lowering.specs.Lowering.{assignment, goto, label, label_at, label_name}
 use Rattle.chart_lowering.specs.Lowering as low
 use Rattle.graph_origins.specs.Points.{Assigns, Jumps, Marks, Pauses}
-use Rattle.lowering_origins.specs.declared.origin.PointOrigin.{PointOrigin}
-use Rattle.lowering_origins.specs.declared.origin.PointOrigin.TheVariants as part
-use Rattle.lowering_origins.specs.declared.numbers.Numbers.{Numbers}
-use Rattle.lowering_origins.specs.Numbers.{behind_transition}
-use Rattle.lowering_origins.specs.Origins.{Origins, behind_fork, depth, effects, final, simple, taken, tested, transitions}
-use Rattle.lowering_origins.specs.Laws.{all_effects}
+use Rattle.chart_elements.specs.declared.element.Element.{Element}
+use Rattle.chart_elements.specs.declared.element.Element.TheVariants as element
+use Rattle.chart_elements.specs.declared.numbers.Numbers.{Numbers}
+use Rattle.chart_elements.specs.Numbers.{behind_transition, effects}
+use Rattle.chart_elements.specs.Elements.{all_effects}
+use Rattle.lowering_origins.specs.Origins.{Origins, behind_fork, depth, final, simple, taken, tested, transitions}
 use Rattle.lowering_origins.proofs.Held.{AllFrom, At, Held, from_append}
 use Rattle.lowering_origins.proofs.Single.{assign_points, from_first, goto_points, if_points, label_points, pause_points, points_in}
 
 -- effects, and the goto of the transition of number k
 effects_from : (all : List Transition) (t : Transition) (k : ℕ) → slice_get all k ≡ Some t → (name : List ℕ) (own : List Effect) (m : ℕ) →
     At (all_effects all) m own →
-    AllFrom all (effects own m ++ part.Transition k ∷ []) (points_in (map assignment own ++ statement.Goto name ∷ []))
+    AllFrom all (effects own m ++ element.Transition k ∷ []) (points_in (map assignment own ++ statement.Goto name ∷ []))
 effects_from all t k there name [] m h =
-    from_first all (part.Transition k) (statement.Goto name) (Jumps name) [] [] (goto_points name) (record { transition = t; there = there }) tt
+    from_first all (element.Transition k) (statement.Goto name) (Jumps name) [] [] (goto_points name) (record { transition = t; there = there }) tt
 effects_from all t k there name (e ∷ own) m h =
-    from_first all (part.Effect m) (assignment e) (Assigns e.variable e.value) (effects own (suc m) ++ part.Transition k ∷ [])
+    from_first all (element.Effect m) (assignment e) (Assigns e.variable e.value) (effects own (suc m) ++ element.Transition k ∷ [])
     (map assignment own ++ statement.Goto name ∷ [])
     (assign_points e.variable e.value) h.0 (effects_from all t k there name own (suc m) h.1)
 
@@ -43,7 +43,7 @@ tested_from : (all : List Transition) (to : Targets) (t : Transition) (at : Numb
 tested_from all to t at there h None is rest others later = taken_from all to t at there h
 tested_from all to t at there h (Some e) is rest others later =
     let does : List Statement = low.taken to t in
-    subst (λ ps. AllFrom all (part.Transition at.transition ∷ (taken t at ++ rest)) (ps ++ points_in others)) (sym (if_points e does [])) (
+    subst (λ ps. AllFrom all (element.Transition at.transition ∷ (taken t at ++ rest)) (ps ++ points_in others)) (sym (if_points e does [])) (
       (t, there, is),
       from_append all (taken t at) rest (points_in does ++ []) (points_in others)
           (subst (AllFrom all (taken t at)) (sym (append-nil (points_in does))) (taken_from all to t at there h)) later,
@@ -78,7 +78,7 @@ surface_from all to (t ∷ own) at h rest others later = by t.immediate (surface
 pub depth_from : (all : List Transition) (to : Targets) (own : List Transition) (at : Numbers) → Held all at.transition at.effect own → (n : ℕ) →
     AllFrom all (depth own at) (points_in (low.depth to own n))
 depth_from all to own at h n =
-    let s : PointOrigin = part.State at.state in
+    let s : Element = element.State at.state in
     let rest : List Statement = low.transitions to own (goto n ∷ []) in
     from_first all s (label n) (Marks (label_name n)) (s ∷ transitions false own at (s ∷ [])) (statement.Pause ∷ rest) (label_points (label_name n))
     tt
@@ -89,13 +89,13 @@ depth_from all to own at h n =
 pub simple_from : (all : List Transition) (to : Targets) (own : List Transition) (at : Numbers) → Held all at.transition at.effect own → (n : ℕ) →
     AllFrom all (simple own at) (points_in (low.simple to own n))
 simple_from all to own at h n =
-    from_first all (part.State at.state) (label n) (Marks (label_name n)) (transitions true own at (depth own at))
+    from_first all (element.State at.state) (label n) (Marks (label_name n)) (transitions true own at (depth own at))
     (low.transitions to (at_once own) (low.depth to own (suc n))) (label_points (label_name n)) tt
     (surface_from all to own at h (depth own at) (low.depth to own (suc n)) (depth_from all to own at h (suc n)))
 
 pub final_from : (all : List Transition) (to : Targets) (at : Numbers) (n : ℕ) → AllFrom all (final at) (points_in (low.final to n))
 final_from all to at n =
-    let s : PointOrigin = part.State at.state in
+    let s : Element = element.State at.state in
     from_first all s (label n) (Marks (label_name n)) (s ∷ []) (statement.Goto to.end ∷ []) (label_points (label_name n)) tt
     (from_first all s (statement.Goto to.end) (Jumps to.end) [] [] (goto_points to.end) tt tt)
 

@@ -8,7 +8,7 @@ use Rattle.scl.specs.declared.statement.Statement.TheVariants.{rolls-Assign, rol
 use Rattle.scl.specs.declared.statement.Statement.TheOpen as text
 use Rattle.scl.specs.declared.statement.Statement.TheFolds.{fold-roll-Statement}
 use Rattle.graph_origins.specs.Points.{Point, in_row, points, points_of}
-use Rattle.lowering_origins.specs.declared.origin.PointOrigin.{PointOrigin}
+use Rattle.chart_elements.specs.declared.element.Element.{Element}
 use Rattle.lowering_origins.specs.Laws.{IsFrom}
 use Rattle.lowering_origins.proofs.Held.{AllFrom}
 
@@ -38,6 +38,6 @@ points_append [] b = refl
 points_append (s ∷ a) b = ap (λ ps. points_of s ++ ps) (points_append a b) ∙ sym (append_assoc (points_of s) (points_in a) (points_in b))
 
 -- a statement that is a point, and others behind it
-pub from_first : (all : List Transition) (o : PointOrigin) (s : Statement) (p : Point) (os : List PointOrigin) (others : List Statement) →
+pub from_first : (all : List Transition) (o : Element) (s : Statement) (p : Point) (os : List Element) (others : List Statement) →
     points_of s ≡ p ∷ [] → IsFrom all o p → AllFrom all os (points_in others) → AllFrom all (o ∷ os) (points_in (s ∷ others))
 from_first all o s p os others is here later = subst (λ ps. AllFrom all (o ∷ os) (ps ++ points_in others)) (sym is) (here, later)

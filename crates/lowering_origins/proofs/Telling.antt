@@ -20,13 +20,14 @@ use Rattle.chart_lowering.specs.declared.targets.Targets.{Targets}
 use Rattle.chart_lowering.specs.Lowering.{is_wanted, label, label_name, labels_in, labels_in_initial, labels_in_states, lowered, numbers}
 use Rattle.chart_lowering.specs.Lowering as low
 use Rattle.graph_origins.specs.Points.{Point, Ends, Marks, in_branches, points_of, text_points}
-use Rattle.lowering_origins.specs.declared.origin.PointOrigin.{PointOrigin}
-use Rattle.lowering_origins.specs.declared.origin.PointOrigin.TheVariants as part
-use Rattle.lowering_origins.specs.declared.numbers.Numbers.{Numbers}
-use Rattle.lowering_origins.specs.Numbers.{behind_transition, behind_transitions, first, within_region, within_state}
+use Rattle.chart_elements.specs.declared.element.Element.{Element}
+use Rattle.chart_elements.specs.declared.element.Element.TheVariants as element
+use Rattle.chart_elements.specs.declared.numbers.Numbers.{Numbers}
+use Rattle.chart_elements.specs.Numbers.{behind_transition, behind_transitions, first, within_region, within_state}
 use Rattle.lowering_origins.specs.Origins.{RegionPiece, StatePiece, behind_fork, behind_regions, behind_states, body_of, branches, piece_of_region}
 use Rattle.lowering_origins.specs.Origins.{piece_of_state, point_origins, region_piece, state_piece, text_of, texts}
-use Rattle.lowering_origins.specs.Laws.{OriginsTellPoints, all_transitions, in_region, in_state, of_region, of_state, row}
+use Rattle.chart_elements.specs.Elements.{all_transitions, in_region, in_state, of_region, of_state, row}
+use Rattle.lowering_origins.specs.Laws.{OriginsTellPoints}
 use Rattle.lowering_origins.proofs.Held.{AllFrom, Held, effects_append, from_append, from_at, from_length, held_at, held_behind, held_first}
 use Rattle.lowering_origins.proofs.Held.{held_whole, reach, reach_append, reach_effects}
 use Rattle.lowering_origins.proofs.Single.{fork_points, from_first, label_points, points_append, points_in}
@@ -110,10 +111,10 @@ text_tells all false [] own each at h to n = simple_from all to own at (held_fir
 text_tells all false (r ∷ regions) own each at h to n =
     let whole : List Region = r ∷ regions in
     let more : List Transition = row (map of_region whole) in
-    let s : PointOrigin = part.State at.state in
+    let s : Element = element.State at.state in
     let bodies : List (List Statement) = low.branches (map low.piece_of_region whole) (suc n) in
     let rest : List Statement = low.behind to (terminations own) (suc n + labels_in (map low.piece_of_region whole)) in
-    let inside : List PointOrigin = branches (map piece_of_region whole) (within_state own at) in
+    let inside : List Element = branches (map piece_of_region whole) (within_state own at) in
     from_first all s (label n) (Marks (label_name n)) (s ∷ (inside ++ behind_fork own at)) (statement.Fork bodies ∷ rest)
     (label_points (label_name n)) tt
     (subst (λ ps. AllFrom all (s ∷ (inside ++ behind_fork own at)) (ps ++ points_in rest)) (sym (fork_points bodies)) (
@@ -166,7 +167,7 @@ states_pass (s ∷ states) each =
     passes_both (of_state s) (row (map of_state states)) (piece_of_state s).behind (behind_states (map piece_of_state states))
     each.0.passes (states_pass states each.1)
 
-wanted_tells : (all : List Transition) (b c : Bool) → b ≡ c → (os : List PointOrigin) (ss : List Statement) → AllFrom all os (points_in ss) →
+wanted_tells : (all : List Transition) (b c : Bool) → b ≡ c → (os : List Element) (ss : List Statement) → AllFrom all os (points_in ss) →
     AllFrom all (if b then os else []) (points_in (if c then ss else []))
 wanted_tells all true true e os ss h = h
 wanted_tells all false false e os ss h = tt
@@ -198,8 +199,8 @@ texts_tell all wanted (s ∷ states) each at h to here next =
     let mine : List Statement = if is_wanted wanted q.is_initial then q.text to (label_of q.is_initial here next) else [] in
     let after : ℕ = if q.is_initial then next else next + q.labels in
     let others : List Statement = low.texts wanted to qs (numbers qs here after) in
-    let own : List PointOrigin = if is_wanted wanted p.is_initial then p.text at else [] in
-    let rest : List PointOrigin = texts wanted (map piece_of_state states) (p.behind at) in
+    let own : List Element = if is_wanted wanted p.is_initial then p.text at else [] in
+    let rest : List Element = texts wanted (map piece_of_state states) (p.behind at) in
     subst (λ ss. AllFrom all (own ++ rest) (points_in ss)) (sym (texts_step wanted q.is_initial q.labels q.text qs to here next))
     (subst (AllFrom all (own ++ rest)) (sym (points_append mine others))
     (from_append all own rest (points_in mine) (points_in others)
@@ -218,9 +219,9 @@ body_tells all states each region at h to here next end =
     let ns : List ℕ = numbers qs here next in
     let a : List Statement = low.texts true to qs ns in
     let b : List Statement = low.texts false to qs ns in
-    let x : List PointOrigin = texts true (map piece_of_state states) at in
-    let y : List PointOrigin = texts false (map piece_of_state states) at in
-    let last : List PointOrigin = part.Region region ∷ part.Region region ∷ [] in
+    let x : List Element = texts true (map piece_of_state states) at in
+    let y : List Element = texts false (map piece_of_state states) at in
+    let last : List Element = element.Region region ∷ element.Region region ∷ [] in
     let marked : points_in (label end ∷ []) ≡ Marks (label_name end) ∷ [] = ap (λ ps. ps ++ []) (label_points (label_name end)) in
     let is : points_in ((a ++ b) ++ label end ∷ []) ++ Ends ∷ [] ≡ (points_in a ++ points_in b) ++ (Marks (label_name end) ∷ Ends ∷ []) =
     ap (λ ps. ps ++ Ends ∷ []) (points_append (a ++ b) (label end ∷ []))
@@ -274,11 +275,11 @@ chart_tells c h =
     let all : List Transition = all_transitions c in
     let each : Each TellsRegion c.regions = regions_tell c.variables depth_limit c.regions h.regions in
     let bodies : List (List Statement) = low.branches (map low.piece_of_region c.regions) 1 in
-    let inside : List PointOrigin = branches (map piece_of_region c.regions) first in
-    subst (λ ps. AllFrom all (part.Chart ∷ (inside ++ part.Chart ∷ [])) ((ps ++ []) ++ Ends ∷ [])) (sym (fork_points bodies)) (
+    let inside : List Element = branches (map piece_of_region c.regions) first in
+    subst (λ ps. AllFrom all (element.Chart ∷ (inside ++ element.Chart ∷ [])) ((ps ++ []) ++ Ends ∷ [])) (sym (fork_points bodies)) (
       tt,
-      subst (λ ps. AllFrom all (inside ++ part.Chart ∷ []) (ps ++ Ends ∷ [])) (sym (append-nil (in_branches (map (map points_of) bodies))))
-          (from_append all inside (part.Chart ∷ []) (in_branches (map (map points_of) bodies)) (Ends ∷ [])
+      subst (λ ps. AllFrom all (inside ++ element.Chart ∷ []) (ps ++ Ends ∷ [])) (sym (append-nil (in_branches (map (map points_of) bodies))))
+          (from_append all inside (element.Chart ∷ []) (in_branches (map (map points_of) bodies)) (Ends ∷ [])
           (branches_tell all c.regions each first (held_whole all) 1) (tt, tt)),
     )
 

@@ -1,9 +1,8 @@
 -- For each point of the lowering of a core chart, in their order, the element of the chart from which it comes: a fold
 -- beside the lowering, sentence by sentence. A goto and an assignment of a transition have its number and its effect's;
 -- a label, a pause, a fork and the goto back to a pause their state's.
-use Rattle.std.specs.Prelude.{ℕ, suc, Bool, true, false, not, ◌||◌, Option, Some, None, List, [], ◌∷◌, ◌++◌, map, if◌then◌else◌}
+use Rattle.std.specs.Prelude.{ℕ, Bool, true, false, not, ◌||◌, Option, Some, None, List, [], ◌∷◌, ◌++◌, map, if◌then◌else◌}
 use Rattle.sc_values.specs.declared.expression.Expr.{Expr}
-use Rattle.core_charts.specs.declared.region.Effect.{Effect}
 use Rattle.core_charts.specs.declared.region.Transition.{Transition}
 use Rattle.core_charts.specs.declared.region.Region.{Region}
 use Rattle.core_charts.specs.declared.region.Region.TheOpen.{Region-F, State-F}
@@ -12,27 +11,23 @@ use Rattle.core_charts.specs.declared.region.State.{State}
 use Rattle.core_charts.specs.Chart.{Chart}
 use Rattle.core_charts.specs.Tests.{is_join}
 use Rattle.chart_lowering.specs.Lowering.{is_wanted}
-use Rattle.lowering_origins.specs.declared.origin.PointOrigin.{PointOrigin}
-use Rattle.lowering_origins.specs.declared.origin.PointOrigin.TheVariants as part
-use Rattle.lowering_origins.specs.declared.numbers.Numbers.{Numbers}
-use Rattle.lowering_origins.specs.Numbers.{behind_transition, within_state, within_region, first}
+use Rattle.chart_elements.specs.declared.element.Element.{Element}
+use Rattle.chart_elements.specs.declared.element.Element.TheVariants as element
+use Rattle.chart_elements.specs.declared.numbers.Numbers.{Numbers}
+use Rattle.chart_elements.specs.Numbers.{behind_all, behind_transition, effects, first, within_region, within_state}
 
 abbrev pub Origins : Type 0
-Origins = List PointOrigin
+Origins = List Element
 
 -- ---- transitions
 
-abbrev pub effects : List Effect → ℕ → Origins
-effects [] n = []
-effects (e ∷ others) n = part.Effect n ∷ effects others (suc n)
-
 -- its effects, and the goto to its target
 abbrev pub taken : Transition → Numbers → Origins
-taken t at = effects t.effects at.effect ++ part.Transition at.transition ∷ []
+taken t at = effects t.effects at.effect ++ element.Transition at.transition ∷ []
 
 -- a test, what is done where it holds, and what follows: without a trigger nothing does
 abbrev pub tested : Option Expr → ℕ → Origins → Origins → Origins
-tested (Some trigger) n does rest = part.Transition n ∷ does ++ rest
+tested (Some trigger) n does rest = element.Transition n ∷ does ++ rest
 tested None n does rest = does
 
 -- whether a transition is tested: on the surface of a state those that are immediate are
@@ -50,13 +45,13 @@ transitions surface (t ∷ others) at rest =
 
 -- the second label, the pause, all transitions, and the goto back
 abbrev pub depth : List Transition → Numbers → Origins
-depth own at = part.State at.state ∷ part.State at.state ∷ transitions false own at (part.State at.state ∷ [])
+depth own at = element.State at.state ∷ element.State at.state ∷ transitions false own at (element.State at.state ∷ [])
 
 abbrev pub simple : List Transition → Numbers → Origins
-simple own at = part.State at.state ∷ transitions true own at (depth own at)
+simple own at = element.State at.state ∷ transitions true own at (depth own at)
 
 abbrev pub final : Numbers → Origins
-final at = part.State at.state ∷ part.State at.state ∷ []
+final at = element.State at.state ∷ element.State at.state ∷ []
 
 -- behind the fork: the termination; without one the superstate is never left
 abbrev pub behind_fork : List Transition → Numbers → Origins
@@ -75,8 +70,7 @@ pub record StatePiece : Type 0 where
 
 -- regions side by side
 abbrev pub behind_regions : List RegionPiece → Numbers → Numbers
-behind_regions [] at = at
-behind_regions (r ∷ regions) at = behind_regions regions (r.behind at)
+behind_regions regions at = behind_all (map (λ r. r.behind) regions) at
 
 abbrev pub branches : List RegionPiece → Numbers → Origins
 branches [] at = []
@@ -84,7 +78,7 @@ branches (r ∷ regions) at = r.body at ++ branches regions (r.behind at)
 
 abbrev pub superstate : List RegionPiece → List Transition → Numbers → Origins
 superstate regions own at =
-    part.State at.state ∷ part.State at.state ∷ branches regions (within_state own at) ++ behind_fork own at
+    element.State at.state ∷ element.State at.state ∷ branches regions (within_state own at) ++ behind_fork own at
 
 abbrev pub text_of : Bool → List RegionPiece → List Transition → Numbers → Origins
 text_of true regions own at = final at
@@ -102,8 +96,7 @@ state_piece s =
 -- ---- regions
 
 abbrev pub behind_states : List StatePiece → Numbers → Numbers
-behind_states [] at = at
-behind_states (s ∷ states) at = behind_states states (s.behind at)
+behind_states states at = behind_all (map (λ s. s.behind) states) at
 
 -- those of the states that are wanted: the initial ones, or the others
 abbrev pub texts : Bool → List StatePiece → Numbers → Origins
@@ -114,7 +107,7 @@ texts are_initial (s ∷ states) at =
 -- the initial state, the others in order, and the label and the end of the region of this number
 abbrev pub body_of : List StatePiece → ℕ → Numbers → Origins
 body_of states region at =
-    texts true states at ++ texts false states at ++ part.Region region ∷ part.Region region ∷ []
+    texts true states at ++ texts false states at ++ element.Region region ∷ element.Region region ∷ []
 
 abbrev pub region_piece : Region-F RegionPiece StatePiece → RegionPiece
 region_piece r =
@@ -131,7 +124,7 @@ piece_of_state = fold-State RegionPiece StatePiece region_piece state_piece
 
 -- the fork of the chart, its regions, and the end
 abbrev pub root : List RegionPiece → Origins
-root regions = part.Chart ∷ branches regions first ++ part.Chart ∷ []
+root regions = element.Chart ∷ branches regions first ++ element.Chart ∷ []
 
 abbrev pub point_origins : Chart → Origins
 point_origins c = root (map piece_of_region c.regions)

@@ -1,10 +1,10 @@
 //! Which numbers come behind a piece of a chart.
 
 ghost use Rattle.std.specs.Prelude.{◌≡◌, IfOk, map};
-ghost use Rattle.lowering_origins.specs.Numbers.{first};
+ghost use Rattle.chart_elements.specs.Numbers.{first};
 ghost use Rattle.lowering_origins.specs.Origins.{behind_regions, piece_of_region, piece_of_state};
 
-use crate::numbers::Numbers;
+use chart_elements::Numbers;
 use core_charts::{Region, State};
 use std::alloc::AllocError;
 

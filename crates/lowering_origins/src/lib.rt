@@ -4,14 +4,10 @@
 
 mod behind;
 mod laws;
-mod numbers;
-mod origin;
 mod regions;
 mod states;
 mod transitions;
 
 pub use behind::counted;
 pub use laws::origins_tell_points;
-pub use numbers::Numbers;
-pub use origin::PointOrigin;
 pub use regions::point_origins;

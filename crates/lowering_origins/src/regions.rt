@@ -6,22 +6,21 @@ ghost use Rattle.lowering_origins.specs.Origins.{behind_regions, behind_states, 
 ghost use Rattle.lowering_origins.specs.Origins.{piece_of_state, point_origins, texts};
 
 use crate::behind::behind_state;
-use crate::numbers::Numbers;
-use crate::origin::PointOrigin;
 use crate::states::{put_behind_fork, put_final, put_simple};
+use chart_elements::{Element, Numbers};
 use core_charts::{CoreChart, Region, State};
 use sqlite_items::Items;
 use std::alloc::{AllocError, Global};
 
 /// For each point of the lowering of a core chart, in their order, the element of the chart from which it comes. Err:
 /// memory was refused.
-pub fn point_origins(alloc: Global, chart: &CoreChart) -> Result<Items<PointOrigin>, AllocError>
+pub fn point_origins(alloc: Global, chart: &CoreChart) -> Result<Items<Element>, AllocError>
     ensures { IfOk result (λ origins. origins ≡ point_origins chart.now) }
 {
     let mut origins = Items::new(alloc);
-    origins.push(PointOrigin::Chart)?;
+    origins.push(Element::Chart)?;
     put_regions(chart.regions(), Numbers::first(), &mut origins)?;
-    origins.push(PointOrigin::Chart)?;
+    origins.push(Element::Chart)?;
     Ok(origins)
 }
 
@@ -30,7 +29,7 @@ pub fn point_origins(alloc: Global, chart: &CoreChart) -> Result<Items<PointOrig
 fn put_regions(
     regions: &[Region],
     at: Numbers,
-    origins: &mut Items<PointOrigin>,
+    origins: &mut Items<Element>,
 ) -> Result<Numbers, AllocError>
     ensures origins { IfOk result (λ _. origins.new ≡ origins.old ++ branches (map piece_of_region regions.now) at) }
     ensures behind { IfOk result (λ behind. behind ≡ behind_regions (map piece_of_region regions.now) at) }
@@ -46,7 +45,7 @@ fn put_regions(
 fn put_region(
     region: &Region,
     at: Numbers,
-    origins: &mut Items<PointOrigin>,
+    origins: &mut Items<Element>,
 ) -> Result<Numbers, AllocError>
     ensures origins { IfOk result (λ _. origins.new ≡ origins.old ++ (piece_of_region region.now).body at) }
     ensures behind { IfOk result (λ behind. behind ≡ (piece_of_region region.now).behind at) }
@@ -61,15 +60,15 @@ fn put_body(
     states: &[State],
     region: u32,
     at: Numbers,
-    origins: &mut Items<PointOrigin>,
+    origins: &mut Items<Element>,
 ) -> Result<Numbers, AllocError>
     ensures origins { IfOk result (λ _. origins.new ≡ origins.old ++ body_of (map piece_of_state states.now) region at) }
     ensures behind { IfOk result (λ behind. behind ≡ behind_states (map piece_of_state states.now) at) }
 {
     put_texts(true, states, at, origins)?;
     let behind = put_texts(false, states, at, origins)?;
-    origins.push(PointOrigin::Region(region))?;
-    origins.push(PointOrigin::Region(region))?;
+    origins.push(Element::Region(region))?;
+    origins.push(Element::Region(region))?;
     Ok(behind)
 }
 
@@ -79,7 +78,7 @@ fn put_texts(
     are_initial: bool,
     states: &[State],
     at: Numbers,
-    origins: &mut Items<PointOrigin>,
+    origins: &mut Items<Element>,
 ) -> Result<Numbers, AllocError>
     ensures origins { IfOk result (λ _. origins.new ≡ origins.old ++ texts are_initial (map piece_of_state states.now) at) }
     ensures behind { IfOk result (λ behind. behind ≡ behind_states (map piece_of_state states.now) at) }
@@ -95,7 +94,7 @@ fn put_texts(
 }
 
 #[cycle(text)]
-fn put_state(state: &State, at: Numbers, origins: &mut Items<PointOrigin>) -> Result<(), AllocError>
+fn put_state(state: &State, at: Numbers, origins: &mut Items<Element>) -> Result<(), AllocError>
     ensures { IfOk result (λ _. origins.new ≡ origins.old ++ (piece_of_state state.now).text at) }
 {
     let own = state.transitions.as_slice();

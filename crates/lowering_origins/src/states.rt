@@ -3,30 +3,29 @@
 ghost use Rattle.std.specs.Prelude.{◌≡◌, ◌++◌, IfOk};
 ghost use Rattle.lowering_origins.specs.Origins.{behind_fork, depth, final, simple};
 
-use crate::numbers::Numbers;
-use crate::origin::PointOrigin;
 use crate::transitions::{put_taken, put_transitions};
+use chart_elements::{Element, Numbers};
 use core_charts::Transition;
 use sqlite_items::Items;
 use std::alloc::AllocError;
 
 /// Puts two points of a state behind the others.
-pub(crate) fn put_final(at: Numbers, origins: &mut Items<PointOrigin>) -> Result<(), AllocError>
+pub(crate) fn put_final(at: Numbers, origins: &mut Items<Element>) -> Result<(), AllocError>
     ensures { IfOk result (λ _. origins.new ≡ origins.old ++ final at) }
 {
-    origins.push(PointOrigin::State(at.state))?;
-    origins.push(PointOrigin::State(at.state))
+    origins.push(Element::State(at.state))?;
+    origins.push(Element::State(at.state))
 }
 
 /// Puts those of a simple state behind the others: its label, its immediate transitions, and its depth.
 pub(crate) fn put_simple(
     own: &[Transition],
     at: Numbers,
-    origins: &mut Items<PointOrigin>,
+    origins: &mut Items<Element>,
 ) -> Result<(), AllocError>
     ensures { IfOk result (λ _. origins.new ≡ origins.old ++ simple own.now at) }
 {
-    origins.push(PointOrigin::State(at.state))?;
+    origins.push(Element::State(at.state))?;
     if put_transitions(true, own, at, origins)? {
         put_depth(own, at, origins)
     } else {
@@ -38,14 +37,14 @@ pub(crate) fn put_simple(
 fn put_depth(
     own: &[Transition],
     at: Numbers,
-    origins: &mut Items<PointOrigin>,
+    origins: &mut Items<Element>,
 ) -> Result<(), AllocError>
     ensures { IfOk result (λ _. origins.new ≡ origins.old ++ depth own.now at) }
 {
-    origins.push(PointOrigin::State(at.state))?;
-    origins.push(PointOrigin::State(at.state))?;
+    origins.push(Element::State(at.state))?;
+    origins.push(Element::State(at.state))?;
     if put_transitions(false, own, at, origins)? {
-        origins.push(PointOrigin::State(at.state))
+        origins.push(Element::State(at.state))
     } else {
         Ok(())
     }
@@ -55,7 +54,7 @@ fn put_depth(
 pub(crate) fn put_behind_fork(
     own: &[Transition],
     at: Numbers,
-    origins: &mut Items<PointOrigin>,
+    origins: &mut Items<Element>,
 ) -> Result<(), AllocError>
     ensures { IfOk result (λ _. origins.new ≡ origins.old ++ behind_fork own.now at) }
 {

@@ -1,47 +1,30 @@
 //! The origins of the points of transitions.
 
 ghost use Rattle.std.specs.Prelude.{◌≡◌, ◌++◌, [], IfOk, if◌then◌else◌};
-ghost use Rattle.lowering_origins.specs.Origins.{Origins, effects, is_tested, taken, tested, transitions};
+ghost use Rattle.lowering_origins.specs.Origins.{Origins, is_tested, taken, tested, transitions};
 
-use crate::numbers::{Numbers, next};
-use crate::origin::PointOrigin;
-use core_charts::{Effect, Transition};
+use chart_elements::{Element, Numbers, put_effects};
+use core_charts::Transition;
 use sqlite_items::Items;
 use std::alloc::AllocError;
-
-// Puts those of effects behind the others, where the first one has this number.
-fn put_effects(
-    own: &[Effect],
-    number: u32,
-    origins: &mut Items<PointOrigin>,
-) -> Result<(), AllocError>
-    ensures { IfOk result (λ _. origins.new ≡ origins.old ++ effects own.now number) }
-{
-    let mut here = number;
-    for _ in own {
-        origins.push(PointOrigin::Effect(here))?;
-        here = next(here)?;
-    }
-    Ok(())
-}
 
 /// Puts those of what a transition does where it is taken behind the others: its effects, and the goto to its target.
 pub(crate) fn put_taken(
     transition: &Transition,
     at: Numbers,
-    origins: &mut Items<PointOrigin>,
+    origins: &mut Items<Element>,
 ) -> Result<(), AllocError>
     ensures { IfOk result (λ _. origins.new ≡ origins.old ++ taken transition.now at) }
 {
     put_effects(transition.effects.as_slice(), at.effect, origins)?;
-    origins.push(PointOrigin::Transition(at.transition))
+    origins.push(Element::Transition(at.transition))
 }
 
 // Puts those of a transition behind the others: the answer is whether anything follows it.
 fn put_tested(
     transition: &Transition,
     at: Numbers,
-    origins: &mut Items<PointOrigin>,
+    origins: &mut Items<Element>,
 ) -> Result<bool, AllocError>
     ensures { IfOk result (λ goes_on. (rest : Origins) → origins.old
         ++ tested transition.now.trigger at.transition (taken transition.now at) rest
@@ -49,7 +32,7 @@ fn put_tested(
 {
     let is_tested = transition.trigger.is_some();
     if is_tested {
-        origins.push(PointOrigin::Transition(at.transition))?;
+        origins.push(Element::Transition(at.transition))?;
     }
     put_taken(transition, at, origins)?;
     Ok(is_tested)
@@ -68,7 +51,7 @@ pub(crate) fn put_transitions(
     surface: bool,
     own: &[Transition],
     at: Numbers,
-    origins: &mut Items<PointOrigin>,
+    origins: &mut Items<Element>,
 ) -> Result<bool, AllocError>
     ensures { IfOk result (λ goes_on. (rest : Origins) → origins.old ++ transitions surface own.now at rest
         ≡ origins.new ++ (if goes_on then rest else [])) }

@@ -1,5 +1,5 @@
 use Rattle.std.proofs.Common.{◌≡◌, map, drop}
-use Rattle.lowering_origins.specs.Numbers.{first}
+use Rattle.chart_elements.specs.Numbers.{first}
 use Rattle.lowering_origins.specs.Origins.{behind_regions, piece_of_region}
 use Rattle.lowering_origins.proofs.behind.counted.Given as goal
 

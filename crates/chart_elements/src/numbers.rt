@@ -1,8 +1,8 @@
-//! The numbers of the elements of a core chart.
+//! The numbers of the elements of a chart.
 
 ghost use Rattle.std.specs.Prelude.{◌≡◌, suc, IfOk};
-ghost use Rattle.lowering_origins.specs.Numbers.{behind_transition, behind_transitions, first};
-ghost use Rattle.lowering_origins.specs.Numbers.{within_region, within_state};
+ghost use Rattle.chart_elements.specs.Numbers.{behind_transition, behind_transitions, first};
+ghost use Rattle.chart_elements.specs.Numbers.{within_region, within_state};
 
 use core_charts::Transition;
 use std::alloc::AllocError;

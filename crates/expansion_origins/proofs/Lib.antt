@@ -1,0 +1,10 @@
+mod PieceParts
+mod Standing
+mod Coming
+mod Enclosing
+mod Chosen
+mod Shapes
+mod Splitting
+mod SuperstateOrigins
+mod RegionOrigins
+mod Telling
