@@ -1,7 +1,11 @@
 -- What a monitor adds to a fork, where there is one.
 use Rattle.std.proofs.Common.{if◌then◌else◌}
-use Rattle.std.proofs.Common.{◌≡◌, ℕ, suc, ◌+◌, Bool, true, false, Option, None, List, [], ◌∷◌, map, length, refl, ap}
+use Rattle.std.proofs.Common.{◌≡◌, ℕ, suc, ◌+◌, Bool, true, false, Option, None, List, [], ◌∷◌, map, length, refl, ap, ◌∙◌}
 use Rattle.std.proofs.Common.{arith}
+use Rattle.std.proofs.lemmas.List.{append-nil}
+use Rattle.core_charts.specs.Tests.{at_once}
+use Rattle.chart_machine.specs.declared.standing.Standing.TheVariants as at
+use Rattle.chart_machine.specs.Steps.{to}
 use Rattle.core_charts.specs.declared.region.Region.{Region}
 use Rattle.core_charts.specs.declared.region.Transition.{Transition}
 use Rattle.chart_machine.specs.declared.table.Table.{Table}
@@ -9,14 +13,14 @@ use Rattle.chart_machine.specs.declared.table.TablePosition.{TablePosition}
 use Rattle.chart_machine.specs.Table.{states_in, region_numbers, side_by_side}
 use Rattle.chart_machine.specs.Table.{piece_of_region as table_of_region}
 use Rattle.abort_expansion.specs.declared.flags.Flags.{Flags}
-use Rattle.abort_expansion.specs.Superstates.{watched, monitor}
+use Rattle.abort_expansion.specs.Superstates.{watched, monitor, monitor_transitions}
 use Rattle.abort_expansion.specs.Expansion.{piece_of_region}
 use Rattle.chart_machine_laws.specs.Tree.{around}
 use Rattle.chart_machine_laws.proofs.RowsOfPieces.{Holds, AllSized}
 use Rattle.abort_expansion_laws.proofs.SideRows.{side_head}
 use Rattle.abort_expansion_laws.proofs.Walked.{ValuesAt}
 use Rattle.abort_expansion_laws.proofs.RowsOfForks.{region_around, MonitorRows, monitor_rows, monitor_sized}
-use Rattle.abort_expansion_laws.proofs.RowsOfForks.{monitor_states}
+use Rattle.abort_expansion_laws.proofs.RowsOfForks.{monitor_states, monitor_entered}
 
 -- ---- what a monitor adds, where there is one
 
@@ -42,6 +46,14 @@ pub monitor_there : (b : Bool) (s : ℕ) (around : List Flags) (f : Flags) (all 
 monitor_there true s around f all core spot certain h =
     monitor_rows s around f all core spot (side_head core (table_of_region (monitor s around f all)) [] spot h)
 monitor_there false s around f all core spot certain h = absurd cc
+
+-- what is entered with it
+pub watched_entered : (b : Bool) (s : ℕ) (around : List Flags) (f : Flags) (all : List Transition) (spot : TablePosition) →
+    (side_by_side (map table_of_region (watched b (monitor s around f all))) spot).entered ≡
+    (if b then to spot.region (at.Trying spot.state (at_once (monitor_transitions around f all))) ∷ [] else [])
+watched_entered true s around f all spot =
+    append-nil ((table_of_region (monitor s around f all)).parts spot).entered ∙ monitor_entered s around f all spot
+watched_entered false s around f all spot = refl
 
 pub none_first : (b : Bool) (g : ℕ → Option ℕ) (n : ℕ) → b ≡ true → ValuesAt g n (no_entries b) → g n ≡ None
 none_first true g n certain h = h.0

@@ -35,7 +35,7 @@ use Rattle.abort_expansion_laws.proofs.Resets.{Every, set_all, set_all_other, se
 use Rattle.abort_expansion_laws.proofs.OpensFork.{OpeningRows, every_one, forked, forks, image, list, strong_down, weak_down, counter_full}
 use Rattle.abort_expansion_laws.proofs.OpenedRows.{Opens, WithinIt, OpenedRows, ForkRows}
 
-moved_size : (ms : List Move) (zs : List Standing) → length (moved ms zs) ≡ length zs
+pub moved_size : (ms : List Move) (zs : List Standing) → length (moved ms zs) ≡ length zs
 moved_size [] zs = refl
 moved_size (m ∷ ms) zs = moved_size ms (slice_set zs m.region m.standing) ∙ set_length zs m.region m.standing
 
@@ -154,6 +154,7 @@ module _ (k core : Table) (i : Images) (rows : CoreRows k core i) (tree : IsNest
         core_size = set_length d.regions h W ∙ p.core_regions;
         same_size = size ∙ sym (set_length d.regions h W);
         open_in_chart = o.open_in_chart;
+        untested = o.untested;
         free = free;
         fresh = (p.ready s o).0;
         empty = λ t inner. set_other d.regions h t W (in_fork_ne t inner) ∙ empty t inner;
@@ -186,6 +187,7 @@ module _ (k core : Table) (i : Images) (rows : CoreRows k core i) (tree : IsNest
         super = a.super;
         split = a.split;
         prepared = a.prepared;
+        untested = a.untested;
         open_in_chart = a.open_in_chart;
         leads = a.leads;
         preparing = keeps (i.thread_of (holder k u)) _ (λ e. ne (same_super u a.tests a.open_in_chart e)) a.preparing (λ e. absurd cc);
@@ -206,6 +208,7 @@ module _ (k core : Table) (i : Images) (rows : CoreRows k core i) (tree : IsNest
         super = a.super;
         split = a.split;
         prepared = a.prepared;
+        untested = a.untested;
         open_in_chart = a.open_in_chart;
         leads = a.leads;
         preparing = sym (same (i.thread_of (holder k u)) (opening_not_here u a) (λ inner. out (thread_in (holder k u) inner))) ∙ a.preparing;

@@ -1,5 +1,5 @@
 -- The regions of a chart that keeps its rules, walked over at every depth; and that each region of a table has a state.
-use Rattle.std.proofs.Common.{◌≡◌, ℕ, zero, suc, ◌+◌, ◌<◌, ◌≤◌, Bool, true, false, cond, Some, List, [], ◌∷◌, ◌++◌, map, length}
+use Rattle.std.proofs.Common.{◌≡◌, ℕ, zero, suc, ◌+◌, ◌<◌, ◌≤◌, inl, inr, Bool, true, false, cond, Some, List, [], ◌∷◌, ◌++◌, map, length}
 use Rattle.std.proofs.Common.{count_by, slice_get, refl, sym, ap, subst, ◌∙◌, arith}
 use Rattle.std.specs.Prelude.{IsTrue}
 use Rattle.std.specs.List.{list_any}
@@ -29,6 +29,7 @@ use Rattle.std.proofs.lemmas.List.{length-map}
 use Rattle.abort_expansion_laws.proofs.Walks.{RegionWalks, StateWalks, pieces_of}
 use Rattle.abort_expansion_laws.proofs.WalkState.{walk_state}
 use Rattle.abort_expansion_laws.proofs.WalkRegion.{walk_region}
+use Rattle.abort_expansion_laws.proofs.InitialStates.{HasInitial}
 
 -- ---- one state of a region is initial
 
@@ -61,6 +62,15 @@ once_initial : (states : List State) → count states ≤ 1 → OnceInitial (pie
 once_initial [] e = tt
 once_initial (s ∷ states) e =
     let both = once_if (is_first s) (count states) e in (λ first. none_initial states (both.0 (sym (first_is s) ∙ first)), once_initial states both.1)
+
+has_initial : (states : List State) → count states ≡ 1 → HasInitial (pieces_of states)
+has_initial [] e = absurd (omega (e, arith))
+has_initial (s ∷ states) e = by_first (is_first s) refl (λ later. has_initial states later) e
+  where
+    by_first : (b : Bool) → is_first s ≡ b → (count states ≡ 1 → HasInitial (pieces_of states)) → cond b (1 + count states) (count states) ≡ 1 →
+        HasInitial (pieces_of (s ∷ states))
+    by_first true is later e = inl (first_is s ∙ is)
+    by_first false is later e = inr (later e)
 
 pub one_state_begins : (states : List State) → count_by is_first states ≡ 1 → OnceInitial (pieces_of states)
 one_state_begins states e = once_initial states (omega (count_is states, e, arith))
@@ -125,6 +135,7 @@ regions_walk f variables (suc levels) regions rules =
         (λ n t at. subst (λ rs. IsTrue (fits_state (has_regions rs) t.kind)) empty (own.transitions n t at).fits))
         (few_of levels (out-State s).regions own.regions) own.bare (inner (out-State s).regions own.regions))))
         (subst (λ zs. OnceInitial (pieces_of zs)) some.1.1 (once_initial states (omega (one_only, arith))))
+        (subst (λ zs. HasInitial (pieces_of zs)) some.1.1 (has_initial states one_only))
 
 -- ---- each region has a state
 

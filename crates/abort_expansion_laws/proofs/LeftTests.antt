@@ -18,7 +18,6 @@ use Rattle.chart_machine.specs.declared.table.Table.{Table}
 use Rattle.chart_machine.specs.Table.{state_at}
 use Rattle.chart_machine.specs.Turns.{standing_of, has_ended, has_work, inside}
 use Rattle.chart_machine.specs.Machine.{machine}
-use Rattle.abort_expansion.specs.Flags.{has_join}
 use Rattle.core_charts.specs.Aborts.{has_weak, has_aborts}
 use Rattle.abort_expansion.specs.Transitions.{go, is_raised, is_number, check}
 use Rattle.abort_expansion.specs.Superstates.{all_ended}

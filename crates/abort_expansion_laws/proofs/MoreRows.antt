@@ -93,7 +93,7 @@ module _ (c : Chart) (rules : IsChart features.Extended c) (core_rules : IsChart
       by_stay true e = super (none_of (state_at k s).regions (sym (ap (λ z. z.regions) (rows.staying s here super e).row) ∙ none))
       by_stay false e = super (no_more (state_at k s).regions _ (sym (ap (λ z. z.regions) (rows.split s here super e).row) ∙ none))
 
-  alone : (n : ℕ) → (state_at core n).regions ≡ [] → inside core n ≡ []
+  pub alone : (n : ℕ) → (state_at core n).regions ≡ [] → inside core n ≡ []
   alone n none = no_one (inside core n) (λ t h.
       let o = only_forks t n (inside_around core n t h) in fork_has o.0 o.1 (sym (ap (λ z. (state_at core z).regions) o.2) ∙ none))
 

@@ -32,6 +32,7 @@ use Rattle.abort_expansion_laws.proofs.SideRows.{side_head, side_tail}
 use Rattle.abort_expansion_laws.proofs.Walked.{Range, range_none, range_both, range_to, range_more}
 use Rattle.abort_expansion_laws.proofs.RowsOfForks.{region_rows}
 use Rattle.abort_expansion_laws.proofs.ChartWalk.{one_state_begins}
+use Rattle.abort_expansion_laws.proofs.StateEntry.{Entry, entry_of}
 
 module _ (k : Table) where
   -- the region of a move has these superstates around it
@@ -41,8 +42,9 @@ module _ (k : Table) where
   abbrev pub MovesIn : List ℕ → List Move → Type 0
   MovesIn zs ms = Each (MoveIn zs) ms
 
-  abbrev OpensInside : ℕ → Type 0
-  OpensInside s = MovesIn (s ∷ []) (state_at k s).opened
+  record OpensInside (s : ℕ) : Type 0 where
+    moves : MovesIn (s ∷ []) (state_at k s).opened
+    entry : Entry k s
 
   fewer : (xs ys : List ℕ) (ms : List Move) → ((o : ℕ) → Contains ys o → Contains xs o) → MovesIn xs ms → MovesIn ys ms
   fewer xs ys ms into h = each_more (MoveIn xs) (MoveIn ys) ms (λ m inner o has. inner o (into o has)) h
@@ -152,8 +154,13 @@ module _ (k : Table) where
               (opened_in a holds);
           opens = λ a holds around_it.
               range_more OpensInside a.state (a.state + suc (states_in (map piece_of_region regions)))
-              (subst (MovesIn (a.state ∷ [])) (sym (ap (λ z. z.opened) holds.states.0))
-              (fewer (a.state ∷ a.around) (a.state ∷ []) (side_by_side (map piece_of_region regions) (within a)).entered (only_head a) (opened_in a holds)))
+              (record {
+                moves =
+                    subst (MovesIn (a.state ∷ [])) (sym (ap (λ z. z.opened) holds.states.0))
+                    (fewer (a.state ∷ a.around) (a.state ∷ []) (side_by_side (map piece_of_region regions) (within a)).entered (only_head a)
+                    (opened_in a holds));
+                entry = entry_of k a final (map piece_of_region regions) all (side_by_side (map piece_of_region regions) (within a)).entered holds.states.0;
+              })
               (range_to OpensInside (suc a.state) (suc a.state + states_in (map piece_of_region regions)) (a.state + suc (states_in
               (map piece_of_region regions)))
               (omega arith) (side_opens regions each (within a) (record { states = holds.states.1; regions = holds.regions })));
@@ -204,8 +211,8 @@ module _ (k : Table) where
           (each_of StateMoves (out-Region r).states (λ j s is. state_moves s (inner (out-State s).regions (region.states j s is).regions)))
 
 -- for each state of a chart that keeps its rules
-opened_within : (f : Features) (c : Chart) → IsChart f c → (s : ℕ) → s < length (table c).states → MovesIn (table c) (s ∷ []) (state_at (table c) s).opened
-opened_within f c rules s lt =
+opens_within : (f : Features) (c : Chart) → IsChart f c → (s : ℕ) → s < length (table c).states → OpensInside (table c) s
+opens_within f c rules s lt =
     let each : Each (RegionMoves (table c)) c.regions = regions_move (table c) f c.variables depth_limit c.regions rules.regions in
     let size : length (table c).states ≡ states_in (map piece_of_region c.regions) =
     side_states (map piece_of_region c.regions) whole (sized_regions (table c) c.regions each) in
@@ -221,4 +228,8 @@ unmoved k s t out (m ∷ ms) h zs =
 
 pub opened_elsewhere : (f : Features) (c : Chart) → IsChart f c → (s t : ℕ) (zs : List Standing) → s < length (table c).states →
     ¬ Contains (around (table c) t) s → at_number (moved (state_at (table c) s).opened zs) t ≡ at_number zs t
-opened_elsewhere f c rules s t zs lt out = unmoved (table c) s t out (state_at (table c) s).opened (opened_within f c rules s lt) zs
+opened_elsewhere f c rules s t zs lt out = unmoved (table c) s t out (state_at (table c) s).opened (opens_within f c rules s lt).moves zs
+
+-- and each state is entered as its row says
+pub charts_enter : (f : Features) (c : Chart) → IsChart f c → (s : ℕ) → s < length (table c).states → Entry (table c) s
+charts_enter f c rules s lt = (opens_within f c rules s lt).entry

@@ -2,6 +2,7 @@
 use Rattle.std.proofs.Common.{◌≡◌, ℕ, suc, ◌⊎◌, true, false, Some, List, [], ◌∷◌, length, Contains}
 use Rattle.core_charts.specs.declared.region.Transition.{Transition}
 use Rattle.core_charts.specs.Aborts.{has_aborts}
+use Rattle.core_charts.specs.Tests.{first_closing_tests}
 use Rattle.chart_machine.specs.declared.standing.Standing.{Standing}
 use Rattle.chart_machine.specs.declared.standing.Standing.TheVariants as at
 use Rattle.chart_machine.specs.declared.standing.Configuration.{Configuration}
@@ -33,6 +34,7 @@ module _ (k core : Table) (i : Images) where
     pub core_size : length d.regions ≡ suc (length core.regions)
     pub same_size : length e.regions ≡ length d.regions
     pub open_in_chart : standing_of c (holder k s) ≡ at.Within s tests
+    pub untested : tests ≡ first_closing_tests (own k s)
     pub free : is_guarded k c (around k (holder k s)) ≡ false
     pub fresh : IsFresh k core i c s
     pub empty : IsEmpty k core i c d s

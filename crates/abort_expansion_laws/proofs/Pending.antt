@@ -5,6 +5,7 @@ use Rattle.std.proofs.Common.{refl, sym, subst, ◌∙◌, if◌then◌else◌}
 use Rattle.sc_values.specs.declared.value.Value.{Value}
 use Rattle.core_charts.specs.declared.region.Transition.{Transition}
 use Rattle.core_charts.specs.Aborts.{has_aborts}
+use Rattle.core_charts.specs.Tests.{first_closing_tests}
 use Rattle.chart_machine.specs.declared.standing.Standing.{Standing}
 use Rattle.chart_machine.specs.declared.standing.Standing.TheVariants as at
 use Rattle.chart_machine.specs.declared.standing.Configuration.{Configuration}
@@ -46,6 +47,8 @@ module _ (k core : Table) (i : Images) (c : Configuration) where
     pub super : IsSuper k s
     pub split : stays (flags_around k core i (holder k s)) (own k s) ≡ false
     pub prepared : is_prepared (flags_around k core i (holder k s)) (own k s) ≡ true
+    -- none of its tests was made yet
+    pub untested : tests ≡ first_closing_tests (own k s)
     pub open_in_chart : standing_of c (holder k s) ≡ at.Within s tests
     pub leads : state_in core (i.thread_of (holder k s)) fork ≡ i.main_of s
     pub preparing : standing_of d (i.thread_of (holder k s)) ≡ at.Trying (i.entry_of s)

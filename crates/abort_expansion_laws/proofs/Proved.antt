@@ -75,6 +75,17 @@ pub use Rattle.abort_expansion_laws.proofs.RestsAtLast.{rests_at_last}
 pub use Rattle.abort_expansion_laws.proofs.StillBegun.{still_begun, charts_stay_begun, starts_begun}
 pub use Rattle.abort_expansion_laws.proofs.TicksFinish.{ticks_finish}
 pub use Rattle.abort_expansion_laws.proofs.RestedCharts.{rested_over, rested_seen}
+pub use Rattle.abort_expansion_laws.proofs.WalkedWhole.{entered}
+pub use Rattle.abort_expansion_laws.proofs.OpenedInside.{charts_enter}
+pub use Rattle.abort_expansion_laws.proofs.FreshInside.{look, fresh_begins}
+pub use Rattle.abort_expansion_laws.proofs.InitialPairs.{both_begin, watcher_stands}
+pub use Rattle.abort_expansion_laws.proofs.BeginningSorts.{sort_of}
+pub use Rattle.abort_expansion_laws.proofs.JustEntered.{reach}
+pub use Rattle.abort_expansion_laws.proofs.EnteredWaits.{entered_waits}
+pub use Rattle.abort_expansion_laws.proofs.EnteredMonitors.{entered_watched, entered_flags}
+pub use Rattle.abort_expansion_laws.proofs.EnteredOver.{entered_over}
+pub use Rattle.abort_expansion_laws.proofs.OpenedRowsHold.{opened_rows}
+pub use Rattle.abort_expansion_laws.proofs.ChartsOpened.{charts_opened, charts_settle}
 
 pub checked : ◌≡◌ {A = ℕ} 0 0
 checked = refl

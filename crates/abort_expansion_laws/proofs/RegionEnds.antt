@@ -18,7 +18,8 @@ use Rattle.abort_expansion.specs.Transitions.{go, on, count_down}
 use Rattle.abort_expansion.specs.Expansion.{new_initial, left_behind}
 use Rattle.abort_expansion_laws.proofs.InRegionRows.{InRegionAt}
 use Rattle.abort_expansion_laws.proofs.Walked.{Range, range_none, range_one}
-use Rattle.abort_expansion_laws.proofs.Walks.{pieces_of}
+use Rattle.abort_expansion_laws.proofs.Walks.{pieces_of, FirstInitial}
+use Rattle.abort_expansion_laws.specs.CoreRows.{simple_row}
 use Rattle.abort_expansion_laws.proofs.WalkSimple.{one_row, one_sized, one_begins, one_state}
 
 -- ---- the new initial state, and the abandoned one
@@ -55,6 +56,21 @@ module _ (counter : Option ℕ) (target number : ℕ) where
       (omega (arith, one_state first_name true false (go true None (on counter count_down) target ∷ [])))
       (ap (λ z. z.holder) (one_row first_name true false (go true None (on counter count_down) target ∷ []) core more next b h).states.0)
   new_held false core more next b h = range_none (λ n. holder core n ≡ b.holder) b.state (b.state + 0) (omega arith)
+
+  pub new_first : (anew : Bool) → anew ≡ true → FirstInitial (pieces_of (anew_states anew))
+  new_first true certain = one_begins first_name true false (go true None (on counter count_down) target ∷ [])
+  new_first false certain = absurd cc
+
+  pub new_none : (anew : Bool) → anew ≡ false → NoneInitial (pieces_of (anew_states anew))
+  new_none true denied = absurd cc
+  new_none false denied = tt
+
+  pub new_row : (anew : Bool) → anew ≡ true → (core : Table) (more : List Piece) (next : ℕ) (b : TablePosition) →
+      InRegionAt core (pieces_of (anew_states anew) ++ more) next b →
+      state_at core b.state ≡ simple_row b.holder b.state (go true None (on counter count_down) target ∷ [])
+  new_row true certain core more next b h =
+      (one_row first_name true false (go true None (on counter count_down) target ∷ []) core more next b h).states.0
+  new_row false certain core more next b h = absurd cc
 
 abbrev pub left_states : Bool → List State
 left_states has = (left_behind has).states

@@ -42,7 +42,7 @@ module _ (c : Chart) (rules : IsChart features.Extended c) (core_rules : IsChart
   pub tree : IsTree k
   tree = chart_is_tree features.Extended c rules
 
-  core_tree : IsTree core
+  pub core_tree : IsTree core
   core_tree = chart_is_tree features.Core (expanded c) core_rules
 
   pub state_fits : (s : ℕ) → IsState k s → StateFits w s

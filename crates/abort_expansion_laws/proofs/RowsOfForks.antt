@@ -6,7 +6,7 @@ use Rattle.core_charts.specs.declared.region.Region.TheOpen.{Region-F}
 use Rattle.core_charts.specs.declared.region.Region.TheViews.{out-Region}
 use Rattle.core_charts.specs.declared.region.Region.TheFolds.{fold-roll-Region, fold_out-Region}
 use Rattle.core_charts.specs.declared.region.State.{State}
-use Rattle.core_charts.specs.Tests.{strong_aborts, weak_aborts}
+use Rattle.core_charts.specs.Tests.{at_once, strong_aborts, weak_aborts}
 use Rattle.chart_machine.specs.declared.standing.Standing.TheVariants as at
 use Rattle.chart_machine.specs.declared.standing.Move.{Move}
 use Rattle.chart_machine.specs.declared.table.StatesRows.{StatesRows}
@@ -23,7 +23,7 @@ use Rattle.chart_machine_laws.specs.Tree.{around}
 use Rattle.chart_machine_laws.proofs.RowsOfPieces.{Holds, IsSized, AllSized, regions_first, regions_second, regions_from, inner_first, region_sized}
 use Rattle.chart_machine_laws.proofs.TableTrees.{OnceInitial}
 use Rattle.abort_expansion_laws.specs.CoreRows.{simple_row, fork_row}
-use Rattle.abort_expansion_laws.proofs.SimpleRows.{rolled}
+use Rattle.abort_expansion_laws.proofs.SimpleRows.{rolled, rolled_piece}
 use Rattle.abort_expansion_laws.proofs.InRegionRows.{InRegionAt, rest_holds}
 use Rattle.abort_expansion_laws.proofs.WalkSimple.{one_row, one_sized, one_begins, one_state}
 
@@ -120,6 +120,26 @@ module _ (s : ℕ) (flags_around : List Flags) (flags : Flags) (own : List Trans
 
   once : OnceInitial states
   once = (λ e. (one_begins abandoned_name false true [], tt), (λ e. tt, tt))
+
+  -- what is entered with it
+  pub monitor_entered : (b : TablePosition) →
+      ((table_of_region (monitor s flags_around flags own)).parts b).entered ≡
+      to b.region (at.Trying b.state (at_once (monitor_transitions flags_around flags own))) ∷ []
+  monitor_entered b =
+      ap (λ p. (p.parts b).entered) monitor_piece ∙
+      (ap (λ p. ((region_piece (record { name = monitor_name s; states = p ∷ table_of_state watched_state ∷ [] })).parts b).entered)
+      (rolled_piece watching_name true false [] (monitor_transitions flags_around flags own)) ∙
+      ap (λ p. ((region_piece (record {
+        name = monitor_name s;
+        states = state_piece (record {
+          name = watching_name;
+          is_initial = true;
+          is_final = false;
+          regions = [];
+          transitions = monitor_transitions flags_around flags own;
+        }) ∷ p ∷ [];
+      })).parts b).entered)
+      (rolled_piece abandoned_name false true [] []))
 
   pub record MonitorRows (core : Table) (b : TablePosition) : Type 0 where
     pub around_it : around core b.region ≡ b.around

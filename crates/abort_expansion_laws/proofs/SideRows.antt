@@ -1,5 +1,6 @@
 -- Where the regions of one superstate stand in a table, a few of them at a time.
-use Rattle.std.proofs.Common.{◌≡◌, ℕ, suc, ◌+◌, List, [], ◌∷◌, ◌++◌, length, refl, subst, arith}
+use Rattle.std.proofs.Common.{◌≡◌, ℕ, suc, ◌+◌, List, [], ◌∷◌, ◌++◌, length, refl, sym, ap, subst, ◌∙◌, arith}
+use Rattle.std.proofs.lemmas.List.{append_assoc}
 use Rattle.chart_machine.specs.declared.table.StateRow.{StateRow}
 use Rattle.chart_machine.specs.declared.table.RegionRow.{RegionRow}
 use Rattle.chart_machine.specs.declared.table.Table.{Table}
@@ -76,6 +77,24 @@ module _ (k : Table) where
             regions_join at.region (x.parts at).regions rows.regions own.regions
             (regions_from k (at.region + x.regions) (at.region + length (x.parts at).regions) rows.regions (omega (arith, sized.0.regions at)) rest.regions);
       }
+
+-- ---- what is entered
+
+entered_there : (ys : List Piece) (at : TablePosition) (s u r q : ℕ) → s ≡ u → r ≡ q →
+    (side_by_side ys (record at { state = s; region = r })).entered ≡ (side_by_side ys (record at { state = u; region = q })).entered
+entered_there ys at s u r q e f =
+    ap (λ n. (side_by_side ys (record at { state = n; region = r })).entered) e ∙ ap (λ n. (side_by_side ys (record at { state = u; region = n })).entered) f
+
+pub side_entered : (xs ys : List Piece) (at : TablePosition) →
+    (side_by_side (xs ++ ys) at).entered ≡ (side_by_side xs at).entered ++ (side_by_side ys (past_side xs at)).entered
+side_entered [] ys at = entered_there ys at at.state (at.state + 0) at.region (at.region + 0) (omega arith) (omega arith)
+side_entered (x ∷ xs) ys at =
+    ap (λ zs. (x.parts at).entered ++ zs)
+    (side_entered xs ys (behind x at) ∙
+    ap (λ zs. (side_by_side xs (behind x at)).entered ++ zs)
+    (entered_there ys at ((at.state + x.states) + states_in xs) (at.state + (x.states + states_in xs)) ((at.region + x.regions) + regions_in xs)
+    (at.region + (x.regions + regions_in xs)) (omega arith) (omega arith))) ∙
+    sym (append_assoc (x.parts at).entered (side_by_side xs (behind x at)).entered (side_by_side ys (past_side (x ∷ xs) at)).entered)
 
 -- ---- how many there are, and their numbers
 

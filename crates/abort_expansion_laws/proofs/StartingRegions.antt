@@ -61,6 +61,7 @@ module _ (k core : Table) (i : Images) (rows : CoreRows k core i) (c d e : Confi
         super = o.super;
         split = o.split;
         prepared = o.prepared;
+        untested = o.untested;
         open_in_chart = o.open_in_chart;
         leads = o.leads;
         preparing = other_thread (holder k s) (not_here s o.tests over o.open_in_chart) ∙ o.preparing;

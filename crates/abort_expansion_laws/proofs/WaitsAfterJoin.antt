@@ -71,6 +71,7 @@ module _ (k core : Table) (i : Images) (rows : CoreRows k core i) (tree : IsNest
         super = a.super;
         split = a.split;
         prepared = a.prepared;
+        untested = a.untested;
         open_in_chart = a.open_in_chart;
         leads = a.leads;
         preparing = keeps (i.thread_of (holder k u)) _ (not_g (i.thread_of (holder k u)) _ _ a.preparing) a.preparing (λ e. absurd cc) (λ e. absurd cc);
@@ -85,6 +86,7 @@ module _ (k core : Table) (i : Images) (rows : CoreRows k core i) (tree : IsNest
         super = a.super;
         split = a.split;
         prepared = a.prepared;
+        untested = a.untested;
         open_in_chart = a.open_in_chart;
         leads = a.leads;
         preparing =

@@ -8,12 +8,14 @@ use Rattle.core_charts.specs.declared.region.Region.{Region}
 use Rattle.core_charts.specs.declared.region.Transition.{Transition}
 use Rattle.core_charts.specs.declared.region.State.{State}
 use Rattle.chart_machine.specs.declared.standing.Move.{Move}
+use Rattle.chart_machine.specs.declared.standing.Standing.{Standing}
+use Rattle.chart_machine.specs.declared.standing.Standing.TheVariants as at
 use Rattle.chart_machine.specs.declared.table.Table.{Table}
 use Rattle.chart_machine.specs.declared.table.TablePosition.{TablePosition}
 use Rattle.chart_machine.specs.Table.{Piece, state_at, region_at, states_in, regions_in, region_numbers, state_numbers, side_by_side, state_piece}
 use Rattle.chart_machine.specs.Table.{within as table_within, piece_of_region as table_of_region, piece_of_state as table_of_state, past_states, next_behind}
 use Rattle.chart_machine.specs.Table.{come_to}
-use Rattle.chart_machine.specs.Steps.{state_in}
+use Rattle.chart_machine.specs.Steps.{state_in, to}
 use Rattle.core_charts.specs.Tests.{at_once, strong_aborts, first_closing_tests}
 use Rattle.abort_expansion.specs.declared.flags.Flags.{Flags}
 use Rattle.abort_expansion.specs.declared.places.Places.{Places}
@@ -23,7 +25,7 @@ use Rattle.abort_expansion.specs.declared.pieces.Numbers.{Numbers}
 use Rattle.abort_expansion.specs.Flags.{flag_count, flags_of, weak_around, declarations, continuation_name}
 use Rattle.core_charts.specs.Aborts.{has_aborts, has_weak}
 use Rattle.abort_expansion.specs.Pieces.{expanded_regions, variables_in}
-use Rattle.abort_expansion.specs.Superstates.{stays, is_prepared, within, forked, fork, watched, monitor, continuation}
+use Rattle.abort_expansion.specs.Superstates.{stays, is_prepared, within, forked, fork, watched, monitor, monitor_transitions, continuation}
 use Rattle.abort_expansion.specs.Expansion.{piece_of_region}
 use Rattle.chart_machine_laws.specs.Tree.{IsThere, around, holder}
 use Rattle.chart_machine_laws.proofs.RowsOfPieces.{Holds, IsSized, AllSized, state_sized}
@@ -32,7 +34,7 @@ use Rattle.scl_graph_laws.proofs.Segments.{stand_from, stand_first, stand_second
 use Rattle.abort_expansion_laws.specs.CoreRows.{own, IsState, is_final, ends, IsSuper, joins, simple_row, fork_row, watchers}
 use Rattle.abort_expansion_laws.proofs.SimpleRows.{rolled_piece}
 use Rattle.abort_expansion_laws.proofs.InRegionRows.{InRegionAt, first_holds, rest_holds, spot_of}
-use Rattle.abort_expansion_laws.proofs.SideRows.{past_side, side_first, side_second, states_append, sized_append, numbers_append}
+use Rattle.abort_expansion_laws.proofs.SideRows.{past_side, side_first, side_second, side_entered, states_append, sized_append, numbers_append}
 use Rattle.abort_expansion_laws.proofs.Walked.{World, StateImage, ValuesAt, values_from, values_first, values_second, images_of, i, RegionFits, StateFits}
 use Rattle.abort_expansion_laws.proofs.Walked.{CoreStateFits, Origin, thread, watcher, OwnerFits, InRegion, Range, range_none, range_one, range_both, range_to}
 use Rattle.abort_expansion_laws.proofs.Walked.{FlagsFit, WatcherFits, range_more, behind_by}
@@ -43,7 +45,8 @@ use Rattle.abort_expansion_laws.proofs.WalkSimple.{state_there, region_there, lo
 use Rattle.abort_expansion_laws.proofs.RowsOfForks.{some_regions, super_row, watching, MonitorRows}
 use Rattle.abort_expansion_laws.proofs.FlagOwners.{flag_owners, owners_long, declarations_long, flags_owned, flags_declared, owners_range, weak_inside}
 use Rattle.abort_expansion_laws.proofs.AddedMonitors.{watched_sized, no_entries, watched_many, watched_numbers, monitor_there}
-use Rattle.abort_expansion_laws.proofs.AddedMonitors.{none_first, first_around, numbers_many}
+use Rattle.abort_expansion_laws.proofs.AddedMonitors.{none_first, first_around, numbers_many, watched_entered}
+use Rattle.abort_expansion_laws.proofs.EnteredAlike.{AreEntered, watcher_enters, OpensAlike}
 
 module _ (name : List ℕ) (initial : Bool) (r : Region) (others : List Region) (all : List Transition) (walks : Each RegionWalks (r ∷ others))
     (flags : List Flags) (places : Places) (numbers : Numbers) (a b : TablePosition) (next place : ℕ) (begins : Bool) (entry : ℕ) where
@@ -395,6 +398,38 @@ module _ (name : List ℕ) (initial : Bool) (r : Region) (others : List Region) 
               (subst (λ z. Rattle.abort_expansion_laws.proofs.Walked.IsFlag z x) (ap (λ z. z.flags) img) is);
         }
 
+    -- ---- what is entered with the fork
+
+    abbrev entered_inside : List Move
+    entered_inside = (side_by_side ps (table_within spot)).entered
+
+    abbrev monitor_stands : Standing
+    monitor_stands = at.Trying v (at_once (monitor_transitions flags f all))
+
+    monitor_enters : (side_by_side ms monitor_at).entered ≡ watcher_enters w.k w.core (images_of w) a.state
+    monitor_enters =
+        rw (loc.own_is, img, loc.flags_are)
+        (watched_entered (has_aborts all) numbers.superstate flags f all monitor_at ∙ by_aborts (has_aborts all))
+      where
+        by_aborts : (h : Bool) → (if h then to g monitor_stands ∷ [] else []) ≡ (if h then to (if h then g else spot.region) monitor_stands ∷ [] else [])
+        by_aborts true = refl
+        by_aborts false = refl
+
+    opens_alike : OpensAlike w.k w.core (images_of w) a.state
+    opens_alike =
+        record {
+          inner = entered_inside;
+          regions =
+              subst (λ zs. AreEntered w.k w.core (images_of w) zs (state_at w.k a.state).opened entered_inside) (sym regions_row)
+              (subst (λ moves. AreEntered w.k w.core (images_of w) (region_numbers (map table_of_region regions) a.region) moves entered_inside)
+              (sym (ap (λ z. z.opened) stands.chart.states.0)) (inner.entered w inner_stands));
+          fork =
+              ap (λ n. (state_at w.core n).opened) main_is ∙
+              (ap (λ z. z.opened) fork_rows.states.0 ∙
+              (ap (λ zs. (side_by_side zs (table_within spot)).entered) regions_are ∙
+              (side_entered ps ms (table_within spot) ∙ ap (λ zs. entered_inside ++ zs) monitor_enters)));
+        }
+
     pub state_fits : length (map piece_of_region regions) < 2147483648 → stays flags all ≡ false → w.m entry ≡ Some a.state →
         (is_prepared flags all ≡ true → (fork : ℕ) × (state_in w.core b.holder fork ≡ b.state) ×
         (state_at w.core entry ≡ simple_row b.holder entry (preparing places f (length (map piece_of_region regions)) all fork))) →
@@ -433,6 +468,7 @@ module _ (name : List ℕ) (initial : Bool) (r : Region) (others : List Region) 
           behind_past = λ is stay. let wrong : true ≡ false = sym stay ∙ (rw (loc.flags_are, loc.own_is) apart) in absurd cc;
           numbered = (regions, (a.region, regions_row));
           few = subst (λ n. n < 2147483648) (sym (ap length regions_row ∙ numbers_many regions a.region)) few;
+          opens = λ is. opens_alike;
         }
 
     -- the core states of the monitor

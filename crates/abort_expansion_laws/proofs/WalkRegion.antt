@@ -3,7 +3,7 @@ use Rattle.std.proofs.Common.{◌≡◌, ℕ, suc, ◌+◌, ◌<◌, Bool, true,
 use Rattle.std.proofs.Common.{Option, Some, List, [], ◌∷◌, ◌++◌, map, length, slice_get}
 use Rattle.std.proofs.Common.{unwrap_or, refl, sym, ap, subst, ◌∙◌, arith}
 use Rattle.std.specs.List.{list_any}
-use Rattle.std.proofs.lemmas.List.{length-append, map-append}
+use Rattle.std.proofs.lemmas.List.{length-append, map-append, append-nil}
 use Rattle.sc_text.proofs.EachItem.{Each}
 use Rattle.core_charts.specs.declared.region.Region.{Region}
 use Rattle.core_charts.specs.declared.region.Region.TheOpen.{Region-F}
@@ -11,7 +11,7 @@ use Rattle.core_charts.specs.declared.region.Region.TheViews.{roll-Region, out-R
 use Rattle.core_charts.specs.declared.region.Region.TheFolds.{fold-roll-Region, fold_out-Region}
 use Rattle.core_charts.specs.declared.region.State.{State}
 use Rattle.chart_machine.specs.declared.table.TablePosition.{TablePosition}
-use Rattle.chart_machine.specs.Table.{Piece, region_at, states_in}
+use Rattle.chart_machine.specs.Table.{Piece, state_at, region_at, states_in, side_by_side}
 use Rattle.chart_machine.specs.Table.{state_numbers, past_states, inside_region}
 use Rattle.chart_machine.specs.Table.{regions_in_initial, piece_of_state as table_of_state, piece_of_region as table_of_region}
 use Rattle.chart_machine.specs.Table.{region_piece as table_region_piece, state_piece as table_state_piece}
@@ -43,12 +43,20 @@ use Rattle.abort_expansion_laws.proofs.WalkStates.{expanded_pieces, EachPlace, F
 use Rattle.abort_expansion_laws.proofs.WalkStates.{numbers_long, pieces_long}
 use Rattle.abort_expansion_laws.proofs.StatePlaces.{region_there_at, each_place, first_there, initial_held, begins_where, first_number}
 use Rattle.abort_expansion_laws.proofs.RegionEnds.{new_sized, new_many, new_long, new_variables, new_once, new_held, left_sized}
+use Rattle.abort_expansion_laws.proofs.RegionEnds.{new_first, new_none, new_row}
+use Rattle.abort_expansion_laws.proofs.EnteredAlike.{BeginsAs, AreEntered}
+use Rattle.abort_expansion_laws.proofs.InitialStates.{initial_at, HasInitial, has_first, has_left, has_right, at_first, at_later, states_entered}
+use Rattle.abort_expansion_laws.proofs.ThreadBegins.{initial_final, Told, initial_told, begins_as}
 use Rattle.abort_expansion_laws.proofs.RegionEnds.{left_many, left_variables, left_none, left_held, left_there}
+
+sized_states : (states : List State) → Each StateWalks states → AllSized (pieces_of states)
+sized_states [] walks = tt
+sized_states (s ∷ states) walks = (walks.0.counts.sized, sized_states states walks.1)
 
 -- ---- the region
 
 module _ (name : List ℕ) (s : State) (others : List State) (walks : Each StateWalks (s ∷ others)) (once_chart : OnceInitial (pieces_of (s ∷ others)))
-    (flags : List Flags) (counter : Option ℕ) (numbers : Numbers) (a b : TablePosition) where
+    (has_chart : HasInitial (pieces_of (s ∷ others))) (flags : List Flags) (counter : Option ℕ) (numbers : Numbers) (a b : TablePosition) where
   abbrev states : List State
   states = s ∷ others
 
@@ -168,11 +176,7 @@ module _ (name : List ℕ) (s : State) (others : List State) (walks : Each State
 
   module _ (w : World) (stands : RegionsStand w (chart_piece.parts a) made flags counter numbers a b middle.part) where
     chart_rows : (region_at w.k a.region ≡ record { around = a.around; states = state_numbers cps a.state }) × InRegionAt w.k cps chart_next (inside_region a)
-    chart_rows = region_rows w.k (record { name = name; states = cps }) a (sized_of states walks) stands.chart_rows
-      where
-        sized_of : (zs : List State) → Each StateWalks zs → AllSized (pieces_of zs)
-        sized_of [] h = tt
-        sized_of (z ∷ zs) h = (h.0.counts.sized, sized_of zs h.1)
+    chart_rows = region_rows w.k (record { name = name; states = cps }) a (sized_states states walks) stands.chart_rows
 
     core_rows : (region_at w.core b.region ≡ record { around = b.around; states = state_numbers (pieces_of all_states) b.state })
         × InRegionAt w.core (pieces_of all_states) region_next (inside_region b)
@@ -353,6 +357,58 @@ module _ (name : List ℕ) (s : State) (others : List State) (walks : Each State
           places_are = places_are;
         }
 
+    -- ---- what is entered with it
+
+    abbrev first : ℕ
+    first = initial_at cps a.state
+
+    abbrev core_first : ℕ
+    core_first = initial_at (pieces_of all_states) b.state
+
+    told : Told w a.region (region_at w.core b.region).states first target (initial_final xs)
+    told = initial_told w a.region (region_at w.core b.region).states states walks flags a.state begin each has_chart
+
+    has_core : (z : Bool) → anew ≡ z → HasInitial (ns ++ (ts ++ ls))
+    has_core true certain = has_first ns (ts ++ ls) (new_first counter target number anew certain)
+    has_core false denied = has_right ns (ts ++ ls) (has_left ts ls (middle.begun denied has_chart))
+
+    begins : BeginsAs w.k w.core (i w) a.region first core_first
+    begins =
+        begins_as w states walks once_chart counter a.region first core_first target b.region b.state told thread_is
+        (ap (λ zs. counter_over w.k w.core (i w) zs) around_is ∙ sym stands.counter_is)
+        (λ certain. (
+          ap (λ zs. initial_at zs b.state) pieces_are ∙ at_first ns (ts ++ ls) b.state (new_first counter target number anew certain),
+          new_row counter target number anew certain w.core (ts ++ ls) region_next (inside_region b) split_rows,
+        ))
+        (λ denied.
+        ap (λ zs. initial_at zs b.state) pieces_are ∙
+        (at_later ns (ts ++ ls) b.state (new_none counter target number anew denied) ∙ middle.begins_at denied has_chart w ls middle_stands))
+
+    entered_alike : AreEntered w.k w.core (i w) (a.region ∷ []) (chart_piece.parts a).entered (side_by_side (table_of_region core_region ∷ []) b).entered
+    entered_alike = (
+      [],
+      (
+        [],
+        (
+          record {
+            first = first;
+            core_first = core_first;
+            held = told.held;
+            begins = begins;
+            chart =
+                states_entered w.k states (sized_states states walks) chart_next (inside_region a) chart_rows.1 once_chart has_chart ∙
+                sym (append-nil (state_at w.k first).entered);
+            in_core =
+                ap (λ zs. zs ++ [])
+                (ap (λ p. (p.parts b).entered) core_piece ∙
+                states_entered w.core all_states all_sized region_next (inside_region b) core_rows.1 (subst OnceInitial (sym pieces_are) once)
+                (subst HasInitial (sym pieces_are) (has_core anew refl)));
+          },
+          (refl, refl),
+        ),
+      ),
+    )
+
     held_fits : (low high : ℕ) → Range (λ n. holder w.core n ≡ b.region) low high → Range (CoreStateFits w) low high
     held_fits low high h n lo hi = thread a.region region_fits.here (h n lo hi ∙ sym thread_is)
 
@@ -383,6 +439,7 @@ module _ (name : List ℕ) (s : State) (others : List State) (walks : Each State
         long_owners = middle.long_owners;
         long_variables = long_all;
         threads = λ w stands. ap (λ n. n ∷ []) (thread_is w stands);
+        entered = λ w stands. entered_alike w stands;
         facts = λ w stands. region_facts w stands;
       }
 
@@ -392,17 +449,14 @@ among_counts : (states : List State) → Each StateWalks states → states_among
 among_counts [] walks = refl
 among_counts (s ∷ states) walks = omega (arith, walks.0.counts.states, among_counts states walks.1)
 
-sized_states : (states : List State) → Each StateWalks states → AllSized (pieces_of states)
-sized_states [] walks = tt
-sized_states (s ∷ states) walks = (walks.0.counts.sized, sized_states states walks.1)
-
 walk_states_of : (name : List ℕ) (s : State) (others : List State) → Each StateWalks (s ∷ others) → OnceInitial (pieces_of (s ∷ others)) →
+    HasInitial (pieces_of (s ∷ others)) →
     (flags : List Flags) (counter : Option ℕ) (numbers : Numbers) (a b : TablePosition) →
     RegionsWalk ((table_region_piece (record { name = name; states = pieces_of (s ∷ others) })).parts a)
     (table_region_piece (record { name = name; states = pieces_of (s ∷ others) })).states (a.region ∷ [])
     ((region_piece (record { name = name; states = expanded_pieces (s ∷ others) })).made flags counter numbers)
     ((region_piece (record { name = name; states = expanded_pieces (s ∷ others) })).variables (weak_around flags)) flags counter numbers a b
-walk_states_of name s others walks once flags counter numbers a b = walk_opened name s others walks once flags counter numbers a b
+walk_states_of name s others walks once has flags counter numbers a b = walk_opened name s others walks once has flags counter numbers a b
 
 abbrev RegionWalksBy : Piece → RegionPiece → Type 0
 RegionWalksBy p x =
@@ -410,13 +464,13 @@ RegionWalksBy p x =
     RegionsWalk (p.parts a) p.states (a.region ∷ []) (x.made flags counter numbers) (x.variables (weak_around flags)) flags counter numbers a b
 
 pub walk_region : (r : Region) (s : State) (others : List State) → (out-Region r).states ≡ s ∷ others → Each StateWalks (s ∷ others) →
-    OnceInitial (pieces_of (s ∷ others)) → RegionWalks r
-walk_region r s others some walks once =
+    OnceInitial (pieces_of (s ∷ others)) → HasInitial (pieces_of (s ∷ others)) → RegionWalks r
+walk_region r s others some walks once has =
     record {
       walks =
           subst (λ p. RegionWalksBy p (piece_of_region r)) (sym chart_is)
           (subst (RegionWalksBy (table_region_piece (record { name = (out-Region r).name; states = pieces_of (s ∷ others) }))) (sym core_is)
-          (walk_states_of (out-Region r).name s others walks once));
+          (walk_states_of (out-Region r).name s others walks once has));
       states = ap (λ p. p.states) core_is ∙ (among_counts (s ∷ others) walks ∙ sym (ap (λ p. p.states) chart_is));
       sized = subst IsSized (sym chart_is) (region_sized (record { name = (out-Region r).name; states = pieces_of (s ∷ others) }) (sized_states
           (s ∷ others) walks));

@@ -15,6 +15,8 @@ use Rattle.abort_expansion.specs.Pieces.{expanded_regions, variables_in, past_re
 use Rattle.abort_expansion.specs.Pieces.{states_in as expanded_states_in}
 use Rattle.abort_expansion.specs.Expansion.{piece_of_region}
 use Rattle.abort_expansion_laws.proofs.SideRows.{past_side, side_head, side_tail, side_first, side_second, states_append, sized_append, numbers_append}
+use Rattle.abort_expansion_laws.proofs.SideRows.{side_entered}
+use Rattle.abort_expansion_laws.proofs.EnteredAlike.{AreEntered, entered_both}
 use Rattle.abort_expansion_laws.proofs.Walked.{World, values_from, values_first, values_second, range_none, range_both, range_to}
 use Rattle.abort_expansion_laws.proofs.Walked.{StateFits, CoreStateFits, OwnerFits, i}
 use Rattle.abort_expansion_laws.proofs.Walks.{Part, Fits, Entries, RegionsStand, RegionsWalk, RegionWalks, SideWalks}
@@ -94,6 +96,7 @@ side_none flags counter numbers a b =
       long_owners = refl;
       long_variables = refl;
       threads = λ w stands. refl;
+      entered = λ w stands. (refl, refl);
       facts = λ w stands. fits_none w a.state b.state numbers.variable;
     }
 
@@ -167,6 +170,16 @@ module _ (r : Region) (regions : List Region) (walks : RegionWalks r) (rest_walk
         (ap (λ zs. zs ++ region_numbers qs (b.region + regions_in ps)) (own.threads w first) ∙
         (sym (numbers_append ps qs b.region) ∙ ap (λ zs. region_numbers zs b.region) (sym (map-append table_of_region one.regions more.regions))))
 
+    all_entered : AreEntered w.k w.core (i w) (region_numbers (p ∷ map table_of_region regions) a.region)
+        (side_by_side (p ∷ map table_of_region regions) a).entered (side_by_side (map table_of_region (one.regions ++ more.regions)) b).entered
+    all_entered =
+        subst
+        (AreEntered w.k w.core (i w) (region_numbers (p ∷ map table_of_region regions) a.region) (side_by_side (p ∷ map table_of_region regions) a).entered)
+        (sym (ap (λ zs. (side_by_side zs b).entered) (map-append table_of_region one.regions more.regions) ∙ side_entered ps qs b))
+        (entered_both w.k w.core (i w) (a.region ∷ []) (region_numbers (map table_of_region regions) (a.region + p.regions)) (p.parts a).entered
+        (side_by_side ps b).entered (side_by_side (map table_of_region regions) (behind p a)).entered (side_by_side qs (past_side ps b)).entered
+        (own.entered w first) (rest.entered w second))
+
     all_facts : Fits w a.state (a.state + states_in (p ∷ map table_of_region regions)) b.state
         (b.state + states_in (map table_of_region (one.regions ++ more.regions))) numbers.variable
         (numbers.variable + variables_in (weak_around flags) (map piece_of_region (r ∷ regions)))
@@ -194,6 +207,7 @@ module _ (r : Region) (regions : List Region) (walks : RegionWalks r) (rest_walk
         long_owners = omega (arith, length-append own.part.owners rest.part.owners, own.long_owners, rest.long_owners);
         long_variables = omega (arith, length-append one.variables more.variables, own.long_variables, rest.long_variables);
         threads = λ w stands. all_threads w stands;
+        entered = λ w stands. all_entered w stands;
         facts = λ w stands. all_facts w stands;
       }
 

@@ -193,6 +193,7 @@ module _ (name : List ℕ) (initial : Bool) (all : List Transition) (plain : (ha
           behind_past = λ super stay. absurd (super none);
           numbered = ([], (0, none));
           few = subst (λ zs. length zs < 2147483648) (sym none) (omega arith);
+          opens = λ super. absurd (super none);
         }
 
     one_fits : (final : Bool) → Stands final → Fits w a.state (a.state + (chart_piece final).states) b.state
@@ -223,6 +224,7 @@ module _ (name : List ℕ) (initial : Bool) (all : List Transition) (plain : (ha
         wide = refl;
         first = (core_one final, ([], refl));
         stands = ([], refl);
+        begun = λ certain. one_begins name begins final (core_all final) ∙ certain;
         not_initial = λ denied. (one_begins name begins final (core_all final) ∙ denied, tt);
         one_initial = (λ e. tt, tt);
         final_is = λ w holds. final_is final w holds;

@@ -66,6 +66,7 @@ module _ (name : List ℕ) (initial : Bool) (r : Region) (others : List Region) 
         wide = refl;
         first = (_, (_, refl));
         stands = (_, refl);
+        begun = λ certain. forks.fork_begins name initial r others all walks flags places numbers a b next place begins b.state ∙ certain;
         not_initial = forks.not_initial name initial r others all walks flags places numbers a b next place begins b.state;
         one_initial = forks.one_initial name initial r others all walks flags places numbers a b next place begins b.state;
         final_is = λ w holds. forks.not_ends name initial r others all walks flags places numbers a b next place begins b.state w holds;
@@ -194,6 +195,7 @@ module _ (name : List ℕ) (initial : Bool) (r : Region) (others : List Region) 
         wide = refl;
         first = (_, (_, refl));
         stands = (_, refl);
+        begun = λ certain. first_begins ∙ certain;
         not_initial = λ denied. (first_begins ∙ denied, none_later);
         one_initial = (
           λ initial. none_later,

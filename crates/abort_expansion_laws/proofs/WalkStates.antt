@@ -1,6 +1,6 @@
 -- The states of a region, walked over one after the other.
 use Rattle.std.proofs.Common.{◌≡◌, ℕ, suc, ◌+◌, Bool, true, false, not, ◌&&◌, Option, Some, List, [], ◌∷◌, ◌++◌, map, length, slice_get}
-use Rattle.std.proofs.Common.{refl, sym, ap, subst, ◌∙◌, arith}
+use Rattle.std.proofs.Common.{⊎_elim, refl, sym, ap, subst, ◌∙◌, arith}
 use Rattle.std.proofs.lemmas.List.{length-append, map-append, append_assoc}
 use Rattle.sc_text.proofs.EachItem.{Each}
 use Rattle.core_charts.specs.declared.region.State.{State}
@@ -21,7 +21,8 @@ use Rattle.abort_expansion_laws.specs.CoreRows.{is_final}
 use Rattle.abort_expansion_laws.proofs.InRegionRows.{InRegionAt, first_holds, rest_holds, more_hold, spot_of, next_past, none_append, once_append, none_once}
 use Rattle.abort_expansion_laws.proofs.SideRows.{states_append, sized_append}
 use Rattle.abort_expansion_laws.proofs.Walked.{World, InRegion}
-use Rattle.abort_expansion_laws.proofs.Walks.{Part, Fits, Entries, StateStands, StateWalk, StateWalks, pieces_of}
+use Rattle.abort_expansion_laws.proofs.Walks.{Part, Fits, Entries, StateStands, StateWalk, StateWalks, pieces_of, FirstInitial}
+use Rattle.abort_expansion_laws.proofs.InitialStates.{initial_at, HasInitial, has_first, has_right, at_first, at_later}
 use Rattle.abort_expansion_laws.proofs.WalkSide.{fits_none, fits_both, fits_to, entries_first, entries_second}
 
 abbrev pub expanded_pieces : List State → List StatePiece
@@ -65,6 +66,11 @@ pub record StatesWalk (states : List State) (anew : Bool) (made : States) (flags
   pub anew_none : anew ≡ true → NoneInitial (pieces_of made.states)
   pub one_initial : OnceInitial (pieces_of states) → OnceInitial (pieces_of made.states)
   pub stands : BeginsWith numbers.state states made.stands_for
+  -- the initial state is initial still, unless another one was put before it
+  pub begun : anew ≡ false → HasInitial (pieces_of states) → HasInitial (pieces_of made.states)
+  pub begins_at : anew ≡ false → HasInitial (pieces_of states) → (w : World) (more : List Piece) →
+      StatesStand w states made place numbers a b next core_next more part →
+      initial_at (pieces_of made.states ++ more) b.state ≡ (w.image (initial_at (pieces_of states) a.state)).entry
   pub first : (w : World) (more : List Piece) → StatesStand w states made place numbers a b next core_next more part →
       FirstFits w b.holder to (state_numbers (pieces_of states) a.state)
   pub places_are : (w : World) (more : List Piece) → StatesStand w states made place numbers a b next core_next more part →
@@ -144,6 +150,8 @@ walk_none anew flags to place numbers a b next core_next =
       anew_none = λ h. tt;
       one_initial = λ h. tt;
       stands = tt;
+      begun = λ e has. absurd has;
+      begins_at = λ e has. absurd has;
       first = λ w more stands. tt;
       places_are = λ w more stands. tt;
       facts = λ w more stands region. fits_none w a.state b.state numbers.variable;
@@ -205,6 +213,17 @@ module _ (anew : Bool) (s : State) (states : List State) (walks : StateWalks s) 
 
   pieces_are : pieces_of made.states ≡ ps ++ qs
   pieces_are = map-append table_of_state one.states more_states.states
+
+  begins_own : anew ≡ false → p.is_initial ≡ true → FirstInitial ps
+  begins_own kept certain = own.begun (rw (walks.counts.initial, certain, kept) refl)
+
+  -- where the first one is not initial, another one is
+  later_has : p.is_initial ≡ false → HasInitial (p ∷ pieces_of states) → HasInitial (pieces_of states)
+  later_has denied has = ⊎_elim (λ first. let wrong : false ≡ true = sym denied ∙ first in absurd cc) (λ later. later) has
+
+  begins_here : anew ≡ false → HasInitial (p ∷ pieces_of states) → (z : Bool) → p.is_initial ≡ z → HasInitial (ps ++ qs)
+  begins_here kept has true certain = has_first ps qs (begins_own kept certain)
+  begins_here kept has false denied = has_right ps qs (rest.begun kept (later_has denied has))
 
   module _ (w : World) (more : List Piece) (stands : StatesStand w (s ∷ states) made place numbers a b next core_next more part) where
     all_pieces : pieces_of made.states ++ more ≡ ps ++ (qs ++ more)
@@ -275,6 +294,18 @@ module _ (anew : Bool) (s : State) (states : List State) (walks : StateWalks s) 
         (stand_first (region_at w.core b.holder).states place (state_numbers ps b.state) (state_numbers qs rest_core.state) all_placed) own.first ∙
         ap Some (sym own.entry ∙ sym (ap (λ z. z.entry) img))
 
+    begins_where : anew ≡ false → HasInitial (p ∷ pieces_of states) → (z : Bool) → p.is_initial ≡ z →
+        initial_at (pieces_of made.states ++ more) b.state ≡ (w.image (initial_at (p ∷ pieces_of states) a.state)).entry
+    begins_where kept has true certain =
+        rw (certain)
+        (ap (λ zs. initial_at zs b.state) all_pieces ∙
+        (at_first ps (qs ++ more) b.state (begins_own kept certain) ∙ (sym own.entry ∙ sym (ap (λ z. z.entry) img))))
+    begins_where kept has false denied =
+        rw (denied)
+        (ap (λ zs. initial_at zs b.state) all_pieces ∙
+        (at_later ps (qs ++ more) b.state (own.not_initial (not_begins x.is_initial anew (walks.counts.initial ∙ denied))) ∙
+        rest.begins_at kept (later_has denied has) w more second))
+
     all_facts : InRegion w a b flags to → Fits w a.state (a.state + states_in (p ∷ pieces_of states)) b.state (b.state + states_in (pieces_of made.states))
         numbers.variable (numbers.variable + variables_among (weak_around flags) (expanded_pieces (s ∷ states)))
     all_facts region =
@@ -308,6 +339,8 @@ module _ (anew : Bool) (s : State) (states : List State) (walks : StateWalks s) 
             (once_both begins ps qs own.not_initial own.one_initial
             (λ certain. rest.none (h.0 (sym walks.counts.initial ∙ only_initial x.is_initial anew certain))) (rest.one_initial h.1));
         stands = (own.stands.0 ++ more_states.stands_for, ap (λ zs. zs ++ more_states.stands_for) own.stands.1);
+        begun = λ kept has. subst HasInitial (sym pieces_are) (begins_here kept has p.is_initial refl);
+        begins_at = λ kept has w more stands. begins_where w more stands kept has p.is_initial refl;
         first = λ w more stands. (
           ap (λ z. holder w.core z.main) (img w more stands) ∙ own.held_core w (qs ++ more) (core_rows w more stands) (once w more stands),
           ap (λ z. z.places) (img w more stands) ∙ own.placed,

@@ -41,6 +41,7 @@ use Rattle.abort_expansion_laws.proofs.WalkSimple.{state_there, located}
 use Rattle.abort_expansion_laws.proofs.RowsOfForks.{some_regions, super_row}
 use Rattle.abort_expansion_laws.proofs.FlagOwners.{weak_inside}
 use Rattle.abort_expansion_laws.proofs.AddedMonitors.{first_around, numbers_many}
+use Rattle.abort_expansion_laws.proofs.EnteredAlike.{AreEntered, unwatched, OpensAlike}
 
 -- ---- who stays has no aborts, and none are around it
 
@@ -272,6 +273,25 @@ module _ (name : List ℕ) (initial : Bool) (r : Region) (others : List Region) 
           declared = λ x is. absurd (no_flag x (subst (λ z. IsFlag z x) (ap (λ z. z.flags) img) is));
         }
 
+    no_aborts : has_aborts (own w.k a.state) ≡ false
+    no_aborts = rw (loc.own_is, none.strong, none.weak) refl
+
+    abbrev entered_inside : List Move
+    entered_inside = (side_by_side ps (table_within spot)).entered
+
+    opens_alike : OpensAlike w.k w.core (images_of w) a.state
+    opens_alike =
+        record {
+          inner = entered_inside;
+          regions =
+              subst (λ zs. AreEntered w.k w.core (images_of w) zs (state_at w.k a.state).opened entered_inside) (sym regions_row)
+              (subst (λ moves. AreEntered w.k w.core (images_of w) (region_numbers (map table_of_region regions) a.region) moves entered_inside)
+              (sym (ap (λ z. z.opened) stands.chart.states.0)) (inner.entered w inner_stands));
+          fork =
+              ap (λ n. (state_at w.core n).opened) main_is ∙
+              (ap (λ z. z.opened) fork_rows.states.0 ∙ unwatched w.k w.core (images_of w) a.state entered_inside no_aborts);
+        }
+
     stays_there : stays (Rattle.abort_expansion_laws.proofs.Walked.around_flags w (holder w.k a.state)) (own w.k a.state) ≡ true
     stays_there = rw (loc.flags_are, loc.own_is) stay
 
@@ -289,8 +309,7 @@ module _ (name : List ℕ) (initial : Bool) (r : Region) (others : List Region) 
           split = λ is differs. let wrong : true ≡ false = sym stays_there ∙ differs in absurd cc;
           split_mapped = λ is differs. let wrong : true ≡ false = sym stays_there ∙ differs in absurd cc;
           watcher = λ is has.
-              let denied : has_aborts all ≡ false = rw (none.strong, none.weak) refl in
-              let wrong : true ≡ false = sym (subst (λ z. has_aborts z ≡ true) loc.own_is has) ∙ denied in absurd cc;
+              let wrong : true ≡ false = sym has ∙ no_aborts in absurd cc;
           watches = λ is. rw (img, loc.thread_is, stands.region.around_core)
               (first_around inside.regions w.core (table_within spot) _ _ (sym threads) inner_stands.core);
           flags = λ is. flags_fit;
@@ -299,6 +318,7 @@ module _ (name : List ℕ) (initial : Bool) (r : Region) (others : List Region) 
           behind_past = λ is same. ap (λ z. behind_by w z a.state) img;
           numbered = (regions, (a.region, regions_row));
           few = subst (λ n. n < 2147483648) (sym (ap length regions_row ∙ numbers_many regions a.region)) few;
+          opens = λ is. opens_alike;
         }
 
     staying_fits : Fits w a.state (a.state + chart_piece.states) b.state (b.state + states_in (pieces_of made.states)) numbers.variable
@@ -337,6 +357,7 @@ module _ (name : List ℕ) (initial : Bool) (r : Region) (others : List Region) 
         wide = refl;
         first = (core_state, ([], refl));
         stands = (inside.stands_for, refl);
+        begun = λ certain. core_begins ∙ certain;
         not_initial = λ denied. (core_begins ∙ denied, tt);
         one_initial = (λ e. tt, tt);
         final_is = λ w holds. not_ends w holds;

@@ -16,6 +16,7 @@ use Rattle.abort_expansion.specs.Superstates.{stays, monitor_transitions}
 use Rattle.chart_machine_laws.specs.Tree.{IsThere, around, holder}
 use Rattle.abort_expansion_laws.specs.CoreRows.{own, IsState, is_final, IsSuper, IsSimple, simple_row, Images, flags_around}
 use Rattle.abort_expansion_laws.specs.CoreRows.{RegionImage, SimpleImage, FinalImage, StayingImage, SplitImage}
+use Rattle.abort_expansion_laws.proofs.EnteredAlike.{OpensAlike}
 
 -- what stands for a state, with the places of the states of its region
 pub record StateImage : Type 0 where
@@ -174,6 +175,8 @@ module _ (w : World) where
     -- the numbers of its regions
     pub numbered : (regions : List Region) × ((n : ℕ) × ((state_at w.k s).regions ≡ region_numbers (map table_of_region regions) n))
     pub few : length (state_at w.k s).regions < 2147483648
+    -- what is entered with it
+    pub opens : IsSuper w.k s → OpensAlike w.k w.core i s
 
   -- each thread of the core is that of a region, or a monitor's
   pub data Origin (t : ℕ) : Type 0 where

@@ -15,7 +15,8 @@ use Rattle.abort_expansion.specs.Flags.{weak_around}
 use Rattle.abort_expansion.specs.Pieces.{variables_in}
 use Rattle.abort_expansion.specs.Expansion.{expanded, expansion, state_map, piece_of_region, whole as first_numbers}
 use Rattle.abort_expansion.specs.StateMap.{chart_state}
-use Rattle.abort_expansion_laws.proofs.Walked.{World, StateImage, no_flags, nowhere, ValuesAt}
+use Rattle.abort_expansion_laws.proofs.Walked.{World, StateImage, no_flags, nowhere, ValuesAt, images_of}
+use Rattle.abort_expansion_laws.proofs.EnteredAlike.{AreEntered}
 use Rattle.abort_expansion_laws.proofs.Walks.{Fits, RegionsStand, RegionsWalk, RegionWalks}
 use Rattle.abort_expansion_laws.proofs.WalkSide.{walk_side, sized_side}
 use Rattle.abort_expansion_laws.proofs.ChartWalk.{regions_walk}
@@ -95,6 +96,11 @@ module _ (c : Chart) (rules : IsChart features.Extended c) where
   pub facts : Fits world 0 (0 + states_in (map table_of_region c.regions)) 0 (0 + states_in (map table_of_region (expansion c).regions)) (length c.variables)
       (length c.variables + variables_in (weak_around []) (map piece_of_region c.regions))
   facts = top.facts world stands
+
+  -- the first tick enters the regions of the chart, and those of its core chart
+  pub entered : AreEntered (table c) (table (expanded c)) (images_of world) (region_numbers (map table_of_region c.regions) 1) (table c).opened
+      (table (expanded c)).opened
+  entered = top.entered world stands
 
   -- so many states and variables there are
   pub chart_size : length (table c).states ≡ states_in (map table_of_region c.regions)

@@ -1,5 +1,5 @@
 -- What a walk over a chart and its core chart gives, of states and of regions, wherever they stand.
-use Rattle.std.proofs.Common.{◌≡◌, ℕ, ◌+◌, ◌≤◌, Bool, false, Option, Some, List, [], ◌∷◌, ◌++◌, map, length}
+use Rattle.std.proofs.Common.{◌≡◌, ℕ, ◌+◌, ◌≤◌, Bool, true, false, Option, Some, List, [], ◌∷◌, ◌++◌, map, length}
 use Rattle.std.specs.Prelude.{reverse}
 use Rattle.core_charts.specs.declared.region.Region.{Region}
 use Rattle.core_charts.specs.declared.region.State.{State}
@@ -21,12 +21,18 @@ use Rattle.abort_expansion.specs.Pieces.{StatePiece, expanded_regions, variables
 use Rattle.abort_expansion.specs.Expansion.{piece_of_region, piece_of_state}
 use Rattle.abort_expansion_laws.specs.CoreRows.{is_final, counter_over}
 use Rattle.abort_expansion_laws.proofs.InRegionRows.{InRegionAt}
+use Rattle.abort_expansion_laws.proofs.EnteredAlike.{AreEntered}
 use Rattle.abort_expansion_laws.proofs.Walked.{World, StateImage, ValuesAt, Range, StateFits, CoreStateFits, OwnerFits, InRegion, i}
 
 -- what stands for some states in the order of the text, and the superstates of their flags
 pub record Part : Type 0 where
   pub states : List StateImage
   pub owners : List ℕ
+
+-- the first of these is initial
+abbrev pub FirstInitial : List Piece → Type 0
+FirstInitial [] = ⊥
+FirstInitial (p ∷ pieces) = p.is_initial ≡ true
 
 abbrev pub pieces_of : List State → List Piece
 pieces_of states = map table_of_state states
@@ -82,6 +88,7 @@ pub record StateWalk (p : Piece) (made : States) (variables : ℕ) (final : Bool
   pub wide : length made.states ≡ width
   pub first : (s : State) × ((more : List State) × (made.states ≡ s ∷ more))
   pub stands : (more : List (Option ℕ)) × (made.stands_for ≡ Some numbers.state ∷ more)
+  pub begun : begins ≡ true → FirstInitial (pieces_of made.states)
   pub not_initial : begins ≡ false → NoneInitial (pieces_of made.states)
   pub one_initial : OnceInitial (pieces_of made.states)
   pub final_is : (w : World) → Holds w.k a (p.parts a) → is_final w.k a.state ≡ final
@@ -120,6 +127,8 @@ pub record RegionsWalk (chart : SubtreeRows) (states : ℕ) (chart_numbers : Lis
   pub long_variables : length made.variables ≡ variables
   pub threads : (w : World) → RegionsStand w chart made flags counter numbers a b part →
       map (i w).thread_of chart_numbers ≡ region_numbers (map table_of_region made.regions) b.region
+  pub entered : (w : World) → RegionsStand w chart made flags counter numbers a b part →
+      AreEntered w.k w.core (i w) chart_numbers chart.entered (side_by_side (map table_of_region made.regions) b).entered
   pub facts : (w : World) → RegionsStand w chart made flags counter numbers a b part →
       Fits w a.state (a.state + states) b.state (b.state + states_in (map table_of_region made.regions)) numbers.variable (numbers.variable + variables)
 

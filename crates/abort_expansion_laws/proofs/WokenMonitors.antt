@@ -46,7 +46,7 @@ module _ (k core : Table) (i : Images) (rows : CoreRows k core i) (flat : FlatRo
       by_flag (Some x) e =
           let wrong : true ≡ false = sym (some (has_strong (own k s)) (has_weak (own k s)) (more_rows.weak_for s x e)) ∙ none in absurd cc
 
-  transitions_are : (state_at core (i.watching_of o)).transitions ≡
+  pub transitions_are : (state_at core (i.watching_of o)).transitions ≡
       raising (λ t. false) 1 (i.flags_of o).strong 1 (strong_aborts (own k o))
       ++ (raising (λ t. t.immediate) 1 (i.flags_of o).weak 1 (weak_aborts (own k o)) ++ all_ended (i.flags_of o).counter)
   transitions_are =
