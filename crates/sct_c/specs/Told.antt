@@ -9,7 +9,7 @@ use Rattle.embedded_machine.specs.declared.fault.MachineFault.TheVariants as fau
 use Rattle.embedded_machine.specs.Refusals.{names_out, states_out}
 use Rattle.embedded_machine.specs.Ticks.{Holds, IsFirst, Resting, SpellValid}
 use Rattle.embedded_texts.specs.Texts.{IsNoImageOf, IsOpenedText}
-use Rattle.sct_c.specs.declared.lib.Counts.{Counts}
+use Rattle.sct_c.specs.declared.Counts.{Counts}
 
 -- the status of each reason for which a machine refuses, as the header has them
 abbrev pub status_of : MachineFault → ℤ
