@@ -1,9 +1,9 @@
 -- What functions that note flaws and look up names say of themselves. It is proved, and no contract of a whole text rests
 -- on what it means.
-use Rattle.std.specs.Prelude.{ℕ, ◌≡◌, Bool, true, false, Option, Some, None, List, [], ◌∷◌, if◌then◌else◌}
-use Rattle.std.specs.Str.{bytes_eq}
-use Rattle.std.specs.BTreeMap.{get}
-use Rattle.std.specs.Cmp.Lexicographic.{slice_cmp}
+use Rattle.std.specs.Prelude.{ℕ, ◌≡◌, Option, Some, None, List, [], ◌∷◌, if◌then◌else◌, nat_eq}
+use Rattle.std.specs.BTreeMap as tree
+use Rattle.std.specs.HashMap as hash
+use Rattle.std.specs.Cmp.Lexicographic.{pointwise, slice_cmp}
 use Rattle.std.specs.Ordering.{nat_cmp}
 use Rattle.drafts.specs.declared.flaw.Flaw.{Flaw}
 use Rattle.drafts.specs.declared.index.Index.{Index}
@@ -23,11 +23,11 @@ first_behind found (f ∷ flaws) = first_behind (Some (earlier found f)) flaws
 
 -- ---- tables of names
 
+-- what the first of two tables has, or else the second
+abbrev pub first_place : Option ℕ → Option ℕ → Option ℕ
+first_place (Some p) other = Some p
+first_place None other = other
+
 -- at each name stands its place among these
 pub record IsIndex (names : List (List ℕ)) (index : Index) : Type 0 where
-  pub places : (q : List ℕ) → get (slice_cmp nat_cmp) index.places q ≡ place_among names q
-
--- what a table has at q, once it has a name at this place where it had none
-abbrev pub with_name : List ℕ → ℕ → Option ℕ → List ℕ → Option ℕ
-with_name name at (Some p) q = Some p
-with_name name at None q = if bytes_eq name q then Some at else None
+  pub places : (q : List ℕ) → first_place (hash.get (pointwise nat_eq) index.hashed q) (tree.get (slice_cmp nat_cmp) index.ordered q) ≡ place_among names q

@@ -1,42 +1,48 @@
 //! Names, looked up in a table that is made once.
 
-ghost use Rattle.std.specs.Prelude.{◌≡◌, ℕ, List, IfOk, OnOk};
-ghost use Rattle.std.specs.BTreeMap.{get};
-ghost use Rattle.std.specs.Cmp.Lexicographic.{slice_cmp};
+ghost use Rattle.std.specs.Prelude.{◌≡◌, ℕ, List, IfOk, nat_eq};
+ghost use Rattle.std.specs.BTreeMap as tree;
+ghost use Rattle.std.specs.HashMap as hash;
+ghost use Rattle.std.specs.Cmp.Lexicographic.{pointwise, slice_cmp};
 ghost use Rattle.std.specs.Ordering.{nat_cmp};
 ghost use Rattle.drafts.specs.Flaws.{place_among, is_among, is_at, is_repeated};
-ghost use Rattle.drafts.specs.Inside.{IsIndex, with_name};
+ghost use Rattle.drafts.specs.Inside.{IsIndex};
 
+use crate::crowding::is_crowded;
 use sc_values::Name;
 use std::alloc::{AllocError, Global};
-use std::collections::BTreeMap;
+use std::collections::{BTreeMap, HashMap};
 
-/// Some names, each with its place among them.
+/// Some names, each with its place among them. They stand in one of two tables, and none in the other.
 #[derive(Drop)]
 pub struct Index {
-    places: BTreeMap<Name, usize>,
+    hashed: HashMap<Name, usize>,
+    ordered: BTreeMap<Name, usize>,
 }
 
 impl Index {
     /// The table of these names. Err: memory was refused.
-    #[tactic(auto, using(crate::proofs::Indexed::place_in_more))]
+    #[tactic(auto, using(crate::proofs::Indexed::hashed_alone, crate::proofs::Indexed::ordered_alone))]
     pub fn of(alloc: Global, names: &[Name]) -> Result<Index, AllocError>
         ensures { IfOk result (λ index. IsIndex names.now index) }
     {
-        let mut places = BTreeMap::new(alloc);
-        for at in 0..names.len() {
-            note(&mut places, names[at], at)?;
+        if is_crowded(alloc, names)? {
+            let ordered = in_order(alloc, names)?;
+            let hashed = HashMap::new(alloc);
+            return Ok(Index { hashed, ordered });
         }
-        Ok(Index { places })
+        let hashed = by_hash(alloc, names)?;
+        let ordered = BTreeMap::new(alloc);
+        Ok(Index { hashed, ordered })
     }
 
     /// Which of the names this is: the first of them that is equal. None: it is none of them.
     pub fn place(&self, name: Name) -> Option<usize>
         ensures { (names : List (List ℕ)) → IsIndex names self.now → result ≡ place_among names name }
     {
-        match self.places.get(&name) {
+        match self.hashed.get(&name) {
             Some(at) => Some(*at),
-            None => None,
+            None => self.ordered.get(&name).copied(),
         }
     }
 
@@ -64,15 +70,28 @@ fn is_at(at: usize, place: Option<usize>) -> bool
     }
 }
 
-// Puts a name at this place, where it has none yet.
-#[tactic(auto, using(crate::proofs::Indexed::noted, crate::proofs::Indexed::kept))]
-fn note(places: &mut BTreeMap<Name, usize>, name: Name, at: usize) -> Result<(), AllocError>
-    ensures { OnOk result ((q : List ℕ) → get (slice_cmp nat_cmp) places.new q ≡ with_name name at
-        (get (slice_cmp nat_cmp) places.old q) q) }
+// Of equal names the first has the last word, so the last goes in first.
+fn by_hash(alloc: Global, names: &[Name]) -> Result<HashMap<Name, usize>, AllocError>
+    ensures { IfOk result (λ places. (q : List ℕ) → hash.get (pointwise nat_eq) places q ≡ place_among names.now q) }
 {
-    if places.contains_key(&name) {
-        return Ok(());
+    let mut hashed = HashMap::with_capacity(alloc, names.len())?;
+    let mut left = names.len();
+    while left > 0 {
+        left -= 1;
+        hashed.insert(names[left], left)?;
     }
-    places.insert(name, at)?;
-    Ok(())
+    Ok(hashed)
+}
+
+// The same in a table that nobody can crowd.
+fn in_order(alloc: Global, names: &[Name]) -> Result<BTreeMap<Name, usize>, AllocError>
+    ensures { IfOk result (λ places. (q : List ℕ) → tree.get (slice_cmp nat_cmp) places q ≡ place_among names.now q) }
+{
+    let mut ordered = BTreeMap::new(alloc);
+    let mut left = names.len();
+    while left > 0 {
+        left -= 1;
+        ordered.insert(names[left], left)?;
+    }
+    Ok(ordered)
 }

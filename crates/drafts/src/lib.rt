@@ -3,6 +3,7 @@
 //! parts of a text mean, `specs/Flaws` which flaws they have, and `specs/First` which flaw of a draft is told.
 #![tactic(auto)]
 
+mod crowding;
 mod flaw;
 mod heights;
 mod index;

@@ -19,6 +19,9 @@ pub(crate) fn note_lost(
 ) -> Result<(), AllocError>
     ensures { OnOk result (first.new ≡ first_behind first.old (lost (names labels.now) gotos.now)) }
 {
+    if gotos.is_empty() {
+        return Ok(());
+    }
     let names = names(alloc, labels)?;
     let index = Index::of(alloc, names.as_slice())?;
     for target in gotos {
