@@ -1,9 +1,16 @@
 -- Names in a table, put there from the last to the first.
-use Rattle.std.proofs.Common.{◌≡◌, ℕ, suc, ◌+◌, ◌-◌, ◌<◌, ◌≤◌, Bool, true, false, cond, Option, Some, None, List, drop, length, slice_get, refl, sym, ◌∙◌, ap, arith}
-use Rattle.std.specs.Prelude.{option_map}
+use Rattle.std.proofs.Common.{◌≡◌, ℕ, suc, ◌+◌, ◌-◌, ◌<◌, Bool, true, false, cond, Option, Some, None, List, [], drop, slice_get, refl, sym, ◌∙◌, ap, arith}
+use Rattle.std.specs.Prelude.{option_map, nat_eq}
 use Rattle.std.specs.Str.{bytes_eq}
+use Rattle.std.specs.BTreeMap as tree
+use Rattle.std.specs.HashMap as hash
+use Rattle.std.specs.Map.{lookup}
+use Rattle.std.specs.Cmp.Lexicographic.{pointwise, slice_cmp}
+use Rattle.std.specs.Ordering.{nat_cmp, is_eq}
+use Rattle.drafts.specs.declared.index.Index.{Index}
+use Rattle.drafts.specs.Inside.{IsIndex, first_place}
 use Rattle.drafts.specs.Flaws.{first_or, place_among}
-use Rattle.drafts.proofs.Flawed.{drop_is, drop_past}
+use Rattle.drafts.proofs.Flawed.{drop_is}
 
 -- the place of a name among those from this place on
 abbrev pub place_from : ℕ → List (List ℕ) → List ℕ → Option ℕ
@@ -26,14 +33,18 @@ one_before f g names left name some is was more q =
     ∙ first (left - 1) (bytes_eq name q) (place_among (drop ((left - 1) + 1) names) q)
     ∙ ap (λ some. option_map (λ p. (left - 1) + p) (place_among some q)) (sym (drop_is names (left - 1) name is))
 
--- none stands behind the last one
-pub none_behind : (names : List (List ℕ)) (at : ℕ) (q : List ℕ) → length names ≤ at → place_from at names q ≡ None
-none_behind names at q past = ap (λ some. option_map (λ p. at + p) (place_among some q)) (drop_past names at past)
+-- ---- all names in one of two tables
 
-from_zero : (place : Option ℕ) → option_map (λ p. 0 + p) place ≡ place
-from_zero None = refl
-from_zero (Some p) = ap Some (omega arith)
+first_alone : (o other : Option ℕ) → other ≡ None → first_place o other ≡ o
+first_alone None other e = e
+first_alone (Some p) other e = refl
 
--- all stand from the front on
-pub all_behind : (names : List (List ℕ)) (q : List ℕ) → place_from 0 names q ≡ place_among names q
-all_behind names q = from_zero (place_among names q)
+pub hashed_alone : (names : List (List ℕ)) (index : Index) → index.ordered.entries ≡ [] → ((q : List ℕ) → hash.get (pointwise nat_eq) index.hashed q ≡ place_among names q) → IsIndex names index
+hashed_alone names index bare is = record {
+  places = λ q. first_alone (hash.get (pointwise nat_eq) index.hashed q) (tree.get (slice_cmp nat_cmp) index.ordered q) (ap (lookup (λ k. is_eq (slice_cmp nat_cmp q k))) bare) ∙ is q;
+}
+
+pub ordered_alone : (names : List (List ℕ)) (index : Index) → index.hashed.entries ≡ [] → ((q : List ℕ) → tree.get (slice_cmp nat_cmp) index.ordered q ≡ place_among names q) → IsIndex names index
+ordered_alone names index bare is = record {
+  places = λ q. ap (λ o. first_place o (tree.get (slice_cmp nat_cmp) index.ordered q)) (ap (lookup (pointwise nat_eq q)) bare) ∙ is q;
+}

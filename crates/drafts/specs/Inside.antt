@@ -7,8 +7,6 @@ use Rattle.std.specs.Cmp.Lexicographic.{pointwise, slice_cmp}
 use Rattle.std.specs.Ordering.{nat_cmp}
 use Rattle.drafts.specs.declared.flaw.Flaw.{Flaw}
 use Rattle.drafts.specs.declared.index.Index.{Index}
-use Rattle.drafts.specs.declared.index.Places.{Places}
-use Rattle.drafts.specs.declared.index.Places.TheVariants as table
 use Rattle.drafts.specs.Flaws.{place_among}
 use Rattle.drafts.specs.First.{comes_before}
 
@@ -25,11 +23,11 @@ first_behind found (f ∷ flaws) = first_behind (Some (earlier found f)) flaws
 
 -- ---- tables of names
 
--- the place that a table has at a name
-abbrev pub place_in : Places → List ℕ → Option ℕ
-place_in (table.ByHash places) q = hash.get (pointwise nat_eq) places q
-place_in (table.InOrder places) q = tree.get (slice_cmp nat_cmp) places q
+-- what the first of two tables has, or else the second
+abbrev pub first_place : Option ℕ → Option ℕ → Option ℕ
+first_place (Some p) other = Some p
+first_place None other = other
 
 -- at each name stands its place among these
 pub record IsIndex (names : List (List ℕ)) (index : Index) : Type 0 where
-  pub places : (q : List ℕ) → place_in index.places q ≡ place_among names q
+  pub places : (q : List ℕ) → first_place (hash.get (pointwise nat_eq) index.hashed q) (tree.get (slice_cmp nat_cmp) index.ordered q) ≡ place_among names q

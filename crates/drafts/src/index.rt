@@ -1,59 +1,48 @@
 //! Names, looked up in a table that is made once.
 
-ghost use Rattle.std.specs.Prelude.{◌≡◌, ℕ, List, IfOk};
+ghost use Rattle.std.specs.Prelude.{◌≡◌, ℕ, List, IfOk, nat_eq};
+ghost use Rattle.std.specs.BTreeMap as tree;
+ghost use Rattle.std.specs.HashMap as hash;
+ghost use Rattle.std.specs.Cmp.Lexicographic.{pointwise, slice_cmp};
+ghost use Rattle.std.specs.Ordering.{nat_cmp};
 ghost use Rattle.drafts.specs.Flaws.{place_among, is_among, is_at, is_repeated};
-ghost use Rattle.drafts.specs.Inside.{IsIndex, place_in};
+ghost use Rattle.drafts.specs.Inside.{IsIndex};
 
 use crate::crowding::is_crowded;
 use sc_values::Name;
 use std::alloc::{AllocError, Global};
 use std::collections::{BTreeMap, HashMap};
 
-/// Some names, each with its place among them.
+/// Some names, each with its place among them. They stand in one of two tables, and none in the other.
 #[derive(Drop)]
 pub struct Index {
-    places: Places,
-}
-
-// By their hash, or where too many have alike ones, in their order.
-enum Places {
-    ByHash(HashMap<Name, usize>),
-    InOrder(BTreeMap<Name, usize>),
-}
-
-impl Drop for Places {
-    fn drop(self) {
-        match self {
-            Places::ByHash(places) => drop(places),
-            Places::InOrder(places) => drop(places),
-        }
-    }
+    hashed: HashMap<Name, usize>,
+    ordered: BTreeMap<Name, usize>,
 }
 
 impl Index {
     /// The table of these names. Err: memory was refused.
+    #[tactic(auto, using(crate::proofs::Indexed::hashed_alone, crate::proofs::Indexed::ordered_alone))]
     pub fn of(alloc: Global, names: &[Name]) -> Result<Index, AllocError>
         ensures { IfOk result (λ index. IsIndex names.now index) }
     {
-        let places = if is_crowded(alloc, names)? {
-            in_order(alloc, names)?
-        } else {
-            by_hash(alloc, names)?
-        };
-        Ok(Index { places })
+        if is_crowded(alloc, names)? {
+            let ordered = in_order(alloc, names)?;
+            let hashed = HashMap::new(alloc);
+            return Ok(Index { hashed, ordered });
+        }
+        let hashed = by_hash(alloc, names)?;
+        let ordered = BTreeMap::new(alloc);
+        Ok(Index { hashed, ordered })
     }
 
     /// Which of the names this is: the first of them that is equal. None: it is none of them.
     pub fn place(&self, name: Name) -> Option<usize>
         ensures { (names : List (List ℕ)) → IsIndex names self.now → result ≡ place_among names name }
     {
-        let found = match &self.places {
-            Places::ByHash(places) => places.get(&name),
-            Places::InOrder(places) => places.get(&name),
-        };
-        match found {
+        match self.hashed.get(&name) {
             Some(at) => Some(*at),
-            None => None,
+            None => self.ordered.get(&name).copied(),
         }
     }
 
@@ -82,27 +71,27 @@ fn is_at(at: usize, place: Option<usize>) -> bool
 }
 
 // Of equal names the first has the last word, so the last goes in first.
-fn by_hash(alloc: Global, names: &[Name]) -> Result<Places, AllocError>
-    ensures { IfOk result (λ places. (q : List ℕ) → place_in places q ≡ place_among names.now q) }
+fn by_hash(alloc: Global, names: &[Name]) -> Result<HashMap<Name, usize>, AllocError>
+    ensures { IfOk result (λ places. (q : List ℕ) → hash.get (pointwise nat_eq) places q ≡ place_among names.now q) }
 {
-    let mut places = HashMap::with_capacity(alloc, names.len())?;
+    let mut hashed = HashMap::with_capacity(alloc, names.len())?;
     let mut left = names.len();
     while left > 0 {
         left -= 1;
-        places.insert(names[left], left)?;
+        hashed.insert(names[left], left)?;
     }
-    Ok(Places::ByHash(places))
+    Ok(hashed)
 }
 
 // The same in a table that nobody can crowd.
-fn in_order(alloc: Global, names: &[Name]) -> Result<Places, AllocError>
-    ensures { IfOk result (λ places. (q : List ℕ) → place_in places q ≡ place_among names.now q) }
+fn in_order(alloc: Global, names: &[Name]) -> Result<BTreeMap<Name, usize>, AllocError>
+    ensures { IfOk result (λ places. (q : List ℕ) → tree.get (slice_cmp nat_cmp) places q ≡ place_among names.now q) }
 {
-    let mut places = BTreeMap::new(alloc);
+    let mut ordered = BTreeMap::new(alloc);
     let mut left = names.len();
     while left > 0 {
         left -= 1;
-        places.insert(names[left], left)?;
+        ordered.insert(names[left], left)?;
     }
-    Ok(Places::InOrder(places))
+    Ok(ordered)
 }

@@ -8,7 +8,7 @@ use Rattle.drafts.proofs.index.in_order.Given as goal
 abbrev pub invariant-loop-left : goal.invariant-loop-left
 invariant-loop-left l = record {
   within : l.left ≤ length l.names;
-  places : (q : List ℕ) → get (slice_cmp nat_cmp) l.places q ≡ place_from l.left l.names q;
+  places : (q : List ℕ) → get (slice_cmp nat_cmp) l.ordered q ≡ place_from l.left l.names q;
 }
 
 abbrev pub decreases-loop-left : goal.decreases-loop-left
