@@ -6,4 +6,4 @@ pub mod ChartTables
 pub mod SoundRows
 pub mod SoundValues
 pub mod NeverStuck
-pub mod RowsByEvaluation
+pub mod ByEvaluation
