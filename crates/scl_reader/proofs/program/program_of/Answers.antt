@@ -2,7 +2,7 @@ use Rattle.std.proofs.Common.{◌∙◌, ap}
 use Rattle.drafts.specs.Flaws.{variable_names}
 use Rattle.drafts.specs.Resolved.{variables_of}
 use Rattle.scl_reader.specs.Resolved.{statements_of}
-use Rattle.scl_reader.proofs.SclRulesKept.{parts_kept}
+use Rattle.scl_reader.proofs.SclRulesKept.{parts_kept, parts_are}
 use Rattle.scl_reader.proofs.program.program_of.Goals as goal
 
 pub known-requires : goal.known-requires
@@ -11,3 +11,11 @@ known-requires c =
     c.in_ok-variables.variables c.in_ok-body.body c.requires.shaped
     (c.in_ok-variables.ensures ∙ ap variables_of c.as_slice.ensures)
     (c.in_ok-body.ensures ∙ ap (statements_of (variable_names c.in_ok-scope.scope.variables.now)) c.as_slice-3.ensures)
+
+pub returns : goal.returns
+returns c =
+    parts_are c.args.draft.now c.in_ok-scope.scope.variables.now c.requires.flawless (c.in_ok-scope.ensures ∙ c.as_slice-2.ensures)
+    c.in_ok-variables.variables c.in_ok-body.body c.known.result
+    (c.in_ok-variables.ensures ∙ ap variables_of c.as_slice.ensures)
+    (c.in_ok-body.ensures ∙ ap (statements_of (variable_names c.in_ok-scope.scope.variables.now)) c.as_slice-3.ensures)
+    c.known.ensures.name c.known.ensures.variables c.known.ensures.body
