@@ -47,7 +47,7 @@ module _ (c : Chart) (rules : IsChart features.Extended c) (core_rules : IsChart
   abbrev i : Images
   i = whole.i c rules core_rules
 
-  pub entry_rows : EntryRows k core i
+  abbrev pub entry_rows : EntryRows k core i
   entry_rows =
       record {
         rows = whole.rows_of_chart c rules core_rules;
@@ -86,7 +86,6 @@ module _ (c : Chart) (rules : IsChart features.Extended c) (core_rules : IsChart
       none false x e = refl
 
   pub charts_opened : IsFlat c → OpenedRows k core i
-  unfolding entry_rows
   charts_opened flat =
       opened_rows k core i entry_rows (flat_rows c rules core_rules flat) (start_rows c rules core_rules flat) (alone c rules core_rules)
       (counter_rows c rules core_rules).counter_joins unflagged (whole.super_of c rules core_rules)

@@ -190,7 +190,7 @@ module _ (k : Table) (tree : IsTree k) (entries : (x : ℕ) → IsState k x → 
       at_number (moved (state_at k x).entered zs) q ≡ at_number zs q
   entered_apart x q zs is out = entered_other x q zs is (λ e. out (itself e)) (λ inner. out (deeper x inner refl))
 
-  all_apart : (xs : List ℕ) (q : ℕ) (zs : List Standing) → ((x : ℕ) → Contains xs x → IsState k x) →
+  pub all_apart : (xs : List ℕ) (q : ℕ) (zs : List Standing) → ((x : ℕ) → Contains xs x → IsState k x) →
       ((x : ℕ) → Contains xs x → ¬ LiesIn k q (holder k x)) → at_number (moved (all_entered k xs) zs) q ≡ at_number zs q
   all_apart [] q zs are out = refl
   all_apart (x ∷ xs) q zs are out =

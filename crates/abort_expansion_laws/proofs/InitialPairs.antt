@@ -35,7 +35,7 @@ in_map f (y ∷ xs) x h =
     ⊎_elim (λ same. subst (λ z. Contains (f y ∷ map f xs) (f z)) same (head_in (f y) (map f xs)))
     (λ tail. tail_in (f y) (f x) (map f xs) (in_map f xs x tail)) (head_or_tail y x xs h)
 
-once_mapped : (f : ℕ → ℕ) → ((a b : ℕ) → f a ≡ f b → a ≡ b) → (r : ℕ) (rs ws : List ℕ) → Once r rs → ¬ Contains ws (f r) → Once (f r) (map f rs ++ ws)
+pub once_mapped : (f : ℕ → ℕ) → ((a b : ℕ) → f a ≡ f b → a ≡ b) → (r : ℕ) (rs ws : List ℕ) → Once r rs → ¬ Contains ws (f r) → Once (f r) (map f rs ++ ws)
 once_mapped f one r [] ws once out = absurd once
 once_mapped f one r (x ∷ xs) ws once out =
     ⊎_elim
@@ -131,6 +131,41 @@ module _ (k core : Table) (i : Images) (rows : CoreRows k core i) (tree : IsTree
             (head_or_tail r q rs here);
       }
 
+  -- ---- in the chart alone
+
+  -- a state of a region of superstate s
+  child_level : (s x : ℕ) → Contains (state_at k s).regions (holder k x) →
+      IsState k x × (around k (holder k x) ≡ s ∷ around k (holder k s)) × (holder k x < suc (length k.regions))
+  child_level s x h =
+      let direct : around k (holder k x) ≡ s ∷ around k (holder k s) = tree.children s (holder k x) h in
+      let there : IsThere k (holder k x) = around_there k (holder k x) s (subst (λ zs. Contains zs s) (sym direct) (head_in s (around k (holder k s)))) in
+      (held_there k x (holder k x) refl there, direct, there.1)
+
+  pub record ChartBegins (n : ℕ) (f : ℕ → Standing) (r : ℕ) : Type 0 where
+    pub first : ℕ
+    pub here : IsState k first
+    pub held : holder k first ≡ r
+    pub begins : Begins k n f first
+
+  pub chart_begins : ((x : ℕ) → IsState k x → Entry k x) →
+      ((s t : ℕ) (zs : List Standing) → IsState k s → ¬ Contains (around k t) s → at_number (moved (state_at k s).opened zs) t ≡ at_number zs t) →
+      (f : ℕ → Standing) (s : ℕ) → OpensAlike k core i s → Fresh k (suc (length k.regions)) f s → (r : ℕ) → Contains (state_at k s).regions r →
+      Once r (state_at k s).regions → ChartBegins (suc (length k.regions)) f r
+  chart_begins entries elsewhere f s alike fresh r h once =
+      let init = initials (state_at k s).regions (state_at k s).opened alike.inner alike.regions in
+      let p = init.pairs r h in
+      let level : (x : ℕ) → Contains init.firsts x →
+      IsState k x × (around k (holder k x) ≡ s ∷ around k (holder k s)) × (holder k x < suc (length k.regions)) =
+      λ x among. child_level s x (subst (λ zs. Contains zs (holder k x)) init.holders (in_map (holder k) init.firsts x among)) in
+      record {
+        first = p.first;
+        here = (level p.first p.among).0;
+        held = p.held;
+        begins =
+            fresh_begins k tree entries elsewhere f s init.firsts fresh init.chart level p.first p.among
+            (subst (Once (holder k p.first)) (sym init.holders) (subst (λ q. Once q (state_at k s).regions) (sym p.held) once));
+      }
+
   module _ (entries : (x : ℕ) → IsState k x → Entry k x) (core_entries : (x : ℕ) → IsState core x → Entry core x)
       (elsewhere : (s t : ℕ) (zs : List Standing) → IsState k s → ¬ Contains (around k t) s →
       at_number (moved (state_at k s).opened zs) t ≡ at_number zs t)
@@ -148,11 +183,7 @@ module _ (k core : Table) (i : Images) (rows : CoreRows k core i) (tree : IsTree
 
     chart_level : (x : ℕ) → Contains init.firsts x →
         IsState k x × (around k (holder k x) ≡ s ∷ around k (holder k s)) × (holder k x < suc (length k.regions))
-    chart_level x h =
-        let direct : around k (holder k x) ≡ s ∷ around k (holder k s) = tree.children s (holder k x) (subst (λ zs. Contains zs (holder k x)) init.holders
-        (in_map (holder k) init.firsts x h)) in
-        let there : IsThere k (holder k x) = around_there k (holder k x) s (subst (λ zs. Contains zs s) (sym direct) (head_in s (around k (holder k s)))) in
-        (held_there k x (holder k x) refl there, direct, there.1)
+    chart_level x h = child_level s x (subst (λ zs. Contains zs (holder k x)) init.holders (in_map (holder k) init.firsts x h))
 
     -- ---- in the core
 

@@ -112,6 +112,13 @@ pub mod EnteredWaits
 pub mod EnteredMonitors
 pub mod EnteredOver
 pub mod MonitorEntered
+pub mod EnteredReady
 pub mod OpenedRowsHold
+pub mod TopRegions
+pub mod ChartEntered
+pub mod FirstTick
+pub mod FirstTickWaits
+pub mod FirstTickBegins
+pub mod TicksBegin
 pub mod ChartsOpened
 pub mod Proved

@@ -7,36 +7,32 @@ use Rattle.chart_machine.specs.declared.standing.Standing.TheVariants as at
 use Rattle.chart_machine.specs.declared.standing.Configuration.{Configuration}
 use Rattle.chart_machine.specs.declared.table.Table.{Table}
 use Rattle.chart_machine.specs.Table.{state_at}
-use Rattle.chart_machine.specs.Turns.{standing_of, has_ended, inside, is_guarded}
+use Rattle.chart_machine.specs.Turns.{standing_of, has_ended, inside}
 use Rattle.abort_expansion.specs.Flags.{has_join}
-use Rattle.abort_expansion.specs.Transitions.{go}
-use Rattle.abort_expansion.specs.Superstates.{is_prepared, resets}
+use Rattle.abort_expansion.specs.Superstates.{is_prepared}
 use Rattle.chart_machine_laws.specs.Tree.{IsThere, around, holder}
 use Rattle.chart_machine_laws.proofs.LyingIn.{none_in, head_in, tail_in, head_or_tail, around_around}
 use Rattle.chart_machine_laws.proofs.ChartTables.{around_there}
-use Rattle.abort_expansion_laws.specs.CoreRows.{own, IsState, IsSuper, joins, Images, flags_around, counter_over}
+use Rattle.abort_expansion_laws.specs.CoreRows.{own, IsState, IsSuper, Images, flags_around, counter_over}
 use Rattle.abort_expansion_laws.specs.Related.{Watches}
 use Rattle.abort_expansion_laws.proofs.InsideLeaves.{FlatRows}
 use Rattle.abort_expansion_laws.proofs.TickStarts.{StartRows}
-use Rattle.abort_expansion_laws.proofs.Pending.{IsOpening, IsEmpty, IsFresh, IsJoining, Over, goes_in, still_going, behind_unprepared}
+use Rattle.abort_expansion_laws.proofs.Pending.{goes_in, still_going}
 use Rattle.abort_expansion_laws.proofs.OpenedRows.{Opens, OpenedRows}
-use Rattle.abort_expansion_laws.proofs.InitialPairs.{in_map, watcher_stands}
+use Rattle.abort_expansion_laws.proofs.InitialPairs.{watcher_stands}
 use Rattle.abort_expansion_laws.proofs.FreshInside.{Fresh, moved_alike}
-use Rattle.abort_expansion_laws.proofs.BeginningSorts.{Sort, sort_ends, sort_counts, sort_tries, sort_guards, sort_prepares, sort_opens, not_both}
+use Rattle.abort_expansion_laws.proofs.BeginningSorts.{Sort, sort_ends, sort_counts, sort_tries, sort_guards, sort_prepares, sort_opens}
 use Rattle.abort_expansion_laws.proofs.JustEntered.{EntryRows, JustOpen, Live, Reach, live, Above, opened_both, reach}
 use Rattle.abort_expansion_laws.proofs.EnteredWaits.{entered_waits}
-use Rattle.abort_expansion_laws.proofs.EnteredMonitors.{Unflagged, IsOpen, to_prepare, opened_now, covered_by, entered_watched, entered_open, entered_flags}
-use Rattle.abort_expansion_laws.proofs.EnteredOver.{entered_over}
+use Rattle.abort_expansion_laws.proofs.EnteredMonitors.{Unflagged, entered_watched, entered_flags}
 use Rattle.abort_expansion_laws.proofs.MonitorEntered.{monitor_entered}
+use Rattle.abort_expansion_laws.proofs.EnteredReady.{opened_later, over_now}
 
 module _ (k core : Table) (i : Images) (more : EntryRows k core i) (flat : FlatRows k core i) (start_rows : StartRows k core i more.rows)
     (alone : (v : ℕ) → (state_at core v).regions ≡ [] → inside core v ≡ [])
     (counter_joins : (s x : ℕ) → (i.flags_of s).counter ≡ Some x → has_join (own k s) ≡ true)
     (unflagged : (u : ℕ) → IsSuper k u → is_prepared (flags_around k core i (holder k u)) (own k u) ≡ false → Unflagged k core i u)
     (super_of : (o : ℕ) → IsState k o → has_aborts (own k o) ≡ true → IsSuper k o) where
-  thread_in : (q u : ℕ) → Contains (around k q) u → Contains (around core (i.thread_of q)) (i.main_of u)
-  thread_in q u h = subst (λ zs. Contains zs (i.main_of u)) (sym (more.rows.encloses q)) (in_map i.main_of (around k q) u h)
-
   module _ (c d e : Configuration) (s : ℕ) (o : Opens k core i c d e s) where
     abbrev Reached : ℕ → Type 0
     Reached q = Reach k core i more c e q
@@ -126,38 +122,6 @@ module _ (k core : Table) (i : Images) (more : EntryRows k core i) (flat : FlatR
         one_more : (n : ℕ) → 1 + n ≡ suc n
         one_more n = omega arith
 
-    -- ---- who is opened later, and who is over already
-
-    opened_later : (u : ℕ) → IsOpening k core i c e u → Contains (around k (holder k u)) s →
-        IsFresh k core i c u × (IsEmpty k core i c e u × (is_guarded k c (around k (holder k u)) ≡ false))
-    opened_later u a inner = by_open (entered_open k core i more c e u a.tests a.open_in_chart (reached_around u inner))
-      where
-        by_open : IsOpen k core i more c e u → IsFresh k core i c u × (IsEmpty k core i c e u × (is_guarded k c (around k (holder k u)) ≡ false))
-        by_open (to_prepare free young empty opening) = ((λ zs size none q in_u. young zs (size ∙ o.chart_size) none q in_u), (empty, free))
-        by_open (opened_now free super plain) =
-            absurd (not_both (is_prepared (flags_around k core i (holder k u)) (own k u)) a.prepared plain)
-        by_open (covered_by w round opening empty) =
-            let wrong : at.Trying (i.entry_of u) (go true None (resets (i.flags_of u) (length (state_at k u).regions)) a.fork ∷ []) ≡ at.Outside =
-            sym a.preparing ∙ empty (i.thread_of (holder k u)) (thread_in (holder k u) w round) in
-            absurd cc
-
-    over_now : (u : ℕ) → IsJoining k core i c e u → Contains (around k (holder k u)) s → Over k core i c e u
-    over_now u a inner = by_open (entered_open k core i more c e u a.tests a.open_in_chart (reached_around u inner))
-      where
-        plain : is_prepared (flags_around k core i (holder k u)) (own k u) ≡ false
-        plain = behind_unprepared k core i c u a.over
-
-        by_open : IsOpen k core i more c e u → Over k core i c e u
-        by_open (to_prepare free young empty opening) =
-            absurd (not_both (is_prepared (flags_around k core i (holder k u)) (own k u)) opening.prepared plain)
-        by_open (opened_now free super unprepared) =
-            entered_over k core i more c e counter_joins u a free
-            (λ q there in_u. reached q there (around_around k more.tree.nested (around k q) q u s refl in_u inner))
-        by_open (covered_by w round opening empty) =
-            let wrong : at.Within (i.main_of u) (joins a.join ∷ []) ≡ at.Outside =
-            sym a.forked ∙ empty (i.thread_of (holder k u)) (thread_in (holder k u) w round) in
-            absurd cc
-
   pub opened_rows : OpenedRows k core i
   opened_rows =
       record {
@@ -170,6 +134,8 @@ module _ (k core : Table) (i : Images) (more : EntryRows k core i) (flat : FlatR
         flags = λ c d e s o u here inside_u inner.
             entered_flags k core i more c e unflagged u (standing_of c (holder k u)) refl inside_u (reached_around c d e s o u inner);
         all_go = λ c d e s x o counter. all_go c d e s o x counter (state_at k s).regions (λ r h. h);
-        within = λ c d e s o u a inner. opened_later c d e s o u a inner;
-        joinable = λ c d e s o u a inner. over_now c d e s o u a inner;
+        within = λ c d e s o u a inner. opened_later k core i more c e o.chart_size u a (reached_around c d e s o u inner);
+        joinable = λ c d e s o u a inner.
+            over_now k core i more c e counter_joins u a (reached_around c d e s o u inner)
+            (λ q there in_u. reached c d e s o q there (around_around k more.tree.nested (around k q) q u s refl in_u inner));
       }

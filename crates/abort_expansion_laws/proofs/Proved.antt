@@ -86,6 +86,11 @@ pub use Rattle.abort_expansion_laws.proofs.EnteredMonitors.{entered_watched, ent
 pub use Rattle.abort_expansion_laws.proofs.EnteredOver.{entered_over}
 pub use Rattle.abort_expansion_laws.proofs.OpenedRowsHold.{opened_rows}
 pub use Rattle.abort_expansion_laws.proofs.ChartsOpened.{charts_opened, charts_settle}
+pub use Rattle.abort_expansion_laws.proofs.TopRegions.{top_there}
+pub use Rattle.abort_expansion_laws.proofs.ChartEntered.{chart_reach}
+pub use Rattle.abort_expansion_laws.proofs.FirstTickWaits.{first_sound, first_pending}
+pub use Rattle.abort_expansion_laws.proofs.FirstTickBegins.{first_tick_begins, first_begun}
+pub use Rattle.abort_expansion_laws.proofs.TicksBegin.{ticks_begin}
 
 pub checked : ◌≡◌ {A = ℕ} 0 0
 checked = refl
