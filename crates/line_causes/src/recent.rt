@@ -75,9 +75,9 @@ fn line_in(rest: &[u8], is_ended: bool) -> Line<'_>
 }
 
 impl<'a, S: Source, N: OfInput> Recent<'a, S, N> {
-    /// The source, of which nothing is kept yet.
+    /// The source, of which nothing is kept yet. Without `keeps` nothing will be, and it is passed on as it is.
     #[tactic(auto, using(crate::proofs::Behind::at_start))]
-    pub fn of(alloc: Global, source: &'a mut S) -> Recent<'a, S, N>
+    pub fn of(alloc: Global, source: &'a mut S, keeps: bool) -> Recent<'a, S, N>
         requires name { source.ghost_name ≡ N.name }
         requires start { S.to_come source.now ≡ N.start }
         ensures source { result.source.ghost_name ≡ source.entry.ghost_name }
@@ -88,7 +88,7 @@ impl<'a, S: Source, N: OfInput> Recent<'a, S, N> {
             alloc,
             kept: Vec::new(alloc),
             before: 0,
-            is_lost: false,
+            is_lost: !keeps,
             is_ended: false,
             of: PhantomData,
         }
