@@ -14,5 +14,5 @@ pub use cause::{Cause, Met};
 pub use causes::cause_of;
 pub use line::Line;
 pub use met::cause_on;
-pub use recent::{OfInput, Recent};
+pub use recent::{Lent, OfInput, Recent};
 pub use words::cause_words;
