@@ -11,10 +11,10 @@ _sct() {
     return
   fi
   if [[ $word == -* ]]; then
-    local options=--help
+    local options='--explain --help'
     case $command in
-      list) options='--source --help' ;;
-      run) options='--workers --help' ;;
+      list) options='--source --explain --help' ;;
+      run) options='--workers --explain --help' ;;
     esac
     mapfile -t COMPREPLY < <(compgen -W "$options" -- "$word")
     return

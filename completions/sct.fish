@@ -12,6 +12,7 @@ complete -c sct -n __fish_use_subcommand -a run -d 'Plays standard input to stan
 complete -c sct -n __fish_use_subcommand -a migrate -d 'Writes an image in version 2 of the layout'
 complete -c sct -n __fish_use_subcommand -a help -d 'Prints the help of a command'
 complete -c sct -n '__fish_seen_subcommand_from compile scl explain dot check list run migrate' -l help -d 'Print help'
+complete -c sct -n '__fish_seen_subcommand_from compile scl explain dot check list run migrate' -l explain -d 'Tell a fault in words'
 complete -c sct -n '__fish_seen_subcommand_from compile scl explain dot check list run migrate' -F
 complete -c sct -n '__fish_seen_subcommand_from list' -l source -r -F -d 'The text that it was compiled from'
 complete -c sct -n '__fish_seen_subcommand_from run' -l workers -x -a '1 2 3 4 5 6 7 8' -d 'How many threads serve'

@@ -2,7 +2,7 @@
 use Rattle.std.proofs.Common.{◌≡◌, ℕ, Bool, true, false, List, Result, Ok, Err, IfOk, MatchBool, IsTrue, refl, sym, subst, inl, inr}
 use Rattle.std.specs.Prelude.{◌↔◌}
 use Rattle.sc_graph.specs.Program.{Program}
-use Rattle.command_files.specs.declared.fault.Fault.{Fault}
+use Rattle.command_files.specs.declared.fault.LoadFault.{LoadFault}
 use Rattle.command_files.specs.Making.{HasNone, IsUnmade, Makes, SaysOfText}
 
 -- it makes one, and this is compared
@@ -11,7 +11,7 @@ other_made text p q true made same = subst (Makes text) (same.0 refl) made
 other_made text p q false made same = inr (record { other = q; made = made; differs = λ e. (let is : false ≡ true = same.1 e in cc) })
 
 -- it makes none, for a fault that says so
-pub none_made : {E : Type 0} (text : List ℕ) (p : Program) (f : Fault) (r : Result Bool E) → HasNone text f → IfOk r (λ made. made ≡ false) → IfOk r (λ _. SaysOfText f) → IfOk r (λ made. MatchBool made (Makes text p) (IsUnmade text p))
+pub none_made : {E : Type 0} (text : List ℕ) (p : Program) (f : LoadFault) (r : Result Bool E) → HasNone text f → IfOk r (λ made. made ≡ false) → IfOk r (λ _. SaysOfText f) → IfOk r (λ made. MatchBool made (Makes text p) (IsUnmade text p))
 none_made text p f (Ok made) why none said =
     subst (λ b. MatchBool b (Makes text p) (IsUnmade text p)) (sym none) (inl (record { fault = f; why = why; said = said }))
 none_made text p f (Err e) why none said = tt

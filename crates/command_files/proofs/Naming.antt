@@ -1,5 +1,5 @@
 -- The names of files as they are shown: byte by byte, or character by character.
-use Rattle.std.proofs.Common.{◌≡◌, ◌∙◌, ℕ, ◌+◌, ◌/◌, ◌<◌, ◌≤◌, Bool, true, false, List, [], ◌∷◌, ◌++◌, map, refl, sym, ap, arith, cond, if◌then◌else◌, ◌⊎◌, inl, inr}
+use Rattle.std.proofs.Common.{◌≡◌, ◌∙◌, ℕ, ◌+◌, ◌/◌, ◌<◌, ◌≤◌, ◌==◌, Bool, true, false, List, [], ◌∷◌, ◌++◌, map, refl, sym, ap, arith, cond, if◌then◌else◌, ◌⊎◌, inl, inr}
 use Rattle.std.proofs.lemmas.List.{map-append, append_assoc}
 use Rattle.std.proofs.lemmas.Str.{encode_ascii}
 use Rattle.std.proofs.lemmas.Bool.Decides.{nat_tests}
@@ -7,8 +7,8 @@ use Rattle.std.specs.Char.{is_ascii_control}
 use lib.Utf8.{encode, next}
 use lib.Dec.{ltb}
 use Rattle.std.specs.List.{list_any}
+use Rattle.sc_text.specs.Pieces.{line_feed}
 use Rattle.command_files.specs.FaultText.{shown_byte, shown_name}
-use Rattle.trace_lines.specs.Lines.{is_feed}
 
 -- a byte that is not ASCII is shown as it is
 high : (b : ℕ) → 128 ≤ b → shown_byte b ≡ b
@@ -69,6 +69,9 @@ one_shown shown shown' rest rest' name c so_far first more =
     let same : shown' ++ shown_name rest' ≡ (shown ++ encode (shown_byte c)) ++ shown_name rest' = ap (λ s. s ++ shown_name rest') more in
     let joined : (shown ++ encode (shown_byte c)) ++ shown_name rest' ≡ shown ++ (encode (shown_byte c) ++ shown_name rest') = append_assoc shown (encode (shown_byte c)) (shown_name rest') in
     same ∙ joined ∙ ap (λ s. shown ++ (s ++ shown_name rest')) (sym letter) ∙ ap (λ s. shown ++ s) (sym split) ∙ so_far
+
+abbrev is_feed : ℕ → Bool
+is_feed byte = byte == line_feed
 
 -- no byte is shown as a line feed
 no_feed : (b : ℕ) → is_feed (shown_byte b) ≡ false

@@ -7,8 +7,8 @@ use Rattle.bytecode.specs.Reading.Image.{Answers, reading, version_of}
 use Rattle.verifier.specs.Verdict.{IsLowestBroken}
 use Rattle.verifier.specs.declared.rule.Refusal.{Refusal}
 use Rattle.verifier.specs.declared.rule.Refusal.TheVariants as refusal
-use Rattle.command_files.specs.declared.fault.Fault.{Fault}
-use Rattle.command_files.specs.declared.fault.Fault.TheVariants as fault
+use Rattle.command_files.specs.declared.fault.LoadFault.{LoadFault}
+use Rattle.command_files.specs.declared.fault.LoadFault.TheVariants as fault
 use Rattle.command_files.specs.FaultText.{shown_name}
 use Rattle.command_files.specs.Files.{Contents, HasBytes, LacksFile}
 
@@ -25,13 +25,13 @@ IsRefusal (refusal.Broken broken) image = IsLowestBroken image.program image.tab
 IsRefusal refusal.Memory image = Unit {0}
 
 -- these bytes give no valid image, for this fault
-abbrev pub BytesLackImage : List ℕ → Fault → Type 0
+abbrev pub BytesLackImage : List ℕ → LoadFault → Type 0
 BytesLackImage bytes (fault.Image f) = Answers (Err f) (reading (version_of bytes) bytes)
 BytesLackImage bytes (fault.Rule r) = (image : Image) × Spells (version_of bytes) bytes image × IsRefusal r image
 BytesLackImage bytes other = ⊥
 
 -- no image could be had from the file of this name, for this fault
-abbrev pub FileLacksImage : Option Contents → List ℕ → Fault → Type 0
+abbrev pub FileLacksImage : Option Contents → List ℕ → LoadFault → Type 0
 FileLacksImage files name fault.Memory = Unit {0}
 FileLacksImage files name (fault.File shown) = LacksFile files name × (string_bytes shown ≡ shown_name name)
 FileLacksImage files name f = (bytes : List ℕ) × HasBytes files name bytes × BytesLackImage bytes f

@@ -1,3 +1,4 @@
+pub mod Counting
 pub mod FaultText
 pub mod Files
 pub mod Images

@@ -17,8 +17,8 @@ use Rattle.bytecode.specs.Image.{Image}
 use Rattle.compiler.specs.Charts.{IsSclOf, LacksScl}
 use Rattle.compiler.specs.declared.fault.CompileFault.{CompileFault}
 use Rattle.compiler.specs.Texts.{IsImageOf, SclLacksImage}
-use Rattle.command_files.specs.declared.fault.Fault.{Fault}
-use Rattle.command_files.specs.declared.fault.Fault.TheVariants as fault
+use Rattle.command_files.specs.declared.fault.LoadFault.{LoadFault}
+use Rattle.command_files.specs.declared.fault.LoadFault.TheVariants as fault
 use Rattle.command_files.specs.FaultText.{shown_name}
 use Rattle.command_files.specs.Files.{Contents, HasBytes, LacksFile}
 
@@ -82,28 +82,28 @@ pub record ChartLacksProgram (text : List ℕ) (f : CompileFault) : Type 0 where
   pub none : LacksScl chart f
 
 -- why a text spells no program: it has a fault; or it spells a chart that has no SCL program
-abbrev pub TextLacksProgram : List ℕ → Fault → Type 0
+abbrev pub TextLacksProgram : List ℕ → LoadFault → Type 0
 TextLacksProgram text (fault.Text f) = IsTextFault text f
 TextLacksProgram text (fault.Program f) = ChartLacksProgram text f
 TextLacksProgram text other = ⊥
 
 -- why bytes spell no program: they are no text, which is told of their first place; or the text spells none
-abbrev pub BytesLackProgram : List ℕ → Fault → Type 0
+abbrev pub BytesLackProgram : List ℕ → LoadFault → Type 0
 BytesLackProgram bytes (fault.Text f) = (¬ IsUtf8 bytes × (f ≡ read.Text broken.Token 0)) ⊎ (IsUtf8 bytes × IsTextFault bytes f)
 BytesLackProgram bytes (fault.Program f) = IsUtf8 bytes × ChartLacksProgram bytes f
 BytesLackProgram bytes other = ⊥
 
 -- the bytes are text, which spells a program that has no image, for this fault
-abbrev pub ProgramLacksImage : List ℕ → Fault → Type 0
+abbrev pub ProgramLacksImage : List ℕ → LoadFault → Type 0
 ProgramLacksImage bytes (fault.Program f) = (scl : Scl) × IsUtf8 bytes × SpellsProgram bytes scl × SclLacksImage scl f
 ProgramLacksImage bytes other = ⊥
 
 -- why bytes spell no image: they spell no program, or one that has no image
-abbrev pub BytesLackCompiled : List ℕ → Fault → Type 0
+abbrev pub BytesLackCompiled : List ℕ → LoadFault → Type 0
 BytesLackCompiled bytes f = BytesLackProgram bytes f ⊎ ProgramLacksImage bytes f
 
 -- no program could be had from the file of this name, for this fault
-abbrev pub FileLacksProgram : Option Contents → List ℕ → Fault → Type 0
+abbrev pub FileLacksProgram : Option Contents → List ℕ → LoadFault → Type 0
 FileLacksProgram files name fault.Memory = Unit {0}
 FileLacksProgram files name (fault.File shown) = LacksFile files name × (string_bytes shown ≡ shown_name name)
 FileLacksProgram files name (fault.Text f) = (bytes : List ℕ) × HasBytes files name bytes × BytesLackProgram bytes (fault.Text f)
@@ -111,10 +111,10 @@ FileLacksProgram files name (fault.Program f) = (bytes : List ℕ) × HasBytes f
 FileLacksProgram files name other = ⊥
 
 -- the program in this file has no image, for this fault
-abbrev pub FileLacksProgramImage : Option Contents → List ℕ → Fault → Type 0
+abbrev pub FileLacksProgramImage : Option Contents → List ℕ → LoadFault → Type 0
 FileLacksProgramImage files name (fault.Program f) = (scl : Scl) × IsSource files name scl × SclLacksImage scl f
 FileLacksProgramImage files name other = ⊥
 
 -- there is no program in this file, or it has no image
-abbrev pub FileLacksCompiled : Option Contents → List ℕ → Fault → Type 0
+abbrev pub FileLacksCompiled : Option Contents → List ℕ → LoadFault → Type 0
 FileLacksCompiled files name f = FileLacksProgram files name f ⊎ FileLacksProgramImage files name f

@@ -1,18 +1,17 @@
-//! The faults of the program, and how they print.
+//! Why a file gives nothing, or is not written.
 
 ghost use Rattle.std.specs.Prelude.{◌≡◌};
-ghost use Rattle.command_files.specs.declared.fault.Fault.TheVariants.{Memory};
+ghost use Rattle.command_files.specs.declared.fault.LoadFault.TheVariants.{Memory};
 
 use bytecode::DecodeFault;
 use compiler::CompileFault;
 use sc_text::ReadFault;
 use std::alloc::{AllocError, AllocFailed};
-use trace_player::PlayFault;
 use verifier::Refusal;
 
-/// Why the program refuses. It prints as the fault line says it, after the program's name.
+/// Why a file gives no image or no program, or is not written. It prints as the fault line says it.
 #[derive(Debug, Drop)]
-pub enum Fault {
+pub enum LoadFault {
     /// E52: memory was refused.
     Memory,
     /// The bytes spell no image, or memory was refused.
@@ -23,28 +22,24 @@ pub enum Fault {
     Text(ReadFault),
     /// The program has no image, or memory was refused.
     Program(CompileFault),
-    /// Standard input was not played to its end.
-    Play(PlayFault),
-    /// E63: standard output failed, or took no byte.
-    Write,
     /// E64: the file cannot be read or written whose name is shown so.
     File(String),
     /// E65: the text in the file whose name is shown so does not make the image.
     Source(String),
 }
 
-impl From<AllocError> for Fault {
+impl From<AllocError> for LoadFault {
     ghost from_gives = { λ _ e. e ≡ Memory };
 
-    fn from(_error: AllocError) -> Fault {
-        Fault::Memory
+    fn from(_error: AllocError) -> LoadFault {
+        LoadFault::Memory
     }
 }
 
-impl<T: Drop> From<AllocFailed<T>> for Fault {
+impl<T: Drop> From<AllocFailed<T>> for LoadFault {
     ghost from_gives = { λ _ e. e ≡ Memory };
 
-    fn from(_error: AllocFailed<T>) -> Fault {
-        Fault::Memory
+    fn from(_error: AllocFailed<T>) -> LoadFault {
+        LoadFault::Memory
     }
 }

@@ -3,12 +3,12 @@
 ghost use Rattle.std.specs.Prelude.{◌≡◌, IfOk, string_bytes};
 ghost use Rattle.command_files.specs.FaultText.{shown_byte, shown_name};
 
-use crate::fault::Fault;
+use crate::fault::LoadFault;
 use std::alloc::{AllocError, Global};
 use std::error::Error;
 use std::fmt;
 
-impl fmt::Display for Fault {
+impl fmt::Display for LoadFault {
     ghost use Rattle.std.specs.Prelude.{Some};
     ghost use Rattle.command_files.specs.FaultText.{fault_text};
 
@@ -16,20 +16,18 @@ impl fmt::Display for Fault {
 
     fn fmt<W: fmt::Write>(&self, f: &mut fmt::Formatter<W>) -> fmt::Result {
         match self {
-            Fault::Memory => write!(f, "E52"),
-            Fault::Image(fault) => write!(f, "{fault}"),
-            Fault::Rule(refusal) => write!(f, "{refusal}"),
-            Fault::Text(fault) => write!(f, "{fault}"),
-            Fault::Program(fault) => write!(f, "{fault}"),
-            Fault::Play(fault) => write!(f, "{fault}"),
-            Fault::Write => write!(f, "E63"),
-            Fault::File(shown) => write!(f, "E64 {shown}"),
-            Fault::Source(shown) => write!(f, "E65 {shown}"),
+            LoadFault::Memory => write!(f, "E52"),
+            LoadFault::Image(fault) => write!(f, "{fault}"),
+            LoadFault::Rule(refusal) => write!(f, "{refusal}"),
+            LoadFault::Text(fault) => write!(f, "{fault}"),
+            LoadFault::Program(fault) => write!(f, "{fault}"),
+            LoadFault::File(shown) => write!(f, "E64 {shown}"),
+            LoadFault::Source(shown) => write!(f, "E65 {shown}"),
         }
     }
 }
 
-impl Error for Fault {}
+impl Error for LoadFault {}
 
 // A character of a name as it is shown.
 fn shown_char(letter: char) -> char

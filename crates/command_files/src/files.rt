@@ -1,11 +1,14 @@
 //! Files by name: what is read from them, and how they are written.
 
-ghost use Rattle.std.specs.Prelude.{◌≡◌, Option, None, IfOk, OnOk, OnErr, IsErrOf};
+ghost use Rattle.std.specs.Prelude.{◌≡◌, ◌+◌, ℕ, Option, None, IfOk, IfErr, OnOk, OnErr, IsErrOf};
+ghost use Rattle.command_files.specs.Counting.{named_failures};
 ghost use Rattle.command_files.specs.Files.{Contents, HasBytes, LacksFile, Stores};
 
 use crate::placing::{Place, place_of, put};
+use sc_values::Failures;
 use std::alloc::{AllocError, Global};
 use std::rt::Files as SystemFiles;
+use std::sync::ledger::Ledger;
 use std::{fs, io};
 
 /// Why a file was not read or written.
@@ -27,21 +30,28 @@ impl From<AllocError> for FileFault {
     }
 }
 
-/// The files that the program reads and writes, by name. Contracts may see what they hold.
+/// The files that the program reads and writes, by name. Contracts may see what they hold, and see how often a name
+/// failed.
 pub trait Files {
     ghost contents: { Self → Option Contents } = { λ _. None };
+
+    ghost failures: { Self → ℕ };
 
     /// The bytes of the file of this name.
     fn load(&mut self, alloc: Global, name: &str) -> Result<Vec<u8>, FileFault>
         ensures bytes { IfOk result (λ bytes. HasBytes (contents self.old) name.now bytes.items) }
         ensures none { IsErrOf result FileFault.Named → LacksFile (contents self.old) name.now }
-        ensures same { contents self.new ≡ contents self.old };
+        ensures same { contents self.new ≡ contents self.old }
+        ensures none_failed { OnOk result (failures self.new ≡ failures self.old) }
+        ensures failed { IfErr result (λ fault. failures self.new ≡ failures self.old + named_failures fault) };
 
     /// Makes these bytes the whole of the file of this name, which need not be there. At an `Err`
     /// each file is as it was.
     fn store(&mut self, alloc: Global, name: &str, bytes: &[u8]) -> Result<(), FileFault>
         ensures stored { OnOk result (Stores (contents self.old) (contents self.new) name.now bytes.now) }
-        ensures same { OnErr result (contents self.new ≡ contents self.old) };
+        ensures same { OnErr result (contents self.new ≡ contents self.old) }
+        ensures none_failed { OnOk result (failures self.new ≡ failures self.old) }
+        ensures failed { IfErr result (λ fault. failures self.new ≡ failures self.old + named_failures fault) };
 }
 
 // The name that stands for standard input, and the file from which that comes.
@@ -61,15 +71,33 @@ fn read_path(name: &str) -> &str {
 /// The files of the system, of which `-` is standard input where a file is read; and where the one lies that was loaded
 /// last.
 #[derive(Drop)]
-pub struct HostFiles<'a, R: SystemFiles + AllocGlobal> {
+pub struct HostFiles<'a, R: SystemFiles + AllocGlobal, L: Ledger> {
     rt: &'a R,
     loaded: Option<Place>,
+    failed: Failures<L>,
 }
 
-impl<'a, R: SystemFiles + AllocGlobal> HostFiles<'a, R> {
-    /// The files that this runtime reaches.
-    pub fn new(rt: &'a R) -> HostFiles<'a, R> {
-        HostFiles { rt, loaded: None }
+impl<'a, R: SystemFiles + AllocGlobal, L: Ledger> HostFiles<'a, R, L> {
+    /// The files that this runtime reaches, with the count of their failures so far.
+    pub fn new(rt: &'a R, failed: Failures<L>) -> HostFiles<'a, R, L>
+        ensures { result.failed ≡ failed }
+    {
+        HostFiles {
+            rt,
+            loaded: None,
+            failed,
+        }
+    }
+
+    // A fault, once it is counted.
+    fn counted(&mut self, fault: FileFault) -> FileFault
+        ensures same { result ≡ fault }
+        ensures count { self.new.failed ≡ self.old.failed + named_failures fault }
+    {
+        if fault == FileFault::Named {
+            self.failed.add();
+        }
+        fault
     }
 }
 
@@ -81,19 +109,28 @@ pub(crate) fn file_fault(error: io::Error) -> FileFault {
     }
 }
 
-impl<'a, R: SystemFiles + AllocGlobal> Files for HostFiles<'a, R> {
+impl<'a, R: SystemFiles + AllocGlobal, L: Ledger> Files for HostFiles<'a, R, L> {
+    ghost failures = { λ f. f.failed };
+
     fn load(&mut self, _alloc: Global, name: &str) -> Result<Vec<u8>, FileFault> {
         let path = read_path(name);
         self.loaded = place_of(self.rt, path);
-        fs::read(self.rt, path).map_err(file_fault)
+        match fs::read(self.rt, path) {
+            Ok(bytes) => Ok(bytes),
+            Err(error) => Err(self.counted(file_fault(error))),
+        }
     }
 
     // The file that was loaded is not written, by whatever name: it is the one of which the bytes were made. Nor is one
     // written of the name that stands for standard input.
     fn store(&mut self, alloc: Global, name: &str, bytes: &[u8]) -> Result<(), FileFault> {
-        if name == INPUT_NAME || self.loaded.is_some() && self.loaded == place_of(self.rt, name) {
-            return Err(FileFault::Named);
+        let is_read = self.loaded.is_some() && self.loaded == place_of(self.rt, name);
+        if name == INPUT_NAME || is_read {
+            return Err(self.counted(FileFault::Named));
         }
-        put(alloc, self.rt, name, bytes)
+        match put(alloc, self.rt, name, bytes) {
+            Ok(()) => Ok(()),
+            Err(fault) => Err(self.counted(fault)),
+        }
     }
 }

@@ -14,7 +14,7 @@ mod source;
 mod storing;
 
 pub use compiled::{compile_bytes, load_compiled};
-pub use fault::Fault;
+pub use fault::LoadFault;
 pub use fault_text::shown_name;
 pub use files::{FileFault, Files, HostFiles};
 pub use images::load_verified;

@@ -3,7 +3,7 @@
 ghost use Rattle.std.specs.Prelude.{◌≡◌, IfErr, IfOk, MatchBool, false};
 ghost use Rattle.command_files.specs.Making.{HasNone, IsUnmade, Makes, SaysOfText};
 
-use crate::fault::Fault;
+use crate::fault::LoadFault;
 use crate::source::read_text;
 use abort_expansion::ExpandFault;
 use compiler::CompileFault;
@@ -13,27 +13,27 @@ use scl_graph::{GraphFault, graph_of};
 use std::alloc::{AllocError, Global};
 
 // The graph of the program that a text spells.
-fn graph_in(alloc: Global, text: &str) -> Result<Program, Fault>
+fn graph_in(alloc: Global, text: &str) -> Result<Program, LoadFault>
     ensures made { IfOk result (Makes text.now) }
     ensures fault { IfErr result (HasNone text.now) }
 {
     let scl = read_text(alloc, text)?;
     match graph_of(alloc, &scl) {
         Ok(program) => Ok(program),
-        Err(fault) => Err(Fault::Program(CompileFault::Graph(fault))),
+        Err(fault) => Err(LoadFault::Program(CompileFault::Graph(fault))),
     }
 }
 
 // That a text makes no program, for this fault. Err: the fault is that memory was refused.
-fn none_for(fault: &Fault) -> Result<bool, AllocError>
+fn none_for(fault: &LoadFault) -> Result<bool, AllocError>
     ensures none { IfOk result (λ made. made ≡ false) }
     ensures said { IfOk result (λ _. SaysOfText fault.now) }
 {
     match fault {
-        Fault::Memory
-        | Fault::Text(ReadFault::Memory)
-        | Fault::Program(CompileFault::Expansion(ExpandFault::Memory))
-        | Fault::Program(CompileFault::Graph(GraphFault::Memory)) => Err(AllocError),
+        LoadFault::Memory
+        | LoadFault::Text(ReadFault::Memory)
+        | LoadFault::Program(CompileFault::Expansion(ExpandFault::Memory))
+        | LoadFault::Program(CompileFault::Graph(GraphFault::Memory)) => Err(AllocError),
         _ => Ok(false),
     }
 }

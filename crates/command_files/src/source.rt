@@ -1,13 +1,14 @@
 //! The program in a file.
 
-ghost use Rattle.std.specs.Prelude.{◌≡◌, IfErr, IfOk};
+ghost use Rattle.std.specs.Prelude.{◌≡◌, ◌+◌, IfErr, IfOk, OnOk};
+ghost use Rattle.command_files.specs.Counting.{files_failed};
 ghost use Rattle.sc_text.specs.declared.language.Language.TheVariants as language;
 ghost use Rattle.command_files.specs.Sources.{FileLacksProgram, BytesLackProgram, TextLacksProgram};
 ghost use Rattle.command_files.specs.Sources.{IsSource, SpellsProgram};
 ghost use Rattle.sc_text.specs.FirstToken.{IsIn};
 ghost use Rattle.std.specs.Str.{IsUtf8};
 
-use crate::fault::Fault;
+use crate::fault::LoadFault;
 use crate::files::Files;
 use crate::load::bytes_of;
 use chart_reader::read_chart;
@@ -19,36 +20,36 @@ use std::alloc::Global;
 use std::str;
 
 // The SCL program of the chart that a text spells.
-fn read_as_chart(alloc: Global, text: &str) -> Result<Scl, Fault>
+fn read_as_chart(alloc: Global, text: &str) -> Result<Scl, LoadFault>
     requires { IsIn text.now language.Chart }
     ensures read { IfOk result (SpellsProgram text.now) }
     ensures fault { IfErr result (TextLacksProgram text.now) }
 {
     let chart = match read_chart(alloc, text) {
         Ok(chart) => chart,
-        Err(fault) => return Err(Fault::Text(fault)),
+        Err(fault) => return Err(LoadFault::Text(fault)),
     };
     match scl_of_chart(alloc, &chart) {
         Ok(scl) => Ok(scl),
-        Err(fault) => Err(Fault::Program(fault)),
+        Err(fault) => Err(LoadFault::Program(fault)),
     }
 }
 
 // The SCL program that a text spells.
-fn read_as_scl(alloc: Global, text: &str) -> Result<Scl, Fault>
+fn read_as_scl(alloc: Global, text: &str) -> Result<Scl, LoadFault>
     requires { IsIn text.now language.Scl }
     ensures read { IfOk result (SpellsProgram text.now) }
     ensures fault { IfErr result (TextLacksProgram text.now) }
 {
     match read_scl(alloc, text) {
         Ok(scl) => Ok(scl),
-        Err(fault) => Err(Fault::Text(fault)),
+        Err(fault) => Err(LoadFault::Text(fault)),
     }
 }
 
 /// The SCL program of a text, in the language that its first token tells. Err: the first fault of the text, or E07
 /// where the expansion of its chart passes a limit.
-pub(crate) fn read_text(alloc: Global, text: &str) -> Result<Scl, Fault>
+pub(crate) fn read_text(alloc: Global, text: &str) -> Result<Scl, LoadFault>
     ensures read { IfOk result (SpellsProgram text.now) }
     ensures fault { IfErr result (TextLacksProgram text.now) }
 {
@@ -59,21 +60,21 @@ pub(crate) fn read_text(alloc: Global, text: &str) -> Result<Scl, Fault>
 }
 
 /// These bytes as text. Err: they are no text, which is told of their first place.
-pub fn text_of(bytes: &[u8]) -> Result<&str, Fault>
+pub fn text_of(bytes: &[u8]) -> Result<&str, LoadFault>
     ensures same { IfOk result (λ text. text.now ≡ bytes.now) }
     ensures text { IfOk result (λ _. IsUtf8 bytes.now) }
     ensures fault { IfErr result (BytesLackProgram bytes.now) }
 {
     match str::from_utf8(bytes) {
         Ok(text) => Ok(text),
-        Err(_) => Err(Fault::Text(ReadFault::Text(Broken::Token, 0))),
+        Err(_) => Err(LoadFault::Text(ReadFault::Text(Broken::Token, 0))),
     }
 }
 
 /// The SCL program that these bytes spell, or that of the chart that they spell. Err: they are no text (E01 at its
 /// first place), or the text spells no program: the first fault of the text, or E07 where the expansion of its chart
 /// passes a limit.
-pub(crate) fn read_bytes(alloc: Global, bytes: &[u8]) -> Result<Scl, Fault>
+pub(crate) fn read_bytes(alloc: Global, bytes: &[u8]) -> Result<Scl, LoadFault>
     ensures text { IfOk result (λ _. IsUtf8 bytes.now) }
     ensures read { IfOk result (SpellsProgram bytes.now) }
     ensures fault { IfErr result (BytesLackProgram bytes.now) }
@@ -85,10 +86,12 @@ pub(crate) fn read_bytes(alloc: Global, bytes: &[u8]) -> Result<Scl, Fault>
 /// The SCL program whose text, or the text of whose chart, is in the file of this name. Err: the file could not be
 /// read, is no text (E01 at its first place), or its text spells no program: the first fault of the text, or E07
 /// where the expansion of its chart passes a limit.
-pub fn load_scl<F: Files>(alloc: Global, files: &mut F, name: &str) -> Result<Scl, Fault>
+pub fn load_scl<F: Files>(alloc: Global, files: &mut F, name: &str) -> Result<Scl, LoadFault>
     ensures loaded { IfOk result (IsSource (F.contents files.old) name.now) }
     ensures fault { IfErr result (FileLacksProgram (F.contents files.old) name.now) }
     ensures same { F.contents files.new ≡ F.contents files.old }
+    ensures none_failed { OnOk result (F.failures files.new ≡ F.failures files.old) }
+    ensures failed { IfErr result (λ fault. F.failures files.new ≡ F.failures files.old + files_failed fault) }
 {
     let bytes = bytes_of(alloc, files, name)?;
     read_bytes(alloc, &bytes)

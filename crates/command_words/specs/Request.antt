@@ -1,18 +1,20 @@
 -- What the words of a command ask for.
-use Rattle.std.specs.Prelude.{ℕ, if◌then◌else◌, codes, unwrap_or, Option, Some, None, List, [], ◌∷◌}
+use Rattle.std.specs.Prelude.{ℕ, Bool, false, option_map, if◌then◌else◌, codes, unwrap_or, Option, Some, None, List, [], ◌∷◌}
 use Rattle.std.specs.Option.{option_and_then}
 use Rattle.std.specs.Str.{bytes_eq}
 use Rattle.command_words.specs.Said.{Names, NoName, One, Two, Said, said_by}
 use Rattle.command_words.specs.declared.arguments.Request.{Request as Words}
 use Rattle.command_words.specs.declared.arguments.Request.TheVariants as words
 
--- a request, with the name of a file or of two; a run by so many workers
+-- a request, with the name of a file or of two; a run by so many workers; an image for the output in place of a file
 pub data Request : Type 0 where
   Check : (name : List ℕ) → Request
   Run : (name : List ℕ) (workers : ℕ) → Request
   Compile : (from to : List ℕ) → Request
+  CompileToOutput : (from : List ℕ) → Request
   Print : (name : List ℕ) → Request
   Migrate : (from to : List ℕ) → Request
+  MigrateToOutput : (from : List ℕ) → Request
   ListNodes : (name : List ℕ) → Request
   ListPlaces : (name source : List ℕ) → Request
   Explain : (name : List ℕ) → Request
@@ -23,8 +25,10 @@ abbrev pub seen : Words → Request
 seen (words.Check name) = Check name.now
 seen (words.Run name workers) = Run name.now workers.number
 seen (words.Compile from to) = Compile from.now to.now
+seen (words.CompileToOutput from) = CompileToOutput from.now
 seen (words.Print name) = Print name.now
 seen (words.Migrate from to) = Migrate from.now to.now
+seen (words.MigrateToOutput from) = MigrateToOutput from.now
 seen (words.ListNodes name) = ListNodes name.now
 seen (words.ListPlaces name source) = ListPlaces name.now source.now
 seen (words.Explain name) = Explain name.now
@@ -45,6 +49,13 @@ list_of None None (One name) = Some (ListNodes name)
 list_of None (Some source) (One name) = Some (ListPlaces name source)
 list_of workers source names = None
 
+-- where an image goes: to the file of a name, or, of the name `-`, to the output
+abbrev pub compile_to : List ℕ → List ℕ → Request
+compile_to from to = if bytes_eq to (codes "-") then CompileToOutput from else Compile from to
+
+abbrev pub migrate_to : List ℕ → List ℕ → Request
+migrate_to from to = if bytes_eq to (codes "-") then MigrateToOutput from else Migrate from to
+
 -- what another verb asks for with these names
 abbrev pub asked : List ℕ → Names → Option Request
 asked verb (One name) =
@@ -54,12 +65,12 @@ asked verb (One name) =
     else if bytes_eq verb (codes "dot") then Some (Draw name)
     else None
 asked verb (Two from to) =
-    if bytes_eq verb (codes "compile") then Some (Compile from to)
-    else if bytes_eq verb (codes "migrate") then Some (Migrate from to)
+    if bytes_eq verb (codes "compile") then Some (compile_to from to)
+    else if bytes_eq verb (codes "migrate") then Some (migrate_to from to)
     else None
 asked verb NoName = None
 
--- which has no option
+-- which has no option of its own
 abbrev pub asked_plainly : List ℕ → Option ℕ → Option (List ℕ) → Names → Option Request
 asked_plainly verb None None names = asked verb names
 asked_plainly verb workers source names = None
@@ -75,6 +86,11 @@ request_by verb s =
 abbrev pub request_of : List (List ℕ) → Option Request
 request_of [] = None
 request_of (verb ∷ words) = option_and_then (request_by verb) (said_by words)
+
+-- whether the words behind the program's name ask for words behind a fault
+abbrev pub explains : List (List ℕ) → Bool
+explains [] = false
+explains (verb ∷ words) = unwrap_or (option_map (λ s. s.explains) (said_by words)) false
 
 -- a run is asked for, which alone reads the input
 abbrev pub IsRun : Option Request → Type 0

@@ -1,5 +1,5 @@
 -- What the words behind a verb say: its options with their values, and the names of files.
-use Rattle.std.specs.Prelude.{ℕ, Bool, false, ◌==◌, ◌-◌, ◌||◌, nat_eq, nat_lt, if◌then◌else◌, codes, is_some, Option, Some, None, option_map, List, [], ◌∷◌, take, drop}
+use Rattle.std.specs.Prelude.{ℕ, Bool, true, false, ◌==◌, ◌-◌, ◌||◌, nat_eq, nat_lt, if◌then◌else◌, codes, is_some, Option, Some, None, option_map, List, [], ◌∷◌, take, drop}
 use Rattle.std.specs.List.{starts_with}
 use Rattle.std.specs.Option.{option_and_then}
 use Rattle.std.specs.Str.{bytes_eq}
@@ -21,6 +21,7 @@ pub record Said : Type 0 where
   pub next : Next
   pub workers : Option ℕ
   pub source : Option (List ℕ)
+  pub explains : Bool
   pub names : Names
 
 abbrev pub names_seen : GivenNames → Names
@@ -33,11 +34,12 @@ said_seen s = record {
   next = s.next;
   workers = option_map (λ w. w.number) s.workers;
   source = option_map (λ name. name.now) s.source;
+  explains = s.explains;
   names = names_seen s.names;
 }
 
 abbrev pub start : Said
-start = record { next = next.Any; workers = None; source = None; names = NoName }
+start = record { next = next.Any; workers = None; source = None; explains = false; names = NoName }
 
 abbrev pub hyphen : ℕ
 hyphen = 45
@@ -72,6 +74,9 @@ with_workers s n = if is_some s.workers then None else Some (record s { next = n
 abbrev pub with_source : Said → List ℕ → Option Said
 with_source s source = if is_some s.source then None else Some (record s { next = next.Any; source = Some source })
 
+abbrev pub explained : Said → Option Said
+explained s = if s.explains then None else Some (record s { explains = true })
+
 abbrev pub named : Said → List ℕ → Option Said
 named s name = option_map (λ names. record s { names = names }) (with_name s.names name)
 
@@ -89,6 +94,7 @@ opened s word =
     if bytes_eq word (codes "--") then Some (record s { next = next.Name })
     else if bytes_eq word (codes "--workers") then Some (record s { next = next.Number })
     else if bytes_eq word (codes "--source") then Some (record s { next = next.Source })
+    else if bytes_eq word (codes "--explain") then explained s
     else if is_option word then valued s word
     else named s word
 

@@ -1,7 +1,8 @@
 //! The words of a command: what they ask for, or what is shown for words that ask for nothing.
 
-ghost use Rattle.std.specs.Prelude.{◌≡◌, Some, None, IfOk, OnErr, map, option_map, string_bytes};
+ghost use Rattle.std.specs.Prelude.{◌≡◌, Some, None, IfOk, IfSome, OnErr, map, option_map, string_bytes};
 ghost use Rattle.command_words.specs.Request.{seen, asked, asked_plainly, list_of, request_by, request_of, run_of};
+ghost use Rattle.command_words.specs.Request.{compile_to, explains, migrate_to};
 ghost use Rattle.command_words.specs.Said.{names_seen, said_seen};
 ghost use Rattle.command_words.specs.declared.arguments.Unread.TheVariants.{Memory};
 
@@ -24,10 +25,14 @@ pub enum Request<'a> {
     Run(&'a str, Workers),
     /// Write the image of the chart or SCL text in the first file to the second.
     Compile(&'a str, &'a str),
+    /// Write it to the output.
+    CompileToOutput(&'a str),
     /// Print the SCL text in this file, or that of the chart in it.
     Print(&'a str),
     /// Write the image in the first file to the second, in version 2 of the layout.
     Migrate(&'a str, &'a str),
+    /// Write it to the output.
+    MigrateToOutput(&'a str),
     /// List the image in this file.
     ListNodes(&'a str),
     /// List the image in the first file, with the places of its nodes in the text of the second.
@@ -36,6 +41,15 @@ pub enum Request<'a> {
     Explain(&'a str),
     /// Draw the chart in this file, or the graph of the SCL text.
     Draw(&'a str),
+}
+
+/// What the words ask for, and whether they want words behind a fault.
+#[derive(Clone, Copy, Debug, PartialEq, Eq)]
+pub struct Asking<'a> {
+    /// What they ask for.
+    pub request: Request<'a>,
+    /// Whether a fault is told in words too.
+    pub explains: bool,
 }
 
 /// Why the words ask for nothing that can be done.
@@ -91,6 +105,26 @@ fn list_of<'a>(said: &Said<'a>) -> Option<Request<'a>>
     }
 }
 
+// Where the image of a text goes.
+fn compile_to<'a>(from: &'a str, to: &'a str) -> Request<'a>
+    ensures { seen result ≡ compile_to from.now to.now }
+{
+    match to {
+        "-" => Request::CompileToOutput(from),
+        to => Request::Compile(from, to),
+    }
+}
+
+// Where an image in version 2 goes.
+fn migrate_to<'a>(from: &'a str, to: &'a str) -> Request<'a>
+    ensures { seen result ≡ migrate_to from.now to.now }
+{
+    match to {
+        "-" => Request::MigrateToOutput(from),
+        to => Request::Migrate(from, to),
+    }
+}
+
 // What another verb asks for with these names.
 fn asked<'a>(verb: &str, names: Names<'a>) -> Option<Request<'a>>
     ensures { option_map seen result ≡ asked verb.now (names_seen names.entry) }
@@ -100,13 +134,13 @@ fn asked<'a>(verb: &str, names: Names<'a>) -> Option<Request<'a>>
         Names::One(name) if verb == "scl" => Some(Request::Print(name)),
         Names::One(name) if verb == "explain" => Some(Request::Explain(name)),
         Names::One(name) if verb == "dot" => Some(Request::Draw(name)),
-        Names::Two(from, to) if verb == "compile" => Some(Request::Compile(from, to)),
-        Names::Two(from, to) if verb == "migrate" => Some(Request::Migrate(from, to)),
+        Names::Two(from, to) if verb == "compile" => Some(compile_to(from, to)),
+        Names::Two(from, to) if verb == "migrate" => Some(migrate_to(from, to)),
         _ => None,
     }
 }
 
-// The same, of a verb that has no option.
+// The same, of a verb that has no option of its own.
 fn asked_plainly<'a>(verb: &str, said: &Said<'a>) -> Option<Request<'a>>
     ensures { option_map seen result ≡ asked_plainly verb.now (said_seen said.now).workers (said_seen said.now).source
         (said_seen said.now).names }
@@ -128,12 +162,26 @@ fn request_by<'a>(verb: &str, said: &Said<'a>) -> Option<Request<'a>>
     }
 }
 
-// The request of these words, without the program's name.
-fn request_of<'a>(words: &'a [String]) -> Option<Request<'a>>
-    ensures { option_map seen result ≡ request_of (map string_bytes words.now) }
+// What a verb and the words behind it ask for.
+fn asked_by<'a>(verb: &str, said: &Said<'a>) -> Option<Asking<'a>>
+    ensures request { option_map (λ a. seen a.request) result ≡ request_by verb.now (said_seen said.now) }
+    ensures explains { IfSome result (λ a. a.explains ≡ said.now.explains) }
+{
+    let request = request_by(verb, said)?;
+    Some(Asking {
+        request,
+        explains: said.explains,
+    })
+}
+
+// What these words, without the program's name, ask for.
+fn asked_of<'a>(words: &'a [String]) -> Option<Asking<'a>>
+    ensures request { option_map (λ a. seen a.request) result ≡ request_of (map string_bytes words.now) }
+    ensures explains { IfSome result (λ a. a.explains ≡ explains (map string_bytes words.now)) }
 {
     let (verb, words) = words.split_first()?;
-    request_by(verb.as_str(), &Said::by(words)?)
+    let said = Said::by(words)?;
+    asked_by(verb.as_str(), &said)
 }
 
 // What is shown for words that ask for nothing.
@@ -148,12 +196,13 @@ fn why_unread(alloc: Global, words: &[String]) -> Result<Unread, AllocError> {
 }
 
 /// What these words, without the program's name, ask for. Err: they ask for nothing.
-pub fn read_words<'a>(alloc: Global, words: &'a [String]) -> Result<Request<'a>, Unread>
-    ensures asked { IfOk result (λ request. request_of (map string_bytes words.now) ≡ Some (seen request)) }
+pub fn read_words<'a>(alloc: Global, words: &'a [String]) -> Result<Asking<'a>, Unread>
+    ensures asked { IfOk result (λ a. request_of (map string_bytes words.now) ≡ Some (seen a.request)) }
+    ensures explains { IfOk result (λ a. explains (map string_bytes words.now) ≡ a.explains) }
     ensures unread { OnErr result (request_of (map string_bytes words.now) ≡ None) }
 {
-    match request_of(words) {
-        Some(request) => Ok(request),
+    match asked_of(words) {
+        Some(asked) => Ok(asked),
         None => Err(why_unread(alloc, words)?),
     }
 }

@@ -3,7 +3,7 @@
 ghost use Rattle.std.specs.Prelude.{◌≡◌, map, option_map, string_bytes};
 ghost use Rattle.command_words.specs.Said.{names_seen, said_seen, source_in, step, workers_in, workers_named};
 ghost use Rattle.command_words.specs.Said.{ended, opened, read_on, said_by, start, valued, with_name, with_source};
-ghost use Rattle.command_words.specs.Said.{is_option, named, with_workers};
+ghost use Rattle.command_words.specs.Said.{explained, is_option, named, with_workers};
 
 use crate::workers::Workers;
 
@@ -36,6 +36,8 @@ pub(crate) struct Said<'a> {
     pub(crate) workers: Option<Workers>,
     /// The source, where one was said.
     pub(crate) source: Option<&'a str>,
+    /// Whether words are wanted behind a fault.
+    pub(crate) explains: bool,
     /// The files.
     pub(crate) names: Names<'a>,
 }
@@ -97,6 +99,7 @@ impl<'a> Said<'a> {
             next: Next::Any,
             workers: None,
             source: None,
+            explains: false,
             names: Names::None,
         }
     }
@@ -111,6 +114,7 @@ impl<'a> Said<'a> {
                 next: Next::Any,
                 workers: Some(workers),
                 source: self.source,
+                explains: self.explains,
                 names: self.names,
             }),
         }
@@ -126,9 +130,26 @@ impl<'a> Said<'a> {
                 next: Next::Any,
                 workers: self.workers,
                 source: Some(source),
+                explains: self.explains,
                 names: self.names,
             }),
         }
+    }
+
+    // With words wanted behind a fault, which is said once.
+    fn explained(self) -> Option<Said<'a>>
+        ensures { option_map said_seen result ≡ explained (said_seen self.entry) }
+    {
+        if self.explains {
+            return None;
+        }
+        Some(Said {
+            next: self.next,
+            workers: self.workers,
+            source: self.source,
+            explains: true,
+            names: self.names,
+        })
     }
 
     // With one more name.
@@ -140,6 +161,7 @@ impl<'a> Said<'a> {
             next: self.next,
             workers: self.workers,
             source: self.source,
+            explains: self.explains,
             names,
         })
     }
@@ -162,6 +184,7 @@ impl<'a> Said<'a> {
             next,
             workers: self.workers,
             source: self.source,
+            explains: self.explains,
             names: self.names,
         }
     }
@@ -174,6 +197,7 @@ impl<'a> Said<'a> {
             "--" => Some(self.awaits(Next::Name)),
             "--workers" => Some(self.awaits(Next::Number)),
             "--source" => Some(self.awaits(Next::Source)),
+            "--explain" => self.explained(),
             word if is_option(word) => self.valued(word),
             word => self.named(word),
         }

@@ -43,11 +43,14 @@ Output, a line for each:
 
 Status:
   0  the whole input was played
-  1  it was not: one line on standard error, such as `sct: E51 line 2`, says why
+  1  it was not: a line on standard error, such as `sct: E51 line 2`, says why
   2  these words ask for nothing
 
 Example:
   sct run examples/two_threads.image < examples/two_threads.ticks"#;
+
+// The file that a command writes.
+const WRITTEN: &str = "The file that is written, or - for standard output";
 
 // The operand of a command that is the name of a file.
 fn file_name<'a>(alloc: Global, name: &'a str, shown: &'a str, about: &'a str) -> Arg<'a> {
@@ -60,7 +63,12 @@ fn file_name<'a>(alloc: Global, name: &'a str, shown: &'a str, about: &'a str) -
 
 // The operand that is a source text.
 fn source_name<'a>(alloc: Global) -> Arg<'a> {
-    file_name(alloc, "file", "FILE", "The file of the chart or SCL text")
+    file_name(
+        alloc,
+        "file",
+        "FILE",
+        "The file of the chart or SCL text, or - for standard input",
+    )
 }
 
 // The operand that is an image.
@@ -166,7 +174,7 @@ fn migrate_command<'a>(alloc: Global) -> Result<Command<'a>, AllocError> {
         "OLD",
         "The file of the image, in either version",
     );
-    let new = file_name(alloc, "new", "NEW", "The file that is written");
+    let new = file_name(alloc, "new", "NEW", WRITTEN);
     Command::new(alloc, "migrate")
         .about("Writes an image in version 2 of the layout")
         .after_help("Example:\n  sct migrate examples/v1/two_threads.image two_threads.image")
@@ -176,12 +184,22 @@ fn migrate_command<'a>(alloc: Global) -> Result<Command<'a>, AllocError> {
 
 // The command that takes a text to an image.
 fn compile_command<'a>(alloc: Global) -> Result<Command<'a>, AllocError> {
-    let image = file_name(alloc, "image", "IMAGE", "The file that is written");
+    let image = file_name(alloc, "image", "IMAGE", WRITTEN);
     Command::new(alloc, "compile")
         .about("Compiles a chart or an SCL text to an image")
-        .after_help("Example:\n  sct compile examples/abro.chart abro.image")
+        .after_help(
+            "Examples:\n  sct compile examples/abro.chart abro.image\n  sct compile - - < examples/abro.chart > abro.image",
+        )
         .arg(source_name(alloc))?
         .arg(image)
+}
+
+// What can be asked of each verb: words behind a fault.
+fn explain_option<'a>(alloc: Global) -> Arg<'a> {
+    Arg::new(alloc, "explain")
+        .long("explain")
+        .help("Tell a fault in words too, behind its line, as where standard error is a terminal")
+        .action(ArgAction::SetTrue)
 }
 
 // What is known of a verb.
@@ -216,7 +234,7 @@ fn program<'a>(alloc: Global) -> Result<Command<'a>, AllocError> {
 pub(crate) fn sct_command<'a>(alloc: Global) -> Result<Command<'a>, AllocError> {
     let mut command = program(alloc)?;
     for verb in VERBS {
-        let described = described(alloc, verb)?;
+        let described = described(alloc, verb)?.arg(explain_option(alloc))?;
         command = command.subcommand(described)?;
     }
     Ok(command)

@@ -9,8 +9,8 @@ use Rattle.node_states.specs.StandsFor.{stands_for}
 use Rattle.state_paths.specs.Paths.{paths_of}
 use Rattle.bytecode.specs.Image.{Image}
 use Rattle.bytecode.specs.Spells.{Spells}
-use Rattle.command_files.specs.declared.fault.Fault.{Fault}
-use Rattle.command_files.specs.declared.fault.Fault.TheVariants as fault
+use Rattle.command_files.specs.declared.fault.LoadFault.{LoadFault}
+use Rattle.command_files.specs.declared.fault.LoadFault.TheVariants as fault
 use Rattle.command_files.specs.Sources.{SpellsImage, BytesLackCompiled}
 use Rattle.embedded_machine.specs.Opened.{ChartStates, OpenedImage, no_states}
 
@@ -44,6 +44,6 @@ pub record SpellsItsImage (text bytes : List ℕ) : Type 0 where
   pub spelt : Spells 2 bytes image
 
 -- why a text has no image that could be given: it spells none, for this fault; or memory was refused for its bytes
-abbrev pub IsNoImageOf : List ℕ → Fault → Type 0
+abbrev pub IsNoImageOf : List ℕ → LoadFault → Type 0
 IsNoImageOf text fault.Memory = Unit {0}
 IsNoImageOf text other = BytesLackCompiled text other

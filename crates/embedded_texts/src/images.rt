@@ -5,14 +5,14 @@ ghost use Rattle.embedded_texts.specs.Texts.{IsNoImageOf, SpellsItsImage};
 ghost use Rattle.embedded_machine.specs.Ticks.{SpellValid};
 
 use bytecode::{decode_either, encode};
-use command_files::{Fault, compile_bytes};
+use command_files::{LoadFault, compile_bytes};
 use std::alloc::Global;
 use verifier::{Verified, verify};
 
 /// The bytes of the image of the program, or of the chart, that this text spells, in version 2 of the layout. Err: it
 /// spells none, or why it has no image; or memory was refused.
 #[tactic(auto, using(crate::proofs::Refused::no_image))]
-pub fn image_of_text(alloc: Global, text: &[u8]) -> Result<Vec<u8>, Fault>
+pub fn image_of_text(alloc: Global, text: &[u8]) -> Result<Vec<u8>, LoadFault>
     ensures compiled { IfOk result (λ bytes. SpellsItsImage text.now bytes.items) }
     ensures fault { IfErr result (λ fault. IsNoImageOf text.now fault) }
 {
@@ -23,14 +23,14 @@ pub fn image_of_text(alloc: Global, text: &[u8]) -> Result<Vec<u8>, Fault>
 
 /// The valid image that these bytes spell, in either version of the layout. Err: they spell none, or why it is not
 /// valid; or memory was refused.
-pub fn verified_image(alloc: Global, bytes: &[u8]) -> Result<Verified, Fault>
+pub fn verified_image(alloc: Global, bytes: &[u8]) -> Result<Verified, LoadFault>
     ensures { IfOk result (SpellValid bytes.now) }
 {
     match decode_either(alloc, bytes) {
         Ok(image) => match verify(alloc, image) {
             Ok(verified) => Ok(verified),
-            Err(refusal) => Err(Fault::Rule(refusal)),
+            Err(refusal) => Err(LoadFault::Rule(refusal)),
         },
-        Err(fault) => Err(Fault::Image(fault)),
+        Err(fault) => Err(LoadFault::Image(fault)),
     }
 }

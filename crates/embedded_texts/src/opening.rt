@@ -8,7 +8,7 @@ ghost use Rattle.embedded_texts.specs.Texts.{AreOfChart, AreStatesOf, IsOpenedTe
 
 use crate::images::verified_image;
 use chart_reader::read_chart;
-use command_files::{Fault, compile_bytes, text_of};
+use command_files::{LoadFault, compile_bytes, text_of};
 use compiler::CompileFault;
 use embedded_machine::{Opened, States};
 use sc_text::{Language, language_of};
@@ -16,7 +16,7 @@ use std::alloc::Global;
 
 /// What these bytes spell as an image, in either version of the layout; nothing is known of a chart. Err: they spell
 /// none, or why it is not valid; or memory was refused.
-pub fn opened_image(alloc: Global, bytes: &[u8]) -> Result<Opened, Fault>
+pub fn opened_image(alloc: Global, bytes: &[u8]) -> Result<Opened, LoadFault>
     ensures valid { IfOk result (λ o. SpellValid bytes.now o.image) }
     ensures states { IfOk result (λ o. o.states ≡ no_states) }
 {
@@ -26,7 +26,7 @@ pub fn opened_image(alloc: Global, bytes: &[u8]) -> Result<Opened, Fault>
 
 /// The image of the program, or of the chart, that this text spells, with the states of the chart. Err: it spells
 /// none, or why it has no image; or memory was refused.
-pub fn opened_text(alloc: Global, bytes: &[u8]) -> Result<Opened, Fault>
+pub fn opened_text(alloc: Global, bytes: &[u8]) -> Result<Opened, LoadFault>
     ensures { IfOk result (IsOpenedText bytes.now) }
 {
     let verified = compile_bytes(alloc, bytes)?;
@@ -37,7 +37,7 @@ pub fn opened_text(alloc: Global, bytes: &[u8]) -> Result<Opened, Fault>
 
 // The states of the chart that a text spells; none where it spells a program. Err: the first fault of the chart's
 // text, or why it is not expanded; or memory was refused.
-fn states_of(alloc: Global, text: &str) -> Result<States, Fault>
+fn states_of(alloc: Global, text: &str) -> Result<States, LoadFault>
     ensures { IfOk result (AreStatesOf text.now) }
 {
     match language_of(text) {
@@ -47,15 +47,15 @@ fn states_of(alloc: Global, text: &str) -> Result<States, Fault>
 }
 
 // The states of the chart that a text spells.
-fn states_in(alloc: Global, text: &str) -> Result<States, Fault>
+fn states_in(alloc: Global, text: &str) -> Result<States, LoadFault>
     ensures { IfOk result (AreOfChart text.now) }
 {
     let chart = match read_chart(alloc, text) {
         Ok(chart) => chart,
-        Err(fault) => return Err(Fault::Text(fault)),
+        Err(fault) => return Err(LoadFault::Text(fault)),
     };
     match States::of_chart(alloc, &chart) {
         Ok(states) => Ok(states),
-        Err(fault) => Err(Fault::Program(CompileFault::Expansion(fault))),
+        Err(fault) => Err(LoadFault::Program(CompileFault::Expansion(fault))),
     }
 }

@@ -14,8 +14,8 @@ use Rattle.node_states.specs.Active.{active_states}
 use Rattle.state_paths.specs.Paths.{paths_of}
 use Rattle.compiled_charts.specs.Compiled.{CompiledChart, IsCompiledChart}
 use Rattle.command_files.specs.FaultText.{shown_name}
-use Rattle.command_files.specs.declared.fault.Fault.{Fault}
-use Rattle.command_files.specs.declared.fault.Fault.TheVariants as fault
+use Rattle.command_files.specs.declared.fault.LoadFault.{LoadFault}
+use Rattle.command_files.specs.declared.fault.LoadFault.TheVariants as fault
 use Rattle.state_traces.specs.Lines.{paths_at, states_member}
 use Rattle.state_traces.specs.Listed.{states_text}
 use Rattle.state_traces.proofs.Listed.{told_by}
@@ -29,7 +29,7 @@ has_image image chart compiled states is same made =
     subst (HasImage chart image) (sym made) (record { compiled = is; same = same; paths = refl })
 
 -- the chart has another image
-pub differ : (name : List ℕ) (image : Image) (chart : Chart) (compiled : CompiledChart) (f : Fault) → IsCompiledChart chart compiled
+pub differ : (name : List ℕ) (image : Image) (chart : Chart) (compiled : CompiledChart) (f : LoadFault) → IsCompiledChart chart compiled
     → Differ name compiled.image image f → LacksIt name chart image f
 differ name image chart compiled fault.Memory is differs = tt
 differ name image chart compiled (fault.Source shown) is differs =
@@ -38,8 +38,6 @@ differ name image chart compiled (fault.Image f) is differs = absurd differs
 differ name image chart compiled (fault.Rule f) is differs = absurd differs
 differ name image chart compiled (fault.Text f) is differs = absurd differs
 differ name image chart compiled (fault.Program f) is differs = absurd differs
-differ name image chart compiled (fault.Play f) is differs = absurd differs
-differ name image chart compiled fault.Write is differs = absurd differs
 differ name image chart compiled (fault.File shown) is differs = absurd differs
 
 -- the text spells the chart of the image
@@ -49,7 +47,7 @@ found bytes image chart states text read has =
     record { chart = chart; text = text; read = read; compiled = has.compiled; same = has.same; paths = has.paths }
 
 -- the text spells a chart that has no image, or another one
-pub lacks : (name bytes : List ℕ) (image : Image) (chart : Chart) (f : Fault) → IsUtf8 bytes → IsRead bytes chart → LacksIt name chart image f
+pub lacks : (name bytes : List ℕ) (image : Image) (chart : Chart) (f : LoadFault) → IsUtf8 bytes → IsRead bytes chart → LacksIt name chart image f
     → IsNotChartOf name bytes image f
 lacks name bytes image chart fault.Memory text read gone = tt
 lacks name bytes image chart (fault.Program f) text read gone = record { chart = chart; text = text; read = read; none = gone }
@@ -59,8 +57,6 @@ lacks name bytes image chart (fault.Source shown) text read gone =
 lacks name bytes image chart (fault.Image f) text read gone = absurd gone
 lacks name bytes image chart (fault.Rule f) text read gone = absurd gone
 lacks name bytes image chart (fault.Text f) text read gone = absurd gone
-lacks name bytes image chart (fault.Play f) text read gone = absurd gone
-lacks name bytes image chart fault.Write text read gone = absurd gone
 lacks name bytes image chart (fault.File shown) text read gone = absurd gone
 
 -- what was put behind a line tells of the active states

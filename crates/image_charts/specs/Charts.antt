@@ -14,8 +14,8 @@ use Rattle.compiler.specs.declared.fault.CompileFault.{CompileFault}
 use Rattle.node_states.specs.Active.{active_states}
 use Rattle.state_paths.specs.Paths.{paths_of}
 use Rattle.compiled_charts.specs.Compiled.{CompiledChart, IsCompiledChart}
-use Rattle.command_files.specs.declared.fault.Fault.{Fault}
-use Rattle.command_files.specs.declared.fault.Fault.TheVariants as fault
+use Rattle.command_files.specs.declared.fault.LoadFault.{LoadFault}
+use Rattle.command_files.specs.declared.fault.LoadFault.TheVariants as fault
 use Rattle.command_files.specs.FaultText.{shown_name}
 use Rattle.state_traces.specs.Lines.{paths_at, states_member}
 use Rattle.state_traces.specs.Trace.{Words}
@@ -63,7 +63,7 @@ pub record IsOtherChart (bytes : List ℕ) (image : Image) : Type 0 where
   pub differs : compiled.image ≢ image
 
 -- why the bytes of the file of this name are not the chart of an image
-abbrev pub IsNotChartOf : List ℕ → List ℕ → Image → Fault → Type 0
+abbrev pub IsNotChartOf : List ℕ → List ℕ → Image → LoadFault → Type 0
 IsNotChartOf name bytes image fault.Memory = Unit {0}
 IsNotChartOf name bytes image (fault.Text f) = SpellsNoChart bytes f
 IsNotChartOf name bytes image (fault.Program f) = LacksImage bytes f

@@ -9,7 +9,7 @@ ghost use Rattle.image_charts.specs.Inside.Beside.{Differ, HasImage, LacksIt};
 use crate::states::ChartStates;
 use bytecode::{Image, encode};
 use chart_reader::read_chart;
-use command_files::{Fault, shown_name};
+use command_files::{LoadFault, shown_name};
 use compiled_charts::compile_chart;
 use core_charts::Chart;
 use sc_text::{Broken, ReadFault};
@@ -39,25 +39,25 @@ fn are_same(alloc: Global, image: &Image, other: &Image) -> Result<bool, AllocEr
 }
 
 // Compares two images. Err: they are not the same, which is told of the file of this name.
-fn compare(alloc: Global, name: &str, image: &Image, other: &Image) -> Result<(), Fault>
+fn compare(alloc: Global, name: &str, image: &Image, other: &Image) -> Result<(), LoadFault>
     ensures same { IfOk result (λ _. image.now ≡ other.now) }
     ensures fault { IfErr result (Differ name.now image.now other.now) }
 {
     if !are_same(alloc, image, other)? {
-        return Err(Fault::Source(shown_name(alloc, name)?));
+        return Err(LoadFault::Source(shown_name(alloc, name)?));
     }
     Ok(())
 }
 
 // A chart that is compiled, where this is its image. Err: it has none, or another one.
 #[tactic(auto, using(crate::proofs::Found::has_image, crate::proofs::Found::differ))]
-fn beside(alloc: Global, name: &str, chart: &Chart, image: &Verified) -> Result<ChartStates, Fault>
+fn beside(alloc: Global, name: &str, chart: &Chart, image: &Verified) -> Result<ChartStates, LoadFault>
     ensures found { IfOk result (HasImage chart.now image.now) }
     ensures fault { IfErr result (LacksIt name.now chart.now image.now) }
 {
     let compiled = match compile_chart(alloc, chart) {
         Ok(compiled) => compiled,
-        Err(fault) => return Err(Fault::Program(fault)),
+        Err(fault) => return Err(LoadFault::Program(fault)),
     };
     compare(alloc, name, compiled.image().image(), image.image())?;
     Ok(ChartStates::of(alloc, chart, compiled)?)
@@ -71,13 +71,13 @@ pub fn chart_of(
     name: &str,
     bytes: &[u8],
     image: &Verified,
-) -> Result<ChartStates, Fault>
+) -> Result<ChartStates, LoadFault>
     ensures found { IfOk result (IsChartOf bytes.now image.now) }
     ensures fault { IfErr result (IsNotChartOf name.now bytes.now image.now) }
 {
     let chart = match chart_in(alloc, bytes) {
         Ok(chart) => chart,
-        Err(fault) => return Err(Fault::Text(fault)),
+        Err(fault) => return Err(LoadFault::Text(fault)),
     };
     let states = beside(alloc, name, &chart, image)?;
     Ok(states)

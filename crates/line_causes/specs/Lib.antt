@@ -1,4 +1,5 @@
 pub mod Cause
 pub mod Inside
+pub mod Met
 pub mod Recent
 pub mod Words

@@ -27,6 +27,13 @@ impl OfInput for Brand {
     ghost start = { None };
 }
 
+/// A source, lent: it is handed on as the one that it is.
+#[derive(Drop)]
+pub struct Lent<'a, S: Source> {
+    /// The source.
+    pub source: &'a mut S,
+}
+
 /// A source, lent, of whose bytes the lines are kept that were read last: the one whose end was not read yet, and those
 /// that were read with its beginning.
 #[derive(Drop)]
@@ -75,23 +82,33 @@ fn line_in(rest: &[u8], is_ended: bool) -> Line<'_>
 }
 
 impl<'a, S: Source, N: OfInput> Recent<'a, S, N> {
-    /// The source, of which nothing is kept yet.
+    /// The source, of which nothing is kept yet. Without `keeps` nothing will be, and it is passed on as it is.
     #[tactic(auto, using(crate::proofs::Behind::at_start))]
-    pub fn of(alloc: Global, source: &'a mut S) -> Recent<'a, S, N>
-        requires name { source.ghost_name ≡ N.name }
-        requires start { S.to_come source.now ≡ N.start }
-        ensures source { result.source.ghost_name ≡ source.entry.ghost_name }
-        ensures now { result.source.now ≡ source.entry.now }
+    pub fn of(alloc: Global, lent: Lent<'a, S>, keeps: bool) -> Recent<'a, S, N>
+        requires name { lent.source.ghost_name ≡ N.name }
+        requires start { S.to_come lent.source.now ≡ N.start }
+        ensures source { result.source.ghost_name ≡ lent.entry.source.ghost_name }
+        ensures now { result.source.now ≡ lent.entry.source.now }
     {
+        let Lent { source } = lent;
         Recent {
             source,
             alloc,
             kept: Vec::new(alloc),
             before: 0,
-            is_lost: false,
+            is_lost: !keeps,
             is_ended: false,
             of: PhantomData,
         }
+    }
+
+    /// The source, as it was lent.
+    pub fn lent(self) -> Lent<'a, S>
+        ensures name { result.source.ghost_name ≡ N.name }
+        ensures now { result.source.now ≡ self.entry.source.now }
+    {
+        let Recent { source, .. } = self;
+        Lent { source }
     }
 
     /// The line of this number, from 1, of all that were to come at first, if it is kept.

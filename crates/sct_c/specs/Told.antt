@@ -1,6 +1,6 @@
 -- What exports tell.
 use Rattle.std.specs.Prelude.{ℕ, ◌≡◌, ℤ, pos, List, Option, length}
-use Rattle.command_files.specs.declared.fault.Fault.{Fault}
+use Rattle.command_files.specs.declared.fault.LoadFault.{LoadFault}
 use Rattle.command_files.specs.FaultText.{fault_text}
 use Rattle.embedded_machine.specs.Buffers.{BeginsAs}
 use Rattle.embedded_machine.specs.Opened.{OpenedImage, no_states}
@@ -41,7 +41,7 @@ pub record TellsWhy (text words : List ℕ) (count : ℕ) : Type 0 where
 
 -- the text has no image that could be given, for a fault of which a buffer tells
 pub record TellsRefused (text words : List ℕ) (count : ℕ) : Type 0 where
-  pub fault : Fault
+  pub fault : LoadFault
   pub none : IsNoImageOf text fault
   pub tells : TellsWhy (fault_text fault) words count
 

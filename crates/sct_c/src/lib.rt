@@ -29,7 +29,7 @@ ghost use Rattle.sct_c.specs.Told.{
   status_of,
 };
 
-use command_files::Fault;
+use command_files::LoadFault;
 use embedded_machine::{
     MachineFault, MachineHandle, Opened, VariableRow, close, names_of, open_machine, put_beginning,
     put_bytes, react, reset, restore, save, state_is_active, tell_names,
@@ -92,7 +92,7 @@ fn status_of(fault: MachineFault) -> i32
 
 // Puts as much of the words of a fault into a buffer as has room there. The status, or that memory was refused for
 // them.
-fn put_words(alloc: Global, fault: &Fault, words: &mut [u8], length: &mut usize, status: i32) -> i32
+fn put_words(alloc: Global, fault: &LoadFault, words: &mut [u8], length: &mut usize, status: i32) -> i32
     requires { (status ≡ pos 3) ⊎ (status ≡ pos 4) }
     ensures status { (result ≡ status) ⊎ (result ≡ pos 2) }
     ensures told { result ≢ pos 2 → TellsWhy (fault_text fault.now) words.new length.new }

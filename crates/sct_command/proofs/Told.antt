@@ -3,51 +3,43 @@ use Rattle.std.proofs.Common.{◌≡◌, ℕ, List, Option, ◌⊎◌, inl, inr,
 use Rattle.std.specs.Io.KnownBytes.{Appends}
 use Rattle.bytecode.specs.Image.{Image}
 use Rattle.command_files.proofs.Held.{compiled, no_compiled}
-use Rattle.command_files.specs.declared.fault.Fault.{Fault}
-use Rattle.command_files.specs.declared.fault.Fault.TheVariants as fault
+use Rattle.command_files.specs.declared.fault.LoadFault.{LoadFault}
+use Rattle.command_files.specs.declared.fault.LoadFault.TheVariants as load
+use Rattle.command_files.specs.Counting.{files_failed}
+use Rattle.sct_command.specs.declared.fault.Fault.{Fault}
+use Rattle.sct_command.specs.declared.fault.Fault.TheVariants as fault
 use Rattle.command_files.specs.Files.{Contents, HasBytes}
 use Rattle.command_files.specs.Sources.{FileLacksCompiled, FileLacksProgram, SpellsImage, BytesLackCompiled}
-use Rattle.sct_command.specs.Answer.{reads_failed, writes_failed}
 use Rattle.sct_command.specs.Explaining.{FindsImage, IsTold, RefusesExplaining}
 use Rattle.sct_command.specs.Summary.{RefusesSummary, summary_of}
 
--- no stream failed where a file has no image
-quiet : (files : Option Contents) (name : List ℕ) (f : Fault) → FileLacksCompiled files name f → (writes_failed f ≡ 0) × (reads_failed f ≡ 0)
-quiet files name fault.Memory why = (refl, refl)
-quiet files name (fault.Image f) why = (refl, refl)
-quiet files name (fault.Rule f) why = (refl, refl)
-quiet files name (fault.Text f) why = (refl, refl)
-quiet files name (fault.Program f) why = (refl, refl)
-quiet files name (fault.File f) why = (refl, refl)
-quiet files name (fault.Source f) why = (refl, refl)
-quiet files name fault.Write (inl why) = absurd why
-quiet files name fault.Write (inr why) = absurd why
-quiet files name (fault.Play f) (inl why) = absurd why
-quiet files name (fault.Play f) (inr why) = absurd why
-
-told : (files : Option Contents) (name : List ℕ) (old new : Option (List ℕ)) (f r : Fault) → FileLacksCompiled files name f → IsTold name f old new r → RefusesExplaining files name old new r
-told files name old new f fault.Memory why is = is
+told : (files : Option Contents) (name : List ℕ) (old new : Option (List ℕ)) (f : LoadFault) (r : Fault) → FileLacksCompiled files name f → IsTold name f old new r → RefusesExplaining files name old new r
+told files name old new f (fault.Files load.Memory) why is = is
 told files name old new f fault.Write why is = inr (record { fault = f; none = why; told = is })
-told files name old new f (fault.Image g) why (same, some) = (subst (FileLacksCompiled files name) (sym same) why, some)
-told files name old new f (fault.Rule g) why (same, some) = (subst (FileLacksCompiled files name) (sym same) why, some)
-told files name old new f (fault.Text g) why (same, some) = (subst (FileLacksCompiled files name) (sym same) why, some)
-told files name old new f (fault.Program g) why (same, some) = (subst (FileLacksCompiled files name) (sym same) why, some)
-told files name old new f (fault.Play g) why (same, some) = (subst (FileLacksCompiled files name) (sym same) why, some)
-told files name old new f (fault.File g) why (same, some) = (subst (FileLacksCompiled files name) (sym same) why, some)
-told files name old new f (fault.Source g) why (same, some) = (subst (FileLacksCompiled files name) (sym same) why, some)
+told files name old new f (fault.Files (load.Image g)) why (same, some) = (subst (FileLacksCompiled files name) (sym same) why, some)
+told files name old new f (fault.Files (load.Rule g)) why (same, some) = (subst (FileLacksCompiled files name) (sym same) why, some)
+told files name old new f (fault.Files (load.Text g)) why (same, some) = (subst (FileLacksCompiled files name) (sym same) why, some)
+told files name old new f (fault.Files (load.Program g)) why (same, some) = (subst (FileLacksCompiled files name) (sym same) why, some)
+told files name old new f (fault.Files (load.File g)) why (same, some) = (subst (FileLacksCompiled files name) (sym same) why, some)
+told files name old new f (fault.Files (load.Source g)) why (same, some) = (subst (FileLacksCompiled files name) (sym same) why, some)
+told files name old new f (fault.Play g cause) why is = absurd is
 
 -- a file that is no source
-pub quiet_source : (files : Option Contents) (name : List ℕ) (f : Fault) → FileLacksProgram files name f → (writes_failed f ≡ 0) × (reads_failed f ≡ 0)
-quiet_source files name f why = quiet files name f (inl why)
-
-pub told_source : (files : Option Contents) (name : List ℕ) (old new : Option (List ℕ)) (f r : Fault) → FileLacksProgram files name f → IsTold name f old new r → RefusesExplaining files name old new r
+pub told_source : (files : Option Contents) (name : List ℕ) (old new : Option (List ℕ)) (f : LoadFault) (r : Fault) → FileLacksProgram files name f → IsTold name f old new r → RefusesExplaining files name old new r
 told_source files name old new f r why is = told files name old new f r (inl why) is
 
 -- bytes that spell no image
-pub quiet_bytes : (files : Option Contents) (name bytes : List ℕ) (f : Fault) → HasBytes files name bytes → BytesLackCompiled bytes f → (writes_failed f ≡ 0) × (reads_failed f ≡ 0)
-quiet_bytes files name bytes f held why = quiet files name f (no_compiled files name bytes f held why)
+pub quiet_bytes : (bytes : List ℕ) (f : LoadFault) → BytesLackCompiled bytes f → files_failed f ≡ 0
+quiet_bytes bytes (load.File g) (inl why) = absurd why
+quiet_bytes bytes (load.File g) (inr why) = absurd why
+quiet_bytes bytes load.Memory why = refl
+quiet_bytes bytes (load.Image g) why = refl
+quiet_bytes bytes (load.Rule g) why = refl
+quiet_bytes bytes (load.Text g) why = refl
+quiet_bytes bytes (load.Program g) why = refl
+quiet_bytes bytes (load.Source g) why = refl
 
-pub told_bytes : (files : Option Contents) (name bytes : List ℕ) (old new : Option (List ℕ)) (f r : Fault) → HasBytes files name bytes → BytesLackCompiled bytes f → IsTold name f old new r → RefusesExplaining files name old new r
+pub told_bytes : (files : Option Contents) (name bytes : List ℕ) (old new : Option (List ℕ)) (f : LoadFault) (r : Fault) → HasBytes files name bytes → BytesLackCompiled bytes f → IsTold name f old new r → RefusesExplaining files name old new r
 told_bytes files name bytes old new f r held why is = told files name old new f r (no_compiled files name bytes f held why) is
 
 -- bytes that spell one
@@ -55,12 +47,12 @@ pub finds : (files : Option Contents) (name bytes : List ℕ) (old new : Option 
 finds files name bytes old new image held is written = record { image = image; compiled = compiled files name bytes image held is; written = written }
 
 pub finds_part : (files : Option Contents) (name bytes : List ℕ) (old new : Option (List ℕ)) (image : Image) (f : Fault) → HasBytes files name bytes → SpellsImage bytes image → RefusesSummary image old new f → RefusesExplaining files name old new f
-finds_part files name bytes old new image fault.Memory held is none = inl none
+finds_part files name bytes old new image (fault.Files load.Memory) held is none = inl none
 finds_part files name bytes old new image fault.Write held is part = inl (record { image = image; compiled = compiled files name bytes image held is; in_part = part })
-finds_part files name bytes old new image (fault.Image f) held is none = absurd none
-finds_part files name bytes old new image (fault.Rule f) held is none = absurd none
-finds_part files name bytes old new image (fault.Text f) held is none = absurd none
-finds_part files name bytes old new image (fault.Program f) held is none = absurd none
-finds_part files name bytes old new image (fault.Play f) held is none = absurd none
-finds_part files name bytes old new image (fault.File f) held is none = absurd none
-finds_part files name bytes old new image (fault.Source f) held is none = absurd none
+finds_part files name bytes old new image (fault.Files (load.Image f)) held is none = absurd none
+finds_part files name bytes old new image (fault.Files (load.Rule f)) held is none = absurd none
+finds_part files name bytes old new image (fault.Files (load.Text f)) held is none = absurd none
+finds_part files name bytes old new image (fault.Files (load.Program f)) held is none = absurd none
+finds_part files name bytes old new image (fault.Files (load.File f)) held is none = absurd none
+finds_part files name bytes old new image (fault.Files (load.Source f)) held is none = absurd none
+finds_part files name bytes old new image (fault.Play f cause) held is none = absurd none

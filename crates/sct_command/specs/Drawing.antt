@@ -12,10 +12,12 @@ use Rattle.scl_reader.specs.Read.{IsRead}
 use Rattle.scl_graph.specs.Answers.{IsGraph, LacksGraph}
 use Rattle.scl_graph.specs.declared.fault.GraphFault.{GraphFault}
 use Rattle.compiler.specs.declared.fault.CompileFault.TheVariants as compiling
-use Rattle.command_files.specs.declared.fault.Fault.{Fault}
-use Rattle.command_files.specs.declared.fault.Fault.TheVariants as fault
+use Rattle.command_files.specs.declared.fault.LoadFault.{LoadFault}
+use Rattle.command_files.specs.declared.fault.LoadFault.TheVariants as load
 use Rattle.command_files.specs.Files.{Contents, HasBytes}
 use Rattle.command_files.specs.Sources.{SpellsIn, TextLacksProgram, BytesLackProgram, FileLacksProgram}
+use Rattle.sct_command.specs.declared.fault.Fault.{Fault}
+use Rattle.sct_command.specs.declared.fault.Fault.TheVariants as fault
 
 -- ---- what was done
 
@@ -50,21 +52,21 @@ pub record SclTextLacksGraph (text : List ℕ) (f : GraphFault) : Type 0 where
   pub read : IsRead text scl
   pub none : LacksGraph scl f
 
-abbrev pub TextLacksGraph : List ℕ → Fault → Type 0
-TextLacksGraph text fault.Memory = Unit {0}
-TextLacksGraph text (fault.Program (compiling.Graph f)) = SclTextLacksGraph text f
+abbrev pub TextLacksGraph : List ℕ → LoadFault → Type 0
+TextLacksGraph text load.Memory = Unit {0}
+TextLacksGraph text (load.Program (compiling.Graph f)) = SclTextLacksGraph text f
 TextLacksGraph text other = ⊥
 
 -- why a text has no drawing: it spells no program, or in SCL one that has no graph
-abbrev pub TextLacksDrawing : List ℕ → Fault → Type 0
+abbrev pub TextLacksDrawing : List ℕ → LoadFault → Type 0
 TextLacksDrawing text f = TextLacksProgram text f ⊎ TextLacksGraph text f
 
 -- why bytes have none
-abbrev pub BytesLackDrawing : List ℕ → Fault → Type 0
+abbrev pub BytesLackDrawing : List ℕ → LoadFault → Type 0
 BytesLackDrawing bytes f = BytesLackProgram bytes f ⊎ TextLacksGraph bytes f
 
 -- there is no program in this file, or its text is SCL and has no graph
-abbrev pub FileLacksDrawing : Option Contents → List ℕ → Fault → Type 0
+abbrev pub FileLacksDrawing : Option Contents → List ℕ → LoadFault → Type 0
 FileLacksDrawing files name f = FileLacksProgram files name f ⊎ ((bytes : List ℕ) × HasBytes files name bytes × TextLacksGraph bytes f)
 
 -- the output failed, and took a beginning of some text
@@ -79,4 +81,5 @@ pub record DrawsPart (files : Option Contents) (name : List ℕ) (old new : Opti
 -- what drawing leaves that is refused: nothing was written, but where the output failed
 abbrev pub RefusesDrawing : Option Contents → List ℕ → Option (List ℕ) → Option (List ℕ) → Fault → Type 0
 RefusesDrawing files name old new fault.Write = DrawsPart files name old new
-RefusesDrawing files name old new other = FileLacksDrawing files name other × (new ≡ old)
+RefusesDrawing files name old new (fault.Files f) = FileLacksDrawing files name f × (new ≡ old)
+RefusesDrawing files name old new other = ⊥

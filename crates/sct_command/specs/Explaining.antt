@@ -3,8 +3,8 @@ use Rattle.std.specs.Prelude.{ℕ, ◌≡◌, ◌⊎◌, Option, List, codes}
 use Rattle.std.specs.Io.KnownBytes.{Appends}
 use Rattle.sc_values.specs.Streams.{GrowsInto}
 use Rattle.bytecode.specs.Image.{Image}
-use Rattle.command_files.specs.declared.fault.Fault.{Fault}
-use Rattle.command_files.specs.declared.fault.Fault.TheVariants as fault
+use Rattle.command_files.specs.declared.fault.LoadFault.{LoadFault}
+use Rattle.command_files.specs.declared.fault.LoadFault.TheVariants as load
 use Rattle.command_files.specs.FaultText.{shown_name}
 use Rattle.command_files.specs.Files.{Contents}
 use Rattle.command_files.specs.Sources.{IsCompiledFrom, FileLacksCompiled}
@@ -12,6 +12,8 @@ use Rattle.compiler.specs.FaultText.{fault_text}
 use Rattle.diagnostics.specs.Reports.{Tells, text_fault}
 use Rattle.sct_command.specs.Summary.{summary_of}
 use Rattle.sct_command.specs.Writing.{WritesPart, WritesSome}
+use Rattle.sct_command.specs.declared.fault.Fault.{Fault}
+use Rattle.sct_command.specs.declared.fault.Fault.TheVariants as fault
 
 -- the program in this file has an image, whose summary was written
 pub record FindsImage (files : Option Contents) (name : List ℕ) (old new : Option (List ℕ)) : Type 0 where
@@ -27,39 +29,41 @@ pub record FindsImagePart (files : Option Contents) (name : List ℕ) (old new :
 
 -- a beginning was written of what is said of the fault for which this file has no image
 pub record ExplainsPart (files : Option Contents) (name : List ℕ) (old new : Option (List ℕ)) : Type 0 where
-  pub fault : Fault
+  pub fault : LoadFault
   pub none : FileLacksCompiled files name fault
   pub told : WritesPart old new
 
 -- how a fault is told: that of a text by its number, that of a program with what it names
-abbrev pub told_fault : Fault → List ℕ
-told_fault (fault.Text f) = text_fault f
-told_fault (fault.Program f) = fault_text f
-told_fault (fault.File shown) = codes "E64"
+abbrev pub told_fault : LoadFault → List ℕ
+told_fault (load.Text f) = text_fault f
+told_fault (load.Program f) = fault_text f
+told_fault (load.File shown) = codes "E64"
 told_fault other = codes "E52"
 
 -- a text was written that begins with the name of the file, as it is shown, and tells the fault
-pub record WritesReport (name : List ℕ) (f : Fault) (old new : Option (List ℕ)) : Type 0 where
+pub record WritesReport (name : List ℕ) (f : LoadFault) (old new : Option (List ℕ)) : Type 0 where
   pub text : List ℕ
   pub tells : Tells (shown_name name) (told_fault f) text
   pub written : Appends old new text
 
 -- what telling of a fault leaves that is refused
 abbrev pub RefusesTelling : Option (List ℕ) → Option (List ℕ) → Fault → Type 0
-RefusesTelling old new fault.Memory = new ≡ old
+RefusesTelling old new (fault.Files load.Memory) = new ≡ old
 RefusesTelling old new fault.Write = WritesPart old new
 RefusesTelling old new other = ⊥
 
 -- what is left where a fault was to be told, and this one is answered: itself, and a report of it was written; or memory
 -- was refused; or the output failed, and took a beginning
-abbrev pub IsTold : List ℕ → Fault → Option (List ℕ) → Option (List ℕ) → Fault → Type 0
-IsTold name f old new fault.Memory = (new ≡ old) ⊎ WritesSome old new
+abbrev pub IsTold : List ℕ → LoadFault → Option (List ℕ) → Option (List ℕ) → Fault → Type 0
+IsTold name f old new (fault.Files load.Memory) = (new ≡ old) ⊎ WritesSome old new
 IsTold name f old new fault.Write = WritesPart old new
-IsTold name f old new other = (other ≡ f) × WritesReport name other old new
+IsTold name f old new (fault.Files other) = (other ≡ f) × WritesReport name other old new
+IsTold name f old new other = ⊥
 
 -- what an explanation leaves: the fault for which the file has no image, and a report of it was written; where memory was
 -- refused, some text or nothing; and a beginning where the output failed
 abbrev pub RefusesExplaining : Option Contents → List ℕ → Option (List ℕ) → Option (List ℕ) → Fault → Type 0
-RefusesExplaining files name old new fault.Memory = (new ≡ old) ⊎ WritesSome old new
+RefusesExplaining files name old new (fault.Files load.Memory) = (new ≡ old) ⊎ WritesSome old new
 RefusesExplaining files name old new fault.Write = FindsImagePart files name old new ⊎ ExplainsPart files name old new
-RefusesExplaining files name old new other = FileLacksCompiled files name other × WritesReport name other old new
+RefusesExplaining files name old new (fault.Files other) = FileLacksCompiled files name other × WritesReport name other old new
+RefusesExplaining files name old new other = ⊥

@@ -4,11 +4,11 @@ use Rattle.std.specs.Io.KnownBytes.{Appends}
 use Rattle.sc_values.specs.Streams.{GrowsInto}
 use Rattle.bytecode.specs.Image.{Image}
 use Rattle.bytecode.specs.Spells.{Spells}
-use Rattle.command_files.specs.declared.fault.Fault.{Fault}
-use Rattle.command_files.specs.declared.fault.Fault.TheVariants as fault
 use Rattle.command_files.specs.Files.{Contents, Stores}
 use Rattle.command_files.specs.Storing.{IsNotStored}
 use Rattle.sct_command.specs.Summary.{summary_of}
+use Rattle.sct_command.specs.declared.fault.Fault.{Fault}
+use Rattle.sct_command.specs.declared.fault.Fault.TheVariants as fault
 
 -- the file of this name has now the image, in version 2, and the image's summary was written
 pub record KeepsImage (image : Image) (files files' : Option Contents) (to : List ℕ) (old new : Option (List ℕ)) : Type 0 where
@@ -28,4 +28,5 @@ pub record KeepsPart (image : Image) (files files' : Option Contents) (to : List
 abbrev pub RefusesKeeping : Image → Option Contents → Option Contents → List ℕ → Option (List ℕ) → Option (List ℕ)
     → Fault → Type 0
 RefusesKeeping image files files' to old new fault.Write = KeepsPart image files files' to old new
-RefusesKeeping image files files' to old new other = IsNotStored to other × (files' ≡ files) × (new ≡ old)
+RefusesKeeping image files files' to old new (fault.Files f) = IsNotStored to f × (files' ≡ files) × (new ≡ old)
+RefusesKeeping image files files' to old new other = ⊥

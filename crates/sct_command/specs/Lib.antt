@@ -1,8 +1,12 @@
 pub mod Answer
 pub mod Drawing
+pub mod Emitting
 pub mod Explaining
+pub mod Failing
+pub mod FaultText
 pub mod Keeping
 pub mod Listing
 pub mod Sources
 pub mod Summary
+pub mod Words
 pub mod Writing

@@ -6,12 +6,12 @@ use Rattle.scl.specs.declared.program.Scl.{Scl}
 use Rattle.scl_printer.specs.Layout.{text_of}
 use Rattle.bytecode.specs.Image.{Image}
 use Rattle.bytecode.specs.Spells.{Spells}
-use Rattle.command_files.specs.declared.fault.Fault.{Fault}
-use Rattle.command_files.specs.declared.fault.Fault.TheVariants as fault
 use Rattle.command_files.specs.Files.{Contents, Stores}
 use Rattle.command_files.specs.Sources.{IsCompiledFrom, FileLacksCompiled, FileLacksProgram, IsSource}
 use Rattle.command_files.specs.Storing.{IsNotStored}
 use Rattle.sct_command.specs.Summary.{summary_of}
+use Rattle.sct_command.specs.declared.fault.Fault.{Fault}
+use Rattle.sct_command.specs.declared.fault.Fault.TheVariants as fault
 
 -- ---- what was done
 
@@ -46,8 +46,9 @@ pub record CompilesPart (files files' : Option Contents) (from to : List ℕ) (o
 abbrev pub RefusesCompile : Option Contents → Option Contents → List ℕ → List ℕ → Option (List ℕ) → Option (List ℕ)
     → Fault → Type 0
 RefusesCompile files files' from to old new fault.Write = CompilesPart files files' from to old new
-RefusesCompile files files' from to old new other =
-    (FileLacksCompiled files from other ⊎ IsNotStored to other) × (files' ≡ files) × (new ≡ old)
+RefusesCompile files files' from to old new (fault.Files f) =
+    (FileLacksCompiled files from f ⊎ IsNotStored to f) × (files' ≡ files) × (new ≡ old)
+RefusesCompile files files' from to old new other = ⊥
 
 -- a beginning of the text of the program in this file was written
 pub record PrintsPart (files : Option Contents) (name : List ℕ) (old new : Option (List ℕ)) : Type 0 where
@@ -58,4 +59,5 @@ pub record PrintsPart (files : Option Contents) (name : List ℕ) (old new : Opt
 -- what printing leaves that is refused: nothing was written, but where the output failed
 abbrev pub RefusesPrinting : Option Contents → List ℕ → Option (List ℕ) → Option (List ℕ) → Fault → Type 0
 RefusesPrinting files name old new fault.Write = PrintsPart files name old new
-RefusesPrinting files name old new other = FileLacksProgram files name other × (new ≡ old)
+RefusesPrinting files name old new (fault.Files f) = FileLacksProgram files name f × (new ≡ old)
+RefusesPrinting files name old new other = ⊥

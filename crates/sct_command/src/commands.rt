@@ -1,24 +1,27 @@
 //! From words to what they ask for.
 
-ghost use Rattle.std.specs.Prelude.{◌≡◌, ◌≤◌, ◌+◌, Some, None, IfOk, IfErr, OnOk, map, string_bytes};
-ghost use Rattle.command_files.specs.FaultText.{fault_text};
-ghost use Rattle.command_files.specs.declared.fault.Fault.TheVariants as told;
-ghost use Rattle.command_words.specs.Request.{StoresImage, IsRun, request_of, seen};
+ghost use Rattle.std.specs.Prelude.{◌≡◌, ◌≤◌, ◌+◌, ◌||◌, Some, None, IfOk, IfErr, OnOk, map, string_bytes};
+ghost use Rattle.command_words.specs.Request.{StoresImage, IsRun, explains, request_of, seen};
 ghost use Rattle.sc_values.specs.Streams.{IsNotReadBehind};
-ghost use Rattle.sct_command.specs.Answer.{Does, Refuses, IsRefused, TellsFault};
-ghost use Rattle.sct_command.specs.Answer.{fault_line, reads_failed, writes_failed};
+ghost use Rattle.sct_command.specs.Answer.{CountsFiles, Does, Refuses, IsRefused, TellsFault};
+ghost use Rattle.sct_command.specs.declared.fault.Fault.TheVariants as told;
+ghost use Rattle.sct_command.specs.Failing.{reads_failed, writes_failed};
+ghost use Rattle.sct_command.specs.FaultText.{fault_text};
+ghost use Rattle.sct_command.specs.Words.{TellsLines, fault_line};
 ghost use Rattle.sct_command.specs.Writing.{WritesText, WritesPart};
 
 use crate::check::check;
-use crate::compile::compile;
+use crate::compile::{compile, compile_to_output};
 use crate::draw::draw;
 use crate::explain::explain;
+use crate::fault::Fault;
 use crate::list::list;
 use crate::list_places::list_places;
-use crate::migrate::migrate;
+use crate::migrate::{migrate, migrate_to_output};
 use crate::print::print_text;
 use crate::run::run;
-use command_files::{Fault, Files};
+use crate::words::behind_line;
+use command_files::{Files, LoadFault};
 use command_words::{Request, Unread, read_words};
 use sc_values::{Sink, Source, write_all};
 use std::alloc::{AllocError, Global};
@@ -41,14 +44,25 @@ fn line_of(alloc: Global, fault: &Fault) -> Result<String, AllocError>
     format!(in alloc; "sct: {fault}\n")
 }
 
-// Writes the line of a fault. Where it cannot be written, nothing else can be done.
-fn refuse<X: Sink>(alloc: Global, fault: &Fault, errors: &mut X) -> u8
+// The line of a fault, with words behind it where they are wanted.
+fn lines_of(alloc: Global, fault: &Fault, wanted: bool) -> Result<String, AllocError>
+    ensures { IfOk result (λ lines. TellsLines fault.now wanted (string_bytes lines)) }
+{
+    let mut lines = line_of(alloc, fault)?;
+    let words = behind_line(alloc, fault, wanted);
+    lines.push_str(words.as_str())?;
+    Ok(lines)
+}
+
+// Writes the line of a fault, with words behind it where they are wanted. Where it cannot be written, nothing else can
+// be done.
+fn refuse<X: Sink>(alloc: Global, fault: &Fault, wanted: bool, errors: &mut X) -> u8
     ensures status { result ≡ REFUSED }
-    ensures line { TellsFault fault.now
+    ensures line { TellsFault fault.now wanted
         (X.taken errors.old) (X.taken errors.new) (X.failures errors.old) (X.failures errors.new) }
 {
-    let _ = match line_of(alloc, fault) {
-        Ok(line) => write_all(errors, line.as_bytes()),
+    let _ = match lines_of(alloc, fault, wanted) {
+        Ok(lines) => write_all(errors, lines.as_bytes()),
         Err(_) => write_all(errors, b"sct: E52\n"),
     };
     REFUSED
@@ -59,6 +73,7 @@ fn show<W: Sink, X: Sink>(
     alloc: Global,
     text: &str,
     asked: bool,
+    wanted: bool,
     output: &mut W,
     errors: &mut X,
 ) -> u8
@@ -69,7 +84,7 @@ fn show<W: Sink, X: Sink>(
     ensures refused { result ≡ REFUSED → WritesPart (W.taken output.old) (W.taken output.new) }
     ensures failed { result ≡ REFUSED → W.failures output.new ≡ W.failures output.old + 1 }
     ensures told { result ≡ REFUSED
-        → TellsFault told.Write
+        → TellsFault told.Write wanted
         (X.taken errors.old) (X.taken errors.new) (X.failures errors.old) (X.failures errors.new) }
     ensures misused { result ≡ MISUSED → W.taken output.new ≡ W.taken output.old }
 {
@@ -79,8 +94,15 @@ fn show<W: Sink, X: Sink>(
     }
     match write_all(output, text.as_bytes()) {
         Ok(()) => DONE,
-        Err(_) => refuse(alloc, &Fault::Write, errors),
+        Err(_) => refuse(alloc, &Fault::Write, wanted, errors),
     }
+}
+
+// Whether words are wanted behind a fault: people read it, or it was asked for.
+fn wants(are_people: bool, explains: bool) -> bool
+    ensures { result ≡ (are_people || explains) }
+{
+    are_people || explains
 }
 
 // Does what is asked for.
@@ -103,13 +125,18 @@ fn perform<T: Threads + Wait + Sync, F: Files, R: Source, W: Sink>(
     ensures end { IsNotReadBehind (R.progress input.old) (R.progress input.new) }
     ensures unread { ¬ IsRun (Some (seen request.entry)) → R.to_come input.new ≡ R.to_come input.old }
     ensures files { ¬ StoresImage (Some (seen request.entry)) → F.contents files.new ≡ F.contents files.old }
+    ensures none_missed { OnOk result (F.failures files.new ≡ F.failures files.old) }
+    ensures missed { IfErr result (λ fault. CountsFiles (Some (seen request.entry)) fault
+        (F.failures files.old) (F.failures files.new)) }
 {
     match request {
         Request::Check(name) => check(alloc, name, files, output),
         Request::Run(name, workers) => run(rt, alloc, name, workers, files, input, output),
         Request::Compile(from, to) => compile(alloc, from, to, files, output),
+        Request::CompileToOutput(from) => compile_to_output(alloc, from, files, output),
         Request::Print(name) => print_text(alloc, name, files, output),
         Request::Migrate(from, to) => migrate(alloc, from, to, files, output),
+        Request::MigrateToOutput(from) => migrate_to_output(alloc, from, files, output),
         Request::ListNodes(name) => list(alloc, name, files, output),
         Request::ListPlaces(name, source) => list_places(alloc, name, source, files, output),
         Request::Explain(name) => explain(alloc, name, files, output),
@@ -118,11 +145,14 @@ fn perform<T: Threads + Wait + Sync, F: Files, R: Source, W: Sink>(
 }
 
 /// The whole program, over its words without its name, files, an input, an output and one for
-/// errors: does what the words ask for, and gives the status. A run starts threads where it has more than one worker.
+/// errors: does what the words ask for, and gives the status. A fault is told by one line for errors, and in words
+/// behind it where people read them or the words ask for that. A run starts threads where it has more than one worker.
+#[tactic(auto, using(crate::proofs::Wanted::told_more))]
 pub fn command<T: Threads + Wait + Sync, F: Files, R: Source, W: Sink, X: Sink>(
     rt: &T,
     alloc: Global,
     words: &[String],
+    are_people: bool,
     files: &mut F,
     input: &mut R,
     output: &mut W,
@@ -136,10 +166,13 @@ pub fn command<T: Threads + Wait + Sync, F: Files, R: Source, W: Sink, X: Sink>(
     ensures quiet { result ≡ DONE → X.taken errors.new ≡ X.taken errors.old }
     ensures none_failed { result ≡ DONE → W.failures output.new ≡ W.failures output.old }
     ensures none_read { result ≡ DONE → R.failures input.new ≡ R.failures input.old }
+    ensures none_missed { result ≡ DONE → F.failures files.new ≡ F.failures files.old }
 
     ensures refused { result ≡ REFUSED
         → IsRefused (F.contents files.old) (F.contents files.new) (request_of (map string_bytes words.now))
         (R.to_come input.old) (W.taken output.old) (W.taken output.new)
+        (are_people || explains (map string_bytes words.now))
+        (F.failures files.old) (F.failures files.new)
         (R.failures input.old) (R.failures input.new) (W.failures output.old) (W.failures output.new)
         (X.taken errors.old) (X.taken errors.new) (X.failures errors.old) (X.failures errors.new) }
 
@@ -151,15 +184,18 @@ pub fn command<T: Threads + Wait + Sync, F: Files, R: Source, W: Sink, X: Sink>(
     ensures files { ¬ StoresImage (request_of (map string_bytes words.now))
         → F.contents files.new ≡ F.contents files.old }
 {
-    let fault = match read_words(alloc, words) {
-        Ok(request) => match perform(rt, alloc, request, files, input, output) {
-            Ok(()) => return DONE,
-            Err(fault) => fault,
-        },
+    let asked = match read_words(alloc, words) {
+        Ok(asked) => asked,
         Err(Unread::Shown { text, asked }) => {
-            return show(alloc, text.as_str(), asked, output, errors);
+            return show(alloc, text.as_str(), asked, are_people, output, errors);
         }
-        Err(Unread::Memory) => Fault::Memory,
+        Err(Unread::Memory) => {
+            return refuse(alloc, &Fault::Files(LoadFault::Memory), are_people, errors);
+        }
     };
-    refuse(alloc, &fault, errors)
+    let wanted = wants(are_people, asked.explains);
+    match perform(rt, alloc, asked.request, files, input, output) {
+        Ok(()) => DONE,
+        Err(fault) => refuse(alloc, &fault, wanted, errors),
+    }
 }

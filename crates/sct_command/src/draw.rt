@@ -1,14 +1,16 @@
 //! The verb `dot`.
 
 ghost use Rattle.std.specs.Prelude.{◌≡◌, ◌+◌, IfErr, IfOk, OnOk};
+ghost use Rattle.command_files.specs.Counting as files_count;
 ghost use Rattle.sc_text.specs.declared.language.Language.TheVariants as language;
 ghost use Rattle.sc_text.specs.FirstToken.{IsIn};
-ghost use Rattle.sct_command.specs.Answer.{reads_failed, writes_failed};
+ghost use Rattle.sct_command.specs.Failing.{files_failed, reads_failed, writes_failed};
 ghost use Rattle.sct_command.specs.Drawing.{Draws, HasDrawing, TextLacksDrawing, BytesLackDrawing, RefusesDrawing};
 ghost use Rattle.std.specs.Str.{IsUtf8};
 
+use crate::fault::Fault;
 use chart_reader::read_chart;
-use command_files::{Fault, Files, bytes_of, text_of};
+use command_files::{Files, LoadFault, bytes_of, text_of};
 use compiler::{CompileFault, scl_of_chart};
 use drawing::{chart_drawing, graph_drawing};
 use sc_text::{Language, language_of};
@@ -18,40 +20,40 @@ use scl_reader::read_scl;
 use std::alloc::Global;
 
 // The drawing of the chart that a text spells.
-fn draw_chart(alloc: Global, text: &str) -> Result<String, Fault>
+fn draw_chart(alloc: Global, text: &str) -> Result<String, LoadFault>
     requires { IsIn text.now language.Chart }
     ensures drawn { IfOk result (λ _. HasDrawing text.now) }
     ensures fault { IfErr result (TextLacksDrawing text.now) }
 {
     let chart = match read_chart(alloc, text) {
         Ok(chart) => chart,
-        Err(fault) => return Err(Fault::Text(fault)),
+        Err(fault) => return Err(LoadFault::Text(fault)),
     };
     match scl_of_chart(alloc, &chart) {
         Ok(_) => Ok(chart_drawing(alloc, &chart)?),
-        Err(fault) => Err(Fault::Program(fault)),
+        Err(fault) => Err(LoadFault::Program(fault)),
     }
 }
 
 // The drawing of the graph of the program that a text spells.
 #[tactic(auto, using(crate::proofs::Drawn::no_graph))]
-fn draw_graph(alloc: Global, text: &str) -> Result<String, Fault>
+fn draw_graph(alloc: Global, text: &str) -> Result<String, LoadFault>
     requires { IsIn text.now language.Scl }
     ensures drawn { IfOk result (λ _. HasDrawing text.now) }
     ensures fault { IfErr result (TextLacksDrawing text.now) }
 {
     let scl = match read_scl(alloc, text) {
         Ok(scl) => scl,
-        Err(fault) => return Err(Fault::Text(fault)),
+        Err(fault) => return Err(LoadFault::Text(fault)),
     };
     match graph_of(alloc, &scl) {
         Ok(program) => Ok(graph_drawing(alloc, &scl.name, &program)?),
-        Err(fault) => Err(Fault::Program(CompileFault::Graph(fault))),
+        Err(fault) => Err(LoadFault::Program(CompileFault::Graph(fault))),
     }
 }
 
 // The drawing of what a text spells, in the language that its first token tells.
-fn draw_text(alloc: Global, text: &str) -> Result<String, Fault>
+fn draw_text(alloc: Global, text: &str) -> Result<String, LoadFault>
     ensures drawn { IfOk result (λ _. HasDrawing text.now) }
     ensures fault { IfErr result (TextLacksDrawing text.now) }
 {
@@ -62,10 +64,11 @@ fn draw_text(alloc: Global, text: &str) -> Result<String, Fault>
 }
 
 // The drawing of what these bytes spell.
-fn draw_bytes(alloc: Global, bytes: &[u8]) -> Result<String, Fault>
+fn draw_bytes(alloc: Global, bytes: &[u8]) -> Result<String, LoadFault>
     ensures text { IfOk result (λ _. IsUtf8 bytes.now) }
     ensures drawn { IfOk result (λ _. HasDrawing bytes.now) }
     ensures fault { IfErr result (BytesLackDrawing bytes.now) }
+    ensures missed { IfErr result (λ fault. files_count.files_failed fault ≡ 0) }
 {
     let text = text_of(bytes)?;
     draw_text(alloc, text)
@@ -86,6 +89,8 @@ pub(crate) fn draw<F: Files, W: Sink>(
     ensures failed { IfErr result (λ fault. W.failures output.new ≡ W.failures output.old + writes_failed fault) }
     ensures files { F.contents files.new ≡ F.contents files.old }
     ensures unread { IfErr result (λ fault. reads_failed fault ≡ 0) }
+    ensures none_missed { OnOk result (F.failures files.new ≡ F.failures files.old) }
+    ensures missed { IfErr result (λ fault. F.failures files.new ≡ F.failures files.old + files_failed fault) }
 {
     let bytes = bytes_of(alloc, files, name)?;
     let text = draw_bytes(alloc, &bytes)?;

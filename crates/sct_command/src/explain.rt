@@ -1,13 +1,15 @@
 //! The verb `explain`.
 
-ghost use Rattle.std.specs.Prelude.{◌≡◌, ◌+◌, IfErr, IfOk, OnOk, string_bytes};
+ghost use Rattle.std.specs.Prelude.{◌≡◌, ◌+◌, ◌≤◌, IfErr, IfOk, OnOk, string_bytes};
 ghost use Rattle.diagnostics.specs.Reports.{Tells, text_fault};
-ghost use Rattle.sct_command.specs.Answer.{reads_failed, writes_failed};
+ghost use Rattle.command_files.specs.Counting as files_count;
 ghost use Rattle.sct_command.specs.Explaining.{FindsImage, IsTold, RefusesExplaining, RefusesTelling};
 ghost use Rattle.sct_command.specs.Explaining.{WritesReport, told_fault};
+ghost use Rattle.sct_command.specs.Failing.{files_failed, reads_failed, writes_failed};
 
+use crate::fault::Fault;
 use crate::summary::sum_up;
-use command_files::{Fault, Files, bytes_of, compile_bytes, shown_name, text_of};
+use command_files::{Files, LoadFault, bytes_of, compile_bytes, shown_name, text_of};
 use diagnostics::{program_fault_explained, text_fault_explained, told_nowhere};
 use sc_text::ReadFault;
 use sc_values::{Sink, write_all};
@@ -33,19 +35,24 @@ fn without_text(alloc: Global, name: &str, fault: &ReadFault) -> Result<String, 
 }
 
 // What is said of the fault of these bytes.
-fn explanation(alloc: Global, name: &str, bytes: &[u8], fault: &Fault) -> Result<String, AllocError>
+fn explanation(
+    alloc: Global,
+    name: &str,
+    bytes: &[u8],
+    fault: &LoadFault,
+) -> Result<String, AllocError>
     ensures { IfOk result (λ report. Tells name.now (told_fault fault.now) (string_bytes report)) }
 {
     match fault {
-        Fault::Text(fault) => match text_of(bytes) {
+        LoadFault::Text(fault) => match text_of(bytes) {
             Ok(text) => text_fault_explained(alloc, name, text, fault),
             Err(_) => without_text(alloc, name, fault),
         },
-        Fault::Program(fault) => match text_of(bytes) {
+        LoadFault::Program(fault) => match text_of(bytes) {
             Ok(text) => program_fault_explained(alloc, name, text, fault),
             Err(_) => program_fault_explained(alloc, name, "", fault),
         },
-        Fault::File(_) => told_nowhere(
+        LoadFault::File(_) => told_nowhere(
             alloc,
             name,
             "E64",
@@ -60,11 +67,12 @@ fn tell<W: Sink>(
     alloc: Global,
     name: &str,
     bytes: &[u8],
-    fault: &Fault,
+    fault: &LoadFault,
     output: &mut W,
 ) -> Result<(), Fault>
     ensures told { OnOk result (WritesReport name.now fault.now (W.taken output.old) (W.taken output.new)) }
     ensures refused { IfErr result (RefusesTelling (W.taken output.old) (W.taken output.new)) }
+    ensures missed { IfErr result (λ fault. files_failed fault ≡ 0) }
     ensures none_failed { OnOk result (W.failures output.new ≡ W.failures output.old) }
     ensures failed { IfErr result (λ fault. W.failures output.new ≡ W.failures output.old + writes_failed fault) }
     ensures unread { IfErr result (λ fault. reads_failed fault ≡ 0) }
@@ -78,15 +86,20 @@ fn tell<W: Sink>(
 }
 
 // Tells of a fault. Gives it, or why it could not be told.
-fn refused<W: Sink>(alloc: Global, name: &str, bytes: &[u8], fault: Fault, output: &mut W) -> Fault
-    requires write { writes_failed fault ≡ 0 }
-    requires read { reads_failed fault ≡ 0 }
+fn refused<W: Sink>(
+    alloc: Global,
+    name: &str,
+    bytes: &[u8],
+    fault: LoadFault,
+    output: &mut W,
+) -> Fault
     ensures told { IsTold name.now fault (W.taken output.old) (W.taken output.new) result }
     ensures failed { W.failures output.new ≡ W.failures output.old + writes_failed result }
     ensures unread { reads_failed result ≡ 0 }
+    ensures missed { files_failed result ≤ files_count.files_failed fault }
 {
     match tell(alloc, name, bytes, &fault, output) {
-        Ok(()) => fault,
+        Ok(()) => Fault::Files(fault),
         Err(other) => other,
     }
 }
@@ -94,7 +107,7 @@ fn refused<W: Sink>(alloc: Global, name: &str, bytes: &[u8], fault: Fault, outpu
 /// Compiles the program in this file, and writes the summary of its image, or else why it has none: the place of the
 /// fault, what is wrong, and what helps. Err: there is no program in the file, or it has no image, and this was told;
 /// or the output failed.
-#[tactic(auto, using(crate::proofs::Told::quiet_source, crate::proofs::Told::told_source, crate::proofs::Told::quiet_bytes, crate::proofs::Told::told_bytes, crate::proofs::Told::finds, crate::proofs::Told::finds_part))]
+#[tactic(auto, using(crate::proofs::Told::told_source, crate::proofs::Told::quiet_bytes, crate::proofs::Told::told_bytes, crate::proofs::Told::finds, crate::proofs::Told::finds_part))]
 pub(crate) fn explain<F: Files, W: Sink>(
     alloc: Global,
     name: &str,
@@ -108,6 +121,8 @@ pub(crate) fn explain<F: Files, W: Sink>(
     ensures failed { IfErr result (λ fault. W.failures output.new ≡ W.failures output.old + writes_failed fault) }
     ensures files { F.contents files.new ≡ F.contents files.old }
     ensures unread { IfErr result (λ fault. reads_failed fault ≡ 0) }
+    ensures none_missed { OnOk result (F.failures files.new ≡ F.failures files.old) }
+    ensures missed { IfErr result (λ fault. F.failures files.old + files_failed fault ≤ F.failures files.new) }
 {
     let bytes = match bytes_of(alloc, files, name) {
         Ok(bytes) => bytes,

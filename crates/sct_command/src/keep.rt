@@ -1,12 +1,13 @@
 //! Writing an image to a file.
 
 ghost use Rattle.std.specs.Prelude.{◌≡◌, ◌+◌, IfErr, OnOk};
-ghost use Rattle.sct_command.specs.Answer.{reads_failed, writes_failed};
+ghost use Rattle.sct_command.specs.Failing.{files_failed, reads_failed, writes_failed};
 ghost use Rattle.sct_command.specs.Keeping.{KeepsImage, RefusesKeeping};
 
+use crate::fault::Fault;
 use crate::summary::summary_of;
 use bytecode::encode;
-use command_files::{Fault, Files, store};
+use command_files::{Files, store};
 use sc_values::{Sink, write_all};
 use std::alloc::Global;
 use verifier::Verified;
@@ -27,6 +28,8 @@ pub(crate) fn keep_image<F: Files, W: Sink>(
     ensures none_failed { OnOk result (W.failures output.new ≡ W.failures output.old) }
     ensures failed { IfErr result (λ fault. W.failures output.new ≡ W.failures output.old + writes_failed fault) }
     ensures unread { IfErr result (λ fault. reads_failed fault ≡ 0) }
+    ensures none_missed { OnOk result (F.failures files.new ≡ F.failures files.old) }
+    ensures missed { IfErr result (λ fault. F.failures files.new ≡ F.failures files.old + files_failed fault) }
 {
     let line = summary_of(alloc, image.image())?;
     let bytes = encode(alloc, image.image())?;

@@ -1,10 +1,11 @@
 //! The verb `list`.
 
 ghost use Rattle.std.specs.Prelude.{◌≡◌, ◌+◌, IfErr, OnOk};
-ghost use Rattle.sct_command.specs.Answer.{reads_failed, writes_failed};
+ghost use Rattle.sct_command.specs.Failing.{files_failed, reads_failed, writes_failed};
 ghost use Rattle.sct_command.specs.Listing.{ListsNodes, RefusesListing};
 
-use command_files::{Fault, Files, load_verified};
+use crate::fault::Fault;
+use command_files::{Files, load_verified};
 use image_listing::image_text;
 use sc_values::{Sink, write_all};
 use std::alloc::Global;
@@ -23,6 +24,8 @@ pub(crate) fn list<F: Files, W: Sink>(
     ensures failed { IfErr result (λ fault. W.failures output.new ≡ W.failures output.old + writes_failed fault) }
     ensures files { F.contents files.new ≡ F.contents files.old }
     ensures unread { IfErr result (λ fault. reads_failed fault ≡ 0) }
+    ensures none_missed { OnOk result (F.failures files.new ≡ F.failures files.old) }
+    ensures missed { IfErr result (λ fault. F.failures files.new ≡ F.failures files.old + files_failed fault) }
 {
     let image = load_verified(alloc, files, name)?;
     let text = image_text(alloc, &image)?;

@@ -2,12 +2,16 @@
 
 ghost use Rattle.std.specs.Prelude.{◌≡◌, ◌+◌, IfErr, IfOk, OnOk};
 ghost use Rattle.std.specs.Str.{IsUtf8};
+ghost use Rattle.command_files.specs.Counting as files_count;
 ghost use Rattle.command_files.specs.Making.{Makes};
 ghost use Rattle.command_files.specs.Sources.{BytesLackProgram};
-ghost use Rattle.sct_command.specs.Answer.{reads_failed, writes_failed};
+ghost use Rattle.sct_command.specs.Failing.{files_failed, reads_failed, writes_failed};
 ghost use Rattle.sct_command.specs.Listing.{BytesLackPlaces, ListsPlaces, RefusesPlaces};
 
-use command_files::{Fault, Files, bytes_of, load_verified, makes_program, shown_name, text_of};
+use crate::fault::Fault;
+use command_files::{
+    Files, LoadFault, bytes_of, load_verified, makes_program, shown_name, text_of,
+};
 use node_sources::image_text_with;
 use sc_values::{Sink, write_all};
 use std::alloc::Global;
@@ -15,14 +19,15 @@ use verifier::Verified;
 
 // The listing of an image with the places of its nodes in the text that these bytes are, which those of the file of
 // this name are. Err: they are no text, or it does not make the image.
-fn placed(alloc: Global, image: &Verified, source: &str, bytes: &[u8]) -> Result<String, Fault>
+fn placed(alloc: Global, image: &Verified, source: &str, bytes: &[u8]) -> Result<String, LoadFault>
     ensures text { IfOk result (λ _. IsUtf8 bytes.now) }
     ensures makes { IfOk result (λ _. Makes bytes.now image.now.program) }
     ensures fault { IfErr result (BytesLackPlaces source.now bytes.now image.now.program) }
+    ensures missed { IfErr result (λ fault. files_count.files_failed fault ≡ 0) }
 {
     let text = text_of(bytes)?;
     if !makes_program(alloc, text, image.image().program())? {
-        return Err(Fault::Source(shown_name(alloc, source)?));
+        return Err(LoadFault::Source(shown_name(alloc, source)?));
     }
     Ok(image_text_with(alloc, image, text)?)
 }
@@ -44,6 +49,8 @@ pub(crate) fn list_places<F: Files, W: Sink>(
     ensures failed { IfErr result (λ fault. W.failures output.new ≡ W.failures output.old + writes_failed fault) }
     ensures files { F.contents files.new ≡ F.contents files.old }
     ensures unread { IfErr result (λ fault. reads_failed fault ≡ 0) }
+    ensures none_missed { OnOk result (F.failures files.new ≡ F.failures files.old) }
+    ensures missed { IfErr result (λ fault. F.failures files.new ≡ F.failures files.old + files_failed fault) }
 {
     let image = load_verified(alloc, files, name)?;
     let bytes = bytes_of(alloc, files, source)?;

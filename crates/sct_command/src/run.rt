@@ -2,9 +2,11 @@
 
 ghost use Rattle.std.specs.Prelude.{◌≡◌, ◌+◌, IfErr, OnOk};
 ghost use Rattle.sc_values.specs.Streams.{IsNotReadBehind};
-ghost use Rattle.sct_command.specs.Answer.{PlaysWhole, RefusesRun, reads_failed, writes_failed};
+ghost use Rattle.sct_command.specs.Answer.{PlaysWhole, RefusesRun};
+ghost use Rattle.sct_command.specs.Failing.{files_failed, reads_failed, writes_failed};
 
-use command_files::{Fault, Files, load_verified};
+use crate::fault::Fault;
+use command_files::{Files, load_verified};
 use command_words::Workers;
 use sc_values::{Sink, Source};
 use std::alloc::Global;
@@ -34,10 +36,12 @@ pub(crate) fn run<T: Threads + Wait + Sync, F: Files, R: Source, W: Sink>(
     ensures none_failed { OnOk result (W.failures output.new ≡ W.failures output.old) }
     ensures failed { IfErr result (λ fault. W.failures output.new ≡ W.failures output.old + writes_failed fault) }
     ensures files { F.contents files.new ≡ F.contents files.old }
+    ensures none_missed { OnOk result (F.failures files.new ≡ F.failures files.old) }
+    ensures missed { IfErr result (λ fault. F.failures files.new ≡ F.failures files.old + files_failed fault) }
 {
     let image = load_verified(alloc, files, name)?;
     match play(rt, alloc, &image, input, output, workers.number, &NoGate) {
         Ok(_) => Ok(()),
-        Err(fault) => Err(Fault::Play(fault)),
+        Err(fault) => Err(Fault::Play(fault, None)),
     }
 }

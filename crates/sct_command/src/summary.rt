@@ -2,11 +2,11 @@
 
 ghost use Rattle.std.specs.Io.KnownBytes.{Appends};
 ghost use Rattle.std.specs.Prelude.{◌≡◌, ◌+◌, IfErr, IfOk, OnOk, string_bytes};
-ghost use Rattle.sct_command.specs.Answer.{reads_failed, writes_failed};
+ghost use Rattle.sct_command.specs.Failing.{files_failed, reads_failed, writes_failed};
 ghost use Rattle.sct_command.specs.Summary.{RefusesSummary, summary_line, summary_of};
 
+use crate::fault::Fault;
 use bytecode::Image;
-use command_files::Fault;
 use sc_values::{Sink, write_all};
 use std::alloc::{AllocError, Global};
 
@@ -43,6 +43,7 @@ pub(crate) fn sum_up<W: Sink>(alloc: Global, image: &Image, output: &mut W) -> R
     ensures none_failed { OnOk result (W.failures output.new ≡ W.failures output.old) }
     ensures failed { IfErr result (λ fault. W.failures output.new ≡ W.failures output.old + writes_failed fault) }
     ensures unread { IfErr result (λ fault. reads_failed fault ≡ 0) }
+    ensures missed { IfErr result (λ fault. files_failed fault ≡ 0) }
 {
     let line = summary_of(alloc, image)?;
     match write_all(output, line.as_bytes()) {

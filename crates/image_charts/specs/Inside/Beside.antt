@@ -5,8 +5,8 @@ use Rattle.bytecode.specs.Image.{Image}
 use Rattle.compiler.specs.Charts.{ChartLacksImage}
 use Rattle.state_paths.specs.Paths.{paths_of}
 use Rattle.compiled_charts.specs.Compiled.{CompiledChart, IsCompiledChart}
-use Rattle.command_files.specs.declared.fault.Fault.{Fault}
-use Rattle.command_files.specs.declared.fault.Fault.TheVariants as fault
+use Rattle.command_files.specs.declared.fault.LoadFault.{LoadFault}
+use Rattle.command_files.specs.declared.fault.LoadFault.TheVariants as fault
 use Rattle.command_files.specs.FaultText.{shown_name}
 use Rattle.image_charts.specs.Charts.{NamedStates}
 
@@ -23,13 +23,13 @@ pub record HasAnother (chart : Chart) (image : Image) : Type 0 where
   pub differs : compiled.image ≢ image
 
 -- two images differ, which is told of the file of this name
-abbrev pub Differ : List ℕ → Image → Image → Fault → Type 0
+abbrev pub Differ : List ℕ → Image → Image → LoadFault → Type 0
 Differ name i j fault.Memory = Unit {0}
 Differ name i j (fault.Source shown) = (string_bytes shown ≡ shown_name name) × (i ≢ j)
 Differ name i j other = ⊥
 
 -- why the chart in the file of this name is not that of an image
-abbrev pub LacksIt : List ℕ → Chart → Image → Fault → Type 0
+abbrev pub LacksIt : List ℕ → Chart → Image → LoadFault → Type 0
 LacksIt name chart image fault.Memory = Unit {0}
 LacksIt name chart image (fault.Program f) = ChartLacksImage chart f
 LacksIt name chart image (fault.Source shown) = (string_bytes shown ≡ shown_name name) × HasAnother chart image

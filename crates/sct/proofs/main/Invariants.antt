@@ -1,4 +1,4 @@
--- Each stream counts its failures in a ledger of its own.
+-- Each stream counts its failures in a ledger of its own, and so do files.
 use Rattle.sct.proofs.main.Given as goal
 
 abbrev pub ghosts-serve-L-Ledger : goal.ghosts-serve-L-Ledger
@@ -9,3 +9,6 @@ ghosts-serve-M-Ledger g a = record { name = a.streams.written.name; parts = a.st
 
 abbrev pub ghosts-serve-N-Ledger : goal.ghosts-serve-N-Ledger
 ghosts-serve-N-Ledger g a = record { name = a.streams.reported.name; parts = a.streams.reported.parts }
+
+abbrev pub ghosts-serve-O-Ledger : goal.ghosts-serve-O-Ledger
+ghosts-serve-O-Ledger g a = record { name = a.streams.missed.name; parts = a.streams.missed.parts }

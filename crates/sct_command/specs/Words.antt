@@ -1,0 +1,56 @@
+-- What is said of a fault in words, behind its line.
+use Rattle.std.specs.Prelude.{ℕ, ◌≡◌, ◌⊎◌, codes, Bool, true, Option, Some, None, List, [], ◌∷◌, ◌++◌}
+use Rattle.sc_graph.specs.declared.program.Variable.{Variable}
+use Rattle.trace_lines.specs.Lines.{line_feed}
+use Rattle.line_causes.specs.declared.cause.Cause.{Cause}
+use Rattle.line_causes.specs.Met.{IsMetOn}
+use Rattle.line_causes.specs.Words.{cause_words}
+use Rattle.trace_player.specs.declared.player.PlayFault.{PlayFault}
+use Rattle.trace_player.specs.declared.player.PlayFault.TheVariants as play_fault
+use Rattle.trace_player.specs.FaultText.{play_fault_text}
+use Rattle.diagnostics.specs.Reports.{Tells}
+use Rattle.sct_command.specs.declared.fault.Fault.{Fault}
+use Rattle.sct_command.specs.declared.fault.Fault.TheVariants as fault
+use Rattle.sct_command.specs.FaultText.{fault_text}
+
+-- ---- what was met
+
+-- the line of which a fault tells
+abbrev pub line_told : PlayFault → Option ℕ
+line_told (play_fault.Input line) = Some line
+line_told (play_fault.NotJson line) = Some line
+line_told other = None
+
+-- a cause that is known of a fault is that of the line of which it tells
+abbrev pub IsMetIn : List Variable → Option (List ℕ) → Option ℕ → Option Cause → Type 0
+IsMetIn variables input line None = Unit {0}
+IsMetIn variables input None (Some c) = ⊥
+IsMetIn variables input (Some line) (Some c) = IsMetOn variables input line c
+
+abbrev pub IsMet : List Variable → Option (List ℕ) → PlayFault → Option Cause → Type 0
+IsMet variables input f cause = IsMetIn variables input (line_told f) cause
+
+-- ---- what is said
+
+-- a fault of a line, and what was met there
+abbrev pub met_words : List ℕ → Cause → List ℕ
+met_words text c = codes "sct: " ++ (text ++ (codes ": " ++ (cause_words c ++ line_feed ∷ [])))
+
+-- the words for a fault: what was met on a line where that is known, and else some that tell the fault first
+abbrev pub AreWords : Fault → List ℕ → Type 0
+AreWords (fault.Play f (Some c)) words = words ≡ met_words (play_fault_text f) c
+AreWords f words = Tells (codes "sct") (fault_text f) words
+
+-- what stands behind the line of a fault: nothing, or, where they are wanted, the words for it
+abbrev pub StandsBehind : Fault → Bool → List ℕ → Type 0
+StandsBehind f wanted words = (words ≡ []) ⊎ ((wanted ≡ true) × AreWords f words)
+
+-- the line that tells a fault of this text
+abbrev pub fault_line : List ℕ → List ℕ
+fault_line text = codes "sct: " ++ (text ++ line_feed ∷ [])
+
+-- the line of a fault, with what stands behind it
+pub record TellsLines (f : Fault) (wanted : Bool) (text : List ℕ) : Type 0 where
+  pub words : List ℕ
+  pub behind : StandsBehind f wanted words
+  pub is : text ≡ fault_line (fault_text f) ++ words
