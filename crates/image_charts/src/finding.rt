@@ -51,7 +51,12 @@ fn compare(alloc: Global, name: &str, image: &Image, other: &Image) -> Result<()
 
 // A chart that is compiled, where this is its image. Err: it has none, or another one.
 #[tactic(auto, using(crate::proofs::Found::has_image, crate::proofs::Found::differ))]
-fn beside(alloc: Global, name: &str, chart: &Chart, image: &Verified) -> Result<ChartStates, LoadFault>
+fn beside(
+    alloc: Global,
+    name: &str,
+    chart: &Chart,
+    image: &Verified,
+) -> Result<ChartStates, LoadFault>
     ensures found { IfOk result (HasImage chart.now image.now) }
     ensures fault { IfErr result (LacksIt name.now chart.now image.now) }
 {

@@ -92,7 +92,13 @@ fn status_of(fault: MachineFault) -> i32
 
 // Puts as much of the words of a fault into a buffer as has room there. The status, or that memory was refused for
 // them.
-fn put_words(alloc: Global, fault: &LoadFault, words: &mut [u8], length: &mut usize, status: i32) -> i32
+fn put_words(
+    alloc: Global,
+    fault: &LoadFault,
+    words: &mut [u8],
+    length: &mut usize,
+    status: i32,
+) -> i32
     requires { (status ≡ pos 3) ⊎ (status ≡ pos 4) }
     ensures status { (result ≡ status) ⊎ (result ≡ pos 2) }
     ensures told { result ≢ pos 2 → TellsWhy (fault_text fault.now) words.new length.new }
