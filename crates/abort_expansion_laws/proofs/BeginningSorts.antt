@@ -15,7 +15,7 @@ use Rattle.abort_expansion.specs.declared.places.Places.{Places}
 use Rattle.abort_expansion.specs.Transitions.{go, led, led_by, count_down}
 use Rattle.abort_expansion.specs.Superstates.{simple_transitions, stays, is_prepared, resets}
 use Rattle.chart_machine_laws.specs.Tree.{around, holder}
-use Rattle.abort_expansion_laws.specs.CoreRows.{own, IsState, ends, is_final, IsSuper, IsSimple, joins, Images, CoreRows, flags_around, counter_over, SplitImage}
+use Rattle.abort_expansion_laws.specs.CoreRows.{own, IsState, ends, is_final, IsSuper, IsSimple, joins, Images, CoreRows, flags_around, counter_over, SplitImage, simple_row}
 use Rattle.abort_expansion_laws.proofs.TickStarts.{led_kept, kept_none}
 use Rattle.abort_expansion_laws.proofs.WalkStaying.{has_none}
 use Rattle.abort_expansion_laws.proofs.EnteredAlike.{BeginsAs, begins_there, begins_counting}
@@ -47,6 +47,18 @@ apart_with flags all has = rw (has) refl
 
 pub prepared_with : (flags : List Flags) (all : List Transition) → has_aborts all ≡ true → is_prepared flags all ≡ true
 prepared_with flags all has = rw (has) refl
+
+-- region r comes to state x, and its thread to core state y
+module _ (k core : Table) (i : Images) where
+  pub data ComesTo (r x y : ℕ) : Type 0 where
+    comes_there : y ≡ i.entry_of x → (is_final k x ≡ true → counter_over k core i (around k r) ≡ None) → ComesTo r x y
+    comes_counting : (place counter : ℕ) → is_final k x ≡ true → counter_over k core i (around k r) ≡ Some counter →
+        state_at core y ≡ simple_row (i.thread_of r) y (go true None (count_down counter ∷ []) place ∷ []) →
+        state_in core (i.thread_of r) place ≡ i.entry_of x → ComesTo r x y
+
+  pub begins_so : (r x y : ℕ) → BeginsAs k core i r x y → ComesTo r x y
+  begins_so r x y (begins_there place there is counted) = comes_there is counted
+  begins_so r x y (begins_counting place counter final counted row leads) = comes_counting place counter final counted row leads
 
 module _ (k core : Table) (i : Images) (rows : CoreRows k core i) (n m : ℕ) (f g : ℕ → Standing) where
   abbrev flags_here : ℕ → List Flags
@@ -95,7 +107,7 @@ module _ (k core : Table) (i : Images) (rows : CoreRows k core i) (n m : ℕ) (f
   sort_present q (sort_opens x core_tests here super held plain stands fresh others core_stands core_fresh core_others stay_tests split_tests) out =
       let wrong : at.Within x (first_closing_tests (own k x)) ≡ at.Outside = sym stands ∙ out in absurd cc
 
-  module _ (x y : ℕ) (here : IsState k x) (held_core : holder core y ≡ i.thread_of (holder k x)) (begins : BeginsAs k core i (holder k x) x y)
+  module _ (x y : ℕ) (here : IsState k x) (held_core : holder core y ≡ i.thread_of (holder k x)) (comes : ComesTo k core i (holder k x) x y)
       (chart : Begins k n f x) (in_core : Begins core m g y) where
     abbrev q : ℕ
     q = holder k x
@@ -111,14 +123,14 @@ module _ (k core : Table) (i : Images) (rows : CoreRows k core i) (n m : ℕ) (f
 
     -- the thread stands in what stands for the state
     not_counting : is_final k x ≡ false → y ≡ i.entry_of x
-    not_counting open_ends = by_begins begins
+    not_counting open_ends = by_sort comes
       where
-        by_begins : BeginsAs k core i q x y → y ≡ i.entry_of x
-        by_begins (begins_there place there is counted) = is
-        by_begins (begins_counting place counter final counted row leads) = absurd (not_both (is_final k x) final open_ends)
+        by_sort : ComesTo k core i q x y → y ≡ i.entry_of x
+        by_sort (comes_there is counted) = is
+        by_sort (comes_counting place counter final counted row leads) = absurd (not_both (is_final k x) final open_ends)
 
     ends_now : (state_at k x).entered ≡ to q at.Ended ∷ [] → Sort q
-    ends_now e = by_begins begins
+    ends_now e = by_sort comes
       where
         final : is_final k x ≡ true
         final = ap ends e
@@ -126,11 +138,11 @@ module _ (k core : Table) (i : Images) (rows : CoreRows k core i) (n m : ℕ) (f
         in_chart : (f q ≡ at.Ended) × NobodyIn k n f q
         in_chart = begins_closed k n f x at.Ended chart (λ u tests w. absurd cc) e
 
-        by_begins : BeginsAs k core i q x y → Sort q
-        by_begins (begins_there place there is counted) =
+        by_sort : ComesTo k core i q x y → Sort q
+        by_sort (comes_there is counted) =
             let ended = core_closed at.Ended (λ u tests w. absurd cc) (ap (λ v. (state_at core v).entered) is ∙ (rows.final x final).ended) in
             sort_ends in_chart.0 in_chart.1 ended.1 (counted final) ended.0
-        by_begins (begins_counting place counter is counted row leads) =
+        by_sort (comes_counting place counter is counted row leads) =
             let waiting = core_closed (at.Trying y (go true None (count_down counter ∷ []) place ∷ [])) (λ u tests w. absurd cc) (ap (λ z. z.entered) row) in
             sort_counts y place counter in_chart.0 in_chart.1 waiting.1 counted (ap (λ z. z.regions) row)
             (ap (λ v. (state_at core v).entered) leads ∙ (rows.final x is).ended) waiting.0

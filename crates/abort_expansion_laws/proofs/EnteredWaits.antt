@@ -129,7 +129,6 @@ module _ (k core : Table) (i : Images) (more : EntryRows k core i) (c e : Config
           record {
             tests = first_closing_tests (own k x);
             open_in_chart = ap (standing_of c) held ∙ stands;
-            untested = refl;
             forked = λ _. (
               split.0,
               ap (λ z. state_in core (i.thread_of z) split.0) held ∙ split.1,

@@ -28,7 +28,7 @@ use Rattle.abort_expansion_laws.proofs.WokenConfigurations.{started_size}
 use Rattle.abort_expansion_laws.proofs.EnteredAlike.{AreEntered}
 use Rattle.abort_expansion_laws.proofs.FreshInside.{Begins, all_entered, all_apart, in_one, look, begins_alike, nobody, nobody_there, nobody_size}
 use Rattle.abort_expansion_laws.proofs.InitialPairs.{Initials, initials, held_by, held_there, in_map, once_mapped}
-use Rattle.abort_expansion_laws.proofs.BeginningSorts.{Sort, sort_of}
+use Rattle.abort_expansion_laws.proofs.BeginningSorts.{Sort, sort_of, begins_so}
 use Rattle.abort_expansion_laws.proofs.JustEntered.{EntryRows, Live, Reach, live, nowhere, Above, reach}
 use Rattle.abort_expansion_laws.proofs.ChartEntered.{Stood, stood_of, WasEntered, ChartReach, was_entered, none_there, ChartAbove, chart_reach, stood_present}
 
@@ -180,7 +180,8 @@ module _ (k core : Table) (i : Images) (more : EntryRows k core i)
       record {
         sort = subst (Sort k core i more.rows n m f g) p.held
             (sort_of k core i more.rows n m f g p.first p.core_first (level p.first p.among).0
-            (held_by k core i more.rows more.tree more.core_tree (holder k p.first) p.first p.core_first begins) begins (first_begins q h)
+            (held_by k core i more.rows more.tree more.core_tree (holder k p.first) p.first p.core_first begins)
+            (begins_so k core i (holder k p.first) p.first p.core_first begins) (first_begins q h)
             (core_begins q h) (more.entries p.first (level p.first p.among).0));
         free = ap (is_guarded k at_first) round;
         parent = λ u us e. absurd (never_deeper q u us round e);

@@ -186,7 +186,7 @@ module _ (k : Table) (tree : IsTree k) (entries : (x : ℕ) → IsState k x → 
           ap (λ ms. at_number (moved ms zs) q) e ∙
           (elsewhere x q (slice_set zs (holder k x) (at.Within x tests)) is out ∙ set_other zs (holder k x) q (at.Within x tests) ne)
 
-  entered_apart : (x q : ℕ) (zs : List Standing) → IsState k x → ¬ LiesIn k q (holder k x) →
+  pub entered_apart : (x q : ℕ) (zs : List Standing) → IsState k x → ¬ LiesIn k q (holder k x) →
       at_number (moved (state_at k x).entered zs) q ≡ at_number zs q
   entered_apart x q zs is out = entered_other x q zs is (λ e. out (itself e)) (λ inner. out (deeper x inner refl))
 
@@ -199,7 +199,7 @@ module _ (k : Table) (tree : IsTree k) (entries : (x : ℕ) → IsState k x → 
       entered_apart x q zs (are x (head_in x xs)) (out x (head_in x xs)))
 
   -- one state is entered, where nobody was
-  one_begins : (x : ℕ) (zs : List Standing) → IsState k x → holder k x < length zs → ((q : ℕ) → LiesIn k q (holder k x) → at_number zs q ≡ at.Outside) →
+  pub one_begins : (x : ℕ) (zs : List Standing) → IsState k x → holder k x < length zs → NobodyIn k (length zs) (λ q. at_number zs q) (holder k x) →
       Begins k (length zs) (λ q. at_number (moved (state_at k x).entered zs) q) x
   one_begins x zs is lt empty = record { begun = by_shape (shape_of k x (entries x is)); others = others }
     where
@@ -208,7 +208,7 @@ module _ (k : Table) (tree : IsTree k) (entries : (x : ℕ) → IsState k x → 
           entered_other x q zs is
           (λ e. let up = tree.deeper q y inner in omega (up, held, e, arith))
           (λ in_x. ne (one_state q x y in_x inner held)) ∙
-          empty q (deeper y inner held)
+          empty q y inner held
 
       inside_ne : (q : ℕ) → Contains (around k q) x → q ≢ holder k x
       inside_ne q inner e = let up = tree.deeper q x inner in omega (up, e, arith)
@@ -217,7 +217,7 @@ module _ (k : Table) (tree : IsTree k) (entries : (x : ℕ) → IsState k x → 
       by_shape (shape_closed y never e) =
           begun_closed y never e (ap (λ ms. at_number (moved ms zs) (holder k x)) e ∙ set_here zs (holder k x) y lt)
           (λ q inner.
-          ap (λ ms. at_number (moved ms zs) q) e ∙ (set_other zs (holder k x) q y (inside_ne q inner) ∙ empty q (deeper x inner refl)))
+          ap (λ ms. at_number (moved ms zs) q) e ∙ (set_other zs (holder k x) q y (inside_ne q inner) ∙ empty q x inner refl))
       by_shape (shape_open tests e) =
           begun_open tests e
           (ap (λ ms. at_number (moved ms zs) (holder k x)) e ∙
@@ -226,7 +226,7 @@ module _ (k : Table) (tree : IsTree k) (entries : (x : ℕ) → IsState k x → 
           ap (λ ms. at_number (moved ms zs) q) e ∙
           moved_alike (state_at k x).opened (slice_set zs (holder k x) (at.Within x tests)) ys q
           (set_length zs (holder k x) (at.Within x tests) ∙ sym size)
-          (set_other zs (holder k x) q (at.Within x tests) (inside_ne q inner) ∙ (empty q (deeper x inner refl) ∙ sym (none q inner))))
+          (set_other zs (holder k x) q (at.Within x tests) (inside_ne q inner) ∙ (empty q x inner refl ∙ sym (none q inner))))
 
   -- of some states of regions side by side, that are entered where nobody is
   pub look : (ss xs : List ℕ) (zs : List Standing) → ((x : ℕ) → Contains xs x → IsState k x × (around k (holder k x) ≡ ss) × (holder k x < length zs)) →
@@ -244,7 +244,7 @@ module _ (k : Table) (tree : IsTree k) (entries : (x : ℕ) → IsState k x → 
       (all_apart xs q (moved (state_at k y).entered zs) (λ u h. (are u (tail_in y u xs h)).0)
       (λ u h in_u. first.1 (subst (Contains (map (holder k) xs)) (in_one q (holder k u) (holder k x) (level u (tail_in y u xs h)) in_u lies) (mapped xs u h))) ∙
       ap (λ v. at_number (moved (state_at k v).entered zs) q) own_one))
-      (one_begins x zs (are x here).0 (are x here).2 empty))
+      (one_begins x zs (are x here).0 (are x here).2 (λ q u inner held. empty q (deeper u inner held))))
       (λ later.
       let tail : Contains xs x = ⊎_elim (λ same. absurd (later.0 (ap (holder k) same))) (λ tail. tail) (head_or_tail y x xs here) in
       let apart : (q : ℕ) → LiesIn k q (holder k x) → at_number (moved (state_at k y).entered zs) q ≡ at_number zs q =

@@ -23,7 +23,7 @@ use Rattle.abort_expansion_laws.proofs.EnteredAlike.{BeginsAs, OpensAlike}
 use Rattle.abort_expansion_laws.proofs.StateEntry.{Entry}
 use Rattle.abort_expansion_laws.proofs.FreshInside.{Fresh, NobodyIn, ElsewhereNobody}
 use Rattle.abort_expansion_laws.proofs.InitialPairs.{both_begin, held_by, in_map}
-use Rattle.abort_expansion_laws.proofs.BeginningSorts.{Sort, sort_ends, sort_counts, sort_tries, sort_guards, sort_prepares, sort_opens, sort_of}
+use Rattle.abort_expansion_laws.proofs.BeginningSorts.{Sort, sort_ends, sort_counts, sort_tries, sort_guards, sort_prepares, sort_opens, sort_of, begins_so}
 
 -- what is asked of both tables, where something is entered
 pub record EntryRows (k core : Table) (i : Images) : Type 0 where
@@ -53,11 +53,10 @@ module _ (k core : Table) (i : Images) (more : EntryRows k core i) (c e : Config
   abbrev m : ℕ
   m = suc (length core.regions)
 
-  -- superstate u is open, and was just opened
+  -- superstate u is open, and so is its fork
   pub record JustOpen (u : ℕ) : Type 0 where
     pub tests : List Transition
     pub open_in_chart : standing_of c (holder k u) ≡ at.Within u tests
-    pub untested : tests ≡ first_closing_tests (own k u)
     pub forked : stays (flags_around k core i (holder k u)) (own k u) ≡ false →
         (join : ℕ) × (state_in core (i.thread_of (holder k u)) join ≡ i.behind_of u)
         × (standing_of e (i.thread_of (holder k u)) ≡ at.Within (i.main_of u) (joins join ∷ []))
@@ -136,7 +135,8 @@ module _ (k core : Table) (i : Images) (more : EntryRows k core i) (c e : Config
         record {
           sort = subst (Sort k core i more.rows n m f g) b.held
               (sort_of k core i more.rows n m f g b.first b.core_first b.here
-              (held_by k core i more.rows more.tree more.core_tree (holder k b.first) b.first b.core_first own_begins) own_begins b.chart b.in_core
+              (held_by k core i more.rows more.tree more.core_tree (holder k b.first) b.first b.core_first own_begins)
+              (begins_so k core i (holder k b.first) b.first b.core_first own_begins) b.chart b.in_core
               (more.entries b.first b.here));
           free = free_here opened.tests opened.open_in_chart free;
           parent = λ v vs e. subst JustOpen (first_of (sym round ∙ e)) opened;
@@ -166,7 +166,6 @@ module _ (k core : Table) (i : Images) (more : EntryRows k core i) (c e : Config
         (record {
           tests = first_closing_tests (own k x);
           open_in_chart = ap (standing_of c) held ∙ stands;
-          untested = refl;
           forked = λ apart.
               let split = split_tests (subst (λ z. stays (flags_around k core i z) (own k x) ≡ false) held apart) in (
                 split.0,

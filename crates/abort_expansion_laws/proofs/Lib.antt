@@ -120,5 +120,7 @@ pub mod FirstTick
 pub mod FirstTickWaits
 pub mod FirstTickBegins
 pub mod TicksBegin
+pub mod TargetEntered
+pub mod TargetReached
 pub mod ChartsOpened
 pub mod Proved

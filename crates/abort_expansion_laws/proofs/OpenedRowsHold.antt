@@ -46,7 +46,7 @@ module _ (k core : Table) (i : Images) (more : EntryRows k core i) (flat : FlatR
         moved_alike (state_at core (i.main_of s)).opened d.regions zs t (o.core_size ∙ sym size) (o.empty t inner ∙ sym (none t inner))
 
     just_open : JustOpen k core i more c e s
-    just_open = record { tests = o.tests; open_in_chart = o.open_in_chart; untested = o.untested; forked = o.in_fork }
+    just_open = record { tests = o.tests; open_in_chart = o.open_in_chart; forked = o.in_fork }
 
     child_lives : (q : ℕ) (vs : List ℕ) → IsThere k q → around k q ≡ s ∷ vs → Live k core i more c e q
     child_lives q vs there round = opened_both k core i more c e q s vs there round core_fresh fresh just_open o.free

@@ -91,6 +91,8 @@ pub use Rattle.abort_expansion_laws.proofs.ChartEntered.{chart_reach}
 pub use Rattle.abort_expansion_laws.proofs.FirstTickWaits.{first_sound, first_pending}
 pub use Rattle.abort_expansion_laws.proofs.FirstTickBegins.{first_tick_begins, first_begun}
 pub use Rattle.abort_expansion_laws.proofs.TicksBegin.{ticks_begin}
+pub use Rattle.abort_expansion_laws.proofs.TargetEntered.{target_sort}
+pub use Rattle.abort_expansion_laws.proofs.TargetReached.{target_lives, target_reached}
 
 pub checked : ◌≡◌ {A = ℕ} 0 0
 checked = refl
