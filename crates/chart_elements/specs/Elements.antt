@@ -71,3 +71,13 @@ regions_of_state = fold-State Names Names regions_in_region regions_in_state
 
 abbrev pub region_names : Chart → Names
 region_names c = row (map regions_of_region c.regions)
+
+-- ---- all elements
+
+pub record Contents : Type 0 where
+  pub regions : Names
+  pub states : Names
+  pub transitions : List Transition
+
+abbrev pub contents : Chart → Contents
+contents c = record { regions = region_names c; states = state_names c; transitions = all_transitions c }

@@ -7,4 +7,4 @@ mod numbers;
 
 pub use effects::put_effects;
 pub use element::Element;
-pub use numbers::Numbers;
+pub use numbers::{Numbers, next};

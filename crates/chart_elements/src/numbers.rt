@@ -16,8 +16,8 @@ pub struct Numbers {
     pub effect: u32,
 }
 
-// The number behind this one. Err: no memory holds a chart with so many.
-pub(crate) fn next(number: u32) -> Result<u32, AllocError>
+/// The number behind this one. Err: no memory holds a chart with so many.
+pub fn next(number: u32) -> Result<u32, AllocError>
     ensures { IfOk result (λ next. next ≡ suc number) }
 {
     match number.checked_add(1) {

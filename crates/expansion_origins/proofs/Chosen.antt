@@ -12,7 +12,7 @@ use Rattle.core_charts.specs.Tests.{at_once, is_strong, strong_aborts}
 use Rattle.chart_elements.specs.declared.element.Element.{Element}
 use Rattle.chart_elements.specs.declared.element.Element.TheVariants as element
 use Rattle.chart_elements.specs.declared.numbers.Numbers.{Numbers}
-use Rattle.chart_elements.specs.Elements.{all_effects}
+use Rattle.chart_elements.specs.Elements.{Contents, all_effects}
 use Rattle.chart_elements.specs.Numbers.{behind_transition, effects}
 use Rattle.abort_expansion.specs.declared.places.Places.{Places}
 use Rattle.abort_expansion.specs.Flags.{given, is_there}
@@ -23,8 +23,8 @@ use Rattle.expansion_origins.specs.declared.transitions.Choice.{Choice}
 use Rattle.expansion_origins.specs.declared.transitions.Choice.TheVariants as choice
 use Rattle.expansion_origins.specs.declared.transitions.Ends.{Ends}
 use Rattle.expansion_origins.specs.Origins.{beside, chosen, is_chosen, is_of, nothing, raised, taken}
-use Rattle.expansion_origins.specs.Laws.{Contents, EffectFrom}
-use Rattle.expansion_origins.proofs.Standing.{At, Owned, below, owned_effects, owned_others}
+use Rattle.expansion_origins.specs.Laws.{EffectFrom}
+use Rattle.chart_elements.proofs.Standing.{At, Owned, below, owned_effects, owned_others}
 use Rattle.expansion_origins.proofs.Coming.{Comes, Pairs, both_come, moves, none, none_comes, pairs_append}
 
 -- ---- one that does as one of the text does

@@ -3,11 +3,11 @@ use Rattle.std.proofs.Common.{◌≡◌, ℕ, zero, suc, Option, Some, List, [],
 use Rattle.std.proofs.lemmas.List.{map-append}
 use Rattle.core_charts.specs.declared.region.Transition.{Transition}
 use Rattle.chart_elements.specs.declared.element.Element.{Element}
-use Rattle.chart_elements.specs.Elements.{Names, all_effects}
+use Rattle.chart_elements.specs.Elements.{Contents, Names, all_effects}
 use Rattle.expansion_origins.specs.declared.origins.Origins.{Origins}
 use Rattle.expansion_origins.specs.Origins.{beside, nothing}
-use Rattle.expansion_origins.specs.Laws.{Contents, EffectFrom, RegionFrom, StateFrom, Tells, TransitionFrom, state_of}
-use Rattle.expansion_origins.proofs.Standing.{effects_append}
+use Rattle.expansion_origins.specs.Laws.{EffectFrom, RegionFrom, StateFrom, Tells, TransitionFrom, state_of}
+use Rattle.chart_elements.proofs.Standing.{effects_append}
 
 -- ---- rows of pairs
 

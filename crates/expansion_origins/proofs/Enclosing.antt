@@ -3,8 +3,9 @@ use Rattle.std.proofs.Common.{◌≡◌, ℕ, suc, ◌+◌, ◌<◌, Bool, true,
 use Rattle.std.specs.List.{list_any}
 use Rattle.core_charts.specs.declared.region.Transition.{Transition}
 use Rattle.core_charts.specs.Aborts.{has_aborts, has_strong, has_weak}
+use Rattle.chart_elements.specs.Elements.{Contents}
 use Rattle.abort_expansion.specs.declared.flags.Flags.{Flags}
-use Rattle.abort_expansion.specs.Flags.{counts, flags_of, given, has_join, is_there, one}
+use Rattle.abort_expansion.specs.Flags.{flags_of, given, is_there, one}
 use Rattle.abort_expansion.specs.Flags as flags
 use Rattle.abort_expansion.specs.Transitions.{check, strong_checks, weak_checks}
 use Rattle.expansion_origins.specs.declared.around.Around.{Around}
@@ -12,8 +13,7 @@ use Rattle.expansion_origins.specs.declared.around.Sort.{Sort}
 use Rattle.expansion_origins.specs.declared.around.Sort.TheVariants as sort
 use Rattle.expansion_origins.specs.Origins.{aborts_around, around_of, first_abort, first_of, is_of, weak_around}
 use Rattle.expansion_origins.specs.Origins as origin
-use Rattle.expansion_origins.specs.Laws.{Contents}
-use Rattle.expansion_origins.proofs.Standing.{At, below}
+use Rattle.chart_elements.proofs.Standing.{At, below}
 use Rattle.expansion_origins.proofs.Coming.{Comes, both_come, moves, none_comes}
 
 -- where there is a flag there is a transition, which is one of the chart

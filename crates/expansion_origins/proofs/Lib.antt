@@ -1,5 +1,4 @@
 mod PieceParts
-mod Standing
 mod Coming
 mod Enclosing
 mod Chosen

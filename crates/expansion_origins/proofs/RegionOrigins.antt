@@ -1,8 +1,7 @@
 -- What regions and states become comes from them and from what is in them.
-use Rattle.std.proofs.Common.{◌≡◌, ℕ, suc, ◌+◌, ◌<◌, Bool, true, false, not, ◌||◌, ◌&&◌, Option, Some, None, List, [], ◌∷◌, ◌++◌, map, length}
+use Rattle.std.proofs.Common.{◌≡◌, ℕ, ◌+◌, ◌<◌, Bool, true, false, not, ◌||◌, ◌&&◌, Option, Some, None, List, [], ◌∷◌, ◌++◌, map, length}
 use Rattle.std.proofs.Common.{if◌then◌else◌, refl, sym, ap, subst, ◌∙◌, arith}
 use Rattle.std.specs.List.{list_any}
-use Rattle.std.proofs.lemmas.List.{append-nil}
 use Rattle.core_charts.specs.Aborts.{has_strong, has_weak}
 use Rattle.core_charts.specs.declared.region.Transition.{Transition}
 use Rattle.core_charts.specs.declared.region.Region.{Region}
@@ -11,14 +10,14 @@ use Rattle.sc_text.proofs.EachItem.{Each}
 use Rattle.chart_elements.specs.declared.element.Element.{Element}
 use Rattle.chart_elements.specs.declared.element.Element.TheVariants as element
 use Rattle.chart_elements.specs.declared.numbers.Numbers.{Numbers}
-use Rattle.chart_elements.specs.Elements.{of_region, of_state, regions_of_region, regions_of_state, row, states_of_region, states_of_state}
-use Rattle.chart_elements.specs.Numbers.{behind_transition, behind_transitions, within_state}
+use Rattle.chart_elements.specs.Elements.{Contents}
+use Rattle.chart_elements.specs.Numbers.{within_state}
 use Rattle.abort_expansion.specs.declared.flags.Flags.{Flags}
 use Rattle.abort_expansion.specs.declared.places.Places.{Places}
 use Rattle.abort_expansion.specs.declared.pieces.Numbers as old
 use Rattle.abort_expansion.specs.declared.pieces.Regions.{Regions}
 use Rattle.abort_expansion.specs.declared.pieces.States.{States}
-use Rattle.abort_expansion.specs.Flags.{abandoned_name, counts, first_name, flags_of, given, has_join, is_there, one}
+use Rattle.abort_expansion.specs.Flags.{abandoned_name, counts, first_name, flags_of, given, is_there, one}
 use Rattle.abort_expansion.specs.Flags as flags
 use Rattle.abort_expansion.specs.Transitions.{count_down, go}
 use Rattle.abort_expansion.specs.Pieces as pieces
@@ -31,44 +30,13 @@ use Rattle.expansion_origins.specs.Origins.{RegionPiece, StatePiece, aborts_arou
 use Rattle.expansion_origins.specs.Origins.{behind_states, beside, initial_number, inside_region, left_behind, new_initial, piece_of_region, piece_of_state}
 use Rattle.expansion_origins.specs.Origins.{state_origins, weak_around}
 use Rattle.expansion_origins.specs.Origins as origin
-use Rattle.expansion_origins.specs.Laws.{Contents}
-use Rattle.expansion_origins.proofs.Standing.{Passes, Placed, both, passes_both, placed_behind, placed_first}
+use Rattle.chart_elements.proofs.Pieces.{in_regions, in_states, none_pass, of_one_region, of_one_state, state_alone, within_pass}
+use Rattle.chart_elements.proofs.Standing.{Passes, Placed, both, passes_both, placed_behind, placed_first}
 use Rattle.expansion_origins.proofs.Coming.{Comes, both_come, moves, none_comes, one_state}
 use Rattle.expansion_origins.proofs.Enclosing.{Encloses, aborts_alike, encloses_own, weak_alike}
 use Rattle.expansion_origins.proofs.Shapes.{of_states, regions_join, simple_holds, states_join}
 use Rattle.expansion_origins.proofs.Splitting.{Stated, Within, added_comes, simple_comes}
 use Rattle.expansion_origins.proofs.SuperstateOrigins.{of_inside, of_those, superstate_comes}
-
--- ---- what is in pieces of the chart
-
-abbrev pub in_regions : List Region → Contents
-in_regions regions =
-    record {
-      regions = row (map regions_of_region regions);
-      states = row (map states_of_region regions);
-      transitions = row (map of_region regions);
-    }
-
-abbrev pub in_states : List State → Contents
-in_states states =
-    record {
-      regions = row (map regions_of_state states);
-      states = row (map states_of_state states);
-      transitions = row (map of_state states);
-    }
-
-abbrev pub of_one_region : Region → Contents
-of_one_region r = record { regions = regions_of_region r; states = states_of_region r; transitions = of_region r }
-
-abbrev pub of_one_state : State → Contents
-of_one_state s = record { regions = regions_of_state s; states = states_of_state s; transitions = of_state s }
-
--- a state with its transitions, and a region, without what is inside
-abbrev pub state_alone : List ℕ → List Transition → Contents
-state_alone name own = record { regions = []; states = name ∷ []; transitions = own }
-
-abbrev pub region_alone : List ℕ → Contents
-region_alone name = record { regions = name ∷ []; states = []; transitions = [] }
 
 -- ---- what is proved of each
 
@@ -92,13 +60,7 @@ pub record StateTells (s : State) : Type 0 where
 -- ---- regions side by side
 
 pub regions_pass : (regions : List Region) → Each RegionTells regions → Passes (in_regions regions) (behind_regions (map piece_of_region regions))
-regions_pass [] each =
-    record {
-      region = λ at. omega arith;
-      state = λ at. omega arith;
-      transition = λ at. omega arith;
-      effect = λ at. omega arith;
-    }
+regions_pass [] each = none_pass
 regions_pass (r ∷ regions) each =
     passes_both (of_one_region r) (in_regions regions) (piece_of_region r).behind (behind_regions (map piece_of_region regions)) each.0.passes
     (regions_pass regions each.1)
@@ -131,35 +93,6 @@ regions_come all fs bs counter counts (r ∷ regions) each at before same counte
     (placed_behind all at (of_one_region r) (in_regions regions) p.behind each.0.passes placed)))
 
 -- ---- a state
-
-transitions_pass : (own : List Transition) → Passes (record { regions = []; states = []; transitions = own }) (behind_transitions own)
-transitions_pass [] =
-    record {
-      region = λ at. omega arith;
-      state = λ at. omega arith;
-      transition = λ at. omega arith;
-      effect = λ at. omega arith;
-    }
-transitions_pass (t ∷ own) =
-    passes_both (record { regions = []; states = []; transitions = t ∷ [] }) (record { regions = []; states = []; transitions = own })
-    (behind_transition t) (behind_transitions own)
-    (record {
-      region = λ at. omega arith;
-      state = λ at. omega arith;
-      transition = λ at. omega arith;
-      effect = λ at. ap (λ es. at.effect + length es) (sym (append-nil t.effects));
-    }) (transitions_pass own)
-
-pub within_pass : (name : List ℕ) (own : List Transition) → Passes (state_alone name own) (within_state own)
-within_pass name own =
-    passes_both (state_alone name []) (record { regions = []; states = []; transitions = own }) (λ at. record at { state = suc at.state })
-    (behind_transitions own)
-    (record {
-      region = λ at. omega arith;
-      state = λ at. omega arith;
-      transition = λ at. omega arith;
-      effect = λ at. omega arith;
-    }) (transitions_pass own)
 
 there_given : (b : Bool) (x : ℕ) → is_there (given b x) ≡ b
 there_given true x = refl
@@ -212,13 +145,7 @@ state_comes all fs bs to ends is_initial is_final name regions own place begins 
 -- ---- states side by side
 
 pub states_pass : (states : List State) → Each StateTells states → Passes (in_states states) (behind_states (map piece_of_state states))
-states_pass [] each =
-    record {
-      region = λ at. omega arith;
-      state = λ at. omega arith;
-      transition = λ at. omega arith;
-      effect = λ at. omega arith;
-    }
+states_pass [] each = none_pass
 states_pass (s ∷ states) each =
     passes_both (of_one_state s) (in_states states) (piece_of_state s).behind (behind_states (map piece_of_state states)) each.0.passes
     (states_pass states each.1)

@@ -7,10 +7,9 @@ use Rattle.core_charts.specs.declared.region.State.{State}
 use Rattle.core_charts.specs.declared.region.Region.TheOpen.{Region-F, State-F}
 use Rattle.core_charts.specs.declared.region.Region.TheViews.{roll-Region, roll-State}
 use Rattle.core_charts.specs.declared.region.Region.TheFolds.{fold-roll-Region, fold-roll-State}
-use Rattle.chart_elements.specs.Elements.{Names, in_region, in_state, of_region, of_state, regions_in_region, regions_in_state, regions_of_region}
+use Rattle.chart_elements.specs.Elements.{Contents, Names, in_region, in_state, of_region, of_state, regions_in_region, regions_in_state, regions_of_region}
 use Rattle.chart_elements.specs.Elements.{regions_of_state, row, states_in_region, states_in_state, states_of_region, states_of_state}
 use Rattle.expansion_origins.specs.declared.origins.Origins.{Origins}
-use Rattle.expansion_origins.specs.Laws.{Contents}
 use Rattle.expansion_origins.proofs.Coming.{Comes, Made, comes_as, joined, moves, one_region, one_state}
 
 -- ---- lists of states and regions

@@ -8,10 +8,10 @@ use Rattle.core_charts.specs.Tests.{at_once, strong_aborts}
 use Rattle.core_charts.specs.Aborts.{has_strong, has_weak}
 use Rattle.chart_elements.specs.declared.element.Element.TheVariants as element
 use Rattle.chart_elements.specs.declared.numbers.Numbers.{Numbers}
+use Rattle.chart_elements.specs.Elements.{Contents}
 use Rattle.abort_expansion.specs.declared.flags.Flags.{Flags}
 use Rattle.abort_expansion.specs.declared.places.Places.{Places}
-use Rattle.abort_expansion.specs.Flags.{continuation_name, counts, flags_of, given, has_join, is_there, monitor_name, one, preparation_name}
-use Rattle.abort_expansion.specs.Flags.{abandoned_name, watching_name}
+use Rattle.abort_expansion.specs.Flags.{counts, flags_of, given, one, preparation_name}
 use Rattle.abort_expansion.specs.Flags as flags
 use Rattle.abort_expansion.specs.Transitions.{go, led, led_by, on, put, strong_checks, weak_checks}
 use Rattle.abort_expansion.specs.Superstates as made
@@ -19,10 +19,10 @@ use Rattle.expansion_origins.specs.declared.origins.Origins.{Origins}
 use Rattle.expansion_origins.specs.declared.around.Around.{Around}
 use Rattle.expansion_origins.specs.declared.transitions.Choice.TheVariants as choice
 use Rattle.expansion_origins.specs.declared.transitions.Ends.{Ends}
-use Rattle.expansion_origins.specs.Origins.{aborts_around, around_of, beside, chosen, first_abort, first_of, nothing, once, raised, taken, weak_around}
+use Rattle.expansion_origins.specs.Origins.{beside, chosen, once, taken, weak_around}
 use Rattle.expansion_origins.specs.Origins as origin
-use Rattle.expansion_origins.specs.Laws.{Contents, EffectFrom, is_added}
-use Rattle.expansion_origins.proofs.Standing.{Owned, below}
+use Rattle.expansion_origins.specs.Laws.{EffectFrom, is_added}
+use Rattle.chart_elements.proofs.Standing.{Owned, below}
 use Rattle.expansion_origins.proofs.Coming.{Comes, Pairs, both_come, moves, moves_as, one_state, pairs_append, three}
 use Rattle.expansion_origins.proofs.Enclosing.{Encloses, strong_come}
 use Rattle.expansion_origins.proofs.Enclosing.{weak_alike, weak_come}

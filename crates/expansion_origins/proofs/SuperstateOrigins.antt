@@ -10,6 +10,7 @@ use Rattle.core_charts.specs.Aborts.{has_aborts, has_strong, has_weak}
 use Rattle.chart_elements.specs.declared.element.Element.TheVariants as element
 use Rattle.chart_elements.specs.declared.numbers.Numbers.{Numbers}
 use Rattle.chart_elements.specs.Numbers.{behind_transition}
+use Rattle.chart_elements.specs.Elements.{Contents}
 use Rattle.abort_expansion.specs.declared.flags.Flags.{Flags}
 use Rattle.abort_expansion.specs.declared.places.Places.{Places}
 use Rattle.abort_expansion.specs.declared.pieces.Numbers as old
@@ -27,8 +28,7 @@ use Rattle.expansion_origins.specs.declared.transitions.Choice.TheVariants as ch
 use Rattle.expansion_origins.specs.declared.transitions.Ends.{Ends}
 use Rattle.expansion_origins.specs.Origins.{aborts_around, around_of, beside, chosen, first_abort, first_of, nothing, raised, taken, weak_around}
 use Rattle.expansion_origins.specs.Origins as origin
-use Rattle.expansion_origins.specs.Laws.{Contents}
-use Rattle.expansion_origins.proofs.Standing.{Owned, below, owned_effects, owned_others}
+use Rattle.chart_elements.proofs.Standing.{Owned, below, owned_effects, owned_others}
 use Rattle.expansion_origins.proofs.Coming.{Comes, Made, both_come, comes_as, five, four, joined, moves, moves_as, none, none_comes, one_region, one_state}
 use Rattle.expansion_origins.proofs.Enclosing.{Encloses, FirstAbort, Matches, aborts_alike, first_abort_of, first_matches, strong_come}
 use Rattle.expansion_origins.proofs.Enclosing.{weak_alike, weak_come}

@@ -5,7 +5,6 @@ use Rattle.std.specs.Prelude.{unwrap_or}
 use Rattle.sc_graph.specs.declared.program.Variable.{Variable}
 use Rattle.sc_text.proofs.EachItem.{Each, each_of}
 use Rattle.core_charts.specs.declared.features.Features.TheVariants as features
-use Rattle.core_charts.specs.declared.region.Transition.{Transition}
 use Rattle.core_charts.specs.declared.region.Region.{Region}
 use Rattle.core_charts.specs.declared.region.State.{State}
 use Rattle.core_charts.specs.declared.region.Region.TheOpen.{State-F}
@@ -15,32 +14,27 @@ use Rattle.core_charts.specs.Chart.{Chart}
 use Rattle.core_charts.specs.Rules.{AreRegions, IsChart, IsRegion, IsState, depth_limit}
 use Rattle.chart_elements.specs.declared.element.Element.{Element}
 use Rattle.chart_elements.specs.declared.element.Element.TheVariants as element
-use Rattle.chart_elements.specs.Elements.{Names, all_effects, in_region, in_state, regions_in_region, regions_in_state, states_in_region}
-use Rattle.chart_elements.specs.Elements.{states_in_state}
+use Rattle.chart_elements.specs.Elements.{Contents, all_effects, contents}
+use Rattle.chart_elements.proofs.Pieces.{in_regions, in_states, of_one_region, of_one_state, placed_whole, region_alone, region_parts, region_passes}
+use Rattle.chart_elements.proofs.Pieces.{state_alone, state_parts, within_pass}
 use Rattle.chart_elements.specs.Numbers.{first, within_region, within_state}
 use Rattle.abort_expansion.specs.declared.pieces.States.{States}
 use Rattle.abort_expansion.specs.Pieces as pieces
-use Rattle.abort_expansion.specs.Expansion.{expanded, expansion, state_map}
+use Rattle.abort_expansion.specs.Expansion.{expansion, state_map}
 use Rattle.abort_expansion.specs.Expansion as exp
 use Rattle.abort_expansion.specs.StateMap.{chart_state}
 use Rattle.expansion_origins.specs.declared.origins.Origins.{Origins}
 use Rattle.expansion_origins.specs.Origins.{RegionPiece, StatePiece, behind_regions, behind_states, beside, expansion_origins, inside_region}
 use Rattle.expansion_origins.specs.Origins.{piece_of_region, piece_of_state, region_piece, state_origins, state_piece}
 use Rattle.expansion_origins.specs.Origins as origin
-use Rattle.expansion_origins.specs.Laws.{Contents, EffectFrom, OriginsTellExpansion, RegionFrom, StandsForNamed, StateFrom, TransitionFrom, contents, is_added}
+use Rattle.expansion_origins.specs.Laws.{EffectFrom, OriginsTellExpansion, RegionFrom, StandsForNamed, StateFrom, TransitionFrom, is_added}
 use Rattle.expansion_origins.specs.Laws.{state_of}
-use Rattle.expansion_origins.proofs.Standing.{Passes, Placed, at_whole, below, both, passes_both, placed_behind}
+use Rattle.chart_elements.proofs.Standing.{Passes, Placed, below, both, passes_both, placed_behind}
 use Rattle.expansion_origins.proofs.Coming.{Comes, Pairs, both_come, one_region, pairs_tell}
 use Rattle.expansion_origins.proofs.Shapes.{region_holds}
 use Rattle.expansion_origins.proofs.SuperstateOrigins.{of_inside, of_those}
-use Rattle.expansion_origins.proofs.RegionOrigins.{RegionTells, StateTells, in_regions, in_states, inside_comes, of_one_region, of_one_state, region_alone}
-use Rattle.expansion_origins.proofs.RegionOrigins.{regions_come, regions_many, regions_pass, state_alone, state_comes, states_many, states_pass, within_pass}
-
-abbrev held_in : Names → Names → List Transition → Contents
-held_in a b own = record { regions = a; states = b; transitions = own }
-
-same_contents : (a b c d : Names) (s t : List Transition) → a ≡ b → c ≡ d → s ≡ t → held_in a c s ≡ held_in b d t
-same_contents a b c d s t e f g = ap (λ r. held_in r c s) e ∙ ap (λ q. held_in b q s) f ∙ ap (held_in b d) g
+use Rattle.expansion_origins.proofs.RegionOrigins.{RegionTells, StateTells, inside_comes}
+use Rattle.expansion_origins.proofs.RegionOrigins.{regions_come, regions_many, regions_pass, state_comes, states_many, states_pass}
 
 -- ---- states
 
@@ -66,9 +60,7 @@ state_tells variables levels count inner s h =
       regions = map exp.piece_of_region o.regions;
       transitions = o.transitions;
     }) = fold_out-State pieces.RegionPiece pieces.StatePiece exp.region_piece exp.state_piece s in
-    let held : of_one_state s ≡ both head rest =
-    same_contents _ _ _ _ _ _ (fold_out-State Names Names regions_in_region regions_in_state s) (fold_out-State Names Names states_in_region states_in_state s)
-    (fold_out-State (List Transition) (List Transition) in_region in_state s) in
+    let held : of_one_state s ≡ both head rest = state_parts s in
     let passes : Passes (both head rest) (λ at. behind_regions (map piece_of_region o.regions) (within_state o.transitions at)) =
     passes_both head rest (within_state o.transitions) (behind_regions (map piece_of_region o.regions)) (within_pass o.name o.transitions)
     (regions_pass o.regions each) in
@@ -96,15 +88,6 @@ state_tells variables levels count inner s h =
 
 -- ---- regions
 
-region_passes : (name : List ℕ) → Passes (region_alone name) within_region
-region_passes name =
-    record {
-      region = λ at. omega arith;
-      state = λ at. omega arith;
-      transition = λ at. omega arith;
-      effect = λ at. omega arith;
-    }
-
 region_tells : (variables : List Variable) (levels : ℕ) →
     ((regions : List Region) → AreRegions features.Extended variables levels regions → Each RegionTells regions) →
     (r : Region) → IsRegion features.Extended variables (AreRegions features.Extended variables levels) r → RegionTells r
@@ -119,9 +102,7 @@ region_tells variables levels inner r h =
     fold_out-Region RegionPiece StatePiece region_piece state_piece r in
     let theirs : exp.piece_of_region r ≡ exp.region_piece (record { name = name; states = map exp.piece_of_state states }) =
     fold_out-Region pieces.RegionPiece pieces.StatePiece exp.region_piece exp.state_piece r in
-    let held : of_one_region r ≡ both head rest =
-    same_contents _ _ _ _ _ _ (fold_out-Region Names Names regions_in_region regions_in_state r) (fold_out-Region Names Names states_in_region states_in_state r)
-    (fold_out-Region (List Transition) (List Transition) in_region in_state r) in
+    let held : of_one_region r ≡ both head rest = region_parts r in
     let passes : Passes (both head rest) (λ at. behind_states (map piece_of_state states) (within_region at)) =
     passes_both head rest within_region (behind_states (map piece_of_state states)) (region_passes name) (states_pass states each) in
     record {
@@ -154,12 +135,7 @@ chart_tells : (c : Chart) → IsChart features.Extended c → Comes (contents c)
 chart_tells c h =
     regions_come (contents c) [] [] None false c.regions (regions_tell c.variables depth_limit c.regions h.regions) first
     (exp.whole (length c.variables)) refl refl tt
-    (record {
-      regions = at_whole (contents c).regions;
-      states = at_whole (contents c).states;
-      transitions = at_whole (contents c).transitions;
-      effects = at_whole (all_effects (contents c).transitions);
-    })
+    (placed_whole c)
 
 -- the origin of a thing
 found : {A : Type 0} (From : Element → A → Type 0) (os : List Element) (xs : List A) → Pairs From os xs → (k : ℕ) (x : A) →

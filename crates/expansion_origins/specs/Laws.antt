@@ -8,7 +8,7 @@ use Rattle.core_charts.specs.Chart.{Chart}
 use Rattle.core_charts.specs.Rules.{IsChart}
 use Rattle.chart_elements.specs.declared.element.Element.{Element}
 use Rattle.chart_elements.specs.declared.element.Element.TheVariants as element
-use Rattle.chart_elements.specs.Elements.{all_effects, all_transitions, region_names, state_names}
+use Rattle.chart_elements.specs.Elements.{Contents, all_effects, all_transitions, contents, region_names, state_names}
 use Rattle.abort_expansion.specs.Expansion.{expanded, state_map}
 use Rattle.abort_expansion.specs.StateMap.{chart_state}
 use Rattle.expansion_origins.specs.Origins.{expansion_origins}
@@ -18,15 +18,7 @@ abbrev pub is_added : List ℕ → Bool
 is_added [] = false
 is_added (first ∷ rest) = first == 95
 
--- ---- what comes from what, in a chart with these regions, states and transitions
-
-pub record Contents : Type 0 where
-  pub regions : List (List ℕ)
-  pub states : List (List ℕ)
-  pub transitions : List Transition
-
-abbrev pub contents : Chart → Contents
-contents c = record { regions = region_names c; states = state_names c; transitions = all_transitions c }
+-- ---- what comes from what, in a chart with these elements
 
 -- a region: one of the chart of the same name, or from an abort, whose monitor it is
 abbrev pub RegionFrom : Contents → Element → List ℕ → Type 0

@@ -1,9 +1,10 @@
 //! Superstates, and the aborts by which what is inside them may be left.
 
-ghost use Rattle.std.specs.Prelude.{◌≡◌, IfOk, suc};
+ghost use Rattle.std.specs.Prelude.{◌≡◌, IfOk};
 ghost use Rattle.abort_expansion.specs.Flags.{counts, has_join};
 ghost use Rattle.expansion_origins.specs.Origins.{aborts_around, around_of, first_abort, first_of, is_of, weak_around};
 
+use chart_elements::next;
 use core_charts::{Transition, TransitionKind, has_aborts};
 use std::alloc::AllocError;
 
@@ -56,16 +57,6 @@ impl Around {
         } else {
             self.weak
         }
-    }
-}
-
-// The number behind this one. Err: no memory holds a chart with so many.
-fn next(number: u32) -> Result<u32, AllocError>
-    ensures { IfOk result (λ next. next ≡ suc number) }
-{
-    match number.checked_add(1) {
-        Some(next) => Ok(next),
-        None => Err(AllocError),
     }
 }
 

@@ -1,4 +1,4 @@
-mod Held
+mod FromRows
 mod Single
 mod Moving
 mod Telling

@@ -1,7 +1,6 @@
 -- The points of single statements, and of statements in a row.
 use Rattle.std.proofs.Common.{◌≡◌, ℕ, List, [], ◌∷◌, ◌++◌, map, refl, sym, ap, subst, ◌∙◌, append_assoc}
 use Rattle.sc_values.specs.declared.expression.Expr.{Expr}
-use Rattle.core_charts.specs.declared.region.Transition.{Transition}
 use Rattle.scl.specs.declared.statement.Statement.{Statement}
 use Rattle.scl.specs.declared.statement.Statement.TheVariants as statement
 use Rattle.scl.specs.declared.statement.Statement.TheVariants.{rolls-Assign, rolls-Label, rolls-Goto, rolls-Pause, rolls-If, rolls-Fork}
@@ -9,8 +8,9 @@ use Rattle.scl.specs.declared.statement.Statement.TheOpen as text
 use Rattle.scl.specs.declared.statement.Statement.TheFolds.{fold-roll-Statement}
 use Rattle.graph_origins.specs.Points.{Point, in_row, points, points_of}
 use Rattle.chart_elements.specs.declared.element.Element.{Element}
+use Rattle.chart_elements.specs.Elements.{Contents}
 use Rattle.lowering_origins.specs.Laws.{IsFrom}
-use Rattle.lowering_origins.proofs.Held.{AllFrom}
+use Rattle.lowering_origins.proofs.FromRows.{AllFrom}
 
 pub assign_points : (x : ℕ) (e : Expr) → points_of (statement.Assign x e) ≡ points (text.Assign x e)
 assign_points x e = ap points_of (sym (rolls-Assign x e)) ∙ fold-roll-Statement (List Point) points (text.Assign x e)
@@ -38,6 +38,6 @@ points_append [] b = refl
 points_append (s ∷ a) b = ap (λ ps. points_of s ++ ps) (points_append a b) ∙ sym (append_assoc (points_of s) (points_in a) (points_in b))
 
 -- a statement that is a point, and others behind it
-pub from_first : (all : List Transition) (o : Element) (s : Statement) (p : Point) (os : List Element) (others : List Statement) →
+pub from_first : (all : Contents) (o : Element) (s : Statement) (p : Point) (os : List Element) (others : List Statement) →
     points_of s ≡ p ∷ [] → IsFrom all o p → AllFrom all os (points_in others) → AllFrom all (o ∷ os) (points_in (s ∷ others))
 from_first all o s p os others is here later = subst (λ ps. AllFrom all (o ∷ os) (ps ++ points_in others)) (sym is) (here, later)

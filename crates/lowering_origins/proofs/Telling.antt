@@ -1,5 +1,5 @@
 -- Each point of the lowering of a core chart comes from its origin.
-use Rattle.std.proofs.Common.{◌≡◌, ℕ, zero, suc, ◌+◌, Bool, true, false, if◌then◌else◌, List, [], ◌∷◌, ◌++◌, map, length, refl, sym, ap, subst}
+use Rattle.std.proofs.Common.{◌≡◌, ℕ, zero, suc, ◌+◌, ◌<◌, Bool, true, false, if◌then◌else◌, List, [], ◌∷◌, ◌++◌, map, length, refl, sym, ap, subst}
 use Rattle.std.proofs.Common.{◌∙◌, append_assoc}
 use Rattle.std.proofs.lemmas.List.{append-nil}
 use Rattle.sc_graph.specs.declared.program.Variable.{Variable}
@@ -23,105 +23,78 @@ use Rattle.graph_origins.specs.Points.{Point, Ends, Marks, in_branches, points_o
 use Rattle.chart_elements.specs.declared.element.Element.{Element}
 use Rattle.chart_elements.specs.declared.element.Element.TheVariants as element
 use Rattle.chart_elements.specs.declared.numbers.Numbers.{Numbers}
-use Rattle.chart_elements.specs.Numbers.{behind_transition, behind_transitions, first, within_region, within_state}
+use Rattle.chart_elements.specs.Numbers.{first, within_region, within_state}
 use Rattle.lowering_origins.specs.Origins.{RegionPiece, StatePiece, behind_fork, behind_regions, behind_states, body_of, branches, piece_of_region}
 use Rattle.lowering_origins.specs.Origins.{piece_of_state, point_origins, region_piece, state_piece, text_of, texts}
-use Rattle.chart_elements.specs.Elements.{all_transitions, in_region, in_state, of_region, of_state, row}
+use Rattle.chart_elements.specs.Elements.{Contents, contents}
 use Rattle.lowering_origins.specs.Laws.{OriginsTellPoints}
-use Rattle.lowering_origins.proofs.Held.{AllFrom, Held, effects_append, from_append, from_at, from_length, held_at, held_behind, held_first}
-use Rattle.lowering_origins.proofs.Held.{held_whole, reach, reach_append, reach_effects}
+use Rattle.chart_elements.proofs.Standing.{Owned, Passes, Placed, below, both, passes_both, placed_behind, placed_first}
+use Rattle.chart_elements.proofs.Pieces.{in_regions, in_states, none_pass, of_one_region, of_one_state, placed_whole, region_alone, region_parts}
+use Rattle.chart_elements.proofs.Pieces.{region_passes, state_alone, state_parts, within_pass}
+use Rattle.lowering_origins.proofs.FromRows.{AllFrom, from_append, from_at, from_length}
 use Rattle.lowering_origins.proofs.Single.{fork_points, from_first, label_points, points_append, points_in}
 use Rattle.lowering_origins.proofs.Moving.{behind_from, final_from, simple_from}
 
--- the numbers behind a piece with these transitions
-pub record Passes (own : List Transition) (behind : Numbers → Numbers) : Type 0 where
-  pub transitions : (at : Numbers) → (behind at).transition ≡ reach own at.transition
-  pub effects : (at : Numbers) → (behind at).effect ≡ reach_effects own at.effect
-
 pub record TellsRegion (r : Region) : Type 0 where
-  pub passes : Passes (of_region r) (piece_of_region r).behind
-  pub body : (all : List Transition) (at : Numbers) → Held all at.transition at.effect (of_region r) → (n : ℕ) →
+  pub passes : Passes (of_one_region r) (piece_of_region r).behind
+  pub body : (all : Contents) (at : Numbers) → Placed all at (of_one_region r) → (n : ℕ) →
       AllFrom all ((piece_of_region r).body at) (points_in ((low.piece_of_region r).body n) ++ Ends ∷ [])
 
 pub record TellsState (s : State) : Type 0 where
-  pub passes : Passes (of_state s) (piece_of_state s).behind
+  pub passes : Passes (of_one_state s) (piece_of_state s).behind
   pub initial : (piece_of_state s).is_initial ≡ (low.piece_of_state s).is_initial
-  pub text : (all : List Transition) (at : Numbers) → Held all at.transition at.effect (of_state s) → (to : Targets) (n : ℕ) →
+  pub text : (all : Contents) (at : Numbers) → Placed all at (of_one_state s) → (to : Targets) (n : ℕ) →
       AllFrom all ((piece_of_state s).text at) (points_in ((low.piece_of_state s).text to n))
-
--- what stands behind a piece
-held_past : (all : List Transition) (own others : List Transition) (behind : Numbers → Numbers) → Passes own behind → (at : Numbers) →
-    Held all at.transition at.effect (own ++ others) → Held all (behind at).transition (behind at).effect others
-held_past all own others behind passes at h =
-    held_at all (reach own at.transition) (reach_effects own at.effect) (behind at).transition (behind at).effect others
-    (sym (passes.transitions at)) (sym (passes.effects at)) (held_behind all at.transition at.effect own others h)
-
-passes_both : (a b : List Transition) (f g : Numbers → Numbers) → Passes a f → Passes b g → Passes (a ++ b) (λ at. g (f at))
-passes_both a b f g p q = record {
-  transitions = λ at. q.transitions (f at) ∙ ap (reach b) (p.transitions at) ∙ sym (reach_append a b at.transition);
-  effects = λ at. q.effects (f at) ∙ ap (reach_effects b) (p.effects at) ∙ sym (effects_append a b at.effect);
-}
-
-passes_own : (own : List Transition) → Passes own (behind_transitions own)
-passes_own [] = record { transitions = λ at. refl; effects = λ at. refl }
-passes_own (t ∷ own) =
-    let others : Passes own (behind_transitions own) = passes_own own in
-    record {
-      transitions = λ at. others.transitions (behind_transition t at);
-      effects = λ at. others.effects (behind_transition t at);
-    }
-
-passes_within : (own : List Transition) → Passes own (within_state own)
-passes_within own =
-    let passes : Passes own (behind_transitions own) = passes_own own in
-    record {
-      transitions = λ at. passes.transitions (record at { state = suc at.state });
-      effects = λ at. passes.effects (record at { state = suc at.state });
-    }
 
 -- ---- states, over the regions inside them
 
-regions_pass : (regions : List Region) → Each TellsRegion regions →
-    Passes (row (map of_region regions)) (behind_regions (map piece_of_region regions))
-regions_pass [] each = record { transitions = λ at. refl; effects = λ at. refl }
+regions_pass : (regions : List Region) → Each TellsRegion regions → Passes (in_regions regions) (behind_regions (map piece_of_region regions))
+regions_pass [] each = none_pass
 regions_pass (r ∷ regions) each =
-    passes_both (of_region r) (row (map of_region regions)) (piece_of_region r).behind (behind_regions (map piece_of_region regions))
-    each.0.passes (regions_pass regions each.1)
+    passes_both (of_one_region r) (in_regions regions) (piece_of_region r).behind (behind_regions (map piece_of_region regions)) each.0.passes
+    (regions_pass regions each.1)
 
-branches_tell : (all : List Transition) (regions : List Region) → Each TellsRegion regions → (at : Numbers) →
-    Held all at.transition at.effect (row (map of_region regions)) → (n : ℕ) →
+branches_tell : (all : Contents) (regions : List Region) → Each TellsRegion regions → (at : Numbers) →
+    Placed all at (in_regions regions) → (n : ℕ) →
     AllFrom all (branches (map piece_of_region regions) at)
     (in_branches (map (map points_of) (low.branches (map low.piece_of_region regions) n)))
 branches_tell all [] each at h n = tt
 branches_tell all (r ∷ regions) each at h n =
     let p : RegionPiece = piece_of_region r in
     let q : low.RegionPiece = low.piece_of_region r in
-    let more : List Transition = row (map of_region regions) in
     let rest : List Point = in_branches (map (map points_of) (low.branches (map low.piece_of_region regions) (n + q.labels))) in
     subst (AllFrom all (p.body at ++ branches (map piece_of_region regions) (p.behind at))) (append_assoc (points_in (q.body n)) (Ends ∷ []) rest)
     (from_append all (p.body at) (branches (map piece_of_region regions) (p.behind at)) (points_in (q.body n) ++ Ends ∷ []) rest
-    (each.0.body all at (held_first all at.transition at.effect (of_region r) more h) n)
-    (branches_tell all regions each.1 (p.behind at) (held_past all (of_region r) more p.behind each.0.passes at h) (n + q.labels)))
+    (each.0.body all at (placed_first all at (of_one_region r) (in_regions regions) h) n)
+    (branches_tell all regions each.1 (p.behind at) (placed_behind all at (of_one_region r) (in_regions regions) p.behind each.0.passes h) (n + q.labels)))
 
-text_tells : (all : List Transition) (is_final : Bool) (regions : List Region) (own : List Transition) → Each TellsRegion regions → (at : Numbers) →
-    Held all at.transition at.effect (own ++ row (map of_region regions)) → (to : Targets) (n : ℕ) →
+owned_of : (all : Contents) (at : Numbers) (name : List ℕ) (own : List Transition) (rest : Contents) →
+    Placed all at (both (state_alone name own) rest) → Owned all at own
+owned_of all at name own rest h =
+    let mine : Placed all at (state_alone name own) = placed_first all at (state_alone name own) rest h in
+    record { transitions = mine.transitions; effects = mine.effects }
+
+text_tells : (all : Contents) (is_final : Bool) (name : List ℕ) (regions : List Region) (own : List Transition) → Each TellsRegion regions →
+    (at : Numbers) → Placed all at (both (state_alone name own) (in_regions regions)) → (to : Targets) (n : ℕ) →
     AllFrom all (text_of is_final (map piece_of_region regions) own at) (points_in (low.text_of is_final (map low.piece_of_region regions) own to n))
-text_tells all true regions own each at h to n = final_from all to at n
-text_tells all false [] own each at h to n = simple_from all to own at (held_first all at.transition at.effect own [] h) n
-text_tells all false (r ∷ regions) own each at h to n =
+text_tells all true name regions own each at h to n = final_from all to at (below all.states at.state name h.states.0) n
+text_tells all false name [] own each at h to n =
+    simple_from all to own at (below all.states at.state name h.states.0) (owned_of all at name own (in_regions []) h) n
+text_tells all false name (r ∷ regions) own each at h to n =
     let whole : List Region = r ∷ regions in
-    let more : List Transition = row (map of_region whole) in
     let s : Element = element.State at.state in
+    let small : at.state < length all.states = below all.states at.state name h.states.0 in
     let bodies : List (List Statement) = low.branches (map low.piece_of_region whole) (suc n) in
     let rest : List Statement = low.behind to (terminations own) (suc n + labels_in (map low.piece_of_region whole)) in
     let inside : List Element = branches (map piece_of_region whole) (within_state own at) in
     from_first all s (label n) (Marks (label_name n)) (s ∷ (inside ++ behind_fork own at)) (statement.Fork bodies ∷ rest)
-    (label_points (label_name n)) tt
+    (label_points (label_name n)) small
     (subst (λ ps. AllFrom all (s ∷ (inside ++ behind_fork own at)) (ps ++ points_in rest)) (sym (fork_points bodies)) (
-      tt,
+      small,
       from_append all inside (behind_fork own at) (in_branches (map (map points_of) bodies)) (points_in rest)
-          (branches_tell all whole each (within_state own at) (held_past all own more (within_state own) (passes_within own) at h) (suc n))
-          (behind_from all to own at (held_first all at.transition at.effect own more h) (suc n + labels_in (map low.piece_of_region whole))),
+          (branches_tell all whole each (within_state own at)
+          (placed_behind all at (state_alone name own) (in_regions whole) (within_state own) (within_pass name own) h) (suc n))
+          (behind_from all to own at small (owned_of all at name own (in_regions whole) h) (suc n + labels_in (map low.piece_of_region whole))),
     ))
 
 state_tells : (variables : List Variable) (levels count : ℕ) →
@@ -129,7 +102,8 @@ state_tells : (variables : List Variable) (levels count : ℕ) →
     (s : State) → IsState features.Core variables (AreRegions features.Core variables levels) count s → TellsState s
 state_tells variables levels count inner s h =
     let o : State-F Region State = out-State s in
-    let more : List Transition = row (map of_region o.regions) in
+    let head : Contents = state_alone o.name o.transitions in
+    let rest : Contents = in_regions o.regions in
     let each : Each TellsRegion o.regions = inner o.regions h.regions in
     let mine : piece_of_state s ≡ state_piece (record {
       name = o.name;
@@ -145,29 +119,28 @@ state_tells variables levels count inner s h =
       regions = map low.piece_of_region o.regions;
       transitions = o.transitions;
     }) = fold_out-State low.RegionPiece low.StatePiece low.region_piece low.state_piece s in
-    let held : of_state s ≡ o.transitions ++ more = fold_out-State (List Transition) (List Transition) in_region in_state s in
-    let passes : Passes (o.transitions ++ more) (λ at. behind_regions (map piece_of_region o.regions) (within_state o.transitions at)) =
-    passes_both o.transitions more (within_state o.transitions) (behind_regions (map piece_of_region o.regions)) (passes_within o.transitions)
+    let held : of_one_state s ≡ both head rest = state_parts s in
+    let passes : Passes (both head rest) (λ at. behind_regions (map piece_of_region o.regions) (within_state o.transitions at)) =
+    passes_both head rest (within_state o.transitions) (behind_regions (map piece_of_region o.regions)) (within_pass o.name o.transitions)
     (regions_pass o.regions each) in
     record {
-      passes = subst (λ own. Passes own (piece_of_state s).behind) (sym held)
-          (subst (λ p. Passes (o.transitions ++ more) p.behind) (sym mine) passes);
+      passes = subst (λ c. Passes c (piece_of_state s).behind) (sym held) (subst (λ p. Passes (both head rest) p.behind) (sym mine) passes);
       initial = ap (λ p. p.is_initial) mine ∙ sym (ap (λ p. p.is_initial) theirs);
       text = λ all at there to n.
           subst (λ p. AllFrom all (p.text at) (points_in ((low.piece_of_state s).text to n))) (sym mine)
           (subst (λ p. AllFrom all (text_of o.is_final (map piece_of_region o.regions) o.transitions at) (points_in (p.text to n))) (sym theirs)
-          (text_tells all o.is_final o.regions o.transitions each at (subst (Held all at.transition at.effect) held there) to n));
+          (text_tells all o.is_final o.name o.regions o.transitions each at (subst (Placed all at) held there) to n));
     }
 
 -- ---- regions
 
-states_pass : (states : List State) → Each TellsState states → Passes (row (map of_state states)) (behind_states (map piece_of_state states))
-states_pass [] each = record { transitions = λ at. refl; effects = λ at. refl }
+states_pass : (states : List State) → Each TellsState states → Passes (in_states states) (behind_states (map piece_of_state states))
+states_pass [] each = none_pass
 states_pass (s ∷ states) each =
-    passes_both (of_state s) (row (map of_state states)) (piece_of_state s).behind (behind_states (map piece_of_state states))
-    each.0.passes (states_pass states each.1)
+    passes_both (of_one_state s) (in_states states) (piece_of_state s).behind (behind_states (map piece_of_state states)) each.0.passes
+    (states_pass states each.1)
 
-wanted_tells : (all : List Transition) (b c : Bool) → b ≡ c → (os : List Element) (ss : List Statement) → AllFrom all os (points_in ss) →
+wanted_tells : (all : Contents) (b c : Bool) → b ≡ c → (os : List Element) (ss : List Statement) → AllFrom all os (points_in ss) →
     AllFrom all (if b then os else []) (points_in (if c then ss else []))
 wanted_tells all true true e os ss h = h
 wanted_tells all false false e os ss h = tt
@@ -186,8 +159,8 @@ texts_step : (wanted b : Bool) (labels : ℕ) (text : Targets → ℕ → List S
 texts_step wanted true labels text states to here next = refl
 texts_step wanted false labels text states to here next = refl
 
-texts_tell : (all : List Transition) (wanted : Bool) (states : List State) → Each TellsState states → (at : Numbers) →
-    Held all at.transition at.effect (row (map of_state states)) → (to : Targets) (here next : ℕ) →
+texts_tell : (all : Contents) (wanted : Bool) (states : List State) → Each TellsState states → (at : Numbers) →
+    Placed all at (in_states states) → (to : Targets) (here next : ℕ) →
     AllFrom all (texts wanted (map piece_of_state states) at)
     (points_in (low.texts wanted to (map low.piece_of_state states) (numbers (map low.piece_of_state states) here next)))
 texts_tell all wanted [] each at h to here next = tt
@@ -195,7 +168,6 @@ texts_tell all wanted (s ∷ states) each at h to here next =
     let p : StatePiece = piece_of_state s in
     let q : low.StatePiece = low.piece_of_state s in
     let qs : List low.StatePiece = map low.piece_of_state states in
-    let more : List Transition = row (map of_state states) in
     let mine : List Statement = if is_wanted wanted q.is_initial then q.text to (label_of q.is_initial here next) else [] in
     let after : ℕ = if q.is_initial then next else next + q.labels in
     let others : List Statement = low.texts wanted to qs (numbers qs here after) in
@@ -206,15 +178,15 @@ texts_tell all wanted (s ∷ states) each at h to here next =
     (from_append all own rest (points_in mine) (points_in others)
     (wanted_tells all (is_wanted wanted p.is_initial) (is_wanted wanted q.is_initial) (ap (is_wanted wanted) each.0.initial) (p.text at)
     (q.text to (label_of q.is_initial here next))
-    (each.0.text all at (held_first all at.transition at.effect (of_state s) more h) to (label_of q.is_initial here next)))
-    (texts_tell all wanted states each.1 (p.behind at) (held_past all (of_state s) more p.behind each.0.passes at h) to here after)))
+    (each.0.text all at (placed_first all at (of_one_state s) (in_states states) h) to (label_of q.is_initial here next)))
+    (texts_tell all wanted states each.1 (p.behind at) (placed_behind all at (of_one_state s) (in_states states) p.behind each.0.passes h) to here after)))
 
 -- the body of a region of these states, and its end
-body_tells : (all : List Transition) (states : List State) → Each TellsState states → (region : ℕ) (at : Numbers) →
-    Held all at.transition at.effect (row (map of_state states)) → (to : Targets) (here next end : ℕ) →
+body_tells : (all : Contents) (states : List State) → Each TellsState states → (region : ℕ) (at : Numbers) → region < length all.regions →
+    Placed all at (in_states states) → (to : Targets) (here next end : ℕ) →
     AllFrom all (body_of (map piece_of_state states) region at)
     (points_in (low.body to (map low.piece_of_state states) (numbers (map low.piece_of_state states) here next) end) ++ Ends ∷ [])
-body_tells all states each region at h to here next end =
+body_tells all states each region at small h to here next end =
     let qs : List low.StatePiece = map low.piece_of_state states in
     let ns : List ℕ = numbers qs here next in
     let a : List Statement = low.texts true to qs ns in
@@ -232,7 +204,7 @@ body_tells all states each region at h to here next end =
     (from_append all (x ++ y) last (points_in a ++ points_in b) (Marks (label_name end) ∷ Ends ∷ [])
     (from_append all x y (points_in a) (points_in b) (texts_tell all true states each at h to here next)
     (texts_tell all false states each at h to here next))
-    (tt, (tt, tt)))
+    (small, (small, tt)))
 
 region_tells : (variables : List Variable) (levels : ℕ) →
     ((regions : List Region) → AreRegions features.Core variables levels regions → Each TellsRegion regions) →
@@ -242,25 +214,27 @@ region_tells variables levels inner r h =
     let each : Each TellsState states =
     each_of TellsState states (λ i s there. state_tells variables levels (length states) inner s (h.states i s there)) in
     let qs : List low.StatePiece = map low.piece_of_state states in
-    let own : List Transition = row (map of_state states) in
-    let passes : Passes own (λ at. behind_states (map piece_of_state states) (within_region at)) =
-    let p : Passes own (behind_states (map piece_of_state states)) = states_pass states each in
-    record { transitions = λ at. p.transitions (within_region at); effects = λ at. p.effects (within_region at) } in
+    let name : List ℕ = (out-Region r).name in
+    let head : Contents = region_alone name in
+    let rest : Contents = in_states states in
+    let passes : Passes (both head rest) (λ at. behind_states (map piece_of_state states) (within_region at)) =
+    passes_both head rest within_region (behind_states (map piece_of_state states)) (region_passes name) (states_pass states each) in
     let mine : piece_of_region r ≡ region_piece (record { name = (out-Region r).name; states = map piece_of_state states }) =
     fold_out-Region RegionPiece StatePiece region_piece state_piece r in
     let theirs : low.piece_of_region r ≡ low.region_piece (record { name = (out-Region r).name; states = qs }) =
     fold_out-Region low.RegionPiece low.StatePiece low.region_piece low.state_piece r in
-    let held : of_region r ≡ own = fold_out-Region (List Transition) (List Transition) in_region in_state r in
+    let held : of_one_region r ≡ both head rest = region_parts r in
     record {
-      passes = subst (λ ts. Passes ts (piece_of_region r).behind) (sym held) (subst (λ p. Passes own p.behind) (sym mine) passes);
+      passes = subst (λ c. Passes c (piece_of_region r).behind) (sym held) (subst (λ p. Passes (both head rest) p.behind) (sym mine) passes);
       body = λ all at there n.
+          let known : Placed all at (both head rest) = subst (Placed all at) held there in
           let ns : List ℕ = numbers qs n (n + labels_in_initial qs) in
           let end : ℕ = n + labels_in_states qs in
           subst (λ p. AllFrom all (p.body at) (points_in ((low.piece_of_region r).body n) ++ Ends ∷ [])) (sym mine)
           (subst (λ p. AllFrom all (body_of (map piece_of_state states) at.region (within_region at)) (points_in (p.body n) ++ Ends ∷ []))
           (sym theirs)
-          (body_tells all states each at.region (within_region at) (subst (Held all at.transition at.effect) held there) (low.targets ns end) n
-          (n + labels_in_initial qs) end));
+          (body_tells all states each at.region (within_region at) (below all.regions at.region name known.regions.0)
+          (placed_behind all at head rest within_region (region_passes name) known) (low.targets ns end) n (n + labels_in_initial qs) end));
     }
 
 -- regions that nest this many levels deep
@@ -270,9 +244,9 @@ regions_tell variables zero regions h = subst (Each TellsRegion) (sym h) tt
 regions_tell variables (suc levels) regions h =
     each_of TellsRegion regions (λ i r there. region_tells variables levels (regions_tell variables levels) r (h.each i r there))
 
-chart_tells : (c : Chart) → IsChart features.Core c → AllFrom (all_transitions c) (point_origins c) (text_points (lowered c))
+chart_tells : (c : Chart) → IsChart features.Core c → AllFrom (contents c) (point_origins c) (text_points (lowered c))
 chart_tells c h =
-    let all : List Transition = all_transitions c in
+    let all : Contents = contents c in
     let each : Each TellsRegion c.regions = regions_tell c.variables depth_limit c.regions h.regions in
     let bodies : List (List Statement) = low.branches (map low.piece_of_region c.regions) 1 in
     let inside : List Element = branches (map piece_of_region c.regions) first in
@@ -280,11 +254,11 @@ chart_tells c h =
       tt,
       subst (λ ps. AllFrom all (inside ++ element.Chart ∷ []) (ps ++ Ends ∷ [])) (sym (append-nil (in_branches (map (map points_of) bodies))))
           (from_append all inside (element.Chart ∷ []) (in_branches (map (map points_of) bodies)) (Ends ∷ [])
-          (branches_tell all c.regions each first (held_whole all) 1) (tt, tt)),
+          (branches_tell all c.regions each first (placed_whole c) 1) (tt, tt)),
     )
 
 pub origins_tell : OriginsTellPoints
 origins_tell c h = record {
-  each = from_length (all_transitions c) (point_origins c) (text_points (lowered c)) (chart_tells c h);
-  comes = from_at (all_transitions c) (point_origins c) (text_points (lowered c)) (chart_tells c h);
+  each = from_length (contents c) (point_origins c) (text_points (lowered c)) (chart_tells c h);
+  comes = from_at (contents c) (point_origins c) (text_points (lowered c)) (chart_tells c h);
 }

@@ -1,5 +1,5 @@
 -- What the origins of a lowering tell: from the element of its origin each point comes that does what it does.
-use Rattle.std.specs.Prelude.{ℕ, ◌≡◌, Some, List, length, slice_get}
+use Rattle.std.specs.Prelude.{ℕ, ◌≡◌, ◌<◌, Some, length, slice_get}
 use Rattle.core_charts.specs.declared.features.Features.TheVariants as features
 use Rattle.core_charts.specs.declared.region.Transition.{Transition}
 use Rattle.core_charts.specs.Chart.{Chart}
@@ -8,29 +8,24 @@ use Rattle.chart_lowering.specs.Lowering.{lowered}
 use Rattle.graph_origins.specs.Points.{Point, Assigns, Marks, Jumps, Pauses, Tests, Forks, Ends, text_points}
 use Rattle.chart_elements.specs.declared.element.Element.{Element}
 use Rattle.chart_elements.specs.declared.element.Element.TheVariants as element
-use Rattle.chart_elements.specs.Elements.{all_effects, all_transitions}
+use Rattle.chart_elements.specs.Elements.{Contents, all_effects, contents}
 use Rattle.lowering_origins.specs.Origins.{point_origins}
 
 -- ---- origins
 
--- a transition of this number
-pub record IsThere (all : List Transition) (n : ℕ) : Type 0 where
-  pub transition : Transition
-  pub there : slice_get all n ≡ Some transition
-
 -- an assignment comes from the effect that makes it, a test from the transition with this trigger, a goto from a transition
 -- or a state, a label from a state or a region, a pause from a state, a fork from a state or the chart, and the end of a
--- thread from a region or the chart
-abbrev pub IsFrom : List Transition → Element → Point → Type 0
-IsFrom all (element.Effect n) (Assigns x e) = slice_get (all_effects all) n ≡ Some (record { variable = x; value = e })
-IsFrom all (element.Transition n) (Tests e) = (t : Transition) × (slice_get all n ≡ Some t) × (t.trigger ≡ Some e)
-IsFrom all (element.Transition n) (Jumps name) = IsThere all n
-IsFrom all (element.State n) (Jumps name) = Unit {0}
-IsFrom all (element.State n) (Marks name) = Unit {0}
-IsFrom all (element.State n) Pauses = Unit {0}
-IsFrom all (element.State n) Forks = Unit {0}
-IsFrom all (element.Region n) (Marks name) = Unit {0}
-IsFrom all (element.Region n) Ends = Unit {0}
+-- thread from a region or the chart; each of these is there
+abbrev pub IsFrom : Contents → Element → Point → Type 0
+IsFrom all (element.Effect n) (Assigns x e) = slice_get (all_effects all.transitions) n ≡ Some (record { variable = x; value = e })
+IsFrom all (element.Transition n) (Tests e) = (t : Transition) × (slice_get all.transitions n ≡ Some t) × (t.trigger ≡ Some e)
+IsFrom all (element.Transition n) (Jumps name) = n < length all.transitions
+IsFrom all (element.State n) (Jumps name) = n < length all.states
+IsFrom all (element.State n) (Marks name) = n < length all.states
+IsFrom all (element.State n) Pauses = n < length all.states
+IsFrom all (element.State n) Forks = n < length all.states
+IsFrom all (element.Region n) (Marks name) = n < length all.regions
+IsFrom all (element.Region n) Ends = n < length all.regions
 IsFrom all element.Chart Forks = Unit {0}
 IsFrom all element.Chart Ends = Unit {0}
 IsFrom all o p = ⊥
@@ -39,7 +34,7 @@ IsFrom all o p = ⊥
 pub record TellsPoints (c : Chart) : Type 0 where
   pub each : length (point_origins c) ≡ length (text_points (lowered c))
   pub comes : (k : ℕ) (o : Element) (p : Point) → slice_get (point_origins c) k ≡ Some o →
-      slice_get (text_points (lowered c)) k ≡ Some p → IsFrom (all_transitions c) o p
+      slice_get (text_points (lowered c)) k ≡ Some p → IsFrom (contents c) o p
 
 abbrev pub OriginsTellPoints : Type 0
 OriginsTellPoints = (c : Chart) → IsChart features.Core c → TellsPoints c

@@ -4,9 +4,8 @@ use Rattle.std.proofs.Common.{◌∙◌, append_assoc}
 use Rattle.std.proofs.lemmas.List.{length-append}
 use Rattle.core_charts.specs.declared.region.Transition.{Transition}
 use Rattle.chart_elements.specs.declared.numbers.Numbers.{Numbers}
-use Rattle.chart_elements.specs.Elements.{all_effects}
+use Rattle.chart_elements.specs.Elements.{Contents, all_effects}
 use Rattle.chart_elements.specs.Numbers.{behind_transition}
-use Rattle.expansion_origins.specs.Laws.{Contents}
 
 -- these stand among all from number n on
 abbrev pub At : {A : Type 0} → List A → ℕ → List A → Type 0
