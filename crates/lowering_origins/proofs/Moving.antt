@@ -56,7 +56,8 @@ pub transitions_from : (all : Contents) (to : Targets) (own : List Transition) (
     AllFrom all (transitions false own at rest) (points_in (low.transitions to own others))
 transitions_from all to [] at h rest others later = later
 transitions_from all to (t ∷ own) at h rest others later =
-    tested_from all to t at h.transitions.0 (owned_effects all at t own h) t.trigger refl (transitions false own (behind_transition t at) rest) (low.transitions to own others)
+    tested_from all to t at h.transitions.0 (owned_effects all at t own h) t.trigger refl
+    (transitions false own (behind_transition t at) rest) (low.transitions to own others)
     (transitions_from all to own (behind_transition t at) (owned_others all at t own h) rest others later)
 
 -- the immediate ones
@@ -64,7 +65,8 @@ pub surface_from : (all : Contents) (to : Targets) (own : List Transition) (at :
     Owned all at own → (rest : Origins) (others : List Statement) → AllFrom all rest (points_in others) →
     AllFrom all (transitions true own at rest) (points_in (low.transitions to (at_once own) others))
 surface_from all to [] at h rest others later = later
-surface_from all to (t ∷ own) at h rest others later = by t.immediate (surface_from all to own (behind_transition t at) (owned_others all at t own h) rest others later)
+surface_from all to (t ∷ own) at h rest others later =
+    by t.immediate (surface_from all to own (behind_transition t at) (owned_others all at t own h) rest others later)
   where
     by : (b : Bool) →
         AllFrom all (transitions true own (behind_transition t at) rest) (points_in (low.transitions to (at_once own) others)) →
