@@ -112,9 +112,25 @@ def gotos_into_loops(n):
     return HEAD + "if (A) { goto M0; } " + loops + f"M{n // 4}: x = 1; }}"
 
 
+def forks_in_turn(n):
+    """Many forks of two branches one behind the other, which write 14 variables each, by sums and by products in turn."""
+    rows = ["".join(f"v{k} = v{k} {operator} 1; " for k in range(14)) for operator in "+*"]
+    return HEAD + OWN + "".join(branches([rows[i % 2]] * 2) for i in range(n // 32)) + "}"
+
+
+def many_threads(n):
+    """Threads of 14 steps, at most 60 in a fork, of which half write the variables that the others read."""
+    pair = ["".join(f"v{k} = v{k} + 1; " for k in range(14)), "".join(f"if (v{k} == 0) {{ }} " for k in range(14))]
+    pairs = n // 34
+    return HEAD + OWN + branches([branches(pair * min(30, pairs - i)) for i in range(0, pairs, 30)]) + "}"
+
+
 SLOW = [("a loop of one node before a row", loop_before_row), ("a row beside a circle of two", circle_beside_row),
         ("half write what the others read, beside a circle of two", circle_beside_pairs),
         ("gotos into a row, in a loop", jumps_into_row), ("the same, where the row reads itself", jumps_into_reads),
         ("chains of forks of one branch", forks_of_one), ("a chart of sums of each other", sums_of_each_other),
         ("deep forks of eight branches", deep_forks), ("240 variables of few users each", few_users_each),
-        ("many forks, the last of which alone is a circle", last_circle_alone), ("gotos into loops", gotos_into_loops), ("labels within ifs and forks", labels_deep)]
+        ("many forks, the last of which alone is a circle", last_circle_alone), ("gotos into loops", gotos_into_loops),
+        ("labels within ifs and forks", labels_deep)]
+# What these cost grows with pairs of threads that use one variable, of which there are at most 1,024 threads.
+PAIRS = [("forks by sums and by products in turn", forks_in_turn), ("half of many threads write what the others read", many_threads)]
