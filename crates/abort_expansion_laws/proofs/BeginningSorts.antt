@@ -15,7 +15,8 @@ use Rattle.abort_expansion.specs.declared.places.Places.{Places}
 use Rattle.abort_expansion.specs.Transitions.{go, led, led_by, count_down}
 use Rattle.abort_expansion.specs.Superstates.{simple_transitions, stays, is_prepared, resets}
 use Rattle.chart_machine_laws.specs.Tree.{around, holder}
-use Rattle.abort_expansion_laws.specs.CoreRows.{own, IsState, ends, is_final, IsSuper, IsSimple, joins, Images, CoreRows, flags_around, counter_over, SplitImage, simple_row}
+use Rattle.abort_expansion_laws.specs.CoreRows.{own, IsState, ends, is_final, IsSuper, IsSimple}
+use Rattle.abort_expansion_laws.specs.CoreRows.{joins, Images, CoreRows, flags_around, counter_over, SplitImage, simple_row}
 use Rattle.abort_expansion_laws.proofs.TickStarts.{led_kept, kept_none}
 use Rattle.abort_expansion_laws.proofs.WalkStaying.{has_none}
 use Rattle.abort_expansion_laws.proofs.EnteredAlike.{BeginsAs, begins_there, begins_counting}

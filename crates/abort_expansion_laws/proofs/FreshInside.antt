@@ -86,7 +86,8 @@ module _ (k : Table) where
 
   -- a region begins in state x
   pub data Begun (n : ℕ) (f : ℕ → Standing) (x : ℕ) : Type 0 where
-    begun_closed : (y : Standing) → ((u : ℕ) (tests : List Transition) → y ≢ at.Within u tests) → (state_at k x).entered ≡ to (holder k x) y ∷ [] → f (holder k x) ≡ y →
+    begun_closed : (y : Standing) → ((u : ℕ) (tests : List Transition) → y ≢ at.Within u tests) →
+        (state_at k x).entered ≡ to (holder k x) y ∷ [] → f (holder k x) ≡ y →
         ((q : ℕ) → Contains (around k q) x → f q ≡ at.Outside) → Begun n f x
     begun_open : (tests : List Transition) → (state_at k x).entered ≡ to (holder k x) (at.Within x tests) ∷ (state_at k x).opened →
         f (holder k x) ≡ at.Within x tests → Fresh n f x → Begun n f x

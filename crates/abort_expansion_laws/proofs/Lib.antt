@@ -122,5 +122,7 @@ pub mod FirstTickBegins
 pub mod TicksBegin
 pub mod TargetEntered
 pub mod TargetReached
+pub mod TargetWaits
+pub mod TargetPending
 pub mod ChartsOpened
 pub mod Proved

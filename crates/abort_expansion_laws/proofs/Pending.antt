@@ -1,7 +1,7 @@
 -- Entering, for many regions at once. The chart's configuration stays; the core has entered as much as it does in one step, and
 -- goes on by itself: it prepares what is opened, counts down in what ended on entry, and joins the forks of what is over.
 use Rattle.std.proofs.Common.{◌≡◌, ◌≢◌, ℕ, suc, ◌+◌, ◌<◌, ◌≤◌, ◌⊎◌, Bool, true, false, not, ◌&&◌, ◌||◌, Some, None, List, [], ◌∷◌, ◌++◌, length, Contains}
-use Rattle.std.proofs.Common.{refl, sym, subst, ◌∙◌, if◌then◌else◌}
+use Rattle.std.proofs.Common.{refl, sym, ap, subst, ◌∙◌, if◌then◌else◌}
 use Rattle.sc_values.specs.declared.value.Value.{Value}
 use Rattle.core_charts.specs.declared.region.Transition.{Transition}
 use Rattle.core_charts.specs.Aborts.{has_aborts}
@@ -190,3 +190,37 @@ module _ (k core : Table) (i : Images) (c : Configuration) where
   never_settled d s r _ _ tests u t prepared (behind v others super held over) e f =
       let same : v ≡ s = cc in
       let none = behind_unprepared s (subst (λ z. is_behind k core i c z ≡ true) same over) in let wrong : true ≡ false = sym prepared ∙ none in absurd cc
+
+  -- who has ended does not count down any more
+  pub quiet : (r : ℕ) (x y : Standing) → Stands k core i c r x y → x ≡ at.Ended → is_trying y ≡ false
+  quiet r _ _ outside e = refl
+  quiet r _ _ (ended inner) e = refl
+  quiet r _ _ (left v ss round over) e = refl
+  quiet r _ _ (trying v others simple held) e = absurd cc
+  quiet r _ _ (acting v w p g effects lt) e = refl
+  quiet r _ _ (entering v fork w others super held leads) e = absurd cc
+  quiet r _ _ (guarding v join w others has held leads) e = refl
+  quiet r _ _ (staying v others super held stay) e = refl
+  quiet r _ _ (within v join others super held stay still leads) e = refl
+  quiet r _ _ (behind v others super held over) e = absurd cc
+
+  -- whose superstate is joined is held by a region that is not settled
+  pub never_joined : (s r : ℕ) (x y : Standing) (tests joins_left : List Transition) → is_behind k core i c s ≡ true → Stands k core i c r x y → x ≡ at.Within
+      s tests → y ≡ at.Within (i.main_of s) joins_left → ⊥
+  never_joined s r _ _ tests joins_left over outside e f = absurd cc
+  never_joined s r _ _ tests joins_left over (ended inner) e f = absurd cc
+  never_joined s r _ _ tests joins_left over (left v ss round over_it) e f = absurd cc
+  never_joined s r _ _ tests joins_left over (trying v others simple held) e f = absurd cc
+  never_joined s r _ _ tests joins_left over (acting v w p g effects lt) e f = absurd cc
+  never_joined s r _ _ tests joins_left over (entering v fork w others super held leads) e f = absurd cc
+  never_joined s r _ _ tests joins_left over (guarding v join w others has held leads) e f = absurd cc
+  never_joined s r _ _ tests joins_left over (staying v others super held stay) e f =
+      let same : v ≡ s = cc in
+      let parts = behind_parts s over in
+      let no : stays (flags_around k core i r) (own k s) ≡ false = subst (λ q. stays (flags_around k core i q) (own k s) ≡ false)
+      (ap (holder k) (sym same) ∙ held) parts.0 in
+      let yes : stays (flags_around k core i r) (own k s) ≡ true = ap (λ z. stays (flags_around k core i r) (own k z)) (sym same) ∙ stay in
+      let wrong : true ≡ false = sym yes ∙ no in absurd cc
+  never_joined s r _ _ tests joins_left over (within v join others super held stay still leads) e f =
+      let same : v ≡ s = cc in let wrong : true ≡ false = sym over ∙ subst (λ z. is_behind k core i c z ≡ false) same still in absurd cc
+  never_joined s r _ _ tests joins_left over (behind v others super held over_it) e f = absurd cc

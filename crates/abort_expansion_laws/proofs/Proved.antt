@@ -93,6 +93,8 @@ pub use Rattle.abort_expansion_laws.proofs.FirstTickBegins.{first_tick_begins, f
 pub use Rattle.abort_expansion_laws.proofs.TicksBegin.{ticks_begin}
 pub use Rattle.abort_expansion_laws.proofs.TargetEntered.{target_sort}
 pub use Rattle.abort_expansion_laws.proofs.TargetReached.{target_lives, target_reached}
+pub use Rattle.abort_expansion_laws.proofs.TargetWaits.{target_waits}
+pub use Rattle.abort_expansion_laws.proofs.TargetPending.{target_pending}
 
 pub checked : ◌≡◌ {A = ℕ} 0 0
 checked = refl

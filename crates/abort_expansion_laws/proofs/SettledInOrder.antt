@@ -2,7 +2,6 @@
 use Rattle.std.proofs.Common.{◌≡◌, ◌≢◌, ℕ, zero, suc, ◌+◌, ◌<◌, ◌≤◌, ◌⊎◌, ⊎_elim, Bool, true, false, List, [], ◌∷◌, length, unwrap_or, Contains, refl, sym}
 use Rattle.std.proofs.Common.{ap, subst, ◌∙◌, arith, if◌then◌else◌}
 use Rattle.std.proofs.lemmas.Option.{slice_get_past}
-use Rattle.core_charts.specs.declared.region.Transition.{Transition}
 use Rattle.chart_machine.specs.declared.standing.Standing.{Standing}
 use Rattle.chart_machine.specs.declared.standing.Standing.TheVariants as at
 use Rattle.chart_machine.specs.declared.standing.Configuration.{Configuration}
@@ -10,20 +9,19 @@ use Rattle.chart_machine.specs.declared.table.Table.{Table}
 use Rattle.chart_machine.specs.Table.{state_at}
 use Rattle.chart_machine.specs.Turns.{standing_of, has_ended}
 use Rattle.chart_machine.specs.Machine.{machine}
-use Rattle.abort_expansion.specs.Superstates.{stays}
 use Rattle.tick_laws.proofs.Lists.{same_or_not}
 use Rattle.abort_expansion_laws.specs.Stages.{Entry}
 use Rattle.abort_expansion_laws.proofs.Supplying.{climbs_fewer}
 use Rattle.abort_expansion_laws.proofs.Simulation.{Segment, segment_on}
 use Rattle.chart_machine_laws.proofs.LyingIn.{IsNested, around, holder, head_in}
 use Rattle.abort_expansion_laws.proofs.TablesCorrespond.{IsThere}
-use Rattle.abort_expansion_laws.specs.CoreRows.{own, Images, CoreRows, flags_around}
-use Rattle.abort_expansion_laws.specs.Related.{is_behind, Stands, outside, ended, left, trying, acting, entering, guarding, staying, within, behind, Stores}
+use Rattle.abort_expansion_laws.specs.CoreRows.{Images, CoreRows}
+use Rattle.abort_expansion_laws.specs.Related.{Stands, Stores}
 use Rattle.abort_expansion_laws.specs.Related.{still_in, Related}
 use Rattle.abort_expansion_laws.proofs.StageReached.{Stage}
 use Rattle.abort_expansion_laws.proofs.ImageSteps.{pair}
 use Rattle.abort_expansion_laws.proofs.Pending.{is_trying, Sound, IsOpening, IsStarting, IsJoining, Waits, settled, opening, starting, joining, ending}
-use Rattle.abort_expansion_laws.proofs.Pending.{hidden, Covered, goes_in, still_going, Flagged, Pending, Reached, never_settled, behind_parts}
+use Rattle.abort_expansion_laws.proofs.Pending.{hidden, Covered, goes_in, still_going, Flagged, Pending, Reached, never_settled, quiet, never_joined}
 
 pub ended_back : (x : Standing) → has_ended x ≡ true → x ≡ at.Ended
 ended_back at.Outside e = absurd cc
@@ -56,25 +54,14 @@ module _ (k core : Table) (i : Images) (rows : CoreRows k core i) (tree : IsNest
 
   -- ---- when all are settled
 
-  quiet : (r : ℕ) (x y : Standing) → Stands k core i c r x y → x ≡ at.Ended → is_trying y ≡ false
-  quiet r _ _ outside e = refl
-  quiet r _ _ (ended inner) e = refl
-  quiet r _ _ (left v ss round over) e = refl
-  quiet r _ _ (trying v others simple held) e = absurd cc
-  quiet r _ _ (acting v w p g effects lt) e = refl
-  quiet r _ _ (entering v fork w others super held leads) e = absurd cc
-  quiet r _ _ (guarding v join w others has held leads) e = refl
-  quiet r _ _ (staying v others super held stay) e = refl
-  quiet r _ _ (within v join others super held stay still leads) e = refl
-  quiet r _ _ (behind v others super held over) e = absurd cc
-
   module _ (d : Configuration) (p : Pending k core i c all d) where
     one_going : (r : ℕ) (b : Bool) → has_ended (standing_of c r) ≡ b → ◌≡◌ {A = ℕ} (if goes_in k core i c d r then 1 else 0) (if b then 0 else 1)
     one_going r false e = rw (e) refl
     one_going r true e =
         let is : standing_of c r ≡ at.Ended = ended_back (standing_of c r) e in
         let there : IsThere k r = there_in r (λ w. let wrong : at.Ended ≡ at.Outside = sym is ∙ w in absurd cc) in
-        let no : is_trying (standing_of d (i.thread_of r)) ≡ false = quiet r (standing_of c r) (standing_of d (i.thread_of r)) (p.done r there there.1) is in
+        let no : is_trying (standing_of d (i.thread_of r)) ≡ false =
+        quiet k core i c r (standing_of c r) (standing_of d (i.thread_of r)) (p.done r there there.1) is in
         rw (e, no) refl
 
     as_many : (rs : List ℕ) → still_going k core i c d rs ≡ still_in k core i c rs
@@ -146,27 +133,6 @@ module _ (k core : Table) (i : Images) (rows : CoreRows k core i) (tree : IsNest
       below : (r n : ℕ) → r < suc n → r ≢ n → r < n
       below r n lt ne = grind arith
 
-  -- whose superstate is joined is held by a region that is not settled
-  never_joined : (s r : ℕ) (x y : Standing) (tests joins_left : List Transition) → is_behind k core i c s ≡ true → Stands k core i c r x y → x ≡ at.Within
-      s tests → y ≡ at.Within (i.main_of s) joins_left → ⊥
-  never_joined s r _ _ tests joins_left over outside e f = absurd cc
-  never_joined s r _ _ tests joins_left over (ended inner) e f = absurd cc
-  never_joined s r _ _ tests joins_left over (left v ss round over_it) e f = absurd cc
-  never_joined s r _ _ tests joins_left over (trying v others simple held) e f = absurd cc
-  never_joined s r _ _ tests joins_left over (acting v w p g effects lt) e f = absurd cc
-  never_joined s r _ _ tests joins_left over (entering v fork w others super held leads) e f = absurd cc
-  never_joined s r _ _ tests joins_left over (guarding v join w others has held leads) e f = absurd cc
-  never_joined s r _ _ tests joins_left over (staying v others super held stay) e f =
-      let same : v ≡ s = cc in
-      let parts = behind_parts k core i c s over in
-      let no : stays (flags_around k core i r) (own k s) ≡ false = subst (λ q. stays (flags_around k core i q) (own k s) ≡ false)
-      (ap (holder k) (sym same) ∙ held) parts.0 in
-      let yes : stays (flags_around k core i r) (own k s) ≡ true = ap (λ z. stays (flags_around k core i r) (own k z)) (sym same) ∙ stay in
-      let wrong : true ≡ false = sym yes ∙ no in absurd cc
-  never_joined s r _ _ tests joins_left over (within v join others super held stay still leads) e f =
-      let same : v ≡ s = cc in let wrong : true ≡ false = sym over ∙ subst (λ z. is_behind k core i c z ≡ false) same still in absurd cc
-  never_joined s r _ _ tests joins_left over (behind v others super held over_it) e f = absurd cc
-
   -- ---- one region
 
   abbrev pub Piece : ℕ → Configuration → Type 0
@@ -200,7 +166,7 @@ module _ (k core : Table) (i : Images) (rows : CoreRows k core i) (tree : IsNest
     by_sort n d p there (ending s ss direct o over idle) =
         let up = deeper n s (subst (λ zs. Contains zs s) (sym direct) (head_in s ss)) in
         let holds : IsThere k (holder k s) = there_in (holder k s) (λ e. let wrong : at.Within s o.tests ≡ at.Outside = sym o.open_in_chart ∙ e in absurd cc) in
-        absurd (never_joined s (holder k s) (standing_of c (holder k s)) (standing_of d (i.thread_of (holder k s))) o.tests _ o.over
+        absurd (never_joined k core i c s (holder k s) (standing_of c (holder k s)) (standing_of d (i.thread_of (holder k s))) o.tests _ o.over
         (p.done (holder k s) holds up) o.open_in_chart o.forked)
     by_sort n d p there (hidden s inner o out) =
         let up = deeper n s inner in let low = p.late s o in absurd (omega (up, low, arith))

@@ -5,17 +5,18 @@ use Rattle.sc_values.specs.declared.value.Value.{Value}
 use Rattle.core_charts.specs.declared.region.Effect.{Effect}
 use Rattle.core_charts.specs.declared.region.Transition.{Transition}
 use Rattle.core_charts.specs.Aborts.{has_aborts}
+use Rattle.core_charts.specs.Tests.{at_once, first_closing_tests}
 use Rattle.chart_machine.specs.declared.standing.Standing.{Standing}
 use Rattle.chart_machine.specs.declared.standing.Standing.TheVariants as at
 use Rattle.chart_machine.specs.declared.standing.Configuration.{Configuration}
 use Rattle.chart_machine.specs.declared.table.Table.{Table}
-use Rattle.chart_machine.specs.Turns.{standing_of}
+use Rattle.chart_machine.specs.Turns.{standing_of, has_ended}
 use Rattle.chart_machine.specs.Steps.{state_in}
 use Rattle.abort_expansion.specs.Superstates.{stays, is_prepared}
 use Rattle.chart_machine_laws.specs.Tree.{IsThere, around, holder}
 use Rattle.chart_machine_laws.proofs.LyingIn.{head_or_tail}
 use Rattle.chart_machine_laws.proofs.ChartTables.{around_there}
-use Rattle.abort_expansion_laws.specs.CoreRows.{own, IsState, is_final, IsSuper, IsSimple, joins, Images, flags_around}
+use Rattle.abort_expansion_laws.specs.CoreRows.{own, IsState, is_final, IsSuper, Images, flags_around, ends}
 use Rattle.abort_expansion_laws.specs.Related.{Related, Stands, outside, ended, left, trying, acting, entering, guarding, staying, within, behind, Watches}
 use Rattle.abort_expansion_laws.specs.Related.{guards, waits, elsewhere, IsInside, guarded, open_inside}
 use Rattle.abort_expansion_laws.proofs.TablesCorrespond.{contains_map}
@@ -23,7 +24,7 @@ use Rattle.abort_expansion_laws.proofs.KnownVariables.{present_there}
 use Rattle.abort_expansion_laws.proofs.EffectFollowed.{IsActing, acting_back}
 use Rattle.abort_expansion_laws.proofs.Owed.{chart_enters, core_enters}
 use Rattle.abort_expansion_laws.proofs.StateEntry.{Entry, entry_ends, entry_tries, entry_guards, entry_opens}
-use Rattle.abort_expansion_laws.proofs.FreshInside.{Begins, one_begins}
+use Rattle.abort_expansion_laws.proofs.FreshInside.{Begins, one_begins, begins_closed, begins_open}
 use Rattle.abort_expansion_laws.proofs.InitialPairs.{held_there}
 use Rattle.abort_expansion_laws.proofs.BeginningSorts.{comes_there, Sort, sort_of, not_both}
 use Rattle.abort_expansion_laws.proofs.JustEntered.{EntryRows}
@@ -124,7 +125,7 @@ module _ (k core : Table) (i : Images) (more : EntryRows k core i) (c d : Config
 
       by_entry : Entry k x → holder core (i.entry_of x) ≡ i.thread_of (holder k x)
       by_entry (entry_ends e) =
-          let wrong : true ≡ false = sym (ap Rattle.abort_expansion_laws.specs.CoreRows.ends e) ∙ open_ends in absurd cc
+          let wrong : true ≡ false = sym (ap ends e) ∙ open_ends in absurd cc
       by_entry (entry_tries none e) =
           ap (holder core) (more.rows.simple x (record { there = here; no_regions = none; not_final = open_ends })).entry ∙ more.rows.held x
       by_entry (entry_guards t tests some strong e) = of_super some
@@ -184,6 +185,26 @@ module _ (k core : Table) (i : Images) (more : EntryRows k core i) (c d : Config
         (one_begins core more.core_tree more.core_entries more.core_elsewhere (i.entry_of x) d.regions core_is_state
         (let lt = core_there.1 in let size = related.core_regions in omega (lt, size, core_held, arith))
         (λ t y inner its. core_none r in_none t y inner (its ∙ core_held)))
+
+    -- the region has not ended
+    pub target_goes : has_ended (standing_of next r) ≡ false
+    target_goes = by_entry (more.entries x here)
+      where
+        from : (y : Standing) → standing_of next (holder k x) ≡ y → has_ended y ≡ false → has_ended (standing_of next r) ≡ false
+        from y is goes = ap (λ q. has_ended (standing_of next q)) (sym held) ∙ (ap has_ended is ∙ goes)
+
+        by_entry : Entry k x → has_ended (standing_of next r) ≡ false
+        by_entry (entry_ends w) = let wrong : true ≡ false = sym (ap ends w) ∙ open_ends in absurd cc
+        by_entry (entry_tries none w) =
+            from (at.Trying x (at_once (own k x)))
+            (begins_closed k (suc (length k.regions)) (standing_of next) x (at.Trying x (at_once (own k x))) chart_begins_there
+            (λ u tests v. absurd cc) w).0 refl
+        by_entry (entry_guards t tests some strong w) =
+            from (at.Entering x (t ∷ tests))
+            (begins_closed k (suc (length k.regions)) (standing_of next) x (at.Entering x (t ∷ tests)) chart_begins_there (λ u others v. absurd cc) w).0 refl
+        by_entry (entry_opens some strong w) =
+            from (at.Within x (first_closing_tests (own k x)))
+            (begins_open k (suc (length k.regions)) (standing_of next) x (first_closing_tests (own k x)) chart_begins_there w).0 refl
 
     pub target_sort : Sort k core i more.rows (suc (length k.regions)) (suc (length core.regions)) (standing_of next) (standing_of core_next) r
     target_sort =

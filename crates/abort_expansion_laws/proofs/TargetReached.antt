@@ -30,10 +30,10 @@ use Rattle.abort_expansion_laws.proofs.TargetEntered.{next, core_next, there, he
 module _ (k core : Table) (i : Images) (more : EntryRows k core i) (holds_there : (s : ℕ) → IsState k s → IsThere k (holder k s))
     (c d : Configuration) (related : Related k core i c d) (r s p : ℕ) (e : Effect) (stands : standing_of c r ≡ at.Acting s (e ∷ []) p)
     (free : is_guarded k c (around k r) ≡ false) (values : List Value) (open_ends : is_final k (state_in k r p) ≡ false) where
-  abbrev after : Configuration
+  abbrev pub after : Configuration
   after = next k core i more c d related r s p e stands values open_ends
 
-  abbrev core_after : Configuration
+  abbrev pub core_after : Configuration
   core_after = core_next k core i more c d related r s p e stands values open_ends
 
   r_there : IsThere k r
@@ -68,7 +68,7 @@ module _ (k core : Table) (i : Images) (more : EntryRows k core i) (holds_there 
       let own_holder : holder k v.0 ≡ r = more.rows.region_once (holder k v.0) r (sym (more.rows.held v.0) ∙ (ap (holder core) v.2 ∙ its)) in
       outer_apart u inner (deeper v.0 v.1 own_holder)
 
-  guards_same : (zs : List ℕ) → ((u : ℕ) → Contains zs u → standing_of after (holder k u) ≡ standing_of c (holder k u)) →
+  pub guards_same : (zs : List ℕ) → ((u : ℕ) → Contains zs u → standing_of after (holder k u) ≡ standing_of c (holder k u)) →
       is_guarded k after zs ≡ is_guarded k c zs
   guards_same [] same = refl
   guards_same (z ∷ zs) same =
