@@ -10,7 +10,7 @@ use Rattle.sc_graph.specs.Tick.{Inputs, values_at_start}
 use Rattle.core_charts.specs.declared.region.Transition.{Transition}
 use Rattle.core_charts.specs.declared.region.TransitionKind.{TransitionKind}
 use Rattle.core_charts.specs.declared.region.TransitionKind.TheVariants as kind
-use Rattle.core_charts.specs.Tests.{at_once, weak_aborts, is_weak, is_join}
+use Rattle.core_charts.specs.Tests.{at_once, weak_aborts, is_weak, is_join, first_closing_tests}
 use Rattle.chart_machine.specs.declared.standing.Standing.{Standing}
 use Rattle.chart_machine.specs.declared.standing.Standing.TheVariants as at
 use Rattle.chart_machine.specs.declared.standing.Configuration.{Configuration}
@@ -57,6 +57,17 @@ no_joins (t ∷ ts) h = (weak_only t.kind h.0, no_joins ts h.1)
     weak_only kind.Strong e = refl
     weak_only kind.Weak e = refl
     weak_only kind.Join e = absurd cc
+
+-- the tests of entry end with the termination
+pub closes_first : (k core : Table) (i : Images) (s : ℕ) (tests : List Transition) → tests ≡ first_closing_tests (own k s) → Closes k core i s tests
+closes_first k core i s tests are =
+    record {
+      some = at_once (weak_aborts (own k s));
+      no_join =
+          no_joins (at_once (weak_aborts (own k s)))
+          (kept_each (λ t. is_weak t.kind) (λ t. t.immediate) (weak_aborts (own k s)) (each_kept (λ t. is_weak t.kind) (own k s)));
+      are = are;
+    }
 
 module _ (k core : Table) (i : Images) (more : EntryRows k core i)
     (alone : (v : ℕ) → (state_at core v).regions ≡ [] → inside core v ≡ [])
@@ -106,13 +117,7 @@ module _ (k core : Table) (i : Images) (more : EntryRows k core i)
   all_close : (s : ℕ) (tests : List Transition) → standing_of at_first (holder k s) ≡ at.Within s tests → Closes k core i s tests
   all_close s tests is =
       let there = is_there (holder k s) (λ out. let wrong : at.Within s tests ≡ at.Outside = sym is ∙ out in absurd cc) in
-      record {
-        some = at_once (weak_aborts (own k s));
-        no_join =
-            no_joins (at_once (weak_aborts (own k s)))
-            (kept_each (λ t. is_weak t.kind) (λ t. t.immediate) (weak_aborts (own k s)) (each_kept (λ t. is_weak t.kind) (own k s)));
-        are = (reached_open k core i more f (holder k s) s tests is (chart_is (holder k s) there)).0;
-      }
+      closes_first k core i s tests (reached_open k core i more f (holder k s) s tests is (chart_is (holder k s) there)).0
 
   all_calm : (q s : ℕ) → IsThere k q → Contains (around k q) s → has_to_guard (standing_of at_first (holder k s)) ≡ true →
       IsCalm (standing_of at_first q)

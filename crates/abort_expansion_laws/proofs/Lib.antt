@@ -124,5 +124,6 @@ pub mod TargetEntered
 pub mod TargetReached
 pub mod TargetWaits
 pub mod TargetPending
+pub mod TargetSound
 pub mod ChartsOpened
 pub mod Proved

@@ -95,6 +95,7 @@ pub use Rattle.abort_expansion_laws.proofs.TargetEntered.{target_sort}
 pub use Rattle.abort_expansion_laws.proofs.TargetReached.{target_lives, target_reached}
 pub use Rattle.abort_expansion_laws.proofs.TargetWaits.{target_waits}
 pub use Rattle.abort_expansion_laws.proofs.TargetPending.{target_pending}
+pub use Rattle.abort_expansion_laws.proofs.TargetSound.{target_sound}
 
 pub checked : ◌≡◌ {A = ℕ} 0 0
 checked = refl

@@ -169,7 +169,7 @@ module _ (k core : Table) (i : Images) (more : EntryRows k core i) (c d : Config
     core_there : IsThere core (i.thread_of r)
     core_there = (more.rows.region r there).there
 
-    chart_begins_there : Begins k (suc (length k.regions)) (standing_of next) x
+    pub chart_begins_there : Begins k (suc (length k.regions)) (standing_of next) x
     chart_begins_there =
         subst (λ z. Begins k z (standing_of next) x) related.chart_regions
         (one_begins k more.tree more.entries more.elsewhere x c.regions here

@@ -54,7 +54,7 @@ module _ (k core : Table) (i : Images) (more : EntryRows k core i) (holds_there 
       (λ lies. out (subst (LiesIn core t) (core_held k core i more c d related r s p e stands values open_ends) lies))
 
   -- what holds what is around the region does not lie in it
-  outer_apart : (u : ℕ) → Contains (around k r) u → ¬ LiesIn k (holder k u) r
+  pub outer_apart : (u : ℕ) → Contains (around k r) u → ¬ LiesIn k (holder k u) r
   outer_apart u inner (itself same) = let up = more.tree.deeper r u inner in absurd (omega (up, same, arith))
   outer_apart u inner (deeper y in_y its) =
       let up = more.tree.deeper r u inner in let down = more.tree.deeper (holder k u) y in_y in absurd (omega (up, down, its, arith))

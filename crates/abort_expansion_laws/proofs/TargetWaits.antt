@@ -68,7 +68,7 @@ module _ (k core : Table) (i : Images) (more : EntryRows k core i) (holds_there 
       core_unchanged k core i more holds_there c d related r s p e stands free values open_ends (i.thread_of q) (λ lies. out (lies_back q lies))
 
   -- who holds what is around somebody outside of it is outside of it
-  outer_out : (q u : ℕ) → ¬ LiesIn k q r → Contains (around k q) u → ¬ LiesIn k (holder k u) r
+  pub outer_out : (q u : ℕ) → ¬ LiesIn k q r → Contains (around k q) u → ¬ LiesIn k (holder k u) r
   outer_out q u out inner lies = out (lies_in_outer k more.tree.nested (around k q) q (holder k u) r refl (deeper u inner refl) lies)
 
   guarded_same : (q : ℕ) → ¬ LiesIn k q r → is_guarded k then_chart (around k q) ≡ is_guarded k c (around k q)
