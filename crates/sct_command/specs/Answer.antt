@@ -120,6 +120,11 @@ RefusesHelp old new (fault.Files load.Memory) = new ≡ old
 RefusesHelp old new fault.Write = WritesPart old new
 RefusesHelp old new other = ⊥
 
+-- what a player leaves that refuses an input of an image, and the cause that is known of it
+abbrev pub RefusesPlaying : Image → Option (List ℕ) → Option (List ℕ) → Option (List ℕ) → Fault → Type 0
+RefusesPlaying image input old new (fault.Play f cause) = Leaves image input old new f × IsMet image.program.variables input f cause
+RefusesPlaying image input old new other = ⊥
+
 -- what a request leaves that is refused for this fault
 abbrev pub Refuses : Option Contents → Option Contents → Option Request → Option (List ℕ) → Option (List ℕ)
     → Option (List ℕ) → Fault → Type 0

@@ -110,6 +110,7 @@ fn perform<T: Threads + Wait + Sync, F: Files, R: Source, W: Sink>(
     rt: &T,
     alloc: Global,
     request: Request<'_>,
+    wanted: bool,
     files: &mut F,
     input: &mut R,
     output: &mut W,
@@ -131,7 +132,7 @@ fn perform<T: Threads + Wait + Sync, F: Files, R: Source, W: Sink>(
 {
     match request {
         Request::Check(name) => check(alloc, name, files, output),
-        Request::Run(name, workers) => run(rt, alloc, name, workers, files, input, output),
+        Request::Run(name, workers) => run(rt, alloc, name, workers, wanted, files, input, output),
         Request::Compile(from, to) => compile(alloc, from, to, files, output),
         Request::CompileToOutput(from) => compile_to_output(alloc, from, files, output),
         Request::Print(name) => print_text(alloc, name, files, output),
@@ -194,7 +195,7 @@ pub fn command<T: Threads + Wait + Sync, F: Files, R: Source, W: Sink, X: Sink>(
         }
     };
     let wanted = wants(are_people, asked.explains);
-    match perform(rt, alloc, asked.request, files, input, output) {
+    match perform(rt, alloc, asked.request, wanted, files, input, output) {
         Ok(()) => DONE,
         Err(fault) => refuse(alloc, &fault, wanted, errors),
     }
