@@ -1,0 +1,11 @@
+-- The places of what is in a region, by its parts.
+use Rattle.std.proofs.Common.{◌≡◌, map}
+use Rattle.chart_drafts.specs.declared.draft.DraftRegion.{DraftRegion}
+use Rattle.chart_drafts.specs.declared.draft.DraftRegion.TheViews.{out-DraftRegion}
+use Rattle.chart_drafts.specs.declared.draft.DraftRegion.TheFolds.{fold_out-DraftRegion}
+use Rattle.chart_places.specs.declared.places.Rows.{Rows}
+use Rattle.chart_places.specs.Places.{all, beside, in_region, in_state, of_region, of_state, region}
+
+pub region_is : (r : DraftRegion) →
+    of_region r ≡ beside (region (out-DraftRegion r).named.at) (all (map of_state (out-DraftRegion r).states))
+region_is r = fold_out-DraftRegion Rows Rows in_region in_state r

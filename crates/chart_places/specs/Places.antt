@@ -1,0 +1,77 @@
+-- Where the elements of a chart stand in its text, by their numbers: a region and a state at their names, a transition at
+-- its word, and an effect at its variable. A fold over the draft of the text.
+use Rattle.std.specs.Prelude.{ℕ, Option, Some, List, [], ◌∷◌, ◌++◌, map, slice_get}
+use Rattle.chart_elements.specs.declared.element.Element.{Element}
+use Rattle.chart_elements.specs.declared.element.Element.TheVariants as element
+use Rattle.chart_drafts.specs.declared.draft.DraftEffect.{DraftEffect}
+use Rattle.chart_drafts.specs.declared.draft.DraftTransition.{DraftTransition}
+use Rattle.chart_drafts.specs.declared.draft.DraftRegion.{DraftRegion}
+use Rattle.chart_drafts.specs.declared.draft.DraftRegion.TheOpen.{DraftRegion-F, DraftState-F}
+use Rattle.chart_drafts.specs.declared.draft.DraftRegion.TheFolds.{fold-DraftRegion, fold-DraftState}
+use Rattle.chart_drafts.specs.declared.draft.DraftState.{DraftState}
+use Rattle.chart_drafts.specs.declared.draft.DraftChart.{DraftChart}
+use Rattle.chart_places.specs.declared.places.Rows.{Rows}
+use Rattle.chart_places.specs.declared.places.Places.{Places}
+
+-- ---- rows of places, one sort beside the other
+
+abbrev pub nothing : Rows
+nothing = record { regions = []; states = []; transitions = []; effects = [] }
+
+abbrev pub beside : Rows → Rows → Rows
+beside a b =
+    record {
+      regions = a.regions ++ b.regions;
+      states = a.states ++ b.states;
+      transitions = a.transitions ++ b.transitions;
+      effects = a.effects ++ b.effects;
+    }
+
+abbrev pub all : List Rows → Rows
+all [] = nothing
+all (a ∷ others) = beside a (all others)
+
+abbrev pub region : ℕ → Rows
+region at = record { regions = at ∷ []; states = []; transitions = []; effects = [] }
+
+abbrev pub state : ℕ → Rows
+state at = record { regions = []; states = at ∷ []; transitions = []; effects = [] }
+
+-- a transition with its effects
+abbrev pub transition : ℕ → List ℕ → Rows
+transition at effects = record { regions = []; states = []; transitions = at ∷ []; effects = effects }
+
+-- ---- transitions
+
+abbrev pub of_effects : List DraftEffect → List ℕ
+of_effects effects = map (λ e. e.variable.at) effects
+
+abbrev pub of_transition : DraftTransition → Rows
+of_transition t = transition t.at (of_effects t.effects)
+
+-- ---- states and regions, with all that is in them
+
+-- a state with its transitions, and then what is inside it
+abbrev pub in_state : DraftState-F Rows Rows → Rows
+in_state s = beside (beside (state s.named.at) (all (map of_transition s.transitions))) (all s.regions)
+
+abbrev pub in_region : DraftRegion-F Rows Rows → Rows
+in_region r = beside (region r.named.at) (all r.states)
+
+abbrev pub of_region : DraftRegion → Rows
+of_region = fold-DraftRegion Rows Rows in_region in_state
+
+abbrev pub of_state : DraftState → Rows
+of_state = fold-DraftState Rows Rows in_region in_state
+
+abbrev pub places_of : DraftChart → Places
+places_of d = record { chart = d.named.at; rows = all (map of_region d.regions) }
+
+-- ---- one place
+
+abbrev pub place_of : Places → Element → Option ℕ
+place_of p element.Chart = Some p.chart
+place_of p (element.Region n) = slice_get p.rows.regions n
+place_of p (element.State n) = slice_get p.rows.states n
+place_of p (element.Transition n) = slice_get p.rows.transitions n
+place_of p (element.Effect n) = slice_get p.rows.effects n

@@ -1,0 +1,12 @@
+//! Where the elements of a chart stand in its text.
+#![tactic(auto)]
+
+mod laws;
+mod places;
+mod read;
+mod rows;
+
+pub use laws::{placed_texts_have_one_answer, places_tell_texts};
+pub use places::{Places, Rows};
+pub use read::{Placed, read_placed};
+pub use rows::places_of;

@@ -1,0 +1,77 @@
+//! The places of elements, by their numbers.
+
+ghost use Rattle.std.specs.Prelude.{◌≡◌, OnOk, slice_get};
+ghost use Rattle.chart_places.specs.Places.{beside, nothing, place_of, region, state};
+
+use chart_elements::Element;
+use sqlite_items::{Items, at};
+use std::alloc::{AllocError, Global};
+
+/// Where elements of a chart stand in its text, of each sort in the order of their numbers: regions and states at their
+/// names, transitions at their words, and effects at their variables.
+#[derive(Debug, Drop)]
+pub struct Rows {
+    pub regions: Items<usize>,
+    pub states: Items<usize>,
+    pub transitions: Items<usize>,
+    pub effects: Items<usize>,
+}
+
+/// Where a chart stands in its text, by its name, and where its elements do.
+#[derive(Debug, Drop)]
+pub struct Places {
+    pub chart: usize,
+    pub rows: Rows,
+}
+
+impl Rows {
+    /// Of no element yet.
+    pub(crate) fn none(alloc: Global) -> Rows
+        ensures { result ≡ nothing }
+    {
+        Rows {
+            regions: Items::new(alloc),
+            states: Items::new(alloc),
+            transitions: Items::new(alloc),
+            effects: Items::new(alloc),
+        }
+    }
+
+    /// Puts the place of a region behind the others. Err: memory was refused.
+    pub(crate) fn put_region(&mut self, place: usize) -> Result<(), AllocError>
+        ensures { OnOk result (self.new ≡ beside self.old (region place)) }
+    {
+        self.regions.push(place)
+    }
+
+    /// Puts the place of a state behind the others. Err: memory was refused.
+    pub(crate) fn put_state(&mut self, place: usize) -> Result<(), AllocError>
+        ensures { OnOk result (self.new ≡ beside self.old (state place)) }
+    {
+        self.states.push(place)
+    }
+}
+
+impl Places {
+    /// Where an element stands. None: the chart has none of this number.
+    pub fn place_of(&self, element: Element) -> Option<usize>
+        ensures { result ≡ place_of self.now element }
+    {
+        match element {
+            Element::Chart => Some(self.chart),
+            Element::Region(number) => place_at(self.rows.regions.as_slice(), number),
+            Element::State(number) => place_at(self.rows.states.as_slice(), number),
+            Element::Transition(number) => place_at(self.rows.transitions.as_slice(), number),
+            Element::Effect(number) => place_at(self.rows.effects.as_slice(), number),
+        }
+    }
+}
+
+fn place_at(places: &[usize], number: u32) -> Option<usize>
+    ensures { result ≡ slice_get places.now number }
+{
+    match at(places, number as usize) {
+        Some(place) => Some(*place),
+        None => None,
+    }
+}

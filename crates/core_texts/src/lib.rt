@@ -1,0 +1,6 @@
+//! The core charts of charts, in text that is read again.
+#![tactic(auto)]
+
+mod texts;
+
+pub use texts::core_text;
