@@ -1,7 +1,9 @@
 """The plain machine of charts where the regions come to step in a given order, and what the rows of tests/cases/charts ask of
-it. Regions have their numbers, from 1: what lies inside an initial state comes before what lies inside the others."""
+it. Regions have their numbers, from 1: what lies inside an initial state comes before what lies inside the others. Of a core chart
+the values and the active states are told that are the chart's."""
 from chart_machine import ChartMachine
 from charts import states_of
+from expansion import expand
 
 BUDGET = 20000
 
@@ -19,16 +21,19 @@ def shown(value):
 
 
 class OrderedMachine(ChartMachine):
-    def __init__(self, chart):
+    """The machine of a chart; or that of its core chart, where a chart is given of which it is that."""
+
+    def __init__(self, chart, of=None):
         super().__init__(chart, None)
         self.ordered = list(regions_in_order(chart.regions))
         self.states = list(states_of(chart.regions))
         self.first = []
+        self.of = of
 
     def row(self, row):
         """What a row is answered."""
         word, _, rest = row.partition(" ")
-        return {"order": self.order, "again": self.again, "tick": self.row_of_tick, "run": self.row_of_run, "play": self.play_row,
+        return {"order": self.order, "again": self.again, "core": self.core, "tick": self.row_of_tick, "run": self.row_of_run, "play": self.play_row,
                 "judge": self.row_of_judge,
                 "standings": self.row_of_standings, "table": self.row_of_table}[word](rest)
 
@@ -37,8 +42,12 @@ class OrderedMachine(ChartMachine):
         return ""
 
     def again(self, _):
-        self.__init__(self.chart)
+        self.__init__(self.chart, self.of)
         return ""
+
+    def core(self, _):
+        self.__init__(expand(self.chart), self.chart)
+        return "core"
 
     def inputs(self, text):
         """What is given by `NAME=VALUE`, or by `NAME` where it is true."""
@@ -46,8 +55,11 @@ class OrderedMachine(ChartMachine):
         return {name: value != "false" if value in ("", "false") else int(value) for name, _, value in pairs}
 
     def told(self):
-        active = sorted(self.states.index(s) for s in self.active())
-        return " ".join(["values", *map(shown, self.values)]) + "; " + " ".join(["active", *map(str, active)])
+        chart, active = self.of or self.chart, self.active()
+        numbers = {s: n for n, s in enumerate(states_of(chart.regions))}
+        stood_for = [s.stands_for if self.of else s for s in self.states if s in active]
+        values = map(shown, self.values[:len(chart.variables)])
+        return " ".join(["values", *values]) + "; " + " ".join(["active", *(str(numbers[s]) for s in stood_for if s)])
 
     def next_region(self):
         """The number of the first region whose turn it is, or None."""

@@ -10,6 +10,9 @@ WRITTEN = [x for x, v in enumerate(VARIABLES) if v.role != "input"]
 class ChartGenerator(Generator):
     """Makes one random chart. In a flat one no superstate with aborts lies inside another one with aborts."""
 
+    # how often a state but the last one, and the last one, is a superstate
+    super_chances = 0.5, 0.15
+
     def __init__(self, seed, size, is_flat):
         super().__init__(seed, size)
         self.is_flat = is_flat
@@ -78,7 +81,7 @@ class ChartGenerator(Generator):
             self.left -= 1
             if at == final:
                 states.append(State(self.name("F"), at == initial, True))
-            elif depth and self.left > 0 and r.random() < (0.5 if at < count - 1 else 0.15):
+            elif depth and self.left > 0 and r.random() < self.super_chances[at == count - 1]:
                 states.append(self.superstate(depth, inside_aborts, at, count, at == initial))
             else:
                 kinds = ["go"] * r.choice([0, 1, 1, 1, 2, 3])

@@ -5,7 +5,7 @@ use Rattle.std.specs.Prelude.{filter}
 use Rattle.std.specs.List.{list_all, list_any}
 use Rattle.std.proofs.lemmas.Bool.Decides.{Decides-eqb}
 use Rattle.std.proofs.lemmas.Option.{slice_get_past}
-use Rattle.sc_values.specs.declared.expression.Expr.{Expr}
+use Rattle.sc_values.specs.declared.value.Value.{Value}
 use Rattle.sc_values.specs.Access.{Access, no_access}
 use Rattle.core_charts.specs.declared.region.Transition.{Transition}
 use Rattle.chart_machine.specs.declared.standing.Standing.{Standing}
@@ -17,12 +17,13 @@ use Rattle.chart_machine.specs.Turns.{standing_of, has_ended, guards, has_work, 
 use Rattle.chart_machine.specs.Steps.{to, moved, verdict, access_of, access_of_trigger, state_in}
 use Rattle.chart_machine.specs.Machine.{machine}
 use Rattle.tick_laws.proofs.Lists.{same_or_not, contained}
-use Rattle.abort_expansion_laws.specs.Stages.{Entry, Silent, Correspondence, IsSilent}
+use Rattle.abort_expansion_laws.specs.Stages.{Entry, Silent, Correspondence, IsSilent, Climbs}
 use Rattle.abort_expansion_laws.proofs.Supplying.{silent_idle}
 use Rattle.abort_expansion_laws.proofs.Simulation.{Segment, segment_on}
 use Rattle.abort_expansion_laws.proofs.SilentSteps.{AtHome, climbs_at, climbs_over, silent_step, no_step}
 use Rattle.chart_machine_laws.proofs.LyingIn.{IsNested, around, holder, none_in, head_or_tail, head_in, tail_in, around_around}
 use Rattle.abort_expansion_laws.specs.CoreRows.{joins}
+use Rattle.abort_expansion_laws.proofs.TestFails.{fails}
 use Rattle.abort_expansion_laws.proofs.Leaving.{drops, set_here, set_other, set_length, drops_in, drops_out, drops_length, leaves, joined}
 
 -- ---- who is inside has the superstate around it
@@ -56,33 +57,40 @@ all_from p (x ∷ xs) h = rw (h x (head_in x xs), all_from p xs (λ y tail. h y 
 
 -- ---- what each region inside owes
 
--- its first test sees the flag, and leads to the end of its region
-pub record LeavesBy (core : Table) (corr : Correspondence) (home stage : ℕ) (trigger : Option Expr) (q s : ℕ) (w : Transition) : Type 0 where
-  pub triggered : w.trigger ≡ trigger
-  pub effects : w.effects ≡ []
-  pub simple : inside core s ≡ []
-  pub ends : (state_at core (state_in core q w.target)).entered ≡ to q at.Ended ∷ []
-  pub silent : IsSilent corr q (Some (home, stage)) (access_of_trigger trigger)
+-- a stage of this superstate's holder, or none
+abbrev pub IsStaged : (home stage : ℕ) → Option (ℕ × ℕ) → Type 0
+IsStaged home stage staged = (staged ≡ None) ⊎ (staged ≡ Some (home, stage))
+
+-- its tests fail up to one that leads to the end of its region
+pub data LeavesBy (core : Table) (corr : Correspondence) (home stage : ℕ) (values : List Value) (q : ℕ) : List Transition → Type 0 where
+  leads_out : (w : Transition) (rest : List Transition) → verdict values w.trigger ≡ Some true → w.effects ≡ [] →
+      (state_at core (state_in core q w.target)).entered ≡ to q at.Ended ∷ [] →
+      (staged : Option (ℕ × ℕ)) → IsStaged home stage staged → IsSilent corr q staged (access_of_trigger w.trigger) →
+      LeavesBy core corr home stage values q (w ∷ rest)
+  fails_before : (w : Transition) (rest : List Transition) → verdict values w.trigger ≡ Some false →
+      (staged : Option (ℕ × ℕ)) → IsStaged home stage staged → IsSilent corr q staged (access_of_trigger w.trigger) →
+      LeavesBy core corr home stage values q rest → LeavesBy core corr home stage values q (w ∷ rest)
+
+-- where a thread stands that leaves, from the configuration in which the flag was raised
+pub data MayLeave (core : Table) (corr : Correspondence) (home stage : ℕ) (first : Configuration) (q : ℕ) : Standing → Type 0 where
+  out : MayLeave core corr home stage first q at.Outside
+  over : MayLeave core corr home stage first q at.Ended
+  tries : (s : ℕ) (tests : List Transition) → inside core s ≡ [] → LeavesBy core corr home stage first.variables q tests →
+      MayLeave core corr home stage first q (at.Trying s tests)
+  -- all regions of its superstate are there, and behind its fork it leaves
+  forks : (s j b : ℕ) (tests : List Transition) → holder core s ≡ q →
+      (state_at core (state_in core q j)).entered ≡ to q (at.Trying b tests) ∷ [] → inside core b ≡ [] →
+      LeavesBy core corr home stage first.variables q tests →
+      ((r : ℕ) → Contains (state_at core s).regions r → (around core r ≡ s ∷ around core q) × (standing_of first r ≢ at.Outside)) →
+      MayLeave core corr home stage first q (at.Within s (joins j ∷ []))
 
 module _ (core : Table) (tree : IsNested core) (deeper : (q s : ℕ) → Contains (around core q) s → holder core s < q)
     (corr : Correspondence) (Told : Configuration → Entry → Type 0) (told : (d : Configuration) (t : ℕ) (stage : Option (ℕ × ℕ)) (a : Access) →
     Told d (Silent t stage a))
-    (Others : ℕ → ℕ → Type 0) (home stage f : ℕ) (trigger : Option Expr) (first : Configuration) (raised : verdict first.variables trigger ≡ Some true)
-    (free : (t : ℕ) → guards (standing_of first t) ≡ false) where
+    (Others : ℕ → ℕ → Type 0) (home stage f : ℕ) (first : Configuration) (free : (t : ℕ) → guards (standing_of first t) ≡ false) where
   -- region q lies in the superstate
   abbrev pub In : ℕ → Type 0
   In q = Contains (around core q) f
-
-  pub data MayLeave (q : ℕ) : Standing → Type 0 where
-    out : MayLeave q at.Outside
-    over : MayLeave q at.Ended
-    tries : (s : ℕ) (w : Transition) (rest : List Transition) → LeavesBy core corr home stage trigger q s w → MayLeave q (at.Trying s (w ∷ rest))
-    -- all regions of its superstate are there, and behind its fork it leaves
-    forks : (s j b : ℕ) (w : Transition) (rest : List Transition) → holder core s ≡ q →
-        (state_at core (state_in core q j)).entered ≡ to q (at.Trying b (w ∷ rest)) ∷ [] →
-        LeavesBy core corr home stage trigger q b w →
-        ((r : ℕ) → Contains (state_at core s).regions r → (around core r ≡ s ∷ around core q) × (standing_of first r ≢ at.Outside)) →
-        MayLeave q (at.Within s (joins j ∷ []))
 
   -- it has left; or it was dropped by a superstate around it, whose region has left
   abbrev pub Gone : Configuration → ℕ → ℕ → Type 0
@@ -174,51 +182,119 @@ module _ (core : Table) (tree : IsNested core) (deeper : (q s : ℕ) → Contain
         others = left.others;
       }
 
-  module _ (may : (q : ℕ) → In q → MayLeave q (standing_of first q)) where
+  -- region n has made its tests, and has ended
+  pub record HasLeft (n : ℕ) (d e : Configuration) : Type 0 where
+    pub variables : e.variables ≡ d.variables
+    pub size : length e.regions ≡ length d.regions
+    pub here : standing_of e n ≡ at.Ended
+    pub elsewhere : (q : ℕ) → q ≢ n → standing_of e q ≡ standing_of d q
+
+  abbrev Goes : Configuration → (Configuration → Type 0) → Type 0
+  Goes d Reaches = Segment (machine core) corr Told d (AtHome Others home stage) (λ last. AtHome Others home stage) [] Reaches
+
+  climbs_by : (t : ℕ) (a : Access) (staged : Option (ℕ × ℕ)) → IsStaged home stage staged → (rest : List Entry) →
+      Climbs corr (AtHome Others home stage) rest → Climbs corr (AtHome Others home stage) (Silent t staged a ∷ rest)
+  climbs_by t a staged (inl none) rest climbs =
+      subst (λ z. Climbs corr (AtHome Others home stage) (Silent t z a ∷ rest)) (sym none) (climbs_over corr Others home stage t a rest climbs)
+  climbs_by t a staged (inr some) rest climbs =
+      subst (λ z. Climbs corr (AtHome Others home stage) (Silent t z a ∷ rest)) (sym some) (climbs_at corr Others home stage stage t a rest
+      (omega arith) climbs)
+
+  tests_leave : (n s : ℕ) (tests : List Transition) (d : Configuration) → inside core s ≡ [] → LeavesBy core corr home stage first.variables n tests →
+      d.variables ≡ first.variables → ((t : ℕ) → guards (standing_of d t) ≡ false) → n < length d.regions → standing_of d n ≡ at.Trying s tests →
+      Goes d (HasLeft n d)
+  tests_leave n s _ d alone (leads_out w rest true_there none ends staged within silent) values quiet lt stands =
+      silent_step (machine core) corr Told told d (record { variables = d.variables; regions = slice_set d.regions n at.Ended }) n staged
+      (access_of_trigger w.trigger) (AtHome Others home stage) (AtHome Others home stage) (HasLeft n d)
+      (leaves core d n s w rest (unguarded d quiet (around core n)) stands (subst (λ vs. verdict vs w.trigger ≡ Some true) (sym values) true_there) none
+      alone ends)
+      (ap access_of stands) silent (λ more climbs. climbs_by n (access_of_trigger w.trigger) staged within more climbs)
+      (record {
+        variables = refl;
+        size = set_length d.regions n at.Ended;
+        here = set_here d.regions n at.Ended lt;
+        elsewhere = λ q ne. set_other d.regions n q at.Ended ne;
+      })
+  tests_leave n s _ d alone (fails_before w rest false_there staged within silent others) values quiet lt stands =
+      segment_on (machine core) corr Told d (AtHome Others home stage) (λ last. AtHome Others home stage) (λ last. AtHome Others home stage) [] [] (λ z. z ≡ e)
+      (HasLeft n d) one
+      (subst (λ z. Goes z (HasLeft n d)) (sym one.reaches) (onward (tests_leave n s rest e alone others values quiet_e lt_e here)))
+    where
+      e : Configuration
+      e = record { variables = d.variables; regions = slice_set d.regions n (at.Trying s rest) }
+
+      one : Goes d (λ z. z ≡ e)
+      one =
+          silent_step (machine core) corr Told told d e n staged (access_of_trigger w.trigger) (AtHome Others home stage) (AtHome Others home stage)
+          (λ z. z ≡ e)
+          (fails core d n s w rest (unguarded d quiet (around core n)) stands (subst (λ vs. verdict vs w.trigger ≡ Some false) (sym values) false_there))
+          (ap access_of stands) silent (λ more climbs. climbs_by n (access_of_trigger w.trigger) staged within more climbs) refl
+
+      here : standing_of e n ≡ at.Trying s rest
+      here = set_here d.regions n (at.Trying s rest) lt
+
+      lt_e : n < length e.regions
+      lt_e = let size = set_length d.regions n (at.Trying s rest) in omega (lt, size, arith)
+
+      quiet_e : (t : ℕ) → guards (standing_of e t) ≡ false
+      quiet_e t =
+          ⊎_elim (λ same. ap (λ p. guards (standing_of e p)) same ∙ ap guards here)
+          (λ ne. ap guards (set_other d.regions n t (at.Trying s rest) ne) ∙ quiet t) (same_or_not t n)
+
+      onward : Goes e (HasLeft n e) → Goes e (HasLeft n d)
+      onward g =
+          record {
+            log = g.log;
+            last = g.last;
+            follows = g.follows;
+            charted = g.charted;
+            fits = g.fits;
+            climbs = g.climbs;
+            reaches =
+                record {
+                  variables = g.reaches.variables;
+                  size = g.reaches.size ∙ set_length d.regions n (at.Trying s rest);
+                  here = g.reaches.here;
+                  elsewhere = λ q ne. g.reaches.elsewhere q ne ∙ set_other d.regions n q (at.Trying s rest) ne;
+                };
+          }
+
+  module _ (may : (q : ℕ) → In q → MayLeave core corr home stage first q (standing_of first q)) where
     abbrev Piece : Configuration → ℕ → Type 0
     Piece d n = Segment (machine core) corr Told d (AtHome Others home stage) (λ last. AtHome Others home stage) [] (Left n)
 
-    -- the last step of each: the flag is seen
-    sees : (n : ℕ) (d e : Configuration) (s : ℕ) (w : Transition) (rest : List Transition) → d.variables ≡ first.variables →
-        ((t : ℕ) → guards (standing_of d t) ≡ false) →
-        standing_of d n ≡ at.Trying s (w ∷ rest) → LeavesBy core corr home stage trigger n s w →
-        e ≡ record { variables = d.variables; regions = slice_set d.regions n at.Ended } → Left n e → Piece d n
-    sees n d e s w rest values none stands leaves_by is reaches =
-        silent_step (machine core) corr Told told d e n (Some (home, stage)) (access_of_trigger trigger) (AtHome Others home stage) (AtHome Others home stage)
-        (Left n)
-        (leaves core d n s w rest (unguarded d none (around core n)) stands
-        (subst (λ z. verdict d.variables z ≡ Some true) (sym leaves_by.triggered) (subst (λ vs. verdict vs trigger ≡ Some true) (sym values) raised))
-        leaves_by.effects leaves_by.simple leaves_by.ends ∙ ap Some (sym is))
-        (ap access_of stands ∙ ap access_of_trigger leaves_by.triggered) leaves_by.silent
-        (λ more climbs. climbs_at corr Others home stage stage n (access_of_trigger trigger) more (omega arith) climbs) reaches
+    reached : (d : Configuration) (n : ℕ) (g : Goes d (HasLeft n d)) → Left n g.last → Piece d n
+    reached d n g left =
+        record {
+          log = g.log;
+          last = g.last;
+          follows = g.follows;
+          charted = g.charted;
+          fits = g.fits;
+          climbs = g.climbs;
+          reaches = left;
+        }
 
-    by_trying : (n : ℕ) (d : Configuration) (s : ℕ) (w : Transition) (rest : List Transition) → In n → Left (suc n) d →
-        standing_of d n ≡ at.Trying s (w ∷ rest) →
-        LeavesBy core corr home stage trigger n s w → Piece d n
-    by_trying n d s w rest in_n left stands leaves_by =
-        let e : Configuration = record { variables = d.variables; regions = slice_set d.regions n at.Ended } in
-        let lt : n < length d.regions = in_range d n (at.Trying s (w ∷ rest)) stands (λ z. absurd (cc)) in
-        sees n d e s w rest left.variables (no_guards (suc n) d left) stands leaves_by refl
-        (left_after n d e [] left (λ q h. absurd (none_in q h)) (λ q ne none. set_other d.regions n q at.Ended ne) (λ q ne h. absurd (none_in q h))
-        (inl (set_here d.regions n at.Ended lt)) in_n (λ q h. absurd (none_in q h)) refl (set_length d.regions n at.Ended))
+    by_trying : (n : ℕ) (d : Configuration) (s : ℕ) (tests : List Transition) → In n → Left (suc n) d → standing_of d n ≡ at.Trying s tests →
+        inside core s ≡ [] → LeavesBy core corr home stage first.variables n tests → Piece d n
+    by_trying n d s tests in_n left stands alone leaves_by =
+        let lt : n < length d.regions = in_range d n (at.Trying s tests) stands (λ z. absurd (cc)) in
+        let g = tests_leave n s tests d alone leaves_by left.variables (no_guards (suc n) d left) lt stands in
+        reached d n g
+        (left_after n d g.last [] left (λ q h. absurd (none_in q h)) (λ q ne none. g.reaches.elsewhere q ne) (λ q ne h. absurd (none_in q h))
+        (inl g.reaches.here) in_n (λ q h. absurd (none_in q h)) g.reaches.variables g.reaches.size)
 
-    by_fork : (n : ℕ) (d : Configuration) (s j b : ℕ) (w : Transition) (rest : List Transition) → In n → Left (suc n) d → standing_of d n ≡ at.Within
-        s (joins j ∷ []) →
-        holder core s ≡ n → (state_at core (state_in core n j)).entered ≡ to n (at.Trying b (w ∷ rest)) ∷ [] → LeavesBy core corr home stage trigger n b w →
+    by_fork : (n : ℕ) (d : Configuration) (s j b : ℕ) (tests : List Transition) → In n → Left (suc n) d → standing_of d n ≡ at.Within s (joins j ∷ []) →
+        holder core s ≡ n → (state_at core (state_in core n j)).entered ≡ to n (at.Trying b tests) ∷ [] → inside core b ≡ [] →
+        LeavesBy core corr home stage first.variables n tests →
         ((r : ℕ) → Contains (state_at core s).regions r → (around core r ≡ s ∷ around core n) × (standing_of first r ≢ at.Outside)) → Piece d n
-    by_fork n d s j b w rest in_n left stands held enters leaves_by direct =
+    by_fork n d s j b tests in_n left stands held enters alone leaves_by direct =
         segment_on (machine core) corr Told d (AtHome Others home stage) (λ last. AtHome Others home stage) (λ last. AtHome Others home stage) [] []
         (λ z. z ≡ e1) (Left n) join_step
-        (subst (λ z. Piece z n) (sym join_step.reaches) (sees n e1 e2 b w rest left.variables quiet1 here1 leaves_by refl left2))
+        (subst (λ z. Piece z n) (sym join_step.reaches) (reached e1 n left_it left2))
       where
-        x : Standing
-        x = at.Trying b (w ∷ rest)
-
         e1 : Configuration
-        e1 = record { variables = d.variables; regions = slice_set (moved (drops (inside core s)) d.regions) n (at.Trying b (w ∷ rest)) }
-
-        e2 : Configuration
-        e2 = record { variables = d.variables; regions = slice_set (slice_set (moved (drops (inside core s)) d.regions) n (at.Trying b (w ∷ rest))) n at.Ended }
+        e1 = record { variables = d.variables; regions = slice_set (moved (drops (inside core s)) d.regions) n (at.Trying b tests) }
 
         lt : n < length d.regions
         lt = in_range d n (at.Within s (joins j ∷ [])) stands (λ z. absurd (cc))
@@ -226,8 +302,8 @@ module _ (core : Table) (tree : IsNested core) (deeper : (q s : ℕ) → Contain
         lt1 : n < length (moved (drops (inside core s)) d.regions)
         lt1 = omega (lt, drops_length (inside core s) d.regions, arith)
 
-        lt2 : n < length (slice_set (moved (drops (inside core s)) d.regions) n (at.Trying b (w ∷ rest)))
-        lt2 = omega (lt1, set_length (moved (drops (inside core s)) d.regions) n (at.Trying b (w ∷ rest)), arith)
+        lt2 : n < length (slice_set (moved (drops (inside core s)) d.regions) n (at.Trying b tests))
+        lt2 = omega (lt1, set_length (moved (drops (inside core s)) d.regions) n (at.Trying b tests), arith)
 
         -- whoever lies in it lies deeper, and has left
         above : (r : ℕ) → Contains (inside core s) r → suc n ≤ r
@@ -271,40 +347,43 @@ module _ (core : Table) (tree : IsNested core) (deeper : (q s : ℕ) → Contain
         join_step : Segment (machine core) corr Told d (AtHome Others home stage) (λ last. AtHome Others home stage) [] (λ z. z ≡ e1)
         join_step =
             silent_step (machine core) corr Told told d e1 n None no_access (AtHome Others home stage) (AtHome Others home stage) (λ z. z ≡ e1)
-            (joined core d n s j (at.Trying b (w ∷ rest)) (unguarded d none (around core n)) stands all_over all_idle enters)
+            (joined core d n s j (at.Trying b tests) (unguarded d none (around core n)) stands all_over all_idle enters)
             (ap access_of stands) (silent_idle corr n None) (λ more climbs. climbs_over corr Others home stage n no_access more climbs) refl
 
-        here1 : standing_of e1 n ≡ at.Trying b (w ∷ rest)
-        here1 = set_here (moved (drops (inside core s)) d.regions) n (at.Trying b (w ∷ rest)) lt1
+        here1 : standing_of e1 n ≡ at.Trying b tests
+        here1 = set_here (moved (drops (inside core s)) d.regions) n (at.Trying b tests) lt1
 
         dropped1 : (q : ℕ) → q ≢ n → Contains (inside core s) q → standing_of e1 q ≡ at.Outside
-        dropped1 q ne h = set_other (moved (drops (inside core s)) d.regions) n q (at.Trying b (w ∷ rest)) ne ∙ drops_in (inside core s) d.regions q h
+        dropped1 q ne h = set_other (moved (drops (inside core s)) d.regions) n q (at.Trying b tests) ne ∙ drops_in (inside core s) d.regions q h
 
         same1 : (q : ℕ) → q ≢ n → ¬ Contains (inside core s) q → standing_of e1 q ≡ standing_of d q
-        same1 q ne out_q = set_other (moved (drops (inside core s)) d.regions) n q (at.Trying b (w ∷ rest)) ne ∙ drops_out (inside core s) d.regions q out_q
+        same1 q ne out_q = set_other (moved (drops (inside core s)) d.regions) n q (at.Trying b tests) ne ∙ drops_out (inside core s) d.regions q out_q
 
         quiet1 : (t : ℕ) → guards (standing_of e1 t) ≡ false
         quiet1 t =
             ⊎_elim (λ same. ap (λ p. guards (standing_of e1 p)) same ∙ ap guards here1)
             (λ ne. ⊎_elim (λ h. ap guards (dropped1 t ne h)) (λ out_t. ap guards (same1 t ne out_t) ∙ none t) (contained (inside core s) t)) (same_or_not t n)
 
-        left2 : Left n e2
+        left_it : Goes e1 (HasLeft n e1)
+        left_it = tests_leave n b tests e1 alone leaves_by left.variables quiet1 lt2 here1
+
+        left2 : Left n left_it.last
         left2 =
-            left_after n d e2 (inside core s) left (λ q h. (s, inside_around core s q h, held))
-            (λ q ne out_q. set_other e1.regions n q at.Ended ne ∙ same1 q ne out_q) (λ q ne h. set_other e1.regions n q at.Ended ne ∙ dropped1 q ne h)
-            (inl (set_here e1.regions n at.Ended lt2)) in_n in_it refl
-            (set_length e1.regions n at.Ended ∙ (set_length (moved (drops (inside core s)) d.regions) n (at.Trying b (w ∷ rest)) ∙
-            drops_length (inside core s) d.regions))
+            left_after n d left_it.last (inside core s) left (λ q h. (s, inside_around core s q h, held))
+            (λ q ne out_q. left_it.reaches.elsewhere q ne ∙ same1 q ne out_q) (λ q ne h. left_it.reaches.elsewhere q ne ∙ dropped1 q ne h)
+            (inl left_it.reaches.here) in_n in_it left_it.reaches.variables
+            (left_it.reaches.size ∙ (set_length (moved (drops (inside core s)) d.regions) n (at.Trying b tests) ∙ drops_length (inside core s) d.regions))
 
     stands_still : (n : ℕ) (d : Configuration) → Left n d → Piece d n
     stands_still n d left = no_step (machine core) corr Told told d (AtHome Others home stage) (Left n) left
 
-    by_standing : (n : ℕ) (d : Configuration) (x : Standing) → MayLeave n x → standing_of d n ≡ x → standing_of first n ≡ x → In n → Left (suc n) d → Piece d n
+    by_standing : (n : ℕ) (d : Configuration) (x : Standing) → MayLeave core corr home stage first n x → standing_of d n ≡ x → standing_of first n ≡
+        x → In n → Left (suc n) d → Piece d n
     by_standing n d _ out stands was in_n left = stands_still n d (skips n d left (λ inner. inr (stands, inl was)))
     by_standing n d _ over stands was in_n left = stands_still n d (skips n d left (λ inner. inl stands))
-    by_standing n d _ (tries s w rest leaves_by) stands was in_n left = by_trying n d s w rest in_n left stands leaves_by
-    by_standing n d _ (forks s j b w rest held enters leaves_by direct) stands was in_n left =
-        by_fork n d s j b w rest in_n left stands held enters leaves_by direct
+    by_standing n d _ (tries s tests alone leaves_by) stands was in_n left = by_trying n d s tests in_n left stands alone leaves_by
+    by_standing n d _ (forks s j b tests held enters alone leaves_by direct) stands was in_n left =
+        by_fork n d s j b tests in_n left stands held enters alone leaves_by direct
 
     one : (n : ℕ) (d : Configuration) → Left (suc n) d → Piece d n
     one n d left =

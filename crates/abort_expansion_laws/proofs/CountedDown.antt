@@ -90,7 +90,7 @@ module _ (k core : Table) (i : Images) (rows : CoreRows k core i) (c : Configura
           let far : length d.regions ≤ t = let size = p.core_regions in omega (past, size, arith) in
           ap (λ o. has_to_guard (unwrap_or o at.Outside)) (slice_get_past d.regions t far)
 
-unguarded : (core : Table) (d : Configuration) → ((t : ℕ) → has_to_guard (standing_of d t) ≡ false) → (zs : List ℕ) → is_guarded core d zs ≡ false
+pub unguarded : (core : Table) (d : Configuration) → ((t : ℕ) → has_to_guard (standing_of d t) ≡ false) → (zs : List ℕ) → is_guarded core d zs ≡ false
 unguarded core d none [] = refl
 unguarded core d none (s ∷ zs) = rw (none (holder core s), unguarded core d none zs) refl
 

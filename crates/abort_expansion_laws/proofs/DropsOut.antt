@@ -31,19 +31,34 @@ pub all_alike : (p q : ℕ → Bool) (xs : List ℕ) → ((x : ℕ) → Contains
 all_alike p q [] h = refl
 all_alike p q (x ∷ xs) h = rw (h x (head_in x xs), all_alike p q xs (λ y tail. h y (tail_in x y xs tail))) refl
 
-any_alike : (p q : ℕ → Bool) (xs : List ℕ) → ((x : ℕ) → Contains xs x → p x ≡ q x) → list_any p xs ≡ list_any q xs
+pub any_alike : (p q : ℕ → Bool) (xs : List ℕ) → ((x : ℕ) → Contains xs x → p x ≡ q x) → list_any p xs ≡ list_any q xs
 any_alike p q [] h = refl
 any_alike p q (x ∷ xs) h = rw (h x (head_in x xs), any_alike p q xs (λ y tail. h y (tail_in x y xs tail))) refl
+
+-- who stands in a superstate stands in no other one, and has not ended
+module _ (k core : Table) (i : Images) (o : ℕ) where
+  pub only_inside : (s : ℕ) (x : Standing) → IsInside k core i o x → IsInside k core i s x → s ≡ o
+  only_inside s _ (guarded tests) (guarded others) = refl
+  only_inside s _ (open_inside tests) (open_inside others) = refl
+
+  pub inside_not_over : (x : Standing) → IsInside k core i o x → has_ended x ≡ false
+  inside_not_over _ (guarded tests) = refl
+  inside_not_over _ (open_inside tests) = refl
+
+  pub inside_present : (x : Standing) → IsInside k core i o x → x ≢ at.Outside
+  inside_present _ (guarded tests) e = absurd cc
+  inside_present _ (open_inside tests) e = absurd cc
 
 module _ (k core : Table) (i : Images) (rows : CoreRows k core i) (tree : IsNested k)
     (children : (s r : ℕ) → Contains (state_at k s).regions r → around k r ≡ s ∷ around k (holder k s)) where
   -- region r leaves superstate o for y, its thread for z; whatever is inside of o or of its fork is dropped
   pub record DropsOut (c d : Configuration) (r o : ℕ) (y z : Standing) (c' d' : Configuration) : Type 0 where
     pub there : IsThere k r
-    pub state_there : IsState k o
-    pub has : has_aborts (own k o) ≡ true
     pub held : holder k o ≡ r
-    pub was_inside : IsInside k core i o (standing_of c r)
+    -- where it stands, no other superstate is open
+    pub was_there : standing_of c r ≢ at.Outside
+    pub was_not_over : has_ended (standing_of c r) ≡ false
+    pub only : (s : ℕ) → IsInside k core i s (standing_of c r) → s ≡ o
     pub chart : c'.regions ≡ slice_set (moved (drops (inside k o)) c.regions) r y
     pub size : length d'.regions ≡ length d.regions
     pub dropped : (t : ℕ) → Contains (around core t) (i.main_of o) → standing_of d' t ≡ at.Outside
@@ -107,25 +122,14 @@ module _ (k core : Table) (i : Images) (rows : CoreRows k core i) (tree : IsNest
 
     -- ---- who does not end, and does not guard
 
-    only_o : (s : ℕ) (x : Standing) → IsInside k core i o x → IsInside k core i s x → s ≡ o
-    only_o s _ (guarded tests) (guarded others) = refl
-    only_o s _ (open_inside tests) (open_inside others) = refl
-
-    inside_not_over : (x : Standing) → IsInside k core i o x → has_ended x ≡ false
-    inside_not_over _ (guarded tests) = refl
-    inside_not_over _ (open_inside tests) = refl
-
     inside_there : (s : ℕ) (x : Standing) → IsInside k core i s x → x ≢ at.Outside
     inside_there s _ (guarded tests) e = absurd cc
     inside_there s _ (open_inside tests) e = absurd cc
 
-    r_was_there : standing_of c r ≢ at.Outside
-    r_was_there = inside_there o (standing_of c r) go.was_inside
-
     ends_alike : (q : ℕ) → ¬ In q → has_ended (standing_of c' q) ≡ has_ended (standing_of c q)
     ends_alike q out_q =
         ⊎_elim (λ e. ap (λ p. has_ended (standing_of c' p)) e ∙ (ap has_ended here ∙
-        (go.not_over ∙ (sym (inside_not_over (standing_of c r) go.was_inside) ∙ ap (λ p. has_ended (standing_of c p)) (sym e)))))
+        (go.not_over ∙ (sym go.was_not_over ∙ ap (λ p. has_ended (standing_of c p)) (sym e)))))
         (λ ne. ap has_ended (same q ne out_q)) (same_or_not q r)
 
     -- the regions of a superstate that is neither o nor inside of it
@@ -147,7 +151,7 @@ module _ (k core : Table) (i : Images) (rows : CoreRows k core i) (tree : IsNest
     not_by_r q s there present out_q around_it e =
         let inner : IsInside k core i s (standing_of c r) = subst (λ p. IsInside k core i s (standing_of c p)) e
         (related.enclosed q s there present around_it) in
-        out_q (subst (Contains (around k q)) (only_o s (standing_of c r) go.was_inside inner) around_it)
+        out_q (subst (Contains (around k q)) (go.only s inner) around_it)
 
     outer_out : (q s : ℕ) → ¬ In q → Contains (around k q) s → ¬ In (holder k s)
     outer_out q s out_q around_it h = out_q (around_around k tree (around k q) q s o refl around_it h)
@@ -216,13 +220,11 @@ module _ (k core : Table) (i : Images) (rows : CoreRows k core i) (tree : IsNest
     y_no_within : (u : ℕ) (tests : List Transition) → y ≢ at.Within u tests
     y_no_within u tests e = go.not_inside u (subst (IsInside k core i u) (sym e) (open_inside tests))
 
-    guards_o : (u : ℕ) (x : Standing) → IsInside k core i o x → u ≢ o → (tests : List Transition) → x ≢ at.Guarding u tests
-    guards_o u _ (guarded others) ne tests e = let state : o ≡ u = cc in ne (sym state)
-    guards_o u _ (open_inside others) ne tests e = absurd cc
+    guards_o : (u : ℕ) → u ≢ o → (tests : List Transition) → standing_of c r ≢ at.Guarding u tests
+    guards_o u ne tests e = ne (go.only u (subst (IsInside k core i u) (sym e) (guarded tests)))
 
-    within_o : (u : ℕ) (x : Standing) → IsInside k core i o x → u ≢ o → (tests : List Transition) → x ≢ at.Within u tests
-    within_o u _ (guarded others) ne tests e = absurd cc
-    within_o u _ (open_inside others) ne tests e = let state : o ≡ u = cc in ne (sym state)
+    within_o : (u : ℕ) → u ≢ o → (tests : List Transition) → standing_of c r ≢ at.Within u tests
+    within_o u ne tests e = ne (go.only u (subst (IsInside k core i u) (sym e) (open_inside tests)))
 
     watchers_kept : (u : ℕ) → IsState k u → has_aborts (own k u) ≡ true → Watches k core i u (standing_of c' (holder k u)) (standing_of d' (i.watcher_of u))
     watchers_kept u there has = ⊎_elim its (λ ne. other ne) (same_or_not u o)
@@ -253,7 +255,7 @@ module _ (k core : Table) (i : Images) (rows : CoreRows k core i) (tree : IsNest
             (subst (λ w. Watches k core i u w (standing_of d (i.watcher_of u))) (sym (ap (standing_of c') e ∙ here))
             (watch_other k core i u (standing_of c r) (standing_of d (i.watcher_of u)) y
             (subst (λ p. Watches k core i u (standing_of c p) (standing_of d (i.watcher_of u))) e (related.watchers u there has))
-            (guards_o u (standing_of c r) go.was_inside ne) (within_o u (standing_of c r) go.was_inside ne) (y_no_guard u) (y_no_within u)))
+            (guards_o u ne) (within_o u ne) (y_no_guard u) (y_no_within u)))
 
         out_no_guard : (v : ℕ) (tests : List Transition) → at.Outside ≢ at.Guarding v tests
         out_no_guard v tests e = absurd cc
@@ -342,7 +344,7 @@ module _ (k core : Table) (i : Images) (rows : CoreRows k core i) (tree : IsNest
         ⊎_elim
         (λ e. subst (IsInside k core i s) (sym (same (holder k s) (λ f. holds_other k tree q s around_it (f ∙ sym e))
         (outer_out q s (λ h. present_there q present h) around_it)))
-        (related.enclosed q s there (λ was. r_was_there (ap (standing_of c) (sym e) ∙ was)) around_it))
+        (related.enclosed q s there (λ was. go.was_there (ap (standing_of c) (sym e) ∙ was)) around_it))
         (λ ne.
         let out_q : ¬ In q = λ h. present_there q present h in
         let was : standing_of c q ≢ at.Outside = still_there q present ne in

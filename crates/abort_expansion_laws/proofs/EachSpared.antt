@@ -12,18 +12,20 @@ module _ (n : Machine) (k : Correspondence) (Told : n.Configuration → Entry �
     (begins : (r g : ℕ) (a : Access) (d next : n.Configuration) → Keeps d → Told d (Watched r g 0 a) → n.step g d ≡ Some next → IsQuiet r a next)
     (quiet : (r : ℕ) (a : Access) (d next : n.Configuration) (t : ℕ) → IsQuiet r a d → n.step t d ≡ Some next → t ≢ k.thread_of r → IsQuiet r a next)
     (spares : (r : ℕ) (a : Access) (d : n.Configuration) (q : ℕ) (b : Access) → IsQuiet r a d → k.Inside q r → Told d (Image q b) →
-    record { thread = k.thread_of q; access = b } ≡ act_of n d (k.thread_of q) → ¬ Precedes b a) where
+    record { thread = k.thread_of q; access = b } ≡ act_of n d (k.thread_of q) → (next : n.Configuration) → n.step (k.thread_of q) d ≡ Some next →
+    ¬ Precedes b a) where
   spared_along : (r : ℕ) (a : Access) (log : List Entry) (d e : n.Configuration) → Follows n k Told d log e → IsQuiet r a d → IsSpared k r a log
   spared_along r a [] d e follows is_quiet = tt
   spared_along r a (y ∷ log) d e follows is_quiet = (
-    none y follows.1 follows.0,
+    none y follows.1 follows.0 follows.2.0 follows.2.1,
     λ other. spared_along r a log follows.2.0 e follows.2.2 (quiet r a d follows.2.0 (core_act k y).thread is_quiet follows.2.1 other),
   )
     where
-      none : (y : Entry) → Told d y → core_act k y ≡ act_of n d (core_act k y).thread → ¬ Overwrites k r a y
-      none (Image q b) told acts o = spares r a d q b is_quiet o.0 told acts o.1
-      none (Watched q g stage b) told acts o = o
-      none (Silent t at b) told acts o = o
+      none : (y : Entry) → Told d y → core_act k y ≡ act_of n d (core_act k y).thread → (next : n.Configuration) →
+          n.step (core_act k y).thread d ≡ Some next → ¬ Overwrites k r a y
+      none (Image q b) told acts next steps o = spares r a d q b is_quiet o.0 told acts next steps o.1
+      none (Watched q g stage b) told acts next steps o = o
+      none (Silent t at b) told acts next steps o = o
 
   pub each_spared : (log : List Entry) (d e : n.Configuration) → Follows n k Told d log e → Keeps d → EachSpared k log
   each_spared [] d e follows keeps = tt

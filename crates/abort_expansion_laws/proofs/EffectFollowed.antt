@@ -40,7 +40,7 @@ use Rattle.abort_expansion_laws.proofs.TestFails.{watch_other}
 use Rattle.abort_expansion_laws.proofs.MoreValues.{at_front, value_over_more}
 use Rattle.abort_expansion_laws.proofs.Unchanged.{get_other}
 use Rattle.abort_expansion_laws.proofs.TestHolds.{acting_no_inside}
-use Rattle.abort_expansion_laws.proofs.StrongTaken.{counting_first}
+use Rattle.abort_expansion_laws.proofs.TestHolds.{counting_first}
 use Rattle.abort_expansion_laws.proofs.AssignedVariables.{assigned_known}
 
 -- ---- an effect of any chart

@@ -1,26 +1,21 @@
 -- A superstate that was just entered and is over already: nobody is left inside of it, nor inside of its fork.
-use Rattle.std.proofs.Common.{◌≡◌, ℕ, zero, suc, ◌<◌, ◌⊎◌, inl, inr, ⊎_elim, Bool, true, false, not, ◌&&◌, Some, List, [], ◌∷◌, ◌++◌, map, length}
-use Rattle.std.proofs.Common.{Contains, refl, sym, ap, subst, ◌∙◌, arith, if◌then◌else◌}
-use Rattle.std.specs.List.{list_all}
-use Rattle.std.proofs.lemmas.List.{append-nil}
+use Rattle.std.proofs.Common.{◌≡◌, ℕ, zero, suc, ◌<◌, ◌⊎◌, inl, inr, ⊎_elim, true, false, Some, List, [], ◌∷◌, length}
+use Rattle.std.proofs.Common.{Contains, refl, sym, ap, subst, ◌∙◌, arith}
 use Rattle.core_charts.specs.declared.region.Transition.{Transition}
 use Rattle.core_charts.specs.Aborts.{has_aborts}
 use Rattle.core_charts.specs.Tests.{at_once, first_closing_tests}
-use Rattle.chart_machine.specs.declared.standing.Standing.{Standing}
 use Rattle.chart_machine.specs.declared.standing.Standing.TheVariants as at
 use Rattle.chart_machine.specs.declared.standing.Configuration.{Configuration}
 use Rattle.chart_machine.specs.declared.table.Table.{Table}
 use Rattle.chart_machine.specs.Table.{state_at}
 use Rattle.chart_machine.specs.Turns.{standing_of, has_ended, is_guarded, itself}
-use Rattle.abort_expansion.specs.Superstates.{stays, is_prepared}
+use Rattle.abort_expansion.specs.Superstates.{is_prepared}
 use Rattle.abort_expansion.specs.Flags.{has_join}
 use Rattle.tick_laws.proofs.Lists.{list_all_at}
 use Rattle.chart_machine_laws.specs.Tree.{IsThere, around, holder}
 use Rattle.chart_machine_laws.proofs.LyingIn.{none_in, head_in, head_or_tail}
 use Rattle.chart_machine_laws.proofs.ChartTables.{around_there}
 use Rattle.abort_expansion_laws.specs.CoreRows.{own, IsState, joins, Images, flags_around, counter_over}
-use Rattle.abort_expansion_laws.specs.Related.{Watches, guards, waits, elsewhere}
-use Rattle.abort_expansion_laws.proofs.AllLeave.{inside_around}
 use Rattle.abort_expansion_laws.proofs.AfterOpening.{one_in_other}
 use Rattle.abort_expansion_laws.proofs.TablesCorrespond.{contains_map}
 use Rattle.abort_expansion_laws.proofs.SettledInOrder.{ended_back}
@@ -29,6 +24,8 @@ use Rattle.abort_expansion_laws.proofs.Pending.{IsOpening, IsEmpty, IsJoining, O
 use Rattle.abort_expansion_laws.proofs.BeginningSorts.{Sort, sort_ends, sort_counts, sort_tries, sort_guards, sort_prepares, sort_opens, not_both, sort_present}
 use Rattle.abort_expansion_laws.proofs.JustEntered.{EntryRows, Reach, live, behind_preparation, nowhere}
 use Rattle.abort_expansion_laws.proofs.EnteredMonitors.{entered_watched}
+use Rattle.abort_expansion_laws.proofs.OpenForks.{all_over}
+use Rattle.abort_expansion_laws.proofs.ForkOver.{watch_gone, Gone, CoreGone, fork_over}
 
 module _ (k core : Table) (i : Images) (more : EntryRows k core i) (c e : Configuration)
     (counter_joins : (s x : ℕ) → (i.flags_of s).counter ≡ Some x → has_join (own k s) ≡ true)
@@ -40,26 +37,15 @@ module _ (k core : Table) (i : Images) (more : EntryRows k core i) (c e : Config
   abbrev m : ℕ
   m = suc (length core.regions)
 
-  abbrev Gone : ℕ → Type 0
-  Gone q = ((ss : List ℕ) × (around k q ≡ u ∷ ss) × (standing_of c q ≡ at.Ended)) ⊎ (standing_of c q ≡ at.Outside)
-
-  regions_over : list_all (λ r. has_ended (standing_of c r)) (state_at k u).regions ≡ true
-  regions_over =
-      last_of (stays (flags_around k core i (holder k u)) (own k u)) (has_aborts (own k u)) (has_join (own k u))
-      (list_all (λ r. has_ended (standing_of c r)) (state_at k u).regions) joining.over
-    where
-      last_of : (a b d x : Bool) → (not a && (not b && (not d && x))) ≡ true → x ≡ true
-      last_of false false false x h = h
-      last_of true b d x h = absurd cc
-      last_of false true d x h = absurd cc
-      last_of false false true x h = absurd cc
+  abbrev IsGone : ℕ → Type 0
+  IsGone q = Gone k core i more c e u joining q
 
   direct_ended : (q : ℕ) (ss : List ℕ) → around k q ≡ u ∷ ss → standing_of c q ≡ at.Ended
   direct_ended q ss direct =
       ended_back (standing_of c q)
-      (list_all_at (λ r. has_ended (standing_of c r)) (state_at k u).regions q regions_over (more.tree.innermost q u ss direct))
+      (list_all_at (λ r. has_ended (standing_of c r)) (state_at k u).regions q (all_over k core i c u joining.over) (more.tree.innermost q u ss direct))
 
-  gone_not_within : (q s : ℕ) (tests : List Transition) → Gone q → standing_of c q ≡ at.Within s tests → ⊥
+  gone_not_within : (q s : ℕ) (tests : List Transition) → IsGone q → standing_of c q ≡ at.Within s tests → ⊥
   gone_not_within q s tests gone is =
       ⊎_elim (λ over. let wrong : at.Within s tests ≡ at.Ended = sym is ∙ over.2 in absurd cc)
       (λ out. let wrong : at.Within s tests ≡ at.Outside = sym is ∙ out in absurd cc) gone
@@ -73,7 +59,7 @@ module _ (k core : Table) (i : Images) (more : EntryRows k core i) (c e : Config
       subst (Contains (around k q)) (more.rows.main_once v.0 s v.2) v.1
 
   -- nothing inside of it is opened later
-  no_preparation : (q : ℕ) → Contains (around k q) u → ((p : ℕ) → p < q → IsThere k p → Contains (around k p) u → Gone p) →
+  no_preparation : (q : ℕ) → Contains (around k q) u → ((p : ℕ) → p < q → IsThere k p → Contains (around k p) u → IsGone p) →
       (w : ℕ) → Contains (around k q) w → IsOpening k core i c e w → IsEmpty k core i c e w → ⊥
   no_preparation q inner before w round opened empty =
       ⊎_elim
@@ -88,10 +74,10 @@ module _ (k core : Table) (i : Images) (more : EntryRows k core i) (c e : Config
       sym joining.forked ∙ empty (i.thread_of (holder k u)) (thread_in (holder k u) w outer) in absurd cc))
       (one_in_other k more.tree.nested (around k q) q w u refl round inner)
 
-  gone_by : (q : ℕ) → IsThere k q → Contains (around k q) u → ((p : ℕ) → p < q → IsThere k p → Contains (around k p) u → Gone p) → Gone q
+  gone_by : (q : ℕ) → IsThere k q → Contains (around k q) u → ((p : ℕ) → p < q → IsThere k p → Contains (around k p) u → IsGone p) → IsGone q
   gone_by q there inner before = by_round (around k q) refl
     where
-      by_reach : (v : ℕ) (vs : List ℕ) → around k q ≡ v ∷ vs → Contains (around k (holder k v)) u → Reach k core i more c e q → Gone q
+      by_reach : (v : ℕ) (vs : List ℕ) → around k q ≡ v ∷ vs → Contains (around k (holder k v)) u → Reach k core i more c e q → IsGone q
       by_reach v vs round up (live l) =
           let o = l.parent v vs round in
           absurd (gone_not_within (holder k v) v o.tests
@@ -100,7 +86,7 @@ module _ (k core : Table) (i : Images) (more : EntryRows k core i) (c e : Config
       by_reach v vs round up (behind_preparation w inside opened empty) = absurd (no_preparation q inner before w inside opened empty)
       by_reach v vs round up (nowhere none core_none) = inr (none q (itself refl))
 
-      by_round : (zs : List ℕ) → around k q ≡ zs → Gone q
+      by_round : (zs : List ℕ) → around k q ≡ zs → IsGone q
       by_round [] round = absurd (none_in u (subst (λ zs. Contains zs u) round inner))
       by_round (v ∷ vs) round =
           ⊎_elim
@@ -110,17 +96,14 @@ module _ (k core : Table) (i : Images) (more : EntryRows k core i) (c e : Config
           (λ tail. by_reach v vs round (subst (λ zs. Contains zs u) (more.tree.nested.upward q v vs round) tail) (reached q there inner))
           (head_or_tail v u vs (subst (λ zs. Contains zs u) round inner))
 
-  gone : (bound q : ℕ) → q < bound → IsThere k q → Contains (around k q) u → Gone q
+  gone : (bound q : ℕ) → q < bound → IsThere k q → Contains (around k q) u → IsGone q
   gone zero q lt there inner = absurd (omega (lt, arith))
   gone (suc bound) q lt there inner = gone_by q there inner (λ p less p_there p_inner. gone bound p (omega (less, lt, arith)) p_there p_inner)
 
-  all_gone : (q : ℕ) → IsThere k q → Contains (around k q) u → Gone q
+  all_gone : (q : ℕ) → IsThere k q → Contains (around k q) u → IsGone q
   all_gone q there inner = gone (suc q) q (omega arith) there inner
 
   -- ---- in the core
-
-  abbrev CoreGone : ℕ → Type 0
-  CoreGone q = (standing_of e (i.thread_of q) ≡ at.Ended) ⊎ (standing_of e (i.thread_of q) ≡ at.Outside)
 
   by_sort : (q : ℕ) (ss : List ℕ) → around k q ≡ u ∷ ss → standing_of c q ≡ at.Ended → Sort k core i more.rows n m (standing_of c) (standing_of e) q →
       standing_of e (i.thread_of q) ≡ at.Ended
@@ -150,71 +133,24 @@ module _ (k core : Table) (i : Images) (more : EntryRows k core i) (c e : Config
       by_reach (nowhere none core_none) =
           let wrong : at.Ended ≡ at.Outside = sym (direct_ended q ss direct) ∙ none q (itself refl) in absurd cc
 
-  core_gone : (q : ℕ) → IsThere k q → Contains (around k q) u → Gone q → CoreGone q
+  core_gone : (q : ℕ) → IsThere k q → Contains (around k q) u → IsGone q → CoreGone k core i more c e u joining q
   core_gone q there inner (inl over) = inl (direct_over q over.0 there over.1)
   core_gone q there inner (inr out) = by_reach (reached q there inner)
     where
-      by_reach : Reach k core i more c e q → CoreGone q
+      by_reach : Reach k core i more c e q → CoreGone k core i more c e u joining q
       by_reach (live l) = absurd (sort_present k core i more.rows n m (standing_of c) (standing_of e) q l.sort out)
       by_reach (behind_preparation w inside opened empty) =
           absurd (no_preparation q inner (λ p less p_there p_inner. all_gone p p_there p_inner) w inside opened empty)
       by_reach (nowhere none core_none) = inr (core_none (i.thread_of q) (itself refl))
 
-  -- the monitor of who is gone
-  watch_gone : (o : ℕ) (x y : Standing) → Watches k core i o x y → (x ≡ at.Ended) ⊎ (x ≡ at.Outside) → y ≡ at.Outside
-  watch_gone o _ _ (guards some among) gone = ⊎_elim (λ w. absurd cc) (λ w. absurd cc) gone
-  watch_gone o _ _ (waits some joins among ends) gone = ⊎_elim (λ w. absurd cc) (λ w. absurd cc) gone
-  watch_gone o _ _ (elsewhere x not_guarding not_within) gone = refl
-
-  no_aborts : has_aborts (own k u) ≡ false
-  no_aborts = (behind_parts k core i c u joining.over).1
-
-  core_regions : (state_at core (i.main_of u)).regions ≡ map i.thread_of (state_at k u).regions
-  core_regions =
-      ap (λ z. z.regions) (more.rows.split u joining.there joining.super (behind_parts k core i c u joining.over).0).row ∙
-      unwatched (has_aborts (own k u)) no_aborts
-    where
-      unwatched : (b : Bool) → b ≡ false → map i.thread_of (state_at k u).regions ++ (if b then i.watcher_of u ∷ [] else []) ≡
-          map i.thread_of (state_at k u).regions
-      unwatched true wrong = absurd cc
-      unwatched false none = append-nil (map i.thread_of (state_at k u).regions)
-
-  child_over : (t : ℕ) → Contains (state_at core (i.main_of u)).regions t → standing_of e t ≡ at.Ended
-  child_over t child =
-      let r = contains_map i.thread_of (state_at k u).regions t (subst (λ zs. Contains zs t) core_regions child) in
-      let direct = more.tree.children u r.0 r.1 in
-      subst (λ z. standing_of e z ≡ at.Ended) r.2
-      (direct_over r.0 (around k (holder k u)) (around_there k r.0 u (subst (λ zs. Contains zs u) (sym direct) (head_in u (around k (holder k u))))) direct)
-
-  thread_gone : (t : ℕ) → Contains (around core t) (i.main_of u) → (standing_of e t ≡ at.Ended) ⊎ (standing_of e t ≡ at.Outside)
-  thread_gone t inner = by_origin (more.rows.each t (around_there core t (i.main_of u) inner))
-    where
-      by_origin : ((r : ℕ) × IsThere k r × (t ≡ i.thread_of r)) ⊎ ((s : ℕ) × IsState k s × (has_aborts (own k s) ≡ true) × (t ≡ i.watcher_of s)) →
-          (standing_of e t ≡ at.Ended) ⊎ (standing_of e t ≡ at.Outside)
-      by_origin (inl r) =
-          let round : Contains (around k r.0) u = region_in r.0 u (subst (λ z. Contains (around core z) (i.main_of u)) r.2 inner) in
-          subst (λ z. (standing_of e z ≡ at.Ended) ⊎ (standing_of e z ≡ at.Outside)) (sym r.2) (core_gone r.0 r.1 round (all_gone r.0 r.1 round))
-      by_origin (inr s) =
-          let w = more.rows.watcher s.0 s.1 s.2 in
-          ⊎_elim
-          (λ same.
-          absurd (not_both (has_aborts (own k u)) (subst (λ z. has_aborts (own k z) ≡ true) (more.rows.main_once s.0 u same) s.2) no_aborts))
-          (λ tail.
-          let round : Contains (around k (holder k s.0)) u = region_in (holder k s.0) u tail in
-          let there : IsThere k (holder k s.0) = around_there k (holder k s.0) u round in
-          let gone_there : (standing_of c (holder k s.0) ≡ at.Ended) ⊎ (standing_of c (holder k s.0) ≡ at.Outside) =
-          ⊎_elim (λ over. inl over.2) (λ out. inr out) (all_gone (holder k s.0) there round) in
-          inr (ap (standing_of e) s.3 ∙
-          ⊎_elim (λ watches. watch_gone s.0 (standing_of c (holder k s.0)) (standing_of e (i.watcher_of s.0)) watches gone_there) (λ covered. covered.0)
-          (entered_watched k core i more c e s.0 s.1 s.2 (reached (holder k s.0) there round))))
-          (head_or_tail (i.main_of s.0) (i.main_of u) (around core (i.thread_of (holder k s.0)))
-          (subst (λ zs. Contains zs (i.main_of u)) (ap (around core) s.3 ∙ w.encloses) inner))
+  watcher_gone : (o : ℕ) → IsState k o → has_aborts (own k o) ≡ true → Contains (around k (holder k o)) u → standing_of e (i.watcher_of o) ≡ at.Outside
+  watcher_gone o is has round =
+      let there : IsThere k (holder k o) = around_there k (holder k o) u round in
+      let gone_there : (standing_of c (holder k o) ≡ at.Ended) ⊎ (standing_of c (holder k o) ≡ at.Outside) =
+      ⊎_elim (λ over. inl over.2) (λ out. inr out) (all_gone (holder k o) there round) in
+      ⊎_elim (λ watches. watch_gone k core i o (standing_of c (holder k o)) (standing_of e (i.watcher_of o)) watches gone_there) (λ covered. covered.0)
+      (entered_watched k core i more c e o is has (reached (holder k o) there round))
 
   pub entered_over : Over k core i c e u
   entered_over =
-      record {
-        free = free;
-        chart_inside = all_gone;
-        ended_there = child_over;
-        over_inside = λ t inner. thread_gone t (inside_around core (i.main_of u) t inner);
-      }
+      fork_over k core i more c e u joining free all_gone direct_over (λ q there inner. core_gone q there inner (all_gone q there inner)) watcher_gone

@@ -117,7 +117,7 @@ module _ (k core : Table) (i : Images) (more : EntryRows k core i) (c e : Config
       (simple_once (flags_around k core i q) (i.places_of q) (own k x) ∙ sym (no_front k core i c q (at_once (own k x)) l.free)))
       (trying x (at_once (own k x)) simple held)
   live_waits q l (sort_guards x fork t tests here super held prepared stands none core_none leads core_stands) =
-      settle q (at.Entering x (t ∷ tests)) _ stands core_stands (entering x fork t tests super held leads)
+      settle q (at.Entering x (t ∷ tests)) _ stands core_stands (entering x fork t tests (super, prepared) held leads)
   live_waits q l (sort_prepares x fork here super held apart prepared stands fresh others core_none leads core_stands) =
       opening x held (opening_of k core i more c e q x fork here super held apart prepared stands leads core_stands)
   live_waits q l (sort_opens x core_tests here super held plain stands fresh others core_stands core_fresh core_others stay_tests split_tests) =

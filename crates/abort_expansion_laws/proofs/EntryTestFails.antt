@@ -12,13 +12,13 @@ use Rattle.chart_machine.specs.Turns.{standing_of, has_work, is_guarded}
 use Rattle.chart_machine.specs.Steps.{state_in, to, after, verdict, deed_of, step, access_of, access_of_trigger}
 use Rattle.chart_machine.specs.Machine.{machine}
 use Rattle.abort_expansion.specs.Transitions.{go, led_by}
-use Rattle.abort_expansion.specs.Superstates.{resets}
+use Rattle.abort_expansion.specs.Superstates.{is_prepared, resets}
 use Rattle.abort_expansion_laws.specs.Stages.{Entry, Image}
 use Rattle.abort_expansion_laws.proofs.Simulation.{Segment}
 use Rattle.chart_machine_laws.proofs.LyingIn.{IsNested, around, holder}
 use Rattle.abort_expansion_laws.proofs.TablesCorrespond.{IsThere}
 use Rattle.abort_expansion_laws.proofs.MoreValues.{verdict_over_more}
-use Rattle.abort_expansion_laws.specs.CoreRows.{IsSuper, Images, CoreRows}
+use Rattle.abort_expansion_laws.specs.CoreRows.{own, IsSuper, Images, CoreRows, flags_around}
 use Rattle.abort_expansion_laws.specs.Related.{Stands, outside, ended, left, trying, acting, entering, guarding, staying, within, behind, Watches, IsInside}
 use Rattle.abort_expansion_laws.specs.Related.{guarded, open_inside, Related}
 use Rattle.abort_expansion_laws.proofs.Unchanged.{never_guarded}
@@ -31,7 +31,7 @@ use Rattle.abort_expansion_laws.proofs.TestFails.{tested_is, fails, watch_other}
 
 pub record IsEntering (k core : Table) (i : Images) (r s : ℕ) (tests : List Transition) (y : Standing) : Type 0 where
   pub fork : ℕ
-  pub super : IsSuper k s
+  pub super : IsSuper k s × (is_prepared (flags_around k core i r) (own k s) ≡ true)
   pub held : holder k s ≡ r
   pub leads : state_in core (i.thread_of r) fork ≡ i.main_of s
   pub is : y ≡ at.Trying (i.entry_of s) (map (λ z. led_by (i.places_of r) z.trigger z) tests ++ go true None
@@ -53,7 +53,7 @@ module _ (k core : Table) (i : Images) (c : Configuration) (r : ℕ) where
       let same : t ∷ others ≡ tests = cc in
       record {
         fork = fork;
-        super = subst (IsSuper k) state super;
+        super = subst (λ v. IsSuper k v × (is_prepared (flags_around k core i r) (own k v) ≡ true)) state super;
         held = ap (holder k) (sym state) ∙ held;
         leads = leads ∙ ap i.main_of state;
         is = ap (λ v. at.Trying (i.entry_of v) (opening_tests v (t ∷ others) fork)) state ∙ ap (λ zs. at.Trying (i.entry_of s) (opening_tests s zs fork)) same;

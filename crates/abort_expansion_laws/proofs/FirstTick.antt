@@ -38,7 +38,7 @@ none_outside : (rs : List RegionRow) → list_all is_outside (map (λ r. at.Outs
 none_outside [] = refl
 none_outside (r ∷ rs) = none_outside rs
 
-first_regions : (k : Table) (inputs : Inputs) → (start k inputs (initial k)).regions ≡ moved k.opened (nobody k)
+pub first_regions : (k : Table) (inputs : Inputs) → (start k inputs (initial k)).regions ≡ moved k.opened (nobody k)
 first_regions k inputs = ap (λ b. regions_at_start k b (nobody k)) (none_outside k.regions)
 
 -- ---- of one table

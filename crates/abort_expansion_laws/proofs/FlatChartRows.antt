@@ -172,7 +172,7 @@ module _ (c : Chart) (rules : IsChart features.Extended c) (core_rules : IsChart
   abbrev theirs : Images
   theirs = whole.i c rules core_rules
 
-  started_related : Related (table c) (table (expanded c)) theirs (start (table c) inputs before) (start (table (expanded c)) inputs core_before)
+  pub started_related : Related (table c) (table (expanded c)) theirs (start (table c) inputs before) (start (table (expanded c)) inputs core_before)
   started_related =
       rw (
         chart_has_begun (table c) (table (expanded c)) theirs before core_before rests,

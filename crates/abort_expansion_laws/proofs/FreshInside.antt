@@ -165,11 +165,11 @@ module _ (k : Table) (tree : IsTree k) (entries : (x : ℕ) → IsState k x → 
       let up = tree.deeper r x (subst (λ zs. Contains zs x) (ap (around k) held_y ∙ sym even) outer) in absurd (omega (up, held_x, arith))))
       (one_in_other k tree.nested (around k q) q x y refl in_x in_y)
 
-  not_inside : (x : ℕ) → ¬ Contains (around k (holder k x)) x
+  pub not_inside : (x : ℕ) → ¬ Contains (around k (holder k x)) x
   not_inside x inner = let up = tree.deeper (holder k x) x inner in omega (up, arith)
 
   -- who lies in one state of a region lies in no other
-  one_state : (q x y : ℕ) → Contains (around k q) x → Contains (around k q) y → holder k y ≡ holder k x → y ≡ x
+  pub one_state : (q x y : ℕ) → Contains (around k q) x → Contains (around k q) y → holder k y ≡ holder k x → y ≡ x
   one_state q x y in_x in_y held =
       ⊎_elim (λ same. same)
       (⊎_elim (λ outer. let up = tree.deeper (holder k y) x outer in absurd (omega (up, held, arith)))

@@ -1,6 +1,6 @@
 -- A step of a region that its thread takes as it is: it is followed by one step of the core.
-use Rattle.std.proofs.Common.{◌≡◌, ◌≢◌, ℕ, zero, suc, ◌<◌, ◌≤◌, ◌⊎◌, inl, inr, Bool, true, false, Some, [], ◌∷◌, length, unwrap_or, Contains, refl, sym, ap}
-use Rattle.std.proofs.Common.{subst, ◌∙◌, arith}
+use Rattle.std.proofs.Common.{◌≡◌, ◌≢◌, ℕ, zero, suc, ◌<◌, ◌≤◌, ◌⊎◌, inl, inr, ⊎_elim, Bool, true, false, Some, [], ◌∷◌, length, unwrap_or, Contains, refl, sym}
+use Rattle.std.proofs.Common.{slice_set, ap, subst, ◌∙◌, arith}
 use Rattle.std.specs.List.{list_any}
 use Rattle.std.proofs.lemmas.Option.{slice_get_past}
 use Rattle.sc_values.specs.Access.{Access}
@@ -11,19 +11,20 @@ use Rattle.chart_machine.specs.declared.standing.Standing.{Standing}
 use Rattle.chart_machine.specs.declared.standing.Standing.TheVariants as at
 use Rattle.chart_machine.specs.declared.standing.Configuration.{Configuration}
 use Rattle.chart_machine.specs.declared.table.Table.{Table}
-use Rattle.chart_machine.specs.Turns.{standing_of, guards, has_work, is_guarded, inside}
+use Rattle.chart_machine.specs.Turns.{standing_of, has_ended, guards, has_work, is_guarded, inside}
 use Rattle.chart_machine.specs.Steps.{access_of, step}
 use Rattle.chart_machine.specs.Machine.{machine}
 use Rattle.abort_expansion_laws.specs.Stages.{Entry, Image, Touches}
 use Rattle.abort_expansion_laws.proofs.Supplying.{climbs_step, climbs_fewer}
 use Rattle.abort_expansion_laws.proofs.Simulation.{Segment, Follows}
+use Rattle.tick_laws.proofs.Lists.{same_or_not}
 use Rattle.chart_machine_laws.proofs.LyingIn.{IsNested, LiesUnder, around, holder}
 use Rattle.abort_expansion_laws.proofs.TablesCorrespond.{IsThere}
 use Rattle.abort_expansion_laws.specs.CoreRows.{own, Images, CoreRows}
 use Rattle.abort_expansion_laws.specs.Related.{IsInside, guarded, open_inside, Related}
-use Rattle.abort_expansion_laws.proofs.Unchanged.{stands_other}
-use Rattle.abort_expansion_laws.proofs.RegionGoesOn.{GoesOn, goes_on, same_shape}
-use Rattle.abort_expansion_laws.proofs.StageReached.{some_work, stage_of, Stage, any_in, none_of, inside_in, holds_other, one_at_least, one_at_most, stage_kept}
+use Rattle.abort_expansion_laws.proofs.Unchanged.{stands_same, stands_other}
+use Rattle.abort_expansion_laws.proofs.RegionGoesOn.{GoesOn, goes_on}
+use Rattle.abort_expansion_laws.proofs.StageReached.{some_work, stage_of, Stage, any_in, none_of, inside_in, holds_other, one_at_least, one_at_most, stage_so}
 pub use Rattle.abort_expansion_laws.specs.CoreRows.{pair}
 
 module _ (k core : Table) (i : Images) (rows : CoreRows k core i) (tree : IsNested k) (counts : ℕ → Bool) (written_at : ℕ → ℕ) where
@@ -46,11 +47,22 @@ module _ (k core : Table) (i : Images) (rows : CoreRows k core i) (tree : IsNest
     pub core_access : access_of (standing_of d (i.thread_of q)) ≡ a
     pub declared : (x : ℕ) → Touches a x → x < length k.variables
 
-  module _ (c d : Configuration) (related : Related k core i c d) (q : ℕ) (y z : Standing) (c' d' : Configuration) (a : Access)
-      (s : ImageMove c d q y z c' d' a) where
-    elsewhere : (r : ℕ) → r ≢ q → standing_of c' r ≡ standing_of c r
-    elsewhere r ne = stands_other c c' q r y s.goes.chart ne
+  -- region q, which has work and which nobody guards, comes to stand at y; its thread's step touches what its own touches
+  pub record RegionStep (c d : Configuration) (q : ℕ) (y : Standing) (c' : Configuration) (a : Access) : Type 0 where
+    pub there : IsThere k q
+    pub chart : c'.regions ≡ slice_set c.regions q y
+    pub ends : has_ended y ≡ has_ended (standing_of c q)
+    pub was_there : standing_of c q ≢ at.Outside
+    pub works : has_work k c (standing_of c q) ≡ true
+    pub free : is_guarded k c (around k q) ≡ false
+    pub chart_access : access_of (standing_of c q) ≡ a
+    pub core_access : access_of (standing_of d (i.thread_of q)) ≡ a
+    pub declared : (x : ℕ) → Touches a x → x < length k.variables
 
+  -- the stage of a step of region q, which has work and which nobody guards, for whatever is around it
+  module _ (c d : Configuration) (related : Related k core i c d) (q : ℕ) (there : IsThere k q) (was_there : standing_of c q ≢ at.Outside)
+      (works : has_work k c (standing_of c q) ≡ true) (free : is_guarded k c (around k q) ≡ false) (c' : Configuration)
+      (same : (u : ℕ) → Contains (around k q) u → standing_of c' (holder k u) ≡ standing_of c (holder k u)) where
     in_or_past : (m n : ℕ) → (m < n) ⊎ (n ≤ m)
     in_or_past m n = grind arith
 
@@ -71,16 +83,16 @@ module _ (k core : Table) (i : Images) (rows : CoreRows k core i) (tree : IsNest
 
     module _ (u : ℕ) (inner : Contains (around k q) u) where
       stands_inside : IsInside k core i u (standing_of c (holder k u))
-      stands_inside = related.enclosed q u s.goes.there s.goes.was_there inner
+      stands_inside = related.enclosed q u there was_there inner
 
       holder_there : IsThere k (holder k u)
       holder_there = present_there (holder k u) (inside_present u (standing_of c (holder k u)) stands_inside)
 
       not_guarding : guards (standing_of c (holder k u)) ≡ false
-      not_guarding = none_of (λ v. guards (standing_of c (holder k v))) (around k q) u s.free inner
+      not_guarding = none_of (λ v. guards (standing_of c (holder k v))) (around k q) u free inner
 
       busy : some_work k c u ≡ true
-      busy = any_in (λ r. has_work k c (standing_of c r)) (inside k u) q (inside_in k u q s.goes.there inner) s.works
+      busy = any_in (λ r. has_work k c (standing_of c r)) (inside k u) q (inside_in k u q there inner) works
 
       low : (x : Standing) → IsInside k core i u x → stage_of k c x ≤ 1
       low _ (guarded tests) = omega arith
@@ -92,22 +104,22 @@ module _ (k core : Table) (i : Images) (rows : CoreRows k core i) (tree : IsNest
 
       high_there : 1 ≤ stage_of k c' (standing_of c' (holder k u))
       high_there =
-          subst (λ x. 1 ≤ stage_of k c' x) (sym (elsewhere (holder k u) (holds_other k tree q u inner)))
+          subst (λ x. 1 ≤ stage_of k c' x) (sym (same u inner))
           (high (standing_of c (holder k u)) stands_inside not_guarding)
 
-    abbrev Inner : ℕ → ℕ → Type 0
+    abbrev pub Inner : ℕ → ℕ → Type 0
     Inner h v = (b : ℕ) × LiesUnder k q b × (h ≡ i.thread_of b) × (v ≡ 1)
 
-    stages : (h v : ℕ) → Inner h v → ((u : ℕ) → Stage k i.thread_of c d h u → u ≤ v) × Stage k i.thread_of c' d' h v
-    stages h v (b, under, is, one) = by_kind under
+    pub under_stages : (e : Configuration) (h v : ℕ) → Inner h v → ((u : ℕ) → Stage k i.thread_of c d h u → u ≤ v) × Stage k i.thread_of c' e h v
+    under_stages e h v (b, under, is, one) = by_kind under
       where
-        by_kind : LiesUnder k q b → ((u : ℕ) → Stage k i.thread_of c d h u → u ≤ v) × Stage k i.thread_of c' d' h v
+        by_kind : LiesUnder k q b → ((u : ℕ) → Stage k i.thread_of c d h u → u ≤ v) × Stage k i.thread_of c' e h v
         by_kind (inr root) = (
           λ u before. let n = before.chart (is ∙ ap i.thread_of root) in omega (n, one, arith),
           record {
-            regions = λ r there e. let same : r ≡ 0 = rows.region_once r 0 (sym e ∙ (is ∙ ap i.thread_of root)) in let lt = there.0 in
-                absurd (omega (same, lt, arith));
-            chart = λ e. omega (one, arith);
+            regions = λ r there w. let one_root : r ≡ 0 = rows.region_once r 0 (sym w ∙ (is ∙ ap i.thread_of root)) in let lt = there.0 in
+                absurd (omega (one_root, lt, arith));
+            chart = λ w. omega (one, arith);
           },
         )
         by_kind (inl inner) = (
@@ -115,73 +127,113 @@ module _ (k core : Table) (i : Images) (rows : CoreRows k core i) (tree : IsNest
               let n = before.regions (holder k inner.0) (holder_there inner.0 inner.1) (is ∙ ap i.thread_of (sym inner.2)) in
               let m = low inner.0 inner.1 (standing_of c (holder k inner.0)) (stands_inside inner.0 inner.1) in omega (n, m, one, arith),
           record {
-            regions = λ r there e.
-                let same : holder k inner.0 ≡ r = inner.2 ∙ rows.region_once b r (sym is ∙ e) in
-                let n : 1 ≤ stage_of k c' (standing_of c' r) = subst (λ x. 1 ≤ stage_of k c' (standing_of c' x)) same (high_there inner.0 inner.1) in
+            regions = λ r there w.
+                let its : holder k inner.0 ≡ r = inner.2 ∙ rows.region_once b r (sym is ∙ w) in
+                let n : 1 ≤ stage_of k c' (standing_of c' r) = subst (λ x. 1 ≤ stage_of k c' (standing_of c' x)) its (high_there inner.0 inner.1) in
                 omega (n, one, arith);
-            chart = λ e. omega (one, arith);
+            chart = λ w. omega (one, arith);
           },
         )
 
-    stays : (h v : ℕ) → i.thread_of q ≢ h → Stage k i.thread_of c d h v → Stage k i.thread_of c' d' h v
-    stays h v ne before = record {
-      regions = λ r there e.
-          let other : r ≢ q = λ same. ne (ap i.thread_of (sym same) ∙ sym e) in
-          let n = before.regions r there e in
+  module _ (c d : Configuration) (related : Related k core i c d) (q : ℕ) (y : Standing) (c' : Configuration) (a : Access)
+      (s : RegionStep c d q y c' a) where
+    elsewhere : (r : ℕ) → r ≢ q → standing_of c' r ≡ standing_of c r
+    elsewhere r ne = stands_other c c' q r y s.chart ne
+
+    ends_alike : (r : ℕ) → has_ended (standing_of c' r) ≡ has_ended (standing_of c r)
+    ends_alike r =
+        ⊎_elim
+        (λ e.
+        ap (λ p. has_ended (standing_of c' p)) e ∙
+        (ap has_ended (stands_same c c' q y s.chart (let lt = s.there.1 in omega (lt, related.chart_regions, arith))) ∙
+        (s.ends ∙ ap (λ p. has_ended (standing_of c p)) (sym e))))
+        (λ ne. ap has_ended (elsewhere r ne)) (same_or_not r q)
+
+    holders_same : (u : ℕ) → Contains (around k q) u → standing_of c' (holder k u) ≡ standing_of c (holder k u)
+    holders_same u inner = elsewhere (holder k u) (holds_other k tree q u inner)
+
+    stays : (e : Configuration) (h v : ℕ) → i.thread_of q ≢ h → Stage k i.thread_of c d h v → Stage k i.thread_of c' e h v
+    stays e h v ne before = record {
+      regions = λ r there w.
+          let other : r ≢ q = λ same. ne (ap i.thread_of (sym same) ∙ sym w) in
+          let n = before.regions r there w in
           let m : stage_of k c (standing_of c r) ≤ stage_of k c' (standing_of c r) =
-          stage_kept k core i c c' (same_shape k core i rows c d related q y z c' d' s.goes) q s.works elsewhere (standing_of c r) in
-          let w : stage_of k c' (standing_of c r) ≤ stage_of k c' (standing_of c' r) =
+          stage_so k c c' ends_alike q s.works elsewhere (standing_of c r) in
+          let up : stage_of k c' (standing_of c r) ≤ stage_of k c' (standing_of c' r) =
           subst (λ x. stage_of k c' (standing_of c r) ≤ stage_of k c' x) (sym (elsewhere r other)) (omega arith) in
-          omega (n, m, w, arith);
+          omega (n, m, up, arith);
       chart = before.chart;
     }
 
-    pub image_to : (f : Configuration) → step core (i.thread_of q) d ≡ Some f → (Told : Configuration → Entry → Type 0) → Told d (Image q a) →
+    pub region_to : (f : Configuration) → step core (i.thread_of q) d ≡ Some f → (Told : Configuration → Entry → Type 0) → Told d (Image q a) →
         Segment (machine core) (pair k core i rows tree counts written_at) Told d (Stage k i.thread_of c d) (Stage k i.thread_of c')
         (act_of (machine k) c q ∷ []) (λ e. e ≡ f)
-    image_to f steps Told told =
+    region_to f steps Told told =
         record {
           log = Image q a ∷ [];
           last = f;
           follows = (ap (λ x. record { thread = i.thread_of q; access = x }) (sym s.core_access), told, (f, steps, refl));
           charted = ap (λ x. record { thread = q; access = x } ∷ []) (sym s.chart_access);
           fits = (s.declared, tt);
-          climbs = λ more climbs. climbs_step (pair k core i rows tree counts written_at) (Stage k i.thread_of c d) (Stage k i.thread_of c' f) (Image q a)
-              more stages_any stays_any climbs;
+          climbs = λ more climbs.
+              climbs_step (pair k core i rows tree counts written_at) (Stage k i.thread_of c d) (Stage k i.thread_of c' f) (Image q a)
+              more (under_stages c d related q s.there s.was_there s.works s.free c' holders_same f) (stays f) climbs;
           reaches = refl;
         }
-      where
-        elsewhere_stage : (h v : ℕ) → Stage k i.thread_of c' d' h v → Stage k i.thread_of c' f h v
-        elsewhere_stage h v stage = record { regions = stage.regions; chart = stage.chart }
 
-        stages_any : (h v : ℕ) → Inner h v → ((u : ℕ) → Stage k i.thread_of c d h u → u ≤ v) × Stage k i.thread_of c' f h v
-        stages_any h v inner = ((stages h v inner).0, elsewhere_stage h v (stages h v inner).1)
+    -- where it leads to what corresponds
+    pub region_related : (f : Configuration) → step core (i.thread_of q) d ≡ Some f → Related k core i c' f → (Told : Configuration → Entry → Type 0) →
+        Told d (Image q a) →
+        Segment (machine core) (pair k core i rows tree counts written_at) Told d (Stage k i.thread_of c d) (Stage k i.thread_of c')
+        (act_of (machine k) c q ∷ []) (Related k core i c')
+    region_related f steps corresponds Told told =
+        let t = region_to f steps Told told in
+        record {
+          log = t.log;
+          last = f;
+          follows = subst (λ e. Follows (machine core) (pair k core i rows tree counts written_at) Told d t.log e) t.reaches t.follows;
+          charted = t.charted;
+          fits = t.fits;
+          climbs = λ more climbs.
+              t.climbs more
+              (climbs_fewer (pair k core i rows tree counts written_at) (Stage k i.thread_of c' f) (Stage k i.thread_of c' t.last) more
+              (λ h v stage. record { regions = stage.regions; chart = stage.chart }) climbs);
+          reaches = corresponds;
+        }
 
-        stays_any : (h v : ℕ) → i.thread_of q ≢ h → Stage k i.thread_of c d h v → Stage k i.thread_of c' f h v
-        stays_any h v ne before = elsewhere_stage h v (stays h v ne before)
+  pub image_to : (c d : Configuration) (related : Related k core i c d) (q : ℕ) (y z : Standing) (c' d' : Configuration) (a : Access) →
+      ImageMove c d q y z c' d' a → (f : Configuration) → step core (i.thread_of q) d ≡ Some f → (Told : Configuration → Entry → Type 0) →
+      Told d (Image q a) →
+      Segment (machine core) (pair k core i rows tree counts written_at) Told d (Stage k i.thread_of c d) (Stage k i.thread_of c')
+      (act_of (machine k) c q ∷ []) (λ e. e ≡ f)
+  image_to c d related q y z c' d' a s f steps Told told =
+      region_to c d related q y c' a
+      (record {
+        there = s.goes.there;
+        chart = s.goes.chart;
+        ends = s.goes.ends;
+        was_there = s.goes.was_there;
+        works = s.works;
+        free = s.free;
+        chart_access = s.chart_access;
+        core_access = s.core_access;
+        declared = s.declared;
+      }) f steps Told told
 
   pub image_segment : (c d : Configuration) (related : Related k core i c d) (q : ℕ) (y z : Standing) (c' d' : Configuration) (a : Access)
       (s : ImageStep c d q y z c' d' a) (Told : Configuration → Entry → Type 0) → Told d (Image q a) →
       Segment (machine core) (pair k core i rows tree counts written_at) Told d (Stage k i.thread_of c d) (Stage k i.thread_of c')
       (act_of (machine k) c q ∷ []) (Related k core i c')
   image_segment c d related q y z c' d' a s Told told =
-      let move : ImageMove c d q y z c' d' a = record {
-        goes = s.goes;
+      region_related c d related q y c' a
+      (record {
+        there = s.goes.there;
+        chart = s.goes.chart;
+        ends = s.goes.ends;
+        was_there = s.goes.was_there;
         works = s.works;
         free = s.free;
         chart_access = s.chart_access;
-        core_access =
-            s.core_access;
+        core_access = s.core_access;
         declared = s.declared;
-      } in
-      let t = image_to c d related q y z c' d' a move d' s.steps Told told in
-      record {
-        log = t.log;
-        last = d';
-        follows = subst (λ e. Follows (machine core) (pair k core i rows tree counts written_at) Told d t.log e) t.reaches t.follows;
-        charted = t.charted;
-        fits = t.fits;
-        climbs = λ more climbs. t.climbs more (climbs_fewer (pair k core i rows tree counts written_at) (Stage k i.thread_of c' d')
-            (Stage k i.thread_of c' t.last) more (λ h v stage. record { regions = stage.regions; chart = stage.chart }) climbs);
-        reaches = goes_on k core i rows c d related q y z c' d' s.goes;
-      }
+      }) d' s.steps (goes_on k core i rows c d related q y z c' d' s.goes) Told told

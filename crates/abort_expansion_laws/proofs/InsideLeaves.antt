@@ -1,5 +1,5 @@
 -- What is inside of a superstate whose holder guards can leave: each thread there sees the raised flag first.
-use Rattle.std.proofs.Common.{◌≡◌, ◌≢◌, ℕ, zero, suc, ◌<◌, ◌⊎◌, inl, inr, ⊎_elim, Bool, true, false, not, ◌||◌, Option, Some, None, List, [], ◌∷◌, ◌++◌, map}
+use Rattle.std.proofs.Common.{◌≡◌, ◌≢◌, ℕ, zero, suc, ◌⊎◌, inl, inr, ⊎_elim, Bool, true, false, not, ◌||◌, Option, Some, None, List, [], ◌∷◌, ◌++◌, map}
 use Rattle.std.proofs.Common.{length, Contains, refl, sym, ap, subst, ◌∙◌, arith}
 use Rattle.std.specs.Prelude.{reverse, flat_map}
 use Rattle.std.proofs.lemmas.List.{reverse-append, append-nil}
@@ -21,8 +21,7 @@ use Rattle.abort_expansion.specs.declared.flags.Flags.{Flags}
 use Rattle.abort_expansion.specs.Flags.{aborts_around, is_there}
 use Rattle.abort_expansion.specs.Transitions.{is_raised, go, check, led, strong_checks, answers}
 use Rattle.abort_expansion.specs.Superstates.{stays, closing}
-use Rattle.sc_values.specs.Access.{Access}
-use Rattle.abort_expansion_laws.specs.Stages.{Entry, Silent, Correspondence, IsSilent}
+use Rattle.abort_expansion_laws.specs.Stages.{Correspondence, IsSilent}
 use Rattle.chart_machine_laws.proofs.LyingIn.{IsNested, around, holder, none_in, head_or_tail, head_in, tail_in}
 use Rattle.abort_expansion_laws.proofs.StageReached.{holds_other, any_in}
 use Rattle.abort_expansion_laws.proofs.TablesCorrespond.{IsThere, contains_map}
@@ -33,7 +32,7 @@ use Rattle.abort_expansion_laws.specs.CoreRows.{behind_transitions}
 use Rattle.abort_expansion_laws.specs.Related.{IsCalm, calm_outside, calm_ended, calm_trying, calm_within, front, held_back, tests_of, is_behind, Stands}
 use Rattle.abort_expansion_laws.specs.Related.{outside, ended, left, trying, acting, entering, guarding, staying, within, behind, IsInside, open_inside}
 use Rattle.abort_expansion_laws.specs.Related.{Related}
-use Rattle.abort_expansion_laws.proofs.AllLeave.{LeavesBy, MayLeave, out, over, tries, forks}
+use Rattle.abort_expansion_laws.proofs.AllLeave.{LeavesBy, leads_out, MayLeave, out, over, tries, forks}
 
 -- ---- one of the superstates around a region has aborts: then one check stands in front
 
@@ -105,6 +104,121 @@ module _ (k core : Table) (i : Images) (c : Configuration) where
   there_too r _ _ (within s join tests super held stay open_still leads) present open_around e = absurd cc
   there_too r _ _ (behind s tests super held over_it) present open_around e = absurd cc
 
+-- a region inside of a superstate with aborts checks the strong flag of that one alone
+module _ (k core : Table) (i : Images) (more : FlatRows k core i) (tree : IsNested k) (o : ℕ) (has : has_aborts (own k o) ≡ true) where
+  others_none : (q : ℕ) → Contains (around k q) o → (b : Bool) (place : ℕ) (s : ℕ) → Contains (around k q) s → s ≢ o → check b place (i.flags_of s).strong ≡ []
+  others_none q in_o b place s around_it differs =
+      ⊎_elim (λ e. absurd (differs (more.flat_around q o s in_o around_it has e))) (λ e. ap (check b place) (more.no_strong s e))
+      (true_or_false (has_aborts (own k s)))
+
+  pub checked_once : (q : ℕ) (b : Bool) → Contains (around k q) o →
+      strong_checks b (i.places_of q).left (flags_around k core i q) ≡ check b (i.places_of q).left (i.flags_of o).strong
+  checked_once q b in_o =
+      flat_map-map (λ f. check b (i.places_of q).left f.strong) i.flags_of (reverse (around k q))
+      ∙ one_checked k tree (λ s. check b (i.places_of q).left (i.flags_of s).strong) (around k q) q o refl in_o (others_none q in_o b (i.places_of q).left)
+
+-- ---- each thread inside, whatever it sees
+
+module _ (k core : Table) (i : Images) (rows : CoreRows k core i) (more : FlatRows k core i)
+    (core_children : (s r : ℕ) → Contains (state_at core s).regions r → around core r ≡ s ∷ around core (holder core s))
+    (children : (s r : ℕ) → Contains (state_at k s).regions r → around k r ≡ s ∷ around k (holder k s))
+    (o : ℕ) (has : has_aborts (own k o) ≡ true) (c d : Configuration) (related : Related k core i c d)
+    (corr : Correspondence) (home stage : ℕ) (first : Configuration)
+    (same_first : (q : ℕ) → standing_of first (i.thread_of q) ≡ standing_of d (i.thread_of q)) where
+  state_there : (s : ℕ) → IsSuper k s → IsState k s
+  state_there s super = ⊎_elim (λ lt. lt) (λ past. absurd (super (no_regions_past k s past))) (within_or_past s (length k.states))
+
+  heads : (a b : ℕ) (xs ys : List ℕ) → a ∷ xs ≡ b ∷ ys → a ≡ b
+  heads a b xs ys e = cc
+
+  -- a superstate without aborts: its fork ends, and its continuation leaves
+  pub fork_leaves : (q s join : ℕ) (tests : List Transition) → Contains (around k q) o → standing_of c q ≡ at.Within s tests → IsSuper k s →
+      holder k s ≡ q → stays (flags_around k core i q) (own k s) ≡ false → is_behind k core i c s ≡ false →
+      state_in core (i.thread_of q) join ≡ i.behind_of s →
+      LeavesBy core corr home stage first.variables (i.thread_of q) (at_once (behind_transitions k core i q s)) →
+      MayLeave core corr home stage first (i.thread_of q) (at.Within (i.main_of s) (joins join ∷ []))
+  fork_leaves q s join tests in_o stands super held not_staying open_still leads leaves_by =
+      forks (i.main_of s) join (i.behind_of s) (at_once (behind_transitions k core i q s)) fork_held enters (more.behind_alone s) leaves_by direct
+    where
+      split : SplitImage k core i s
+      split = rows.split s (state_there s super) super (subst (λ p. stays (flags_around k core i p) (own k s) ≡ false) (sym held) not_staying)
+
+      fork_held : holder core (i.main_of s) ≡ i.thread_of q
+      fork_held = rows.held s ∙ ap i.thread_of held
+
+      enters : (state_at core (state_in core (i.thread_of q) join)).entered ≡ to (i.thread_of q)
+          (at.Trying (i.behind_of s) (at_once (behind_transitions k core i q s))) ∷ []
+      enters =
+          ap (λ n. (state_at core n).entered) leads
+          ∙ (ap (λ z. z.entered) split.behind
+          ∙ ap (λ p. to (i.thread_of p) (at.Trying (i.behind_of s) (at_once (behind_transitions k core i p s))) ∷ []) held)
+
+      no_monitor : watchers k core i s ≡ []
+      no_monitor = let none : has_aborts (own k s) ≡ false = more.flat_held o s has (subst (λ p. Contains (around k p) o) (sym held) in_o) in rw (none) refl
+
+      regions_are : (state_at core (i.main_of s)).regions ≡ map i.thread_of (state_at k s).regions
+      regions_are = ap (λ z. z.regions) split.row ∙ (ap (λ zs. map i.thread_of (state_at k s).regions ++ zs) no_monitor ∙
+          append-nil (map i.thread_of (state_at k s).regions))
+
+      inside_s : IsInside k core i s (standing_of c (holder k s))
+      inside_s = subst (λ p. IsInside k core i s (standing_of c p)) (sym held) (subst (IsInside k core i s) (sym stands) (open_inside tests))
+
+      present : (r : ℕ) → Contains (state_at k s).regions r → standing_of first (i.thread_of r) ≢ at.Outside
+      present r child e =
+          let was : standing_of c r ≢ at.Outside = related.opened s r (state_there s super) inside_s child in
+          there_too k core i c r (standing_of c r) (standing_of d (i.thread_of r)) (related.regions r (present_there k core i c d related r was)) was
+          (λ u us round. subst (λ v. is_behind k core i c v ≡ false) (heads s u (around k (holder k s)) us (sym (children s r child) ∙ round)) open_still)
+          (sym (same_first r) ∙ e)
+
+      direct : (t : ℕ) → Contains (state_at core (i.main_of s)).regions t →
+          (around core t ≡ i.main_of s ∷ around core (i.thread_of q)) × (standing_of first t ≢ at.Outside)
+      direct t h =
+          let r = contains_map i.thread_of (state_at k s).regions t (subst (λ zs. Contains zs t) regions_are h) in (
+            core_children (i.main_of s) t h ∙ ap (λ p. i.main_of s ∷ around core p) fork_held,
+            subst (λ v. standing_of first v ≢ at.Outside) r.2 (present r.0 r.1),
+          )
+
+  from_core : (q : ℕ) → Contains (around core (i.thread_of q)) (i.main_of o) → Contains (around k q) o
+  from_core q h =
+      let s = contains_map i.main_of (around k q) (i.main_of o) (subst (λ zs. Contains zs (i.main_of o)) (rows.encloses q) h) in
+      subst (Contains (around k q)) (rows.main_once s.0 o s.2) s.1
+
+  core_there : (t : ℕ) → Contains (around core t) (i.main_of o) → IsThere core t
+  core_there zero h = absurd (none_in (i.main_of o) h)
+  core_there (suc j) h =
+      ⊎_elim (λ lt. (omega arith, omega (lt, arith))) (λ past. absurd
+      (none_in (i.main_of o) (subst (λ zs. Contains zs (i.main_of o)) (nothing_around core j past) h))) (within_or_past j (length core.regions))
+
+  -- each thread of the fork can leave where those of its regions can, and its monitor has ended
+  pub all_may_leave : ((q : ℕ) → IsThere k q → Contains (around k q) o →
+      MayLeave core corr home stage first (i.thread_of q) (standing_of d (i.thread_of q))) →
+      standing_of first (i.watcher_of o) ≡ at.Ended → (t : ℕ) → Contains (around core t) (i.main_of o) →
+      MayLeave core corr home stage first t (standing_of first t)
+  all_may_leave each monitor_over t h = by_sort (rows.each t (core_there t h))
+    where
+      by_region : (q : ℕ) → IsThere k q → t ≡ i.thread_of q → MayLeave core corr home stage first t (standing_of first t)
+      by_region q there e =
+          let in_o : Contains (around k q) o = from_core q (subst (λ v. Contains (around core v) (i.main_of o)) e h) in
+          subst (λ v. MayLeave core corr home stage first v (standing_of first v)) (sym e)
+          (subst (MayLeave core corr home stage first (i.thread_of q)) (sym (same_first q)) (each q there in_o))
+
+      by_monitor : (u : ℕ) → IsState k u → has_aborts (own k u) ≡ true → t ≡ i.watcher_of u → MayLeave core corr home stage first t (standing_of first t)
+      by_monitor u there has_some e =
+          ⊎_elim
+          (λ same. subst (λ v. MayLeave core corr home stage first v (standing_of first v)) (sym (e ∙ ap i.watcher_of (rows.main_once u o same)))
+          (subst (MayLeave core corr home stage first (i.watcher_of o)) (sym monitor_over) over))
+          (λ tail. let none : has_aborts (own k u) ≡ false = more.flat_held o u has (from_core (holder k u) tail) in let wrong : true ≡ false =
+          sym has_some ∙ none in absurd cc)
+          (head_or_tail (i.main_of u) (i.main_of o) (around core (i.thread_of (holder k u)))
+          (subst (λ zs. Contains zs (i.main_of o)) ((rows.watcher u there has_some).encloses) (subst (λ v. Contains (around core v) (i.main_of o)) e h)))
+
+      by_sort : ((r : ℕ) × IsThere k r × (t ≡ i.thread_of r)) ⊎ ((s : ℕ) × IsState k s × (has_aborts (own k s) ≡ true) × (t ≡ i.watcher_of s)) →
+          MayLeave core corr home stage first t (standing_of first t)
+      by_sort (inl r) = by_region r.0 r.1 r.2
+      by_sort (inr s) = by_monitor s.0 s.1 s.2 s.3
+
+-- ---- the holder guards: each thread inside sees the strong flag first
+
 module _ (k core : Table) (i : Images) (rows : CoreRows k core i) (more : FlatRows k core i) (tree : IsNested k)
     (core_children : (s r : ℕ) → Contains (state_at core s).regions r → around core r ≡ s ∷ around core (holder core s))
     (children : (s r : ℕ) → Contains (state_at k s).regions r → around k r ≡ s ∷ around k (holder k s))
@@ -113,16 +227,8 @@ module _ (k core : Table) (i : Images) (rows : CoreRows k core i) (more : FlatRo
   abbrev pub sees : Bool → ℕ → Transition
   sees b q = go b (Some (is_raised x)) [] (i.places_of q).left
 
-  others_none : (q : ℕ) → Contains (around k q) o → (b : Bool) (place : ℕ) (s : ℕ) → Contains (around k q) s → s ≢ o → check b place (i.flags_of s).strong ≡ []
-  others_none q in_o b place s around_it differs =
-      ⊎_elim (λ e. absurd (differs (more.flat_around q o s in_o around_it has e))) (λ e. ap (check b place) (more.no_strong s e))
-      (true_or_false (has_aborts (own k s)))
-
   pub one_check : (q : ℕ) (b : Bool) → Contains (around k q) o → strong_checks b (i.places_of q).left (flags_around k core i q) ≡ sees b q ∷ []
-  one_check q b in_o =
-      flat_map-map (λ f. check b (i.places_of q).left f.strong) i.flags_of (reverse (around k q))
-      ∙ (one_checked k tree (λ s. check b (i.places_of q).left (i.flags_of s).strong) (around k q) q o refl in_o (others_none q in_o b (i.places_of q).left)
-      ∙ ap (check b (i.places_of q).left) flag)
+  one_check q b in_o = checked_once k core i more tree o has q b in_o ∙ ap (check b (i.places_of q).left) flag
 
   pub aborts_here : (q : ℕ) → Contains (around k q) o → aborts_around (flags_around k core i q) ≡ true
   aborts_here q in_o = ⊎_elim (λ e. e) (λ e. wrong e) (true_or_false (aborts_around (flags_around k core i q)))
@@ -132,186 +238,106 @@ module _ (k core : Table) (i : Images) (rows : CoreRows k core i) (more : FlatRo
 
   module _ (c d : Configuration) (related : Related k core i c d) (guarding_now : guards (standing_of c (holder k o)) ≡ true)
       (calm : (q : ℕ) → Contains (around k q) o → IsCalm (standing_of c q))
-      (corr : Correspondence) (home stage f : ℕ) (first : Configuration)
-      (silent : (q : ℕ) → Contains (around k q) o → IsSilent corr (i.thread_of q) (Some (home, stage)) (access_of_trigger (Some (is_raised x)))) where
+      (corr : Correspondence) (home stage : ℕ) (first : Configuration)
+      (silent : (q : ℕ) → Contains (around k q) o → IsSilent corr (i.thread_of q) (Some (home, stage)) (access_of_trigger (Some (is_raised x))))
+      (raised : verdict first.variables (Some (is_raised x)) ≡ Some true)
+      (same_first : (q : ℕ) → standing_of first (i.thread_of q) ≡ standing_of d (i.thread_of q)) where
+    abbrev pub Leaves : ℕ → Standing → Type 0
+    Leaves t z = MayLeave core corr home stage first t z
+
     guarded_here : (q : ℕ) → Contains (around k q) o → is_guarded k c (around k q) ≡ true
     guarded_here q in_o = any_in (λ s. guards (standing_of c (holder k s))) (around k q) o in_o guarding_now
 
-    leaves_by : (q n : ℕ) (b : Bool) → IsThere k q → Contains (around k q) o → inside core n ≡ [] →
-        LeavesBy core corr home stage (Some (is_raised x)) (i.thread_of q) n (sees b q)
-    leaves_by q n b there in_o alone =
-        record { triggered = refl; effects = refl; simple = alone; ends = (rows.region q there).left (aborts_here q in_o); silent = silent q in_o }
+    leaves_by : (q : ℕ) (b : Bool) (rest : List Transition) → IsThere k q → Contains (around k q) o →
+        LeavesBy core corr home stage first.variables (i.thread_of q) (sees b q ∷ rest)
+    leaves_by q b rest there in_o =
+        leads_out (sees b q) rest raised refl ((rows.region q there).left (aborts_here q in_o)) (Some (home, stage)) (inr refl) (silent q in_o)
 
-    -- ---- each thread inside
+    -- a simple state
+    by_trying : (q s : ℕ) (tests : List Transition) → IsThere k q → Contains (around k q) o → IsSimple k s →
+        Leaves (i.thread_of q) (at.Trying (i.main_of s) (tests_of k core i c q tests))
+    by_trying q s tests there in_o simple =
+        let fronts : front k core i false c q ≡ sees false q ∷ [] = rw (guarded_here q in_o) (one_check q false in_o) in
+        let all : tests_of k core i c q tests ≡ sees false q ∷ (map (led (i.places_of q)) tests ++ held_back k core i q) =
+        ap (λ zs. zs ++ map (led (i.places_of q)) tests ++ held_back k core i q) fronts in
+        subst (λ zs. Leaves (i.thread_of q) (at.Trying (i.main_of s) zs)) (sym all)
+        (tries (i.main_of s) (sees false q ∷ (map (led (i.places_of q)) tests ++ held_back k core i q)) (more.simple_alone s simple)
+        (leaves_by q false (map (led (i.places_of q)) tests ++ held_back k core i q) there in_o))
 
-    module _ (core_tree : IsNested core) (deep : (q s : ℕ) → Contains (around core q) s → holder core s < q) (Told : Configuration → Entry → Type 0)
-        (told : (e : Configuration) (t : ℕ) (at_stage : Option (ℕ × ℕ)) (a : Access) → Told e (Silent t at_stage a)) (Others : ℕ → ℕ → Type 0)
-        (raised : verdict first.variables (Some (is_raised x)) ≡ Some true) (free : (t : ℕ) → guards (standing_of first t) ≡ false)
-        (same_first : (q : ℕ) → standing_of first (i.thread_of q) ≡ standing_of d (i.thread_of q)) where
-      abbrev pub Leaves : ℕ → Standing → Type 0
-      Leaves t z = MayLeave core core_tree deep corr Told told Others home stage f (Some (is_raised x)) first raised free t z
+    -- behind a fork that is over
+    by_behind : (q s : ℕ) → IsThere k q → Contains (around k q) o → Leaves (i.thread_of q)
+        (at.Trying (i.behind_of s) (front k core i true c q ++ held_back k core i q))
+    by_behind q s there in_o =
+        let fronts : front k core i true c q ≡ sees true q ∷ [] = rw (guarded_here q in_o) (one_check q true in_o) in
+        subst (λ zs. Leaves (i.thread_of q) (at.Trying (i.behind_of s) (zs ++ held_back k core i q))) (sym fronts)
+        (tries (i.behind_of s) (sees true q ∷ held_back k core i q) (more.behind_alone s) (leaves_by q true (held_back k core i q) there in_o))
 
-      -- a simple state
-      by_trying : (q s : ℕ) (tests : List Transition) → IsThere k q → Contains (around k q) o → IsSimple k s →
-          Leaves (i.thread_of q) (at.Trying (i.main_of s) (tests_of k core i c q tests))
-      by_trying q s tests there in_o simple =
-          let fronts : front k core i false c q ≡ sees false q ∷ [] = rw (guarded_here q in_o) (one_check q false in_o) in
-          let all : tests_of k core i c q tests ≡ sees false q ∷ (map (led (i.places_of q)) tests ++ held_back k core i q) =
-          ap (λ zs. zs ++ map (led (i.places_of q)) tests ++ held_back k core i q) fronts in
-          subst (λ zs. Leaves (i.thread_of q) (at.Trying (i.main_of s) zs)) (sym all)
-          (tries (i.main_of s) (sees false q) (map (led (i.places_of q)) tests ++ held_back k core i q)
-          (leaves_by q (i.main_of s) false there in_o (more.simple_alone s simple)))
+    -- the continuation of a superstate without aborts
+    abbrev behind_it : ℕ → ℕ → List Transition
+    behind_it q s =
+        at_once (answers (i.places_of q) (i.flags_of s).strong 1 (strong_aborts (own k s))
+        ++ answers (i.places_of q) (i.flags_of s).weak 1 (weak_aborts (own k s)) ++ closing (flags_around k core i q) (i.flags_of s) (i.places_of q)
+        (terminations (own k s)))
 
-      -- behind a fork that is over
-      by_behind : (q s : ℕ) → IsThere k q → Contains (around k q) o → Leaves (i.thread_of q)
-          (at.Trying (i.behind_of s) (front k core i true c q ++ held_back k core i q))
-      by_behind q s there in_o =
-          let fronts : front k core i true c q ≡ sees true q ∷ [] = rw (guarded_here q in_o) (one_check q true in_o) in
-          subst (λ zs. Leaves (i.thread_of q) (at.Trying (i.behind_of s) (zs ++ held_back k core i q))) (sym fronts)
-          (tries (i.behind_of s) (sees true q) (held_back k core i q) (leaves_by q (i.behind_of s) true there in_o (more.behind_alone s)))
+    continues : (q s : ℕ) → Contains (around k q) o → at_once (behind_transitions k core i q s) ≡ sees true q ∷ behind_it q s
+    continues q s in_o =
+        ap (λ zs. at_once (zs ++ answers (i.places_of q) (i.flags_of s).strong 1 (strong_aborts (own k s))
+        ++ answers (i.places_of q) (i.flags_of s).weak 1 (weak_aborts (own k s)) ++ closing (flags_around k core i q) (i.flags_of s) (i.places_of q)
+        (terminations (own k s)))) (one_check q true in_o)
 
-      -- ---- a superstate without aborts: its fork ends, and the continuation sees the flag
+    by_within : (q s join : ℕ) (tests : List Transition) → IsThere k q → Contains (around k q) o → standing_of c q ≡ at.Within s tests → IsSuper k s →
+        holder k s ≡ q →
+        stays (flags_around k core i q) (own k s) ≡ false → is_behind k core i c s ≡ false → state_in core (i.thread_of q) join ≡ i.behind_of s →
+        Leaves (i.thread_of q) (at.Within (i.main_of s) (joins join ∷ []))
+    by_within q s join tests there in_o stands super held not_staying open_still leads =
+        fork_leaves k core i rows more core_children children o has c d related corr home stage first same_first q s join tests in_o stands super held
+        not_staying open_still leads
+        (subst (LeavesBy core corr home stage first.variables (i.thread_of q)) (sym (continues q s in_o)) (leaves_by q true (behind_it q s) there in_o))
 
-      state_there : (s : ℕ) → IsSuper k s → IsState k s
-      state_there s super = ⊎_elim (λ lt. lt) (λ past. absurd (super (no_regions_past k s past))) (within_or_past s (length k.states))
+    calm_acting : (z : Standing) → IsCalm z → (s p : ℕ) (effects : List Effect) → z ≢ at.Acting s effects p
+    calm_acting _ calm_outside s p effects e = absurd cc
+    calm_acting _ calm_ended s p effects e = absurd cc
+    calm_acting _ (calm_trying u tests) s p effects e = absurd cc
+    calm_acting _ (calm_within u tests) s p effects e = absurd cc
 
-      abbrev behind_it : ℕ → ℕ → List Transition
-      behind_it q s =
-          at_once (answers (i.places_of q) (i.flags_of s).strong 1 (strong_aborts (own k s))
-          ++ answers (i.places_of q) (i.flags_of s).weak 1 (weak_aborts (own k s)) ++ closing (flags_around k core i q) (i.flags_of s) (i.places_of q)
-          (terminations (own k s)))
+    calm_entering : (z : Standing) → IsCalm z → (s : ℕ) (tests : List Transition) → z ≢ at.Entering s tests
+    calm_entering _ calm_outside s others e = absurd cc
+    calm_entering _ calm_ended s others e = absurd cc
+    calm_entering _ (calm_trying u tests) s others e = absurd cc
+    calm_entering _ (calm_within u tests) s others e = absurd cc
 
-      continues : (q s : ℕ) → Contains (around k q) o → at_once (behind_transitions k core i q s) ≡ sees true q ∷ behind_it q s
-      continues q s in_o =
-          ap (λ zs. at_once (zs ++ answers (i.places_of q) (i.flags_of s).strong 1 (strong_aborts (own k s))
-          ++ answers (i.places_of q) (i.flags_of s).weak 1 (weak_aborts (own k s)) ++ closing (flags_around k core i q) (i.flags_of s) (i.places_of q)
-          (terminations (own k s)))) (one_check q true in_o)
+    calm_guarding : (z : Standing) → IsCalm z → (s : ℕ) (tests : List Transition) → z ≢ at.Guarding s tests
+    calm_guarding _ calm_outside s others e = absurd cc
+    calm_guarding _ calm_ended s others e = absurd cc
+    calm_guarding _ (calm_trying u tests) s others e = absurd cc
+    calm_guarding _ (calm_within u tests) s others e = absurd cc
 
-      heads : (a b : ℕ) (xs ys : List ℕ) → a ∷ xs ≡ b ∷ ys → a ≡ b
-      heads a b xs ys e = cc
+    never_stays : (q s : ℕ) → Contains (around k q) o → stays (flags_around k core i q) (own k s) ≡ true → ⊥
+    never_stays q s in_o e = by_aborts (has_aborts (own k s)) (aborts_around (flags_around k core i q)) (aborts_here q in_o) e
+      where
+        by_aborts : (a b : Bool) → b ≡ true → not (a || b) ≡ true → ⊥
+        by_aborts true b e f = absurd cc
+        by_aborts false true e f = absurd cc
+        by_aborts false false e f = absurd cc
 
-      by_within : (q s join : ℕ) (tests : List Transition) → IsThere k q → Contains (around k q) o → standing_of c q ≡ at.Within s tests → IsSuper k s →
-          holder k s ≡ q →
-          stays (flags_around k core i q) (own k s) ≡ false → is_behind k core i c s ≡ false → state_in core (i.thread_of q) join ≡ i.behind_of s →
-          Leaves (i.thread_of q) (at.Within (i.main_of s) (joins join ∷ []))
-      by_within q s join tests there in_o stands super held not_staying open_still leads =
-          forks (i.main_of s) join (i.behind_of s) (sees true q) (behind_it q s) fork_held enters
-          (leaves_by q (i.behind_of s) true there in_o (more.behind_alone s)) direct
-        where
-          split : SplitImage k core i s
-          split = rows.split s (state_there s super) super (subst (λ p. stays (flags_around k core i p) (own k s) ≡ false) (sym held) not_staying)
+    by_stands : (q : ℕ) → IsThere k q → Contains (around k q) o → (z y : Standing) → Stands k core i c q z y → standing_of c q ≡ z → IsCalm z →
+        Leaves (i.thread_of q) y
+    by_stands q there in_o _ _ outside is quiet = out
+    by_stands q there in_o _ _ (ended inner) is quiet = over
+    by_stands q there in_o _ _ (left s ss e over_it) is quiet = out
+    by_stands q there in_o _ _ (trying s tests simple held) is quiet = by_trying q s tests there in_o simple
+    by_stands q there in_o _ _ (acting s u p g effects lt) is quiet = absurd (calm_acting (at.Acting s (g ∷ effects) p) quiet s p (g ∷ effects) refl)
+    by_stands q there in_o _ _ (entering s fork t tests super held leads) is quiet =
+        absurd (calm_entering (at.Entering s (t ∷ tests)) quiet s (t ∷ tests) refl)
+    by_stands q there in_o _ _ (guarding s join t tests has_some held leads) is quiet =
+        absurd (calm_guarding (at.Guarding s (t ∷ tests)) quiet s (t ∷ tests) refl)
+    by_stands q there in_o _ _ (staying s tests super held stay) is quiet = absurd (never_stays q s in_o stay)
+    by_stands q there in_o _ _ (within s join tests super held stay open_still leads) is quiet = by_within q s join
+        tests there in_o is super held stay open_still leads
+    by_stands q there in_o _ _ (behind s tests super held over_it) is quiet = by_behind q s there in_o
 
-          fork_held : holder core (i.main_of s) ≡ i.thread_of q
-          fork_held = rows.held s ∙ ap i.thread_of held
-
-          enters : (state_at core (state_in core (i.thread_of q) join)).entered ≡ to (i.thread_of q) (at.Trying (i.behind_of s) (sees true q ∷ behind_it q s))
-              ∷ []
-          enters =
-              ap (λ n. (state_at core n).entered) leads
-              ∙ (ap (λ z. z.entered) split.behind
-              ∙ (ap (λ p. to (i.thread_of p) (at.Trying (i.behind_of s) (at_once (behind_transitions k core i p s))) ∷ []) held
-              ∙ ap (λ zs. to (i.thread_of q) (at.Trying (i.behind_of s) zs) ∷ []) (continues q s in_o)))
-
-          no_monitor : watchers k core i s ≡ []
-          no_monitor = let none : has_aborts (own k s) ≡ false = more.flat_held o s has (subst (λ p. Contains (around k p) o) (sym held) in_o) in rw (none) refl
-
-          regions_are : (state_at core (i.main_of s)).regions ≡ map i.thread_of (state_at k s).regions
-          regions_are = ap (λ z. z.regions) split.row ∙ (ap (λ zs. map i.thread_of (state_at k s).regions ++ zs) no_monitor ∙
-              append-nil (map i.thread_of (state_at k s).regions))
-
-          inside_s : IsInside k core i s (standing_of c (holder k s))
-          inside_s = subst (λ p. IsInside k core i s (standing_of c p)) (sym held) (subst (IsInside k core i s) (sym stands) (open_inside tests))
-
-          present : (r : ℕ) → Contains (state_at k s).regions r → standing_of first (i.thread_of r) ≢ at.Outside
-          present r child e =
-              let was : standing_of c r ≢ at.Outside = related.opened s r (state_there s super) inside_s child in
-              there_too k core i c r (standing_of c r) (standing_of d (i.thread_of r)) (related.regions r (present_there k core i c d related r was)) was
-              (λ u us round. subst (λ v. is_behind k core i c v ≡ false) (heads s u (around k (holder k s)) us (sym (children s r child) ∙ round)) open_still)
-              (sym (same_first r) ∙ e)
-
-          direct : (t : ℕ) → Contains (state_at core (i.main_of s)).regions t →
-              (around core t ≡ i.main_of s ∷ around core (i.thread_of q)) × (standing_of first t ≢ at.Outside)
-          direct t h =
-              let r = contains_map i.thread_of (state_at k s).regions t (subst (λ zs. Contains zs t) regions_are h) in (
-                core_children (i.main_of s) t h ∙ ap (λ p. i.main_of s ∷ around core p) fork_held,
-                subst (λ v. standing_of first v ≢ at.Outside) r.2 (present r.0 r.1),
-              )
-
-      calm_acting : (z : Standing) → IsCalm z → (s p : ℕ) (effects : List Effect) → z ≢ at.Acting s effects p
-      calm_acting _ calm_outside s p effects e = absurd cc
-      calm_acting _ calm_ended s p effects e = absurd cc
-      calm_acting _ (calm_trying u tests) s p effects e = absurd cc
-      calm_acting _ (calm_within u tests) s p effects e = absurd cc
-
-      calm_entering : (z : Standing) → IsCalm z → (s : ℕ) (tests : List Transition) → z ≢ at.Entering s tests
-      calm_entering _ calm_outside s others e = absurd cc
-      calm_entering _ calm_ended s others e = absurd cc
-      calm_entering _ (calm_trying u tests) s others e = absurd cc
-      calm_entering _ (calm_within u tests) s others e = absurd cc
-
-      calm_guarding : (z : Standing) → IsCalm z → (s : ℕ) (tests : List Transition) → z ≢ at.Guarding s tests
-      calm_guarding _ calm_outside s others e = absurd cc
-      calm_guarding _ calm_ended s others e = absurd cc
-      calm_guarding _ (calm_trying u tests) s others e = absurd cc
-      calm_guarding _ (calm_within u tests) s others e = absurd cc
-
-      never_stays : (q s : ℕ) → Contains (around k q) o → stays (flags_around k core i q) (own k s) ≡ true → ⊥
-      never_stays q s in_o e = by_aborts (has_aborts (own k s)) (aborts_around (flags_around k core i q)) (aborts_here q in_o) e
-        where
-          by_aborts : (a b : Bool) → b ≡ true → not (a || b) ≡ true → ⊥
-          by_aborts true b e f = absurd cc
-          by_aborts false true e f = absurd cc
-          by_aborts false false e f = absurd cc
-
-      by_stands : (q : ℕ) → IsThere k q → Contains (around k q) o → (z y : Standing) → Stands k core i c q z y → standing_of c q ≡ z → IsCalm z →
-          Leaves (i.thread_of q) y
-      by_stands q there in_o _ _ outside is quiet = out
-      by_stands q there in_o _ _ (ended inner) is quiet = over
-      by_stands q there in_o _ _ (left s ss e over_it) is quiet = out
-      by_stands q there in_o _ _ (trying s tests simple held) is quiet = by_trying q s tests there in_o simple
-      by_stands q there in_o _ _ (acting s u p g effects lt) is quiet = absurd (calm_acting (at.Acting s (g ∷ effects) p) quiet s p (g ∷ effects) refl)
-      by_stands q there in_o _ _ (entering s fork t tests super held leads) is quiet =
-          absurd (calm_entering (at.Entering s (t ∷ tests)) quiet s (t ∷ tests) refl)
-      by_stands q there in_o _ _ (guarding s join t tests has_some held leads) is quiet =
-          absurd (calm_guarding (at.Guarding s (t ∷ tests)) quiet s (t ∷ tests) refl)
-      by_stands q there in_o _ _ (staying s tests super held stay) is quiet = absurd (never_stays q s in_o stay)
-      by_stands q there in_o _ _ (within s join tests super held stay open_still leads) is quiet = by_within q s join
-          tests there in_o is super held stay open_still leads
-      by_stands q there in_o _ _ (behind s tests super held over_it) is quiet = by_behind q s there in_o
-
-      from_core : (q : ℕ) → Contains (around core (i.thread_of q)) (i.main_of o) → Contains (around k q) o
-      from_core q h =
-          let s = contains_map i.main_of (around k q) (i.main_of o) (subst (λ zs. Contains zs (i.main_of o)) (rows.encloses q) h) in
-          subst (Contains (around k q)) (rows.main_once s.0 o s.2) s.1
-
-      core_there : (t : ℕ) → Contains (around core t) (i.main_of o) → IsThere core t
-      core_there zero h = absurd (none_in (i.main_of o) h)
-      core_there (suc j) h =
-          ⊎_elim (λ lt. (omega arith, omega (lt, arith))) (λ past. absurd
-          (none_in (i.main_of o) (subst (λ zs. Contains zs (i.main_of o)) (nothing_around core j past) h))) (within_or_past j (length core.regions))
-
-      -- each region of the fork can leave, where its monitor has ended
-      pub may_leave : standing_of first (i.watcher_of o) ≡ at.Ended → (t : ℕ) → Contains (around core t) (i.main_of o) → Leaves t (standing_of first t)
-      may_leave monitor_over t h = by_sort (rows.each t (core_there t h))
-        where
-          by_region : (q : ℕ) → IsThere k q → t ≡ i.thread_of q → Leaves t (standing_of first t)
-          by_region q there e =
-              let in_o : Contains (around k q) o = from_core q (subst (λ v. Contains (around core v) (i.main_of o)) e h) in
-              subst (λ v. Leaves v (standing_of first v)) (sym e)
-              (subst (Leaves (i.thread_of q)) (sym (same_first q)) (by_stands q there in_o (standing_of c q) (standing_of d (i.thread_of q))
-              (related.regions q there) refl (calm q in_o)))
-
-          by_monitor : (u : ℕ) → IsState k u → has_aborts (own k u) ≡ true → t ≡ i.watcher_of u → Leaves t (standing_of first t)
-          by_monitor u there has_some e =
-              ⊎_elim
-              (λ same. subst (λ v. Leaves v (standing_of first v)) (sym (e ∙ ap i.watcher_of (rows.main_once u o same)))
-              (subst (Leaves (i.watcher_of o)) (sym monitor_over) over))
-              (λ tail. let none : has_aborts (own k u) ≡ false = more.flat_held o u has (from_core (holder k u) tail) in let wrong : true ≡ false =
-              sym has_some ∙ none in absurd cc)
-              (head_or_tail (i.main_of u) (i.main_of o) (around core (i.thread_of (holder k u)))
-              (subst (λ zs. Contains zs (i.main_of o)) ((rows.watcher u there has_some).encloses) (subst (λ v. Contains (around core v) (i.main_of o)) e h)))
-
-          by_sort : ((r : ℕ) × IsThere k r × (t ≡ i.thread_of r)) ⊎ ((s : ℕ) × IsState k s × (has_aborts (own k s) ≡ true) × (t ≡ i.watcher_of s)) →
-              Leaves t (standing_of first t)
-          by_sort (inl r) = by_region r.0 r.1 r.2
-          by_sort (inr s) = by_monitor s.0 s.1 s.2 s.3
+    -- each thread of the fork can leave, where its monitor has ended
+    pub may_leave : standing_of first (i.watcher_of o) ≡ at.Ended → (t : ℕ) → Contains (around core t) (i.main_of o) → Leaves t (standing_of first t)
+    may_leave =
+        all_may_leave k core i rows more core_children children o has c d related corr home stage first same_first
+        (λ q there in_o. by_stands q there in_o (standing_of c q) (standing_of d (i.thread_of q)) (related.regions q there) refl (calm q in_o))

@@ -46,11 +46,11 @@ use Rattle.abort_expansion_laws.proofs.EnteringSimple.{once_append, weak_once}
 
 -- ---- what the continuation tests
 
-no_chosen : (p : Transition → Bool) (xs : List Transition) → list_any p xs ≡ false → filter p xs ≡ []
+pub no_chosen : (p : Transition → Bool) (xs : List Transition) → list_any p xs ≡ false → filter p xs ≡ []
 no_chosen p [] e = refl
 no_chosen p (x ∷ xs) e = let both = or_parts (p x) (list_any p xs) e in rw (both.0, no_chosen p xs both.1) refl
 
-no_answers : (at_places : Places) (flag : Option ℕ) (n : ℕ) → answers at_places flag n [] ≡ []
+pub no_answers : (at_places : Places) (flag : Option ℕ) (n : ℕ) → answers at_places flag n [] ≡ []
 no_answers at_places None n = refl
 no_answers at_places (Some x) n = refl
 
@@ -87,7 +87,7 @@ module _ (k core : Table) (i : Images) where
 
 -- ---- the steps
 
-in_reverse : (xs : List ℕ) (y : ℕ) → Contains (reverse xs) y → Contains xs y
+pub in_reverse : (xs : List ℕ) (y : ℕ) → Contains (reverse xs) y → Contains xs y
 in_reverse [] y h = absurd (none_in y h)
 in_reverse (x ∷ xs) y h =
     ⊎_elim (λ first. tail_in x y xs (in_reverse xs y first)) (λ last. ⊎_elim (λ e. subst (Contains (x ∷ xs)) e (head_in x xs))

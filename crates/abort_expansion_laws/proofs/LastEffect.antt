@@ -1,7 +1,8 @@
 -- The last effect of a transition, from the law of entering.
-use Rattle.std.proofs.Common.{◌≡◌, ℕ, ◌<◌, Bool, true, false, Some, List, [], ◌∷◌, length, slice_get, slice_set, refl, sym, ap, subst, ◌∙◌, arith}
+use Rattle.std.proofs.Common.{◌≡◌, ℕ, ◌<◌, Bool, true, false, Option, Some, List, [], ◌∷◌, length, slice_get, slice_set, Contains, refl}
+use Rattle.std.proofs.Common.{sym, ap, subst, ◌∙◌, arith}
 use Rattle.std.specs.Prelude.{option_map}
-use Rattle.sc_values.specs.Runs.{act_of}
+use Rattle.sc_values.specs.Runs.{Act, act_of}
 use Rattle.core_charts.specs.declared.region.Effect.{Effect}
 use Rattle.chart_machine.specs.declared.standing.Standing.{Standing}
 use Rattle.chart_machine.specs.declared.standing.Standing.TheVariants as at
@@ -9,13 +10,13 @@ use Rattle.chart_machine.specs.declared.standing.Configuration.{Configuration}
 use Rattle.chart_machine.specs.declared.table.Table.{Table}
 use Rattle.chart_machine.specs.Table.{state_at}
 use Rattle.chart_machine.specs.Turns.{standing_of, guards, is_guarded, is_enabled}
-use Rattle.chart_machine.specs.Steps.{state_in, acts, moved, deed_of, step, access_of}
+use Rattle.chart_machine.specs.Steps.{to, state_in, acts, moved, deed_of, step, access_of}
 use Rattle.chart_machine.specs.Machine.{machine}
-use Rattle.abort_expansion_laws.specs.Stages.{Entry, Image}
-use Rattle.abort_expansion_laws.proofs.Simulation.{Segment, segment_on}
+use Rattle.abort_expansion_laws.specs.Stages.{Entry, Image, Silent}
+use Rattle.abort_expansion_laws.proofs.Simulation.{Segment}
 use Rattle.chart_machine_laws.proofs.LyingIn.{IsNested, around, holder}
 use Rattle.abort_expansion_laws.proofs.TablesCorrespond.{IsThere}
-use Rattle.abort_expansion_laws.specs.CoreRows.{is_final, Images, CoreRows, RegionImage, counter_over}
+use Rattle.abort_expansion_laws.specs.CoreRows.{IsState, Images, CoreRows, RegionImage}
 use Rattle.abort_expansion_laws.specs.Related.{acting, Watches, Related}
 use Rattle.abort_expansion_laws.proofs.Unchanged.{never_guarded, stands_same}
 use Rattle.abort_expansion_laws.proofs.RegionGoesOn.{GoesOn, goes_on, same_shape}
@@ -29,7 +30,7 @@ use Rattle.sc_values.specs.Expr.{value as value_of}
 use Rattle.sc_values.specs.Assignment.{assignment_of, access_of_assignment}
 use Rattle.sc_graph.specs.Steps.{takes_kind}
 use Rattle.sc_graph.specs.declared.program.Variable.{Variable}
-use Rattle.abort_expansion.specs.Transitions.{counting, place_of}
+use Rattle.abort_expansion.specs.Transitions.{counting, place_of, count_down}
 use Rattle.chart_machine.specs.Steps.{effected}
 use Rattle.std.proofs.lemmas.Option.{slice_get_within}
 use Rattle.abort_expansion_laws.proofs.TestFails.{watch_other}
@@ -38,14 +39,20 @@ use Rattle.abort_expansion_laws.proofs.Unchanged.{get_other}
 use Rattle.abort_expansion_laws.proofs.TestHolds.{acting_no_inside}
 use Rattle.abort_expansion_laws.proofs.AssignedVariables.{assigned_known}
 use Rattle.abort_expansion_laws.proofs.EffectFollowed.{IsActing, acting_back, some_kind, there_variable, set_front, value_size}
-use Rattle.abort_expansion_laws.proofs.TakenAtOnce.{BeginsAt, overwritten, not_counting, none_counted, any_same, staged}
+use Rattle.abort_expansion_laws.proofs.EffectAhead.{BeginsAt, overwritten, any_same}
+use Rattle.abort_expansion_laws.proofs.TakesTarget.{GoesIn, goes_in, entered_after}
+use Rattle.abort_expansion_laws.proofs.StartingRegions.{CounterRows}
+use Rattle.abort_expansion_laws.proofs.TestHolds.{counting_first}
+use Rattle.chart_machine.specs.declared.standing.Move.{Move}
+use Rattle.sc_values.specs.Access.{Access}
 use Rattle.abort_expansion_laws.proofs.Owed.{Enters, chart_enters, core_enters}
 
 module _ (k core : Table) (i : Images) (rows : CoreRows k core i) (tree : IsNested k) (counts : ℕ → Bool) (written_at : ℕ → ℕ)
     (Told : Configuration → Entry → Type 0)
+    (told_silent : (d : Configuration) (t : ℕ) (stage : Option (ℕ × ℕ)) (a : Access) → Told d (Silent t stage a))
+    (counters : CounterRows k core i rows counts written_at) (super_there : (q u : ℕ) → IsThere k q → Contains (around k q) u → IsState k u)
     (enters : Enters k core i rows tree counts written_at Told)
     (c d : Configuration) (related : Related k core i c d) (q s p : ℕ) (e : Effect) (stands : standing_of c q ≡ at.Acting s (e ∷ []) p)
-    (goes_not_over : is_final k (state_in k q p) ≡ false)
     (chart_first : BeginsAt q (state_at k (state_in k q p)).entered)
     (core_first : BeginsAt (i.thread_of q) (state_at core (i.entry_of (state_in k q p))).entered)
     (free : is_guarded k c (around k q) ≡ false)
@@ -60,11 +67,8 @@ module _ (k core : Table) (i : Images) (rows : CoreRows k core i) (tree : IsNest
   image : RegionImage k core i q
   image = rows.region q there
 
-  plain : counting (i.places_of q) p (e ∷ []) ≡ e ∷ []
-  plain = not_counting (i.places_of q) p (e ∷ []) (image.finals p thread.there ∙ goes_not_over)
-
-  core_stands : standing_of d (i.thread_of q) ≡ at.Acting thread.from (e ∷ []) (place_of (i.places_of q) p)
-  core_stands = thread.is ∙ ap (λ zs. at.Acting thread.from zs (place_of (i.places_of q) p)) plain
+  core_stands : standing_of d (i.thread_of q) ≡ at.Acting thread.from (e ∷ counting (i.places_of q) p []) (place_of (i.places_of q) p)
+  core_stands = thread.is ∙ ap (λ zs. at.Acting thread.from zs (place_of (i.places_of q) p)) (counting_first (i.places_of q) p e [])
 
   known_variable : (a : Variable) × (slice_get k.variables e.variable ≡ Some a)
   known_variable =
@@ -142,23 +146,33 @@ module _ (k core : Table) (i : Images) (rows : CoreRows k core i) (tree : IsNest
             omega (lt, related.values, arith);
       }
 
-  abbrev f : Configuration
-  f = core_enters k core i d written q p
+  -- ---- the thread makes the effect, and enters the target or counts down then
 
-  core_steps : step core (i.thread_of q) d ≡ Some f
-  core_steps =
+  steps_to : (rest : List Effect) (moves : List Move) → counting (i.places_of q) p [] ≡ rest →
+      acts core (i.thread_of q) thread.from rest (place_of (i.places_of q) p) ≡ moves →
+      step core (i.thread_of q) d ≡ Some (record { variables = written; regions = moved moves d.regions })
+  steps_to rest moves are goes_so =
       let unguarded : is_guarded core d (around core (i.thread_of q)) ≡ false = never_guarded k core i rows c d related (around core (i.thread_of q)) in
       let on_turn : is_enabled core d (i.thread_of q) ≡ true = rw (core_stands, unguarded) refl in
-      let moves : acts core (i.thread_of q) thread.from [] (place_of (i.places_of q) p) ≡ (state_at core (i.entry_of (state_in k q p))).entered =
-      ap (λ n. (state_at core n).entered) (image.places p thread.there) in
-      let one : effected core (i.thread_of q) thread.from e [] (place_of (i.places_of q) p) v
-      ≡ Some (record { write = Some (record { variable = e.variable; value = v }); moves = (state_at core (i.entry_of (state_in k q p))).entered }) =
-      rw (core_fits) (ap (λ ms. Some (record { write = Some (record { variable = e.variable; value = v }); moves = ms })) moves) in
+      let one : effected core (i.thread_of q) thread.from e rest (place_of (i.places_of q) p) v
+      ≡ Some (record { write = Some (record { variable = e.variable; value = v }); moves = moves }) =
+      rw (core_fits) (ap (λ ms. Some (record { write = Some (record { variable = e.variable; value = v }); moves = ms })) goes_so) in
       let does : deed_of core d (i.thread_of q) (standing_of d (i.thread_of q))
-      ≡ Some (record { write = Some (record { variable = e.variable; value = v }); moves = (state_at core (i.entry_of (state_in k q p))).entered }) =
-      ap (deed_of core d (i.thread_of q)) core_stands
-      ∙ (ap (option_and_then (effected core (i.thread_of q) thread.from e [] (place_of (i.places_of q) p))) core_is ∙ one) in
+      ≡ Some (record { write = Some (record { variable = e.variable; value = v }); moves = moves }) =
+      ap (deed_of core d (i.thread_of q)) (core_stands ∙ ap (λ zs. at.Acting thread.from (e ∷ zs) (place_of (i.places_of q) p)) are)
+      ∙ (ap (option_and_then (effected core (i.thread_of q) thread.from e rest (place_of (i.places_of q) p))) core_is ∙ one) in
       rw (on_turn, does) refl
+
+  enters_target : counting (i.places_of q) p [] ≡ [] → step core (i.thread_of q) d ≡ Some (core_enters k core i d written q p)
+  enters_target none =
+      steps_to [] (state_at core (i.entry_of (state_in k q p))).entered none (ap (λ n. (state_at core n).entered) (image.places p thread.there))
+
+  counts_still : (x : ℕ) → counting (i.places_of q) p [] ≡ count_down x ∷ [] → step core (i.thread_of q) d ≡ Some (record {
+    variables = written;
+    regions = slice_set d.regions (i.thread_of q) (at.Acting thread.from (count_down x ∷ []) (place_of (i.places_of q) p));
+  })
+  counts_still x some =
+      steps_to (count_down x ∷ []) (to (i.thread_of q) (at.Acting thread.from (count_down x ∷ []) (place_of (i.places_of q) p)) ∷ []) some refl
 
   related1 : Related k core i c1 d1
   related1 = goes_on k core i rows c d related q y z c1 d1 goes
@@ -171,10 +185,6 @@ module _ (k core : Table) (i : Images) (rows : CoreRows k core i) (tree : IsNest
       any_same (λ u. guards (standing_of c1 (holder k u))) (λ u. guards (standing_of c (holder k u))) (around k q)
       (λ u. (same_shape k core i rows c d related q y z c1 d1 goes).guards_alike (holder k u)) ∙ free
 
-  core_same : core_enters k core i d1 written q p ≡ f
-  core_same = ap (λ zs. record { variables = written; regions = zs }) (overwritten (i.thread_of q) (state_at core (i.entry_of (state_in k q p))).entered
-      core_first d.regions z)
-
   abbrev pub next : Configuration
   next = record { variables = slice_set c.variables e.variable v; regions = moved (state_at k (state_in k q p)).entered c.regions }
 
@@ -182,21 +192,23 @@ module _ (k core : Table) (i : Images) (rows : CoreRows k core i) (tree : IsNest
   chart_same = ap (λ zs. record { variables = slice_set c.variables e.variable v; regions = zs })
       (overwritten q (state_at k (state_in k q p)).entered chart_first c.regions y)
 
-  -- the last effect is made, and leads to no final state
+  abbrev act : Act
+  act = act_of (machine k) c q
+
+  into : Told d (Image q (access_of_assignment e.variable (assignment_of e.variable e.value))) →
+      GoesIn k core i rows tree counts written_at Told c d c1 d1 q p act
+  into told =
+      goes_in k core i rows tree counts written_at Told told_silent counters super_there c d q s p e there thread.there thread.from written enters_target
+      counts_still core_first c1 z related1 here1 free1 act
+      (λ f steps. image_to k core i rows tree counts written_at c d related q y z c1 d1
+      (access_of_assignment e.variable (assignment_of e.variable e.value)) move f steps Told told)
+
+  -- the last effect is made, and its target is entered
   pub last_effect : Told d (Image q (access_of_assignment e.variable (assignment_of e.variable e.value))) →
       Segment (machine core) (pair k core i rows tree counts written_at) Told d (Stage k i.thread_of c d) (Stage k i.thread_of next)
-      (act_of (machine k) c q ∷ []) (Related k core i next)
+      (act ∷ []) (Related k core i next)
   last_effect told =
-      let image_part = image_to k core i rows tree counts written_at c d related q y z c1 d1
-      (access_of_assignment e.variable (assignment_of e.variable e.value)) move f core_steps Told told in
-      let rest = enters c1 d1 related1 q s p e here1 free1 written (none_counted k core i (is_final k (state_in k q p)) (counter_over k core i (around k q))
-      written goes_not_over) in
+      let g = into told in
       subst (λ w. Segment (machine core) (pair k core i rows tree counts written_at) Told d (Stage k i.thread_of c d) (Stage k i.thread_of w)
-      (act_of (machine k) c q ∷ []) (Related k core i w)) chart_same
-      (segment_on (machine core) (pair k core i rows tree counts written_at) Told d (Stage k i.thread_of c d) (Stage k i.thread_of c1)
-      (Stage k i.thread_of (chart_enters k core i c1 q p)) (act_of (machine k) c q ∷ []) []
-      (λ w. w ≡ f) (Related k core i (chart_enters k core i c1 q p)) image_part
-      (subst (λ w. Segment (machine core) (pair k core i rows tree counts written_at) Told w (Stage k i.thread_of c1 w)
-      (Stage k i.thread_of (chart_enters k core i c1 q p)) [] (Related k core i (chart_enters k core i c1 q p)))
-      (core_same ∙ sym image_part.reaches)
-      (staged k core i rows tree counts written_at Told c1 d1 (chart_enters k core i c1 q p) (core_enters k core i d1 written q p) rest)))
+      (act ∷ []) (Related k core i w)) chart_same
+      (entered_after k core i rows tree counts written_at Told enters c d c1 d1 related1 q s p e here1 free1 g.values g.counted act g.part)

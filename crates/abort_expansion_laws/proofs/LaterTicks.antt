@@ -53,7 +53,7 @@ module _ (k core : Table) (i : Images) (rows : CoreRows k core i) (flat : FlatRo
   at_c : (r : ℕ) → standing_of c r ≡ woken k (standing_of before r)
   at_c r = starts.at_c k core i rows flat tree more_rows before core_before rests inputs r
 
-  never : (r : ℕ) → (s : ℕ) (tests : List Transition) → standing_of before r ≢ at.Guarding s tests
+  pub never : (r : ℕ) → (s : ℕ) (tests : List Transition) → standing_of before r ≢ at.Guarding s tests
   never r s tests e =
       starts.never_guards k core i rows flat tree more_rows before core_before rests inputs r (standing_of before r) _
       (rests.regions r (starts.there k core i rows flat tree more_rows before core_before rests inputs r

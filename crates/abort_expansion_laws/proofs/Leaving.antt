@@ -10,7 +10,8 @@ use Rattle.chart_machine.specs.declared.standing.Configuration.{Configuration}
 use Rattle.chart_machine.specs.declared.table.Table.{Table}
 use Rattle.chart_machine.specs.Table.{state_at}
 use Rattle.chart_machine.specs.Turns.{standing_of, has_ended, has_work, is_guarded, inside, is_enabled}
-use Rattle.chart_machine.specs.Steps.{to, moved, verdict, taken, deed_of, step, state_in}
+use Rattle.chart_machine.specs.Steps.{to, moved, acts, verdict, taken, deed_of, step, state_in}
+use Rattle.core_charts.specs.Tests.{is_join}
 use Rattle.tick_laws.proofs.Lists.{same_or_not}
 use Rattle.chart_machine_laws.proofs.LyingIn.{around, none_in, head_or_tail, head_in, tail_in}
 use Rattle.abort_expansion_laws.specs.CoreRows.{joins}
@@ -103,3 +104,18 @@ module _ (core : Table) where
       let all : step core q d ≡ Some (record { variables = d.variables; regions = moved (drops (inside core s) ++ to q x ∷ []) d.regions }) =
       rw (on, does) refl in
       all ∙ ap (λ zs. Some (record { variables = d.variables; regions = zs })) (moved_append (drops (inside core s)) (to q x ∷ []) d.regions)
+
+  -- a termination without a trigger is taken, when nobody is left inside
+  pub terminated : (d : Configuration) (q s : ℕ) (w : Transition) (rest : List Transition) → is_guarded core d (around core q) ≡ false →
+      standing_of d q ≡ at.Within s (w ∷ rest) → is_join w.kind ≡ true → w.trigger ≡ None →
+      list_all (λ r. has_ended (standing_of d r)) (state_at core s).regions ≡ true →
+      list_all (λ r. not (has_work core d (standing_of d r))) (inside core s) ≡ true →
+      step core q d ≡ Some (record { variables = d.variables; regions = moved (acts core q s w.effects w.target) (moved (drops (inside core s)) d.regions) })
+  terminated d q s w rest free stands join none ended idle =
+      let on : is_enabled core d q ≡ true = rw (stands, join, ended, free, idle) refl in
+      let true_there : verdict d.variables w.trigger ≡ Some true = ap (verdict d.variables) none in
+      let does : deed_of core d q (standing_of d q) ≡ Some (record { write = None; moves = taken core q s w }) =
+      ap (deed_of core d q) stands ∙ tested_is core d q s w (to q (at.Within s rest) ∷ []) true true_there in
+      let all : step core q d ≡ Some (record { variables = d.variables; regions = moved (taken core q s w) d.regions }) = rw (on, does) refl in
+      all ∙ ap (λ zs. Some (record { variables = d.variables; regions = zs })) (moved_append (drops (inside core s))
+      (acts core q s w.effects w.target) d.regions)

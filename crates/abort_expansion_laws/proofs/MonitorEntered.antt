@@ -94,5 +94,6 @@ module _ (k core : Table) (i : Images) (rows : CoreRows k core i) (flat : FlatRo
       subst (λ zs. Watches k core i o (at.Within o zs) (at.Trying (i.watching_of o) (at_once row))) tests_are
       (subst (λ zs. Watches k core i o (at.Within o (map (λ x. x.1) (kept (λ t. t.immediate) some) ++ terminations (own k o))) (at.Trying (i.watching_of o) zs))
       (sym once_row)
-      (waits (kept (λ t. t.immediate) some) (terminations (own k o)) (still_among (λ t. t.immediate) (weak_aborts (own k o)) some (all_among (weak_aborts (own k o))))
+      (waits (kept (λ t. t.immediate) some) (terminations (own k o))
+      (still_among (λ t. t.immediate) (weak_aborts (own k o)) some (all_among (weak_aborts (own k o))))
       (each_kept (λ t. is_join t.kind) (own k o))))

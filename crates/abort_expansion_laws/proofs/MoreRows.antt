@@ -238,6 +238,21 @@ module _ (c : Chart) (rules : IsChart features.Extended c) (core_rules : IsChart
           let denied : is_prepared (around_flags (holder k s)) (own k s) ≡ false = ap (is_prepared (around_flags (holder k s))) (none_past past) in
           let wrong : true ≡ false = sym certain ∙ denied in absurd cc
 
+  -- a termination is counted where there are aborts, or weak ones around
+  pub counter_given : (s : ℕ) → has_join (own k s) ≡ true → (has_aborts (own k s) || weak_around (around_flags (holder k s))) ≡ true →
+      (x : ℕ) × ((i.flags_of s).counter ≡ Some x)
+  counter_given s join some =
+      let counted : counts (weak_around (around_flags (holder k s))) (own k s) ≡ true = rw (join, some) refl in
+      let prepared : is_prepared (around_flags (holder k s)) (own k s) ≡ true = rw (counted) (either (has_aborts (own k s))) in
+      let flag = some_flag s prepared in
+      let fits : FlagsFit w s = whole.flag_from c rules core_rules s flag.0 flag.1 in
+      let n : ℕ = fits.first + one (has_strong (own k s)) + one (has_weak (own k s)) in
+      (n, ap (λ z. z.counter) fits.are ∙ ap (λ b. given b n) counted)
+    where
+      either : (a : Bool) → (a || true) ≡ true
+      either true = refl
+      either false = refl
+
   entry_alone : (s : ℕ) → is_prepared (around_flags (holder k s)) (own k s) ≡ true → inside core (i.entry_of s) ≡ []
   entry_alone s certain =
       let some = some_flag s certain in
@@ -300,14 +315,24 @@ module _ (c : Chart) (rules : IsChart features.Extended c) (core_rules : IsChart
       ap (λ z. is_it (i.flags_of z).strong x) (owned s x (inl e)) ∙ is_it_self (i.flags_of s).strong x e in
       rw (strong_counts s x e, is_strong) refl
 
+  weak_no_counter : (s x : ℕ) → (i.flags_of s).weak ≡ Some x → is_counter x ≡ false
+  weak_no_counter s x e =
+      ap (λ z. is_it (i.flags_of z).counter x) (owned s x (inr (inl e))) ∙
+      is_it_other (i.flags_of s).weak (i.flags_of s).counter x (flags_apart s).1.1 e
+
+  pub weak_at : (s x : ℕ) → (i.flags_of s).weak ≡ Some x → stage_of_write x ≡ 2
+  weak_at s x e =
+      let not_strong : is_it (i.flags_of (w.of_flag x)).strong x ≡ false =
+      ap (λ z. is_it (i.flags_of z).strong x) (owned s x (inr (inl e))) ∙
+      is_it_other (i.flags_of s).weak (i.flags_of s).strong x (apart_back (i.flags_of s).strong (i.flags_of s).weak (flags_apart s).0) e in
+      rw (weak_no_counter s x e, not_strong) refl
+
   pub counter_rows : CounterRows k core i rows is_counter stage_of_write
   counter_rows =
       record {
         counter_counts = counter_counts;
         strong_not = strong_counts;
-        weak_not = λ s x e.
-            ap (λ z. is_it (i.flags_of z).counter x) (owned s x (inr (inl e))) ∙
-            is_it_other (i.flags_of s).weak (i.flags_of s).counter x (flags_apart s).1.1 e;
+        weak_not = weak_no_counter;
         counter_of = λ s x e. whole.owner_is c rules core_rules x ∙ owned s x (inr (inr e));
         counter_at = λ s x e. let certain : is_counter x ≡ true = counter_counts s x e in rw (certain) refl;
         counter_kind = λ s x e. (opening_rows.flag_of s x (inr (inr e))).1.0;

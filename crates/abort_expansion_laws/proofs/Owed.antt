@@ -1,8 +1,10 @@
--- What is still owed, as statements: entering, the start and the end of a tick, and all steps of the chart.
+-- What a simulation of the chart's steps owes, as statements: entering, the start and the end of a tick. Of each expanded flat chart they
+-- hold: `Enters` (`TargetsEntered`), `Begins` (`TicksBegin`) and `Finishes` (`TicksFinish`). Of the steps between, `StepsFollowed` of
+-- `TickFollowed` does (`StepsByCase`).
 use Rattle.std.proofs.Common.{◌≡◌, ◌≢◌, ℕ, suc, Bool, true, false, Option, Some, List, [], ◌∷◌, ◌++◌, map, length, slice_set, Contains}
 use Rattle.sc_values.specs.declared.value.Value.{Value}
 use Rattle.sc_values.specs.Expr.{value as value_of}
-use Rattle.sc_values.specs.Runs.{act_of, IsOver}
+use Rattle.sc_values.specs.Runs.{IsOver}
 use Rattle.sc_graph.specs.Tick.{Inputs}
 use Rattle.core_charts.specs.declared.region.Effect.{Effect}
 use Rattle.core_charts.specs.declared.region.Transition.{Transition}
@@ -13,7 +15,7 @@ use Rattle.chart_machine.specs.declared.standing.Configuration.{Configuration}
 use Rattle.chart_machine.specs.declared.table.Table.{Table}
 use Rattle.chart_machine.specs.Table.{state_at}
 use Rattle.chart_machine.specs.Turns.{standing_of, is_guarded}
-use Rattle.chart_machine.specs.Steps.{moved, state_in, step}
+use Rattle.chart_machine.specs.Steps.{moved, state_in}
 use Rattle.chart_machine.specs.Machine.{machine, initial, start}
 use Rattle.abort_expansion.specs.Transitions.{count_down, led}
 use Rattle.abort_expansion.specs.Superstates.{stays}
@@ -95,16 +97,10 @@ module _ (k core : Table) (i : Images) where
         Segment (machine core) (pair k core i rows tree counts written_at) Told (core_enters d values r p)
         (Stage k i.thread_of c d) (Stage k i.thread_of (chart_enters c r p)) [] (Related k core i (chart_enters c r p))
 
-    -- the tick, and each step of the chart
+    -- the tick
     abbrev pub Begins : Type 0
     Begins = (c d : Configuration) → Started c d → Segment (machine core) (pair k core i rows tree counts written_at) Told d NoneReached
         (Stage k i.thread_of c) [] (Related k core i c)
-
-    abbrev pub Advances : Type 0
-    Advances =
-        (c d : Configuration) → Related k core i c d → (r : ℕ) (next : Configuration) → step k r c ≡ Some next →
-        Segment (machine core) (pair k core i rows tree counts written_at) Told d (Stage k i.thread_of c d) (Stage k i.thread_of next)
-        (act_of (machine k) c r ∷ []) (Related k core i next)
 
     abbrev pub Finishes : Type 0
     Finishes =

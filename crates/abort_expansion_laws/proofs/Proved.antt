@@ -26,18 +26,29 @@ pub use Rattle.abort_expansion_laws.proofs.StrongTestsQuiet.{quiet_kept, spares}
 pub use Rattle.abort_expansion_laws.proofs.InsideLeaves.{may_leave}
 pub use Rattle.abort_expansion_laws.proofs.FlagAccess.{put_access, raised_access, number_access}
 pub use Rattle.abort_expansion_laws.proofs.CoreSteps.{takes, writes_last}
-pub use Rattle.abort_expansion_laws.proofs.StrongAbort.{acting_on, related_after}
-pub use Rattle.abort_expansion_laws.proofs.Answering.{answered}
-pub use Rattle.abort_expansion_laws.proofs.StagesAfterAbort.{outer_stage, others_stay, reached_now}
-pub use Rattle.abort_expansion_laws.proofs.StrongTaken.{strong_followed}
+pub use Rattle.abort_expansion_laws.proofs.AbortNext.{AbortNext}
+pub use Rattle.abort_expansion_laws.proofs.Answering.{tests_fail, answered}
+pub use Rattle.abort_expansion_laws.proofs.AbortTaken.{answering_on, emptied}
+pub use Rattle.abort_expansion_laws.proofs.AbortAnswered.{related1, abort_followed}
+pub use Rattle.abort_expansion_laws.proofs.SuperstateLeft.{chart_takes}
+pub use Rattle.abort_expansion_laws.proofs.AbortFollowed.{with_effects, without_effects}
+pub use Rattle.abort_expansion_laws.proofs.StagesAfterDrop.{outer_stage, others_stay, reached_now}
+pub use Rattle.abort_expansion_laws.proofs.StrongTaken.{strong_followed, strong_entered}
+pub use Rattle.abort_expansion_laws.proofs.WeakLeaves.{idle_may_leave}
+pub use Rattle.abort_expansion_laws.proofs.WeakTaken.{weak_followed, weak_entered}
+pub use Rattle.abort_expansion_laws.proofs.TerminationNext.{core_over, child_thread_ended}
+pub use Rattle.abort_expansion_laws.proofs.TerminationImage.{image_step}
+pub use Rattle.abort_expansion_laws.proofs.StayingTerminates.{staying_terminates, staying_enters}
+pub use Rattle.abort_expansion_laws.proofs.TerminationJoins.{monitor_ends, joins_it, is_joined}
+pub use Rattle.abort_expansion_laws.proofs.SplitTerminates.{split_terminates, split_enters}
 pub use Rattle.abort_expansion_laws.proofs.WeakNotTaken.{not_taken_followed as weak_not_taken_followed}
 pub use Rattle.abort_expansion_laws.proofs.TestHolds.{holding_followed}
 pub use Rattle.abort_expansion_laws.proofs.AssignedVariables.{assigned_known}
 pub use Rattle.abort_expansion_laws.proofs.EffectFollowed.{effect_followed}
 pub use Rattle.abort_expansion_laws.proofs.EntryTestFails.{opening_on_followed}
-pub use Rattle.abort_expansion_laws.proofs.Owed.{Enters, Begins, Advances, Finishes}
+pub use Rattle.abort_expansion_laws.proofs.Owed.{Enters, Begins, Finishes}
 pub use Rattle.abort_expansion_laws.proofs.CoreOver.{over_too}
-pub use Rattle.abort_expansion_laws.proofs.EnteringSimple.{enters_simple}
+pub use Rattle.abort_expansion_laws.proofs.EnteringSimple.{simple_once, no_count}
 pub use Rattle.abort_expansion_laws.proofs.TakenAtOnce.{taken_on}
 pub use Rattle.abort_expansion_laws.proofs.LastEffect.{last_effect}
 pub use Rattle.abort_expansion_laws.proofs.SeenAlike.{seen_variables, seen_active}
@@ -92,10 +103,36 @@ pub use Rattle.abort_expansion_laws.proofs.FirstTickWaits.{first_sound, first_pe
 pub use Rattle.abort_expansion_laws.proofs.FirstTickBegins.{first_tick_begins, first_begun}
 pub use Rattle.abort_expansion_laws.proofs.TicksBegin.{ticks_begin}
 pub use Rattle.abort_expansion_laws.proofs.TargetEntered.{target_sort}
-pub use Rattle.abort_expansion_laws.proofs.TargetReached.{target_lives, target_reached}
-pub use Rattle.abort_expansion_laws.proofs.TargetWaits.{target_waits}
-pub use Rattle.abort_expansion_laws.proofs.TargetPending.{target_pending}
-pub use Rattle.abort_expansion_laws.proofs.TargetSound.{target_sound}
+pub use Rattle.abort_expansion_laws.proofs.ArrivedReached.{arrived_lives, arrived_reached}
+pub use Rattle.abort_expansion_laws.proofs.ArrivedWaits.{arrived_waits}
+pub use Rattle.abort_expansion_laws.proofs.ArrivedPending.{arrived_pending}
+pub use Rattle.abort_expansion_laws.proofs.ArrivedSound.{arrived_sound}
+pub use Rattle.abort_expansion_laws.proofs.ArrivedStages.{arrived_stages}
+pub use Rattle.abort_expansion_laws.proofs.TargetArrives.{target_arrives}
+pub use Rattle.abort_expansion_laws.proofs.EntryTestHolds.{entry_followed, entry_taken}
+pub use Rattle.abort_expansion_laws.proofs.EntryPassed.{entry_passed}
+pub use Rattle.abort_expansion_laws.proofs.OpenForks.{all_over, not_over, fork_of}
+pub use Rattle.abort_expansion_laws.proofs.ForkOver.{fork_over}
+pub use Rattle.abort_expansion_laws.proofs.StagesInside.{none_comes, stage_same}
+pub use Rattle.abort_expansion_laws.proofs.StagesEntered.{reached_then as entered_stages}
+pub use Rattle.abort_expansion_laws.proofs.FinalTarget.{final_sound}
+pub use Rattle.abort_expansion_laws.proofs.FinalTargetValues.{flag_stored, counter_stored}
+pub use Rattle.abort_expansion_laws.proofs.FinalTargetWaits.{final_waits}
+pub use Rattle.abort_expansion_laws.proofs.FinalTargetOver.{final_over}
+pub use Rattle.abort_expansion_laws.proofs.FinalTargetPending.{final_pending, final_stages}
+pub use Rattle.abort_expansion_laws.proofs.Entering.{enters}
+pub use Rattle.abort_expansion_laws.proofs.TargetsEntered.{targets_are_entered}
+pub use Rattle.abort_expansion_laws.proofs.MonitorsApart.{monitor_apart}
+pub use Rattle.abort_expansion_laws.proofs.DelayedBefore.{late_before, first_prompt}
+pub use Rattle.abort_expansion_laws.proofs.OwnTests.{owns_initially, owns_at_start, owns_still}
+pub use Rattle.abort_expansion_laws.proofs.TestTargets.{targets_there, ends_untested}
+pub use Rattle.abort_expansion_laws.proofs.QuietBegins.{monitors_stay_low, quiet_begins}
+pub use Rattle.abort_expansion_laws.proofs.QuietAtStart.{starts_low}
+pub use Rattle.abort_expansion_laws.proofs.TickFollowed.{tick_followed}
+pub use Rattle.abort_expansion_laws.proofs.TestsSpared.{tests_are_spared}
+pub use Rattle.abort_expansion_laws.proofs.PreemptionFollows.{preemption_follows}
+pub use Rattle.abort_expansion_laws.proofs.PreemptionKept.{preemption_kept}
+pub use Rattle.abort_expansion_laws.proofs.StepsByCase.{steps_followed, preemption_holds}
 
 pub checked : ◌≡◌ {A = ℕ} 0 0
 checked = refl

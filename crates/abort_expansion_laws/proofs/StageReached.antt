@@ -14,12 +14,12 @@ use Rattle.chart_machine.specs.declared.standing.Configuration.{Configuration}
 use Rattle.chart_machine.specs.declared.table.Table.{Table}
 use Rattle.chart_machine.specs.declared.table.RegionRow.{RegionRow}
 use Rattle.chart_machine.specs.Table.{state_at, region_at}
-use Rattle.chart_machine.specs.Turns.{standing_of, may_close, has_work, inside, numbered_from}
+use Rattle.chart_machine.specs.Turns.{standing_of, has_ended, may_close, has_work, inside, numbered_from}
 use Rattle.tick_laws.proofs.Lists.{same_or_not}
 use Rattle.chart_machine_laws.proofs.LyingIn.{around, holder, IsNested, none_in, head_or_tail, head_in, tail_in}
 use Rattle.abort_expansion_laws.proofs.TablesCorrespond.{IsThere}
 use Rattle.abort_expansion_laws.specs.CoreRows.{own, Images}
-use Rattle.abort_expansion_laws.proofs.Unchanged.{SameShape, all_ended_same}
+use Rattle.abort_expansion_laws.proofs.Unchanged.{SameShape, all_ended_by}
 pub use Rattle.abort_expansion_laws.specs.StageReached.{some_work, stage_of, Stage}
 
 -- ---- who is inside
@@ -131,31 +131,39 @@ pub either_rises : (a b b' w : Bool) → (b ≡ false → b' ≡ false) → (if 
 either_rises true b b' w calm = stage_rises b b' w calm
 either_rises false b b' w calm = omega arith
 
-module _ (k core : Table) (i : Images) (c d : Configuration) (same : SameShape c d) where
-  pub may_close_same : (s : ℕ) (tests : List Transition) → may_close k d s tests ≡ may_close k c s tests
-  may_close_same s [] = refl
-  may_close_same s (t ∷ tests) = rw (all_ended_same k core i c d same (state_at k s).regions) refl
+module _ (k : Table) (c d : Configuration) (ends : (q : ℕ) → has_ended (standing_of d q) ≡ has_ended (standing_of c q)) where
+  may_close_so : (s : ℕ) (tests : List Transition) → may_close k d s tests ≡ may_close k c s tests
+  may_close_so s [] = refl
+  may_close_so s (t ∷ tests) = rw (all_ended_by c d ends (state_at k s).regions) refl
 
-  pub has_work_same : (x : Standing) → has_work k d x ≡ has_work k c x
-  has_work_same at.Outside = refl
-  has_work_same at.Ended = refl
-  has_work_same (at.Trying s []) = refl
-  has_work_same (at.Trying s (t ∷ tests)) = refl
-  has_work_same (at.Entering s tests) = refl
-  has_work_same (at.Guarding s tests) = refl
-  has_work_same (at.Acting s effects target) = refl
-  has_work_same (at.Within s tests) = may_close_same s tests
+  pub has_work_so : (x : Standing) → has_work k d x ≡ has_work k c x
+  has_work_so at.Outside = refl
+  has_work_so at.Ended = refl
+  has_work_so (at.Trying s []) = refl
+  has_work_so (at.Trying s (t ∷ tests)) = refl
+  has_work_so (at.Entering s tests) = refl
+  has_work_so (at.Guarding s tests) = refl
+  has_work_so (at.Acting s effects target) = refl
+  has_work_so (at.Within s tests) = may_close_so s tests
 
   -- where a region with work steps, and no other one, no stage falls
-  pub stage_kept : (q : ℕ) → has_work k c (standing_of c q) ≡ true → ((r : ℕ) → r ≢ q → standing_of d r ≡ standing_of c r) → (x : Standing) →
+  pub stage_so : (q : ℕ) → has_work k c (standing_of c q) ≡ true → ((r : ℕ) → r ≢ q → standing_of d r ≡ standing_of c r) → (x : Standing) →
       stage_of k c x ≤ stage_of k d x
-  stage_kept q works alike at.Outside = omega arith
-  stage_kept q works alike at.Ended = omega arith
-  stage_kept q works alike (at.Trying s tests) = omega arith
-  stage_kept q works alike (at.Entering s tests) = omega arith
-  stage_kept q works alike (at.Guarding s tests) = omega arith
-  stage_kept q works alike (at.Acting s effects target) = omega arith
-  stage_kept q works alike (at.Within s tests) =
+  stage_so q works alike at.Outside = omega arith
+  stage_so q works alike at.Ended = omega arith
+  stage_so q works alike (at.Trying s tests) = omega arith
+  stage_so q works alike (at.Entering s tests) = omega arith
+  stage_so q works alike (at.Guarding s tests) = omega arith
+  stage_so q works alike (at.Acting s effects target) = omega arith
+  stage_so q works alike (at.Within s tests) =
       either_rises (has_aborts (own k s)) (some_work k c s) (some_work k d s) (list_any (λ t. is_weak t.kind) tests)
       (quiet_kept (λ r. has_work k c (standing_of c r)) (λ r. has_work k d (standing_of d r)) q works
-      (λ r ne. has_work_same (standing_of d r) ∙ ap (has_work k c) (alike r ne)) (inside k s))
+      (λ r ne. has_work_so (standing_of d r) ∙ ap (has_work k c) (alike r ne)) (inside k s))
+
+module _ (k core : Table) (i : Images) (c d : Configuration) (same : SameShape c d) where
+  pub has_work_same : (x : Standing) → has_work k d x ≡ has_work k c x
+  has_work_same x = has_work_so k c d same.ends x
+
+  pub stage_kept : (q : ℕ) → has_work k c (standing_of c q) ≡ true → ((r : ℕ) → r ≢ q → standing_of d r ≡ standing_of c r) → (x : Standing) →
+      stage_of k c x ≤ stage_of k d x
+  stage_kept q works alike x = stage_so k c d same.ends q works alike x

@@ -34,15 +34,16 @@ use Rattle.core_charts.specs.declared.region.Transition.{Transition}
 use Rattle.chart_machine.specs.declared.standing.Standing.TheVariants as at
 use Rattle.chart_machine.specs.declared.standing.Configuration.{Configuration}
 use Rattle.chart_machine.specs.declared.table.Table.{Table}
-use Rattle.chart_machine.specs.Turns.{LiesIn, itself, deeper, ForkedApart, holder_of, standing_of, is_enabled}
+use Rattle.chart_machine.specs.Turns.{LiesIn, itself, deeper, ForkedApart, standing_of, is_enabled}
 use Rattle.chart_machine.specs.Steps.{step, access_of}
 use Rattle.chart_lowering_laws.specs.Stands.{Followed, AtNode, Lowered}
-use Rattle.chart_machine_laws.proofs.LyingIn.{IsNested, LiesUnder, around, holder, none_in, head_or_tail, head_in, outwards, inwards}
-use Rattle.abort_expansion_laws.proofs.TablesCorrespond.{IsThere, contains_map}
+use Rattle.chart_machine_laws.proofs.LyingIn.{IsNested, LiesUnder, around, holder, none_in, head_or_tail, head_in, outwards}
+use Rattle.abort_expansion_laws.proofs.TablesCorrespond.{IsThere}
 use Rattle.abort_expansion_laws.specs.CoreRows.{Images, CoreRows}
+use Rattle.abort_expansion_laws.proofs.MonitorsApart.{ChildUnder, region_in, differs, monitor_apart}
 use Rattle.abort_expansion_laws.proofs.LowPriorities.{Under, LowUnder, low_under_kept, never_before}
 
-precedes_writes : (b a : Access) → Precedes b a → b.writes ≢ Nothing
+pub precedes_writes : (b a : Access) → Precedes b a → b.writes ≢ Nothing
 precedes_writes b a (init_update x f i u) e = let w = i.1 in absurd cc
 precedes_writes b a (init_read x i r) e = let w = i.1 in absurd cc
 precedes_writes b a (update_read x f u r) e = absurd cc
@@ -96,7 +97,7 @@ module _ (p : Program) (q : Tables) (valid : IsValid p q) where
             (λ a b x here edge. excuse top (status_of m u) a b x here edge) low.low;
       })
 
-  along : (Child : ℕ → Type 0) (r j top : ℕ) → ((k : ℕ) → Child k → parent_of p k ≡ Some r) → (run : List ℕ) (m last : Control) →
+  pub along : (Child : ℕ → Type 0) (r j top : ℕ) → ((k : ℕ) → Child k → parent_of p k ≡ Some r) → (run : List ℕ) (m last : Control) →
       ((u : ℕ) → Contains run u → u ≢ r) →
       replay (programs.machine p) run m ≡ Some last → StillLow Child r j top m → StillLow Child r j top last
   along Child r j top of_r [] m last others leads low = subst (StillLow Child r j top) (same_Some m last leads) low
@@ -186,42 +187,20 @@ module _ (k core : Table) (i : Images) (rows : CoreRows k core i) (tree : IsNest
       (λ up. below_parent p t (holder core s) u (lowered.parent t s ss e) (below_of ss (holder core s) u (sym (tree.upward t s ss e)) up))
       (outwards core tree t u s ss e lies)
 
-  -- the region of a superstate in which another one lies
-  pub record ChildUnder (t f : ℕ) : Type 0 where
-    pub child : ℕ
-    pub lies : LiesIn core t child
-    pub around_child : around core child ≡ f ∷ around core (holder core f)
-
-  child_under : (ss : List ℕ) (t f : ℕ) → around core t ≡ ss → Contains ss f → ChildUnder t f
-  child_under [] t f e h = absurd (none_in f h)
-  child_under (s ∷ ss) t f e h =
-      ⊎_elim
-      (λ same. record {
-        child = t;
-        lies = itself refl;
-        around_child = subst (λ z. around core t ≡ z ∷ around core (holder core z)) same (e ∙ ap (λ zs. s ∷ zs) (tree.upward t s ss e));
-      })
-      (λ tail.
-      let up : ChildUnder (holder core s) f = child_under ss (holder core s) f (sym (tree.upward t s ss e)) tail in
-      record { child = up.child; lies = inwards core tree t up.child s ss e up.lies; around_child = up.around_child }) (head_or_tail s f ss h)
-
-  -- what is told of a step that stands for one of a region: its turn has come, and each superstate around it is entered
+  -- what is told of a step that stands for one of a region: its turn has come, and where who holds a superstate around it
+  -- stands in one, it is that
   pub record ToldOf (d : Configuration) (u : ℕ) : Type 0 where
     pub enabled : is_enabled core d (i.thread_of u) ≡ true
-    pub enclosed : (s : ℕ) → Contains (around core (i.thread_of u)) s → (tests : List Transition) × (standing_of d (holder core s) ≡ at.Within s tests)
-
-  same_within : (s u : ℕ) (xs ys : List Transition) → at.Within s xs ≡ at.Within u ys → s ≡ u
-  same_within s u xs ys e = cc
+    pub enclosed : (s f : ℕ) (tests : List Transition) → Contains (around core (i.thread_of u)) s → standing_of d (holder core s) ≡ at.Within f tests → f ≡ s
 
   no_writes : (b : Access) → b ≡ no_access → b.writes ≢ Nothing → ⊥
   no_writes b e writes = writes (ap (λ z. z.writes) e)
 
-  pub spares : (there_core : (t : ℕ) (s : ℕ) (ss : List ℕ) → around core t ≡ s ∷ ss → IsThere core t) →
-      (depth_silent : (n m : ℕ) → step_at p n ≡ Some (steps.Depth m) → accesses p n ≡ no_access) →
+  pub spares : (depth_silent : (n m : ℕ) → step_at p n ≡ Some (steps.Depth m) → accesses p n ≡ no_access) →
       (r : ℕ) (a : Access) (d : Configuration) (u : ℕ) (b : Access) → IsQuiet r a d → LiesUnder k u r → ToldOf d u →
       b ≡ access_of (standing_of d (i.thread_of u)) → ¬ Precedes b a
-  spares there_core depth_silent r a d u b quiet (inr root) told acts first = let lt = quiet.there.0 in absurd (omega (root, lt, arith))
-  spares there_core depth_silent r a d u b quiet (inl (s, around_it, held)) told acts first =
+  spares depth_silent r a d u b quiet (inr root) told acts first = let lt = quiet.there.0 in absurd (omega (root, lt, arith))
+  spares depth_silent r a d u b quiet (inl (s, around_it, held)) told acts first =
       never_before p q valid quiet.tested quiet.raising n.node quiet.leads lower
       (record {
         first = t;
@@ -229,7 +208,12 @@ module _ (k core : Table) (i : Images) (rows : CoreRows k core i) (tree : IsNest
         first_owner = n.owned;
         second_owner = quiet.owned;
         concurrent =
-            record { forking = h; apart = lowered.apart t quiet.monitor h forked };
+            record {
+              forking = h;
+              apart = lowered.apart t quiet.monitor h
+                  (subst (λ w. ForkedApart core (i.thread_of u) quiet.monitor (i.thread_of w)) quiet.held
+                  (monitor_apart k core i rows tree quiet.superstate quiet.monitor monitor_around quiet.no_thread u in_f));
+            };
       })
       (subst (λ z. Precedes z (accesses p quiet.tested)) (acts ∙ sym n.does) (subst (Precedes b) (sym quiet.does) first))
     where
@@ -239,25 +223,24 @@ module _ (k core : Table) (i : Images) (rows : CoreRows k core i) (tree : IsNest
       h : ℕ
       h = i.thread_of r
 
-      f : ℕ
-      f = i.main_of quiet.superstate
-
       inner : Contains (around core (i.thread_of u)) (i.main_of s)
       inner = subst (λ zs. Contains zs (i.main_of s)) (sym (rows.encloses u)) (map_contains i.main_of (around k u) s around_it)
 
       -- the superstate of r around it is the one in which r stands
       is_f : i.main_of s ≡ i.main_of quiet.superstate
       is_f =
-          let entered = told.enclosed (i.main_of s) inner in
           let waiting = lowered.waits_back d quiet.control (i.thread_of r) (i.main_of quiet.superstate) quiet.stands quiet.waits in
-          same_within (i.main_of s) (i.main_of quiet.superstate) entered.0 waiting.0
-          (sym entered.1 ∙ (ap (standing_of d) (rows.held s ∙ ap i.thread_of held) ∙ waiting.1))
+          sym (told.enclosed (i.main_of s) (i.main_of quiet.superstate) waiting.0 inner
+          (ap (standing_of d) (rows.held s ∙ ap i.thread_of held) ∙ waiting.1))
 
       in_f : Contains (around core (i.thread_of u)) (i.main_of quiet.superstate)
       in_f = subst (Contains (around core (i.thread_of u))) is_f inner
 
-      c : ChildUnder (i.thread_of u) (i.main_of quiet.superstate)
-      c = child_under (around core (i.thread_of u)) (i.thread_of u) (i.main_of quiet.superstate) refl in_f
+      monitor_around : around core quiet.monitor ≡ i.main_of quiet.superstate ∷ around core (i.thread_of (holder k quiet.superstate))
+      monitor_around = quiet.around_monitor ∙ ap (λ w. i.main_of quiet.superstate ∷ around core (i.thread_of w)) (sym quiet.held)
+
+      c : ChildUnder core tree (i.thread_of u) (i.main_of quiet.superstate)
+      c = region_in k core i rows tree quiet.superstate quiet.monitor monitor_around quiet.no_thread u in_f
 
       f_held : holder core (i.main_of quiet.superstate) ≡ i.thread_of r
       f_held = rows.held quiet.superstate ∙ ap i.thread_of quiet.held
@@ -265,34 +248,8 @@ module _ (k core : Table) (i : Images) (rows : CoreRows k core i) (tree : IsNest
       c_around : around core c.child ≡ i.main_of quiet.superstate ∷ around core (i.thread_of r)
       c_around = c.around_child ∙ ap (λ z. i.main_of quiet.superstate ∷ around core z) f_held
 
-      -- nothing lies in a monitor
-      not_in_monitor : LiesIn core (i.thread_of u) quiet.monitor → ⊥
-      not_in_monitor (itself same) = quiet.no_thread u same
-      not_in_monitor (deeper v around_v held_v) =
-          let w = contains_map i.main_of (around k u) v (subst (λ zs. Contains zs v) (rows.encloses u) around_v) in
-          quiet.no_thread (holder k w.0) (sym (rows.held w.0) ∙ (ap (holder core) w.2 ∙ held_v))
-
-      differs : c.child ≢ quiet.monitor
-      differs e = not_in_monitor (subst (LiesIn core (i.thread_of u)) e c.lies)
-
-      forked : ForkedApart core (i.thread_of u) quiet.monitor (i.thread_of r)
-      forked =
-          record {
-            left = c.child;
-            right = quiet.monitor;
-            beside =
-                record {
-                  differ = differs;
-                  first = (there_core c.child (i.main_of quiet.superstate) (around core (i.thread_of r)) c_around).0;
-                  second = quiet.monitor_there.0;
-                  first_there = (there_core c.child (i.main_of quiet.superstate) (around core (i.thread_of r)) c_around).1;
-                  second_there = quiet.monitor_there.1;
-                  around = c_around ∙ sym quiet.around_monitor;
-                };
-            r_in = c.lies;
-            u_in = itself refl;
-            held = ap (holder_of core) c_around ∙ f_held;
-          }
+      own_side : c.child ≢ quiet.monitor
+      own_side = differs k core i rows tree quiet.superstate quiet.monitor monitor_around quiet.no_thread u in_f
 
       writes : (access_of (standing_of d (i.thread_of u))).writes ≢ Nothing
       writes = subst (λ z. z.writes ≢ Nothing) acts (precedes_writes b a first)
@@ -303,7 +260,7 @@ module _ (k core : Table) (i : Images) (rows : CoreRows k core i) (tree : IsNest
       under : Under p (Inner (i.thread_of r) quiet.monitor) (i.thread_of u)
       under = (
         c.child,
-        (lowered.parent c.child (i.main_of quiet.superstate) (around core (i.thread_of r)) c_around ∙ ap Some f_held, differs),
+        (lowered.parent c.child (i.main_of quiet.superstate) (around core (i.thread_of r)) c_around ∙ ap Some f_held, own_side),
         below_of (around core (i.thread_of u)) (i.thread_of u) c.child refl c.lies,
       )
 

@@ -20,6 +20,7 @@ use Rattle.abort_expansion_laws.specs.CoreRows.{own, IsState, is_final, IsSuper,
 use Rattle.abort_expansion_laws.specs.Related.{Related, Stands, outside, ended, left, trying, acting, entering, guarding, staying, within, behind, Watches}
 use Rattle.abort_expansion_laws.specs.Related.{guards, waits, elsewhere, IsInside, guarded, open_inside}
 use Rattle.abort_expansion_laws.proofs.TablesCorrespond.{contains_map}
+use Rattle.abort_expansion_laws.proofs.Unchanged.{nobody_lies}
 use Rattle.abort_expansion_laws.proofs.KnownVariables.{present_there}
 use Rattle.abort_expansion_laws.proofs.EffectFollowed.{IsActing, acting_back}
 use Rattle.abort_expansion_laws.proofs.Owed.{chart_enters, core_enters}
@@ -29,20 +30,10 @@ use Rattle.abort_expansion_laws.proofs.InitialPairs.{held_there}
 use Rattle.abort_expansion_laws.proofs.BeginningSorts.{comes_there, Sort, sort_of, not_both}
 use Rattle.abort_expansion_laws.proofs.JustEntered.{EntryRows}
 
--- whether somebody is there
-pub there_or_not : (x : Standing) → (x ≡ at.Outside) ⊎ (x ≢ at.Outside)
-there_or_not at.Outside = inl refl
-there_or_not at.Ended = inr (λ e. absurd cc)
-there_or_not (at.Trying s tests) = inr (λ e. absurd cc)
-there_or_not (at.Acting s effects p) = inr (λ e. absurd cc)
-there_or_not (at.Entering s tests) = inr (λ e. absurd cc)
-there_or_not (at.Guarding s tests) = inr (λ e. absurd cc)
-there_or_not (at.Within s tests) = inr (λ e. absurd cc)
-
 module _ (k core : Table) (i : Images) (more : EntryRows k core i) (c d : Configuration) (related : Related k core i c d) where
   -- ---- who is nowhere in the chart, is nowhere in the core
 
-  thread_out : (q : ℕ) (x y : Standing) → Stands k core i c q x y → x ≡ at.Outside → y ≡ at.Outside
+  pub thread_out : (q : ℕ) (x y : Standing) → Stands k core i c q x y → x ≡ at.Outside → y ≡ at.Outside
   thread_out q _ _ outside e = refl
   thread_out q _ _ (ended inner) e = absurd cc
   thread_out q _ _ (left s ss round over) e = absurd cc
@@ -62,15 +53,10 @@ module _ (k core : Table) (i : Images) (more : EntryRows k core i) (c d : Config
 
   -- nobody lies in a region that is in no superstate
   module _ (r : ℕ) (alone : (s : ℕ) → holder k s ≡ r → IsInside k core i s (standing_of c r) → ⊥) where
-    chart_none : (q s : ℕ) → Contains (around k q) s → holder k s ≡ r → standing_of c q ≡ at.Outside
-    chart_none q s inner held =
-        ⊎_elim (λ out. out)
-        (λ present.
-        absurd (alone s held
-        (subst (λ z. IsInside k core i s (standing_of c z)) held (related.enclosed q s (around_there k q s inner) present inner))))
-        (there_or_not (standing_of c q))
+    pub chart_none : (q s : ℕ) → Contains (around k q) s → holder k s ≡ r → standing_of c q ≡ at.Outside
+    chart_none q s inner held = nobody_lies k core i c d related r alone q s (around_there k q s inner) inner held
 
-    core_none : (t v : ℕ) → Contains (around core t) v → holder core v ≡ i.thread_of r → standing_of d t ≡ at.Outside
+    pub core_none : (t v : ℕ) → Contains (around core t) v → holder core v ≡ i.thread_of r → standing_of d t ≡ at.Outside
     core_none t v inner held = by_origin (more.rows.each t (around_there core t v inner))
       where
         -- v is the fork of a superstate around a region, which r holds
@@ -110,7 +96,7 @@ module _ (k core : Table) (i : Images) (more : EntryRows k core i) (c d : Config
 
   -- ---- a state that is not final: what stands for it is held by the thread
 
-  entry_held : (x : ℕ) → IsState k x → is_final k x ≡ false → holder core (i.entry_of x) ≡ i.thread_of (holder k x)
+  pub entry_held : (x : ℕ) → IsState k x → is_final k x ≡ false → holder core (i.entry_of x) ≡ i.thread_of (holder k x)
   entry_held x here open_ends = by_entry (more.entries x here)
     where
       of_super : IsSuper k x → holder core (i.entry_of x) ≡ i.thread_of (holder k x)
@@ -159,7 +145,7 @@ module _ (k core : Table) (i : Images) (more : EntryRows k core i) (c d : Config
     pub core_held : holder core (i.entry_of x) ≡ i.thread_of r
     core_held = entry_held x here open_ends ∙ ap i.thread_of held
 
-    in_none : (u : ℕ) → holder k u ≡ r → IsInside k core i u (standing_of c r) → ⊥
+    pub in_none : (u : ℕ) → holder k u ≡ r → IsInside k core i u (standing_of c r) → ⊥
     in_none u its inner = never (standing_of c r) inner stands
       where
         never : (z : Standing) → IsInside k core i u z → z ≡ at.Acting s (e ∷ []) p → ⊥

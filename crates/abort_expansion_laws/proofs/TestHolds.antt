@@ -1,5 +1,6 @@
 -- A test of a simple state that holds, with effects: region and thread go on with these.
-use Rattle.std.proofs.Common.{◌≡◌, ℕ, ◌<◌, Bool, true, false, Some, None, List, [], ◌∷◌, ◌++◌, map, length, slice_set, refl, sym, ap, subst, ◌∙◌, arith}
+use Rattle.std.proofs.Common.{◌≡◌, ℕ, ◌<◌, Bool, true, false, Some, None, List, [], ◌∷◌, ◌++◌, map, length, slice_get, slice_set, unwrap_or, refl, sym, ap}
+use Rattle.std.proofs.Common.{subst, ◌∙◌, arith, if◌then◌else◌}
 use Rattle.std.proofs.lemmas.Option.{same_Some}
 use Rattle.sc_values.specs.Runs.{act_of}
 use Rattle.core_charts.specs.declared.region.Effect.{Effect}
@@ -25,10 +26,17 @@ use Rattle.abort_expansion_laws.proofs.StageReached.{Stage}
 use Rattle.abort_expansion_laws.proofs.ImageSteps.{pair, ImageStep, image_segment}
 use Rattle.abort_expansion_laws.proofs.KnownVariables.{Stepped, stepped, present_there, trigger_known}
 use Rattle.chart_machine.specs.Turns.{inside}
-use Rattle.abort_expansion.specs.Transitions.{counting, place_of}
+use Rattle.abort_expansion.specs.declared.places.Places.{Places}
+use Rattle.abort_expansion.specs.Transitions.{on, count_down, counting, place_of}
 use Rattle.abort_expansion_laws.proofs.TestFails.{tested_is, IsTrying, trying_back, no_front, watch_other, trying_no_inside}
 use Rattle.abort_expansion_laws.proofs.CoreSteps.{takes}
-use Rattle.abort_expansion_laws.proofs.StrongTaken.{counting_first}
+
+pub counting_first : (places : Places) (target : ℕ) (e : Effect) (es : List Effect) → counting places target (e ∷ es) ≡ e ∷ counting places target es
+counting_first places target e es = by_case (unwrap_or (slice_get places.finals target) false) (on places.counter count_down)
+  where
+    by_case : (b : Bool) (more : List Effect) → (if b then (e ∷ es) ++ more else e ∷ es) ≡ e ∷ (if b then es ++ more else es)
+    by_case true more = refl
+    by_case false more = refl
 
 pub acting_no_inside : (k core : Table) (i : Images) (s u p : ℕ) (effects : List Effect) (x : Standing) → x ≡ at.Acting u effects p → IsInside k core i s x → ⊥
 acting_no_inside k core i s u p effects _ e (guarded others) = absurd cc

@@ -17,7 +17,7 @@ use Rattle.abort_expansion_laws.proofs.TablesCorrespond.{IsThere}
 use Rattle.abort_expansion_laws.specs.CoreRows.{own, IsState, Images, CoreRows}
 use Rattle.abort_expansion_laws.specs.Related.{IsCalm, calm_outside, calm_ended, calm_trying, calm_within, front, held_back, tests_of, is_behind, Stands}
 use Rattle.abort_expansion_laws.specs.Related.{outside, ended, left, trying, acting, entering, guarding, staying, within, behind, Watches}
-use Rattle.abort_expansion_laws.specs.Related.{guards as watch_guards, waits, elsewhere, Related}
+use Rattle.abort_expansion_laws.specs.Related.{guards as watch_guards, waits, elsewhere, IsInside, Related}
 
 -- ---- one region comes to stand elsewhere
 
@@ -45,38 +45,67 @@ pub record SameShape (c d : Configuration) : Type 0 where
   pub ends : (q : ℕ) → has_ended (standing_of d q) ≡ has_ended (standing_of c q)
   pub guards_alike : (q : ℕ) → guards (standing_of d q) ≡ guards (standing_of c q)
 
+pub all_ended_by : (c d : Configuration) → ((q : ℕ) → has_ended (standing_of d q) ≡ has_ended (standing_of c q)) → (rs : List ℕ) →
+    list_all (λ r. has_ended (standing_of d r)) rs ≡ list_all (λ r. has_ended (standing_of c r)) rs
+all_ended_by c d ends [] = refl
+all_ended_by c d ends (r ∷ rs) = rw (ends r, all_ended_by c d ends rs) refl
+
+-- where nobody comes to end or to guard around a region, its thread is given as before
+module _ (k core : Table) (i : Images) (c d : Configuration) (ends : (q : ℕ) → has_ended (standing_of d q) ≡ has_ended (standing_of c q)) where
+  over_same : (s : ℕ) → is_behind k core i d s ≡ is_behind k core i c s
+  over_same s = rw (all_ended_by c d ends (state_at k s).regions) refl
+
+  pub stands_so : (r : ℕ) → is_guarded k d (around k r) ≡ is_guarded k c (around k r) → (x y : Standing) → Stands k core i c r x y → Stands k core i d r x y
+  stands_so r guarded _ _ outside = outside
+  stands_so r guarded _ _ (ended inner) = ended (λ s ss e. over_same s ∙ inner s ss e)
+  stands_so r guarded _ _ (left s ss e over) = left s ss e (over_same s ∙ over)
+  stands_so r guarded _ _ (trying s tests simple held) =
+      subst (λ z. Stands k core i d r (at.Trying s tests) (at.Trying (i.main_of s) z)) tests_too (trying s tests simple held)
+    where
+      tests_too : tests_of k core i d r tests ≡ tests_of k core i c r tests
+      tests_too = rw (guarded) refl
+  stands_so r guarded _ _ (acting s u p e effects lt) = acting s u p e effects lt
+  stands_so r guarded _ _ (entering s fork t tests super held leads) = entering s fork t tests super held leads
+  stands_so r guarded _ _ (guarding s join t tests has held leads) = guarding s join t tests has held leads
+  stands_so r guarded _ _ (staying s tests super held stays) = staying s tests super held stays
+  stands_so r guarded _ _ (within s join tests super held stays open_still leads) = within s join tests super held stays (over_same s ∙ open_still) leads
+  stands_so r guarded _ _ (behind s tests super held over) =
+      subst (λ z. Stands k core i d r (at.Within s tests) (at.Trying (i.behind_of s) (z ++ held_back k core i r))) front_too
+      (behind s tests super held (over_same s ∙ over))
+    where
+      front_too : front k core i true d r ≡ front k core i true c r
+      front_too = rw (guarded) refl
+
 module _ (k core : Table) (i : Images) (c d : Configuration) (same : SameShape c d) where
   pub all_ended_same : (rs : List ℕ) → list_all (λ r. has_ended (standing_of d r)) rs ≡ list_all (λ r. has_ended (standing_of c r)) rs
-  all_ended_same [] = refl
-  all_ended_same (r ∷ rs) = rw (same.ends r, all_ended_same rs) refl
+  all_ended_same rs = all_ended_by c d same.ends rs
 
   pub guarded_same : (zs : List ℕ) → is_guarded k d zs ≡ is_guarded k c zs
   guarded_same [] = refl
   guarded_same (s ∷ zs) = rw (same.guards_alike (holder k s), guarded_same zs) refl
 
-  pub behind_same : (s : ℕ) → is_behind k core i d s ≡ is_behind k core i c s
-  behind_same s = rw (all_ended_same (state_at k s).regions) refl
-
-  pub front_same : (b : Bool) (r : ℕ) → front k core i b d r ≡ front k core i b c r
-  front_same b r = rw (guarded_same (around k r)) refl
-
-  pub tests_same : (r : ℕ) (tests : List Transition) → tests_of k core i d r tests ≡ tests_of k core i c r tests
-  tests_same r tests = rw (front_same false r) refl
-
   pub stands_kept : (r : ℕ) (x y : Standing) → Stands k core i c r x y → Stands k core i d r x y
-  stands_kept r _ _ outside = outside
-  stands_kept r _ _ (ended inner) = ended (λ s ss e. behind_same s ∙ inner s ss e)
-  stands_kept r _ _ (left s ss e over) = left s ss e (behind_same s ∙ over)
-  stands_kept r _ _ (trying s tests simple held) =
-      subst (λ z. Stands k core i d r (at.Trying s tests) (at.Trying (i.main_of s) z)) (tests_same r tests) (trying s tests simple held)
-  stands_kept r _ _ (acting s u p e effects lt) = acting s u p e effects lt
-  stands_kept r _ _ (entering s fork t tests super held leads) = entering s fork t tests super held leads
-  stands_kept r _ _ (guarding s join t tests has held leads) = guarding s join t tests has held leads
-  stands_kept r _ _ (staying s tests super held stays) = staying s tests super held stays
-  stands_kept r _ _ (within s join tests super held stays open_still leads) = within s join tests super held stays (behind_same s ∙ open_still) leads
-  stands_kept r _ _ (behind s tests super held over) =
-      subst (λ z. Stands k core i d r (at.Within s tests) (at.Trying (i.behind_of s) (z ++ held_back k core i r))) (front_same true r)
-      (behind s tests super held (behind_same s ∙ over))
+  stands_kept r x y stands = stands_so k core i c d same.ends r (guarded_same (around k r)) x y stands
+
+-- ---- who lies in a region where nobody is inside of anything
+
+-- whether somebody is there
+pub there_or_not : (x : Standing) → (x ≡ at.Outside) ⊎ (x ≢ at.Outside)
+there_or_not at.Outside = inl refl
+there_or_not at.Ended = inr (λ e. absurd cc)
+there_or_not (at.Trying s tests) = inr (λ e. absurd cc)
+there_or_not (at.Acting s effects p) = inr (λ e. absurd cc)
+there_or_not (at.Entering s tests) = inr (λ e. absurd cc)
+there_or_not (at.Guarding s tests) = inr (λ e. absurd cc)
+there_or_not (at.Within s tests) = inr (λ e. absurd cc)
+
+pub nobody_lies : (k core : Table) (i : Images) (c d : Configuration) → Related k core i c d → (r : ℕ) →
+    ((s : ℕ) → holder k s ≡ r → IsInside k core i s (standing_of c r) → ⊥) → (q s : ℕ) → IsThere k q → Contains (around k q) s → holder k s ≡ r →
+    standing_of c q ≡ at.Outside
+nobody_lies k core i c d related r bare q s there inner held =
+    ⊎_elim (λ out. out)
+    (λ present. absurd (bare s held (subst (λ z. IsInside k core i s (standing_of c z)) held (related.enclosed q s there present inner))))
+    (there_or_not (standing_of c q))
 
 -- ---- nobody in the core guards
 

@@ -11,7 +11,7 @@ use Rattle.chart_machine.specs.declared.standing.Configuration.{Configuration}
 use Rattle.chart_machine.specs.Table.{table}
 use Rattle.chart_machine.specs.Machine.{machine, initial, start, is_active}
 use Rattle.abort_expansion.specs.StateMap.{chart_state}
-use Rattle.abort_expansion.specs.Expansion.{expanded, state_map, IsExpandable}
+use Rattle.abort_expansion.specs.Expansion.{expanded, state_map}
 use Rattle.scl.specs.declared.program.Scl.{Scl}
 use Rattle.chart_lowering.specs.Lowering.{lowered}
 use Rattle.scl_graph.specs.Answers.{IsGraph}
@@ -41,8 +41,9 @@ pub record HasImage (c : Chart) : Type 0 where
   pub tables : Tables
   pub valid : IsValid program tables
 
--- each list of ends of a flat chart, over inputs that are accepted, has one of its core chart that is seen alike
+-- each list of ends of a flat chart, over inputs that are accepted, has one of its core chart that is seen alike, where that keeps the
+-- rules of core charts
 abbrev pub PreemptionIsKept : Type 0
 PreemptionIsKept =
-    (c : Chart) → IsChart features.Extended c → IsExpandable c → IsFlat c → (image : HasImage c) →
+    (c : Chart) → IsChart features.Extended c → IsChart features.Core (expanded c) → IsFlat c → (image : HasImage c) →
     Keeps (chart_machine c) (chart_machine (expanded c)) (AreAccepted image.program) (SeenAlike c)

@@ -19,7 +19,7 @@ use Rattle.chart_machine.specs.Steps.{state_in}
 use Rattle.abort_expansion.specs.declared.flags.Flags.{Flags}
 use Rattle.abort_expansion.specs.Flags.{has_join}
 use Rattle.abort_expansion.specs.Transitions.{put, go, place_of, counting, led, led_by, strong_checks, weak_checks, raising}
-use Rattle.abort_expansion.specs.Superstates.{stays, resets, all_ended}
+use Rattle.abort_expansion.specs.Superstates.{stays, is_prepared, resets, all_ended}
 use Rattle.chart_machine_laws.specs.Tree.{around, holder}
 use Rattle.chart_machine_laws.specs.Tree.{IsThere}
 use Rattle.abort_expansion_laws.specs.CoreRows.{own, IsState, IsSuper, IsSimple, joins, Images, flags_around}
@@ -83,7 +83,8 @@ module _ (k core : Table) (i : Images) where
     -- whichever state the transition comes from
     acting : (s u p : ℕ) (e : Effect) (effects : List Effect) → p < length (region_at k r).states →
         Stands c r (at.Acting s (e ∷ effects) p) (at.Acting u (counting (i.places_of r) p (e ∷ effects)) (place_of (i.places_of r) p))
-    entering : (s fork : ℕ) (t : Transition) (tests : List Transition) → IsSuper k s → holder k s ≡ r → state_in core (thread r) fork ≡ i.main_of s →
+    entering : (s fork : ℕ) (t : Transition) (tests : List Transition) → IsSuper k s × (is_prepared (flags_here r) (own k s) ≡ true) → holder k s ≡ r →
+        state_in core (thread r) fork ≡ i.main_of s →
         Stands c r (at.Entering s (t ∷ tests))
         (at.Trying (i.entry_of s) (map (λ z. led_by (i.places_of r) z.trigger z) (t ∷ tests) ++ go true None
         (resets (i.flags_of s) (length (state_at k s).regions)) fork ∷ []))

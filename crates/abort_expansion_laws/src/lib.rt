@@ -1,10 +1,11 @@
-//! The expansion of aborts keeps flat charts: the law, over the definitions alone, and how far its proof has come.
+//! The expansion of aborts keeps flat charts: the law, over the definitions alone.
 //!
-//! `specs/Preemption` says the law, and no function claims it yet. What stands, from records of what the core's table
-//! has for each region and state (`specs/CoreRows`), is listed in `proofs/Proved`; what is open, in `proofs/Owed`.
+//! `specs/Preemption` says the law. What it is proved of, from records of what the core's table has for each region and
+//! state (`specs/CoreRows`) on, is listed in `proofs/Proved`.
 #![tactic(auto)]
 
 ghost use Rattle.abort_expansion_laws.specs.Laws.{ExpandedChartsHaveRows, StagesKeepOrder};
+ghost use Rattle.abort_expansion_laws.specs.Preemption.{PreemptionIsKept};
 ghost use Rattle.abort_expansion_laws.specs.StateNames.{StatesAreMapped};
 
 /// A run of a core chart is admissible where the run of its chart is, if what belongs to a superstate with aborts is
@@ -25,4 +26,12 @@ pub fn states_are_mapped()
 /// contract is the law.
 pub fn expanded_charts_have_rows()
     ensures { ExpandedChartsHaveRows }
+{}
+
+/// A flat chart that has a valid image, and whose core chart keeps the rules of core charts, is kept by its core chart:
+/// each list of ends of the chart, one for each of a list of inputs that are accepted, has one of the core chart for the
+/// same inputs, in each of which the declared variables have the same values and the same states are active. This
+/// function does nothing; its contract is the law.
+pub fn preemption_is_kept()
+    ensures { PreemptionIsKept }
 {}

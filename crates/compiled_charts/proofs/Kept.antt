@@ -1,6 +1,6 @@
 -- The ticks of a compiled chart are the reactions of its chart.
-use Rattle.std.proofs.Common.{ℕ, zero, suc, ◌+◌, ◌≡◌, ◌<◌, ◌≤◌, false, Bool, Option}
-use Rattle.std.proofs.Common.{Some, None, List, [], ◌∷◌, map, length, slice_get, take, unwrap_or, if◌then◌else◌}
+use Rattle.std.proofs.Common.{ℕ, zero, suc, ◌≡◌, ◌<◌, Option}
+use Rattle.std.proofs.Common.{Some, List, [], ◌∷◌, length, slice_get, take}
 use Rattle.std.proofs.Common.{option_map, Result, Ok, Err, IfOk, refl, sym, ap, subst, ◌∙◌, arith}
 use Rattle.std.proofs.Math.Logic.{∥∥₁_map}
 use Rattle.std.proofs.lemmas.Option.{slice_get-map}
@@ -11,7 +11,9 @@ use Rattle.sc_graph.specs.Machine.{machine}
 use Rattle.sc_graph.specs.Program.{Program}
 use Rattle.sc_graph.specs.Tick.{Inputs, initial, start}
 use Rattle.sc_graph.specs.Valid.{IsValid}
+use Rattle.core_charts.specs.declared.features.Features.TheVariants as features
 use Rattle.core_charts.specs.Chart.{Chart}
+use Rattle.core_charts.specs.Rules.{IsChart}
 use Rattle.chart_machine.specs.declared.standing.Configuration.{Configuration}
 use Rattle.chart_machine.specs.Table.{table}
 use Rattle.chart_machine.specs.Machine as chart
@@ -25,20 +27,25 @@ use Rattle.chart_lowering_laws.specs.Laws.{IsLowering}
 use Rattle.chart_lowering_laws.specs.Marks.{layout}
 use Rattle.bytecode.specs.Image.{Image}
 use Rattle.compiler.specs.Charts.{IsImageOfChart}
-use Rattle.node_states.specs.Active.{active_states, is_active, numbers_where}
+use Rattle.node_states.specs.Active.{is_active, numbers_where}
 use Rattle.node_states.specs.Nodes.{state_of_node, state_count}
 use Rattle.node_states.specs.StandsFor.{past_core, stands_for}
 use Rattle.tick_core.specs.State.{threads_of}
 use Rattle.worker_pool.specs.Ticks.{IsTick}
 use Rattle.compiled_charts_laws.specs.Nodes.{StandForStates}
-use Rattle.compiled_charts_laws.specs.Reactions.{AllAccepted, GraphReacts, IsReactionOfChart, HasOneReaction}
+use Rattle.compiled_charts_laws.specs.Reactions.{AllAccepted, IsReactionOfChart, HasOneReaction}
 use Rattle.compiled_charts_laws.specs.Reactions.{AreSeenAlike as AreSeenAlikeBy}
 use Rattle.compiled_charts_laws.proofs.Plain.{expands_to_itself, stands_for_itself}
 use Rattle.compiled_charts_laws.proofs.Ticks.{one_reaction}
 use Rattle.compiled_charts_laws.proofs.Told.{as_many_states, nodes_stand}
+use Rattle.abort_expansion_laws.specs.Flat.{IsFlat}
+use Rattle.abort_expansion_laws.specs.Preemption.{HasImage}
+use Rattle.abort_expansion_laws.proofs.StepsByCase.{preemption_holds}
 use Rattle.compiled_charts.specs.Ticks.{AreTicks}
 use Rattle.compiled_charts.specs.Compiled.{CompiledChart}
-use Rattle.compiled_charts.specs.Kept.{AreSeenAlike, IsReactionSeen, ShowsReaction, ShowsItsReaction}
+use Rattle.compiled_charts.specs.Kept.{AreSeenAlike, Reacts, IsReactionSeen, ShowsItsReaction}
+use Rattle.compiled_charts.proofs.ActiveStates.{same_numbers}
+use Rattle.compiled_charts.proofs.FlatCharts.{flat_shown}
 
 -- ---- ticks
 
@@ -74,13 +81,6 @@ take_all [] zero h = refl
 take_all [] (suc n) h = absurd cc
 take_all (x ∷ xs) zero h = absurd cc
 take_all (x ∷ xs) (suc n) h = ap (λ ys. x ∷ ys) (take_all xs n (let one : suc (length xs) ≡ suc n = h in omega (arith, one)))
-
-same_numbers : (f g : ℕ → Bool) (from count : ℕ) → ((m : ℕ) → from ≤ m → m < from + count → f m ≡ g m) → numbers_where f from count ≡ numbers_where g from count
-same_numbers f g from zero each = refl
-same_numbers f g from (suc count) each =
-    ap (λ b. if b then from ∷ numbers_where f (suc from) count else numbers_where f (suc from) count) (each from (omega arith) (omega arith))
-    ∙ ap (λ xs. if g from then from ∷ xs else xs)
-    (same_numbers f g (suc from) count (λ m low high. each m (omega (arith, low)) (omega (arith, high))))
 
 module _ (c : Chart) (nodes : List (Option ℕ)) (states : ℕ) (many : states ≡ length (table c).states) where
   seen : (d : Configuration) (control : Control) → length control.variables ≡ length c.variables → AreSeenAlikeBy (table c) nodes d control →
@@ -165,6 +165,26 @@ module _ (c : Chart) (image : Image) (is : IsImageOfChart c image) (kept : Keeps
         subst (λ x. IsReactionSeen x (stands_for c) (state_count c) ticks controls) same
         (shows core (stands_for c) (state_count c) (sym many) image long (one (stands_for c) stand_too) ticks controls are)
 
+  -- where the chart is flat, it is kept by its core chart
+  has_image : HasImage c
+  has_image = record {
+    scl = is.scl;
+    declared = is.lowers.declared;
+    body = is.lowers.body;
+    program = image.program;
+    graph = is.image_of.graph;
+    tables = image.tables;
+    valid = is.image_of.valid;
+  }
+
+  kept_flat : IsChart features.Extended c → IsFlat c → (ends : List Configuration) → Reacts c ticks ends →
+      EachPair (AreSeenAlike c (stands_for c) (state_count c)) ends controls
+  unfolding has_image
+  kept_flat rules flat =
+      let r : AreReaction image ticks (initial image.program) controls = are_reaction image ticks (initial image.program) controls are in
+      flat_shown c rules image.program (preemption_holds c rules is.lowers.core flat has_image) ticks controls r.accepted
+      (λ ends reacts. (one (state_of_node core) own).each ticks ends controls r.accepted reacts r.reacts)
+
 pub shows_its_reaction : (x : CompiledChart) (ticks : List Inputs) (controls : List Control) → AreTicks x.image ticks (initial x.image.program) controls →
     ShowsItsReaction x ticks controls
 shows_its_reaction x ticks controls are c is = ∥∥₁_map is.image.lowers.rules (λ kept. record {
@@ -173,6 +193,10 @@ shows_its_reaction x ticks controls are c is = ∥∥₁_map is.image.lowers.rul
       subst (λ nodes. IsReactionSeen c nodes x.states ticks controls) (sym is.nodes)
       (subst (λ states. IsReactionSeen c (stands_for c) states ticks controls) (sym is.states)
       (chart_shown c x.image is.image kept ticks controls are (expands_to_itself c is.rules none) (stands_for_itself c is.rules none)));
+  flat = λ flat.
+      subst (λ nodes. (ends : List Configuration) → Reacts c ticks ends → EachPair (AreSeenAlike c nodes x.states) ends controls) (sym is.nodes)
+      (subst (λ states. (ends : List Configuration) → Reacts c ticks ends → EachPair (AreSeenAlike c (stands_for c) states) ends controls) (sym is.states)
+      (kept_flat c x.image is.image kept ticks controls are is.rules flat));
 })
 
 -- ticks that were run show it

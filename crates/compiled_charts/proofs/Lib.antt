@@ -1,3 +1,6 @@
 mod Marks
 mod Row
+mod StateTotals
+mod ActiveStates
+mod FlatCharts
 mod Kept

@@ -9,6 +9,7 @@ use Rattle.chart_machine.specs.declared.table.Table.{Table}
 use Rattle.chart_machine.specs.Table.{table}
 use Rattle.chart_machine.specs.Machine as chart
 use Rattle.abort_expansion.specs.Expansion.{expanded}
+use Rattle.abort_expansion_laws.specs.Flat.{IsFlat}
 use Rattle.chart_lowering_laws.specs.Keeps.{Reaction, EachPair}
 use Rattle.node_states.specs.Active.{active_states, numbers_where}
 use Rattle.node_states.specs.Nodes.{state_of_node}
@@ -32,10 +33,12 @@ pub record IsReactionSeen (c : Chart) (nodes : List (Option ℕ)) (states : ℕ)
   pub each : (ends : List Configuration) → Reacts c ticks ends → EachPair (AreSeenAlike c nodes states) ends controls
   pub some : (ends : List Configuration) × Reacts c ticks ends
 
--- the core chart's reaction is seen in these configurations, and where the chart has no aborts so is that of the chart
+-- the core chart's reaction is seen in these configurations, and where the chart has no aborts so is that of the chart. Of a
+-- flat chart each reaction that it has is seen in them
 pub record ShowsReaction (c : Chart) (x : CompiledChart) (ticks : List Inputs) (controls : List Control) : Type 0 where
   pub core : IsReactionSeen (expanded c) (state_of_node (expanded c)) (length (table (expanded c)).states) ticks controls
   pub without_aborts : chart_has_aborts c ≡ false → IsReactionSeen c x.nodes x.states ticks controls
+  pub flat : IsFlat c → (ends : List Configuration) → Reacts c ticks ends → EachPair (AreSeenAlike c x.nodes x.states) ends controls
 
 -- of whichever chart this was compiled
 abbrev pub ShowsItsReaction : CompiledChart → List Inputs → List Control → Type 0

@@ -7,6 +7,9 @@ pub mod Told
 mod Resting
 pub mod Ticks
 mod StepsFollowed
+pub mod LateTests
 pub mod Stands
+pub mod TestNodes
+pub mod TickStarts
 mod NumbersInRow
 pub mod Plain

@@ -1,6 +1,6 @@
 -- A core chart and the graph of its lowering stand alike through each step of the chart, and what follows of how they stand.
 use Rattle.std.proofs.Common.{◌≡◌, ◌≢◌, ℕ, zero, suc, ◌<◌, ◌⊎◌, inl, inr, ⊎_elim, Option, Some, None, List, [], ◌∷◌, length, slice_get, unwrap_or}
-use Rattle.std.proofs.Common.{option_map, Contains, refl, sym, ap, subst, ◌∙◌, arith}
+use Rattle.std.proofs.Common.{option_map, Contains, refl, sym, ap, subst, ◌∙◌, arith, Bool, true, false, nat_eq, eqb-true, if◌then◌else◌}
 use Rattle.std.proofs.lemmas.Option.{slice_get_within}
 use Rattle.sc_values.specs.declared.expression.Expr.{Expr}
 use Rattle.sc_values.specs.Access.{Access, Nothing, no_access}
@@ -15,6 +15,7 @@ use Rattle.sc_graph.specs.Accesses.{access_of as access_of_node}
 use Rattle.sc_graph.specs.Control.{status_of}
 use Rattle.sc_graph.specs.Threads as threads
 use Rattle.sc_graph.specs.Valid.{IsFormed}
+use Rattle.tick_laws.proofs.Lists.{slice_get_there}
 use Rattle.core_charts.specs.declared.region.Effect.{Effect}
 use Rattle.core_charts.specs.declared.region.Transition.{Transition}
 use Rattle.core_charts.specs.Chart.{Chart}
@@ -28,7 +29,7 @@ use Rattle.chart_machine.specs.Table.{table, state_at, region_at}
 use Rattle.chart_machine.specs.Turns.{standing_of}
 use Rattle.chart_machine.specs.Steps.{access_of, access_of_trigger, state_in}
 use Rattle.scl.specs.declared.program.Scl.{Scl}
-use Rattle.scl.specs.Block.{Block, End, Assign, Label, Goto, Pause, If, Fork}
+use Rattle.scl.specs.Block.{Block, End, Assign, Label, Goto, Pause, If, Fork, Branches}
 use Rattle.scl.specs.Places.{threads_of}
 use Rattle.scl.specs.Places as places
 use Rattle.scl.specs.Numbering.{Numbered, numbered}
@@ -40,7 +41,8 @@ use Rattle.scl_graph_laws.specs.Keeps.{Corresponds as StandsInGraph}
 use Rattle.scl_graph_laws.proofs.Texts.{program_mirrors}
 use Rattle.node_states.specs.Nodes.{state_of_node}
 use Rattle.chart_lowering_laws.specs.Layout.{Layout, IsSimple, IsFinal, IsSuper, LiesIn, IsRegionOf, Acts, Lowers}
-use Rattle.chart_lowering_laws.specs.Corresponds.{Live, HeldBy, IsAtRoot, Giving, Nothing as NotGiven, Ready, Turn, Past, given, fresh, first_standing, Fits}
+use Rattle.chart_lowering_laws.specs.Corresponds.{Live, HeldBy, IsAtRoot, Giving, Nothing as NotGiven, Ready, Turn, Past, given, giving, giving_in}
+use Rattle.chart_lowering_laws.specs.Corresponds.{fresh, first_standing, Fits}
 use Rattle.chart_lowering_laws.specs.Keeps.{KeepsSteps}
 use Rattle.chart_lowering_laws.specs.Laws.{IsLowering}
 use Rattle.chart_lowering_laws.specs.Marks.{layout}
@@ -51,6 +53,7 @@ use Rattle.chart_lowering_laws.proofs.Lowered.{chart_is_lowered}
 use Rattle.chart_lowering_laws.proofs.TicksKept.{keeps_runs}
 use Rattle.compiled_charts_laws.specs.Nodes.{StandForStates}
 use Rattle.compiled_charts_laws.specs.Stands.{StandAlike}
+use Rattle.compiled_charts_laws.proofs.LateTests.{is_late, late_has_turn}
 use Rattle.compiled_charts_laws.proofs.Told.{nodes_stand}
 use Rattle.compiled_charts_laws.proofs.StepsFollowed.{status_is, waits_forked, follow}
 
@@ -66,13 +69,13 @@ waits_at n j h = cc
 -- ---- who is apart in the text is so in the graph
 
 module _ (p : Numbered) (q : Program) (mirrors : Mirrors p q) where
-  owned : (n t : ℕ) (s : Step) → HasNode q n t s → owner_of q n ≡ Some t
+  pub owned : (n t : ℕ) (s : Step) → HasNode q n t s → owner_of q n ≡ Some t
   owned n t s has = ap (option_map (λ x. x.owner)) has.is
 
-  stepped : (n t : ℕ) (s : Step) → HasNode q n t s → step_at q n ≡ Some s
+  pub stepped : (n t : ℕ) (s : Step) → HasNode q n t s → step_at q n ≡ Some s
   stepped n t s has = ap (option_map (λ x. x.step)) has.is
 
-  node_access : (n t : ℕ) (s : Step) → HasNode q n t s → accesses q n ≡ access_of_node s
+  pub node_access : (n t : ℕ) (s : Step) → HasNode q n t s → accesses q n ≡ access_of_node s
   node_access n t s has = ap (λ o. unwrap_or (option_map access_of_node o) no_access) (stepped n t s has)
 
   descends : (n t a : ℕ) → places.Descends p.root n t a → threads.Descends q n t a
@@ -103,7 +106,7 @@ module _ (p : Numbered) (q : Program) (mirrors : Mirrors p q) where
 
 -- ---- the chart and its graph
 
-access_of_assigns : (x : ℕ) (a : Assignment) (next : ℕ) → access_of_node (assigns x a next) ≡ access_of_assignment x a
+pub access_of_assigns : (x : ℕ) (a : Assignment) (next : ℕ) → access_of_node (assigns x a next) ≡ access_of_assignment x a
 access_of_assigns x (Inits e) next = refl
 access_of_assigns x (Combines f e) next = refl
 
@@ -346,3 +349,76 @@ module _ (c : Chart) (p : Scl) (low : IsLowering c p) (formed : IsFormed (progra
     apart = λ t u a h. apart_too P G mirrors t u a (steps.back.apart t u a h);
     parent = parent;
   }
+
+  -- ---- while a region has its turn, the holder of the superstate around it waits at the join
+
+  holder_waits : (d : Configuration) (m : Control) (x : StandAlike K P L G d m) (s : ℕ) → s < length K.states →
+      giving_in s (standing_of d (state_at K s).holder) (doing x.state (state_at K s).holder) ≡ Turn →
+      status_of m (state_at K s).holder ≡ status.Waiting (stand_alike.join_of s)
+  unfolding stand_alike
+  holder_waits d m x s there = by_standing (standing_of d (state_at K s).holder) refl
+    where
+      h : ℕ
+      h = (state_at K s).holder
+
+      waits_in : (tests : List Transition) → standing_of d h ≡ stand.Within s tests → (n : ℕ) (branches : Branches) (rest : Block) →
+          doing x.state h ≡ Forked n branches rest → status_of m h ≡ status.Waiting (stand_alike.join_of s)
+      waits_in tests stands n branches rest is =
+          status_is P x.state m x.of_graph h ∙ (ap standing is ∙ ap status.Waiting (sym (joins (by_giving (given K d x.state (region_at K h).around)
+          (subst (λ z. Fits K P.root L h (given K d x.state (region_at K h).around) (standing_of d h) z) is
+          (x.of_chart.each h (lowers.tree.holders s there)))))))
+        where
+          by_giving : (g : Giving) → Fits K P.root L h g (standing_of d h) (Forked n branches rest) → L.fork s ≡ Fork n branches rest
+          by_giving NotGiven fits = let wrong : Forked n branches rest ≡ Away = fits.1 in absurd (cc)
+          by_giving Ready fits = let wrong : Forked n branches rest ≡ Away = fits.1 in absurd (cc)
+          by_giving Past fits = let wrong : Forked n branches rest ≡ Away = fits.1 in absurd (cc)
+          by_giving Turn fits = (subst (λ z. Live K P.root L h z (Forked n branches rest)) stands fits.0).1
+
+          joins : L.fork s ≡ Fork n branches rest → stand_alike.join_of s ≡ suc n
+          joins is_fork = by (slice_get K.states s) refl
+            where
+              by : (o : Option StateRow) → slice_get K.states s ≡ o → join_in o s ≡ suc n
+              by None none = absurd (let past = slice_get_there K.states s there in let wrong : Some past.0 ≡ None = sym past.1 ∙ none in cc)
+              by (Some r) some = ap join_at is_fork
+
+      by_standing : (z : Standing) → standing_of d h ≡ z → giving_in s z (doing x.state h) ≡ Turn → status_of m h ≡ status.Waiting (stand_alike.join_of s)
+      by_standing (stand.Within u tests) stands turn = by_number (nat_eq u s) refl turn
+        where
+          by_doing : u ≡ s → (y : Doing) → doing x.state h ≡ y → giving y ≡ Turn → status_of m h ≡ status.Waiting (stand_alike.join_of s)
+          by_doing same (Forked n branches rest) is gives =
+              waits_in tests (stands ∙ ap (λ v. stand.Within v tests) same) n branches rest is
+          by_doing same Away is gives = absurd (cc)
+          by_doing same (Todo (Fork n branches rest)) is gives = absurd (cc)
+          by_doing same (Todo (End n)) is gives = absurd (cc)
+          by_doing same (Todo (Assign n v e rest)) is gives = absurd (cc)
+          by_doing same (Todo (Label name rest)) is gives = absurd (cc)
+          by_doing same (Todo (Goto n name rest)) is gives = absurd (cc)
+          by_doing same (Todo (Pause n rest)) is gives = absurd (cc)
+          by_doing same (Todo (If n e a b rest)) is gives = absurd (cc)
+          by_doing same (Resting n rest) is gives = absurd (cc)
+          by_doing same (Resuming n rest) is gives = absurd (cc)
+          by_doing same Finished is gives = absurd (cc)
+
+          by_number : (b : Bool) → nat_eq u s ≡ b → (if b then giving (doing x.state h) else NotGiven) ≡ Turn →
+              status_of m h ≡ status.Waiting (stand_alike.join_of s)
+          by_number true same gives = by_doing (eqb-true u s same) (doing x.state h) refl gives
+          by_number false other gives = absurd (cc)
+      by_standing stand.Outside stands turn = absurd (cc)
+      by_standing stand.Ended stands turn = absurd (cc)
+      by_standing (stand.Trying u tests) stands turn = absurd (cc)
+      by_standing (stand.Entering u tests) stands turn = absurd (cc)
+      by_standing (stand.Guarding u tests) stands turn = absurd (cc)
+      by_standing (stand.Acting u effects place) stands turn = absurd (cc)
+
+  -- so it does where a delayed test is still to be made
+  pub waits_there : (d : Configuration) (m : Control) (g s : ℕ) (ss : List ℕ) → Alike d m → (region_at K g).around ≡ s ∷ ss →
+      is_late (standing_of d g) ≡ true → status_of m (state_at K s).holder ≡ status.Waiting (stand_alike.join_of s)
+  waits_there d m g s ss x round late =
+      holder_waits d m x s lies (ap (given K d x.state) (sym round) ∙ late_has_turn K P L lowers d x.state x.of_chart g late)
+    where
+      lies : s < length K.states
+      lies =
+          ⊎_elim (λ top. absurd (no_item s ss (sym top.1 ∙ round)))
+          (λ (u : (v : ℕ) × LiesIn K g v).
+          subst (λ v. v < length K.states) (heads u.0 s (region_at K (state_at K u.0).holder).around ss (sym u.1.around ∙ round)) u.1.there)
+          (lowers.tree.each g (region_of K P L d x.state x.of_chart g (λ out. let wrong : true ≡ false = sym late ∙ ap is_late out in absurd (cc))))

@@ -56,13 +56,13 @@ module _ (c : Chart) (p : Scl) (q : Tables) (low : IsLowering c p) (valid : IsVa
   nodes = program_keeps_runs p low.rules low.no_loop
 
   -- between two ticks: a configuration of the text stands between the two
-  record Between (d : Configuration) (e : Control) : Type 0 where
-    state : State
-    alike : AtRest K P L d state
-    corresponds : Corresponds P state e
-    rests : Rests G e
+  pub record Between (d : Configuration) (e : Control) : Type 0 where
+    pub state : State
+    pub alike : AtRest K P L d state
+    pub corresponds : Corresponds P state e
+    pub rests : Rests G e
 
-  begins : Between (chart.initial K) (graph_tick.initial G)
+  pub begins : Between (chart.initial K) (graph_tick.initial G)
   begins = record { state = text.initial P; alike = lowering.begins; corresponds = nodes.begins; rests = rests-initial G }
 
   seen : (d : Configuration) (e : Control) → Between d e → AreSeenAlike K row d e
@@ -83,20 +83,35 @@ module _ (c : Chart) (p : Scl) (q : Tables) (low : IsLowering c p) (valid : IsVa
     end_rests : (f : Control) → Ends (graph.machine G) (graph_tick.start G inputs e) f → Rests G f
     end_rests f ends = subst (Rests G) (sym (is_end f ends)) one.exists.rests
 
-  goes_on : (inputs : Inputs) → AreAccepted G inputs → (d : Configuration) (e : Control) → Between d e → (d' : Configuration) (e' : Control) →
-      Ends (chart.machine K) (chart.start K inputs d) d' → Ends (graph.machine G) (graph_tick.start G inputs e) e' → Between d' e'
-  goes_on inputs accepted d e x d' e' ends ends_too =
+  -- an end of the graph, and what stands between
+  pub record GoesTo (inputs : Inputs) (e : Control) (d' : Configuration) : Type 0 where
+    pub end : Control
+    pub ends : Ends (graph.machine G) (graph_tick.start G inputs e) end
+    pub between : Between d' end
+
+  pub goes_to : (inputs : Inputs) → AreAccepted G inputs → (d : Configuration) (e : Control) → Between d e → (d' : Configuration) →
+      Ends (chart.machine K) (chart.start K inputs d) d' → GoesTo inputs e d'
+  goes_to inputs accepted d e x d' ends =
       let in_text : EndsAlike (text.machine P) Configuration (AtRest K P L) d' (text.start P inputs x.state) = lowering.ends inputs d x.state d' x.alike ends in
       let in_graph : EndsAlike (graph.machine G) State (Corresponds P) in_text.end (graph_tick.start G inputs e) =
       nodes.goes_on.ends (text.start P inputs x.state) (graph_tick.start G inputs e) in_text.end (nodes.starts inputs x.state e accepted x.corresponds)
       in_text.is_end in
-      let same : in_graph.end ≡ e' = is_end inputs accepted e x.rests in_graph.end in_graph.is_end ∙ sym (is_end inputs accepted e x.rests e' ends_too) in
       record {
-        state = in_text.end;
-        alike = in_text.corresponds;
-        corresponds = subst (Corresponds P in_text.end) same in_graph.corresponds;
-        rests = end_rests inputs accepted e x.rests e' ends_too;
+        end = in_graph.end;
+        ends = in_graph.is_end;
+        between = record {
+          state = in_text.end;
+          alike = in_text.corresponds;
+          corresponds = in_graph.corresponds;
+          rests = end_rests inputs accepted e x.rests in_graph.end in_graph.is_end;
+        };
       }
+
+  goes_on : (inputs : Inputs) → AreAccepted G inputs → (d : Configuration) (e : Control) → Between d e → (d' : Configuration) (e' : Control) →
+      Ends (chart.machine K) (chart.start K inputs d) d' → Ends (graph.machine G) (graph_tick.start G inputs e) e' → Between d' e'
+  goes_on inputs accepted d e x d' e' ends ends_too =
+      let to : GoesTo inputs e d' = goes_to inputs accepted d e x d' ends in
+      subst (Between d') (is_end inputs accepted e x.rests to.end to.ends ∙ sym (is_end inputs accepted e x.rests e' ends_too)) to.between
 
   -- an end of the chart, and what stands between
   record ComesFrom (inputs : Inputs) (d : Configuration) (e' : Control) : Type 0 where

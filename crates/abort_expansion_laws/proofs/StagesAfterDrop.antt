@@ -1,4 +1,4 @@
--- Which stages may be reached after a superstate with aborts was left, and all inside it dropped.
+-- Which stages may be reached after a superstate was left, and all inside it dropped.
 use Rattle.std.proofs.Common.{◌≡◌, ◌≢◌, ℕ, ◌≤◌, ◌⊎◌, inl, inr, ⊎_elim, Bool, true, false, ◌||◌, List, [], ◌∷◌, Contains, refl, sym, ap, subst, ◌∙◌, arith}
 use Rattle.std.specs.List.{list_any}
 use Rattle.core_charts.specs.declared.region.Transition.{Transition}
@@ -14,57 +14,39 @@ use Rattle.tick_laws.proofs.Lists.{same_or_not, contained}
 use Rattle.chart_machine_laws.proofs.LyingIn.{IsNested, LiesUnder, around, holder, head_in, tail_in, around_around}
 use Rattle.abort_expansion_laws.proofs.TablesCorrespond.{IsThere}
 use Rattle.abort_expansion_laws.specs.CoreRows.{own, Images, CoreRows}
-use Rattle.abort_expansion_laws.specs.Related.{IsCalm, Stands, outside, ended, left, trying, acting, entering, guarding, staying, within, behind, IsInside}
+use Rattle.abort_expansion_laws.specs.Related.{Stands, outside, ended, left, trying, acting, entering, guarding, staying, within, behind, IsInside}
 use Rattle.abort_expansion_laws.specs.Related.{guarded, open_inside, Related}
-use Rattle.abort_expansion_laws.proofs.StageReached.{some_work, stage_of, Stage, none_of, holds_other, either_rises}
-use Rattle.abort_expansion_laws.proofs.InsideLeaves.{FlatRows, true_or_false}
+use Rattle.abort_expansion_laws.proofs.StageReached.{some_work, stage_of, Stage, any_in, none_of, inside_in, holds_other, either_rises}
+use Rattle.abort_expansion_laws.proofs.StageReached.{one_at_least, one_at_most}
 use Rattle.abort_expansion_laws.proofs.AllLeave.{inside_around}
 use Rattle.abort_expansion_laws.proofs.KnownVariables.{present_there}
 use Rattle.abort_expansion_laws.proofs.DropsOut.{all_alike}
 use Rattle.chart_machine_laws.proofs.ChartTables.{around_there}
+use Rattle.abort_expansion_laws.proofs.AfterOpening.{one_in_other}
 
 neither_of : (b c : Bool) → (b || c) ≡ false → (b ≡ false) × (c ≡ false)
 neither_of true c e = absurd cc
 neither_of false c e = (refl, e)
 
-module _ (k core : Table) (i : Images) (rows : CoreRows k core i) (more : FlatRows k core i) (tree : IsNested k)
+module _ (k core : Table) (i : Images) (rows : CoreRows k core i) (tree : IsNested k)
     (children : (s r : ℕ) → Contains (state_at k s).regions r → around k r ≡ s ∷ around k (holder k s))
-    (c d : Configuration) (related : Related k core i c d) (r o : ℕ) (there : IsThere k r) (has : has_aborts (own k o) ≡ true) (held : holder k o ≡ r)
-    (inside_o : IsInside k core i o (standing_of c r)) (free : is_guarded k c (around k r) ≡ false)
-    (calm : (q : ℕ) → Contains (around k q) o → IsCalm (standing_of c q))
-    (next : Configuration) (here : stage_of k next (standing_of next r) ≡ 1) (r_ends : has_ended (standing_of next r) ≡ has_ended (standing_of c r))
+    (c d : Configuration) (related : Related k core i c d) (r o : ℕ) (there : IsThere k r) (held : holder k o ≡ r)
+    (present : standing_of c r ≢ at.Outside) (works : has_work k c (standing_of c r) ≡ true) (free : is_guarded k c (around k r) ≡ false)
+    (inside_low : (q : ℕ) → IsThere k q → Contains (around k q) o → stage_of k c (standing_of c q) ≤ 1)
+    (next : Configuration) (here : stage_of k next (standing_of next r) ≡ 1)
     (gone : (q : ℕ) → IsThere k q → Contains (around k q) o → standing_of next q ≡ at.Outside)
     (same : (q : ℕ) → q ≢ r → ¬ Contains (around k q) o → standing_of next q ≡ standing_of c q) where
   abbrev In : ℕ → Type 0
   In q = Contains (around k q) o
 
-  -- no superstate around r has aborts
-  around_r : (s : ℕ) → Contains (around k r) s → has_aborts (own k s) ≡ false
-  around_r s h =
-      ⊎_elim
-      (λ e. let none : has_aborts (own k o) ≡ false = more.flat_held s o e (subst (λ p. Contains (around k p) s) (sym held) h) in let wrong : true ≡ false =
-      sym has ∙ none in absurd cc)
-      (λ e. e) (true_or_false (has_aborts (own k s)))
-
   r_out : ¬ In r
   r_out h = holds_other k tree r o h held
 
-  r_present : standing_of c r ≢ at.Outside
-  r_present e = by_standing (standing_of c r) inside_o e
-    where
-      by_standing : (w : Standing) → IsInside k core i o w → w ≡ at.Outside → ⊥
-      by_standing _ (guarded tests) e = absurd cc
-      by_standing _ (open_inside tests) e = absurd cc
-
   -- ---- the regions that hold what is around r
-
-  one_stage : (s : ℕ) (w : Standing) (f : Configuration) → has_aborts (own k s) ≡ false → IsInside k core i s w → guards w ≡ false → stage_of k f w ≡ 1
-  one_stage s _ f none (guarded tests) e = absurd cc
-  one_stage s _ f none (open_inside tests) e = rw (none) refl
 
   module _ (s : ℕ) (around_it : Contains (around k r) s) where
     stands_inside : IsInside k core i s (standing_of c (holder k s))
-    stands_inside = related.enclosed r s there r_present around_it
+    stands_inside = related.enclosed r s there present around_it
 
     not_guarding : guards (standing_of c (holder k s)) ≡ false
     not_guarding = none_of (λ v. guards (standing_of c (holder k v))) (around k r) s free around_it
@@ -79,11 +61,22 @@ module _ (k core : Table) (i : Images) (rows : CoreRows k core i) (more : FlatRo
     holder_same : standing_of next (holder k s) ≡ standing_of c (holder k s)
     holder_same = same (holder k s) (holds_other k tree r s around_it) (λ h. r_out (around_around k tree (around k r) r s o refl around_it h))
 
-    low : stage_of k c (standing_of c (holder k s)) ≡ 1
-    low = one_stage s (standing_of c (holder k s)) c (around_r s around_it) stands_inside not_guarding
+    busy : some_work k c s ≡ true
+    busy = any_in (λ q. has_work k c (standing_of c q)) (inside k s) r (inside_in k s r there around_it) works
 
-    high : stage_of k next (standing_of next (holder k s)) ≡ 1
-    high = ap (stage_of k next) holder_same ∙ one_stage s (standing_of c (holder k s)) next (around_r s around_it) stands_inside not_guarding
+    low_at : (w : Standing) → IsInside k core i s w → stage_of k c w ≤ 1
+    low_at _ (guarded tests) = omega arith
+    low_at _ (open_inside tests) = rw (busy) (one_at_most (has_aborts (own k s)))
+
+    high_at : (w : Standing) → IsInside k core i s w → guards w ≡ false → 1 ≤ stage_of k next w
+    high_at _ (guarded tests) e = absurd cc
+    high_at _ (open_inside tests) e = one_at_least (has_aborts (own k s)) (some_work k next s) (list_any (λ t. is_weak t.kind) tests)
+
+    low : stage_of k c (standing_of c (holder k s)) ≤ 1
+    low = low_at (standing_of c (holder k s)) stands_inside
+
+    high : 1 ≤ stage_of k next (standing_of next (holder k s))
+    high = subst (λ w. 1 ≤ stage_of k next w) (sym holder_same) (high_at (standing_of c (holder k s)) stands_inside not_guarding)
 
   pub outer_stage : (b : ℕ) → LiesUnder k r b → (i.thread_of b ≢ i.thread_of r) ×
       (((u : ℕ) → Stage k i.thread_of c d (i.thread_of b) u → u ≤ 1) × Stage k i.thread_of next d (i.thread_of b) 1)
@@ -106,37 +99,43 @@ module _ (k core : Table) (i : Images) (rows : CoreRows k core i) (more : FlatRo
       record {
         regions = λ q q_there e.
             let is : holder k s.0 ≡ q = s.2 ∙ rows.region_once b q e in
-            let m : stage_of k next (standing_of next q) ≡ 1 = subst (λ p. stage_of k next (standing_of next p) ≡ 1) is (high s.0 s.1) in omega (m, arith);
+            subst (λ p. 1 ≤ stage_of k next (standing_of next p)) is (high s.0 s.1);
         chart = λ e. omega arith;
       },
     ),
   )
 
+  -- r goes on, so no stage but 1 is reached there
+  pub outer_low : has_work k next (standing_of next r) ≡ true → (b : ℕ) → LiesUnder k r b → (n : ℕ) → Stage k i.thread_of next d (i.thread_of b) n → n ≤ 1
+  outer_low works_on b (inr root) n before = before.chart (ap i.thread_of root)
+  outer_low works_on b (inl s) n before =
+      let le = before.regions (holder k s.0) (holder_there s.0 s.1) (ap i.thread_of (sym s.2)) in
+      let one : stage_of k next (standing_of next (holder k s.0)) ≤ 1 =
+      subst (λ w. stage_of k next w ≤ 1) (sym (holder_same s.0 s.1)) (low_then (standing_of c (holder k s.0)) (stands_inside s.0 s.1)) in
+      omega (le, one, arith)
+    where
+      busy_then : some_work k next s.0 ≡ true
+      busy_then = any_in (λ q. has_work k next (standing_of next q)) (inside k s.0) r (inside_in k s.0 r there s.1) works_on
+
+      low_then : (w : Standing) → IsInside k core i s.0 w → stage_of k next w ≤ 1
+      low_then _ (guarded tests) = omega arith
+      low_then _ (open_inside tests) = rw (busy_then) (one_at_most (has_aborts (own k s.0)))
+
   -- ---- the others
 
-  -- inside of o there is no stage but 1
-  inside_low : (q : ℕ) → In q → (w y : Standing) → Stands k core i c q w y → IsCalm w → stage_of k c w ≤ 1
-  inside_low q in_o _ _ outside quiet = omega arith
-  inside_low q in_o _ _ (ended inner) quiet = omega arith
-  inside_low q in_o _ _ (left s ss e over) quiet = omega arith
-  inside_low q in_o _ _ (trying s tests simple its) quiet = omega arith
-  inside_low q in_o _ _ (acting s u p e effects lt) quiet = omega arith
-  inside_low q in_o _ _ (entering s fork t tests super its leads) quiet = omega arith
-  inside_low q in_o _ _ (guarding s join t tests some its leads) quiet = omega arith
-  inside_low q in_o _ _ (staying s tests super its stays) quiet = let none : has_aborts (own k s) ≡ false =
-      more.flat_held o s has (subst In (sym its) in_o) in rw (none) (omega arith)
-  inside_low q in_o _ _ (within s join tests super its stays still leads) quiet = let none : has_aborts (own k s) ≡ false =
-      more.flat_held o s has (subst In (sym its) in_o) in rw (none) (omega arith)
-  inside_low q in_o _ _ (behind s tests super its over) quiet = let none : has_aborts (own k s) ≡ false = more.flat_held o s has (subst In (sym its) in_o) in
-      rw (none) (omega arith)
+  -- a superstate without work inside, that r neither holds nor lies in: nothing changes there
+  module _ (u : ℕ) (quiet : some_work k c u ≡ false) (not_by : holder k u ≢ r) (out_u : ¬ In (holder k u)) where
+    r_not_in : ¬ Contains (around k r) u
+    r_not_in h =
+        let wrong : true ≡ false = sym (any_in (λ q. has_work k c (standing_of c q)) (inside k u) r (inside_in k u r there h) works) ∙ quiet in absurd cc
 
-  -- a superstate with aborts that r neither holds nor lies in: nothing changes there
-  module _ (u : ℕ) (some : has_aborts (own k u) ≡ true) (other : u ≢ o) where
     untouched : (q : ℕ) → Contains (around k q) u → (q ≢ r) × ¬ In q
     untouched q h = (
-      (λ e. let none : has_aborts (own k u) ≡ false = around_r u (subst (λ p. Contains (around k p) u) e h) in let wrong : true ≡ false = sym some ∙ none in
-          absurd cc),
-      λ in_o. other (more.flat_around q o u in_o h has some),
+      (λ e. r_not_in (subst (λ p. Contains (around k p) u) e h)),
+      λ in_o.
+          ⊎_elim (λ e. not_by (ap (holder k) e ∙ held))
+          (⊎_elim (λ deeper. out_u deeper) (λ deeper. r_not_in (subst (λ p. Contains (around k p) u) held deeper)))
+          (one_in_other k tree (around k q) q u o refl h in_o),
     )
 
     unchanged : (q : ℕ) → Contains (around k q) u → standing_of next q ≡ standing_of c q
@@ -175,27 +174,25 @@ module _ (k core : Table) (i : Images) (rows : CoreRows k core i) (more : FlatRo
         let first = each q (head_in q xs) in
         rw (idle_there q first.0 first.1, both.0, still_idle xs (λ p tail. each p (tail_in q p xs tail)) both.1) refl
 
-    stage_same : (tests : List Transition) → stage_of k c (at.Within u tests) ≤ stage_of k next (at.Within u tests)
-    stage_same tests =
-        either_rises (has_aborts (own k u)) (some_work k c u) (some_work k next u) (list_any (λ t. is_weak t.kind) tests)
-        (still_idle (inside k u) (λ q h. (inside_around k u q h, around_there k q u (inside_around k u q h))))
+    still_quiet : some_work k next u ≡ false
+    still_quiet = still_idle (inside k u) (λ q h. (inside_around k u q h, around_there k q u (inside_around k u q h))) quiet
 
-  within_rises : (q u : ℕ) (tests : List Transition) → holder k u ≡ q → q ≢ r → stage_of k c (at.Within u tests) ≤ stage_of k next (at.Within u tests)
-  within_rises q u tests its ne =
-      ⊎_elim (λ some. stage_same u some (λ e. ne (sym its ∙ (ap (holder k) e ∙ held))) tests) (λ none. rw (none) (omega arith))
-      (true_or_false (has_aborts (own k u)))
+  within_rises : (q u : ℕ) (tests : List Transition) → holder k u ≡ q → q ≢ r → ¬ In q → stage_of k c (at.Within u tests) ≤ stage_of k next (at.Within u tests)
+  within_rises q u tests its ne out_q =
+      either_rises (has_aborts (own k u)) (some_work k c u) (some_work k next u) (list_any (λ t. is_weak t.kind) tests)
+      (λ quiet. still_quiet u quiet (λ e. ne (sym its ∙ e)) (λ h. out_q (subst In its h)))
 
-  outside_rises : (q : ℕ) → q ≢ r → (w y : Standing) → Stands k core i c q w y → stage_of k c w ≤ stage_of k next w
-  outside_rises q ne _ _ outside = omega arith
-  outside_rises q ne _ _ (ended inner) = omega arith
-  outside_rises q ne _ _ (left s ss e over) = omega arith
-  outside_rises q ne _ _ (trying s tests simple its) = omega arith
-  outside_rises q ne _ _ (acting s u p e effects lt) = omega arith
-  outside_rises q ne _ _ (entering s fork t tests super its leads) = omega arith
-  outside_rises q ne _ _ (guarding s join t tests some its leads) = omega arith
-  outside_rises q ne _ _ (staying s tests super its stays) = within_rises q s tests its ne
-  outside_rises q ne _ _ (within s join tests super its stays still leads) = within_rises q s tests its ne
-  outside_rises q ne _ _ (behind s tests super its over) = within_rises q s tests its ne
+  outside_rises : (q : ℕ) → q ≢ r → ¬ In q → (w y : Standing) → Stands k core i c q w y → stage_of k c w ≤ stage_of k next w
+  outside_rises q ne out_q _ _ outside = omega arith
+  outside_rises q ne out_q _ _ (ended inner) = omega arith
+  outside_rises q ne out_q _ _ (left s ss e over) = omega arith
+  outside_rises q ne out_q _ _ (trying s tests simple its) = omega arith
+  outside_rises q ne out_q _ _ (acting s u p e effects lt) = omega arith
+  outside_rises q ne out_q _ _ (entering s fork t tests super its leads) = omega arith
+  outside_rises q ne out_q _ _ (guarding s join t tests some its leads) = omega arith
+  outside_rises q ne out_q _ _ (staying s tests super its stays) = within_rises q s tests its ne out_q
+  outside_rises q ne out_q _ _ (within s join tests super its stays still leads) = within_rises q s tests its ne out_q
+  outside_rises q ne out_q _ _ (behind s tests super its over) = within_rises q s tests its ne out_q
 
   pub others_stay : (h s : ℕ) → h ≢ i.thread_of r → Stage k i.thread_of c d h s → Stage k i.thread_of next d h s
   others_stay h s ne before = record {
@@ -205,14 +202,14 @@ module _ (k core : Table) (i : Images) (rows : CoreRows k core i) (more : FlatRo
     where
       by_place : (q : ℕ) → IsThere k q → h ≡ i.thread_of q → q ≢ r → s ≤ stage_of k c (standing_of c q) →
           Contains (around k q) o ⊎ ¬ Contains (around k q) o → s ≤ stage_of k next (standing_of next q)
-      by_place q q_there e other low (inl in_o) =
-          let m = inside_low q in_o (standing_of c q) (standing_of d (i.thread_of q)) (related.regions q q_there) (calm q in_o) in
-          let n : stage_of k next (standing_of next q) ≡ 1 = ap (stage_of k next) (gone q q_there in_o) in omega (low, m, n, arith)
-      by_place q q_there e other low (inr out_o) =
-          let m = outside_rises q other (standing_of c q) (standing_of d (i.thread_of q)) (related.regions q q_there) in
+      by_place q q_there e other low_q (inl in_o) =
+          let m = inside_low q q_there in_o in
+          let n : stage_of k next (standing_of next q) ≡ 1 = ap (stage_of k next) (gone q q_there in_o) in omega (low_q, m, n, arith)
+      by_place q q_there e other low_q (inr out_o) =
+          let m = outside_rises q other out_o (standing_of c q) (standing_of d (i.thread_of q)) (related.regions q q_there) in
           let n : stage_of k next (standing_of c q) ≤ stage_of k next (standing_of next q) =
           subst (λ w. stage_of k next (standing_of c q) ≤ stage_of k next w) (sym (same q other out_o)) (omega arith) in
-          omega (low, m, n, arith)
+          omega (low_q, m, n, arith)
 
   -- at the end: what is reached when the thread of r has just stepped
   pub reached_now : (last : Configuration) (h s : ℕ) → (h ≢ i.thread_of r → Stage k i.thread_of next d h s) × (h ≡ i.thread_of r → s ≤ 0) →

@@ -1,72 +1,58 @@
--- A transition enters a state that is not final: what is asked of the chart alone holds again.
-use Rattle.std.proofs.Common.{◌≡◌, ◌≢◌, ℕ, zero, suc, ◌<◌, ◌⊎◌, inl, inr, ⊎_elim, true, false, List, [], ◌∷◌, Contains, refl, sym, ap, subst, ◌∙◌, arith}
-use Rattle.sc_values.specs.declared.value.Value.{Value}
-use Rattle.core_charts.specs.declared.region.Effect.{Effect}
+-- A region comes to where something begins: what is asked of the chart alone holds again.
+use Rattle.std.proofs.Common.{◌≡◌, ◌≢◌, ℕ, zero, suc, ◌<◌, ◌⊎◌, inl, inr, ⊎_elim, true, List, [], ◌∷◌, length, Contains, refl, sym, ap, subst, ◌∙◌, arith}
 use Rattle.chart_machine.specs.declared.standing.Standing.{Standing}
 use Rattle.chart_machine.specs.declared.standing.Standing.TheVariants as at
 use Rattle.chart_machine.specs.declared.standing.Configuration.{Configuration}
 use Rattle.chart_machine.specs.declared.table.Table.{Table}
 use Rattle.chart_machine.specs.Table.{state_at}
 use Rattle.chart_machine.specs.Turns.{standing_of, guards as has_to_guard, inside, is_guarded, LiesIn, itself, deeper}
-use Rattle.chart_machine.specs.Steps.{state_in}
 use Rattle.tick_laws.proofs.Lists.{same_or_not}
 use Rattle.chart_machine_laws.specs.Tree.{IsThere, around, holder}
 use Rattle.chart_machine_laws.proofs.LyingIn.{none_in, head_in, head_or_tail, outwards, top_only}
 use Rattle.chart_machine_laws.proofs.ChartTables.{around_there}
-use Rattle.abort_expansion_laws.specs.CoreRows.{IsState, is_final, Images}
+use Rattle.abort_expansion_laws.specs.CoreRows.{IsState, Images}
 use Rattle.abort_expansion_laws.specs.Related.{Related, IsInside, open_inside, IsCalm, calm_outside}
-use Rattle.abort_expansion_laws.proofs.AfterOpening.{moved_size, one_in_other}
+use Rattle.abort_expansion_laws.proofs.AfterOpening.{one_in_other}
 use Rattle.abort_expansion_laws.proofs.StageReached.{any_in}
 use Rattle.abort_expansion_laws.proofs.Pending.{Sound}
 use Rattle.abort_expansion_laws.proofs.InitialPairs.{chart_begins}
 use Rattle.abort_expansion_laws.proofs.BeginningSorts.{not_both}
 use Rattle.abort_expansion_laws.proofs.JustEntered.{EntryRows}
-use Rattle.abort_expansion_laws.proofs.ChartEntered.{Stood, stood_of, WasEntered, ChartReach, was_entered, none_there, ChartAbove, chart_reach, stood_present}
+use Rattle.abort_expansion_laws.proofs.ChartEntered.{stood_of, WasEntered, ChartReach, was_entered, none_there, ChartAbove, chart_reach, stood_present}
 use Rattle.abort_expansion_laws.proofs.ChartEntered.{reached_open, reached_inside, reached_guards}
 use Rattle.abort_expansion_laws.proofs.FirstTickWaits.{closes_first}
-use Rattle.abort_expansion_laws.proofs.TargetEntered.{there, held, here, chart_begins_there}
-use Rattle.abort_expansion_laws.proofs.TargetReached.{after, unchanged, outer_apart, target_lives}
-use Rattle.abort_expansion_laws.proofs.TargetWaits.{lies_or_not, outer_out}
+use Rattle.abort_expansion_laws.proofs.Arrives.{Arrives}
+use Rattle.abort_expansion_laws.proofs.ArrivedReached.{outer_apart, arrived_lives}
+use Rattle.abort_expansion_laws.proofs.ArrivedWaits.{lies_or_not, outer_out}
 
 module _ (k core : Table) (i : Images) (more : EntryRows k core i) (holds_there : (s : ℕ) → IsState k s → IsThere k (holder k s))
     (alone : (v : ℕ) → (state_at core v).regions ≡ [] → inside core v ≡ [])
-    (c d : Configuration) (related : Related k core i c d) (r s p : ℕ) (e : Effect) (stands : standing_of c r ≡ at.Acting s (e ∷ []) p)
-    (free : is_guarded k c (around k r) ≡ false) (values : List Value) (open_ends : is_final k (state_in k r p) ≡ false) where
-  abbrev next : Configuration
-  next = after k core i more holds_there c d related r s p e stands free values open_ends
-
+    (c d : Configuration) (related : Related k core i c d) (r : ℕ) (next core_next : Configuration)
+    (arrives : Arrives k core i more c d r next core_next) where
   abbrev f : ℕ → Standing
   f = standing_of next
 
-  r_there : IsThere k r
-  r_there = there k core i more c d related r s p e stands values open_ends
-
   same : (q : ℕ) → ¬ LiesIn k q r → standing_of next q ≡ standing_of c q
-  same q out = unchanged k core i more holds_there c d related r s p e stands free values open_ends q out
+  same q out = arrives.unchanged q out
 
   in_or_out : (q : ℕ) → LiesIn k q r ⊎ ¬ LiesIn k q r
-  in_or_out q = lies_or_not k core i more holds_there alone c d related r s p e stands free values open_ends q
+  in_or_out q = lies_or_not k core i more holds_there alone c d related r next core_next arrives q
 
   lies_there : (q : ℕ) → LiesIn k q r → IsThere k q
-  lies_there q (itself is) = subst (IsThere k) (sym is) r_there
+  lies_there q (itself is) = subst (IsThere k) (sym is) arrives.there
   lies_there q (deeper y inner its) = around_there k q y inner
-
-  was_there : standing_of c r ≢ at.Outside
-  was_there w = let wrong : at.Acting s (e ∷ []) p ≡ at.Outside = sym stands ∙ w in absurd cc
 
   -- ---- the region, and who lies in it
 
   r_entered : WasEntered k core i more f r
   r_entered =
       record {
-        stood = subst (Stood k core i more f) (held k core i more c d related r s p e stands values open_ends)
-            (stood_of k core i more f (state_in k r p) (here k core i more c d related r s p e stands values open_ends)
-            (chart_begins_there k core i more c d related r s p e stands values open_ends));
+        stood = arrives.stood;
         parent = λ u us round.
-            let o = (target_lives k core i more holds_there c d related r s p e stands free values open_ends).parent u us round in (o.tests, o.open_in_chart);
+            let o = (arrived_lives k core i more holds_there c d related r next core_next arrives).parent u us round in (o.tests, o.open_in_chart);
       }
 
-  chart_in : (q : ℕ) → LiesIn k q r → ChartReach k core i more f q
+  pub chart_in : (q : ℕ) → LiesIn k q r → ChartReach k core i more f q
   chart_in q lies = chart_reach k core i more f (λ z. LiesIn k z r) begins q (lies_there q lies) lies
     where
       begins : (q : ℕ) → IsThere k q → LiesIn k q r → ChartReach k core i more f q ⊎ ChartAbove k core i more f (λ z. LiesIn k z r) q
@@ -104,7 +90,7 @@ module _ (k core : Table) (i : Images) (more : EntryRows k core i) (holds_there 
       at_region : q ≡ r → IsInside k core i u (standing_of next (holder k u))
       at_region is =
           let round : Contains (around k r) u = subst (λ z. Contains (around k z) u) is inner in
-          outer_inside r u r_there was_there round (outer_apart k core i more holds_there c d related r s p e stands free values open_ends u round)
+          outer_inside r u arrives.there arrives.present round (outer_apart k core i more holds_there c d related r next core_next arrives u round)
 
       by_round : Outwards q u → (zs : List ℕ) → around k q ≡ zs → WasEntered k core i more f q → IsInside k core i u (standing_of next (holder k u))
       by_round rest [] round l = absurd (none_in u (subst (λ zs. Contains zs u) round inner))
@@ -131,7 +117,7 @@ module _ (k core : Table) (i : Images) (more : EntryRows k core i) (holds_there 
       ⊎_elim (λ lies. enclosed_in (suc q) q u (omega arith) lies present inner)
       (λ out.
       outer_inside q u q_there (λ w. present (same q out ∙ w)) inner
-      (outer_out k core i more holds_there alone c d related r s p e stands free values open_ends q u out inner))
+      (outer_out k core i more holds_there alone c d related r next core_next arrives q u out inner))
       (in_or_out q)
 
   -- ---- whoever stands in a superstate has its regions there
@@ -165,7 +151,7 @@ module _ (k core : Table) (i : Images) (more : EntryRows k core i) (holds_there 
 
   -- ---- whoever is inside of what guards is calm
 
-  around_region : (q u : ℕ) → LiesIn k q r → Contains (around k q) u → ¬ LiesIn k (holder k u) r → Contains (around k r) u
+  pub around_region : (q u : ℕ) → LiesIn k q r → Contains (around k q) u → ¬ LiesIn k (holder k u) r → Contains (around k r) u
   around_region q u (itself is) inner out = subst (λ z. Contains (around k z) u) is inner
   around_region q u (deeper y in_y its) inner out =
       ⊎_elim (λ first. absurd (out (itself (ap (holder k) first ∙ its))))
@@ -181,19 +167,19 @@ module _ (k core : Table) (i : Images) (more : EntryRows k core i) (holds_there 
       ⊎_elim
       (λ lies_q.
       absurd (not_both (is_guarded k c (around k r))
-      (any_in (λ z. has_to_guard (standing_of c (holder k z))) (around k r) u (around_region q u lies_q inner out) before) free))
+      (any_in (λ z. has_to_guard (standing_of c (holder k z))) (around k r) u (around_region q u lies_q inner out) before) arrives.free))
       (λ out_q. subst IsCalm (sym (same q out_q)) (related.calm q u q_there inner before)) (in_or_out q))
       (in_or_out (holder k u))
 
   zero_out : ¬ LiesIn k 0 r
-  zero_out (itself is) = let lt = r_there.0 in absurd (omega (lt, is, arith))
+  zero_out (itself is) = let lt = arrives.there.0 in absurd (omega (lt, is, arith))
   zero_out (deeper y inner its) = none_in y inner
 
-  pub target_sound : Sound k core i next
-  target_sound =
+  pub arrived_sound : Sound k core i next
+  arrived_sound =
       record {
-        chart_regions = moved_size (state_at k (state_in k r p)).entered c.regions ∙ related.chart_regions;
-        values = related.values;
+        chart_regions = arrives.chart_regions;
+        values = ap length arrives.chart_values ∙ related.values;
         no_chart = same 0 zero_out ∙ related.no_chart;
         enclosed = all_enclosed;
         opened = λ u q is inner child. ⊎_elim (opened_in u q is inner child) (opened_out u q is inner child) (in_or_out (holder k u));

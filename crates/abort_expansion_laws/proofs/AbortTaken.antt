@@ -1,0 +1,483 @@
+-- An abort is taken: its monitor makes the test, raises the flag and ends, everything inside leaves, the fork is joined, and the tests of the
+-- continuation before the one that answers the flag fail.
+use Rattle.std.proofs.Common.{◌≡◌, ◌≢◌, ℕ, suc, ◌<◌, ◌≤◌, ◌⊎◌, inl, inr, ⊎_elim, Bool, true, false, not, ◌&&◌, ◌||◌, pos, Option, Some, None, List, []}
+use Rattle.std.proofs.Common.{◌∷◌, ◌++◌, map, length, slice_get, slice_set, Contains, refl, sym, ap, subst, ◌∙◌, arith}
+use Rattle.std.specs.List.{list_all}
+use Rattle.std.proofs.lemmas.List.{append_assoc}
+use Rattle.sc_values.specs.declared.value.Value.{Value}
+use Rattle.sc_values.specs.declared.value.Value.TheVariants as value_is
+use Rattle.sc_values.specs.Access.{Access, no_access}
+use Rattle.sc_values.specs.Runs.{Machine, Act, act_of}
+use Rattle.core_charts.specs.declared.region.Transition.{Transition}
+use Rattle.core_charts.specs.Tests.{at_once}
+use Rattle.core_charts.specs.Aborts.{has_aborts}
+use Rattle.chart_machine.specs.declared.standing.Standing.{Standing}
+use Rattle.chart_machine.specs.declared.standing.Standing.TheVariants as at
+use Rattle.chart_machine.specs.declared.standing.Configuration.{Configuration}
+use Rattle.chart_machine.specs.declared.table.Table.{Table}
+use Rattle.chart_machine.specs.Table.{state_at}
+use Rattle.chart_machine.specs.Turns.{standing_of, has_ended, has_work, guards, is_guarded, inside}
+use Rattle.chart_machine.specs.Steps.{to, moved, verdict, access_of, access_of_trigger, step, state_in}
+use Rattle.chart_machine.specs.Machine.{machine}
+use Rattle.abort_expansion.specs.Flags.{aborts_around}
+use Rattle.abort_expansion.specs.Transitions.{put, go, is_raised, is_number, led_by, answers}
+use Rattle.abort_expansion.specs.Superstates.{stays}
+use Rattle.tick_laws.proofs.Lists.{same_or_not, contained}
+use Rattle.abort_expansion_laws.specs.Stages.{Entry, Watched, Silent, Correspondence, HasStage, IsSilent}
+use Rattle.abort_expansion_laws.proofs.Supplying.{climbs_step, climbs_fewer, silent_set, silent_test, silent_idle, sets, tests}
+use Rattle.abort_expansion_laws.proofs.Simulation.{Segment, segment_on}
+use Rattle.abort_expansion_laws.proofs.SilentSteps.{AtHome, climbs_at, climbs_home, silent_step}
+use Rattle.chart_machine_laws.proofs.LyingIn.{IsNested, LiesUnder, around, holder, none_in, head_or_tail, head_in, around_around}
+use Rattle.abort_expansion_laws.proofs.TablesCorrespond.{contains_map}
+use Rattle.abort_expansion_laws.proofs.MoreValues.{number_value, up_verdict, verdict_over_more}
+use Rattle.abort_expansion_laws.proofs.FlagAccess.{put_access}
+use Rattle.abort_expansion_laws.specs.CoreRows.{own, joins, Images, CoreRows, WatcherImage, SplitImage, flags_around, watchers, behind_transitions}
+use Rattle.abort_expansion_laws.specs.Related.{is_behind, IsInside, Related}
+use Rattle.abort_expansion_laws.proofs.Unchanged.{get_same, get_other, stands_same, stands_other, no_guards}
+use Rattle.abort_expansion_laws.proofs.StageReached.{Stage, holds_other, inside_in}
+use Rattle.abort_expansion_laws.proofs.ImageSteps.{pair}
+use Rattle.abort_expansion_laws.proofs.KnownVariables.{in_either, present_there, trigger_known}
+use Rattle.abort_expansion_laws.proofs.StrongNotTaken.{trigger_plain}
+use Rattle.abort_expansion_laws.proofs.CoreSteps.{takes, writes_last}
+use Rattle.abort_expansion_laws.proofs.InsideLeaves.{FlatRows, there_too}
+use Rattle.abort_expansion_laws.proofs.AllLeave.{all_leave, Left, all_from, inside_around}
+use Rattle.abort_expansion_laws.proofs.Leaving.{drops, set_here, set_other, set_length, drops_in, drops_out, drops_length, joined}
+use Rattle.abort_expansion_laws.proofs.AbortNext.{AbortNext}
+use Rattle.abort_expansion_laws.proofs.Answering.{fails_on, Passed, tests_fail, Answered, answered}
+use Rattle.chart_machine_laws.proofs.ChartTables.{around_there}
+
+-- a segment from fewer stages
+pub from_fewer : (n : Machine) (k : Correspondence) (Told : n.Configuration → Entry → Type 0) (d : n.Configuration) (Fewer Before : ℕ → ℕ → Type 0)
+    (After : n.Configuration → ℕ → ℕ → Type 0)
+    (steps : List Act) (Reaches : n.Configuration → Type 0) → ((h s : ℕ) → Fewer h s → Before h s) → Segment n k Told d Before After steps Reaches →
+    Segment n k Told d Fewer After steps Reaches
+from_fewer n k Told d Fewer Before After steps Reaches fewer s =
+    record {
+      log = s.log;
+      last = s.last;
+      follows = s.follows;
+      charted = s.charted;
+      fits = s.fits;
+      climbs = λ rest climbs. climbs_fewer k Before Fewer (s.log ++ rest) fewer (s.climbs rest climbs);
+      reaches = s.reaches;
+    }
+
+module _ (k core : Table) (i : Images) (rows : CoreRows k core i) (more : FlatRows k core i) (tree : IsNested k) (core_tree : IsNested core)
+    (deep : (q s : ℕ) → Contains (around core q) s → holder core s < q)
+    (core_children : (s r : ℕ) → Contains (state_at core s).regions r → around core r ≡ s ∷ around core (holder core s))
+    (children : (s r : ℕ) → Contains (state_at k s).regions r → around k r ≡ s ∷ around k (holder k s))
+    (counts : ℕ → Bool) (written_at : ℕ → ℕ) (Told : Configuration → Entry → Type 0)
+    (told : (e : Configuration) (t : ℕ) (at_stage : Option (ℕ × ℕ)) (a : Access) → Told e (Silent t at_stage a))
+    (c d : Configuration) (related : Related k core i c d) (r o stage x : ℕ) (t : Transition)
+    (next : AbortNext k core i rows tree counts written_at c d r o stage x t) (Others : ℕ → ℕ → Type 0) where
+  abbrev pub corr : Correspondence
+  corr = pair k core i rows tree counts written_at
+
+  image : WatcherImage k core i o
+  image = rows.watcher o next.o_there next.has
+
+  abbrev pub raised_to : Value
+  raised_to = value_is.Int (pos (suc next.number))
+
+  abbrev watch_acts : Standing
+  watch_acts = at.Acting (i.watching_of o) (put x (suc next.number) ∷ []) 1
+
+  -- it has taken the test, and it has raised the flag
+  abbrev pub d1 : Configuration
+  d1 = record { variables = d.variables; regions = slice_set d.regions (i.watcher_of o) watch_acts }
+
+  abbrev pub d2 : Configuration
+  d2 = record { variables = slice_set d.variables x raised_to; regions = slice_set (slice_set d.regions (i.watcher_of o) watch_acts) (i.watcher_of o) at.Ended }
+
+  in_core : i.watcher_of o < length d.regions
+  in_core = let lt = image.there.1 in omega (lt, related.core_regions, arith)
+
+  here1 : standing_of d1 (i.watcher_of o) ≡ watch_acts
+  here1 = stands_same d d1 (i.watcher_of o) watch_acts refl in_core
+
+  here2 : standing_of d2 (i.watcher_of o) ≡ at.Ended
+  here2 =
+      stands_same d1 d2 (i.watcher_of o) at.Ended refl
+      (let size = set_length d.regions (i.watcher_of o) watch_acts in let lt = in_core in omega (size, lt, arith))
+
+  other1 : (q : ℕ) → q ≢ i.watcher_of o → standing_of d1 q ≡ standing_of d q
+  other1 q ne = stands_other d d1 (i.watcher_of o) q watch_acts refl ne
+
+  other2 : (q : ℕ) → q ≢ i.watcher_of o → standing_of d2 q ≡ standing_of d q
+  other2 q ne = stands_other d1 d2 (i.watcher_of o) q at.Ended refl ne ∙ other1 q ne
+
+  quiet : (q : ℕ) → guards (standing_of d q) ≡ false
+  quiet = no_guards k core i rows c d related
+
+  quiet1 : (q : ℕ) → guards (standing_of d1 q) ≡ false
+  quiet1 q = ⊎_elim (λ e. ap (λ p. guards (standing_of d1 p)) e ∙ ap guards here1) (λ ne. ap guards (other1 q ne) ∙ quiet q) (same_or_not q (i.watcher_of o))
+
+  pub quiet2 : (q : ℕ) → guards (standing_of d2 q) ≡ false
+  quiet2 q = ⊎_elim (λ e. ap (λ p. guards (standing_of d2 p)) e ∙ ap guards here2) (λ ne. ap guards (other2 q ne) ∙ quiet q) (same_or_not q (i.watcher_of o))
+
+  unguarded : (e : Configuration) → ((q : ℕ) → guards (standing_of e q) ≡ false) → (zs : List ℕ) → is_guarded core e zs ≡ false
+  unguarded e none [] = refl
+  unguarded e none (s ∷ zs) = rw (none (holder core s), unguarded e none zs) refl
+
+  -- ---- the flag
+
+  home_of : holder core (i.main_of (rows.of_flag x)) ≡ i.thread_of r
+  home_of = ap (λ s. holder core (i.main_of s)) next.of_flag ∙ (rows.held o ∙ ap i.thread_of next.held)
+
+  sets_flag : IsSilent corr (i.watcher_of o) (Some (i.thread_of r, stage)) (sets x raised_to)
+  sets_flag =
+      silent_set corr (i.watcher_of o) (Some (i.thread_of r, stage)) x raised_to next.added
+      (inr (next.no_counter, ap i.watcher_of (sym next.of_flag), stage_is))
+    where
+      stage_is : ◌≡◌ {A = Option (ℕ × ℕ)} (Some (i.thread_of r, stage)) (Some (holder core (i.main_of (rows.of_flag x)), written_at x))
+      stage_is = ap (λ (h : ℕ). Some (h, stage)) (sym home_of) ∙ ap (λ (m : ℕ). Some (holder core (i.main_of (rows.of_flag x)), m)) (sym next.written)
+
+  pub sees_own : IsSilent corr (i.thread_of r) None (tests x)
+  sees_own = silent_test corr (i.thread_of r) None x next.added (inl (sym home_of))
+
+  pub flag_is : slice_get d2.variables x ≡ Some raised_to
+  flag_is = let lt = next.in_range in get_same d.variables x raised_to (omega (lt, related.flag_count, arith))
+
+  pub raised : verdict d2.variables (Some (is_raised x)) ≡ Some true
+  raised = up_verdict x (suc next.number) d2.variables flag_is (λ e. absurd cc)
+
+  other_value : (y : ℕ) → y ≢ x → slice_get d2.variables y ≡ slice_get d.variables y
+  other_value y ne = get_other d.variables x y raised_to ne
+
+  -- ---- the three parts
+
+  module _ (told_test : Told d (Watched r (i.watcher_of o) stage (access_of_trigger t.trigger)))
+      (outer_stage : (b : ℕ) → LiesUnder k r b → (i.thread_of b ≢ i.thread_of r) ×
+      (((u : ℕ) → Stage k i.thread_of c d (i.thread_of b) u → u ≤ 1) × Others (i.thread_of b) 1))
+      (others_stay : (h s : ℕ) → h ≢ i.thread_of r → Stage k i.thread_of c d h s → Others h s) where
+    own_stages : (h s : ℕ) → HasStage corr (Watched r (i.watcher_of o) stage (access_of_trigger t.trigger)) h s →
+        ((u : ℕ) → Stage k i.thread_of c d h u → u ≤ s) × AtHome Others (i.thread_of r) stage h s
+    own_stages h s (inl here) = (
+      λ u before. let low = before.regions r next.there here.0 in let now = next.stage_now in omega (low, now, here.1, arith),
+      (λ ne. absurd (ne here.0), λ e. omega (here.1, arith)),
+    )
+    own_stages h s (inr (b, under, is, one)) =
+        let outer = outer_stage b under in (
+          λ u before. let low = outer.1.0 u (subst (λ z. Stage k i.thread_of c d z u) is before) in omega (low, one, arith),
+          (λ ne. subst (λ z. Others z s) (sym is) (subst (Others (i.thread_of b)) (sym one) outer.1.1), λ e. absurd (outer.0 (sym is ∙ e))),
+        )
+
+    stays_there : (h s : ℕ) → i.watcher_of o ≢ h → Stage k i.thread_of c d h s → AtHome Others (i.thread_of r) stage h s
+    stays_there h s ne before = (
+      λ other. others_stay h s other before,
+      λ e. let low = before.regions r next.there e in let now = next.stage_now in omega (low, now, arith),
+    )
+
+    test_step : Segment (machine core) corr Told d (Stage k i.thread_of c d) (λ last. AtHome Others (i.thread_of r) stage) (act_of (machine k) c r ∷ [])
+        (λ z. z ≡ d1)
+    test_step =
+        record {
+          log = Watched r (i.watcher_of o) stage (access_of_trigger t.trigger) ∷ [];
+          last = d1;
+          follows = (ap (λ a. record { thread = i.watcher_of o; access = a }) (sym (ap access_of next.watching)), told_test, (d1, takes_it, refl));
+          charted = ap (λ a. record { thread = r; access = a } ∷ []) (sym next.chart_access);
+          fits = (
+            record {
+              watches = (o, (next.o_there, next.has), refl, next.held);
+              staged = next.staged;
+              writes_nothing = trigger_plain t.trigger;
+              no_flags = λ y touches. let lt = trigger_known c.variables t.trigger true next.true_there y touches in omega (lt, related.values, arith);
+            },
+            tt,
+          );
+          climbs = λ rest climbs.
+              climbs_step corr (Stage k i.thread_of c d) (AtHome Others (i.thread_of r) stage) (Watched r (i.watcher_of o) stage (access_of_trigger t.trigger))
+              rest own_stages stays_there climbs;
+          reaches = refl;
+        }
+      where
+        takes_it : step core (i.watcher_of o) d ≡ Some d1
+        takes_it =
+            takes core d (i.watcher_of o) (i.watching_of o) (go next.immediate t.trigger (put x (suc next.number) ∷ []) 1) next.other_tests
+            (put x (suc next.number)) [] (unguarded d quiet (around core (i.watcher_of o))) next.watching
+            (subst (λ vs. verdict vs t.trigger ≡ Some true) (sym related.variables) (verdict_over_more related.more c.variables t.trigger true next.true_there))
+            next.watching_alone refl
+
+    raise_step : Segment (machine core) corr Told d1 (AtHome Others (i.thread_of r) stage) (λ last. AtHome Others (i.thread_of r) stage) [] (λ z. z ≡ d2)
+    raise_step =
+        silent_step (machine core) corr Told told d1 d2 (i.watcher_of o) (Some (i.thread_of r, stage)) (sets x raised_to)
+        (AtHome Others (i.thread_of r) stage) (AtHome Others (i.thread_of r) stage) (λ z. z ≡ d2)
+        (writes_last core d1 (i.watcher_of o) (i.watching_of o) 1 (put x (suc next.number)) raised_to at.Ended
+        (unguarded d1 quiet1 (around core (i.watcher_of o))) here1
+        (number_value (suc next.number) d.variables) next.is_int (ap (λ s. (state_at core s).entered) image.ended ∙ image.watched))
+        (ap access_of here1 ∙ put_access x (suc next.number)) sets_flag
+        (λ rest climbs. climbs_at corr Others (i.thread_of r) stage stage (i.watcher_of o) (sets x raised_to) rest (omega arith) climbs) refl
+
+    -- all have left: what is reached at the end
+    abbrev pub AllLeft : Configuration → Type 0
+    AllLeft z = Left core core_tree deep corr Told told Others (i.thread_of r) (suc stage) (i.main_of o) d2 quiet2 0 z
+
+    leave_steps : Segment (machine core) corr Told d2 (AtHome Others (i.thread_of r) (suc stage)) (λ last. AtHome Others (i.thread_of r) (suc stage)) [] AllLeft
+    leave_steps =
+        all_leave core core_tree deep corr Told told Others (i.thread_of r) (suc stage) (i.main_of o) d2 quiet2
+        (next.leaves d2 raised other_value (λ q. other2 (i.thread_of q) (image.no_thread q)) here2)
+
+    -- the test, the raising and the leaving
+    pub aborted : Segment (machine core) corr Told d (Stage k i.thread_of c d) (λ last. AtHome Others (i.thread_of r) (suc stage))
+        (act_of (machine k) c r ∷ []) AllLeft
+    aborted =
+        segment_on (machine core) corr Told d (Stage k i.thread_of c d) (λ last. AtHome Others (i.thread_of r) stage)
+        (λ last. AtHome Others (i.thread_of r) (suc stage)) (act_of (machine k) c r ∷ []) [] (λ z. z ≡ d1) AllLeft test_step
+        (subst (λ z. Segment (machine core) corr Told z (AtHome Others (i.thread_of r) stage) (λ last. AtHome Others (i.thread_of r) (suc stage)) [] AllLeft)
+        (sym test_step.reaches)
+        (segment_on (machine core) corr Told d1 (AtHome Others (i.thread_of r) stage) (λ last. AtHome Others (i.thread_of r) stage)
+        (λ last. AtHome Others (i.thread_of r) (suc stage)) [] [] (λ z. z ≡ d2) AllLeft raise_step
+        (subst (λ z. Segment (machine core) corr Told z (AtHome Others (i.thread_of r) stage) (λ last. AtHome Others (i.thread_of r) (suc stage)) [] AllLeft)
+        (sym raise_step.reaches)
+        (from_fewer (machine core) corr Told d2 (AtHome Others (i.thread_of r) stage) (AtHome Others (i.thread_of r) (suc stage))
+        (λ last. AtHome Others (i.thread_of r) (suc stage)) [] AllLeft
+        (λ h s reached. (reached.0, λ e. let low = reached.1 e in omega (low, arith))) leave_steps))))
+
+    -- ---- the fork is over, and joined
+
+    left3 : Left core core_tree deep corr Told told Others (i.thread_of r) (suc stage) (i.main_of o) d2 quiet2 0 aborted.last
+    left3 = aborted.reaches
+
+    main_held : holder core (i.main_of o) ≡ i.thread_of r
+    main_held = rows.held o ∙ ap i.thread_of next.held
+
+    home_out : ¬ Contains (around core (i.thread_of r)) (i.main_of o)
+    home_out h = holds_other core core_tree (i.thread_of r) (i.main_of o) h main_held
+
+    home3 : standing_of aborted.last (i.thread_of r) ≡ at.Within (i.main_of o) (joins next.join ∷ [])
+    home3 = left3.others (i.thread_of r) home_out ∙ (other2 (i.thread_of r) (image.no_thread r) ∙ next.forked)
+
+    stays_not : (a : Bool) (b : Bool) → a ≡ true → not (a || b) ≡ false
+    stays_not true b e = refl
+    stays_not false b e = absurd cc
+
+    split : SplitImage k core i o
+    split = rows.split o next.o_there next.super (stays_not (has_aborts (own k o)) (aborts_around (flags_around k core i (holder k o))) next.has)
+
+    monitors_one : watchers k core i o ≡ i.watcher_of o ∷ []
+    monitors_one = rw (next.has) refl
+
+    regions_are : (state_at core (i.main_of o)).regions ≡ map i.thread_of (state_at k o).regions ++ i.watcher_of o ∷ []
+    regions_are = ap (λ z. z.regions) split.row ∙ ap (λ zs. map i.thread_of (state_at k o).regions ++ zs) monitors_one
+
+    not_behind : is_behind k core i c o ≡ false
+    not_behind = by_case (stays (flags_around k core i (holder k o)) (own k o)) (has_aborts (own k o)) _ next.has
+      where
+        by_case : (a b : Bool) (z : Bool) → b ≡ true → not a && (not b && z) ≡ false
+        by_case true b z e = refl
+        by_case false true z e = refl
+        by_case false false z e = absurd cc
+
+    inside_o : IsInside k core i o (standing_of c (holder k o))
+    inside_o = subst (λ q. IsInside k core i o (standing_of c q)) (sym next.held) next.was_inside
+
+    direct_in : (q : ℕ) → Contains (state_at core (i.main_of o)).regions q → around core q ≡ i.main_of o ∷ around core (i.thread_of r)
+    direct_in q h = core_children (i.main_of o) q h ∙ ap (λ z. i.main_of o ∷ around core z) main_held
+
+    -- nothing that the fork directly holds was dropped by another one inside of it
+    not_by_inner : (q s : ℕ) → Contains (state_at core (i.main_of o)).regions q → Contains (around core q) s →
+        Contains (around core (holder core s)) (i.main_of o) → ⊥
+    not_by_inner q s h around_q inner =
+        ⊎_elim (λ same. home_out (subst (λ z. Contains (around core z) (i.main_of o)) (ap (holder core) (sym same) ∙ main_held) inner))
+        (λ tail. home_out (around_around core core_tree (around core (i.thread_of r)) (i.thread_of r) s (i.main_of o) refl tail inner))
+        (head_or_tail (i.main_of o) s (around core (i.thread_of r)) (subst (λ zs. Contains zs s) (direct_in q h) around_q))
+
+    present2 : (q : ℕ) → Contains (state_at core (i.main_of o)).regions q → standing_of d2 q ≢ at.Outside
+    present2 q h e = by_sort (in_either (map i.thread_of (state_at k o).regions) (i.watcher_of o ∷ []) q (subst (λ zs. Contains zs q) regions_are h))
+      where
+        heads : (a b : ℕ) (xs ys : List ℕ) → a ∷ xs ≡ b ∷ ys → a ≡ b
+        heads a b xs ys same = cc
+
+        by_region : (u : ℕ) → Contains (state_at k o).regions u → i.thread_of u ≡ q → ⊥
+        by_region u child is =
+            let was : standing_of c u ≢ at.Outside = related.opened o u next.o_there inside_o child in
+            there_too k core i c u (standing_of c u) (standing_of d (i.thread_of u)) (related.regions u (present_there k core i c d related u was)) was
+            (λ v vs round. subst (λ w. is_behind k core i c w ≡ false) (heads o v (around k (holder k o)) vs (sym (children o u child) ∙ round)) not_behind)
+            (sym (other2 (i.thread_of u) (image.no_thread u)) ∙ (ap (standing_of d2) is ∙ e))
+
+        by_sort : Contains (map i.thread_of (state_at k o).regions) q ⊎ Contains (i.watcher_of o ∷ []) q → ⊥
+        by_sort (inl m) = let u = contains_map i.thread_of (state_at k o).regions q m in by_region u.0 u.1 u.2
+        by_sort (inr m) =
+            ⊎_elim (λ same. let wrong : at.Ended ≡ at.Outside = sym here2 ∙ (ap (standing_of d2) same ∙ e) in absurd cc) (λ none. none_in q none)
+            (head_or_tail (i.watcher_of o) q [] m)
+
+    direct_ended : (q : ℕ) → Contains (state_at core (i.main_of o)).regions q → standing_of aborted.last q ≡ at.Ended
+    direct_ended q h = by_gone (left3.gone q (subst (λ zs. Contains zs (i.main_of o)) (sym (direct_in q h))
+        (head_in (i.main_of o) (around core (i.thread_of r)))) (omega arith))
+      where
+        by_gone : (standing_of aborted.last q ≡ at.Ended)
+            ⊎ ((standing_of aborted.last q ≡ at.Outside) × ((standing_of d2 q ≡ at.Outside) ⊎
+            ((s : ℕ) × Contains (around core q) s × (0 ≤ holder core s) × Contains (around core (holder core s)) (i.main_of o)))) →
+            standing_of aborted.last q ≡ at.Ended
+        by_gone (inl is) = is
+        by_gone (inr (out, inl was)) = absurd (present2 q h was)
+        by_gone (inr (out, inr s)) = absurd (not_by_inner q s.0 h s.1 s.3)
+
+    all_over : list_all (λ q. has_ended (standing_of aborted.last q)) (state_at core (i.main_of o)).regions ≡ true
+    all_over = all_from (λ q. has_ended (standing_of aborted.last q)) (state_at core (i.main_of o)).regions (λ q h. ap has_ended (direct_ended q h))
+
+    all_idle : list_all (λ q. not (has_work core aborted.last (standing_of aborted.last q))) (inside core (i.main_of o)) ≡ true
+    all_idle = all_from (λ q. not (has_work core aborted.last (standing_of aborted.last q))) (inside core (i.main_of o)) idle
+      where
+        idle : (q : ℕ) → Contains (inside core (i.main_of o)) q → not (has_work core aborted.last (standing_of aborted.last q)) ≡ true
+        idle q h = by_gone (left3.gone q (inside_around core (i.main_of o) q h) (omega arith))
+          where
+            by_gone : (standing_of aborted.last q ≡ at.Ended)
+                ⊎ ((standing_of aborted.last q ≡ at.Outside) × ((standing_of d2 q ≡ at.Outside) ⊎
+                ((s : ℕ) × Contains (around core q) s × (0 ≤ holder core s) × Contains (around core (holder core s)) (i.main_of o)))) →
+                not (has_work core aborted.last (standing_of aborted.last q)) ≡ true
+            by_gone (inl is) = ap (λ z. not (has_work core aborted.last z)) is
+            by_gone (inr w) = ap (λ z. not (has_work core aborted.last z)) w.0
+
+    quiet3 : (q : ℕ) → guards (standing_of aborted.last q) ≡ false
+    quiet3 q =
+        ⊎_elim (λ inner. by_gone (left3.gone q inner (omega arith))) (λ outer. ap guards (left3.others q outer) ∙ quiet2 q)
+        (contained (around core q) (i.main_of o))
+      where
+        by_gone : (standing_of aborted.last q ≡ at.Ended)
+            ⊎ ((standing_of aborted.last q ≡ at.Outside) × ((standing_of d2 q ≡ at.Outside) ⊎
+            ((s : ℕ) × Contains (around core q) s × (0 ≤ holder core s) × Contains (around core (holder core s)) (i.main_of o)))) →
+            guards (standing_of aborted.last q) ≡ false
+        by_gone (inl is) = ap guards is
+        by_gone (inr w) = ap guards w.0
+
+    abbrev pub all_tests : List Transition
+    all_tests = at_once (behind_transitions k core i r o)
+
+    enters : (state_at core (state_in core (i.thread_of r) next.join)).entered ≡ to (i.thread_of r) (at.Trying (i.behind_of o) all_tests) ∷ []
+    enters =
+        ap (λ n. (state_at core n).entered) next.leads
+        ∙ (ap (λ z. z.entered) split.behind
+        ∙ ap (λ p. to (i.thread_of p) (at.Trying (i.behind_of o) (at_once (behind_transitions k core i p o))) ∷ []) next.held)
+
+    abbrev pub d4 : Configuration
+    d4 = record {
+      variables = aborted.last.variables;
+      regions = slice_set (moved (drops (inside core (i.main_of o))) aborted.last.regions) (i.thread_of r) (at.Trying (i.behind_of o) all_tests);
+    }
+
+    join_step : Segment (machine core) corr Told aborted.last (AtHome Others (i.thread_of r) (suc stage)) (λ last. AtHome Others (i.thread_of r) 0) []
+        (λ z. z ≡ d4)
+    join_step =
+        silent_step (machine core) corr Told told aborted.last d4 (i.thread_of r) None no_access (AtHome Others (i.thread_of r) (suc stage))
+        (AtHome Others (i.thread_of r) 0) (λ z. z ≡ d4)
+        (joined core aborted.last (i.thread_of r) (i.main_of o) next.join
+        (at.Trying (i.behind_of o) all_tests) (unguarded aborted.last quiet3 (around core (i.thread_of r))) home3 all_over all_idle enters)
+        (ap access_of home3) (silent_idle corr (i.thread_of r) None)
+        (λ rest climbs. climbs_home corr Others (i.thread_of r) (suc stage) no_access rest climbs) refl
+
+    size2 : length d2.regions ≡ length d.regions
+    size2 = set_length d1.regions (i.watcher_of o) at.Ended ∙ set_length d.regions (i.watcher_of o) watch_acts
+
+    home_there : i.thread_of r < length (moved (drops (inside core (i.main_of o))) aborted.last.regions)
+    home_there =
+        let lt = (rows.region r next.there).there.1 in
+        let a : length aborted.last.regions ≡ length d2.regions = left3.size in
+        let b = drops_length (inside core (i.main_of o)) aborted.last.regions in
+        let e = size2 in
+        omega (lt, a, b, e, related.core_regions, arith)
+
+    home4 : standing_of d4 (i.thread_of r) ≡ at.Trying (i.behind_of o) all_tests
+    home4 = set_here (moved (drops (inside core (i.main_of o))) aborted.last.regions) (i.thread_of r) (at.Trying (i.behind_of o) all_tests) home_there
+
+    dropped4 : (q : ℕ) → q ≢ i.thread_of r → Contains (inside core (i.main_of o)) q → standing_of d4 q ≡ at.Outside
+    dropped4 q ne h = set_other (moved (drops (inside core (i.main_of o))) aborted.last.regions) (i.thread_of r) q (at.Trying (i.behind_of o) all_tests)
+        ne ∙ drops_in (inside core (i.main_of o)) aborted.last.regions q h
+
+    same4 : (q : ℕ) → q ≢ i.thread_of r → ¬ Contains (inside core (i.main_of o)) q → standing_of d4 q ≡ standing_of aborted.last q
+    same4 q ne out_q =
+        set_other (moved (drops (inside core (i.main_of o))) aborted.last.regions) (i.thread_of r) q (at.Trying (i.behind_of o) all_tests) ne ∙
+        drops_out (inside core (i.main_of o)) aborted.last.regions q out_q
+
+    quiet4 : (q : ℕ) → guards (standing_of d4 q) ≡ false
+    quiet4 q =
+        ⊎_elim (λ e. ap (λ p. guards (standing_of d4 p)) e ∙ ap guards home4)
+        (λ ne. ⊎_elim (λ h. ap guards (dropped4 q ne h)) (λ out_q. ap guards (same4 q ne out_q) ∙ quiet3 q) (contained (inside core (i.main_of o)) q))
+        (same_or_not q (i.thread_of r))
+
+    home_in4 : i.thread_of r < length d4.regions
+    home_in4 =
+        let lt = home_there in
+        let size = set_length (moved (drops (inside core (i.main_of o))) aborted.last.regions) (i.thread_of r) (at.Trying (i.behind_of o) all_tests) in
+        omega (lt, size, arith)
+
+    -- ---- the tests of the continuation, up to the one that answers
+
+    pub answers_it : Answered corr (i.thread_of r) (i.places_of r) d4.variables x sees_own t (suc next.number)
+        (at_once (answers (i.places_of r) (Some x) 1 next.aborts ++ next.behind_them))
+    answers_it =
+        answered corr (i.thread_of r) (i.places_of r) d4.variables x sees_own t (suc next.number) (ap (λ vs. slice_get vs x) left3.variables ∙ flag_is)
+        next.behind_them next.aborts 1 next.number next.numbered (omega arith)
+
+    -- the answer, and what is tested behind it
+    abbrev pub answer : Transition
+    answer = led_by (i.places_of r) (Some (is_number x (suc next.number))) t
+
+    tests_are : all_tests ≡ (next.earlier ++ answers_it.before) ++ (answer ∷ answers_it.later)
+    tests_are = next.continues ∙ (ap (λ zs. next.earlier ++ zs) answers_it.are ∙ sym (append_assoc next.earlier answers_it.before (answer ∷ answers_it.later)))
+
+    values4 : d4.variables ≡ slice_set d.variables x raised_to
+    values4 = left3.variables
+
+    abbrev pub IsAnswering : Configuration → Type 0
+    IsAnswering z = Passed core corr Told told Others (i.thread_of r) (i.behind_of o) d4 (answer ∷ answers_it.later) z
+
+    answer_steps : Segment (machine core) corr Told d4 (AtHome Others (i.thread_of r) 0) (λ last. AtHome Others (i.thread_of r) 0) [] IsAnswering
+    answer_steps =
+        tests_fail core corr Told told Others (i.thread_of r) (i.behind_of o) (next.earlier ++ answers_it.before) (answer ∷ answers_it.later) d4
+        (fails_on corr (i.thread_of r) d4.variables next.earlier answers_it.before
+        (next.earlier_fail d4.variables (λ y ne. ap (λ vs. slice_get vs y) values4 ∙ other_value y ne)) answers_it.fail)
+        (home4 ∙ ap (at.Trying (i.behind_of o)) tests_are) quiet4 home_in4
+
+    -- from the abort's test to the answer
+    pub answering_on : Segment (machine core) corr Told d (Stage k i.thread_of c d) (λ last. AtHome Others (i.thread_of r) 0) (act_of (machine k) c r ∷ [])
+        IsAnswering
+    answering_on =
+        segment_on (machine core) corr Told d (Stage k i.thread_of c d) (λ last. AtHome Others (i.thread_of r) (suc stage))
+        (λ last. AtHome Others (i.thread_of r) 0)
+        (act_of (machine k) c r ∷ []) [] AllLeft IsAnswering aborted
+        (segment_on (machine core) corr Told aborted.last (AtHome Others (i.thread_of r) (suc stage)) (λ last. AtHome Others (i.thread_of r) 0)
+        (λ last. AtHome Others (i.thread_of r) 0) [] [] (λ z. z ≡ d4) IsAnswering join_step
+        (subst (λ z. Segment (machine core) corr Told z (AtHome Others (i.thread_of r) 0) (λ last. AtHome Others (i.thread_of r) 0) [] IsAnswering)
+        (sym join_step.reaches) answer_steps))
+
+    -- ---- what is reached
+
+    abbrev pub z : Configuration
+    z = answering_on.last
+
+    -- nobody is left inside, all others stand as before, and the flag is raised
+    pub record Emptied (w : Configuration) : Type 0 where
+      pub variables : w.variables ≡ slice_set d.variables x raised_to
+      pub size : length w.regions ≡ length d.regions
+      pub here : (later : List Transition) × (standing_of w (i.thread_of r) ≡ at.Trying (i.behind_of o) (answer ∷ later))
+      pub inside : (q : ℕ) → Contains (around core q) (i.main_of o) → standing_of w q ≡ at.Outside
+      pub outside : (q : ℕ) → q ≢ i.thread_of r → ¬ Contains (around core q) (i.main_of o) → standing_of w q ≡ standing_of d q
+      pub quiet : (q : ℕ) → guards (standing_of w q) ≡ false
+
+    passed_now : Passed core corr Told told Others (i.thread_of r) (i.behind_of o) d4 (answer ∷ answers_it.later) answering_on.last
+    passed_now = answering_on.reaches
+
+    pub emptied : Emptied answering_on.last
+    emptied =
+        record {
+          variables = passed_now.variables ∙ values4;
+          size =
+              let a = passed_now.size in
+              let b = set_length (moved (drops (inside core (i.main_of o))) aborted.last.regions) (i.thread_of r) (at.Trying (i.behind_of o) all_tests) in
+              let f = drops_length (inside core (i.main_of o)) aborted.last.regions in
+              let g = left3.size in
+              let h = size2 in omega (a, b, f, g, h, arith);
+          here = (answers_it.later, passed_now.here);
+          inside = λ q h.
+              let ne : q ≢ i.thread_of r = λ same. home_out (subst (λ p. Contains (around core p) (i.main_of o)) same h) in
+              passed_now.others q ne ∙ dropped4 q ne (inside_in core (i.main_of o) q (around_there core q (i.main_of o) h) h);
+          outside = λ q ne out_q.
+              passed_now.others q ne
+              ∙ (same4 q ne (λ h. out_q (inside_around core (i.main_of o) q h))
+              ∙ (left3.others q out_q ∙ other2 q (λ same. out_q (subst (λ p. Contains (around core p) (i.main_of o)) (sym same)
+              (subst (λ zs. Contains zs (i.main_of o)) (sym image.encloses) (head_in (i.main_of o) (around core (i.thread_of (holder k o)))))))));
+          quiet = λ q.
+              ⊎_elim (λ e. ap (λ p. guards (standing_of answering_on.last p)) e ∙ ap guards passed_now.here)
+              (λ ne. ap guards (passed_now.others q ne) ∙ quiet4 q) (same_or_not q (i.thread_of r));
+        }

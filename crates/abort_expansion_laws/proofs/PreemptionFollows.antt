@@ -1,0 +1,111 @@
+-- The law of the expansion of aborts, from two things: that each step of a flat chart is followed, and what gives that no
+-- strong test is overwritten.
+use Rattle.std.proofs.Common.{◌≡◌, ℕ, ◌⊎◌, inl, inr, true, List, map, length, refl, sym, ap, subst}
+use Rattle.std.proofs.Common.{◌∙◌, Option}
+use Rattle.std.specs.Prelude.{take}
+use Rattle.std.proofs.lemmas.List.{length-map, map-append}
+use Rattle.sc_values.specs.declared.value.Value.{Value}
+use Rattle.sc_values.specs.Access.{Access}
+use Rattle.sc_values.specs.Operator.{initial_value}
+use Rattle.sc_values.specs.Runs.{Ends}
+use Rattle.sc_graph.specs.Tick.{Inputs}
+use Rattle.sc_graph.specs.declared.program.Variable.{Variable}
+use Rattle.core_charts.specs.declared.features.Features.TheVariants as features
+use Rattle.core_charts.specs.Chart.{Chart}
+use Rattle.core_charts.specs.Rules.{IsChart}
+use Rattle.chart_machine.specs.declared.standing.Standing.TheVariants as at
+use Rattle.chart_machine.specs.declared.standing.Configuration.{Configuration}
+use Rattle.chart_machine.specs.declared.table.Table.{Table}
+use Rattle.chart_machine.specs.Table.{table, state_at}
+use Rattle.chart_machine.specs.Turns.{standing_of}
+use Rattle.chart_machine.specs.Machine.{machine, initial, start, stands_in, is_active}
+use Rattle.abort_expansion.specs.Expansion.{expanded}
+use Rattle.abort_expansion_laws.specs.Flat.{IsFlat}
+use Rattle.abort_expansion_laws.specs.Ticks.{Keeps}
+use Rattle.abort_expansion_laws.specs.Preemption.{chart_machine, SeenAlike}
+use Rattle.abort_expansion_laws.specs.Segments.{Follows}
+use Rattle.abort_expansion_laws.specs.Stages.{Entry, Silent, EachFits, EachSpared}
+use Rattle.abort_expansion_laws.proofs.FreshInside.{nobody_there}
+use Rattle.abort_expansion_laws.proofs.ListsOfTicks.{KeepsTicks, ticks_kept}
+use Rattle.abort_expansion_laws.proofs.Owed.{Started, first_tick, later_tick}
+use Rattle.abort_expansion_laws.proofs.SeenAlike.{front_of}
+use Rattle.abort_expansion_laws.proofs.RestedCharts.{rested_seen}
+use Rattle.abort_expansion_laws.proofs.TickFollowed as ticks
+
+-- ---- before the first tick
+
+initially_inactive : (k : Table) (s : ℕ) → is_active k (initial k) s ≡ true → ⊥
+initially_inactive k s active =
+    let none : stands_in (standing_of (initial k) (state_at k s).holder) s ≡ stands_in at.Outside s =
+    ap (λ x. stands_in x s) (nobody_there k (state_at k s).holder) in
+    let wrong : stands_in at.Outside s ≡ true = sym none ∙ active in absurd cc
+
+module _ (c : Chart) (rules : IsChart features.Extended c) (core_rules : IsChart features.Core (expanded c)) where
+  abbrev k : Table
+  k = table c
+
+  abbrev core : Table
+  core = table (expanded c)
+
+  abbrev first_values : List Variable → List Value
+  first_values xs = map (λ x. initial_value x.kind) xs
+
+  initial_seen : SeenAlike c (initial k) (initial core)
+  initial_seen =
+      record {
+        variables =
+            ap (λ n. take n (first_values core.variables)) (sym (length-map k.variables (λ x. initial_value x.kind)))
+            ∙ (ap (λ xs. take (length (first_values k.variables)) (first_values xs)) (ticks.rows c rules core_rules).variables
+            ∙ (ap (take (length (first_values k.variables)))
+            (map-append (λ x. initial_value x.kind) k.variables (ticks.rows c rules core_rules).added)
+            ∙ front_of (first_values k.variables) (first_values (ticks.rows c rules core_rules).added)));
+        active = λ s. ((λ active. absurd (initially_inactive k s active)), (λ there. absurd (initially_inactive core there.0 there.1)));
+      }
+
+  -- ---- between two ticks
+
+  abbrev pub RestsAlike : Configuration → Configuration → Type 0
+  RestsAlike before d = ((before ≡ initial k) × (d ≡ initial core)) ⊎ ticks.HasRested c rules core_rules before d
+
+  -- what is kept of the core chart from tick to tick, and gives that no strong test is overwritten within one
+  pub record SparesTests (Accepted : Inputs → Type 0) (Told : Configuration → Entry → Type 0) : Type 1 where
+    pub Rests : Configuration → Type 0
+    pub begins : Rests (initial core)
+    pub goes_on : (inputs : Inputs) (d e : Configuration) → Accepted inputs → Rests d → Ends (machine core) (start core inputs d) e → Rests e
+    pub spared : (inputs : Inputs) (before d : Configuration) → Accepted inputs → Rests d → RestsAlike before d → (log : List Entry) (e : Configuration) →
+        Follows (machine core) (ticks.corr c rules core_rules) Told (start core inputs d) log e → EachFits (ticks.corr c rules core_rules) log →
+        EachSpared (ticks.corr c rules core_rules) log
+
+  module _ (flat : IsFlat c) (Accepted : Inputs → Type 0) (Told : Configuration → Entry → Type 0)
+      (told : (d : Configuration) (t : ℕ) (stage : Option (ℕ × ℕ)) (a : Access) → Told d (Silent t stage a))
+      (spares : SparesTests Accepted Told) (Holds : Configuration → Type 0) (kept : ticks.KeptByChart c rules core_rules Holds)
+      (followed : ticks.StepsFollowed c rules core_rules Holds Told) where
+    record BothRest (before d : Configuration) : Type 0 where
+      alike : RestsAlike before d
+      rests : spares.Rests d
+      holds : Holds before
+
+    started : (inputs : Inputs) (before d : Configuration) → RestsAlike before d →
+        Started k core (ticks.i c rules core_rules) (start k inputs before) (start core inputs d)
+    started inputs before d (inl (first, core_first)) = first_tick inputs (ap (start k inputs) first) (ap (start core inputs) core_first)
+    started inputs before d (inr rested) = later_tick inputs before d rested.rests refl refl
+
+    seen : (before d : Configuration) → RestsAlike before d → SeenAlike c before d
+    seen before d (inl (first, core_first)) = subst (λ z. SeenAlike c z d) (sym first) (subst (SeenAlike c (initial k)) (sym core_first) initial_seen)
+    seen before d (inr rested) = rested_seen c rules core_rules before d rested.rests
+
+    keeps_ticks : KeepsTicks (chart_machine c) (chart_machine (expanded c)) Accepted (SeenAlike c)
+    keeps_ticks =
+        record {
+          Rests = BothRest;
+          begins = record { alike = inl (refl, refl); rests = spares.begins; holds = kept.initially };
+          tick = λ inputs before last d accepted both ends.
+              let t = ticks.tick_followed c rules core_rules flat Told told Holds kept followed (start k inputs before) last (start core inputs d)
+              (started inputs before d both.alike) (kept.starts inputs before both.holds)
+              (spares.spared inputs before d accepted both.rests both.alike) ends in
+              (t.0, t.1, record { alike = inr t.2; rests = spares.goes_on inputs d t.0 accepted both.rests t.1; holds = t.3 });
+          seen = λ before d both. seen before d both.alike;
+        }
+
+    pub preemption_follows : Keeps (chart_machine c) (chart_machine (expanded c)) Accepted (SeenAlike c)
+    preemption_follows = ticks_kept (chart_machine c) (chart_machine (expanded c)) Accepted (SeenAlike c) keeps_ticks

@@ -1,0 +1,401 @@
+-- As a tick starts, whatever lies in a superstate that is guarded resumes at its check of the strong flag, and is so below
+-- the nodes of the monitor that raise it.
+use Rattle.std.proofs.Common.{◌≡◌, ◌≢◌, ℕ, zero, suc, ◌<◌, ◌≤◌, ◌⊎◌, inl, inr, ⊎_elim, Bool, true, false, not, ◌||◌, Some, List, [], ◌∷◌, ◌++◌, map}
+use Rattle.std.proofs.Common.{length, Contains, refl, sym, ap, subst, ◌∙◌, arith, cond, unwrap_or}
+use Rattle.std.proofs.lemmas.Option.{same_Some, slice_get_past}
+use Rattle.sc_values.specs.Access.{Reads, init_read}
+use Rattle.sc_graph.specs.declared.tables.Tables.{Tables}
+use Rattle.sc_graph.specs.declared.control.Control.{Control}
+use Rattle.sc_graph.specs.declared.control.Status.TheVariants as status
+use Rattle.sc_graph.specs.declared.place.Place.TheVariants as place
+use Rattle.sc_graph.specs.Program.{Program, parent_of, owner_of}
+use Rattle.sc_graph.specs.Threads.{Descends}
+use Rattle.sc_graph.specs.Accesses.{accesses}
+use Rattle.sc_graph.specs.Control.{status_of}
+use Rattle.sc_graph.specs.Tables.{priority, priority_of}
+use Rattle.sc_graph.specs.Valid.{IsFormed, IsValid}
+use Rattle.tick_laws.proofs.Formed.{root_alone, valid_formed}
+use Rattle.tick_laws.proofs.Lists.{contains_head, map_contains}
+use Rattle.tick_laws.proofs.Views.{Enabled}
+use Rattle.core_charts.specs.declared.region.Effect.{Effect}
+use Rattle.core_charts.specs.declared.region.Transition.{Transition}
+use Rattle.core_charts.specs.Tests.{is_strong, strong_aborts}
+use Rattle.core_charts.specs.Aborts.{has_aborts, has_strong}
+use Rattle.chart_machine.specs.declared.standing.Standing.{Standing}
+use Rattle.chart_machine.specs.declared.standing.Standing.TheVariants as at
+use Rattle.chart_machine.specs.declared.standing.Configuration.{Configuration}
+use Rattle.chart_machine.specs.declared.table.Table.{Table}
+use Rattle.chart_machine.specs.Table.{state_at}
+use Rattle.chart_machine.specs.Turns.{standing_of, guards, is_guarded}
+use Rattle.chart_machine.specs.Steps.{step, access_of_trigger}
+use Rattle.abort_expansion.specs.Transitions.{is_raised, led}
+use Rattle.abort_expansion.specs.Superstates.{stays}
+use Rattle.chart_lowering_laws.specs.Stands.{Lowered}
+use Rattle.compiled_charts_laws.proofs.LateTests.{is_late}
+use Rattle.compiled_charts_laws.proofs.TickStarts.{ResumedAt, Wakes, before_tests, behind_fork}
+use Rattle.chart_machine_laws.proofs.LyingIn.{IsNested, around, holder, head_in, tail_in, swapped}
+use Rattle.chart_machine_laws.specs.Tree.{IsThere}
+use Rattle.abort_expansion_laws.specs.CoreRows.{own, IsState, joins, Images, CoreRows, WatcherImage, flags_around}
+use Rattle.abort_expansion_laws.specs.Related.{IsCalm, calm_outside, calm_ended, calm_trying, calm_within, front, held_back, tests_of, Stands, outside}
+use Rattle.abort_expansion_laws.specs.Related.{ended, left}
+use Rattle.abort_expansion_laws.specs.Related.{trying, acting, entering, guarding, staying, within, behind, Watches, guards as watch_guards, waits, elsewhere}
+use Rattle.abort_expansion_laws.specs.Related.{IsInside, guarded, open_inside, Related}
+use Rattle.abort_expansion_laws.proofs.FlagAccess.{raised_access}
+use Rattle.abort_expansion_laws.proofs.InsideLeaves.{FlatRows, sees, one_check, aborts_here}
+use Rattle.abort_expansion_laws.proofs.MonitorsApart.{monitor_apart}
+use Rattle.abort_expansion_laws.proofs.StageReached.{any_in}
+use Rattle.abort_expansion_laws.proofs.StrongNotTaken.{inside_guarding}
+use Rattle.abort_expansion_laws.proofs.StrongTestsQuiet.{Resumes}
+use Rattle.abort_expansion_laws.proofs.LowPriorities.{Under}
+use Rattle.abort_expansion_laws.proofs.QuietBegins.{LoweredTests, IsRaising, Beside, StaysLow}
+
+-- ---- whoever lies in a guarded superstate, and is there, sees the flag first
+
+module _ (k core : Table) (i : Images) (rows : CoreRows k core i) (flat : FlatRows k core i) (tree : IsNested k)
+    (core_children : (s r : ℕ) → Contains (state_at core s).regions r → around core r ≡ s ∷ around core (holder core s))
+    (children : (s r : ℕ) → Contains (state_at k s).regions r → around k r ≡ s ∷ around k (holder k s))
+    (c d : Configuration) (related : Related k core i c d)
+    (o x : ℕ) (has : has_aborts (own k o) ≡ true) (flag : (i.flags_of o).strong ≡ Some x) (guards_now : guards (standing_of c (holder k o)) ≡ true) where
+  pub data SeesFirst : Standing → Type 0 where
+    out : SeesFirst at.Outside
+    over : SeesFirst at.Ended
+    checks : (n : ℕ) (w : Transition) (rest : List Transition) → w.trigger ≡ Some (is_raised x) → SeesFirst (at.Trying n (w ∷ rest))
+    forks : (n : ℕ) (w : Transition) (rest : List Transition) → SeesFirst (at.Within n (w ∷ rest))
+
+  module _ (q : ℕ) (there : IsThere k q) (in_o : Contains (around k q) o) where
+    guarded_here : is_guarded k c (around k q) ≡ true
+    guarded_here = any_in (λ s. guards (standing_of c (holder k s))) (around k q) o in_o guards_now
+
+    by_trying : (s : ℕ) (tests : List Transition) → SeesFirst (at.Trying (i.main_of s) (tests_of k core i c q tests))
+    by_trying s tests =
+        let fronts : front k core i false c q ≡ sees k core i rows flat tree core_children children o x has flag false q ∷ [] =
+        rw (guarded_here) (one_check k core i rows flat tree core_children children o x has flag q false in_o) in
+        subst (λ zs. SeesFirst (at.Trying (i.main_of s) (zs ++ map (led (i.places_of q)) tests ++ held_back k core i q))) (sym fronts)
+        (checks (i.main_of s) (sees k core i rows flat tree core_children children o x has flag false q)
+        (map (led (i.places_of q)) tests ++ held_back k core i q) refl)
+
+    by_behind : (s : ℕ) → SeesFirst (at.Trying (i.behind_of s) (front k core i true c q ++ held_back k core i q))
+    by_behind s =
+        let fronts : front k core i true c q ≡ sees k core i rows flat tree core_children children o x has flag true q ∷ [] =
+        rw (guarded_here) (one_check k core i rows flat tree core_children children o x has flag q true in_o) in
+        subst (λ zs. SeesFirst (at.Trying (i.behind_of s) (zs ++ held_back k core i q))) (sym fronts)
+        (checks (i.behind_of s) (sees k core i rows flat tree core_children children o x has flag true q) (held_back k core i q) refl)
+
+    never_stays : (s : ℕ) → stays (flags_around k core i q) (own k s) ≡ true → ⊥
+    never_stays s e =
+        by_aborts (has_aborts (own k s)) _ (aborts_here k core i rows flat tree core_children children o x has flag q in_o) e
+      where
+        by_aborts : (a b : Bool) → b ≡ true → not (a || b) ≡ true → ⊥
+        by_aborts true b e f = absurd cc
+        by_aborts false true e f = absurd cc
+        by_aborts false false e f = absurd cc
+
+    calm_acting : (z : Standing) → IsCalm z → (s p : ℕ) (effects : List Effect) → z ≢ at.Acting s effects p
+    calm_acting _ calm_outside s p effects e = absurd cc
+    calm_acting _ calm_ended s p effects e = absurd cc
+    calm_acting _ (calm_trying u tests) s p effects e = absurd cc
+    calm_acting _ (calm_within u tests) s p effects e = absurd cc
+
+    calm_guards : (z : Standing) → IsCalm z → guards z ≡ true → ⊥
+    calm_guards _ calm_outside e = absurd cc
+    calm_guards _ calm_ended e = absurd cc
+    calm_guards _ (calm_trying u tests) e = absurd cc
+    calm_guards _ (calm_within u tests) e = absurd cc
+
+    by_stands : (z y : Standing) → Stands k core i c q z y → IsCalm z → SeesFirst y
+    by_stands _ _ outside calm = out
+    by_stands _ _ (ended inner) calm = over
+    by_stands _ _ (left s ss e over_it) calm = out
+    by_stands _ _ (trying s tests simple held) calm = by_trying s tests
+    by_stands _ _ (acting s u p g effects lt) calm = absurd (calm_acting (at.Acting s (g ∷ effects) p) calm s p (g ∷ effects) refl)
+    by_stands _ _ (entering s fork t tests super held leads) calm = absurd (calm_guards (at.Entering s (t ∷ tests)) calm refl)
+    by_stands _ _ (guarding s join t tests has_some held leads) calm = absurd (calm_guards (at.Guarding s (t ∷ tests)) calm refl)
+    by_stands _ _ (staying s tests super held stay) calm = absurd (never_stays s stay)
+    by_stands _ _ (within s join tests super held stay open_still leads) calm = forks (i.main_of s) (joins join) []
+    by_stands _ _ (behind s tests super held over_it) calm = by_behind s
+
+    pub sees_first : SeesFirst (standing_of d (i.thread_of q))
+    sees_first = by_stands (standing_of c q) (standing_of d (i.thread_of q)) (related.regions q there) (related.calm q o there in_o guards_now)
+
+-- ---- where threads are, regions are
+
+module _ (k core : Table) (i : Images) (c : Configuration) where
+  region_present : (r : ℕ) (x y : Standing) → Stands k core i c r x y → y ≢ at.Outside → x ≢ at.Outside
+  region_present r _ _ outside present e = present refl
+  region_present r _ _ (ended inner) present e = absurd cc
+  region_present r _ _ (left s ss round over_it) present e = absurd cc
+  region_present r _ _ (trying s tests simple held) present e = absurd cc
+  region_present r _ _ (acting s u p g effects lt) present e = absurd cc
+  region_present r _ _ (entering s fork t tests super held leads) present e = absurd cc
+  region_present r _ _ (guarding s join t tests has_some held leads) present e = absurd cc
+  region_present r _ _ (staying s tests super held stay) present e = absurd cc
+  region_present r _ _ (within s join tests super held stay open_still leads) present e = absurd cc
+  region_present r _ _ (behind s tests super held over_it) present e = absurd cc
+
+  -- a monitor is there where its superstate is guarded, or open
+  monitor_present : (o : ℕ) (x y : Standing) → Watches k core i o x y → y ≢ at.Outside → IsInside k core i o x
+  monitor_present o _ _ (watch_guards some among) present = guarded (map (λ (z : ℕ × Transition). z.1) some)
+  monitor_present o _ _ (waits some ends among all) present = open_inside (map (λ (z : ℕ × Transition). z.1) some ++ ends)
+  monitor_present o x _ (elsewhere _ a b) present = absurd (present refl)
+
+  -- where a delayed test is to be made, the superstate is guarded, or open
+  monitor_late : (o : ℕ) (x y : Standing) → Watches k core i o x y → is_late y ≡ true → ((tests : List Transition) × (x ≡ at.Guarding o tests)) ⊎
+      ((tests : List Transition) × (x ≡ at.Within o tests))
+  monitor_late o _ _ (watch_guards some among) late = inl (map (λ (z : ℕ × Transition). z.1) some, refl)
+  monitor_late o _ _ (waits some ends among all) late = inr (map (λ (z : ℕ × Transition). z.1) some ++ ends, refl)
+  monitor_late o x _ (elsewhere _ a b) late = absurd cc
+
+module _ (k core : Table) (i : Images) (rows : CoreRows k core i) (flat : FlatRows k core i) (tree : IsNested k) (core_tree : IsNested core)
+    (core_children : (s r : ℕ) → Contains (state_at core s).regions r → around core r ≡ s ∷ around core (holder core s))
+    (children : (s r : ℕ) → Contains (state_at k s).regions r → around k r ≡ s ∷ around k (holder k s))
+    (super_there : (r s : ℕ) → Contains (around k r) s → IsState k s) (holds_there : (s : ℕ) → IsState k s → IsThere k (holder k s))
+    (strong_for : (s x : ℕ) → (i.flags_of s).strong ≡ Some x → has_strong (own k s) ≡ true)
+    (p : Program) (q : Tables) (valid : IsValid p q) (Alike : Configuration → Control → Type 0) (lowered : Lowered core p Alike)
+    (tests : LoweredTests core p Alike lowered)
+    (late_before : (d next : Configuration) (t g : ℕ) → step core t d ≡ Some next → is_late (standing_of next g) ≡ true →
+    is_late (standing_of d g) ≡ true)
+    (top_parent : (t : ℕ) → IsThere core t → around core t ≡ [] → parent_of p t ≡ Some 0)
+    (c d : Configuration) (related : Related k core i c d) (m : Control) (alike : Alike d m)
+    (wakes : (t : ℕ) → t ≢ 0 → Enabled p m t → Wakes p m t (standing_of d t))
+    (plain_open : (o : ℕ) (tests : List Transition) → standing_of c (holder k o) ≡ at.Within o tests → strong_aborts (own k o) ≡ []) where
+  formed : IsFormed p
+  formed = valid_formed p q valid
+
+  -- ---- the tree of threads
+
+  none_at_root : (gens h u : ℕ) → parent_of p u ≡ Some h → Descends p gens 0 u → ⊥
+  none_at_root zero h u up same = root_alone p formed h (ap (parent_of p) same ∙ up)
+  none_at_root (suc gens) h u up below = root_alone p formed below.0 below.1
+
+  -- whose thread lies below one that the thread of r forks lies in a superstate of r
+  module _ (r u : ℕ) (r_there : IsThere k r) (up : parent_of p u ≡ Some (i.thread_of r)) where
+    abbrev InRegion : ℕ → Type 0
+    InRegion v = (s : ℕ) × Contains (around k v) s × (holder k s ≡ r)
+
+    not_root : i.thread_of r ≡ 0 → ⊥
+    not_root same =
+        let root : r ≡ 0 = rows.region_once r 0 (same ∙ sym rows.root) in
+        let lt = r_there.0 in absurd (omega (root, lt, arith))
+
+    parent_in : (v s : ℕ) (ss : List ℕ) → around k v ≡ s ∷ ss → parent_of p (i.thread_of v) ≡ Some (i.thread_of (holder k s))
+    parent_in v s ss round =
+        lowered.parent (i.thread_of v) (i.main_of s) (map i.main_of ss) (rows.encloses v ∙ ap (map i.main_of) round) ∙ ap Some (rows.held s)
+
+    parent_top : (v : ℕ) → IsThere k v → around k v ≡ [] → parent_of p (i.thread_of v) ≡ Some 0
+    parent_top v there round = top_parent (i.thread_of v) (rows.region v there).there (rows.encloses v ∙ ap (map i.main_of) round)
+
+    itself_in : (v : ℕ) → IsThere k v → i.thread_of v ≡ u → (zs : List ℕ) → around k v ≡ zs → InRegion v
+    itself_in v there same [] round =
+        absurd (not_root (same_Some (i.thread_of r) 0 (sym up ∙ (ap (parent_of p) (sym same) ∙ parent_top v there round))))
+    itself_in v there same (s ∷ ss) round =
+        let held : holder k s ≡ r = rows.region_once (holder k s) r
+        (same_Some (i.thread_of (holder k s)) (i.thread_of r) (sym (parent_in v s ss round) ∙ (ap (parent_of p) same ∙ up))) in
+        (s, subst (λ zs. Contains zs s) (sym round) (head_in s ss), held)
+
+    further_in : (gens v : ℕ) → IsThere k v → Descends p (suc gens) (i.thread_of v) u →
+        ((w : ℕ) → IsThere k w → Descends p gens (i.thread_of w) u → InRegion w) → (zs : List ℕ) → around k v ≡ zs → InRegion v
+    further_in gens v there below further [] round =
+        absurd (none_at_root gens (i.thread_of r) u up
+        (subst (λ w. Descends p gens w u) (same_Some below.0 0 (sym below.1 ∙ parent_top v there round)) below.2))
+    further_in gens v there below further (s ∷ ss) round =
+        let is_parent : below.0 ≡ i.thread_of (holder k s) = same_Some below.0 (i.thread_of (holder k s)) (sym below.1 ∙ parent_in v s ss round) in
+        let s_there : IsState k s = super_there v s (subst (λ zs. Contains zs s) (sym round) (head_in s ss)) in
+        let outer : InRegion (holder k s) = further (holder k s) (holds_there s s_there) (subst (λ w. Descends p gens w u) is_parent below.2) in (
+          outer.0,
+          subst (λ zs. Contains zs outer.0) (sym round)
+              (tail_in s outer.0 ss (subst (λ zs. Contains zs outer.0) (sym (tree.upward v s ss round)) outer.1)),
+          outer.2,
+        )
+
+    lies_in : (gens v : ℕ) → IsThere k v → Descends p gens (i.thread_of v) u → InRegion v
+    lies_in zero v there same = itself_in v there same (around k v) refl
+    lies_in (suc gens) v there below = further_in gens v there below (λ w w_there h. lies_in gens w w_there h) (around k v) refl
+
+  core_present : (t : ℕ) → standing_of d t ≢ at.Outside → IsThere core t
+  core_present zero present = absurd (present related.no_core)
+  core_present (suc t) present = by_place (in_or_past (suc t) (suc (length core.regions)))
+    where
+      in_or_past : (a b : ℕ) → (a < b) ⊎ (b ≤ a)
+      in_or_past a b = grind arith
+
+      by_place : (suc t < suc (length core.regions)) ⊎ (suc (length core.regions) ≤ suc t) → IsThere core (suc t)
+      by_place (inl lt) = (omega arith, lt)
+      by_place (inr past) =
+          let far : length d.regions ≤ suc t = omega (past, related.core_regions, arith) in
+          absurd (present (ap (λ o. unwrap_or o at.Outside) (slice_get_past d.regions (suc t) far)))
+
+  -- ---- a guarded superstate
+
+  module _ (o : ℕ) (o_there : IsState k o) (has : has_aborts (own k o) ≡ true) (others : List Transition)
+      (guarding_now : standing_of c (holder k o) ≡ at.Guarding o others) (n : ℕ)
+      (raises_it : IsRaising k core i rows core_tree p q valid Alike lowered tests late_before o n) where
+    h_there : IsThere k (holder k o)
+    h_there = holds_there o o_there
+
+    image : WatcherImage k core i o
+    image = rows.watcher o o_there has
+
+    -- of the superstates of that region it is the one in which somebody is
+    is_o : (s : ℕ) → holder k s ≡ holder k o → IsInside k core i s (standing_of c (holder k s)) → s ≡ o
+    is_o s held inner = inside_guarding k core i o s (standing_of c (holder k s)) inner others (ap (standing_of c) held ∙ guarding_now)
+
+    -- whoever is there, and lies below another child, lies in the superstate
+    by_region : (v u : ℕ) → IsThere k v → standing_of c v ≢ at.Outside → (gens : ℕ) → parent_of p u ≡ Some (i.thread_of (holder k o)) →
+        Descends p gens (i.thread_of v) u → Contains (around k v) o
+    by_region v u there present gens up below =
+        let s = lies_in (holder k o) u h_there up gens v there below in
+        subst (Contains (around k v)) (is_o s.0 s.2 (related.enclosed v s.0 there present s.1)) s.1
+
+    -- no other monitor is there
+    by_monitor : (w u : ℕ) → IsState k w → has_aborts (own k w) ≡ true → standing_of d (i.watcher_of w) ≢ at.Outside → (gens : ℕ) →
+        parent_of p u ≡ Some (i.thread_of (holder k o)) → u ≢ i.watcher_of o → Descends p gens (i.watcher_of w) u → ⊥
+    by_monitor w u there has_too present gens up differs below = by gens below
+      where
+        inside_w : IsInside k core i w (standing_of c (holder k w))
+        inside_w = monitor_present k core i c w (standing_of c (holder k w)) (standing_of d (i.watcher_of w)) (related.watchers w there has_too) present
+
+        holder_present : standing_of c (holder k w) ≢ at.Outside
+        holder_present e = none (standing_of c (holder k w)) inside_w e
+          where
+            none : (z : Standing) → IsInside k core i w z → z ≢ at.Outside
+            none _ (guarded others) e = absurd cc
+            none _ (open_inside others) e = absurd cc
+
+        parent : parent_of p (i.watcher_of w) ≡ Some (i.thread_of (holder k w))
+        parent =
+            lowered.parent (i.watcher_of w) (i.main_of w) (around core (i.thread_of (holder k w))) (rows.watcher w there has_too).encloses
+            ∙ ap Some (rows.held w)
+
+        by : (gens : ℕ) → Descends p gens (i.watcher_of w) u → ⊥
+        by zero same =
+            let held : holder k w ≡ holder k o = rows.region_once (holder k w) (holder k o)
+            (same_Some (i.thread_of (holder k w)) (i.thread_of (holder k o)) (sym parent ∙ (ap (parent_of p) same ∙ up))) in
+            differs (sym same ∙ ap i.watcher_of (is_o w held inside_w))
+        by (suc gens) below =
+            let in_o : Contains (around k (holder k w)) o =
+            by_region (holder k w) u (holds_there w there) holder_present gens up
+            (subst (λ z. Descends p gens z u) (same_Some below.0 (i.thread_of (holder k w)) (sym below.1 ∙ parent)) below.2) in
+            let none : has_aborts (own k w) ≡ false = flat.flat_held o w has in_o in
+            let wrong : true ≡ false = sym has_too ∙ none in absurd cc
+
+    -- the check of the flag is to come behind what raises it
+    module _ (v : ℕ) (in_o : Contains (around k v) o) (node : ℕ) (owned : owner_of p node ≡ Some (i.thread_of v))
+        (does : accesses p node ≡ access_of_trigger (Some (is_raised raises_it.flag))) where
+      core_in_o : Contains (around core (i.thread_of v)) (i.main_of o)
+      core_in_o = subst (λ zs. Contains zs (i.main_of o)) (sym (rows.encloses v)) (map_contains i.main_of (around k v) o in_o)
+
+      reads : Reads (accesses p node) raises_it.flag
+      reads = subst (λ a. Reads a raises_it.flag) (sym (does ∙ raised_access raises_it.flag)) (contains_head raises_it.flag [])
+
+      check_below : priority q node < priority q n
+      check_below =
+          valid.protocol (place.Pair n node)
+          (record {
+            concurrent =
+                record {
+                  first = i.watcher_of o;
+                  second = i.thread_of v;
+                  first_owner = raises_it.owned;
+                  second_owner = owned;
+                  concurrent =
+                      record {
+                        forking = i.thread_of (holder k o);
+                        apart = lowered.apart (i.watcher_of o) (i.thread_of v) (i.thread_of (holder k o))
+                            (swapped core core_tree (i.thread_of v) (i.watcher_of o) (i.thread_of (holder k o))
+                            (monitor_apart k core i rows core_tree o (i.watcher_of o) image.encloses image.no_thread v core_in_o));
+                      };
+                };
+            precedes = init_read raises_it.flag raises_it.inits reads;
+          })
+
+    abbrev Low : ℕ → Type 0
+    Low t = (priority_of q (status_of m t) < priority q n) ⊎ Resumes p q (priority q n) (status_of m t)
+
+    -- a thread that resumes at its check
+    resumes_low : (v : ℕ) → Contains (around k v) o → ResumedAt p m (i.thread_of v) (access_of_trigger (Some (is_raised raises_it.flag))) →
+        Low (i.thread_of v)
+    resumes_low v in_o x = inr (x.depth, x.node, x.at, x.resumes, check_below v in_o x.node x.owned x.does)
+
+    by_first : (v : ℕ) → Contains (around k v) o → (y : Standing) →
+        SeesFirst k core i rows flat tree core_children children c d related o raises_it.flag has raises_it.is_flag (ap guards guarding_now) y →
+        Wakes p m (i.thread_of v) y → Low (i.thread_of v)
+    by_first v in_o _ out (before_tests s ts is resumes) = absurd cc
+    by_first v in_o _ out (behind_fork s is) = absurd cc
+    by_first v in_o _ over (before_tests s ts is resumes) = absurd cc
+    by_first v in_o _ over (behind_fork s is) = absurd cc
+    by_first v in_o _ (checks z w rest triggered) (before_tests s ts is resumes) =
+        let are : ts ≡ w ∷ rest = cc in resumes_low v in_o (resumes w rest (is_raised raises_it.flag) are triggered)
+    by_first v in_o _ (checks z w rest triggered) (behind_fork s is) = absurd cc
+    by_first v in_o _ (forks z w rest) (before_tests s ts is resumes) = absurd cc
+    by_first v in_o _ (forks z w rest) (behind_fork s is) = absurd cc
+
+    woken_there : (t : ℕ) (y : Standing) → Wakes p m t y → y ≢ at.Outside
+    woken_there t y (before_tests s ts is resumes) e = let wrong : at.Trying s ts ≡ at.Outside = sym is ∙ e in absurd cc
+    woken_there t y (behind_fork s is) e = let wrong : at.Within s [] ≡ at.Outside = sym is ∙ e in absurd cc
+
+    low : (t : ℕ) → Under p (Beside k core i rows core_tree p q valid Alike lowered tests late_before o) t → Enabled p m t → Low t
+    low t under on = by_sort (rows.each t (core_present t present))
+      where
+        not_root : t ≢ 0
+        not_root same =
+            none_at_root under.2.generations (i.thread_of (holder k o)) under.0 under.1.0
+            (subst (λ z. Descends p under.2.generations z under.0) same under.2.descends)
+
+        woke : Wakes p m t (standing_of d t)
+        woke = wakes t not_root on
+
+        present : standing_of d t ≢ at.Outside
+        present = woken_there t (standing_of d t) woke
+
+        of_region : (v : ℕ) → IsThere k v → t ≡ i.thread_of v → Low t
+        of_region v there is =
+            subst Low (sym is)
+            (by_first v in_o (standing_of d (i.thread_of v))
+            (sees_first k core i rows flat tree core_children children c d related o raises_it.flag has raises_it.is_flag (ap guards guarding_now) v there
+            in_o) (subst (λ z. Wakes p m z (standing_of d z)) is woke))
+          where
+            there_now : standing_of c v ≢ at.Outside
+            there_now =
+                region_present k core i c v (standing_of c v) (standing_of d (i.thread_of v)) (related.regions v there)
+                (subst (λ z. standing_of d z ≢ at.Outside) is present)
+
+            in_o : Contains (around k v) o
+            in_o =
+                by_region v under.0 there there_now under.2.generations under.1.0
+                (subst (λ z. Descends p under.2.generations z under.0) is under.2.descends)
+
+        of_monitor : (w : ℕ) → IsState k w → has_aborts (own k w) ≡ true → t ≡ i.watcher_of w → Low t
+        of_monitor w there has_too is =
+            absurd (by_monitor w under.0 there has_too (subst (λ z. standing_of d z ≢ at.Outside) is present) under.2.generations under.1.0 under.1.1
+            (subst (λ z. Descends p under.2.generations z under.0) is under.2.descends))
+
+        by_sort : ((r : ℕ) × IsThere k r × (t ≡ i.thread_of r)) ⊎ ((s : ℕ) × IsState k s × (has_aborts (own k s) ≡ true) × (t ≡ i.watcher_of s)) → Low t
+        by_sort (inl r) = of_region r.0 r.1 r.2
+        by_sort (inr s) = of_monitor s.0 s.1 s.2 s.3
+
+  pub starts_low : (o : ℕ) → IsState k o → has_aborts (own k o) ≡ true → is_late (standing_of d (i.watcher_of o)) ≡ true → (n : ℕ) →
+      IsRaising k core i rows core_tree p q valid Alike lowered tests late_before o n →
+      StaysLow k core i rows core_tree p q valid Alike lowered tests late_before o n m
+  starts_low o there has late n raises_it =
+      ⊎_elim
+      (λ x. record {
+        ok = lowered.configuration d m alike;
+        waits = subst (λ z. status_of m z ≡ status.Waiting (lowered.join_of (i.main_of o))) (rows.held o)
+            (tests.waits_there d m (i.watcher_of o) (i.main_of o) (around core (i.thread_of (holder k o))) alike (rows.watcher o there has).encloses late);
+        low = low o there has x.0 x.1 n raises_it;
+      })
+      (λ x.
+      absurd (none (strong_for o raises_it.flag raises_it.is_flag) (plain_open o x.0 x.1)))
+      (monitor_late k core i c o (standing_of c (holder k o)) (standing_of d (i.watcher_of o)) (related.watchers o there has) late)
+    where
+      strong_none : (ts : List Transition) → has_strong ts ≡ true → strong_aborts ts ≡ [] → ⊥
+      strong_none [] some bare = absurd cc
+      strong_none (t ∷ ts) some bare = by (is_strong t.kind) some bare (λ more none. strong_none ts more none)
+        where
+          by : (b : Bool) → (b || has_strong ts) ≡ true → cond b (t ∷ strong_aborts ts) (strong_aborts ts) ≡ [] →
+              (has_strong ts ≡ true → strong_aborts ts ≡ [] → ⊥) → ⊥
+          by true some bare further = absurd cc
+          by false some bare further = further some bare
+
+      none : has_strong (own k o) ≡ true → strong_aborts (own k o) ≡ [] → ⊥
+      none some bare = strong_none (own k o) some bare
