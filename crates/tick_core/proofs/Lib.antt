@@ -1,5 +1,5 @@
 pub mod Accepted
-mod Layouts
+mod NotedForks
 mod OwnRoom
 mod Unmoved
 mod LeadingThreads

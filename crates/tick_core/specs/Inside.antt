@@ -1,7 +1,7 @@
 -- What private functions alone say of themselves. It is proved, and no public contract rests on what it means.
 pub mod Inputs
 pub mod Given
-pub mod Layout
+pub mod Joins
 pub mod Living
 pub mod Sorting
 pub mod Leading

@@ -4,9 +4,9 @@ ghost use Rattle.std.specs.Prelude.{◌≡◌, ◌≤◌, ℕ, IsTrue, IfNone, I
 ghost use Rattle.std.specs.Option.{option_copied};
 ghost use Rattle.std.specs.List.{list_all};
 ghost use Rattle.sc_graph.specs.Control.{status_of, has_ended, is_enabled, IsEnabled};
-ghost use Rattle.tick_core.specs.Inside.Layout.{FindsForks};
+ghost use Rattle.tick_core.specs.Inside.Joins.{FindsForks};
 
-use crate::layout::Layout;
+use crate::joins::Joins;
 use sc_graph::{Control, Program, Status, ThreadId};
 
 /// Whether all these threads have ended.
@@ -20,17 +20,17 @@ pub(crate) fn have_ended(control: &Control, children: &[ThreadId]) -> bool
 
 /// Whether a thread is enabled: at a node, or waiting at a join of which all children have ended.
 pub(crate) fn is_enabled(
-    layout: &Layout,
+    joins: &Joins,
     program: &Program,
     control: &Control,
     thread: ThreadId,
 ) -> bool
-    requires { FindsForks program.now layout.now }
+    requires { FindsForks program.now joins.now }
     ensures { result ≡ is_enabled program.now control.now thread }
 {
     match control.status(thread) {
         Status::At(_) => true,
-        Status::Waiting(join) => match layout.joined(program, join) {
+        Status::Waiting(join) => match joins.joined(program, join) {
             Some(children) => have_ended(control, children),
             None => false,
         },

@@ -5,15 +5,15 @@ ghost use Rattle.std.specs.Result.{IsErrOf};
 ghost use Rattle.sc_graph.specs.Tick.{Rests, AreAccepted, IsConfiguration, start};
 ghost use Rattle.tick_core.specs.Judging.{IsJudgement};
 ghost use Rattle.tick_core.specs.Inside.Judging.{JudgesSteps};
-ghost use Rattle.tick_core.specs.Inside.Layout.{FindsForks};
+ghost use Rattle.tick_core.specs.Inside.Joins.{FindsForks};
 
 mod forbidden;
 mod replaying;
 
 use crate::inputs::{Inputs, are_accepted};
+use crate::joins::Joins;
 use crate::judging::forbidden::first_forbidden;
 use crate::judging::replaying::{Replayed, Taken, replay};
-use crate::layout::Layout;
 use crate::leading::leader;
 use crate::starting::started;
 use crate::state::BeginFault;
@@ -56,16 +56,16 @@ pub fn judge(
         return Err(BeginFault::Input);
     }
     let mut reached = started(alloc, program, inputs.as_slice(), control)?;
-    let layout = Layout::of(alloc, verified)?;
-    match replay(alloc, &layout, verified, &mut reached, run)? {
+    let joins = Joins::of(alloc, verified)?;
+    match replay(alloc, &joins, verified, &mut reached, run)? {
         Replayed::Stopped(at) => Ok(Judged::NotRun(at)),
-        Replayed::Whole(steps) => Ok(judge_steps(&layout, verified, reached, &steps)),
+        Replayed::Whole(steps) => Ok(judge_steps(&joins, verified, reached, &steps)),
     }
 }
 
 // Judges a run by its steps and by what it leads to.
-fn judge_steps(layout: &Layout, verified: &Verified, reached: Control, steps: &[Taken]) -> Judged
-    requires forks { FindsForks verified.now.program layout.now }
+fn judge_steps(joins: &Joins, verified: &Verified, reached: Control, steps: &[Taken]) -> Judged
+    requires forks { FindsForks verified.now.program joins.now }
     requires configuration { IsConfiguration verified.now.program reached }
     ensures { JudgesSteps verified.now.program steps.now reached result }
 {
@@ -74,7 +74,7 @@ fn judge_steps(layout: &Layout, verified: &Verified, reached: Control, steps: &[
     if let Some((first, second)) = first_forbidden(program, steps) {
         return Judged::NotAdmissible(first, second);
     }
-    match leader(layout, program, image.tables(), &reached) {
+    match leader(joins, program, image.tables(), &reached) {
         Some(_) => Judged::Incomplete,
         None => Judged::Ends(reached),
     }

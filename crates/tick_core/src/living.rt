@@ -4,26 +4,26 @@ ghost use Rattle.std.specs.Prelude.{ℕ, ◌≡◌, ◌-◌, length, count_by, s
 ghost use Rattle.sc_graph.specs.declared.control.Status.TheVariants.{Waiting};
 ghost use Rattle.sc_graph.specs.Control.{status_of, joined_at};
 ghost use Rattle.sc_graph.specs.Tick.{IsConfiguration};
-ghost use Rattle.tick_core.specs.Inside.Layout.{FindsForks};
+ghost use Rattle.tick_core.specs.Inside.Joins.{FindsForks};
 ghost use Rattle.tick_core.specs.Inside.Living.{lives, living, CountsLiving, counted_at};
 
-use crate::layout::Layout;
+use crate::joins::Joins;
 use sc_graph::{Control, NodeId, Program, Status, ThreadId};
 
 /// Counts for each thread that waits how many of the children for whom it waits have not ended.
 pub(crate) fn count_every(
-    layout: &Layout,
+    joins: &Joins,
     program: &Program,
     control: &Control,
     counts: &mut Vec<usize>,
 )
-    requires forks { FindsForks program.now layout.now }
+    requires forks { FindsForks program.now joins.now }
     requires configuration { IsConfiguration program.now control.now }
     requires places { length counts.old.items ≡ length program.now.threads }
     ensures { CountsLiving program.now control.now counts.new.items }
 {
     for thread in 0..program.thread_count() {
-        let count = waited_for(layout, program, control, control.status(thread));
+        let count = waited_for(joins, program, control, control.status(thread));
         counts[thread as usize] = count;
     }
 }
@@ -31,18 +31,18 @@ pub(crate) fn count_every(
 /// After a step of a thread: where it forked its children are counted anew, and where it ended its
 /// parent waits for one less.
 pub(crate) fn count_after(
-    layout: &Layout,
+    joins: &Joins,
     program: &Program,
     control: &Control,
     counts: &mut Vec<usize>,
     thread: ThreadId,
 )
-    requires { FindsForks program.now layout.now }
+    requires { FindsForks program.now joins.now }
     ensures { counts.new.items ≡ counted_at program.now control.now counts.old.items thread
         (status_of control.now thread) }
 {
     match control.status(thread) {
-        Status::Waiting(join) => put(counts, thread, living(layout, program, control, join)),
+        Status::Waiting(join) => put(counts, thread, living(joins, program, control, join)),
         Status::Ended => {
             if let Some(parent) = program.parent(thread) {
                 put(counts, parent, left(counts, parent).saturating_sub(1));
@@ -63,22 +63,22 @@ pub(crate) fn left(counts: &[usize], thread: ThreadId) -> usize
 }
 
 // How many children a thread that stands so waits for.
-fn waited_for(layout: &Layout, program: &Program, control: &Control, status: Status) -> usize
-    requires { FindsForks program.now layout.now }
+fn waited_for(joins: &Joins, program: &Program, control: &Control, status: Status) -> usize
+    requires { FindsForks program.now joins.now }
     ensures { (j : ℕ) → status ≡ Waiting j → result ≡ living control.now (joined_at program.now j) }
 {
     match status {
-        Status::Waiting(join) => living(layout, program, control, join),
+        Status::Waiting(join) => living(joins, program, control, join),
         Status::Absent | Status::At(_) | Status::Paused(_) | Status::Ended => 0,
     }
 }
 
 // How many children of the fork of a join have not ended; 1 where there is no fork.
-fn living(layout: &Layout, program: &Program, control: &Control, join: NodeId) -> usize
-    requires { FindsForks program.now layout.now }
+fn living(joins: &Joins, program: &Program, control: &Control, join: NodeId) -> usize
+    requires { FindsForks program.now joins.now }
     ensures { result ≡ living control.now (joined_at program.now join) }
 {
-    match layout.joined(program, join) {
+    match joins.joined(program, join) {
         Some(children) => living_among(control, children),
         None => 1,
     }

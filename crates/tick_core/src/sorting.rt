@@ -5,13 +5,13 @@ ghost use Rattle.sc_graph.specs.Control.{status_of};
 ghost use Rattle.sc_graph.specs.Program.{Program, parent_of};
 ghost use Rattle.sc_graph.specs.Tick.{IsConfiguration};
 ghost use Rattle.sc_graph.specs.Valid.{IsValid};
-ghost use Rattle.tick_core.specs.Inside.Layout.{FindsForks};
+ghost use Rattle.tick_core.specs.Inside.Joins.{FindsForks};
 ghost use Rattle.tick_core.specs.Inside.Living.{CountsLiving};
 ghost use Rattle.tick_core.specs.Inside.Sorting.{OwnRows, AreSorted, step_priority, ready_row, sorted_one};
 ghost use Rattle.tick_core.specs.Inside.Sorting.{sorted_parent, sorted_all, children_at, NodePriorities};
 
 use crate::claim::Claim;
-use crate::layout::Layout;
+use crate::joins::Joins;
 use crate::living::left;
 use buckets::Rows;
 use sc_graph::{Control, Program, Status, Step, Tables, ThreadId};
@@ -51,12 +51,8 @@ pub(crate) fn sort_after(
 }
 
 /// The children whom a step from this status forks or leaves behind.
-pub(crate) fn children_at<'p>(
-    layout: &Layout,
-    program: &'p Program,
-    status: Status,
-) -> &'p [ThreadId]
-    requires { FindsForks program.now layout.now }
+pub(crate) fn children_at<'p>(joins: &Joins, program: &'p Program, status: Status) -> &'p [ThreadId]
+    requires { FindsForks program.now joins.now }
     ensures { result.now ≡ children_at program.now status }
 {
     match status {
@@ -64,7 +60,7 @@ pub(crate) fn children_at<'p>(
             Some(Step::Fork { children, join: _ }) => children.as_slice(),
             _ => &[],
         },
-        Status::Waiting(join) => match layout.joined(program, join) {
+        Status::Waiting(join) => match joins.joined(program, join) {
             Some(children) => children,
             None => &[],
         },

@@ -25,7 +25,7 @@ use crate::copying::{copied, copy_into};
 use crate::given::Given;
 use crate::history::Entry;
 use crate::inputs::{Inputs, are_accepted};
-use crate::layout::Layout;
+use crate::joins::Joins;
 use crate::living::count_every;
 use crate::sorting::{rows_of, sort_every};
 use crate::starting::start;
@@ -76,7 +76,7 @@ impl<T: Drop> From<AllocFailed<T>> for BeginFault {
 #[derive(Drop)]
 pub struct TickState<'a> {
     verified: &'a Verified,
-    layout: Layout,
+    joins: Joins,
     // the threads that can be claimed, by priority
     rows: Rows,
     variable_kinds: Vec<Kind>,
@@ -98,7 +98,7 @@ impl<'a> Model for TickState<'a> {
     ghost use Rattle.std.specs.Prelude.{◌≡◌, ◌≤◌, length, vec_capacity};
     ghost use Rattle.sc_graph.specs.Program.{kinds};
     ghost use Rattle.tick_core.specs.State.{InTick, Holds};
-    ghost use Rattle.tick_core.specs.Inside.Layout.{FindsForks};
+    ghost use Rattle.tick_core.specs.Inside.Joins.{FindsForks};
     ghost use Rattle.tick_core.specs.Inside.Living.{CountsLiving};
     ghost use Rattle.tick_core.specs.Inside.Sorting.{AreSorted};
     ghost use Rattle.tick_core.specs.Inside.Turns.{OpenAt};
@@ -120,7 +120,7 @@ impl<'a> Model for TickState<'a> {
       history = s.history.items;
       claims = s.claims.items;
     }) × (s.variable_kinds.items ≡ kinds s.verified.now.program)
-        × (s.verified.now.tables.budget ≤ vec_capacity s.history) × FindsForks s.verified.now.program s.layout
+        × (s.verified.now.tables.budget ≤ vec_capacity s.history) × FindsForks s.verified.now.program s.joins
         × AreSorted s.verified.now.program s.verified.now.tables s.present s.claims.items s.rows
         × OpenAt (record {
           image = s.verified.now;
@@ -138,7 +138,7 @@ impl<'a> Model for TickState<'a> {
 #[derive(Drop)]
 pub struct TickSpace<'a> {
     verified: &'a Verified,
-    layout: Layout,
+    joins: Joins,
     rows: Rows,
     variable_kinds: Vec<Kind>,
     // with room for the budget
@@ -156,7 +156,7 @@ impl<'a> Model for TickSpace<'a> {
     ghost use Rattle.std.specs.Prelude.{◌≡◌, ◌≤◌, length, map, None, vec_capacity};
     ghost use Rattle.sc_graph.specs.Program.{kinds};
     ghost use Rattle.bytecode.specs.Image.{Image};
-    ghost use Rattle.tick_core.specs.Inside.Layout.{FindsForks};
+    ghost use Rattle.tick_core.specs.Inside.Joins.{FindsForks};
     ghost use Rattle.tick_core.specs.Inside.Sorting.{OwnRows};
     ghost use Rattle.tick_core.specs.Inside.Given.{HasPlaces};
 
@@ -165,7 +165,7 @@ impl<'a> Model for TickSpace<'a> {
     ghost view = { λ r. r.verified.now };
 
     ghost invariant = { λ r. (r.variable_kinds.items ≡ kinds r.verified.now.program)
-        × (r.claims.items ≡ map (λ _. None) r.verified.now.program.threads) × FindsForks r.verified.now.program r.layout
+        × (r.claims.items ≡ map (λ _. None) r.verified.now.program.threads) × FindsForks r.verified.now.program r.joins
         × OwnRows r.verified.now.program r.verified.now.tables r.rows
         × (r.verified.now.tables.budget ≤ vec_capacity r.history)
         × (length r.living.items ≡ length r.verified.now.program.threads)
@@ -230,7 +230,7 @@ impl<'a> TickSpace<'a> {
         ensures { IfOk result (λ r. r ≡ verified.now) }
     {
         let program = verified.image().program();
-        let layout = Layout::of(alloc, verified)?;
+        let joins = Joins::of(alloc, verified)?;
         let rows = rows_of(alloc, verified)?;
         let variable_kinds = kinds_of(alloc, program)?;
         let history = Vec::with_capacity(alloc, verified.image().tables().budget as usize)?;
@@ -240,7 +240,7 @@ impl<'a> TickSpace<'a> {
         let spare = Control::initial(alloc, program)?;
         Ok(TickSpace {
             verified,
-            layout,
+            joins,
             rows,
             variable_kinds,
             history,
@@ -296,7 +296,7 @@ impl<'a> TickSpace<'a> {
     {
         let TickSpace {
             verified,
-            layout,
+            joins,
             mut rows,
             variable_kinds,
             mut history,
@@ -309,7 +309,7 @@ impl<'a> TickSpace<'a> {
         let program = image.program();
         copy_into(&begun, &mut present);
         history.clear();
-        count_every(&layout, program, &present, &mut living);
+        count_every(&joins, program, &present, &mut living);
         sort_every(
             program,
             image.tables(),
@@ -320,7 +320,7 @@ impl<'a> TickSpace<'a> {
         );
         TickState {
             verified,
-            layout,
+            joins,
             rows,
             variable_kinds,
             begun,

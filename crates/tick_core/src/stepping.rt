@@ -7,22 +7,22 @@ ghost use Rattle.sc_graph.specs.Control.{status_of};
 ghost use Rattle.sc_graph.specs.Steps.{Keep, Put, Combine, enters, moved, after, node_effect, step};
 ghost use Rattle.tick_core.specs.Stepping.{code_at};
 ghost use Rattle.tick_core.specs.Inside.Work.{value_of, value_at};
-ghost use Rattle.tick_core.specs.Inside.Layout.{FindsForks};
+ghost use Rattle.tick_core.specs.Inside.Joins.{FindsForks};
 
-use crate::layout::Layout;
+use crate::joins::Joins;
 use sc_graph::{Control, NodeId, Program, Status, Step, ThreadId, VariableId};
 use sc_values::{Code, Combination, Value};
 use sqlite_items::Items;
 
 /// Takes the defined step of a thread, whose code has this value over the present variables.
 pub(crate) fn take_step(
-    layout: &Layout,
+    joins: &Joins,
     program: &Program,
     control: &mut Control,
     thread: ThreadId,
     value: Option<Value>,
 )
-    requires forks { FindsForks program.now layout.now }
+    requires forks { FindsForks program.now joins.now }
     requires defined { IsSome (step program.now thread control.old) }
     requires value { value ≡ value_at program.now control.old (status_of control.old thread) }
     ensures { step program.now thread control.old ≡ Some control.new }
@@ -32,7 +32,7 @@ pub(crate) fn take_step(
             Some(step) => take_step_at(program, control, thread, step, value),
             None => unreachable!(),
         },
-        Status::Waiting(join) => match (layout.joined(program, join), program.step(join)) {
+        Status::Waiting(join) => match (joins.joined(program, join), program.step(join)) {
             (Some(children), Some(Step::Join { next })) => {
                 leave(control, thread, children, *next);
             }

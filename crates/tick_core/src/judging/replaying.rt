@@ -7,10 +7,10 @@ ghost use Rattle.sc_graph.specs.Steps.{step};
 ghost use Rattle.sc_graph.specs.Tick.{IsConfiguration};
 ghost use Rattle.tick_core.specs.State.{BeginsTick};
 ghost use Rattle.tick_core.specs.Inside.Judging.{ReplaysTo, StepsAt};
-ghost use Rattle.tick_core.specs.Inside.Layout.{FindsForks};
+ghost use Rattle.tick_core.specs.Inside.Joins.{FindsForks};
 
 use crate::enabled::is_enabled;
-use crate::layout::Layout;
+use crate::joins::Joins;
 use crate::state::{kinds_of, present_value};
 use crate::stepping::take_step;
 use sc_graph::{Control, NodeId, Status, ThreadId};
@@ -38,19 +38,19 @@ pub(crate) enum Replayed {
 /// Takes the steps of a run, from the start of a tick, until a thread isn't enabled.
 pub(crate) fn replay(
     alloc: Global,
-    layout: &Layout,
+    joins: &Joins,
     verified: &Verified,
     control: &mut Control,
     run: &[ThreadId],
 ) -> Result<Replayed, AllocError>
-    requires forks { FindsForks verified.now.program layout.now }
+    requires forks { FindsForks verified.now.program joins.now }
     requires begins { BeginsTick verified.now.program control.old }
     ensures { IfOk result (ReplaysTo verified.now.program control.old run.now control.new) }
 {
     let kinds = kinds_of(alloc, verified.image().program())?;
     let mut steps = Vec::with_capacity(alloc, run.len())?;
     for (at, thread) in run.iter().enumerate() {
-        match step_if_enabled(layout, verified, &kinds, control, *thread) {
+        match step_if_enabled(joins, verified, &kinds, control, *thread) {
             Some(node) => steps.push(Taken {
                 thread: *thread,
                 node,
@@ -63,13 +63,13 @@ pub(crate) fn replay(
 
 // Takes the step of a thread and tells at which node. None: it isn't enabled.
 fn step_if_enabled(
-    layout: &Layout,
+    joins: &Joins,
     verified: &Verified,
     kinds: &[Kind],
     control: &mut Control,
     thread: ThreadId,
 ) -> Option<NodeId>
-    requires forks { FindsForks verified.now.program layout.now }
+    requires forks { FindsForks verified.now.program joins.now }
     requires kinds { kinds.now ≡ variable_kinds verified.now.program }
     requires configuration { IsConfiguration verified.now.program control.old }
     requires defined { IsEnabled verified.now.program control.old thread
@@ -82,10 +82,10 @@ fn step_if_enabled(
         Status::At(node) | Status::Waiting(node) => node,
         Status::Absent | Status::Paused(_) | Status::Ended => return None,
     };
-    if !is_enabled(layout, program, control, thread) {
+    if !is_enabled(joins, program, control, thread) {
         return None;
     }
     let value = present_value(verified, kinds, control, thread);
-    take_step(layout, program, control, thread, value);
+    take_step(joins, program, control, thread, value);
     Some(node)
 }

@@ -84,10 +84,10 @@ impl<'a> TickState<'a> {
     {
         let image = self.verified.image();
         let program = image.program();
-        let children = children_at(&self.layout, program, self.present.status(thread));
-        take_step(&self.layout, program, &mut self.present, thread, value);
+        let children = children_at(&self.joins, program, self.present.status(thread));
+        take_step(&self.joins, program, &mut self.present, thread, value);
         count_after(
-            &self.layout,
+            &self.joins,
             program,
             &self.present,
             &mut self.living,
@@ -140,7 +140,7 @@ impl<'a> TickState<'a> {
     {
         let TickState {
             verified,
-            layout,
+            joins,
             rows,
             variable_kinds,
             begun,
@@ -154,7 +154,7 @@ impl<'a> TickState<'a> {
         } = self;
         let room = TickSpace {
             verified,
-            layout,
+            joins,
             rows,
             variable_kinds,
             history,

@@ -1,8 +1,8 @@
 use Rattle.std.proofs.Common.{◌∙◌, ◌+◌, sym, ap, subst, arith}
 use Rattle.sc_graph.specs.Valid.{IsValid}
-use Rattle.tick_core.specs.Inside.Layout.{FindsForks, FindsBelow}
-use Rattle.tick_core.proofs.Layouts.{noted_more, noted_all}
-use Rattle.tick_core.proofs.layout.Layout.of.Goals as goal
+use Rattle.tick_core.specs.Inside.Joins.{FindsForks, FindsBelow}
+use Rattle.tick_core.proofs.NotedForks.{noted_more, noted_all}
+use Rattle.tick_core.proofs.joins.Joins.of.Goals as goal
 
 pub loop-node-preserved : goal.loop-node-preserved
 loop-node-preserved c =

@@ -4,7 +4,7 @@ ghost use Rattle.std.specs.Prelude.{◌≡◌, ◌<◌, Some, IfOk, length, slic
 ghost use Rattle.std.specs.Option.{option_copied};
 ghost use Rattle.sc_graph.specs.Program.{step_at};
 ghost use Rattle.sc_graph.specs.Control.{joined_at};
-ghost use Rattle.tick_core.specs.Inside.Layout.{FindsForks, noted, noted_step};
+ghost use Rattle.tick_core.specs.Inside.Joins.{FindsForks, noted, noted_step};
 
 use sc_graph::{NodeId, Program, Step, ThreadId};
 use std::alloc::{AllocError, Global};
@@ -14,11 +14,11 @@ use verifier::Verified;
 /// What is made once of a verified image: for each join the fork to which it belongs, so that no
 /// node is searched for it. Contracts see a row with a place for each node.
 #[derive(Debug, Drop)]
-pub(crate) struct Layout {
+pub(crate) struct Joins {
     forks: Vec<Option<NodeId>>,
 }
 
-impl Model for Layout {
+impl Model for Joins {
     ghost use Rattle.std.specs.Prelude.{List, Option, ℕ};
 
     ghost Value = { List (Option ℕ) };
@@ -26,9 +26,9 @@ impl Model for Layout {
     ghost view = { λ l. l.forks.items };
 }
 
-impl Layout {
-    /// The layout of a verified image.
-    pub(crate) fn of(alloc: Global, verified: &Verified) -> Result<Layout, AllocError>
+impl Joins {
+    /// The joins of a verified image.
+    pub(crate) fn of(alloc: Global, verified: &Verified) -> Result<Joins, AllocError>
         ensures { IfOk result (FindsForks verified.now.program) }
     {
         let program = verified.image().program();
@@ -36,7 +36,7 @@ impl Layout {
         for node in 0..program.node_count() {
             note_node(program, &mut forks, node);
         }
-        Ok(Layout { forks })
+        Ok(Joins { forks })
     }
 
     /// The children of the fork to which a join belongs; None where there is none.
