@@ -15,3 +15,4 @@ mod words;
 pub use charts::chart_text;
 pub use renaming::chart_of_core;
 pub use same_charts::are_same_charts;
+pub use transitions::{effect_text, trigger_text};

@@ -14,8 +14,8 @@ use scl_printer::text_of;
 use sqlite_items::at;
 use std::alloc::{AllocError, Global};
 
-// The condition, where there is one.
-fn trigger_text(
+/// The condition of a transition with the word before it; nothing where there is none. Err: memory was refused.
+pub fn trigger_text(
     alloc: Global,
     variables: &[Variable],
     trigger: &Option<Expr>,
@@ -48,9 +48,13 @@ fn variable_text(
     }
 }
 
-// An effect: the variable, and the expression whose value it gets.
+/// An effect: the name of its variable, and the expression whose value that gets. Err: memory was refused.
 #[tactic(auto, unfolding(crate::specs::Layout::effect_text))]
-fn effect_text(alloc: Global, variables: &[Variable], effect: &Effect) -> Result<String, AllocError>
+pub fn effect_text(
+    alloc: Global,
+    variables: &[Variable],
+    effect: &Effect,
+) -> Result<String, AllocError>
     ensures { IfOk result (λ text. string_bytes text ≡ effect_text variables.now effect.now) }
 {
     let name = variable_text(alloc, variables, effect.variable)?;

@@ -1,13 +1,12 @@
 -- What stands at the arrow of a transition: its words in chart text, without its target, in lines; and how it is drawn.
-use Rattle.std.specs.Prelude.{ℕ, Bool, true, false, Option, Some, None, List, [], ◌∷◌, ◌++◌, codes}
+use Rattle.std.specs.Prelude.{ℕ, Bool, true, false, List, [], ◌∷◌, ◌++◌, codes}
 use Rattle.std.specs.Fmt.{decimal}
-use Rattle.sc_values.specs.declared.expression.Expr.{Expr}
 use Rattle.sc_graph.specs.declared.program.Variable.{Variable}
-use Rattle.scl_printer.specs.Expressions.{variable_text, expression_text}
 use Rattle.core_charts.specs.declared.region.TransitionKind.{TransitionKind}
 use Rattle.core_charts.specs.declared.region.TransitionKind.TheVariants as kind
 use Rattle.core_charts.specs.declared.region.Effect.{Effect}
 use Rattle.core_charts.specs.declared.region.Transition.{Transition}
+use Rattle.chart_printer.specs.Layout.{trigger_text, effect_text}
 
 -- an ordinary transition is the one that no word marks
 abbrev pub kind_text : TransitionKind → List ℕ
@@ -31,14 +30,6 @@ tail_text kind.Join = codes ", dir=\"both\", arrowtail=\"invempty\", color=\"gre
 abbrev pub line_text : Bool → List ℕ
 line_text true = codes ", style=\"dashed\""
 line_text false = []
-
-abbrev pub trigger_text : List Variable → Option Expr → List ℕ
-trigger_text variables None = []
-trigger_text variables (Some test) = codes " if " ++ expression_text variables test
-
--- an effect: the variable, and the expression whose value it gets
-unfoldable pub effect_text : List Variable → Effect → List ℕ
-effect_text variables e = variable_text variables e.variable ++ (codes " = " ++ expression_text variables e.value)
 
 -- effects behind the first, each in a line of its own
 abbrev pub further_text : List Variable → List Effect → List ℕ

@@ -1,14 +1,12 @@
 //! What stands at the arrow of a transition.
 
 ghost use Rattle.std.specs.Prelude.{◌≡◌, IfOk, string_bytes};
-ghost use Rattle.scl_printer.specs.Expressions.{variable_text};
-ghost use Rattle.drawing.specs.Labels.{effect_text, effects_text, further_text, immediate_text, kind_text};
-ghost use Rattle.drawing.specs.Labels.{line_text, tail_text, transition_text, trigger_text};
+ghost use Rattle.drawing.specs.Labels.{effects_text, further_text, immediate_text, kind_text};
+ghost use Rattle.drawing.specs.Labels.{line_text, tail_text, transition_text};
 
+use chart_printer::{effect_text, trigger_text};
 use core_charts::{Effect, Transition, TransitionKind};
-use sc_graph::{Variable, VariableId};
-use scl_printer::text_of;
-use sqlite_items::at;
+use sc_graph::Variable;
 use std::alloc::{AllocError, Global};
 
 fn kind_text(kind: TransitionKind) -> &'static str
@@ -45,50 +43,6 @@ fn immediate_text(immediate: bool) -> &'static str
     ensures { result.now ≡ immediate_text immediate }
 {
     if immediate { " immediate" } else { "" }
-}
-
-// The condition, where there is one.
-fn trigger_text(
-    alloc: Global,
-    variables: &[Variable],
-    transition: &Transition,
-) -> Result<String, AllocError>
-    ensures { IfOk result (λ text. string_bytes text ≡ trigger_text variables.now transition.now.trigger) }
-{
-    match &transition.trigger {
-        Some(trigger) => {
-            let test = text_of(alloc, variables, trigger)?;
-            format!(in alloc; " if {test}")
-        }
-        None => Ok(String::new(alloc)),
-    }
-}
-
-// The name of the variable of this number.
-fn name_text(
-    alloc: Global,
-    variables: &[Variable],
-    variable: VariableId,
-) -> Result<String, AllocError>
-    ensures { IfOk result (λ text. string_bytes text ≡ variable_text variables.now variable) }
-{
-    match at(variables, variable as usize) {
-        Some(variable) => {
-            let name = variable.name;
-            format!(in alloc; "{name}")
-        }
-        None => Ok(String::new(alloc)),
-    }
-}
-
-// An effect: the variable, and the expression whose value it gets.
-#[tactic(auto, unfolding(crate::specs::Labels::effect_text))]
-fn effect_text(alloc: Global, variables: &[Variable], effect: &Effect) -> Result<String, AllocError>
-    ensures { IfOk result (λ text. string_bytes text ≡ effect_text variables.now effect.now) }
-{
-    let name = name_text(alloc, variables, effect.variable)?;
-    let value = text_of(alloc, variables, &effect.value)?;
-    format!(in alloc; "{name} = {value}")
 }
 
 // The effects behind the first, each in a line of its own.
@@ -138,7 +92,7 @@ pub(crate) fn transition_text(
 {
     let kind = kind_text(transition.kind);
     let immediate = immediate_text(transition.immediate);
-    let trigger = trigger_text(alloc, variables, transition)?;
+    let trigger = trigger_text(alloc, variables, &transition.trigger)?;
     let effects = effects_text(alloc, variables, transition.effects.as_slice())?;
     format!(in alloc; "{number}:{kind}{immediate}{trigger}{effects}")
 }
