@@ -34,7 +34,7 @@ use Rattle.abort_expansion_laws.proofs.EffectFollowed.{value_size}
 use Rattle.abort_expansion_laws.proofs.CoreSteps.{takes_any}
 use Rattle.abort_expansion_laws.proofs.InsideLeaves.{FlatRows}
 use Rattle.abort_expansion_laws.proofs.Leaving.{drops, set_here, set_other, set_length}
-use Rattle.abort_expansion_laws.proofs.DropsOut.{only_inside, inside_not_over, inside_present, DropsOut, dropped_out}
+use Rattle.abort_expansion_laws.proofs.DropsOut.{only_inside, inside_not_over, inside_present, inside_not_acting, DropsOut, dropped_out}
 use Rattle.abort_expansion_laws.proofs.DroppedInside as now
 use Rattle.abort_expansion_laws.proofs.StagesAfterDrop.{outer_stage, others_stay, reached_now}
 use Rattle.abort_expansion_laws.proofs.AbortNext.{AbortNext}
@@ -148,11 +148,7 @@ module _ (k core : Table) (i : Images) (rows : CoreRows k core i) (more : FlatRo
   home_there = let lt = (rows.region r next.there).there.1 in let size = empty.size in omega (lt, size, related.core_regions, arith)
 
   no_inside : (s : ℕ) → IsInside k core i s y → ⊥
-  no_inside s inner = by_standing (at.Acting o (e ∷ es) t.target) inner refl
-    where
-      by_standing : (w : Standing) → IsInside k core i s w → w ≡ at.Acting o (e ∷ es) t.target → ⊥
-      by_standing _ (guarded tests) same_y = absurd cc
-      by_standing _ (open_inside tests) same_y = absurd cc
+  no_inside s inner = inside_not_acting k core i s y inner o (e ∷ es) t.target refl
 
   flags_behind : (zs : List Value) × (slice_set (c.variables ++ related.more) x raised_to ≡ c.variables ++ zs)
   flags_behind = let le = next.added in set_behind c.variables related.more x raised_to (omega (le, related.values, arith))

@@ -3,6 +3,7 @@ use Rattle.std.proofs.Common.{◌≡◌, ◌≢◌, ℕ, zero, suc, ◌<◌, ◌
 use Rattle.std.proofs.Common.{Contains, refl, sym, ap, subst, ◌∙◌, arith}
 use Rattle.std.specs.List.{list_all, list_any}
 use Rattle.sc_values.specs.declared.value.Value.{Value}
+use Rattle.core_charts.specs.declared.region.Effect.{Effect}
 use Rattle.core_charts.specs.declared.region.Transition.{Transition}
 use Rattle.core_charts.specs.Aborts.{has_aborts}
 use Rattle.chart_machine.specs.declared.standing.Standing.{Standing}
@@ -48,6 +49,10 @@ module _ (k core : Table) (i : Images) (o : ℕ) where
   pub inside_present : (x : Standing) → IsInside k core i o x → x ≢ at.Outside
   inside_present _ (guarded tests) e = absurd cc
   inside_present _ (open_inside tests) e = absurd cc
+
+  pub inside_not_acting : (x : Standing) → IsInside k core i o x → (s : ℕ) (effects : List Effect) (target : ℕ) → x ≢ at.Acting s effects target
+  inside_not_acting _ (guarded tests) s effects target e = absurd cc
+  inside_not_acting _ (open_inside tests) s effects target e = absurd cc
 
 module _ (k core : Table) (i : Images) (rows : CoreRows k core i) (tree : IsNested k)
     (children : (s r : ℕ) → Contains (state_at k s).regions r → around k r ≡ s ∷ around k (holder k s)) where

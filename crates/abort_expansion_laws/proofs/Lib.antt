@@ -29,6 +29,7 @@ pub mod CoreSteps
 pub mod Answering
 pub mod AbortNext
 pub mod AbortTaken
+pub mod StagesInside
 pub mod StagesAfterDrop
 pub mod DroppedInside
 pub mod AbortAnswered
@@ -139,7 +140,6 @@ pub mod FirstTickWaits
 pub mod FirstTickBegins
 pub mod TicksBegin
 pub mod TargetEntered
-pub mod StagesInside
 pub mod StagesEntered
 pub mod Arrives
 pub mod ArrivedReached
@@ -176,4 +176,5 @@ pub mod PreemptionKept
 pub mod CasesFollowed
 pub mod LeavesFollowed
 pub mod StepsByCase
+pub mod ByEvaluation
 pub mod Proved

@@ -1,5 +1,5 @@
 -- Which stages may be reached after a superstate was left, and all inside it dropped.
-use Rattle.std.proofs.Common.{◌≡◌, ◌≢◌, ℕ, ◌≤◌, ◌⊎◌, inl, inr, ⊎_elim, Bool, true, false, ◌||◌, List, [], ◌∷◌, Contains, refl, sym, ap, subst, ◌∙◌, arith}
+use Rattle.std.proofs.Common.{◌≡◌, ◌≢◌, ℕ, ◌≤◌, ◌⊎◌, inl, inr, ⊎_elim, true, false, List, Contains, refl, sym, ap, subst, ◌∙◌, arith}
 use Rattle.std.specs.List.{list_any}
 use Rattle.core_charts.specs.declared.region.Transition.{Transition}
 use Rattle.core_charts.specs.Tests.{is_weak}
@@ -9,24 +9,19 @@ use Rattle.chart_machine.specs.declared.standing.Standing.TheVariants as at
 use Rattle.chart_machine.specs.declared.standing.Configuration.{Configuration}
 use Rattle.chart_machine.specs.declared.table.Table.{Table}
 use Rattle.chart_machine.specs.Table.{state_at}
-use Rattle.chart_machine.specs.Turns.{standing_of, has_ended, guards, has_work, may_close, is_guarded, inside}
+use Rattle.chart_machine.specs.Turns.{standing_of, guards, has_work, is_guarded, inside}
 use Rattle.tick_laws.proofs.Lists.{same_or_not, contained}
-use Rattle.chart_machine_laws.proofs.LyingIn.{IsNested, LiesUnder, around, holder, head_in, tail_in, around_around}
+use Rattle.chart_machine_laws.proofs.LyingIn.{IsNested, LiesUnder, around, holder, around_around}
 use Rattle.abort_expansion_laws.proofs.TablesCorrespond.{IsThere}
 use Rattle.abort_expansion_laws.specs.CoreRows.{own, Images, CoreRows}
 use Rattle.abort_expansion_laws.specs.Related.{Stands, outside, ended, left, trying, acting, entering, guarding, staying, within, behind, IsInside}
 use Rattle.abort_expansion_laws.specs.Related.{guarded, open_inside, Related}
 use Rattle.abort_expansion_laws.proofs.StageReached.{some_work, stage_of, Stage, any_in, none_of, inside_in, holds_other, either_rises}
 use Rattle.abort_expansion_laws.proofs.StageReached.{one_at_least, one_at_most}
-use Rattle.abort_expansion_laws.proofs.AllLeave.{inside_around}
 use Rattle.abort_expansion_laws.proofs.KnownVariables.{present_there}
-use Rattle.abort_expansion_laws.proofs.DropsOut.{all_alike}
-use Rattle.chart_machine_laws.proofs.ChartTables.{around_there}
 use Rattle.abort_expansion_laws.proofs.AfterOpening.{one_in_other}
-
-neither_of : (b c : Bool) → (b || c) ≡ false → (b ≡ false) × (c ≡ false)
-neither_of true c e = absurd cc
-neither_of false c e = (refl, e)
+use Rattle.abort_expansion_laws.proofs.DropsOut.{inside_present}
+use Rattle.abort_expansion_laws.proofs.StagesInside.{none_comes}
 
 module _ (k core : Table) (i : Images) (rows : CoreRows k core i) (tree : IsNested k)
     (children : (s r : ℕ) → Contains (state_at k s).regions r → around k r ≡ s ∷ around k (holder k s))
@@ -52,11 +47,7 @@ module _ (k core : Table) (i : Images) (rows : CoreRows k core i) (tree : IsNest
     not_guarding = none_of (λ v. guards (standing_of c (holder k v))) (around k r) s free around_it
 
     holder_there : IsThere k (holder k s)
-    holder_there = present_there k core i c d related (holder k s) (λ e. by_standing (standing_of c (holder k s)) stands_inside e)
-      where
-        by_standing : (w : Standing) → IsInside k core i s w → w ≡ at.Outside → ⊥
-        by_standing _ (guarded tests) e = absurd cc
-        by_standing _ (open_inside tests) e = absurd cc
+    holder_there = present_there k core i c d related (holder k s) (inside_present k core i s (standing_of c (holder k s)) stands_inside)
 
     holder_same : standing_of next (holder k s) ≡ standing_of c (holder k s)
     holder_same = same (holder k s) (holds_other k tree r s around_it) (λ h. r_out (around_around k tree (around k r) r s o refl around_it h))
@@ -141,41 +132,8 @@ module _ (k core : Table) (i : Images) (rows : CoreRows k core i) (tree : IsNest
     unchanged : (q : ℕ) → Contains (around k q) u → standing_of next q ≡ standing_of c q
     unchanged q h = same q (untouched q h).0 (untouched q h).1
 
-    ends_same : (s q : ℕ) → Contains (around k (holder k s)) u → Contains (state_at k s).regions q →
-        has_ended (standing_of next q) ≡ has_ended (standing_of c q)
-    ends_same s q h child = ap has_ended (unchanged q (subst (λ zs. Contains zs u) (sym (children s q child)) (tail_in s u (around k (holder k s)) h)))
-
-    close_same : (s : ℕ) (tests : List Transition) → Contains (around k (holder k s)) u → may_close k next s tests ≡ may_close k c s tests
-    close_same s [] h = refl
-    close_same s (t ∷ tests) h =
-        rw (all_alike (λ q. has_ended (standing_of next q)) (λ q. has_ended (standing_of c q)) (state_at k s).regions (λ q child. ends_same s q h child)) refl
-
-    work_same : (q : ℕ) → Contains (around k q) u → (w y : Standing) → Stands k core i c q w y → has_work k next w ≡ has_work k c w
-    work_same q h _ _ outside = refl
-    work_same q h _ _ (ended inner) = refl
-    work_same q h _ _ (left s ss e over) = refl
-    work_same q h _ _ (trying s [] simple its) = refl
-    work_same q h _ _ (trying s (t ∷ tests) simple its) = refl
-    work_same q h _ _ (acting s v p e effects lt) = refl
-    work_same q h _ _ (entering s fork t tests super its leads) = refl
-    work_same q h _ _ (guarding s join t tests has_some its leads) = refl
-    work_same q h _ _ (staying s tests super its stays) = close_same s tests (subst (λ p. Contains (around k p) u) (sym its) h)
-    work_same q h _ _ (within s join tests super its stays still leads) = close_same s tests (subst (λ p. Contains (around k p) u) (sym its) h)
-    work_same q h _ _ (behind s tests super its over) = close_same s tests (subst (λ p. Contains (around k p) u) (sym its) h)
-
-    idle_there : (q : ℕ) → Contains (around k q) u → (IsThere k q → has_work k next (standing_of next q) ≡ has_work k c (standing_of c q))
-    idle_there q h q_there = ap (has_work k next) (unchanged q h) ∙ work_same q h (standing_of c q) (standing_of d (i.thread_of q)) (related.regions q q_there)
-
-    still_idle : (xs : List ℕ) → ((q : ℕ) → Contains xs q → Contains (around k q) u × IsThere k q) →
-        list_any (λ q. has_work k c (standing_of c q)) xs ≡ false → list_any (λ q. has_work k next (standing_of next q)) xs ≡ false
-    still_idle [] each e = refl
-    still_idle (q ∷ xs) each e =
-        let both = neither_of (has_work k c (standing_of c q)) (list_any (λ p. has_work k c (standing_of c p)) xs) e in
-        let first = each q (head_in q xs) in
-        rw (idle_there q first.0 first.1, both.0, still_idle xs (λ p tail. each p (tail_in q p xs tail)) both.1) refl
-
     still_quiet : some_work k next u ≡ false
-    still_quiet = still_idle (inside k u) (λ q h. (inside_around k u q h, around_there k q u (inside_around k u q h))) quiet
+    still_quiet = none_comes k core i children c d related next u unchanged quiet
 
   within_rises : (q u : ℕ) (tests : List Transition) → holder k u ≡ q → q ≢ r → ¬ In q → stage_of k c (at.Within u tests) ≤ stage_of k next (at.Within u tests)
   within_rises q u tests its ne out_q =

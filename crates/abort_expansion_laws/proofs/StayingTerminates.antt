@@ -34,7 +34,7 @@ use Rattle.abort_expansion_laws.proofs.EffectAhead.{BeginsAt}
 use Rattle.abort_expansion_laws.proofs.Owed.{Enters}
 use Rattle.abort_expansion_laws.proofs.AllLeave.{all_from, inside_around}
 use Rattle.abort_expansion_laws.proofs.Leaving.{drops, set_here, set_other, set_length, drops_in, drops_out, drops_length, terminated}
-use Rattle.abort_expansion_laws.proofs.DropsOut.{only_inside, DropsOut, dropped_out}
+use Rattle.abort_expansion_laws.proofs.DropsOut.{only_inside, inside_not_acting, DropsOut, dropped_out}
 use Rattle.abort_expansion_laws.proofs.SuperstateLeft as left_for
 use Rattle.abort_expansion_laws.proofs.TerminationNext as next
 use Rattle.abort_expansion_laws.proofs.TerminationImage as taken
@@ -128,11 +128,7 @@ module _ (k core : Table) (i : Images) (rows : CoreRows k core i) (tree : IsNest
     not_home g h is = holds_other core core_tree (i.thread_of r) (i.main_of s) (subst (λ p. Contains (around core p) (i.main_of s)) is h) main_held
 
     no_inside : (u : ℕ) → IsInside k core i u y → ⊥
-    no_inside u inner = by_standing (at.Acting s (e ∷ es) t.target) inner refl
-      where
-        by_standing : (w : Standing) → IsInside k core i u w → w ≡ at.Acting s (e ∷ es) t.target → ⊥
-        by_standing _ (guarded tests) same_y = absurd cc
-        by_standing _ (open_inside tests) same_y = absurd cc
+    no_inside u inner = inside_not_acting k core i u y inner s (e ∷ es) t.target refl
 
     drops_all : DropsOut k core i rows tree children c d r s y z c1 d1
     drops_all =

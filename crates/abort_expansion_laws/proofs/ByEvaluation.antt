@@ -1,0 +1,3 @@
+pub mod Expanded
+pub mod Preempting
+pub mod Entered
