@@ -1,7 +1,6 @@
 -- A printed operation of two operands is cut into tokens that spell it.
-use Rattle.std.proofs.Common.{◌≡◌, ◌≢◌, ℕ, zero, suc, ◌+◌, Bool, true, false, not, ◌&&◌, List, [], ◌∷◌, ◌++◌, length, append_assoc, codes, refl, sym, ap}
+use Rattle.std.proofs.Common.{◌≡◌, ℕ, zero, suc, ◌+◌, Bool, true, false, ◌&&◌, List, [], ◌∷◌, ◌++◌, length, append_assoc, codes, refl, sym, ap}
 use Rattle.std.proofs.Common.{subst, ◌∙◌, inl, inr, arith}
-use Rattle.std.proofs.lemmas.List.{append-nil}
 use Rattle.std.proofs.lemmas.Bool.{and_parts}
 use Rattle.std.specs.List.{list_all}
 use Rattle.grammar.specs.Grammar.{spells}
@@ -24,7 +23,7 @@ use Rattle.sc_text.specs.Words.{sign_text, word_text}
 use Rattle.sc_text.specs.Pieces.{is_word_byte}
 use Rattle.sc_text.specs.Classes.{TheWord}
 use Rattle.sc_text.specs.Phrases.{Phrase, right_side, operator_of}
-use Rattle.sc_text.specs.Expression.{Inner, within, atom, unary, sum, comparison, conjunction, negation, disjunction, comparisons}
+use Rattle.sc_text.specs.Expression.{within, atom, unary, sum, comparison, disjunction, comparisons}
 use Rattle.drafts.specs.Resolved.{code_of}
 use Rattle.scl_printer.specs.declared.parentheses.Parentheses.{Parentheses}
 use Rattle.scl_printer.specs.Expressions.{Shown, Opens, one_more_if, operand, operand_opens, shown_step, opens_step, is_infix, infix_text, binary_takes_not}
@@ -33,7 +32,8 @@ use Rattle.scl_printer_laws.proofs.Cuts.{Cuts, cuts_both, cuts_sign, cuts_pair, 
 use Rattle.scl_printer_laws.proofs.Levels.{Fits, sum_product, product_unary, comparison_sum, negation_comparison, negation_unary, conjunction_negation}
 use Rattle.scl_printer_laws.proofs.Levels.{disjunction_conjunction, disjunction_negation, product_times, sum_by, comparison_by, conjunction_by}
 use Rattle.scl_printer_laws.proofs.Levels.{disjunction_by, atom_call}
-use Rattle.scl_printer_laws.proofs.Operands.{Reads, Printed, code_both, cuts_nil, operand_level, operand_quiet, operand_reads, opening_plain, closing_plain}
+use Rattle.scl_printer_laws.proofs.Operands.{Reads, Printed, known_both, known_then, code_both, cuts_nil, operand_level, operand_quiet, operand_reads}
+use Rattle.scl_printer_laws.proofs.Operands.{opening_plain, closing_plain}
 use Rattle.scl_printer_laws.proofs.Unaries.{product_whole}
 
 abbrev token_at : TokenKind → ℕ → Token
@@ -225,6 +225,7 @@ module _ (names : List (List ℕ)) (p : Parentheses) (variables : List Variable)
             (right t) rest (end + length sp) b.tokens b.cut));
         spelled = x.spells_it n (end + 1) a.tokens b.tokens a.phrase b.phrase a.spelled b.spelled;
         means = added f k a.phrase b.phrase x.writes a.means b.means;
+        known = known_both names a.phrase (right_side k b.phrase) a.known (known_then names b.phrase (text_op.Binary (operator_of k.kind)) b.known refl);
       })
 
   whole : (n : ℕ) (ts : List Token) (q : Phrase) → spells (unary (within n)) ts q → spells (disjunction (within n)) ts q
@@ -277,6 +278,7 @@ module _ (names : List (List ℕ)) (p : Parentheses) (variables : List Variable)
             (whole n b.tokens b.phrase b.spelled));
         means = ap (code_of names) (append_assoc a.phrase b.phrase (text_op.Binary (operator_of (kind.Word w)) ∷ []))
             ∙ added f k a.phrase b.phrase writes a.means b.means;
+        known = known_then names (a.phrase ++ b.phrase) (text_op.Binary (operator_of k.kind)) (known_both names a.phrase b.phrase a.known b.known) refl;
       }
 
   quiet_left : (t : Bool) (tail rest : List ℕ) → Quiet ((left t ++ tail) ++ rest)

@@ -1,12 +1,11 @@
 -- Where a piece of a printed text stands, whatever follows, it is cut into its tokens.
-use Rattle.std.proofs.Common.{◌≡◌, ◌≢◌, ℕ, ◌+◌, ◌≤◌, Bool, true, false, pos, List, [], ◌∷◌, ◌++◌, length, append_assoc, refl, sym, ap, subst, ◌∙◌, arith}
+use Rattle.std.proofs.Common.{◌≡◌, ◌≢◌, ℕ, ◌+◌, true, List, [], ◌∷◌, ◌++◌, length, append_assoc, refl, sym, subst, arith}
 use Rattle.std.proofs.Common.{length-append}
 use Rattle.std.specs.List.{list_all}
-use Rattle.sc_values.specs.Name.{is_letter, is_digit, is_name}
+use Rattle.sc_values.specs.Name.{is_letter}
 use Rattle.sc_text.specs.declared.language.Language.TheVariants as language
 use Rattle.sc_text.specs.declared.word.Word.{Word}
 use Rattle.sc_text.specs.declared.sign.Sign.{Sign}
-use Rattle.sc_text.specs.declared.sign.Sign.TheVariants as sign
 use Rattle.sc_text.specs.declared.token.Token.{Token}
 use Rattle.sc_text.specs.declared.token.TokenKind.{TokenKind}
 use Rattle.sc_text.specs.declared.token.TokenKind.TheVariants as kind

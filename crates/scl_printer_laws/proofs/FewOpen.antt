@@ -1,5 +1,5 @@
 -- With few parentheses, an expression opens fewer of them and of prefix operators at once than it has operations.
-use Rattle.std.proofs.Common.{◌≡◌, ℕ, zero, suc, ◌+◌, ◌≤◌, Bool, true, false, not, ◌&&◌, Option, Some, None, List, [], ◌∷◌, ◌++◌, length, option_and_then}
+use Rattle.std.proofs.Common.{◌≡◌, ℕ, zero, suc, ◌+◌, ◌≤◌, Bool, true, false, ◌&&◌, Option, Some, None, List, [], ◌∷◌, ◌++◌, length, option_and_then}
 use Rattle.std.proofs.Common.{refl, sym, ap, subst, ◌∙◌, if◌then◌else◌, arith, length-append}
 use Rattle.sc_values.specs.declared.value.Value.{Value}
 use Rattle.sc_values.specs.declared.value.Kind.{Kind}
@@ -15,14 +15,13 @@ use Rattle.sc_values.specs.declared.expression.Expr.TheOpen as tree
 use Rattle.sc_values.specs.declared.expression.Expr.TheViews.{roll-Expr}
 use Rattle.sc_values.specs.Operator.{unary_kind, binary_kind}
 use Rattle.sc_values.specs.Expr.{kind, postorder}
-use Rattle.sc_values.proofs.Induction.{Inductive, induct, postorder-literal, postorder-load, postorder-unary, postorder-binary, kind-unary, kind-binary}
+use Rattle.sc_values.proofs.Induction.{induct, postorder-literal, postorder-load, postorder-unary, postorder-binary, kind-unary, kind-binary}
 use Rattle.sc_text.specs.Expression.{open_limit}
 use Rattle.sc_text.specs.Parts.{IsExpression}
-use Rattle.scl_printer.specs.declared.parentheses.Parentheses.{Parentheses}
 use Rattle.scl_printer.specs.declared.parentheses.Parentheses.TheVariants as parentheses
 use Rattle.scl_printer.specs.declared.parentheses.Form.{Form}
 use Rattle.scl_printer.specs.declared.parentheses.Form.TheVariants as form
-use Rattle.scl_printer.specs.Expressions.{Opens, opens, opens_step, is_torn, operand_opens, is_prefix, unary_takes_not, binary_takes_not, parentheses_of}
+use Rattle.scl_printer.specs.Expressions.{Opens, opens, opens_step, operand_opens, parentheses_of}
 use Rattle.scl_printer_laws.proofs.Forms.{opens_literal, opens_load, opens_unary, opens_binary}
 
 abbrev size : Expr → ℕ

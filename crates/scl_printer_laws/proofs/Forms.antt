@@ -1,5 +1,5 @@
 -- What an expression opens in print, by its form.
-use Rattle.std.proofs.Common.{◌≡◌, ℕ, List, ap, sym, ◌∙◌}
+use Rattle.std.proofs.Common.{◌≡◌, ℕ}
 use Rattle.sc_values.specs.declared.value.Value.{Value}
 use Rattle.sc_values.specs.declared.operator.UnaryOperator.{UnaryOperator}
 use Rattle.sc_values.specs.declared.operator.BinaryOperator.{BinaryOperator}

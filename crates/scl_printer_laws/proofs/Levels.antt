@@ -1,17 +1,15 @@
 -- How the tokens of an expression's parts spell the expression, level by level of the grammar.
-use Rattle.std.proofs.Common.{◌≡◌, ℕ, suc, Option, Some, None, List, [], ◌∷◌, ◌++◌, refl, sym, ap, subst, ◌∙◌, inl, inr}
+use Rattle.std.proofs.Common.{ℕ, suc, Option, Some, None, List, [], ◌∷◌, ◌++◌, refl, sym, ap, inl, inr}
 use Rattle.std.specs.Prelude.{IsTrue}
 use Rattle.std.proofs.lemmas.List.{append-nil}
-use Rattle.grammar.specs.Grammar.{Grammar, one, is_in, spells}
-use Rattle.sc_values.specs.declared.operator.UnaryOperator.{UnaryOperator}
+use Rattle.grammar.specs.Grammar.{Grammar, is_in, spells}
 use Rattle.sc_values.specs.declared.operator.UnaryOperator.TheVariants as unary_operator
-use Rattle.sc_text.specs.declared.word.Word.{Word}
 use Rattle.sc_text.specs.declared.word.Word.TheVariants as word
 use Rattle.sc_text.specs.declared.sign.Sign.TheVariants as sign
 use Rattle.sc_text.specs.declared.token.Token.{Token}
-use Rattle.sc_text.specs.Classes.{Class, AName, Zero, Number, TheWord, TheSign, class_of}
+use Rattle.sc_text.specs.Classes.{Class, Number, TheWord, TheSign, class_of}
 use Rattle.sc_text.specs.Phrases.{Phrase, right_side, prefixed, leaf_of, division}
-use Rattle.sc_text.specs.Expression.{text_tokens, after, before, right, chain, prefix, Inner, NoMore, Nested, comparisons, leaf, parenthesized, operands}
+use Rattle.sc_text.specs.Expression.{text_tokens, after, before, right, chain, Inner, NoMore, Nested, comparisons, leaf, parenthesized, operands}
 use Rattle.sc_text.specs.Expression.{call, atom, unary, divisor, quotient, factor, product, sum, comparison, negation, conjunction, disjunction, within}
 use Rattle.sc_text.specs.Expression.{expression, open_limit}
 use Rattle.sc_text.specs.Levels.{leaves, divisions}

@@ -1,12 +1,12 @@
 -- The pieces of a printed text are the longest that fit.
-use Rattle.std.proofs.Common.{◌≡◌, ◌≢◌, ℕ, suc, ◌≤◌, Bool, true, false, List, [], ◌∷◌, ◌++◌, length, refl, sym, ap, subst, ◌∙◌, ◌⊎◌, inl, inr, arith}
+use Rattle.std.proofs.Common.{◌≡◌, ◌≢◌, ℕ, suc, ◌≤◌, true, false, List, [], ◌∷◌, ◌++◌, length, refl, sym, ap, subst, ◌∙◌, ◌⊎◌, inl, inr, arith}
 use Rattle.std.specs.List.{list_all}
 use Rattle.sc_values.specs.Name.{is_letter, is_digit}
 use Rattle.sc_text.specs.declared.sign.Sign.{Sign}
 use Rattle.sc_text.specs.declared.sign.Sign.TheVariants as sign
 use Rattle.sc_text.specs.Words.{sign_text}
-use Rattle.sc_text.specs.Pieces.{is_blank, is_word_byte, IsPiece, a_word, digits, a_sign, blank, IsLongest}
-use Rattle.sc_text.proofs.Faces.{Signed, signed, Face, word_face, digits_face, sign_face, blank_face, comment_face, face, letter_only, digit_only, blank_only}
+use Rattle.sc_text.specs.Pieces.{is_blank, is_word_byte, a_word, digits, a_sign, blank, IsLongest}
+use Rattle.sc_text.proofs.Faces.{signed, Face, word_face, digits_face, sign_face, blank_face, comment_face, face, letter_only, digit_only, blank_only}
 use Rattle.sc_text.proofs.Faces.{letter_above, digit_between}
 use Rattle.sc_text.proofs.Rows.{Stops, no_longer}
 

@@ -1,13 +1,16 @@
 -- A printed operand, in parentheses or without, is cut into tokens that spell it.
-use Rattle.std.proofs.Common.{◌≡◌, ℕ, zero, suc, ◌+◌, Bool, true, false, List, [], ◌∷◌, ◌++◌, map, length, append_assoc, codes, refl, sym, ap, subst, ◌∙◌}
+use Rattle.std.proofs.Common.{◌≡◌, ℕ, zero, suc, ◌+◌, Bool, true, false, List, [], ◌∷◌, ◌++◌, length, append_assoc, codes, refl, sym, ap, subst, ◌∙◌}
 use Rattle.std.proofs.Common.{inl, inr, arith}
 use Rattle.std.proofs.lemmas.List.{append-nil}
 use Rattle.grammar.specs.Grammar.{spells}
+use Rattle.grammar.proofs.Each.{Every, every_joined}
 use Rattle.sc_values.specs.declared.operation.Operation.{Operation}
 use Rattle.sc_text.specs.declared.sign.Sign.TheVariants as sign
 use Rattle.sc_text.specs.declared.token.Token.{Token}
+use Rattle.sc_text.specs.declared.operation.TextOperation.{TextOperation}
 use Rattle.sc_text.specs.Phrases.{Phrase}
-use Rattle.sc_text.specs.Expression.{text_tokens, Inner, within, atom, unary, negation, disjunction}
+use Rattle.sc_text.specs.Expression.{Inner, within, atom, unary, negation, disjunction}
+use Rattle.drafts.specs.Flaws.{is_among, has_known_name}
 use Rattle.drafts.specs.Resolved.{code_of, operation_of}
 use Rattle.scl_printer.specs.declared.parentheses.Parentheses.{Parentheses}
 use Rattle.scl_printer.specs.declared.parentheses.Parentheses.TheVariants as parentheses
@@ -18,6 +21,17 @@ use Rattle.scl_printer_laws.proofs.Longest.{Closes, closes_quiet, Quiet, quiet_l
 use Rattle.scl_printer_laws.proofs.Cuts.{Cuts, cuts_both, cuts_sign, signed_at}
 use Rattle.scl_printer_laws.proofs.Levels.{G, unary_atom, negation_unary, disjunction_negation, atom_parenthesized}
 
+-- each name that is loaded is one of these
+abbrev pub AreKnown : List (List ℕ) → Phrase → Type 0
+AreKnown names p = Every (λ o. has_known_name (is_among names) o ≡ true) p
+
+pub known_both : (names : List (List ℕ)) (p q : Phrase) → AreKnown names p → AreKnown names q → AreKnown names (p ++ q)
+known_both names p q a b = every_joined (λ o. has_known_name (is_among names) o ≡ true) p q a b
+
+pub known_then : (names : List (List ℕ)) (p : Phrase) (o : TextOperation) → AreKnown names p → has_known_name (is_among names) o ≡ true
+    → AreKnown names (p ++ o ∷ [])
+known_then names p o a b = known_both names p (o ∷ []) a (b, tt)
+
 -- where the text stands before this rest, it is cut into tokens that spell these operations
 pub record Reads (names : List (List ℕ)) (g : G) (text rest : List ℕ) (at : ℕ) (code : List Operation) : Type 0 where
   pub tokens : List Token
@@ -25,6 +39,7 @@ pub record Reads (names : List (List ℕ)) (g : G) (text rest : List ℕ) (at : 
   pub cut : Cuts text rest at tokens
   pub spelled : spells g tokens phrase
   pub means : code_of names phrase ≡ code
+  pub known : AreKnown names phrase
 
 pub code_both : (names : List (List ℕ)) (p q : Phrase) → code_of names (p ++ q) ≡ code_of names p ++ code_of names q
 code_both names [] q = refl
@@ -103,13 +118,21 @@ module _ (names : List (List ℕ)) (p : Parentheses) (t : Bool) (s : Shown) (o :
         spelled = atom_level t (within (suc n)) _ r.phrase (atom_parenthesized n at end r.tokens r.phrase (whole_level s.form
             (within n) r.tokens r.phrase r.spelled));
         means = r.means;
+        known = r.known;
       }
 
   reads_by : (b : Bool) → is_enclosed p t s.form ≡ b → (n : ℕ) → one_more_if b o.at_most n ≡ true → (rest : List ℕ) → Closes rest → (at : ℕ)
       → Reads names (operand_level t (within n)) (enclosed_if b s.text) rest at code
   reads_by false e n m rest closes at =
       let r = h.reads n m rest closes at in
-      record { tokens = r.tokens; phrase = r.phrase; cut = r.cut; spelled = bare_level p t s.form (within n) r.tokens r.phrase e r.spelled; means = r.means }
+      record {
+        tokens = r.tokens;
+        phrase = r.phrase;
+        cut = r.cut;
+        spelled = bare_level p t s.form (within n) r.tokens r.phrase e r.spelled;
+        means = r.means;
+        known = r.known;
+      }
   reads_by true e zero m rest closes at = absurd (cc)
   reads_by true e (suc n) m rest closes at = enclosed n m rest closes at
 

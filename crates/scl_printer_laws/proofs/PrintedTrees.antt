@@ -1,10 +1,7 @@
 -- What is printed of an expression reads as that expression.
-use Rattle.std.proofs.Common.{◌≡◌, ℕ, ◌+◌, List, [], ◌∷◌, ◌++◌, length, sym, subst}
+use Rattle.std.proofs.Common.{◌≡◌, ℕ, ◌+◌, List, [], ◌++◌, length, sym, subst}
 use Rattle.std.proofs.lemmas.List.{append-nil}
-use Rattle.sc_values.specs.declared.value.Value.{Value}
 use Rattle.sc_values.specs.declared.value.Kind.{Kind}
-use Rattle.sc_values.specs.declared.operator.UnaryOperator.{UnaryOperator}
-use Rattle.sc_values.specs.declared.operator.BinaryOperator.{BinaryOperator}
 use Rattle.sc_values.specs.declared.operation.Operation.{Operation}
 use Rattle.sc_values.specs.declared.expression.Expr.{Expr}
 use Rattle.sc_values.specs.declared.expression.Expr.TheOpen as tree
@@ -15,7 +12,6 @@ use Rattle.sc_values.specs.Expr.{postorder}
 use Rattle.sc_values.proofs.Induction.{postorder-literal, postorder-load, postorder-unary, postorder-binary}
 use Rattle.sc_graph.specs.declared.program.Variable.{Variable}
 use Rattle.sc_text.specs.declared.language.Language.TheVariants as language
-use Rattle.sc_text.specs.declared.token.Token.{Token}
 use Rattle.sc_text.specs.Tokens.{AreTokens, no_more}
 use Rattle.sc_text.specs.Parts.{IsExpression}
 use Rattle.sc_text.specs.Expression.{open_limit, within}

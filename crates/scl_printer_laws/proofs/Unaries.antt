@@ -19,7 +19,7 @@ use Rattle.sc_text.specs.declared.sign.Sign.TheVariants as sign
 use Rattle.sc_text.specs.declared.token.Token.{Token}
 use Rattle.sc_text.specs.declared.token.TokenKind.TheVariants as kind
 use Rattle.sc_text.specs.declared.operation.TextOperation.TheVariants as text_op
-use Rattle.sc_text.specs.Words.{sign_text, word_text}
+use Rattle.sc_text.specs.Words.{sign_text}
 use Rattle.sc_text.specs.Classes.{Number}
 use Rattle.sc_text.specs.Tokens.{number_limit}
 use Rattle.sc_text.specs.Phrases.{Phrase, prefixed, number_of, signed, is_there, division, division_of, divided}
@@ -27,14 +27,14 @@ use Rattle.sc_text.specs.Expression.{text_tokens, within, unary, product, negati
 use Rattle.sc_text.specs.Levels.{divisions}
 use Rattle.drafts.specs.Resolved.{code_of}
 use Rattle.scl_printer.specs.declared.parentheses.Parentheses.{Parentheses}
-use Rattle.scl_printer.specs.Expressions.{Shown, Opens, one_more_if, operand, operand_opens, shown_step, opens_step, unary_takes_not}
+use Rattle.scl_printer.specs.Expressions.{Shown, Opens, one_more_if, operand, operand_opens, shown_step, opens_step}
 use Rattle.scl_printer_laws.specs.Reading.{CanWriteOperator}
 use Rattle.scl_printer_laws.proofs.Longest.{Closes, Quiet, quiet_low, quiet_letter, Plain}
 use Rattle.scl_printer_laws.proofs.Cuts.{Cuts, cuts_both, cuts_sign, cuts_word, cuts_space, spaced, signed_at, worded_at}
 use Rattle.scl_printer_laws.proofs.Levels.{Fits, sum_product, comparison_sum, negation_comparison, disjunction_negation, unary_negated, negation_not}
 use Rattle.scl_printer_laws.proofs.Levels.{product_divided, divisor_bare, divisor_signed}
 use Rattle.scl_printer_laws.proofs.Numbers.{cuts_number, number_quiet}
-use Rattle.scl_printer_laws.proofs.Operands.{Reads, Printed, code_both, cuts_nil, operand_quiet, operand_reads}
+use Rattle.scl_printer_laws.proofs.Operands.{Reads, Printed, AreKnown, known_then, code_both, cuts_nil, operand_quiet, operand_reads}
 
 minus_plain : Plain 45
 minus_plain = record { no_letter = refl; no_digit = refl; no_blank = refl }
@@ -114,6 +114,7 @@ module _ (names : List (List ℕ)) (p : Parentheses) (variables : List Variable)
             (cuts_nil (inner false) rest (at + 1) r.tokens r.cut);
         spelled = unary_negated n at r.tokens r.phrase r.spelled;
         means = added unary_operator.Negate r.phrase r.means;
+        known = known_then names r.phrase (text_op.Unary unary_operator.Negate) r.known refl;
       }
 
   not_reads : (n : ℕ) → one_more_if true (operand_opens p true o) n ≡ true → (rest : List ℕ) → Closes rest → (at : ℕ)
@@ -131,6 +132,7 @@ module _ (names : List (List ℕ)) (p : Parentheses) (variables : List Variable)
             (cuts_nil (inner true) rest (at + 4) r.tokens r.cut);
         spelled = negation_not n at r.tokens r.phrase r.spelled;
         means = added unary_operator.Not r.phrase r.means;
+        known = known_then names r.phrase (text_op.Unary unary_operator.Not) r.known refl;
       }
 
   divided_is : (f : UnaryOperator) (d : Divisor) (t : Token) → division_of t.kind d ≡ f → (minus : Option Token) (number : Token)
@@ -160,6 +162,8 @@ module _ (names : List (List ℕ)) (p : Parentheses) (variables : List Variable)
             v.cut);
         spelled = product_whole n _ _ (product_divided (within n) t v.number v.minus r.tokens v.signs r.phrase (fits (end + 1)) v.fits r.spelled v.spelled);
         means = ap (λ q. code_of names (r.phrase ++ q)) (divided_is f d t means v.minus v.number v.value) ∙ added f r.phrase r.means;
+        known = subst (λ q. AreKnown names (r.phrase ++ q)) (sym (divided_is f d t means v.minus v.number v.value))
+            (known_then names r.phrase (text_op.Unary f) r.known refl);
       }
 
   pub unary_printed : (f : UnaryOperator) → CanWriteOperator f

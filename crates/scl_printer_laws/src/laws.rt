@@ -1,6 +1,7 @@
 //! What holds of each printed text.
 
 ghost use Rattle.scl_printer_laws.specs.Nesting.{PrintedExpressionsNest};
+ghost use Rattle.scl_printer_laws.specs.Programs.{PrintedProgramsReadBack};
 ghost use Rattle.scl_printer_laws.specs.Reading.{PrintedExpressionsAreRead};
 
 /// No expression of a program opens more parentheses and prefix operators in print than a reader takes.
@@ -14,4 +15,10 @@ pub fn printed_expressions_nest()
 /// the law.
 pub fn printed_expressions_are_read()
     ensures { PrintedExpressionsAreRead }
+{}
+
+/// What is printed of a program reads back as that program, where its names are names and its numbers fit in
+/// 32 bits, as its types in Rust give. This function does nothing; its contract is the law.
+pub fn printed_programs_read_back()
+    ensures { PrintedProgramsReadBack }
 {}

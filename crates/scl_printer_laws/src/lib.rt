@@ -3,4 +3,6 @@
 
 mod laws;
 
-pub use laws::{printed_expressions_are_read, printed_expressions_nest};
+pub use laws::{
+    printed_expressions_are_read, printed_expressions_nest, printed_programs_read_back,
+};
