@@ -1,0 +1,15 @@
+//! Texts of charts, each answered by the places of its elements, by its own layout, and by the text of its core chart.
+//! tests/chart_texts asks it, and tells its form.
+#![tactic(auto)]
+
+mod telling;
+
+use std::io;
+
+fn main(rt: HostRuntime) -> io::Result<()> {
+    let text = io::read_to_string(rt.alloc(), rt.stdin())?;
+    let mut told = String::new(rt.alloc());
+    let answered = telling::answer(rt.alloc(), text.as_str(), &mut told);
+    print!(rt; "{told}")?;
+    answered
+}
