@@ -22,6 +22,7 @@ mod unknown_words;
 mod walks;
 mod words;
 
+pub use lines::{marked_line, name_at};
 pub use program_report::program_fault_explained;
-pub use report::{explained, text_fault_explained, told_nowhere};
+pub use report::{explained, spot_text, text_fault_explained, told_nowhere};
 pub use spots::{Spot, spot_of};

@@ -13,7 +13,7 @@ use sc_text::{Broken, ReadFault};
 use std::alloc::{AllocError, Global};
 
 /// A place as it stands behind the name of a file: its line and its column. Err: memory was refused.
-pub(crate) fn spot_text(alloc: Global, spot: Spot) -> Result<String, AllocError>
+pub fn spot_text(alloc: Global, spot: Spot) -> Result<String, AllocError>
     ensures { IfOk result (λ text.
         string_bytes text ≡ codes ":" ++ (decimal spot.line ++ (codes ":" ++ decimal spot.column))) }
 {

@@ -1,0 +1,9 @@
+use Rattle.std.proofs.Common.{drop, string_bytes}
+use Rattle.warning_texts.specs.Reports.{heads_of}
+use Rattle.warning_texts.proofs.Joining.{Goes}
+use Rattle.warning_texts.proofs.telling.tell_all.Given as goal
+
+abbrev pub invariant-loop-warning : goal.invariant-loop-warning
+invariant-loop-warning l =
+    Goes l.scene.name.now (heads_of l.scene.text.now l.scene.places.now (drop l.warning-index l.warnings))
+    (heads_of l.scene.text.now l.scene.places.now l.warnings) (string_bytes l.told)

@@ -1,0 +1,13 @@
+//! The warnings of a chart in words for people, with their places.
+#![tactic(auto)]
+
+mod allowance;
+mod cures;
+mod lines;
+mod places;
+mod report;
+mod scene;
+mod telling;
+mod words;
+
+pub use telling::warnings_told;

@@ -1,0 +1,64 @@
+//! The report of a warning.
+
+ghost use Rattle.std.specs.Prelude.{IfOk, IsTrue, string_bytes};
+ghost use Rattle.diagnostics.specs.Spots.{place_shown};
+ghost use Rattle.warning_texts.specs.Allowance.{code_text};
+ghost use Rattle.warning_texts.specs.Lines.{are_lines};
+ghost use Rattle.warning_texts.specs.Reports.{IsReport};
+
+use crate::allowance::code_text;
+use crate::cures::cure_of;
+use crate::lines::are_lines;
+use crate::scene::Scene;
+use crate::words::cause_of;
+use chart_warnings::Warning;
+use diagnostics::{marked_line, spot_of, spot_text};
+use std::alloc::{AllocError, Global};
+
+/// The lines of a report.
+const LINES: usize = 4;
+
+/// The report of a warning that stands at this byte: the name of the file with line and column, the code and what is
+/// warned of, the line of the text with a mark under the place, and what helps. Err: memory was refused.
+pub(crate) fn report_of(
+    alloc: Global,
+    scene: Scene<'_>,
+    warning: Warning,
+    at: usize,
+) -> Result<String, AllocError>
+    ensures { IfOk result (λ report. IsReport scene.entry.name.now
+        (record { place = place_shown scene.entry.text.now at; code = code_text warning }) (string_bytes report)) }
+{
+    let name = scene.name;
+    let place = spot_text(alloc, spot_of(scene.text, at))?;
+    let code = code_text(warning);
+    let said = said_of(alloc, scene, warning, at)?;
+    format!(in alloc; "{name}{place}: {code}: {said}")
+}
+
+// What is said of a warning behind its code.
+fn said_of(
+    alloc: Global,
+    scene: Scene<'_>,
+    warning: Warning,
+    at: usize,
+) -> Result<String, AllocError>
+    ensures { IfOk result (λ said. IsTrue (are_lines 4 (string_bytes said))) }
+{
+    let cause = cause_of(alloc, scene, warning)?;
+    let marked = marked_line(alloc, scene.text, spot_of(scene.text, at))?;
+    let cure = cure_of(alloc, scene, warning)?;
+    let said = format!(in alloc; "{cause}\n{marked}help: {cure}\n")?;
+    of_four_lines(alloc, said)
+}
+
+// What is said, which no word of it makes more than four lines; if one did, less would be said.
+fn of_four_lines(alloc: Global, said: String) -> Result<String, AllocError>
+    ensures { IfOk result (λ said. IsTrue (are_lines 4 (string_bytes said))) }
+{
+    if are_lines(said.as_bytes(), LINES) {
+        Ok(said)
+    } else {
+        String::from_str(alloc, "this is most likely not meant\n\n\n\n")
+    }
+}

@@ -1,0 +1,85 @@
+//! Warnings in words.
+
+use crate::scene::Scene;
+use chart_warnings::Warning;
+use std::alloc::{AllocError, Global};
+
+/// What is warned of. Err: memory was refused.
+pub(crate) fn cause_of(
+    alloc: Global,
+    scene: Scene<'_>,
+    warning: Warning,
+) -> Result<String, AllocError> {
+    match warning {
+        Warning::StaysOn { state, output, .. } => stays_on(alloc, scene, state, output),
+        Warning::Forestalled { state, .. } => forestalled(alloc, scene, state),
+        Warning::Unreached { state } => unreached(alloc, scene, state),
+        Warning::NeverRead { variable } => never_read(alloc, scene, variable),
+        Warning::NeverSet { variable } => never_set(alloc, scene, variable),
+        Warning::NeverAsked { input } => never_asked(alloc, scene, input),
+        Warning::NeverEnded { state, region, .. } => never_ended(alloc, scene, state, region),
+        Warning::NeverLeft { state } => never_left(alloc, scene, state),
+    }
+}
+
+fn stays_on(
+    alloc: Global,
+    scene: Scene<'_>,
+    state: usize,
+    output: usize,
+) -> Result<String, AllocError> {
+    let output = scene.variable(alloc, output)?;
+    let state = scene.state(alloc, state)?;
+    format!(in alloc; "this abort leaves `{output}` as `{state}` has set it")
+}
+
+fn forestalled(alloc: Global, scene: Scene<'_>, state: usize) -> Result<String, AllocError> {
+    let state = scene.state(alloc, state)?;
+    format!(in alloc;
+        "this transition of `{state}` is never taken: one without a trigger is taken in its place"
+    )
+}
+
+fn unreached(alloc: Global, scene: Scene<'_>, state: usize) -> Result<String, AllocError> {
+    let state = scene.state(alloc, state)?;
+    format!(in alloc;
+        "nothing leads to `{state}`: it is not initial, and no transition of another state goes there"
+    )
+}
+
+fn never_read(alloc: Global, scene: Scene<'_>, variable: usize) -> Result<String, AllocError> {
+    let variable = scene.variable(alloc, variable)?;
+    format!(in alloc;
+        "the local variable `{variable}` is never read: no trigger and no other variable needs it"
+    )
+}
+
+fn never_set(alloc: Global, scene: Scene<'_>, variable: usize) -> Result<String, AllocError> {
+    let variable = scene.variable(alloc, variable)?;
+    format!(in alloc; "`{variable}` is never set: no effect writes it")
+}
+
+fn never_asked(alloc: Global, scene: Scene<'_>, input: usize) -> Result<String, AllocError> {
+    let input = scene.variable(alloc, input)?;
+    format!(in alloc; "the input `{input}` is never read: no trigger and no effect needs it")
+}
+
+fn never_ended(
+    alloc: Global,
+    scene: Scene<'_>,
+    state: usize,
+    region: usize,
+) -> Result<String, AllocError> {
+    let region = scene.region(alloc, state, region)?;
+    let state = scene.state(alloc, state)?;
+    format!(in alloc;
+        "the `join` of `{state}` is never taken: its region `{region}` has no final state"
+    )
+}
+
+fn never_left(alloc: Global, scene: Scene<'_>, state: usize) -> Result<String, AllocError> {
+    let state = scene.state(alloc, state)?;
+    format!(in alloc;
+        "`{state}`, in which its region begins, is never left for another state of the region"
+    )
+}
