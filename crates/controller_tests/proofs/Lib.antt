@@ -1,0 +1,4 @@
+mod Alike
+mod Cut
+mod Stem
+mod Tested

@@ -1,0 +1,5 @@
+pub mod Names
+pub mod Difference
+pub mod Told
+pub mod Outcome
+pub mod Inside

@@ -1,0 +1,21 @@
+-- The names of the files that stand beside a program's text.
+use Rattle.std.specs.Prelude.{ℕ, ◌-◌, List, ◌++◌, Option, Some, None, codes, length, take, drop, if◌then◌else◌, unwrap_or}
+use Rattle.std.specs.Str.{bytes_eq}
+
+-- a name without this ending, where it has it
+abbrev pub without : List ℕ → List ℕ → Option (List ℕ)
+without ending name =
+    let before = length name - length ending in
+    if bytes_eq (drop before name) ending then Some (take before name) else None
+
+abbrev pub or_whole : List ℕ → Option (List ℕ) → List ℕ
+or_whole name (Some front) = front
+or_whole name None = unwrap_or (without (codes ".scl") name) name
+
+-- the name of a text without its ending, which is that of a chart or that of a program; another name is whole
+abbrev pub stem : List ℕ → List ℕ
+stem name = or_whole name (without (codes ".chart") name)
+
+-- the name of the file beside a text, with this ending
+abbrev pub beside : List ℕ → List ℕ → List ℕ
+beside name ending = stem name ++ ending

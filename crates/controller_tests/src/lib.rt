@@ -1,0 +1,19 @@
+//! A maker's own tests of a program: the inputs of its ticks and the trace that is wanted, which stand in files beside
+//! its text, and how the trace that its image makes differs from that.
+#![tactic(auto)]
+
+mod difference;
+mod lines;
+mod members;
+mod names;
+mod outcome;
+mod shown;
+mod silent;
+mod told;
+mod trace;
+
+pub use difference::{Difference, compare};
+pub use names::beside;
+pub use outcome::{Outcome, test_controller};
+pub use told::difference_told;
+pub use trace::trace_of;

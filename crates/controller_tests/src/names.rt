@@ -1,0 +1,33 @@
+//! The names of the files beside a program's text.
+
+ghost use Rattle.std.specs.Prelude.{◌≡◌, IfOk, option_map, string_bytes};
+ghost use Rattle.controller_tests.specs.Names.{beside, stem, without};
+
+use std::alloc::{AllocError, Global};
+
+// A name without this ending. None: it does not end so.
+#[tactic(auto, using(crate::proofs::Stem::without_is))]
+fn without<'a>(ending: &str, name: &'a str) -> Option<&'a str>
+    ensures { option_map (λ front. front.now) result ≡ without ending.now name.now }
+{
+    name.strip_suffix(ending)
+}
+
+// The name of a file of text, without its ending.
+fn stem(name: &str) -> &str
+    ensures { result.now ≡ stem name.now }
+{
+    match without(".chart", name) {
+        Some(front) => front,
+        None => without(".scl", name).unwrap_or(name),
+    }
+}
+
+/// The name of the file beside the one of this name: the name without its ending `.chart` or `.scl`, or else the whole
+/// name, with this ending.
+pub fn beside(alloc: Global, name: &str, ending: &str) -> Result<String, AllocError>
+    ensures { IfOk result (λ other. string_bytes other ≡ beside name.now ending.now) }
+{
+    let stem = stem(name);
+    format!(in alloc; "{stem}{ending}")
+}
