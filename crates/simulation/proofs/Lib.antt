@@ -1,0 +1,3 @@
+mod Doing
+mod Histories
+mod Reading

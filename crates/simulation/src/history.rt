@@ -1,0 +1,41 @@
+//! The ticks that were played.
+
+ghost use Rattle.std.specs.Prelude.{◌≡◌, ◌++◌, ◌∷◌, [], OnOk, OnErr};
+ghost use Rattle.simulation.specs.History.{behind};
+
+use sc_graph::Control;
+use sqlite_items::Items;
+use std::alloc::{AllocError, Global};
+
+/// A tick that was played: the line that gave its inputs, and the configuration in which it ended.
+#[derive(Drop)]
+pub struct Played {
+    pub line: Items<u8>,
+    pub control: Control,
+}
+
+/// The configuration behind ticks from this one on.
+#[tactic(auto, using(crate::proofs::Histories::last_behind, crate::proofs::Histories::none_behind))]
+pub(crate) fn behind<'a>(first: &'a Control, ticks: &'a [Played]) -> &'a Control
+    ensures { result.now ≡ behind first.now ticks.now }
+{
+    match ticks.last() {
+        Some(tick) => &tick.control,
+        None => first,
+    }
+}
+
+/// Puts a tick behind others. Err: memory was refused, and they are as before.
+pub(crate) fn push(
+    alloc: Global,
+    ticks: &mut Vec<Played>,
+    line: &[u8],
+    control: Control,
+) -> Result<(), AllocError>
+    ensures ok { OnOk result (ticks.new.items ≡ ticks.old.items ++ record { line = line.now; control = control } ∷ []) }
+    ensures err { OnErr result (ticks.new.items ≡ ticks.old.items) }
+{
+    let line = Items::from_slice(alloc, line)?;
+    ticks.push(Played { line, control })?;
+    Ok(())
+}
