@@ -3,7 +3,7 @@ _sct() {
   local word=${COMP_WORDS[COMP_CWORD]} command=${COMP_WORDS[1]:-} before=${COMP_WORDS[COMP_CWORD - 1]}
   COMPREPLY=()
   if ((COMP_CWORD == 1)); then
-    mapfile -t COMPREPLY < <(compgen -W 'compile scl explain dot check list run migrate help --help --version' -- "$word")
+    mapfile -t COMPREPLY < <(compgen -W 'compile scl core explain dot test simulate check list run migrate help --help --version' -- "$word")
     return
   fi
   if [[ $before == --workers ]]; then
@@ -14,16 +14,19 @@ _sct() {
     local options='--explain --help'
     case $command in
       list) options='--source --explain --help' ;;
-      run) options='--workers --explain --help' ;;
+      test) options='--help' ;;
+      run) options='--workers --chart --explain --help' ;;
     esac
     mapfile -t COMPREPLY < <(compgen -W "$options" -- "$word")
     return
   fi
   local ending='*.image'
   case $command in
-    compile | scl | explain | dot) ending='*.@(chart|scl)' ;;
+    compile | scl | explain | dot | test | simulate) ending='*.@(chart|scl)' ;;
+    core) ending='*.chart' ;;
   esac
   [[ $before == --source ]] && ending='*.@(chart|scl)'
+  [[ $before == --chart ]] && ending='*.chart'
   [[ $command == compile && $COMP_CWORD -gt 2 ]] && ending='*.image'
   mapfile -t COMPREPLY < <(shopt -s extglob; compgen -f -X "!$ending" -- "$word"; compgen -d -- "$word")
   compopt -o filenames 2> /dev/null

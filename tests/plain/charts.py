@@ -43,6 +43,15 @@ def states_of(regions):
             yield from states_of(state.regions)
 
 
+def paths_of(regions, above=""):
+    """The path of each state, in the order of the text: Region.State, and behind a / what is inside."""
+    for region in regions:
+        for state in region.states:
+            path = f"{above}{region.name}.{state.name}"
+            yield path
+            yield from paths_of(state.regions, path + "/")
+
+
 def is_flat(regions, inside_aborts=False):
     """Whether no superstate with aborts lies inside another one with aborts."""
     for state in (s for region in regions for s in region.states):

@@ -1,24 +1,45 @@
--- The source that `--source=FILE` says.
-use Rattle.std.proofs.Common.{◌≡◌, ◌∙◌, ℕ, List, true, false, refl, sym, ap, subst, codes, drop, if◌then◌else◌, Option, Some, None}
-use Rattle.std.specs.Prelude.{option_map, MatchOption}
+-- What an option says in one word: the source of `--source=FILE`, the chart of `--chart=FILE`.
+use Rattle.std.proofs.Common.{◌≡◌, ◌∙◌, ℕ, List, true, false, refl, sym, ap, subst, codes, drop, length, if◌then◌else◌, Option, Some, None}
+use Rattle.std.specs.Prelude.{option_map, MatchOption, nat_eq}
+use Rattle.std.specs.List.{starts_with}
 use Rattle.std.specs.Str.{IsCharBoundary}
 use Rattle.std.specs.Str.Pattern.{FindsTextPrefix, LacksTextAt, StripsPrefix}
 use Rattle.std.proofs.lemmas.Str.Pattern.{starts_text}
-use Rattle.command_words.specs.Said.{source_in}
+use Rattle.command_words.specs.Said.{chart_in, source_in}
 use denote.Ref.{Bor}
 
-abbrev option : List ℕ
-option = codes "--source="
+-- what stands behind an option
+abbrev behind : List ℕ → List ℕ → Option (List ℕ)
+behind option word = if starts_with nat_eq word option then Some (drop (length option) word) else None
 
-there : (word : List ℕ) (k : ℕ) → FindsTextPrefix option word (Some k) → source_in word ≡ Some (drop k word)
-there word k (size, is, at) =
-    subst (λ b. (if b then Some (drop 9 word) else None) ≡ Some (drop k word))
+there : (option word : List ℕ) (k : ℕ) → FindsTextPrefix option word (Some k) → behind option word ≡ Some (drop k word)
+there option word k (size, is, at) =
+    subst (λ b. (if b then Some (drop (length option) word) else None) ≡ Some (drop k word))
     (starts_text true option word (k, (size, is, at), subst (IsCharBoundary word) (sym size) at))
     (ap (λ n. Some (drop n word)) (sym size))
 
-absent : (word : List ℕ) → LacksTextAt option word 0 → source_in word ≡ None
-absent word lacks = subst (λ b. (if b then Some (drop 9 word) else None) ≡ None) (starts_text false option word lacks) refl
+absent : (option word : List ℕ) → LacksTextAt option word 0 → behind option word ≡ None
+absent option word lacks =
+    subst (λ b. (if b then Some (drop (length option) word) else None) ≡ None) (starts_text false option word lacks) refl
 
-pub said : (word : List ℕ) (r : Option (Bor (List ℕ))) → MatchOption r (FindsTextPrefix option word None) (λ x. StripsPrefix (FindsTextPrefix option) word x.now) → option_map (λ s. s.now) r ≡ source_in word
-said word None lacks = sym (absent word lacks)
-said word (Some x) (k, found, rest, size) = ap Some rest ∙ sym (there word k found)
+stripped : (option word : List ℕ) (r : Option (Bor (List ℕ)))
+    → MatchOption r (FindsTextPrefix option word None) (λ x. StripsPrefix (FindsTextPrefix option) word x.now)
+    → option_map (λ s. s.now) r ≡ behind option word
+stripped option word None lacks = sym (absent option word lacks)
+stripped option word (Some x) (k, found, rest, size) = ap Some rest ∙ sym (there option word k found)
+
+abbrev source_option : List ℕ
+source_option = codes "--source="
+
+abbrev chart_option : List ℕ
+chart_option = codes "--chart="
+
+pub said : (word : List ℕ) (r : Option (Bor (List ℕ)))
+    → MatchOption r (FindsTextPrefix source_option word None) (λ x. StripsPrefix (FindsTextPrefix source_option) word x.now)
+    → option_map (λ s. s.now) r ≡ source_in word
+said word r finds = stripped source_option word r finds
+
+pub chart_said : (word : List ℕ) (r : Option (Bor (List ℕ)))
+    → MatchOption r (FindsTextPrefix chart_option word None) (λ x. StripsPrefix (FindsTextPrefix chart_option) word x.now)
+    → option_map (λ s. s.now) r ≡ chart_in word
+chart_said word r finds = stripped chart_option word r finds

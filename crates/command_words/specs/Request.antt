@@ -1,53 +1,63 @@
 -- What the words of a command ask for.
-use Rattle.std.specs.Prelude.{ℕ, Bool, false, option_map, if◌then◌else◌, codes, unwrap_or, Option, Some, None, List, [], ◌∷◌}
+use Rattle.std.specs.Prelude.{ℕ, Bool, true, false, not, ◌&&◌, option_map, if◌then◌else◌, codes, map, string_bytes, unwrap_or, Option, Some, None, List, [], ◌∷◌}
 use Rattle.std.specs.Option.{option_and_then}
 use Rattle.std.specs.Str.{bytes_eq}
-use Rattle.command_words.specs.Said.{Names, NoName, One, Two, Said, said_by}
+use Rattle.command_words.specs.Said.{Names, NoName, One, Two, Said, is_option, said_by}
 use Rattle.command_words.specs.declared.arguments.Request.{Request as Words}
 use Rattle.command_words.specs.declared.arguments.Request.TheVariants as words
 
--- a request, with the name of a file or of two; a run by so many workers; an image for the output in place of a file
+-- a request, with the name of a file or of two, or of several; a run by so many workers; an image for the output in place
+-- of a file
 pub data Request : Type 0 where
   Check : (name : List ℕ) → Request
   Run : (name : List ℕ) (workers : ℕ) → Request
+  RunWithStates : (name chart : List ℕ) → Request
   Compile : (from to : List ℕ) → Request
   CompileToOutput : (from : List ℕ) → Request
   Print : (name : List ℕ) → Request
+  PrintCore : (name : List ℕ) → Request
   Migrate : (from to : List ℕ) → Request
   MigrateToOutput : (from : List ℕ) → Request
   ListNodes : (name : List ℕ) → Request
   ListPlaces : (name source : List ℕ) → Request
   Explain : (name : List ℕ) → Request
   Draw : (name : List ℕ) → Request
+  Test : (names : List (List ℕ)) → Request
+  Simulate : (name : List ℕ) → Request
 
 -- a request whose name is text
 abbrev pub seen : Words → Request
 seen (words.Check name) = Check name.now
 seen (words.Run name workers) = Run name.now workers.number
+seen (words.RunWithStates name chart) = RunWithStates name.now chart.now
 seen (words.Compile from to) = Compile from.now to.now
 seen (words.CompileToOutput from) = CompileToOutput from.now
 seen (words.Print name) = Print name.now
+seen (words.PrintCore name) = PrintCore name.now
 seen (words.Migrate from to) = Migrate from.now to.now
 seen (words.MigrateToOutput from) = MigrateToOutput from.now
 seen (words.ListNodes name) = ListNodes name.now
 seen (words.ListPlaces name source) = ListPlaces name.now source.now
 seen (words.Explain name) = Explain name.now
 seen (words.Draw name) = Draw name.now
+seen (words.Test names) = Test (map string_bytes names.now)
+seen (words.Simulate name) = Simulate name.now
 
 -- how many workers a run has where it does not say
 abbrev pub usual_workers : ℕ
 usual_workers = 2
 
--- a run of one file
-abbrev pub run_of : Option ℕ → Option (List ℕ) → Names → Option Request
-run_of workers None (One name) = Some (Run name (unwrap_or workers usual_workers))
-run_of workers source names = None
+-- a run of one file, by workers; or one that tells active states too, of the chart in another file
+abbrev pub run_of : Option ℕ → Option (List ℕ) → Option (List ℕ) → Names → Option Request
+run_of workers None None (One name) = Some (Run name (unwrap_or workers usual_workers))
+run_of None None (Some chart) (One name) = Some (RunWithStates name chart)
+run_of workers source chart names = None
 
 -- a listing of one file, with a source or without
-abbrev pub list_of : Option ℕ → Option (List ℕ) → Names → Option Request
-list_of None None (One name) = Some (ListNodes name)
-list_of None (Some source) (One name) = Some (ListPlaces name source)
-list_of workers source names = None
+abbrev pub list_of : Option ℕ → Option (List ℕ) → Option (List ℕ) → Names → Option Request
+list_of None None None (One name) = Some (ListNodes name)
+list_of None (Some source) None (One name) = Some (ListPlaces name source)
+list_of workers source chart names = None
 
 -- where an image goes: to the file of a name, or, of the name `-`, to the output
 abbrev pub compile_to : List ℕ → List ℕ → Request
@@ -61,8 +71,10 @@ abbrev pub asked : List ℕ → Names → Option Request
 asked verb (One name) =
     if bytes_eq verb (codes "check") then Some (Check name)
     else if bytes_eq verb (codes "scl") then Some (Print name)
+    else if bytes_eq verb (codes "core") then Some (PrintCore name)
     else if bytes_eq verb (codes "explain") then Some (Explain name)
     else if bytes_eq verb (codes "dot") then Some (Draw name)
+    else if bytes_eq verb (codes "simulate") then Some (Simulate name)
     else None
 asked verb (Two from to) =
     if bytes_eq verb (codes "compile") then Some (compile_to from to)
@@ -71,30 +83,43 @@ asked verb (Two from to) =
 asked verb NoName = None
 
 -- which has no option of its own
-abbrev pub asked_plainly : List ℕ → Option ℕ → Option (List ℕ) → Names → Option Request
-asked_plainly verb None None names = asked verb names
-asked_plainly verb workers source names = None
+abbrev pub asked_plainly : List ℕ → Option ℕ → Option (List ℕ) → Option (List ℕ) → Names → Option Request
+asked_plainly verb None None None names = asked verb names
+asked_plainly verb workers source chart names = None
 
 -- what a verb asks for with what is said behind it
 abbrev pub request_by : List ℕ → Said → Option Request
 request_by verb s =
-    if bytes_eq verb (codes "run") then run_of s.workers s.source s.names
-    else if bytes_eq verb (codes "list") then list_of s.workers s.source s.names
-    else asked_plainly verb s.workers s.source s.names
+    if bytes_eq verb (codes "run") then run_of s.workers s.source s.chart s.names
+    else if bytes_eq verb (codes "list") then list_of s.workers s.source s.chart s.names
+    else asked_plainly verb s.workers s.source s.chart s.names
+
+-- tests of controllers are asked for by names alone, of which there is one at least
+abbrev pub are_names : List (List ℕ) → Bool
+are_names [] = true
+are_names (word ∷ words) = not (is_option word) && are_names words
+
+abbrev pub test_of : List (List ℕ) → Option Request
+test_of [] = None
+test_of (name ∷ names) = if are_names (name ∷ names) then Some (Test (name ∷ names)) else None
 
 -- the request of the words behind the program's name
 abbrev pub request_of : List (List ℕ) → Option Request
 request_of [] = None
-request_of (verb ∷ words) = option_and_then (request_by verb) (said_by words)
+request_of (verb ∷ words) =
+    if bytes_eq verb (codes "test") then test_of words else option_and_then (request_by verb) (said_by words)
 
 -- whether the words behind the program's name ask for words behind a fault
 abbrev pub explains : List (List ℕ) → Bool
 explains [] = false
-explains (verb ∷ words) = unwrap_or (option_map (λ s. s.explains) (said_by words)) false
+explains (verb ∷ words) =
+    if bytes_eq verb (codes "test") then false else unwrap_or (option_map (λ s. s.explains) (said_by words)) false
 
--- a run is asked for, which alone reads the input
+-- a run is asked for, by lines of ticks or by hand, which alone reads the input
 abbrev pub IsRun : Option Request → Type 0
 IsRun (Some (Run name workers)) = Unit {0}
+IsRun (Some (RunWithStates name chart)) = Unit {0}
+IsRun (Some (Simulate name)) = Unit {0}
 IsRun request = ⊥
 
 -- an image is asked for, by compiling or by migration, which alone write a file

@@ -21,6 +21,7 @@ pub record Said : Type 0 where
   pub next : Next
   pub workers : Option ℕ
   pub source : Option (List ℕ)
+  pub chart : Option (List ℕ)
   pub explains : Bool
   pub names : Names
 
@@ -34,12 +35,13 @@ said_seen s = record {
   next = s.next;
   workers = option_map (λ w. w.number) s.workers;
   source = option_map (λ name. name.now) s.source;
+  chart = option_map (λ name. name.now) s.chart;
   explains = s.explains;
   names = names_seen s.names;
 }
 
 abbrev pub start : Said
-start = record { next = next.Any; workers = None; source = None; explains = false; names = NoName }
+start = record { next = next.Any; workers = None; source = None; chart = None; explains = false; names = NoName }
 
 abbrev pub hyphen : ℕ
 hyphen = 45
@@ -62,6 +64,10 @@ workers_in word = if bytes_eq (take 10 word) (codes "--workers=") then workers_n
 abbrev pub source_in : List ℕ → Option (List ℕ)
 source_in word = if starts_with nat_eq word (codes "--source=") then Some (drop 9 word) else None
 
+-- the chart that `--chart=FILE` says
+abbrev pub chart_in : List ℕ → Option (List ℕ)
+chart_in word = if starts_with nat_eq word (codes "--chart=") then Some (drop 8 word) else None
+
 abbrev pub with_name : Names → List ℕ → Option Names
 with_name NoName name = Some (One name)
 with_name (One first) name = Some (Two first name)
@@ -74,16 +80,26 @@ with_workers s n = if is_some s.workers then None else Some (record s { next = n
 abbrev pub with_source : Said → List ℕ → Option Said
 with_source s source = if is_some s.source then None else Some (record s { next = next.Any; source = Some source })
 
+abbrev pub with_chart : Said → List ℕ → Option Said
+with_chart s chart = if is_some s.chart then None else Some (record s { next = next.Any; chart = Some chart })
+
 abbrev pub explained : Said → Option Said
 explained s = if s.explains then None else Some (record s { explains = true })
 
 abbrev pub named : Said → List ℕ → Option Said
 named s name = option_map (λ names. record s { names = names }) (with_name s.names name)
 
--- an option with its value in one word
+-- an option with its value in one word: a source, else a chart; or a number of workers, else a file
+abbrev pub by_source : Said → List ℕ → Option (List ℕ) → Option Said
+by_source s word (Some source) = with_source s source
+by_source s word None = option_and_then (with_chart s) (chart_in word)
+
+abbrev pub by_file : Said → List ℕ → Option Said
+by_file s word = by_source s word (source_in word)
+
 abbrev pub by_value : Said → List ℕ → Option ℕ → Option Said
 by_value s word (Some n) = with_workers s n
-by_value s word None = option_and_then (with_source s) (source_in word)
+by_value s word None = by_file s word
 
 abbrev pub valued : Said → List ℕ → Option Said
 valued s word = by_value s word (workers_in word)
@@ -94,6 +110,7 @@ opened s word =
     if bytes_eq word (codes "--") then Some (record s { next = next.Name })
     else if bytes_eq word (codes "--workers") then Some (record s { next = next.Number })
     else if bytes_eq word (codes "--source") then Some (record s { next = next.Source })
+    else if bytes_eq word (codes "--chart") then Some (record s { next = next.Chart })
     else if bytes_eq word (codes "--explain") then explained s
     else if is_option word then valued s word
     else named s word
@@ -102,6 +119,7 @@ abbrev pub taken_for : Next → Said → List ℕ → Option Said
 taken_for next.Any s word = opened s word
 taken_for next.Number s word = option_and_then (with_workers s) (workers_named word)
 taken_for next.Source s word = if is_option word then None else with_source s word
+taken_for next.Chart s word = if is_option word then None else with_chart s word
 taken_for next.Name s word = named s word
 
 -- one more word

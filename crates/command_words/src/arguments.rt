@@ -2,11 +2,11 @@
 
 ghost use Rattle.std.specs.Prelude.{◌≡◌, Some, None, IfOk, IfSome, OnErr, map, option_map, string_bytes};
 ghost use Rattle.command_words.specs.Request.{seen, asked, asked_plainly, list_of, request_by, request_of, run_of};
-ghost use Rattle.command_words.specs.Request.{compile_to, explains, migrate_to};
+ghost use Rattle.command_words.specs.Request.{are_names, compile_to, explains, migrate_to, test_of};
 ghost use Rattle.command_words.specs.Said.{names_seen, said_seen};
 ghost use Rattle.command_words.specs.declared.arguments.Unread.TheVariants.{Memory};
 
-use crate::said::{Names, Said};
+use crate::said::{Names, Said, is_option};
 use crate::verbs::sct_command;
 use crate::workers::Workers;
 use clap::Error;
@@ -23,12 +23,16 @@ pub enum Request<'a> {
     Check(&'a str),
     /// Run the image in this file by so many workers.
     Run(&'a str, Workers),
+    /// Run it, and tell in each line which states are active of the chart in the second file.
+    RunWithStates(&'a str, &'a str),
     /// Write the image of the chart or SCL text in the first file to the second.
     Compile(&'a str, &'a str),
     /// Write it to the output.
     CompileToOutput(&'a str),
     /// Print the SCL text in this file, or that of the chart in it.
     Print(&'a str),
+    /// Print the core chart of the chart in this file.
+    PrintCore(&'a str),
     /// Write the image in the first file to the second, in version 2 of the layout.
     Migrate(&'a str, &'a str),
     /// Write it to the output.
@@ -41,6 +45,10 @@ pub enum Request<'a> {
     Explain(&'a str),
     /// Draw the chart in this file, or the graph of the SCL text.
     Draw(&'a str),
+    /// Test the charts and SCL texts in these files, of which there is one at least.
+    Test(&'a [String]),
+    /// Step the chart or SCL text in this file by hand.
+    Simulate(&'a str),
 }
 
 /// What the words ask for, and whether they want words behind a fault.
@@ -82,13 +90,16 @@ fn shown(alloc: Global, error: &Error) -> Unread {
     }
 }
 
-// A run of one file.
+// A run of one file, with the states of a chart or without.
 fn run_of<'a>(said: &Said<'a>) -> Option<Request<'a>>
     ensures { option_map seen result ≡ run_of (said_seen said.now).workers (said_seen said.now).source
-        (said_seen said.now).names }
+        (said_seen said.now).chart (said_seen said.now).names }
 {
-    match (said.source, said.names) {
-        (None, Names::One(name)) => Some(Request::Run(name, said.workers.unwrap_or(USUAL_WORKERS))),
+    match (said.workers, said.source, said.chart, said.names) {
+        (workers, None, None, Names::One(name)) => {
+            Some(Request::Run(name, workers.unwrap_or(USUAL_WORKERS)))
+        }
+        (None, None, Some(chart), Names::One(name)) => Some(Request::RunWithStates(name, chart)),
         _ => None,
     }
 }
@@ -96,11 +107,11 @@ fn run_of<'a>(said: &Said<'a>) -> Option<Request<'a>>
 // A listing of one file.
 fn list_of<'a>(said: &Said<'a>) -> Option<Request<'a>>
     ensures { option_map seen result ≡ list_of (said_seen said.now).workers (said_seen said.now).source
-        (said_seen said.now).names }
+        (said_seen said.now).chart (said_seen said.now).names }
 {
-    match (said.workers, said.source, said.names) {
-        (None, None, Names::One(name)) => Some(Request::ListNodes(name)),
-        (None, Some(source), Names::One(name)) => Some(Request::ListPlaces(name, source)),
+    match (said.workers, said.source, said.chart, said.names) {
+        (None, None, None, Names::One(name)) => Some(Request::ListNodes(name)),
+        (None, Some(source), None, Names::One(name)) => Some(Request::ListPlaces(name, source)),
         _ => None,
     }
 }
@@ -132,8 +143,10 @@ fn asked<'a>(verb: &str, names: Names<'a>) -> Option<Request<'a>>
     match names {
         Names::One(name) if verb == "check" => Some(Request::Check(name)),
         Names::One(name) if verb == "scl" => Some(Request::Print(name)),
+        Names::One(name) if verb == "core" => Some(Request::PrintCore(name)),
         Names::One(name) if verb == "explain" => Some(Request::Explain(name)),
         Names::One(name) if verb == "dot" => Some(Request::Draw(name)),
+        Names::One(name) if verb == "simulate" => Some(Request::Simulate(name)),
         Names::Two(from, to) if verb == "compile" => Some(compile_to(from, to)),
         Names::Two(from, to) if verb == "migrate" => Some(migrate_to(from, to)),
         _ => None,
@@ -143,10 +156,10 @@ fn asked<'a>(verb: &str, names: Names<'a>) -> Option<Request<'a>>
 // The same, of a verb that has no option of its own.
 fn asked_plainly<'a>(verb: &str, said: &Said<'a>) -> Option<Request<'a>>
     ensures { option_map seen result ≡ asked_plainly verb.now (said_seen said.now).workers (said_seen said.now).source
-        (said_seen said.now).names }
+        (said_seen said.now).chart (said_seen said.now).names }
 {
-    match (said.workers, said.source) {
-        (None, None) => asked(verb, said.names),
+    match (said.workers, said.source, said.chart) {
+        (None, None, None) => asked(verb, said.names),
         _ => None,
     }
 }
@@ -160,6 +173,26 @@ fn request_by<'a>(verb: &str, said: &Said<'a>) -> Option<Request<'a>>
         "list" => list_of(said),
         verb => asked_plainly(verb, said),
     }
+}
+
+// Whether all words are names.
+fn are_names(words: &[String]) -> bool
+    ensures { result ≡ are_names (map string_bytes words.now) }
+{
+    match words.split_first() {
+        None => true,
+        Some((word, words)) => !is_option(word.as_str()) && are_names(words),
+    }
+}
+
+// Tests of the files that the words name.
+fn test_of<'a>(words: &'a [String]) -> Option<Request<'a>>
+    ensures { option_map seen result ≡ test_of (map string_bytes words.now) }
+{
+    if words.is_empty() || !are_names(words) {
+        return None;
+    }
+    Some(Request::Test(words))
 }
 
 // What a verb and the words behind it ask for.
@@ -180,6 +213,13 @@ fn asked_of<'a>(words: &'a [String]) -> Option<Asking<'a>>
     ensures explains { IfSome result (λ a. a.explains ≡ explains (map string_bytes words.now)) }
 {
     let (verb, words) = words.split_first()?;
+    if verb.as_str() == "test" {
+        let request = test_of(words)?;
+        return Some(Asking {
+            request,
+            explains: false,
+        });
+    }
     let said = Said::by(words)?;
     asked_by(verb.as_str(), &said)
 }

@@ -1,9 +1,9 @@
 //! The words behind a verb, one after the other: its options with their values, and the names of files.
 
 ghost use Rattle.std.specs.Prelude.{◌≡◌, map, option_map, string_bytes};
-ghost use Rattle.command_words.specs.Said.{names_seen, said_seen, source_in, step, workers_in, workers_named};
-ghost use Rattle.command_words.specs.Said.{ended, opened, read_on, said_by, start, valued, with_name, with_source};
-ghost use Rattle.command_words.specs.Said.{explained, is_option, named, with_workers};
+ghost use Rattle.command_words.specs.Said.{chart_in, names_seen, said_seen, source_in, step, workers_in, workers_named};
+ghost use Rattle.command_words.specs.Said.{by_file, ended, opened, read_on, said_by, start, valued, with_name};
+ghost use Rattle.command_words.specs.Said.{explained, is_option, named, with_chart, with_source, with_workers};
 
 use crate::workers::Workers;
 
@@ -24,6 +24,8 @@ pub(crate) enum Next {
     Number,
     /// The name of a source.
     Source,
+    /// The name of a chart.
+    Chart,
     /// A name, whatever it begins with: a `--` stood before.
     Name,
 }
@@ -36,6 +38,8 @@ pub(crate) struct Said<'a> {
     pub(crate) workers: Option<Workers>,
     /// The source, where one was said.
     pub(crate) source: Option<&'a str>,
+    /// The chart, where one was said.
+    pub(crate) chart: Option<&'a str>,
     /// Whether words are wanted behind a fault.
     pub(crate) explains: bool,
     /// The files.
@@ -43,7 +47,7 @@ pub(crate) struct Said<'a> {
 }
 
 /// Whether a word is an option: a hyphen and more.
-fn is_option(word: &str) -> bool
+pub(crate) fn is_option(word: &str) -> bool
     ensures { result ≡ is_option word.now }
 {
     match word.as_bytes() {
@@ -79,6 +83,14 @@ fn source_in(word: &str) -> Option<&str>
     word.strip_prefix("--source=")
 }
 
+// The name of the chart that an option says in one word.
+#[tactic(auto, using(crate::proofs::Sources::chart_said))]
+fn chart_in(word: &str) -> Option<&str>
+    ensures { option_map (λ s. s.now) result ≡ chart_in word.now }
+{
+    word.strip_prefix("--chart=")
+}
+
 // One more name.
 fn with_name<'a>(names: Names<'a>, name: &'a str) -> Option<Names<'a>>
     ensures { option_map names_seen result ≡ with_name (names_seen names.entry) name.now }
@@ -99,6 +111,7 @@ impl<'a> Said<'a> {
             next: Next::Any,
             workers: None,
             source: None,
+            chart: None,
             explains: false,
             names: Names::None,
         }
@@ -110,13 +123,12 @@ impl<'a> Said<'a> {
     {
         match self.workers {
             Some(_) => None,
-            None => Some(Said {
-                next: Next::Any,
-                workers: Some(workers),
-                source: self.source,
-                explains: self.explains,
-                names: self.names,
-            }),
+            None => {
+                let mut said = self;
+                said.next = Next::Any;
+                said.workers = Some(workers);
+                Some(said)
+            }
         }
     }
 
@@ -126,13 +138,27 @@ impl<'a> Said<'a> {
     {
         match self.source {
             Some(_) => None,
-            None => Some(Said {
-                next: Next::Any,
-                workers: self.workers,
-                source: Some(source),
-                explains: self.explains,
-                names: self.names,
-            }),
+            None => {
+                let mut said = self;
+                said.next = Next::Any;
+                said.source = Some(source);
+                Some(said)
+            }
+        }
+    }
+
+    // With the chart, which is said once.
+    fn with_chart(self, chart: &'a str) -> Option<Said<'a>>
+        ensures { option_map said_seen result ≡ with_chart (said_seen self.entry) chart.now }
+    {
+        match self.chart {
+            Some(_) => None,
+            None => {
+                let mut said = self;
+                said.next = Next::Any;
+                said.chart = Some(chart);
+                Some(said)
+            }
         }
     }
 
@@ -143,13 +169,9 @@ impl<'a> Said<'a> {
         if self.explains {
             return None;
         }
-        Some(Said {
-            next: self.next,
-            workers: self.workers,
-            source: self.source,
-            explains: true,
-            names: self.names,
-        })
+        let mut said = self;
+        said.explains = true;
+        Some(said)
     }
 
     // With one more name.
@@ -157,13 +179,19 @@ impl<'a> Said<'a> {
         ensures { option_map said_seen result ≡ named (said_seen self.entry) name.now }
     {
         let names = with_name(self.names, name)?;
-        Some(Said {
-            next: self.next,
-            workers: self.workers,
-            source: self.source,
-            explains: self.explains,
-            names,
-        })
+        let mut said = self;
+        said.names = names;
+        Some(said)
+    }
+
+    // With an option that says a file in the same word.
+    fn by_file(self, word: &'a str) -> Option<Said<'a>>
+        ensures { option_map said_seen result ≡ by_file (said_seen self.entry) word.now }
+    {
+        match source_in(word) {
+            Some(source) => self.with_source(source),
+            None => self.with_chart(chart_in(word)?),
+        }
     }
 
     // With an option that says its value in the same word.
@@ -172,7 +200,7 @@ impl<'a> Said<'a> {
     {
         match workers_in(word.as_bytes()) {
             Some(workers) => self.with_workers(workers),
-            None => self.with_source(source_in(word)?),
+            None => self.by_file(word),
         }
     }
 
@@ -180,13 +208,9 @@ impl<'a> Said<'a> {
     fn awaits(self, next: Next) -> Said<'a>
         ensures { said_seen result ≡ record (said_seen self.entry) { next = next } }
     {
-        Said {
-            next,
-            workers: self.workers,
-            source: self.source,
-            explains: self.explains,
-            names: self.names,
-        }
+        let mut said = self;
+        said.next = next;
+        said
     }
 
     // With a word that may be an option.
@@ -197,6 +221,7 @@ impl<'a> Said<'a> {
             "--" => Some(self.awaits(Next::Name)),
             "--workers" => Some(self.awaits(Next::Number)),
             "--source" => Some(self.awaits(Next::Source)),
+            "--chart" => Some(self.awaits(Next::Chart)),
             "--explain" => self.explained(),
             word if is_option(word) => self.valued(word),
             word => self.named(word),
@@ -210,8 +235,9 @@ impl<'a> Said<'a> {
         match self.next {
             Next::Any => self.opened(word),
             Next::Number => self.with_workers(workers_named(word.as_bytes())?),
-            Next::Source if is_option(word) => None,
+            Next::Source | Next::Chart if is_option(word) => None,
             Next::Source => self.with_source(word),
+            Next::Chart => self.with_chart(word),
             Next::Name => self.named(word),
         }
     }
@@ -222,7 +248,7 @@ impl<'a> Said<'a> {
     {
         match self.next {
             Next::Any | Next::Name => Some(self),
-            Next::Number | Next::Source => None,
+            Next::Number | Next::Source | Next::Chart => None,
         }
     }
 

@@ -8,8 +8,11 @@ use std::alloc::{AllocError, Global};
 enum Verb {
     Compile,
     Scl,
+    Core,
     Explain,
     Dot,
+    Test,
+    Simulate,
     Check,
     List,
     Run,
@@ -17,11 +20,14 @@ enum Verb {
 }
 
 // In the order of the help.
-const VERBS: [Verb; 8] = [
+const VERBS: [Verb; 11] = [
     Verb::Compile,
     Verb::Scl,
+    Verb::Core,
     Verb::Explain,
     Verb::Dot,
+    Verb::Test,
+    Verb::Simulate,
     Verb::Check,
     Verb::List,
     Verb::Run,
@@ -31,8 +37,13 @@ const VERBS: [Verb; 8] = [
 // What can be said of workers.
 const WORKERS: &[&str] = &["1", "2", "3", "4", "5", "6", "7", "8"];
 
-const EXAMPLE: &str =
-    "Examples:\n  sct compile examples/abro.scl abro.image\n  sct run examples/two_threads.image < examples/two_threads.ticks";
+const EXAMPLE: &str = r#"Examples:
+  sct compile examples/abro.scl abro.image
+  sct run examples/two_threads.image < examples/two_threads.ticks"#;
+
+const COMPILE_EXAMPLES: &str = r#"Examples:
+  sct compile examples/abro.chart abro.image
+  sct compile - - < examples/abro.chart > abro.image"#;
 
 // What a run reads and prints, and how it ends.
 const RUN_HELP: &str = r#"Input, a line for each tick (an input that is not named is false, or 0):
@@ -41,6 +52,9 @@ const RUN_HELP: &str = r#"Input, a line for each tick (an input that is not name
 Output, a line for each:
   {"out":{"x":1,"y":1},"steps":7,"tick":1}
 
+With --chart:
+  {"out":{"x":1,"y":1},"steps":7,"tick":1,"states":["Main.Run"]}
+
 Status:
   0  the whole input was played
   1  it was not: a line on standard error, such as `sct: E51 line 2`, says why
@@ -48,6 +62,31 @@ Status:
 
 Example:
   sct run examples/two_threads.image < examples/two_threads.ticks"#;
+
+// What is typed where ticks are played by hand.
+const SIMULATE_HELP: &str = r#"Each line is a tick, or says what to do:
+  left right level=7   inputs: those that are named are true, or have this value
+  {"left":true}        the same as a line of a run
+                       an empty line: no inputs
+  undo, reset          one tick back, back to the beginning
+  ticks                the ticks so far, as lines of a run
+  help, quit
+
+Example:
+  sct simulate examples/boxes.chart"#;
+
+// What a test prints, and how it ends.
+const TEST_HELP: &str =
+    r#"Output, a line for each file that passes, else what differs first, and how many there are:
+  ok examples/abro.chart
+  1 passed, 0 failed
+
+Status:
+  0  all passed
+  1  one did not, or could not be tried: the last line on standard error is `sct: E66`
+
+Example:
+  sct test examples/abro.chart examples/boxes.chart"#;
 
 // The file that a command writes.
 const WRITTEN: &str = "The file that is written, or - for standard output";
@@ -128,6 +167,22 @@ fn scl_command<'a>(alloc: Global) -> Result<Command<'a>, AllocError> {
     )
 }
 
+// The command that prints what a chart is expanded to.
+fn core_command<'a>(alloc: Global) -> Result<Command<'a>, AllocError> {
+    over_one(
+        alloc,
+        "core",
+        "Prints the chart without aborts to which a chart is expanded",
+        "Example:\n  sct core examples/abro.chart",
+        file_name(
+            alloc,
+            "file",
+            "FILE",
+            "The file of the chart, or - for standard input",
+        ),
+    )
+}
+
 // The command that tells why a text has no image.
 fn explain_command<'a>(alloc: Global) -> Result<Command<'a>, AllocError> {
     over_one(
@@ -150,6 +205,33 @@ fn dot_command<'a>(alloc: Global) -> Result<Command<'a>, AllocError> {
     )
 }
 
+// The command that tests.
+fn test_command<'a>(alloc: Global) -> Result<Command<'a>, AllocError> {
+    let files = Arg::new(alloc, "file")
+        .value_name("FILE")
+        .help(
+            "Charts or SCL texts: beside NAME.chart, NAME.ticks has the input and NAME.trace what it has to give",
+        )
+        .required(true)
+        .action(ArgAction::Append)
+        .num_args(1..);
+    Command::new(alloc, "test")
+        .about("Plays controllers over their ticks, and compares what they give with their traces")
+        .after_help(TEST_HELP)
+        .arg(files)
+}
+
+// The command that steps.
+fn simulate_command<'a>(alloc: Global) -> Result<Command<'a>, AllocError> {
+    over_one(
+        alloc,
+        "simulate",
+        "Steps a chart or an SCL text by hand, a tick for each line that is typed",
+        SIMULATE_HELP,
+        source_name(alloc),
+    )
+}
+
 // The command that plays.
 fn run_command<'a>(alloc: Global) -> Result<Command<'a>, AllocError> {
     let workers = Arg::new(alloc, "workers")
@@ -159,11 +241,20 @@ fn run_command<'a>(alloc: Global) -> Result<Command<'a>, AllocError> {
         .value_parser(WORKERS)
         .hide_possible_values(true)
         .default_value("2");
+    let chart = Arg::new(alloc, "chart")
+        .long("chart")
+        .value_name("FILE")
+        .help(
+            "The chart that it was compiled from: each line tells the active states too, and one thread serves",
+        )
+        .action(ArgAction::Set)
+        .conflicts_with("workers")?;
     Command::new(alloc, "run")
         .about("Plays standard input to standard output, a tick for each line")
         .after_help(RUN_HELP)
         .arg(image_name(alloc))?
-        .arg(workers)
+        .arg(workers)?
+        .arg(chart)
 }
 
 // The command over two files.
@@ -187,14 +278,12 @@ fn compile_command<'a>(alloc: Global) -> Result<Command<'a>, AllocError> {
     let image = file_name(alloc, "image", "IMAGE", WRITTEN);
     Command::new(alloc, "compile")
         .about("Compiles a chart or an SCL text to an image")
-        .after_help(
-            "Examples:\n  sct compile examples/abro.chart abro.image\n  sct compile - - < examples/abro.chart > abro.image",
-        )
+        .after_help(COMPILE_EXAMPLES)
         .arg(source_name(alloc))?
         .arg(image)
 }
 
-// What can be asked of each verb: words behind a fault.
+// What can be asked of each verb but one: words behind a fault.
 fn explain_option<'a>(alloc: Global) -> Arg<'a> {
     Arg::new(alloc, "explain")
         .long("explain")
@@ -207,8 +296,11 @@ fn described<'a>(alloc: Global, verb: Verb) -> Result<Command<'a>, AllocError> {
     match verb {
         Verb::Compile => compile_command(alloc),
         Verb::Scl => scl_command(alloc),
+        Verb::Core => core_command(alloc),
         Verb::Explain => explain_command(alloc),
         Verb::Dot => dot_command(alloc),
+        Verb::Test => test_command(alloc),
+        Verb::Simulate => simulate_command(alloc),
         Verb::Check => check_command(alloc),
         Verb::List => list_command(alloc),
         Verb::Run => run_command(alloc),
@@ -230,12 +322,20 @@ fn program<'a>(alloc: Global) -> Result<Command<'a>, AllocError> {
     )
 }
 
+// The verb with what can be asked of it. Tests are told in words as they are.
+fn whole<'a>(alloc: Global, verb: Verb) -> Result<Command<'a>, AllocError> {
+    let described = described(alloc, verb)?;
+    match verb {
+        Verb::Test => Ok(described),
+        _ => described.arg(explain_option(alloc)),
+    }
+}
+
 /// The program with all its verbs. Err: memory was refused.
 pub(crate) fn sct_command<'a>(alloc: Global) -> Result<Command<'a>, AllocError> {
     let mut command = program(alloc)?;
     for verb in VERBS {
-        let described = described(alloc, verb)?.arg(explain_option(alloc))?;
-        command = command.subcommand(described)?;
+        command = command.subcommand(whole(alloc, verb)?)?;
     }
     Ok(command)
 }

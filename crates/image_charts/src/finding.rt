@@ -17,8 +17,9 @@ use std::alloc::{AllocError, Global};
 use std::str;
 use verifier::Verified;
 
-// The chart that these bytes spell as text.
-fn chart_in(alloc: Global, bytes: &[u8]) -> Result<Chart, ReadFault>
+/// The chart that these bytes spell as text. Err: they are no text (E01 at its first place), or the text spells no
+/// chart.
+pub fn chart_in(alloc: Global, bytes: &[u8]) -> Result<Chart, ReadFault>
     ensures text { IfOk result (λ _. IsUtf8 bytes.now) }
     ensures read { IfOk result (IsRead bytes.now) }
     ensures fault { IfErr result (SpellsNoChart bytes.now) }

@@ -4,5 +4,5 @@
 mod finding;
 mod states;
 
-pub use finding::chart_of;
+pub use finding::{chart_in, chart_of};
 pub use states::ChartStates;

@@ -34,6 +34,7 @@ refuses files middle after from to old new image fault.Write same is keeps =
     }
 refuses files middle after from to old new image (fault.Files f) same is keeps = (inr keeps.0, keeps.1 ∙ same, keeps.2)
 refuses files middle after from to old new image (fault.Play f cause) same is keeps = absurd keeps
+refuses files middle after from to old new image fault.Tests same is keeps = absurd keeps
 
 pub refuses_compile : {T : Type 0} (files middle after : Option Contents) (from to : List ℕ) (old new : Option (List ℕ)) (image : Image) (r : Result T Fault)
     → middle ≡ files → IsCompiledFrom files from image → IfErr r (RefusesKeeping image middle after to old new) → IfErr r (RefusesCompile files after from to old new)

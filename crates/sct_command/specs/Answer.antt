@@ -10,7 +10,7 @@ use Rattle.line_causes.specs.declared.cause.Cause.{Cause}
 use Rattle.trace_player.specs.declared.player.PlayFault.{PlayFault}
 use Rattle.command_files.specs.Files.{Contents, Stores}
 use Rattle.command_files.specs.Images.{IsLoaded, FileLacksImage}
-use Rattle.command_words.specs.Request.{Request, Check, Run, Compile, CompileToOutput, Print, Migrate, MigrateToOutput, ListNodes, ListPlaces, Explain, Draw}
+use Rattle.command_words.specs.Request.{Request, Check, Run, RunWithStates, Compile, CompileToOutput, Print, PrintCore, Migrate, MigrateToOutput, ListNodes, ListPlaces, Explain, Draw, Test, Simulate}
 use Rattle.sct_command.specs.Sources.{Compiles, PrintsText, RefusesCompile, RefusesPrinting}
 use Rattle.command_files.specs.Storing.{IsNotStored}
 use Rattle.sct_command.specs.Drawing.{Draws, RefusesDrawing}
@@ -18,7 +18,11 @@ use Rattle.sct_command.specs.Emitting.{CompilesToOutput, MigratesToOutput, Refus
 use Rattle.sct_command.specs.Explaining.{FindsImage, RefusesExplaining}
 use Rattle.sct_command.specs.Failing.{files_failed, reads_failed, writes_failed}
 use Rattle.sct_command.specs.Listing.{ListsNodes, ListsPlaces, RefusesListing, RefusesPlaces}
+use Rattle.sct_command.specs.PrintingCore.{PrintsCore, RefusesCore}
+use Rattle.sct_command.specs.Simulating.{RefusesSimulation, Simulates}
 use Rattle.sct_command.specs.Summary.{summary_of}
+use Rattle.sct_command.specs.TellingStates.{PlaysStates, RefusesStates}
+use Rattle.sct_command.specs.Testing.{RefusesTests, TestsPass}
 use Rattle.sct_command.specs.Writing.{WritesPart, WritesText}
 use Rattle.sct_command.specs.Words.{IsMet, TellsLines, fault_line}
 use Rattle.trace_player.specs.Trace.{Plays, Good, Leaves}
@@ -49,21 +53,26 @@ pub record Migrates (files files' : Option Contents) (from to : List ℕ) (old n
   pub stored : Stores files files' to bytes
   pub written : Appends old new (summary_of image)
 
--- what was done for a request: a summary, a whole trace, an image in a file or on the output, a text, an image in
--- version 2, a listing, a summary of what compiles, a drawing, or for none the help
+-- what was done for a request: a summary, a whole trace, without active states or with them, an image in a file or on
+-- the output, a text, that of a core chart, an image in version 2, a listing, a summary of what compiles, a drawing,
+-- tests that pass, a controller that was stepped, or for none the help
 abbrev pub Does : Option Contents → Option Contents → Option Request → Option (List ℕ) → Option (List ℕ)
     → Option (List ℕ) → Type 0
 Does files files' (Some (Check name)) input old new = SumsUp files name old new
 Does files files' (Some (Run name workers)) input old new = PlaysWhole files name input old new
+Does files files' (Some (RunWithStates name chart)) input old new = PlaysStates files name chart input old new
 Does files files' (Some (Compile from to)) input old new = Compiles files files' from to old new
 Does files files' (Some (CompileToOutput from)) input old new = CompilesToOutput files from old new
 Does files files' (Some (Print name)) input old new = PrintsText files name old new
+Does files files' (Some (PrintCore name)) input old new = PrintsCore files name old new
 Does files files' (Some (Migrate from to)) input old new = Migrates files files' from to old new
 Does files files' (Some (MigrateToOutput from)) input old new = MigratesToOutput files from old new
 Does files files' (Some (ListNodes name)) input old new = ListsNodes files name old new
 Does files files' (Some (ListPlaces name source)) input old new = ListsPlaces files name source old new
 Does files files' (Some (Explain name)) input old new = FindsImage files name old new
 Does files files' (Some (Draw name)) input old new = Draws files name old new
+Does files files' (Some (Test names)) input old new = TestsPass files names old new
+Does files files' (Some (Simulate name)) input old new = Simulates files name
 Does files files' None input old new = WritesText old new
 
 -- ---- what was refused
@@ -130,15 +139,19 @@ abbrev pub Refuses : Option Contents → Option Contents → Option Request → 
     → Option (List ℕ) → Fault → Type 0
 Refuses files files' (Some (Check name)) input old new f = RefusesCheck files name old new f
 Refuses files files' (Some (Run name workers)) input old new f = RefusesRun files name input old new f
+Refuses files files' (Some (RunWithStates name chart)) input old new f = RefusesStates files name chart input old new f
 Refuses files files' (Some (Compile from to)) input old new f = RefusesCompile files files' from to old new f
 Refuses files files' (Some (CompileToOutput from)) input old new f = RefusesCompileToOutput files from old new f
 Refuses files files' (Some (Print name)) input old new f = RefusesPrinting files name old new f
+Refuses files files' (Some (PrintCore name)) input old new f = RefusesCore files name old new f
 Refuses files files' (Some (Migrate from to)) input old new f = RefusesMigration files files' from to old new f
 Refuses files files' (Some (MigrateToOutput from)) input old new f = RefusesMigrationToOutput files from old new f
 Refuses files files' (Some (ListNodes name)) input old new f = RefusesListing files name old new f
 Refuses files files' (Some (ListPlaces name source)) input old new f = RefusesPlaces files name source old new f
 Refuses files files' (Some (Explain name)) input old new f = RefusesExplaining files name old new f
 Refuses files files' (Some (Draw name)) input old new f = RefusesDrawing files name old new f
+Refuses files files' (Some (Test names)) input old new f = RefusesTests files names old new f
+Refuses files files' (Some (Simulate name)) input old new f = RefusesSimulation files name old new f
 Refuses files files' None input old new f = RefusesHelp old new f
 
 -- what is told of this fault, its line with what stands behind it, or the line of memory that was refused for it, went
@@ -149,10 +162,11 @@ pub record TellsFault (f : Fault) (wanted : Bool) (old new : Option (List ℕ)) 
   pub grows : GrowsInto old new text
   pub whole : failures' ≡ failures → Appends old new text
 
--- how often files failed where a request is refused: as the fault says. Of an explanation a failure is told, and then
--- the output may fail, or memory
+-- how often files failed where a request is refused: as the fault says. Of an explanation and of tests a failure is
+-- told, and then the output may fail, or memory
 abbrev pub CountsFiles : Option Request → Fault → ℕ → ℕ → Type 0
 CountsFiles (Some (Explain name)) f old new = old + files_failed f ≤ new
+CountsFiles (Some (Test names)) f old new = old + files_failed f ≤ new
 CountsFiles request f old new = new ≡ old + files_failed f
 
 -- a request was refused for one fault, of which all that is left tells: the output, how often files, the input and the

@@ -1,31 +1,60 @@
 -- What is left where a source text is explained.
-use Rattle.std.specs.Prelude.{ℕ, ◌≡◌, ◌⊎◌, Option, List, codes}
+use Rattle.std.specs.Prelude.{ℕ, ◌≡◌, ◌⊎◌, Option, List, ◌++◌, codes}
 use Rattle.std.specs.Io.KnownBytes.{Appends}
 use Rattle.sc_values.specs.Streams.{GrowsInto}
 use Rattle.bytecode.specs.Image.{Image}
 use Rattle.command_files.specs.declared.fault.LoadFault.{LoadFault}
 use Rattle.command_files.specs.declared.fault.LoadFault.TheVariants as load
 use Rattle.command_files.specs.FaultText.{shown_name}
-use Rattle.command_files.specs.Files.{Contents}
+use Rattle.command_files.specs.Files.{Contents, HasBytes}
 use Rattle.command_files.specs.Sources.{IsCompiledFrom, FileLacksCompiled}
 use Rattle.compiler.specs.FaultText.{fault_text}
 use Rattle.diagnostics.specs.Reports.{Tells, text_fault}
+use Rattle.warning_texts.specs.Reports as warned
 use Rattle.sct_command.specs.Summary.{summary_of}
 use Rattle.sct_command.specs.Writing.{WritesPart, WritesSome}
 use Rattle.sct_command.specs.declared.fault.Fault.{Fault}
 use Rattle.sct_command.specs.declared.fault.Fault.TheVariants as fault
 
--- the program in this file has an image, whose summary was written
+-- what is said of an image of the text that is in the file of this name: its summary, and behind it the warnings of the
+-- text, which name the file as it is shown
+pub record IsFound (name bytes : List ℕ) (image : Image) (text : List ℕ) : Type 0 where
+  pub warnings : List ℕ
+  pub told : warned.IsTold (shown_name name) bytes warnings
+  pub is : text ≡ summary_of image ++ warnings
+
+-- it was written, or a beginning of it
+pub record WritesFound (name bytes : List ℕ) (image : Image) (old new : Option (List ℕ)) : Type 0 where
+  pub text : List ℕ
+  pub found : IsFound name bytes image text
+  pub written : Appends old new text
+
+pub record WritesFoundPart (name bytes : List ℕ) (image : Image) (old new : Option (List ℕ)) : Type 0 where
+  pub text : List ℕ
+  pub found : IsFound name bytes image text
+  pub in_part : GrowsInto old new text
+
+-- what writing it leaves that is refused
+abbrev pub RefusesFound : (name bytes : List ℕ) → Image → Option (List ℕ) → Option (List ℕ) → Fault → Type 0
+RefusesFound name bytes image old new (fault.Files load.Memory) = new ≡ old
+RefusesFound name bytes image old new fault.Write = WritesFoundPart name bytes image old new
+RefusesFound name bytes image old new other = ⊥
+
+-- the program in this file has an image, whose summary was written, with the warnings of the text behind it
 pub record FindsImage (files : Option Contents) (name : List ℕ) (old new : Option (List ℕ)) : Type 0 where
   pub image : Image
   pub compiled : IsCompiledFrom files name image
-  pub written : Appends old new (summary_of image)
+  pub bytes : List ℕ
+  pub held : HasBytes files name bytes
+  pub writes : WritesFound name bytes image old new
 
--- the program in this file has an image, and a beginning of its summary was written
+-- the program in this file has an image, and a beginning of that was written
 pub record FindsImagePart (files : Option Contents) (name : List ℕ) (old new : Option (List ℕ)) : Type 0 where
   pub image : Image
   pub compiled : IsCompiledFrom files name image
-  pub in_part : GrowsInto old new (summary_of image)
+  pub bytes : List ℕ
+  pub held : HasBytes files name bytes
+  pub in_part : WritesFoundPart name bytes image old new
 
 -- a beginning was written of what is said of the fault for which this file has no image
 pub record ExplainsPart (files : Option Contents) (name : List ℕ) (old new : Option (List ℕ)) : Type 0 where

@@ -9,3 +9,4 @@ abbrev pub fault_text : Fault → List ℕ
 fault_text (fault.Files f) = files_text.fault_text f
 fault_text (fault.Play f cause) = play_fault_text f
 fault_text fault.Write = codes "E63"
+fault_text fault.Tests = codes "E66"

@@ -6,7 +6,11 @@ pub mod Failing
 pub mod FaultText
 pub mod Keeping
 pub mod Listing
+pub mod PrintingCore
+pub mod Simulating
 pub mod Sources
 pub mod Summary
+pub mod TellingStates
+pub mod Testing
 pub mod Words
 pub mod Writing

@@ -1,19 +1,23 @@
 //! The verb `explain`.
 
 ghost use Rattle.std.specs.Prelude.{◌≡◌, ◌+◌, ◌≤◌, IfErr, IfOk, OnOk, string_bytes};
+ghost use Rattle.std.specs.Str.{IsUtf8};
 ghost use Rattle.diagnostics.specs.Reports.{Tells, text_fault};
 ghost use Rattle.command_files.specs.Counting as files_count;
 ghost use Rattle.sct_command.specs.Explaining.{FindsImage, IsTold, RefusesExplaining, RefusesTelling};
-ghost use Rattle.sct_command.specs.Explaining.{WritesReport, told_fault};
+ghost use Rattle.sct_command.specs.Explaining.{IsFound, RefusesFound, WritesFound, WritesReport, told_fault};
 ghost use Rattle.sct_command.specs.Failing.{files_failed, reads_failed, writes_failed};
 
 use crate::fault::Fault;
-use crate::summary::sum_up;
+use crate::summary::summary_of;
+use bytecode::Image;
 use command_files::{Files, LoadFault, bytes_of, compile_bytes, shown_name, text_of};
 use diagnostics::{program_fault_explained, text_fault_explained, told_nowhere};
 use sc_text::ReadFault;
 use sc_values::{Sink, write_all};
 use std::alloc::{AllocError, Global};
+use std::str;
+use warning_texts::warnings_told;
 
 // What is said of bytes that are no text.
 fn without_text(alloc: Global, name: &str, fault: &ReadFault) -> Result<String, AllocError>
@@ -104,9 +108,56 @@ fn refused<W: Sink>(
     }
 }
 
-/// Compiles the program in this file, and writes the summary of its image, or else why it has none: the place of the
-/// fault, what is wrong, and what helps. Err: there is no program in the file, or it has no image, and this was told;
-/// or the output failed.
+// These bytes as text.
+fn text_in(bytes: &[u8]) -> &str
+    requires { IsUtf8 bytes.now }
+    ensures { result.now ≡ bytes.now }
+{
+    match str::from_utf8(bytes) {
+        Ok(text) => text,
+        Err(_) => "",
+    }
+}
+
+// What is said of an image of the text that is in the file of this name.
+fn found_said(alloc: Global, name: &str, bytes: &[u8], image: &Image) -> Result<String, AllocError>
+    requires { IsUtf8 bytes.now }
+    ensures { IfOk result (λ text. IsFound name.now bytes.now image.now (string_bytes text)) }
+{
+    let shown = shown_name(alloc, name)?;
+    let warnings = warnings_told(alloc, shown.as_str(), text_in(bytes))?;
+    let mut text = summary_of(alloc, image)?;
+    text.push_str(warnings.as_str())?;
+    Ok(text)
+}
+
+// Writes it. Err: memory was refused; or the output failed.
+fn tell_found<W: Sink>(
+    alloc: Global,
+    name: &str,
+    bytes: &[u8],
+    image: &Image,
+    output: &mut W,
+) -> Result<(), Fault>
+    requires { IsUtf8 bytes.now }
+    ensures done { OnOk result (WritesFound name.now bytes.now image.now (W.taken output.old) (W.taken output.new)) }
+    ensures refused { IfErr result
+        (RefusesFound name.now bytes.now image.now (W.taken output.old) (W.taken output.new)) }
+    ensures none_failed { OnOk result (W.failures output.new ≡ W.failures output.old) }
+    ensures failed { IfErr result (λ fault. W.failures output.new ≡ W.failures output.old + writes_failed fault) }
+    ensures unread { IfErr result (λ fault. reads_failed fault ≡ 0) }
+    ensures missed { IfErr result (λ fault. files_failed fault ≡ 0) }
+{
+    let text = found_said(alloc, name, bytes, image)?;
+    match write_all(output, text.as_bytes()) {
+        Ok(()) => Ok(()),
+        Err(_) => Err(Fault::Write),
+    }
+}
+
+/// Compiles the program in this file, and writes the summary of its image with the warnings of the text, or else why it
+/// has none: the place of the fault, what is wrong, and what helps. Err: there is no program in the file, or it has no
+/// image, and this was told; or the output failed.
 #[tactic(auto, using(crate::proofs::Told::told_source, crate::proofs::Told::quiet_bytes, crate::proofs::Told::told_bytes, crate::proofs::Told::finds, crate::proofs::Told::finds_part))]
 pub(crate) fn explain<F: Files, W: Sink>(
     alloc: Global,
@@ -129,7 +180,7 @@ pub(crate) fn explain<F: Files, W: Sink>(
         Err(fault) => return Err(refused(alloc, name, b"", fault, output)),
     };
     match compile_bytes(alloc, &bytes) {
-        Ok(image) => sum_up(alloc, image.image(), output),
+        Ok(image) => tell_found(alloc, name, &bytes, image.image(), output),
         Err(fault) => Err(refused(alloc, name, &bytes, fault, output)),
     }
 }

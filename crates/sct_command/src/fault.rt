@@ -14,6 +14,8 @@ pub enum Fault {
     Play(PlayFault, Option<Cause>),
     /// E63: standard output failed, or took no byte.
     Write,
+    /// E66: a test failed.
+    Tests,
 }
 
 impl From<LoadFault> for Fault {

@@ -15,6 +15,7 @@ impl fmt::Display for Fault {
             Fault::Files(fault) => write!(f, "{fault}"),
             Fault::Play(fault, _) => write!(f, "{fault}"),
             Fault::Write => write!(f, "E63"),
+            Fault::Tests => write!(f, "E66"),
         }
     }
 }

@@ -1,5 +1,6 @@
 //! What the program `sct` does, over its words, files and streams: it compiles charts and SCL text, tells why they are
-//! refused, prints their SCL and draws them; it checks images, lists them, runs them, and writes them anew.
+//! refused, prints their SCL and core charts and draws them; it checks images, lists them, runs them, and writes them
+//! anew.
 #![tactic(auto)]
 
 mod check;
@@ -15,8 +16,12 @@ mod list;
 mod list_places;
 mod migrate;
 mod print;
+mod print_core;
 mod run;
+mod run_with_states;
+mod simulate;
 mod summary;
+mod test;
 mod words;
 
 pub use command_files::{FileFault, Files, HostFiles, LoadFault, load_verified, one_line};

@@ -30,8 +30,8 @@ fn line_told(fault: PlayFault) -> Option<u64>
     }
 }
 
-// What was met on the line of which a fault tells, where that is known.
-fn met<S: Source, N: OfInput>(
+/// What was met on the line of which a fault tells, where that is known.
+pub(crate) fn met<S: Source, N: OfInput>(
     alloc: Global,
     image: &Verified,
     recent: &Recent<'_, S, N>,

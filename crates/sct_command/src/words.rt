@@ -145,6 +145,12 @@ fn words_for(alloc: Global, fault: &Fault) -> Result<String, AllocError>
                 "standard output failed, or took no byte",
             )
         }
+        Fault::Tests => told_nowhere(
+            alloc,
+            SAYS,
+            "E66",
+            "a test failed: standard output tells which",
+        ),
     }
 }
 

@@ -1,0 +1,8 @@
+use Rattle.sct_command.proofs.States.{played, stopped}
+use Rattle.sct_command.proofs.run_with_states.run_with_states.Goals as goal
+
+pub returns-clause-done : goal.returns-clause-done
+returns-clause-done g c = played c.play_beside.result _ _ _ _ _ _ _ _ c.in_ok-image.ensures.loaded c.play_beside.ensures.done
+
+pub returns-clause-refused : goal.returns-clause-refused
+returns-clause-refused g c = stopped c.play_beside.result _ _ _ _ _ _ _ _ c.in_ok-image.ensures.loaded c.play_beside.ensures.refused

@@ -1,0 +1,72 @@
+-- What is left where an input is played by an image, and the active states of its chart are told.
+use Rattle.std.specs.Prelude.{ℕ, ◌≡◌, ◌⊎◌, Option, List, string_bytes}
+use Rattle.bytecode.specs.Image.{Image}
+use Rattle.command_files.specs.declared.fault.LoadFault.{LoadFault}
+use Rattle.command_files.specs.declared.fault.LoadFault.TheVariants as load
+use Rattle.command_files.specs.FaultText.{shown_name}
+use Rattle.command_files.specs.Files.{Contents, HasBytes, LacksFile}
+use Rattle.command_files.specs.Images.{IsLoaded, FileLacksImage}
+use Rattle.image_charts.specs.Charts.{IsChartOf, IsNotChartOf, NamedStates, state_words}
+use Rattle.line_causes.specs.declared.cause.Cause.{Cause}
+use Rattle.trace_player.specs.declared.player.PlayFault.{PlayFault}
+use Rattle.trace_player.specs.Trace.{Good}
+use Rattle.state_traces.specs.Trace.{Leaves, Plays, Words}
+use Rattle.sct_command.specs.Words.{IsMet}
+use Rattle.sct_command.specs.declared.fault.Fault.{Fault}
+use Rattle.sct_command.specs.declared.fault.Fault.TheVariants as fault
+
+-- there is a valid image in one file, and in the other the text of its chart, whose states these are
+pub record HasStates (files : Option Contents) (name chart : List ℕ) (image : Image) (states : NamedStates) : Type 0 where
+  pub loaded : IsLoaded files name image
+  pub bytes : List ℕ
+  pub held : HasBytes files chart bytes
+  pub is : IsChartOf bytes image states
+
+-- the whole trace of the input by that image was written, with the states that are active behind each tick
+pub record PlaysStates (files : Option Contents) (name chart : List ℕ) (input old new : Option (List ℕ)) : Type 0 where
+  pub image : Image
+  pub states : NamedStates
+  pub has : HasStates files name chart image states
+  pub out : List (List ℕ)
+  pub plays : Plays (state_words states) image input old new out Good
+
+-- what the player leaves that refuses the input, and the cause that is known of it
+pub record StopsStates (files : Option Contents) (name chart : List ℕ) (input old new : Option (List ℕ))
+    (f : PlayFault) (cause : Option Cause) : Type 0 where
+  pub image : Image
+  pub states : NamedStates
+  pub has : HasStates files name chart image states
+  pub leaves : Leaves (state_words states) image input old new f
+  pub met : IsMet image.program.variables input f cause
+
+-- what a player leaves that refuses an input of an image, and the cause that is known of it
+abbrev pub RefusesWords : Words → Image → Option (List ℕ) → Option (List ℕ) → Option (List ℕ) → Fault → Type 0
+RefusesWords words image input old new (fault.Play f cause) =
+    Leaves words image input old new f × IsMet image.program.variables input f cause
+RefusesWords words image input old new other = ⊥
+
+-- there is a valid image in one file, and in the other bytes that are not the chart of the image, for this fault
+pub record IsAnotherChart (files : Option Contents) (name chart : List ℕ) (f : LoadFault) : Type 0 where
+  pub image : Image
+  pub loaded : IsLoaded files name image
+  pub bytes : List ℕ
+  pub held : HasBytes files chart bytes
+  pub not : IsNotChartOf chart bytes image f
+
+-- the file of the chart cannot be read
+abbrev pub IsUnread : Option Contents → List ℕ → LoadFault → Type 0
+IsUnread files chart (load.File shown) = LacksFile files chart × (string_bytes shown ≡ shown_name chart)
+IsUnread files chart other = ⊥
+
+-- there is no valid image in one file; or the other cannot be read, or has not the chart of the image. A refusal of
+-- memory says nothing of them
+abbrev pub FilesLackStates : Option Contents → List ℕ → List ℕ → LoadFault → Type 0
+FilesLackStates files name chart load.Memory = Unit {0}
+FilesLackStates files name chart f = FileLacksImage files name f ⊎ IsUnread files chart f ⊎ IsAnotherChart files name chart f
+
+-- what such a run leaves that is refused: nothing was written, but what the player left
+abbrev pub RefusesStates : Option Contents → List ℕ → List ℕ → Option (List ℕ) → Option (List ℕ) → Option (List ℕ)
+    → Fault → Type 0
+RefusesStates files name chart input old new (fault.Play f cause) = StopsStates files name chart input old new f cause
+RefusesStates files name chart input old new (fault.Files f) = FilesLackStates files name chart f × (new ≡ old)
+RefusesStates files name chart input old new other = ⊥

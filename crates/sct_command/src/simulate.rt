@@ -1,0 +1,88 @@
+//! The verb `simulate`.
+
+ghost use Rattle.std.specs.Prelude.{◌≡◌, ◌+◌, IfErr, IfOk, OnOk};
+ghost use Rattle.command_files.specs.Counting as files_count;
+ghost use Rattle.command_files.specs.Sources.{IsCompiledFrom};
+ghost use Rattle.image_charts.specs.Charts.{IsNotChartOf};
+ghost use Rattle.sc_values.specs.Streams.{IsNotReadBehind};
+ghost use Rattle.sct_command.specs.Failing.{files_failed, reads_failed, writes_failed};
+ghost use Rattle.sct_command.specs.Simulating.{LacksModel, RefusesSimulation, Simulates};
+
+use crate::fault::Fault;
+use command_files::{Files, LoadFault, bytes_of, compile_bytes};
+use image_charts::{ChartStates, chart_of};
+use sc_text::{Language, language_of};
+use sc_values::{Sink, Source};
+use simulation::simulate;
+use std::alloc::Global;
+use std::str;
+use verifier::Verified;
+
+// Of a chart its states. Err: the bytes of the file of this name are not the chart of the image; or memory was refused.
+#[tactic(auto, using(crate::proofs::States::quiet))]
+fn states_in(
+    alloc: Global,
+    name: &str,
+    bytes: &[u8],
+    image: &Verified,
+) -> Result<Option<ChartStates>, LoadFault>
+    ensures lacks { IfErr result (IsNotChartOf name.now bytes.now image.now) }
+    ensures missed { IfErr result (λ fault. files_count.files_failed fault ≡ 0) }
+{
+    let Ok(text) = str::from_utf8(bytes) else {
+        return Ok(None);
+    };
+    match language_of(text) {
+        Language::Chart => Ok(Some(chart_of(alloc, name, bytes, image)?)),
+        Language::Scl => Ok(None),
+    }
+}
+
+// The image of the program in this file, and of a chart its states. Err: there is no program in the file, or it has no
+// image.
+#[tactic(auto, using(crate::proofs::Simulated::no_source, crate::proofs::Simulated::no_image, crate::proofs::Simulated::no_states, crate::proofs::Told::quiet_bytes))]
+fn load_model<F: Files>(
+    alloc: Global,
+    name: &str,
+    files: &mut F,
+) -> Result<(Verified, Option<ChartStates>), LoadFault>
+    ensures loaded { IfOk result (λ r. IsCompiledFrom (F.contents files.old) name.now r.0) }
+    ensures lacks { IfErr result (LacksModel (F.contents files.old) name.now) }
+    ensures same { F.contents files.new ≡ F.contents files.old }
+    ensures none_failed { OnOk result (F.failures files.new ≡ F.failures files.old) }
+    ensures failed { IfErr result (λ fault. F.failures files.new
+        ≡ F.failures files.old + files_count.files_failed fault) }
+{
+    let bytes = bytes_of(alloc, files, name)?;
+    let image = compile_bytes(alloc, &bytes)?;
+    let states = states_in(alloc, name, &bytes, &image)?;
+    Ok((image, states))
+}
+
+/// Steps the controller in this file by hand, and answers each line of the input before the next one is read. Err:
+/// there is no program in the file, or it has no image; a line is too long; or the input or the output failed.
+pub(crate) fn simulate_file<F: Files, R: Source, W: Sink>(
+    alloc: Global,
+    name: &str,
+    files: &mut F,
+    input: &mut R,
+    output: &mut W,
+) -> Result<(), Fault>
+    ensures done { OnOk result (Simulates (F.contents files.old) name.now) }
+    ensures refused { IfErr result
+        (RefusesSimulation (F.contents files.old) name.now (W.taken output.old) (W.taken output.new)) }
+    ensures none_read { OnOk result (R.failures input.new ≡ R.failures input.old) }
+    ensures read { IfErr result (λ fault. R.failures input.new ≡ R.failures input.old + reads_failed fault) }
+    ensures end { IsNotReadBehind (R.progress input.old) (R.progress input.new) }
+    ensures none_failed { OnOk result (W.failures output.new ≡ W.failures output.old) }
+    ensures failed { IfErr result (λ fault. W.failures output.new ≡ W.failures output.old + writes_failed fault) }
+    ensures files { F.contents files.new ≡ F.contents files.old }
+    ensures none_missed { OnOk result (F.failures files.new ≡ F.failures files.old) }
+    ensures missed { IfErr result (λ fault. F.failures files.new ≡ F.failures files.old + files_failed fault) }
+{
+    let (image, states) = load_model(alloc, name, files)?;
+    match simulate(alloc, &image, states.as_ref(), input, output) {
+        Ok(()) => Ok(()),
+        Err(fault) => Err(Fault::Play(fault, None)),
+    }
+}
