@@ -207,9 +207,6 @@ const Page = (() => {
     const now = session.now();
     pane.light(now && now.states ? now.states : []);
     lightText();
-    if (session.differs) {
-      tell(`In tick ${session.differs} the plain machine of charts, by which states are lit, has other outputs than the program.`);
-    }
   }
 
   function lightText() {

@@ -8,6 +8,7 @@ import subprocess
 import tempfile
 import threading
 
+TOP = os.path.dirname(os.path.dirname(os.path.realpath(__file__)))
 SECONDS = 120
 IMAGES = 8
 PIECE = re.compile(r"//[^\n]*|[A-Za-z_][A-Za-z0-9_]*|.", re.S)
@@ -20,6 +21,18 @@ class Ended(Exception):
 def with_locals_shown(text):
     """The text with its local variables declared as outputs. `local` is a reserved word, so it stands in declarations alone."""
     return PIECE.sub(lambda piece: "output" if piece[0] == "local" else piece[0], text)
+
+
+def is_chart(text):
+    """Whether the text is one of a chart, by its first word."""
+    words = (piece for piece in PIECE.findall(text) if not piece.isspace() and not piece.startswith("//"))
+    return next(words, "") == "chart"
+
+
+def without_states(line):
+    """A line of output as it is without the states, and the states; None of a line that tells none."""
+    front, mark, states = line.rpartition(',"states":')
+    return (front + "}", json.loads(states[:-1])) if mark else (line, None)
 
 
 class Program:
@@ -72,14 +85,17 @@ class Program:
                 self.images.popitem(last=False)
         return image, ""
 
-    def played(self, image, lines):
-        """The lines that `run` prints over these ticks, and its fault where it ends with one."""
-        with tempfile.TemporaryDirectory(prefix="play-") as room:
+    def played(self, image, lines, text=""):
+        """Over these ticks the lines that `run` prints, the active states after each where the text is that of the image's
+        chart, and its fault where it ends with one."""
+        with self.room(text) as room:
             with open(os.path.join(room, "image"), "wb") as file:
                 file.write(image)
             given = "".join(line + "\n" for line in lines).encode("utf-8", "surrogatepass")
-            status, output, fault = self.call(room, "run", "image", lines=given)
-        return output.splitlines(), fault.removeprefix("sct: ").strip() if status else ""
+            beside = ["--chart", "text"] if is_chart(text) else []
+            status, output, fault = self.call(room, "run", "image", *beside, lines=given)
+        told = [without_states(line) for line in output.splitlines()]
+        return [line for line, _ in told], [states for _, states in told], fault.removeprefix("sct: ").strip() if status else ""
 
     def locals_in(self, text, lines, count):
         """The local variables after each of so many ticks, or None where the text with all of them shown is refused."""
@@ -99,12 +115,13 @@ class Program:
         return [words[at + 2] for at, word in enumerate(words[:-2]) if word == "local"]
 
     def views(self, text):
-        """The lowered program, the listing of both texts, and the Graphviz text."""
+        """The chart without aborts, the lowered program, the listing of both texts, and the Graphviz text."""
         with self.room(text) as room:
             status, lowered, fault = self.call(room, "scl", "text")
             if status:
                 return {"fault": fault.removeprefix("sct: ").strip()}
-            views = {"lowered": lowered, "graph": self.call(room, "dot", "text")[1], "fault": ""}
+            status, core, _ = self.call(room, "core", "text")
+            views = {"lowered": lowered, "expanded": "" if status else core, "graph": self.call(room, "dot", "text")[1], "fault": ""}
             status, _, fault = self.call(room, "compile", "text", "image")
             if status:
                 return {**views, "fault": fault.removeprefix("sct: ").strip()}

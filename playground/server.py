@@ -7,9 +7,7 @@ import socket
 import threading
 import urllib.parse
 
-from expanded import expanded
-from program import Ended
-from states import TOP
+from program import TOP, Ended
 
 LONGEST = 1 << 20  # bytes of a body
 LONGEST_TEXT = 1 << 18  # bytes of a text in it
@@ -66,8 +64,8 @@ def as_json(value):
 class Answers:
     """What is answered to each kind of question."""
 
-    def __init__(self, program, states):
-        self.program, self.states, self.turns = program, states, threading.Semaphore(CHILDREN)
+    def __init__(self, program):
+        self.program, self.turns = program, threading.Semaphore(CHILDREN)
 
     def of(self, name, asked):
         answer = {"check": self.check, "run": self.run, "views": self.views, "image": self.image}.get(name)
@@ -88,8 +86,7 @@ class Answers:
         return self.program.check(text)
 
     def views(self, text, _):
-        views = self.program.views(text)
-        return {**views, "expanded": expanded(text) if "lowered" in views else ""}
+        return {"expanded": "", **self.program.views(text)}
 
     def image(self, text, _):
         image, fault = self.program.image(text)
@@ -105,19 +102,15 @@ class Answers:
         image, fault = self.program.image(text)
         if image is None:
             return {"refused": fault}
-        return of_run(self.program, self.states, text, image, lines, first)
+        return of_run(self.program, text, image, lines, first)
 
 
-def of_run(program, states, text, image, lines, first=0):
+def of_run(program, text, image, lines, first=0):
     """The output of each tick, the locals, and the active states, or why there are none."""
-    printed, fault = program.played(image, lines)
-    lines = lines[:len(printed)]
-    locals_after = program.locals_in(text, lines, len(printed))
-    told = states.after(text, lines)
-    outputs = [json.loads(line)["out"] for line in printed]
-    differs = next((at + 1 for at, one in enumerate(told) if one and as_json(one["out"]) != as_json(outputs[at])), 0)
-    return {"lines": printed[first:], "fault": fault, "locals": locals_after[first:] if locals_after is not None else None,
-            "states": [one["active"] if one else None for one in told[first:]], "differs": differs}
+    printed, states, fault = program.played(image, lines, text)
+    locals_after = program.locals_in(text, lines[:len(printed)], len(printed))
+    return {"lines": printed[first:], "fault": fault, "states": states[first:],
+            "locals": locals_after[first:] if locals_after is not None else None}
 
 
 class Handler(http.server.BaseHTTPRequestHandler):
@@ -215,10 +208,10 @@ class Handler(http.server.BaseHTTPRequestHandler):
 class Server(http.server.ThreadingHTTPServer):
     daemon_threads = True
 
-    def __init__(self, port, program, states, start):
+    def __init__(self, port, program, start):
         super().__init__(("127.0.0.1", port), Handler)
         self.own, self.token = f"127.0.0.1:{self.server_address[1]}", secrets.token_urlsafe(24)
-        self.files, self.answers = files_of_page(), Answers(program, states)
+        self.files, self.answers = files_of_page(), Answers(program)
         self.files["gallery.json"] = ("application/json", as_json(gallery()))
         self.files["start.json"] = ("application/json", as_json(start))
 
@@ -229,9 +222,9 @@ class Server(http.server.ThreadingHTTPServer):
         """A connection that breaks is no matter of the server."""
 
 
-def started(port, program, states, start):
+def started(port, program, start):
     """A server at this port, or at a free one where it is taken."""
     try:
-        return Server(port, program, states, start)
+        return Server(port, program, start)
     except (OSError, socket.error):
-        return Server(0, program, states, start)
+        return Server(0, program, start)

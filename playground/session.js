@@ -16,7 +16,6 @@ class Session {
     this.results = [];
     this.at = 0;
     this.fault = "";
-    this.differs = 0;
   }
 
   // The results after the tick that is looked at; before the first, none.
@@ -55,7 +54,6 @@ class Session {
     this.ticks = ticks.slice(0, this.results.length);
     this.at = Math.min(at, this.ticks.length);
     this.fault = answer.fault;
-    this.differs = answer.differs;
     this.changed();
   }
 

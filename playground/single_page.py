@@ -5,7 +5,6 @@ import os
 import re
 
 from server import FOLDER, as_json, of_run, read
-from states import States
 
 LINKED = re.compile(r'<link rel="stylesheet" href="([a-z]+\.css)">|<script src="([a-z]+\.js)"></script>')
 
@@ -26,7 +25,7 @@ def written(program, name, text, ticks):
     lines = ticks.split("\n")
     if not lines[-1]:
         lines.pop()
-    run = of_run(program, States(), text, image, lines)
+    run = of_run(program, text, image, lines)
     if run["fault"]:
         return "", f"play: {run['fault']}\n"
     page = LINKED.sub(inlined, read(FOLDER, "run.html").decode())
