@@ -130,20 +130,26 @@ const Page = (() => {
 
   const PLACE = /^(?:text:(\d+):(\d+): |node \d+ at (\d+):(\d+))/;
 
+  // Of an accepted text what it has and its warnings, of another one its fault.
   function showVerdict(verdict) {
     const host = $("verdict");
-    host.className = verdict.accepted ? "accepted" : "refused";
+    const { accepted } = verdict;
+    host.className = accepted ? "accepted" : "refused";
     const marks = [];
     const lines = (verdict.words || verdict.fault).trimEnd().split("\n").map((line, at) => {
       const found = PLACE.exec(line);
-      if (!found) return lineOf(line, at === 0 ? "headline" : /^(help:|\s+=)/.test(line) ? "advice" : "shown");
+      if (!found) {
+        return lineOf(accepted ? line.replace(/^ok /, "Accepted: ") : line, at === 0 ? "headline" : /^(help:|\s+=)/.test(line) ? "advice" : "shown");
+      }
       const place = editor.offset(Number(found[1] || found[3]), Number(found[2] || found[4]));
       marks.push({ from: place, to: endOfToken(place), isNode: Boolean(found[3]) });
       return placeButton(found[1] ? line.replace(/^text:/, "") : line, place, found[1] ? "headline" : "node");
     });
-    host.replaceChildren(...(verdict.accepted ? [lineOf(`Accepted: ${verdict.words.trim().replace(/^ok /, "")}`, "headline")] : lines));
-    editor.mark("fault", marks.filter((mark, at) => !mark.isNode || at));
-    markFaults(marks);
+    host.replaceChildren(...lines);
+    const faults = accepted ? [] : marks;
+    editor.mark("fault", faults.filter((mark, at) => !mark.isNode || at));
+    editor.mark("warned", accepted ? marks : []);
+    markFaults(faults);
   }
 
   function lineOf(words, kind) {

@@ -242,6 +242,10 @@ def fault_while_typing(tools):
     tools.browser.js("const area = document.getElementById('text'); const at = area.value.indexOf('y >'); area.focus(); area.setSelectionRange(at, at + 1)")
     tools.browser.type("#text", "x")
     tools.browser.wait_js("return document.querySelector('#verdict.accepted') && !document.querySelector('.mark.fault')")
+    # an accepted text has its warnings below its line, each marked at its place
+    told = tools.browser.js("return [...document.querySelectorAll('#verdict button')].map((one) => one.textContent.slice(0, 9))")
+    expect(told, ["2:14: W05"], "the warnings")
+    expect(tools.browser.js("return document.querySelectorAll('.mark.warned').length"), len(told), "the marks of warnings")
     # what is half typed leaves the last drawing
     tools.browser.type("#text", " +")
     tools.browser.wait_js("return document.querySelector('#verdict.refused') && document.querySelectorAll('.mark.fault').length === 1")
