@@ -1,5 +1,6 @@
 -- The variables that expansion adds: where they stand, and that they are flags and counters with names of their own.
-use Rattle.std.proofs.Common.{◌≡◌, ◌≢◌, ℕ, suc, ◌+◌, ◌<◌, ◌≤◌, ◌^◌, Bool, true, false, Some, List, [], ◌∷◌, ◌++◌, map, length, slice_get, refl, ap, sym, subst, ◌∙◌, append_assoc, arith}
+use Rattle.std.proofs.Common.{◌≡◌, ◌≢◌, ℕ, suc, ◌+◌, ◌<◌, ◌≤◌, ◌^◌, Bool, true, false, Some, List, [], ◌∷◌, ◌++◌, map, length, slice_get, refl, ap, sym, subst}
+use Rattle.std.proofs.Common.{◌∙◌, append_assoc, arith}
 use Rattle.std.specs.Prelude.{decimal}
 use Rattle.std.proofs.lemmas.List.{length-append, map-append}
 use Rattle.sc_graph.specs.declared.program.Variable.{Variable}
@@ -29,7 +30,8 @@ located_first variables x a b h = record {
   number = h.number;
 }
 
-pub located_later : (variables : List Variable) (x n y : ℕ) (a b : List Variable) → length a ≡ n → y ≡ x + n → Located variables x (a ++ b) → Located variables y b
+pub located_later : (variables : List Variable) (x n y : ℕ) (a b : List Variable) → length a ≡ n → y ≡ x + n → Located variables x (a ++ b)
+    → Located variables y b
 located_later variables x n y a b size is_y h = record {
   before = h.before ++ a;
   behind = h.behind;
@@ -51,7 +53,8 @@ declared_size true x name = refl
 declared_size false x name = refl
 
 flags_at : (variables : List Variable) (s x : ℕ) (a b c : Bool)
-    → Located variables x (declared (given a x) (strong_flag_name s) ++ declared (given b (x + one a)) (weak_flag_name s) ++ declared (given c (x + one a + one b)) (counter_name s))
+    → Located variables x (declared (given a x) (strong_flag_name s) ++ declared (given b (x + one a)) (weak_flag_name s) ++ declared
+    (given c (x + one a + one b)) (counter_name s))
     → AreFlags variables (record { strong = given a x; weak = given b (x + one a); counter = given c (x + one a + one b) })
 flags_at variables s x a b c h =
     let first : List Variable = declared (given a x) (strong_flag_name s) in
@@ -85,16 +88,25 @@ pub record AreAdded (low high size : ℕ) (those : List Variable) : Type 0 where
 pub none_added : (low high : ℕ) → AreAdded low high 0 []
 none_added low high = record { many = refl; locals = tt; named = tt; apart = tt }
 
-pub wider : (top low high first last : ℕ) → first ≤ low → high ≤ last → (names : List (List ℕ)) → Each (IsAdded top low high) names → Each (IsAdded top first last) names
+pub wider : (top low high first last : ℕ) → first ≤ low → high ≤ last → (names : List (List ℕ)) → Each (IsAdded top low high) names
+    → Each (IsAdded top first last) names
 wider top low high first last before behind names h =
     each_more (IsAdded top low high) (IsAdded top first last) names
-    (λ name k. record { letter = k.letter; number = k.number; is = k.is; below = k.below; least = omega (arith, before, k.least); most = omega (arith, behind, k.most) }) h
+    (λ name k. record {
+      letter = k.letter;
+      number = k.number;
+      is = k.is;
+      below = k.below;
+      least = omega (arith, before, k.least);
+      most = omega (arith, behind, k.most);
+    }) h
 
 each_unlike : (top low mid high : ℕ) (x : List ℕ) (ys : List (List ℕ)) → high ≤ 2 ^ 64 → IsAdded top low mid x → Each (IsAdded top mid high) ys → Unlike ys x
 each_unlike top low mid high x ys small h k =
     each_more (IsAdded top mid high) (λ y. x ≢ y) ys (λ y g. added_apart top low mid high x y small h g) k
 
-names_cross : (top low mid high : ℕ) (xs ys : List (List ℕ)) → high ≤ 2 ^ 64 → Each (IsAdded top low mid) xs → Each (IsAdded top mid high) ys → Each (Unlike ys) xs
+names_cross : (top low mid high : ℕ) (xs ys : List (List ℕ)) → high ≤ 2 ^ 64 → Each (IsAdded top low mid) xs → Each (IsAdded top mid high) ys
+    → Each (Unlike ys) xs
 names_cross top low mid high xs ys small h k =
     each_more (IsAdded top low mid) (Unlike ys) xs (λ x g. each_unlike top low mid high x ys small g k) h
 
@@ -136,7 +148,8 @@ weak_not_counter : (s : ℕ) → weak_flag_name s ≢ counter_name s
 weak_not_counter s same = let letters : 119 ≡ 114 = ap letter_of same in absurd (omega (arith, letters))
 
 added_of : (s x y z : ℕ) (a b c : Bool)
-    → AreAdded s (suc s) (one a + one b + one c) (declared (given a x) (strong_flag_name s) ++ declared (given b y) (weak_flag_name s) ++ declared (given c z) (counter_name s))
+    → AreAdded s (suc s) (one a + one b + one c) (declared (given a x) (strong_flag_name s) ++ declared (given b y) (weak_flag_name s) ++ declared (given c z)
+    (counter_name s))
 added_of s x y z true true true = record {
   many = refl;
   locals = (refl, (refl, (refl, tt)));

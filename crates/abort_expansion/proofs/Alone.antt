@@ -1,6 +1,7 @@
 -- A simple state becomes one state, which keeps the rules of core charts; so does a monitor.
 use Rattle.std.specs.Prelude.{decimal}
-use Rattle.std.proofs.Common.{◌≡◌, ◌≢◌, ℕ, ◌+◌, inl, Bool, true, false, cond, IsTrue, Option, Some, List, [], ◌∷◌, map, length, slice_get, count_by, refl, ap, sym, subst, ◌∙◌, arith}
+use Rattle.std.proofs.Common.{◌≡◌, ◌≢◌, ℕ, ◌+◌, inl, Bool, true, false, cond, IsTrue, Option, Some, List, [], ◌∷◌, map, length, slice_get, count_by, refl, ap}
+use Rattle.std.proofs.Common.{sym, subst, ◌∙◌, arith}
 use Rattle.sc_graph.specs.declared.program.Variable.{Variable}
 use Rattle.sc_text.specs.declared.language.Language.TheVariants as languages
 use Rattle.sc_text.specs.Parts.{IsNameIn, are_distinct}
@@ -50,7 +51,8 @@ simple_named : (is_final : Bool) (name : List ℕ) (own : List Transition) (arou
 simple_named true name own around to begins = rolled_named name begins true [] []
 simple_named false name own around to begins = rolled_named name begins false [] (simple_transitions around to own)
 
-simple_state_keeps : (declared variables : List Variable) (levels m n : ℕ) (is_final : Bool) (name : List ℕ) (own : List Transition) (around : List Flags) (to : Places) (begins : Bool)
+simple_state_keeps : (declared variables : List Variable) (levels m n : ℕ) (is_final : Bool) (name : List ℕ) (own : List Transition) (around : List Flags)
+    (to : Places) (begins : Bool)
     → IsText name → Each (InText declared variables m false) own → IsScene variables m n around to
     → IsState features.Core variables (AreRegions features.Core variables levels) n (simple is_final name own around to begins)
 simple_state_keeps declared variables levels m n true name own around to begins text h scene =
@@ -86,7 +88,8 @@ region_keeps variables levels y named one apart each =
       one_initial = subst (λ z. count_by (λ s. (out-State s).is_initial) z.states ≡ 1) is one;
       distinct = subst (λ z. IsTrue (are_distinct (map (λ s. (out-State s).name) z.states))) is (distinct_if_apart (names_of y.states) apart);
       states =
-          subst (λ z. (i : ℕ) (s : State) → slice_get z.states i ≡ Some s → IsState features.Core variables (AreRegions features.Core variables levels) (length z.states) s) is
+          subst (λ z. (i : ℕ) (s : State) → slice_get z.states i ≡ Some s → IsState features.Core variables (AreRegions features.Core variables levels)
+          (length z.states) s) is
           (each_at (IsState features.Core variables (AreRegions features.Core variables levels) (length y.states)) y.states each);
     }
 

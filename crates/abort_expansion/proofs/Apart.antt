@@ -1,5 +1,6 @@
 -- Names of the text and names that expansion adds are apart.
-use Rattle.std.proofs.Common.{◌≡◌, ◌≢◌, ℕ, ◌<◌, ◌≤◌, ◌^◌, ◌⊎◌, inl, inr, ◌==◌, Bool, true, false, not, ◌&&◌, ◌||◌, IsTrue, List, [], ◌∷◌, ◌++◌, slice_get, refl, ap, sym, subst, ◌∙◌, arith}
+use Rattle.std.proofs.Common.{◌≡◌, ◌≢◌, ℕ, ◌<◌, ◌≤◌, ◌^◌, ◌⊎◌, inl, inr, ◌==◌, Bool, true, false, not, ◌&&◌, ◌||◌, IsTrue, List, [], ◌∷◌, ◌++◌, slice_get, refl}
+use Rattle.std.proofs.Common.{ap, sym, subst, ◌∙◌, arith}
 use Rattle.std.specs.Prelude.{decimal}
 use Rattle.std.specs.List.{list_any}
 use Rattle.std.specs.Str.{bytes_eq}
@@ -51,7 +52,10 @@ later_false false b none = none
 
 unlike_if : (x : List ℕ) (ys : List (List ℕ)) → list_any (bytes_eq x) ys ≡ false → Unlike ys x
 unlike_if x [] h = tt
-unlike_if x (y ∷ ys) h = (λ same. not_both (bytes_eq x y) (list_any (bytes_eq x) ys) (eq_self x y same) h, unlike_if x ys (later_false (bytes_eq x y) (list_any (bytes_eq x) ys) h))
+unlike_if x (y ∷ ys) h = (
+  λ same. not_both (bytes_eq x y) (list_any (bytes_eq x) ys) (eq_self x y same) h,
+  unlike_if x ys (later_false (bytes_eq x y) (list_any (bytes_eq x) ys) h),
+)
 
 first_not : (a b : Bool) → IsTrue (not a && b) → a ≡ false
 first_not true b h = absurd cc

@@ -1,5 +1,6 @@
 -- A superstate, as it is or split, becomes states that keep the rules of core charts.
-use Rattle.std.proofs.Common.{◌≡◌, ℕ, suc, ◌+◌, ◌≤◌, ◌^◌, inl, Bool, true, false, cond, ◌||◌, if◌then◌else◌, List, [], ◌∷◌, map, length, refl, ap, sym, subst, ◌∙◌, arith}
+use Rattle.std.proofs.Common.{◌≡◌, ℕ, suc, ◌+◌, ◌≤◌, ◌^◌, inl, Bool, true, false, cond, ◌||◌, if◌then◌else◌, List, [], ◌∷◌, map, length, refl, ap, sym, subst}
+use Rattle.std.proofs.Common.{◌∙◌, arith}
 use Rattle.std.proofs.lemmas.Bool.{or_parts}
 use Rattle.sc_graph.specs.declared.program.Variable.{Variable}
 use Rattle.core_charts.specs.declared.features.Features.TheVariants as features
@@ -34,7 +35,8 @@ use Rattle.abort_expansion.proofs.Staying.{stays_plain, no_flags, no_flag_count,
 weak_none : (around : List Flags) → aborts_around around ≡ false → weak_around around ≡ false
 weak_none [] h = refl
 weak_none (f ∷ around) h =
-    let both : ((is_there f.strong || is_there f.weak) ≡ false) × (aborts_around around ≡ false) = or_parts (is_there f.strong || is_there f.weak) (aborts_around around) h in
+    let both : ((is_there f.strong || is_there f.weak) ≡ false) × (aborts_around around ≡ false) = or_parts (is_there f.strong || is_there f.weak)
+    (aborts_around around) h in
     let own : (is_there f.strong ≡ false) × (is_there f.weak ≡ false) = or_parts (is_there f.strong) (is_there f.weak) both.0 in
     rw own.1 (weak_none around both.1)
 
@@ -52,7 +54,8 @@ added_lower s high m n those is h = record {
   apart = h.apart;
 }
 
-staying_shape : (declared variables : List Variable) (levels m high : ℕ) (name : List ℕ) (regions : List Region) (own : List Transition) (around : List Flags) (to : Places) (begins : Bool) (at : Numbers)
+staying_shape : (declared variables : List Variable) (levels m high : ℕ) (name : List ℕ) (regions : List Region) (own : List Transition) (around : List Flags)
+    (to : Places) (begins : Bool) (at : Numbers)
     → IsSuperstate declared variables levels m name regions own → has_aborts own ≡ false → aborts_around around ≡ false
     → high ≡ suc at.superstate + superstates_in (map piece_of_region regions) → high ≤ 2 ^ 64
     → HasShape (name ∷ []) at.superstate high 1 (one begins) (sized regions own around) (as_it_is name own (inside_of regions own around at) to begins at)
@@ -69,14 +72,17 @@ staying_shape declared variables levels m high name regions own around to begins
       begins = one_begins (out-State made).is_initial begins named.begins_is;
       called = (inl (inl named.name_is), tt);
       apart = (tt, tt);
-      added = added_lower s high more (sized regions own around) inside.variables (omega (arith, no_flag_count (weak_around around) own plain (weak_none around outside))) inner;
+      added = added_lower s high more (sized regions own around) inside.variables
+          (omega (arith, no_flag_count (weak_around around) own plain (weak_none around outside))) inner;
     }
 
-staying_keeps : (declared variables : List Variable) (levels m n : ℕ) (name : List ℕ) (regions : List Region) (own : List Transition) (around : List Flags) (to : Places) (begins : Bool) (at : Numbers)
+staying_keeps : (declared variables : List Variable) (levels m n : ℕ) (name : List ℕ) (regions : List Region) (own : List Transition) (around : List Flags)
+    (to : Places) (begins : Bool) (at : Numbers)
     → IsSuperstate declared variables levels m name regions own → has_regions regions ≡ true → has_aborts own ≡ false → aborts_around around ≡ false
     → suc at.superstate + superstates_in (map piece_of_region regions) ≤ 2 ^ 64
     → IsScene variables m n around to → Located variables at.variable (inside_of regions own around at).variables
-    → Each (IsState features.Core variables (AreRegions features.Core variables (suc levels)) n) (as_it_is name own (inside_of regions own around at) to begins at).states
+    → Each (IsState features.Core variables (AreRegions features.Core variables (suc levels)) n)
+    (as_it_is name own (inside_of regions own around at) to begins at).states
 staying_keeps declared variables levels m n name regions own around to begins at h some plain outside small scene located =
     let inside : Regions = inside_of regions own around at in
     let weak : weak_around around ≡ false = weak_none around outside in
@@ -88,9 +94,11 @@ staying_keeps declared variables levels m n name regions own around to begins at
     let few : length inside.regions ≤ 64 =
     omega (arith, sym (as_many_names inside.regions) ∙ ap (λ ns. length ns) names ∙ as_many_names regions, h.few) in
     let sides : AreRegions features.Core variables (suc levels) inside.regions =
-    side_by_side variables levels inside.regions few (subst Apart (sym names) h.apart) (inside_keeps variables levels regions own around at h.inner small scene.flags here there) in
+    side_by_side variables levels inside.regions few (subst Apart (sym names) h.apart)
+    (inside_keeps variables levels regions own around at h.inner small scene.flags here there) in
     let super : true ≡ has_regions inside.regions = sym (still_some regions inside.regions names some) in (
-      state_keeps variables (suc levels) n (record { name = name; is_initial = begins; is_final = false; regions = inside.regions; transitions = map (led to) own })
+      state_keeps variables (suc levels) n
+          (record { name = name; is_initial = begins; is_final = false; regions = inside.regions; transitions = map (led to) own })
           (text_is_named name h.text) (λ is. absurd cc) sides (joins_led to own h.joins)
           (subst (λ b. Each (IsTransition features.Core variables n b) (map (led to) own)) super
           (led_all_keep declared variables m n to own scene.places h.taken aborts.0 aborts.1)),
@@ -99,7 +107,8 @@ staying_keeps declared variables levels m n name regions own around to begins at
 
 -- ---- either way
 
-either_shape : (b : Bool) (declared variables : List Variable) (levels m high : ℕ) (name : List ℕ) (regions : List Region) (own : List Transition) (around : List Flags) (to : Places) (place : ℕ) (begins : Bool) (at : Numbers)
+either_shape : (b : Bool) (declared variables : List Variable) (levels m high : ℕ) (name : List ℕ) (regions : List Region) (own : List Transition)
+    (around : List Flags) (to : Places) (place : ℕ) (begins : Bool) (at : Numbers)
     → stays around own ≡ b → IsSuperstate declared variables levels m name regions own
     → high ≡ suc at.superstate + superstates_in (map piece_of_region regions) → high ≤ 2 ^ 64
     → HasShape (name ∷ []) at.superstate high (if b then 1 else if is_prepared around own then 3 else 2) (one begins) (sized regions own around)
@@ -112,16 +121,19 @@ either_shape true declared variables levels m high name regions own around to pl
 either_shape false declared variables levels m high name regions own around to place begins at stay h is small =
     split_shape (is_prepared around own) declared variables levels m high name regions own around to place begins at h is small
 
-located_either : (c : Bool) (variables : List Variable) (regions : List Region) (own : List Transition) (around : List Flags) (name : List ℕ) (to : Places) (place : ℕ) (begins : Bool) (at : Numbers)
+located_either : (c : Bool) (variables : List Variable) (regions : List Region) (own : List Transition) (around : List Flags) (name : List ℕ) (to : Places)
+    (place : ℕ) (begins : Bool) (at : Numbers)
     → Located variables at.variable
     (if c
-    then beside (prepared (length regions) own (mine own around at) to place begins at) (forked name own around (mine own around at) (inside_of regions own around at) to (suc place) false at)
+    then beside (prepared (length regions) own (mine own around at) to place begins at)
+    (forked name own around (mine own around at) (inside_of regions own around at) to (suc place) false at)
     else forked name own around (mine own around at) (inside_of regions own around at) to place begins at).variables
     → AreLocated variables regions own around at
 located_either true variables regions own around name to place begins at h = h
 located_either false variables regions own around name to place begins at h = h
 
-either_keeps : (b : Bool) (declared variables : List Variable) (levels m n : ℕ) (name : List ℕ) (regions : List Region) (own : List Transition) (around : List Flags) (to : Places) (place : ℕ) (begins : Bool) (at : Numbers)
+either_keeps : (b : Bool) (declared variables : List Variable) (levels m n : ℕ) (name : List ℕ) (regions : List Region) (own : List Transition)
+    (around : List Flags) (to : Places) (place : ℕ) (begins : Bool) (at : Numbers)
     → stays around own ≡ b → IsSuperstate declared variables levels m name regions own → has_regions regions ≡ true
     → suc at.superstate + superstates_in (map piece_of_region regions) ≤ 2 ^ 64
     → IsScene variables m n around to → place + (if b then 1 else if is_prepared around own then 3 else 2) ≤ n
@@ -149,9 +161,11 @@ as_many : (regions : List Region) → length (map piece_of_region regions) ≡ l
 as_many [] = refl
 as_many (r ∷ regions) = ap suc (as_many regions)
 
-pub superstate_piece_keeps : (declared variables : List Variable) (levels m : ℕ) (is_initial is_final : Bool) (name : List ℕ) (r : Region) (rs : List Region) (own : List Transition)
+pub superstate_piece_keeps : (declared variables : List Variable) (levels m : ℕ) (is_initial is_final : Bool) (name : List ℕ) (r : Region) (rs : List Region)
+    (own : List Transition)
     → IsSuperstate declared variables levels m name (r ∷ rs) own
-    → StateKeeps variables (suc levels) m name (state_piece (record { name = name; is_initial = is_initial; is_final = is_final; regions = map piece_of_region (r ∷ rs); transitions = own }))
+    → StateKeeps variables (suc levels) m name
+    (state_piece (record { name = name; is_initial = is_initial; is_final = is_final; regions = map piece_of_region (r ∷ rs); transitions = own }))
 superstate_piece_keeps declared variables levels m is_initial is_final name r rs own h =
     let regions : List Region = r ∷ rs in
     let Over : ℕ → List Flags → Places → ℕ → Bool → Numbers → States =
@@ -162,10 +176,13 @@ superstate_piece_keeps declared variables levels m is_initial is_final name r rs
       shape = λ around to place begins at small.
           subst
           (λ n. HasShape (name ∷ []) at.superstate (at.superstate + (1 + superstates_in (map piece_of_region regions)))
-          (if stays around own then 1 else if is_prepared around own then 3 else 2) (one begins) (sized regions own around) (Over n around to place begins at)) same
-          (either_shape (stays around own) declared variables levels m (at.superstate + (1 + superstates_in (map piece_of_region regions))) name regions own around to place begins at refl h (omega arith) small);
+          (if stays around own then 1 else if is_prepared around own then 3 else 2) (one begins) (sized regions own around) (Over n around to place begins at))
+          same
+          (either_shape (stays around own) declared variables levels m (at.superstate + (1 + superstates_in (map piece_of_region regions))) name regions own
+          around to place begins at refl h (omega arith) small);
       keeps = λ n around to place begins at small scene within located.
           subst (λ k. Each (IsState features.Core variables (AreRegions features.Core variables (suc levels)) n) (Over k around to place begins at).states) same
-          (either_keeps (stays around own) declared variables levels m n name regions own around to place begins at refl h refl (omega (arith, small)) scene within
+          (either_keeps (stays around own) declared variables levels m n name regions own around to place begins at refl h refl
+          (omega (arith, small)) scene within
           (subst (λ k. Located variables at.variable (Over k around to place begins at).variables) (sym same) located));
     }

@@ -38,13 +38,15 @@ effect_over_more declared more e h = record {
       (expression_over_more (kinds_of declared) (kinds_of more) h.target.kind e.value h.value);
 }
 
-in_text : (declared more : List Variable) (m : ℕ) (super : Bool) (t : Transition) → IsTransition features.Extended declared m super t → InText declared (declared ++ more) m super t
+in_text : (declared more : List Variable) (m : ℕ) (super : Bool) (t : Transition) → IsTransition features.Extended declared m super t
+    → InText declared (declared ++ more) m super t
 in_text declared more m super t h = record {
   taken = record {
     trigger = λ e at.
         subst (λ kinds. IsExpression kinds of_kind.Bool e) (more_kinds declared more)
         (expression_over_more (kinds_of declared) (kinds_of more) of_kind.Bool e (h.trigger e at));
-    effects = each_more (IsEffect declared) (IsEffect (declared ++ more)) t.effects (effect_over_more declared more) (each_of (IsEffect declared) t.effects h.effects);
+    effects = each_more (IsEffect declared) (IsEffect (declared ++ more)) t.effects (effect_over_more declared more)
+        (each_of (IsEffect declared) t.effects h.effects);
     target = h.target;
   };
   kept = h;
@@ -57,8 +59,10 @@ AreInside declared more (suc levels) regions =
     RegionsKeep (declared ++ more) levels regions × (length regions ≤ 63) × Each IsText (region_names regions) × Apart (region_names regions)
 
 state_of : (declared more : List Variable) (levels m : ℕ) (is_initial is_final : Bool) (name : List ℕ) (regions : List Region) (own : List Transition)
-    → IsText name → AreInside declared more levels regions → Each (InText declared (declared ++ more) m (has_regions regions)) own → count_by (λ t. is_join t.kind) own ≤ 1
-    → StateKeeps (declared ++ more) levels m name (state_piece (record { name = name; is_initial = is_initial; is_final = is_final; regions = map piece_of_region regions; transitions = own }))
+    → IsText name → AreInside declared more levels regions → Each (InText declared (declared ++ more) m (has_regions regions)) own
+    → count_by (λ t. is_join t.kind) own ≤ 1
+    → StateKeeps (declared ++ more) levels m name
+    (state_piece (record { name = name; is_initial = is_initial; is_final = is_final; regions = map piece_of_region regions; transitions = own }))
 state_of declared more levels m is_initial is_final name [] own text inside each joins =
     simple_piece_keeps declared (declared ++ more) levels m is_initial is_final name own text each
 state_of declared more zero m is_initial is_final name (r ∷ rs) own text inside each joins = absurd cc
@@ -70,7 +74,8 @@ abbrev pub Inner : List Variable → List Variable → ℕ → Type 0
 Inner declared more levels = (regions : List Region) → AreRegions features.Extended declared levels regions → AreInside declared more levels regions
 
 state_keeps_rules : (declared more : List Variable) (levels m : ℕ) → Inner declared more levels
-    → (s : State) → IsState features.Extended declared (AreRegions features.Extended declared levels) m s → StateKeeps (declared ++ more) levels m (out-State s).name (piece_of_state s)
+    → (s : State) → IsState features.Extended declared (AreRegions features.Extended declared levels) m s
+    → StateKeeps (declared ++ more) levels m (out-State s).name (piece_of_state s)
 state_keeps_rules declared more levels m inner s h =
     subst (StateKeeps (declared ++ more) levels m (out-State s).name) (sym (fold_out-State RegionPiece StatePiece region_piece state_piece s))
     (state_of declared more levels m (out-State s).is_initial (out-State s).is_final (out-State s).name (out-State s).regions (out-State s).transitions
@@ -80,7 +85,8 @@ state_keeps_rules declared more levels m inner s h =
     h.one_join)
 
 region_keeps_rules : (declared more : List Variable) (levels : ℕ) → Inner declared more levels
-    → (r : Region) → IsRegion features.Extended declared (AreRegions features.Extended declared levels) r → RegionKeeps (declared ++ more) levels (out-Region r).name (piece_of_region r)
+    → (r : Region) → IsRegion features.Extended declared (AreRegions features.Extended declared levels) r
+    → RegionKeeps (declared ++ more) levels (out-Region r).name (piece_of_region r)
 region_keeps_rules declared more levels inner r h =
     let states : List State = (out-Region r).states in
     let each : Each (IsState features.Extended declared (AreRegions features.Extended declared levels) (length states)) states =
@@ -94,7 +100,8 @@ region_keeps_rules declared more levels inner r h =
           (state_keeps_rules declared more levels (length states) inner) each;
       texts =
           each_mapped IsText (λ s. (out-State s).name) states
-          (each_more (IsState features.Extended declared (AreRegions features.Extended declared levels) (length states)) (λ s. IsText (out-State s).name) states (λ s k. k.named) each);
+          (each_more (IsState features.Extended declared (AreRegions features.Extended declared levels) (length states)) (λ s. IsText (out-State s).name) states
+          (λ s k. k.named) each);
       apart = apart_if_distinct (names_of states) h.distinct;
       initial = count_is (λ s. (out-State s).is_initial) states ∙ h.one_initial;
     }))
@@ -109,6 +116,7 @@ inner_keep declared more (suc levels) regions h =
           (region_keeps_rules declared more levels (inner_keep declared more levels)) each,
       h.count,
       each_mapped IsText (λ r. (out-Region r).name) regions
-          (each_more (IsRegion features.Extended declared (AreRegions features.Extended declared levels)) (λ r. IsText (out-Region r).name) regions (λ r k. k.named) each),
+          (each_more (IsRegion features.Extended declared (AreRegions features.Extended declared levels)) (λ r. IsText (out-Region r).name) regions
+          (λ r k. k.named) each),
       apart_if_distinct (region_names regions) h.distinct,
     )

@@ -11,7 +11,8 @@ use Rattle.core_charts.specs.declared.region.TransitionKind.TheVariants as kind
 use Rattle.core_charts.specs.declared.region.Region.{Region}
 use Rattle.core_charts.specs.declared.region.State.{State}
 use Rattle.core_charts.specs.declared.region.Region.TheViews.{roll-Region, roll-State}
-use Rattle.abort_expansion.specs.Flags.{local, strong_flag_name, weak_flag_name, counter_name, preparation_name, continuation_name, monitor_name, watching_name, first_name}
+use Rattle.abort_expansion.specs.Flags.{local, strong_flag_name, weak_flag_name, counter_name, preparation_name, continuation_name, monitor_name, watching_name}
+use Rattle.abort_expansion.specs.Flags.{first_name}
 use Rattle.abort_expansion.specs.Transitions.{go, is_number, is_raised, put, count_down}
 use Rattle.abort_expansion.specs.Pieces.{RegionPiece, StatePiece}
 use Rattle.abort_expansion.specs.Superstates.{abandoned}
@@ -80,7 +81,8 @@ core_waits name from to input =
 abbrev core_body : Region
 core_body =
     core_region (codes "Body")
-    (core_state (codes "Wait") true false (core_waits (codes "GetA") (codes "WA") (codes "DA") 0 ∷ core_waits (codes "GetB") (codes "WB") (codes "DB") 1 ∷ []) (join 1 ∷ [])
+    (core_state (codes "Wait") true false (core_waits (codes "GetA") (codes "WA") (codes "DA") 0 ∷ core_waits (codes "GetB") (codes "WB") (codes "DB") 1 ∷ [])
+    (join 1 ∷ [])
     ∷ core_state (continuation_name 2) false false [] (checked true 3 ∷ go true None (truth 3 true ∷ []) 2 ∷ [])
     ∷ core_state (codes "Done") false false [] (checked false 3 ∷ [])
     ∷ abandoned
@@ -124,7 +126,8 @@ abbrev weakly_aborted : Expr → Expr → Expr → List RegionPiece
 weakly_aborted one ten hundred =
     region (codes "M")
     (state (codes "S") true false
-    (region (codes "P") (state (codes "a") true false [] (transition kind.Go (Some (expr.Load 0)) (plus 2 one ∷ []) 1 ∷ []) ∷ state (codes "b") false true [] [] ∷ [])
+    (region (codes "P") (state (codes "a") true false [] (transition kind.Go (Some (expr.Load 0)) (plus 2 one ∷ []) 1 ∷ []) ∷ state
+    (codes "b") false true [] [] ∷ [])
     ∷ region (codes "Q") (state (codes "c") true true [] [] ∷ [])
     ∷ [])
     (transition kind.Weak (Some (expr.Load 1)) (plus 2 ten ∷ []) 1 ∷ transition kind.Join None (plus 2 hundred ∷ []) 1 ∷ [])
@@ -160,7 +163,8 @@ core_weakly_aborted one ten hundred =
 weakly_aborted_expanded : (one ten hundred : Expr) → (all_expanded 3 (weakly_aborted one ten hundred)).regions ≡ core_weakly_aborted one ten hundred
 weakly_aborted_expanded one ten hundred = refl
 
-weakly_aborted_variables : (one ten hundred : Expr) → (all_expanded 3 (weakly_aborted one ten hundred)).variables ≡ local (weak_flag_name 1) ∷ local (counter_name 1) ∷ []
+weakly_aborted_variables : (one ten hundred : Expr) → (all_expanded 3 (weakly_aborted one ten hundred)).variables
+    ≡ local (weak_flag_name 1) ∷ local (counter_name 1) ∷ []
 weakly_aborted_variables one ten hundred = refl
 
 -- the states of the chart are S, a, b, c and T

@@ -1,5 +1,6 @@
 -- Expressions over some variables are expressions over more; those that expansion makes are expressions.
-use Rattle.std.proofs.Common.{◌≡◌, ℕ, Bool, ◌&&◌, pos, zero, suc, ◌≤◌, Option, Some, None, List, [], ◌∷◌, ◌++◌, length, take, slice_get, option_and_then, refl, ap, sym, subst, ◌∙◌, arith}
+use Rattle.std.proofs.Common.{◌≡◌, ℕ, Bool, ◌&&◌, pos, zero, suc, ◌≤◌, Option, Some, None, List, [], ◌∷◌, ◌++◌, length, take, slice_get, option_and_then, refl}
+use Rattle.std.proofs.Common.{ap, sym, subst, ◌∙◌, arith}
 use Rattle.sc_values.specs.declared.value.Value.{Value}
 use Rattle.sc_values.specs.declared.value.Value.TheVariants as value
 use Rattle.sc_values.specs.declared.value.Kind.{Kind}
@@ -75,7 +76,8 @@ one_operation v = record { operations = omega arith; operands = one_operand v; l
 pub number_is_expression : (kinds : List Kind) (n : ℕ) → IsExpression kinds of_kind.Int (number n)
 number_is_expression kinds n = record {
   kinded = ap (λ e. kind e kinds) (sym (rolls-Literal (value.Int (pos n)))) ∙ kind-literal (value.Int (pos n)) kinds;
-  within = subst IsWithinLimits (sym (ap postorder (sym (rolls-Literal (value.Int (pos n)))) ∙ postorder-literal (value.Int (pos n)))) (one_operation (value.Int (pos n)));
+  within = subst IsWithinLimits (sym (ap postorder (sym (rolls-Literal (value.Int (pos n)))) ∙ postorder-literal (value.Int (pos n))))
+      (one_operation (value.Int (pos n)));
   writable = ap is_writable (sym (rolls-Literal (value.Int (pos n)))) ∙ fold-roll-Expr Bool writable_step (tree.Literal (value.Int (pos n)));
 }
 

@@ -43,7 +43,8 @@ pub inside_added : (variables : List Variable) (levels : ℕ) (regions : List Re
 inside_added variables levels regions own around at h small =
     let flags : Flags = flags_of (weak_around around) own at.variable in
     subst
-    (λ weak. AreAdded (suc at.superstate) (suc at.superstate + superstates_in (map piece_of_region regions)) (variables_in weak (map piece_of_region regions)) (inside_of regions own around at).variables)
+    (λ weak. AreAdded (suc at.superstate) (suc at.superstate + superstates_in (map piece_of_region regions)) (variables_in weak (map piece_of_region regions))
+    (inside_of regions own around at).variables)
     (weak_inside around (weak_around around) own at.variable)
     (regions_added variables levels regions (around ++ flags ∷ []) flags.counter (within (weak_around around) own at) h small)
 

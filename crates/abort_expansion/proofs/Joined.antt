@@ -1,5 +1,6 @@
 -- What states and regions side by side become, from what each becomes.
-use Rattle.std.proofs.Common.{◌≡◌, ◌≢◌, ℕ, ◌+◌, ◌<◌, ◌≤◌, ◌^◌, inl, inr, Bool, not, ◌&&◌, IsTrue, Option, List, [], ◌∷◌, ◌++◌, map, length, refl, ap, sym, subst, ◌∙◌, arith}
+use Rattle.std.proofs.Common.{◌≡◌, ◌≢◌, ℕ, ◌+◌, ◌<◌, ◌≤◌, ◌^◌, inl, inr, Bool, not, ◌&&◌, IsTrue, Option, List, [], ◌∷◌, ◌++◌, map, length, refl, ap, sym}
+use Rattle.std.proofs.Common.{subst, ◌∙◌, arith}
 use Rattle.std.proofs.lemmas.List.{length-append, map-append}
 use Rattle.sc_graph.specs.declared.program.Variable.{Variable}
 use Rattle.core_charts.specs.declared.features.Features.TheVariants as features
@@ -74,8 +75,10 @@ both_shapes ts us low mid high v w width i j initial m n size a b first last sma
       called =
           subst (Each (IsCalled (ts ++ us) 105 low high)) whole
           (each_append (IsCalled (ts ++ us) 105 low high) (names_of a.states) (names_of b.states)
-          (each_more (IsCalled ts 105 low mid) (IsCalled (ts ++ us) 105 low high) (names_of a.states) (λ name g. called_first ts us low mid high name last g) one.called)
-          (each_more (IsCalled us 105 mid high) (IsCalled (ts ++ us) 105 low high) (names_of b.states) (λ name g. called_later ts us low mid high name first g) other.called));
+          (each_more (IsCalled ts 105 low mid) (IsCalled (ts ++ us) 105 low high) (names_of a.states) (λ name g. called_first ts us low mid high name last g)
+          one.called)
+          (each_more (IsCalled us 105 mid high) (IsCalled (ts ++ us) 105 low high) (names_of b.states) (λ name g. called_later ts us low mid high name first g)
+          other.called));
       apart =
           subst Apart whole
           (apart_append (names_of a.states) (names_of b.states) one.apart other.apart
@@ -95,7 +98,8 @@ pub record IsScene (variables : List Variable) (m n : ℕ) (around : List Flags)
 pub record StateKeeps (variables : List Variable) (levels m : ℕ) (name : List ℕ) (p : StatePiece) : Type 0 where
   pub least : (around : List Flags) → 1 ≤ p.width around
   pub shape : (around : List Flags) (to : Places) (place : ℕ) (begins : Bool) (at : Numbers) → at.superstate + p.superstates ≤ 2 ^ 64
-      → HasShape (name ∷ []) at.superstate (at.superstate + p.superstates) (p.width around) (one begins) (p.variables (weak_around around)) (p.made around to place begins at)
+      → HasShape (name ∷ []) at.superstate (at.superstate + p.superstates) (p.width around) (one begins) (p.variables (weak_around around))
+      (p.made around to place begins at)
   pub keeps : (n : ℕ) (around : List Flags) (to : Places) (place : ℕ) (begins : Bool) (at : Numbers) → at.superstate + p.superstates ≤ 2 ^ 64
       → IsScene variables m n around to → place + p.width around ≤ n → Located variables at.variable (p.made around to place begins at).variables
       → Each (IsState features.Core variables (AreRegions features.Core variables levels) n) (p.made around to place begins at).states
@@ -125,9 +129,11 @@ states_shape variables levels m (s ∷ states) anew around to place at h texts a
     let rest : List StatePiece = pieces_of states in
     let next : Numbers = past_state (weak_around around) p at in
     let mid : ℕ = at.superstate + p.superstates in
-    let first : HasShape ((out-State s).name ∷ []) at.superstate mid (p.width around) (one (p.is_initial && not anew)) (p.variables (weak_around around)) (p.made around to place (p.is_initial && not anew) at) =
+    let first : HasShape ((out-State s).name ∷ []) at.superstate mid (p.width around) (one (p.is_initial && not anew)) (p.variables (weak_around around))
+    (p.made around to place (p.is_initial && not anew) at) =
     h.0.shape around to place (p.is_initial && not anew) at (omega (arith, small)) in
-    let later : HasShape (names_of states) mid (mid + superstates_among rest) (widths rest around) (initial_of anew rest) (variables_among (weak_around around) rest) (expanded_states anew rest around to (place + p.width around) next) =
+    let later : HasShape (names_of states) mid (mid + superstates_among rest) (widths rest around) (initial_of anew rest)
+    (variables_among (weak_around around) rest) (expanded_states anew rest around to (place + p.width around) next) =
     states_shape variables levels m states anew around to (place + p.width around) next h.1 texts.1 apart.1 (omega (arith, small)) in
     let end : mid + superstates_among rest ≡ at.superstate + (p.superstates + superstates_among rest) = omega arith in
     subst
@@ -136,11 +142,13 @@ states_shape variables levels m (s ∷ states) anew around to place at h texts a
     (both_shapes ((out-State s).name ∷ []) (names_of states) at.superstate mid (mid + superstates_among rest)
     (p.width around) (widths rest around) (p.width around + widths rest around)
     (one (p.is_initial && not anew)) (initial_of anew rest) (one (p.is_initial && not anew) + initial_of anew rest)
-    (p.variables (weak_around around)) (variables_among (weak_around around) rest) (p.variables (weak_around around) + variables_among (weak_around around) rest)
+    (p.variables (weak_around around)) (variables_among (weak_around around) rest)
+    (p.variables (weak_around around) + variables_among (weak_around around) rest)
     (p.made around to place (p.is_initial && not anew) at) (expanded_states anew rest around to (place + p.width around) next)
     (omega arith) (omega arith) (omega (arith, small)) refl refl refl (texts.0, tt) texts.1 (apart.0, tt) first later)
 
-pub states_keep : (variables : List Variable) (levels m n : ℕ) (states : List State) (anew : Bool) (around : List Flags) (to : Places) (place : ℕ) (at : Numbers)
+pub states_keep : (variables : List Variable) (levels m n : ℕ) (states : List State) (anew : Bool) (around : List Flags) (to : Places) (place : ℕ)
+    (at : Numbers)
     → AllKeep variables levels m states → at.superstate + superstates_among (pieces_of states) ≤ 2 ^ 64
     → IsScene variables m n around to → place + widths (pieces_of states) around ≤ n
     → Located variables at.variable (expanded_states anew (pieces_of states) around to place at).variables
@@ -152,9 +160,11 @@ states_keep variables levels m n (s ∷ states) anew around to place at h small 
     let next : Numbers = past_state (weak_around around) p at in
     let a : States = p.made around to place (p.is_initial && not anew) at in
     let b : States = expanded_states anew rest around to (place + p.width around) next in
-    let size : length a.variables ≡ p.variables (weak_around around) = (h.0.shape around to place (p.is_initial && not anew) at (omega (arith, small))).added.many in
+    let size : length a.variables
+    ≡ p.variables (weak_around around) = (h.0.shape around to place (p.is_initial && not anew) at (omega (arith, small))).added.many in
     each_append (IsState features.Core variables (AreRegions features.Core variables levels) n) a.states b.states
-    (h.0.keeps n around to place (p.is_initial && not anew) at (omega (arith, small)) scene (omega (arith, within)) (located_first variables at.variable a.variables b.variables located))
+    (h.0.keeps n around to place (p.is_initial && not anew) at (omega (arith, small)) scene (omega (arith, within))
+    (located_first variables at.variable a.variables b.variables located))
     (states_keep variables levels m n states anew around to (place + p.width around) next h.1 (omega (arith, small)) scene (omega (arith, within))
     (located_later variables at.variable (p.variables (weak_around around)) next.variable a.variables b.variables size refl located))
 
@@ -199,7 +209,8 @@ regions_added variables levels (r ∷ regions) around counter at h small =
     let mid : ℕ = at.superstate + p.superstates in
     let end : mid + superstates_in rest ≡ at.superstate + (p.superstates + superstates_in rest) = omega arith in
     subst
-    (λ high. AreAdded at.superstate high (p.variables (weak_around around) + variables_in (weak_around around) rest) (expanded_regions (p ∷ rest) around counter at).variables) end
+    (λ high. AreAdded at.superstate high (p.variables (weak_around around) + variables_in (weak_around around) rest)
+    (expanded_regions (p ∷ rest) around counter at).variables) end
     (both_added at.superstate mid (mid + superstates_in rest) (p.variables (weak_around around)) (variables_in (weak_around around) rest)
     (p.variables (weak_around around) + variables_in (weak_around around) rest)
     (p.made around counter at).variables (expanded_regions rest around counter next).variables
@@ -210,7 +221,8 @@ pub regions_keep : (variables : List Variable) (levels : ℕ) (regions : List Re
     → RegionsKeep variables levels regions → at.superstate + superstates_in (map piece_of_region regions) ≤ 2 ^ 64
     → Each (AreFlags variables) around → IsFlagIfAny variables counter
     → Located variables at.variable (expanded_regions (map piece_of_region regions) around counter at).variables
-    → Each (IsRegion features.Core variables (AreRegions features.Core variables levels)) (expanded_regions (map piece_of_region regions) around counter at).regions
+    → Each (IsRegion features.Core variables (AreRegions features.Core variables levels))
+    (expanded_regions (map piece_of_region regions) around counter at).regions
 regions_keep variables levels [] around counter at h small flags counted located = tt
 regions_keep variables levels (r ∷ regions) around counter at h small flags counted located =
     let p : RegionPiece = piece_of_region r in

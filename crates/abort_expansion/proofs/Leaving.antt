@@ -1,5 +1,6 @@
 -- The states that expansion makes, apart from what is inside them, keep the rules of core charts.
-use Rattle.std.proofs.Common.{◌≡◌, ℕ, zero, suc, ◌<◌, ◌≤◌, Bool, true, false, ◌||◌, IsTrue, if◌then◌else◌, Option, Some, None, List, [], ◌∷◌, ◌++◌, map, slice_get, count_by, refl, sym, subst, arith}
+use Rattle.std.proofs.Common.{◌≡◌, ℕ, zero, suc, ◌<◌, ◌≤◌, Bool, true, false, ◌||◌, IsTrue, if◌then◌else◌, Option, Some, None, List, [], ◌∷◌, ◌++◌, map}
+use Rattle.std.proofs.Common.{slice_get, count_by, refl, sym, subst, arith}
 use Rattle.std.specs.Prelude.{filter}
 use Rattle.sc_graph.specs.declared.program.Variable.{Variable}
 use Rattle.sc_text.specs.declared.language.Language.TheVariants as languages
@@ -23,7 +24,8 @@ use Rattle.abort_expansion.specs.Flags.{preparation_name, continuation_name, is_
 use Rattle.abort_expansion.specs.Transitions.{is_number, put, on, go, strong_checks, weak_checks, led, led_by, answers, raising}
 use Rattle.abort_expansion.specs.Superstates.{simple_transitions, preparation, continuation, closing, joined_or_left, monitor_transitions, all_ended}
 use Rattle.abort_expansion.proofs.Lists.{each_chosen, each_mapped, count, count_is, count_none}
-use Rattle.abort_expansion.proofs.Taken.{IsFlagIfAny, AreFlags, IsTaken, ArePlaces, Goes, go_goes, no_trigger, number_trigger, putting_effects, counting_effects, strong_checks_go, weak_checks_go, led_by_goes, answers_go, raising_goes}
+use Rattle.abort_expansion.proofs.Taken.{IsFlagIfAny, AreFlags, IsTaken, ArePlaces, Goes, go_goes, no_trigger, number_trigger, putting_effects}
+use Rattle.abort_expansion.proofs.Taken.{counting_effects, strong_checks_go, weak_checks_go, led_by_goes, answers_go, raising_goes}
 
 pub no_regions : (f : Features) (variables : List Variable) (levels : ℕ) → AreRegions f variables levels []
 no_regions f variables zero = refl
@@ -118,7 +120,8 @@ simple_transitions_go declared variables m n around at own flags within places h
 
 -- ---- preparation, continuation and monitor
 
-pub preparation_keeps : (variables : List Variable) (levels m n s : ℕ) (flags : Flags) (regions : ℕ) (own : List Transition) (at : Places) (fork : ℕ) (begins : Bool)
+pub preparation_keeps : (variables : List Variable) (levels m n s : ℕ) (flags : Flags) (regions : ℕ) (own : List Transition) (at : Places) (fork : ℕ)
+    (begins : Bool)
     → IsNameIn languages.Scl (preparation_name s) → AreFlags variables flags → ArePlaces variables m n at → Each (IsTaken variables m) own → fork < n
     → IsState features.Core variables (AreRegions features.Core variables levels) n (preparation s flags regions own at fork begins)
 preparation_keeps variables levels m n s flags regions own at fork begins named h places taken within =
@@ -214,7 +217,9 @@ monitor_goes variables m around flags own each h taken =
     (each_append (Goes variables 2) (first ++ strong) weak
     (each_append (Goes variables 2) first strong
     (strong_checks_go variables 2 1 false around each (λ there. omega arith))
-    (raising_goes variables m 2 1 (λ t. false) flags.strong 1 (strong_aborts own) (omega arith) h.strong (each_chosen (IsTaken variables m) (λ t. is_strong t.kind) own taken)))
-    (raising_goes variables m 2 1 (λ t. t.immediate) flags.weak 1 (weak_aborts own) (omega arith) h.weak (each_chosen (IsTaken variables m) (λ t. is_weak t.kind) own taken)))
+    (raising_goes variables m 2 1 (λ t. false) flags.strong 1 (strong_aborts own) (omega arith) h.strong
+    (each_chosen (IsTaken variables m) (λ t. is_strong t.kind) own taken)))
+    (raising_goes variables m 2 1 (λ t. t.immediate) flags.weak 1 (weak_aborts own) (omega arith) h.weak
+    (each_chosen (IsTaken variables m) (λ t. is_weak t.kind) own taken)))
     (all_ended_goes variables flags.counter h.counter))
     (weak_checks_go variables 2 1 true around each (λ there. omega arith))

@@ -6,7 +6,8 @@ use Rattle.sc_values.specs.declared.expression.Expr.TheVariants as expr
 use Rattle.core_charts.specs.declared.region.Transition.{Transition}
 use Rattle.core_charts.specs.declared.region.TransitionKind.TheVariants as kind
 use Rattle.core_charts.specs.declared.region.Region.{Region}
-use Rattle.abort_expansion.specs.Flags.{local, strong_flag_name, weak_flag_name, counter_name, preparation_name, continuation_name, monitor_name, watching_name, first_name}
+use Rattle.abort_expansion.specs.Flags.{local, strong_flag_name, weak_flag_name, counter_name, preparation_name, continuation_name, monitor_name, watching_name}
+use Rattle.abort_expansion.specs.Flags.{first_name}
 use Rattle.abort_expansion.specs.Transitions.{go, is_number, is_raised, put, count_down}
 use Rattle.abort_expansion.specs.Pieces.{RegionPiece}
 use Rattle.abort_expansion.specs.Superstates.{abandoned}
@@ -62,7 +63,8 @@ core_aborts_in_aborts one ten =
 aborts_in_aborts_expanded : (one ten : Expr) → (all_expanded 3 (aborts_in_aborts one ten)).regions ≡ core_aborts_in_aborts one ten
 aborts_in_aborts_expanded one ten = refl
 
-aborts_in_aborts_variables : (one ten : Expr) → (all_expanded 3 (aborts_in_aborts one ten)).variables ≡ local (strong_flag_name 1) ∷ local (strong_flag_name 2) ∷ []
+aborts_in_aborts_variables : (one ten : Expr) → (all_expanded 3 (aborts_in_aborts one ten)).variables
+    ≡ local (strong_flag_name 1) ∷ local (strong_flag_name 2) ∷ []
 aborts_in_aborts_variables one ten = refl
 
 -- the states of the chart are S, U, C and T

@@ -23,9 +23,11 @@ abbrev alone : Bool → List ℕ → List Transition → List Flags → Places �
 alone is_final name own around to begins at =
     record { states = simple is_final name own around to begins ∷ []; variables = []; stands_for = Some at.state ∷ [] }
 
-simple_of : (is_initial is_final : Bool) (name : List ℕ) (regions : List Region) (own : List Transition) (around : List Flags) (to : Places) (place : ℕ) (begins : Bool) (at : Numbers)
+simple_of : (is_initial is_final : Bool) (name : List ℕ) (regions : List Region) (own : List Transition) (around : List Flags) (to : Places) (place : ℕ)
+    (begins : Bool) (at : Numbers)
     → has_regions regions ≡ false
-    → (state_piece (record { name = name; is_initial = is_initial; is_final = is_final; regions = map piece_of_region regions; transitions = own })).made around to place begins at ≡
+    → (state_piece (record { name = name; is_initial = is_initial; is_final = is_final; regions = map piece_of_region regions; transitions = own })).made around
+    to place begins at ≡
     alone is_final name own around to begins at
 simple_of is_initial is_final name [] own around to place begins at none = refl
 simple_of is_initial is_final name (r ∷ regions) own around to place begins at none = absurd cc
@@ -35,7 +37,8 @@ pub simple_made : (s : State) (around : List Flags) (to : Places) (place : ℕ) 
     → (piece_of_state s).made around to place begins at ≡ alone (out-State s).is_final (out-State s).name (out-State s).transitions around to begins at
 simple_made s around to place begins at none =
     ap (λ p. p.made around to place begins at) (fold_out-State RegionPiece StatePiece region_piece state_piece s)
-    ∙ simple_of (out-State s).is_initial (out-State s).is_final (out-State s).name (out-State s).regions (out-State s).transitions around to place begins at none
+    ∙ simple_of (out-State s).is_initial (out-State s).is_final (out-State s).name (out-State s).regions (out-State s).transitions around to place begins at
+    none
 
 as_many : (regions : List Region) → length (map piece_of_region regions) ≡ length regions
 as_many [] = refl
@@ -46,18 +49,22 @@ over name regions own around to place begins at =
     let flags : Flags = flags_of (weak_around around) own at.variable in
     superstate_over name (length regions) own around flags (inside_superstate (map piece_of_region regions) own around flags at) to place begins at
 
-superstate_of : (is_initial is_final : Bool) (name : List ℕ) (regions : List Region) (own : List Transition) (around : List Flags) (to : Places) (place : ℕ) (begins : Bool) (at : Numbers)
+superstate_of : (is_initial is_final : Bool) (name : List ℕ) (regions : List Region) (own : List Transition) (around : List Flags) (to : Places) (place : ℕ)
+    (begins : Bool) (at : Numbers)
     → has_regions regions ≡ true
-    → (state_piece (record { name = name; is_initial = is_initial; is_final = is_final; regions = map piece_of_region regions; transitions = own })).made around to place begins at ≡
+    → (state_piece (record { name = name; is_initial = is_initial; is_final = is_final; regions = map piece_of_region regions; transitions = own })).made around
+    to place begins at ≡
     over name regions own around to place begins at
 superstate_of is_initial is_final name [] own around to place begins at some = absurd cc
 superstate_of is_initial is_final name (r ∷ regions) own around to place begins at some =
     let flags : Flags = flags_of (weak_around around) own at.variable in
-    ap (λ n. superstate_over name n own around flags (inside_superstate (map piece_of_region (r ∷ regions)) own around flags at) to place begins at) (as_many (r ∷ regions))
+    ap (λ n. superstate_over name n own around flags (inside_superstate (map piece_of_region (r ∷ regions)) own around flags at) to place begins at)
+    (as_many (r ∷ regions))
 
 pub superstate_made : (s : State) (around : List Flags) (to : Places) (place : ℕ) (begins : Bool) (at : Numbers)
     → has_regions (out-State s).regions ≡ true
     → (piece_of_state s).made around to place begins at ≡ over (out-State s).name (out-State s).regions (out-State s).transitions around to place begins at
 superstate_made s around to place begins at some =
     ap (λ p. p.made around to place begins at) (fold_out-State RegionPiece StatePiece region_piece state_piece s)
-    ∙ superstate_of (out-State s).is_initial (out-State s).is_final (out-State s).name (out-State s).regions (out-State s).transitions around to place begins at some
+    ∙ superstate_of (out-State s).is_initial (out-State s).is_final (out-State s).name (out-State s).regions (out-State s).transitions around to place begins at
+    some

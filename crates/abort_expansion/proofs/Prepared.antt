@@ -26,7 +26,8 @@ use Rattle.abort_expansion.proofs.Added.{Located, located_first, flags_there}
 use Rattle.abort_expansion.proofs.Shapes.{IsNamed, preparation_named, fork_named, continuation_named}
 use Rattle.abort_expansion.proofs.Joined.{HasShape, IsScene, initial_in}
 use Rattle.abort_expansion.proofs.Inner.{inside_of}
-use Rattle.abort_expansion.proofs.Splitting.{IsSuperstate, sized, mine, taken_all, forked_shape, forked_keeps, preparation_added, preparation_not_continuation, apart_two}
+use Rattle.abort_expansion.proofs.Splitting.{IsSuperstate, sized, mine, taken_all, forked_shape, forked_keeps, preparation_added, preparation_not_continuation}
+use Rattle.abort_expansion.proofs.Splitting.{apart_two}
 
 first_begins : (a c : Bool) (n : ℕ) → a ≡ c → n ≡ 0 → cond a (1 + n) n ≡ one c
 first_begins true true n is none = omega (arith, none)
@@ -34,10 +35,12 @@ first_begins true false n is none = absurd cc
 first_begins false true n is none = absurd cc
 first_begins false false n is none = none
 
-prepared_shape : (declared variables : List Variable) (levels m high : ℕ) (name : List ℕ) (regions : List Region) (own : List Transition) (around : List Flags) (to : Places) (place : ℕ) (begins : Bool) (at : Numbers)
+prepared_shape : (declared variables : List Variable) (levels m high : ℕ) (name : List ℕ) (regions : List Region) (own : List Transition) (around : List Flags)
+    (to : Places) (place : ℕ) (begins : Bool) (at : Numbers)
     → IsSuperstate declared variables levels m name regions own → high ≡ suc at.superstate + superstates_in (map piece_of_region regions) → high ≤ 2 ^ 64
     → HasShape (name ∷ []) at.superstate high 3 (one begins) (sized regions own around)
-    (beside (prepared (length regions) own (mine own around at) to place begins at) (forked name own around (mine own around at) (inside_of regions own around at) to (suc place) false at))
+    (beside (prepared (length regions) own (mine own around at) to place begins at)
+    (forked name own around (mine own around at) (inside_of regions own around at) to (suc place) false at))
 prepared_shape declared variables levels m high name regions own around to place begins at h is small =
     let s : ℕ = at.superstate in
     let flags : Flags = mine own around at in
@@ -48,7 +51,8 @@ prepared_shape declared variables levels m high name regions own around to place
     let middle : State = fork name false (inside.regions ++ watched (has_aborts own) (monitor s around flags own)) (suc (suc place)) in
     let last : State = continuation s around flags to own in
     let named : IsNamed (preparation_name s) begins first = preparation_named s flags (length regions) own to (suc place) begins in
-    let forking : IsNamed name false middle = fork_named name false (inside.regions ++ watched (has_aborts own) (monitor s around flags own)) (suc (suc place)) in
+    let forking : IsNamed name false middle = fork_named name false (inside.regions ++ watched (has_aborts own) (monitor s around flags own))
+    (suc (suc place)) in
     let ending : IsNamed (continuation_name s) false last = continuation_named s around flags to own in
     record {
       wide = refl;
@@ -56,8 +60,13 @@ prepared_shape declared variables levels m high name regions own around to place
       called = (inr (preparation_added s high (out-State first).name named.name_is (omega (arith, is))), rest.called);
       apart = (
         (
-          apart_two (out-State first).name (out-State middle).name (preparation_name s) name named.name_is forking.name_is (λ same. text_has_no_bar name (101 ∷ decimal s) h.text (sym same)),
-          (apart_two (out-State first).name (out-State last).name (preparation_name s) (continuation_name s) named.name_is ending.name_is (preparation_not_continuation s), tt),
+          apart_two (out-State first).name (out-State middle).name (preparation_name s) name named.name_is forking.name_is
+              (λ same. text_has_no_bar name (101 ∷ decimal s) h.text (sym same)),
+          (
+            apart_two (out-State first).name (out-State last).name (preparation_name s) (continuation_name s) named.name_is ending.name_is
+                (preparation_not_continuation s),
+            tt,
+          ),
         ),
         rest.apart,
       );
@@ -65,11 +74,13 @@ prepared_shape declared variables levels m high name regions own around to place
     }
 
 -- how many states it becomes, by whether it is prepared
-pub split_shape : (prepare : Bool) (declared variables : List Variable) (levels m high : ℕ) (name : List ℕ) (regions : List Region) (own : List Transition) (around : List Flags) (to : Places) (place : ℕ) (begins : Bool) (at : Numbers)
+pub split_shape : (prepare : Bool) (declared variables : List Variable) (levels m high : ℕ) (name : List ℕ) (regions : List Region) (own : List Transition)
+    (around : List Flags) (to : Places) (place : ℕ) (begins : Bool) (at : Numbers)
     → IsSuperstate declared variables levels m name regions own → high ≡ suc at.superstate + superstates_in (map piece_of_region regions) → high ≤ 2 ^ 64
     → HasShape (name ∷ []) at.superstate high (if prepare then 3 else 2) (one begins) (sized regions own around)
     (if prepare
-    then beside (prepared (length regions) own (mine own around at) to place begins at) (forked name own around (mine own around at) (inside_of regions own around at) to (suc place) false at)
+    then beside (prepared (length regions) own (mine own around at) to place begins at)
+    (forked name own around (mine own around at) (inside_of regions own around at) to (suc place) false at)
     else forked name own around (mine own around at) (inside_of regions own around at) to place begins at)
 split_shape true declared variables levels m high name regions own around to place begins at h is small =
     prepared_shape declared variables levels m high name regions own around to place begins at h is small
@@ -81,19 +92,22 @@ AreLocated variables regions own around at =
     Located variables at.variable (declarations at.superstate (mine own around at) ++ (inside_of regions own around at).variables)
 
 -- a split superstate needs the same variables, prepared or not
-pub split_keeps : (prepare : Bool) (declared variables : List Variable) (levels m n : ℕ) (name : List ℕ) (regions : List Region) (own : List Transition) (around : List Flags) (to : Places) (place : ℕ) (begins : Bool) (at : Numbers)
+pub split_keeps : (prepare : Bool) (declared variables : List Variable) (levels m n : ℕ) (name : List ℕ) (regions : List Region) (own : List Transition)
+    (around : List Flags) (to : Places) (place : ℕ) (begins : Bool) (at : Numbers)
     → IsSuperstate declared variables levels m name regions own → has_regions regions ≡ true
     → suc at.superstate + superstates_in (map piece_of_region regions) ≤ 2 ^ 64
     → IsScene variables m n around to → place + (if prepare then 3 else 2) ≤ n → AreLocated variables regions own around at
     → Each (IsState features.Core variables (AreRegions features.Core variables (suc levels)) n)
     (if prepare
-    then beside (prepared (length regions) own (mine own around at) to place begins at) (forked name own around (mine own around at) (inside_of regions own around at) to (suc place) false at)
+    then beside (prepared (length regions) own (mine own around at) to place begins at)
+    (forked name own around (mine own around at) (inside_of regions own around at) to (suc place) false at)
     else forked name own around (mine own around at) (inside_of regions own around at) to place begins at).states
 split_keeps true declared variables levels m n name regions own around to place begins at h some small scene within located =
     let s : ℕ = at.superstate in
     let flags : Flags = mine own around at in
     let here : AreFlags variables flags =
-    flags_there variables (weak_around around) own s at.variable (located_first variables at.variable (declarations s flags) (inside_of regions own around at).variables located) in (
+    flags_there variables (weak_around around) own s at.variable
+    (located_first variables at.variable (declarations s flags) (inside_of regions own around at).variables located) in (
       preparation_keeps variables (suc levels) m n s flags (length regions) own to (suc place) begins (added_is_named (101 ∷ decimal s)) here scene.places
           (taken_all declared variables m true own h.taken) (omega (arith, within)),
       forked_keeps declared variables levels m n name regions own around to (suc place) false at h some small scene (omega (arith, within)) located,

@@ -1,5 +1,6 @@
 -- A region whose states keep the rules becomes a region that keeps those of core charts.
-use Rattle.std.proofs.Common.{◌≡◌, ◌≢◌, ℕ, ◌+◌, ◌<◌, ◌≤◌, inl, inr, Bool, true, false, cond, Option, None, List, [], ◌∷◌, ◌++◌, length, refl, ap, sym, subst, ◌∙◌, arith}
+use Rattle.std.proofs.Common.{◌≡◌, ◌≢◌, ℕ, ◌+◌, ◌<◌, ◌≤◌, inl, inr, Bool, true, false, cond, Option, None, List, [], ◌∷◌, ◌++◌, length, refl, ap, sym, subst}
+use Rattle.std.proofs.Common.{◌∙◌, arith}
 use Rattle.std.proofs.lemmas.List.{map-append, append-nil}
 use Rattle.sc_graph.specs.declared.program.Variable.{Variable}
 use Rattle.core_charts.specs.declared.features.Features.TheVariants as features
@@ -20,7 +21,8 @@ use Rattle.abort_expansion.proofs.Shapes.{IsNamed, rolled_named}
 use Rattle.abort_expansion.proofs.Joined.{names_of, initial_in}
 
 -- names of states are none of those by a letter behind those that expansion numbers
-pub called_not_plain : (texts : List (List ℕ)) (low high letter : ℕ) (name : List ℕ) → 105 ≤ letter → Each IsText texts → IsCalled texts 105 low high name → name ≢ 95 ∷ letter ∷ []
+pub called_not_plain : (texts : List (List ℕ)) (low high letter : ℕ) (name : List ℕ) → 105 ≤ letter → Each IsText texts → IsCalled texts 105 low high name
+    → name ≢ 95 ∷ letter ∷ []
 called_not_plain texts low high letter name large h (inl text) = text_has_no_bar name (letter ∷ []) (at_in IsText texts name h text)
 called_not_plain texts low high letter name large h (inr added) =
     λ same. let letters : added.letter ≡ letter = ap letter_of (sym added.is ∙ same) in absurd (omega (arith, letters, added.below, large))
@@ -33,7 +35,8 @@ abandoned_named = rolled_named abandoned_name false true [] []
 pub left_names : names_of (abandoned ∷ []) ≡ abandoned_name ∷ []
 left_names = ap (λ name. name ∷ []) abandoned_named.name_is
 
-pub with_left : (b : Bool) (texts : List (List ℕ)) (low high : ℕ) (made : States) → Each IsText texts → Each (IsCalled texts 105 low high) (names_of made.states)
+pub with_left : (b : Bool) (texts : List (List ℕ)) (low high : ℕ) (made : States) → Each IsText texts
+    → Each (IsCalled texts 105 low high) (names_of made.states)
     → Apart (names_of made.states) → Apart (names_of (beside made (left_behind b)).states)
 with_left true texts low high made h called apart =
     let all : names_of made.states ++ abandoned_name ∷ [] ≡ names_of (made.states ++ abandoned ∷ []) =
@@ -52,13 +55,15 @@ pub left_count : (b : Bool) → initial_in (left_behind b).states ≡ 0
 left_count true = not_begun (out-State abandoned).is_initial abandoned_named.begins_is
 left_count false = refl
 
-pub left_keeps : (variables : List Variable) (levels n : ℕ) (b : Bool) → Each (IsState features.Core variables (AreRegions features.Core variables levels) n) (left_behind b).states
+pub left_keeps : (variables : List Variable) (levels n : ℕ) (b : Bool) → Each (IsState features.Core variables (AreRegions features.Core variables levels) n)
+    (left_behind b).states
 left_keeps variables levels n true = (ended_in variables levels n abandoned_name false (added_is_named (108 ∷ [])), tt)
 left_keeps variables levels n false = tt
 
 -- ---- the new initial state
 
-pub first_keeps : (variables : List Variable) (levels n : ℕ) (b : Bool) (counter : Option ℕ) (target number : ℕ) → IsFlagIfAny variables counter → (b ≡ true → target < n)
+pub first_keeps : (variables : List Variable) (levels n : ℕ) (b : Bool) (counter : Option ℕ) (target number : ℕ) → IsFlagIfAny variables counter
+    → (b ≡ true → target < n)
     → Each (IsState features.Core variables (AreRegions features.Core variables levels) n) (new_initial b counter target number).states
 first_keeps variables levels n true counter target number h within = (
   left_by variables levels n first_name true (go true None (on counter count_down) target ∷ []) (added_is_named (105 ∷ []))

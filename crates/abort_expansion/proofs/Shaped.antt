@@ -1,5 +1,6 @@
 -- A region whose states keep the rules becomes a region that keeps those of core charts.
-use Rattle.std.proofs.Common.{◌≡◌, ◌≢◌, ℕ, ◌+◌, ◌<◌, ◌≤◌, ◌^◌, Bool, true, false, cond, Option, Some, None, List, [], ◌∷◌, ◌++◌, map, length, refl, ap, sym, subst, ◌∙◌, arith}
+use Rattle.std.proofs.Common.{◌≡◌, ◌≢◌, ℕ, ◌+◌, ◌<◌, ◌≤◌, ◌^◌, Bool, true, false, cond, Option, Some, None, List, [], ◌∷◌, ◌++◌, map, length, refl, ap, sym}
+use Rattle.std.proofs.Common.{subst, ◌∙◌, arith}
 use Rattle.std.proofs.lemmas.List.{length-append, map-append, append-nil}
 use Rattle.sc_graph.specs.declared.program.Variable.{Variable}
 use Rattle.core_charts.specs.declared.features.Features.TheVariants as features
@@ -15,7 +16,8 @@ use Rattle.abort_expansion.specs.Flags.{one, first_name, abandoned_name, aborts_
 use Rattle.abort_expansion.specs.Transitions.{go, on, count_down}
 use Rattle.abort_expansion.specs.Pieces.{StatePiece, beside}
 use Rattle.abort_expansion.specs.Superstates.{abandoned}
-use Rattle.abort_expansion.specs.Expansion.{piece_of_state, region_piece, region_over, region_places, begins_anew, initial_place, initial_number, new_initial, left_behind, expanded_states, widths, superstates_among, variables_among}
+use Rattle.abort_expansion.specs.Expansion.{piece_of_state, region_piece, region_over, region_places, begins_anew, initial_place, initial_number, new_initial}
+use Rattle.abort_expansion.specs.Expansion.{left_behind, expanded_states, widths, superstates_among, variables_among}
 use Rattle.abort_expansion.proofs.Lists.{count, count_append, count_is}
 use Rattle.abort_expansion.proofs.Taken.{IsFlagIfAny, AreFlags}
 use Rattle.abort_expansion.proofs.Apart.{Unlike, Apart, IsCalled, IsText, text_is_named, letter_of}
@@ -41,7 +43,8 @@ initial_counted : (anew : Bool) (states : List State) → initial_in states ≡ 
 initial_counted true states h = omega (arith, initial_no_more states)
 initial_counted false states h = omega (arith, initial_still states, h)
 
-anew_within : (variables : List Variable) (levels m : ℕ) (states : List State) (around : List Flags) (counter : Option ℕ) (begin : ℕ) → AllKeep variables levels m states
+anew_within : (variables : List Variable) (levels m : ℕ) (states : List State) (around : List Flags) (counter : Option ℕ) (begin : ℕ)
+    → AllKeep variables levels m states
     → begins_anew counter (pieces_of states) ≡ true → initial_place (pieces_of states) around begin < begin + widths (pieces_of states) around
 anew_within variables levels m states around (Some x) begin h is = initial_within variables levels m states around begin h is
 anew_within variables levels m states around None begin h is = absurd cc
@@ -58,19 +61,24 @@ inner_shape : (variables : List Variable) (levels : ℕ) (states : List State) (
     → HasShape (names_of states) at.superstate (at.superstate + superstates_among (pieces_of states)) (widths (pieces_of states) around)
     (initial_of anew (pieces_of states)) (variables_among (weak_around around) (pieces_of states)) (inner_states anew states around counter at)
 inner_shape variables levels states anew around counter at h small =
-    states_shape variables levels (length states) states anew around (region_places (pieces_of states) around counter (one anew)) (one anew) at h.keep h.texts h.apart small
+    states_shape variables levels (length states) states anew around (region_places (pieces_of states) around counter (one anew))
+    (one anew) at h.keep h.texts h.apart small
 
 region_added : (variables : List Variable) (levels : ℕ) (states : List State) (anew : Bool) (around : List Flags) (counter : Option ℕ) (at : Numbers)
     → AreStates variables levels states → at.superstate + superstates_among (pieces_of states) ≤ 2 ^ 64
-    → AreAdded at.superstate (at.superstate + superstates_among (pieces_of states)) (variables_among (weak_around around) (pieces_of states)) (whole_region anew states around counter at).variables
+    → AreAdded at.superstate (at.superstate + superstates_among (pieces_of states)) (variables_among (weak_around around) (pieces_of states))
+    (whole_region anew states around counter at).variables
 region_added variables levels states anew around counter at h small =
-    subst (λ those. AreAdded at.superstate (at.superstate + superstates_among (pieces_of states)) (variables_among (weak_around around) (pieces_of states)) those)
-    (same_variables anew (aborts_around around) counter (initial_place (pieces_of states) around (one anew)) (initial_number (pieces_of states) at.state) (inner_states anew states around counter at))
+    subst (λ those. AreAdded at.superstate (at.superstate + superstates_among (pieces_of states)) (variables_among (weak_around around) (pieces_of states))
+    those)
+    (same_variables anew (aborts_around around) counter (initial_place (pieces_of states) around (one anew)) (initial_number (pieces_of states) at.state)
+    (inner_states anew states around counter at))
     (inner_shape variables levels states anew around counter at h small).added
 
 -- ---- names and the initial state
 
-first_named : (all : List Transition) → IsNamed first_name true (roll-State (record { name = first_name; is_initial = true; is_final = false; regions = []; transitions = all }))
+first_named : (all : List Transition)
+    → IsNamed first_name true (roll-State (record { name = first_name; is_initial = true; is_final = false; regions = []; transitions = all }))
 first_named all = rolled_named first_name true false [] all
 
 counted_once : (b : Bool) → b ≡ true → cond b (1 + 0) 0 ≡ 1
@@ -87,7 +95,8 @@ first_count false counter target number = refl
 first_not_abandoned : first_name ≢ abandoned_name
 first_not_abandoned same = let letters : 105 ≡ 108 = ap letter_of same in absurd (omega (arith, letters))
 
-unlike_rest : (left : Bool) (texts : List (List ℕ)) (low high : ℕ) (made : States) → Each IsText texts → Each (IsCalled texts 105 low high) (names_of made.states)
+unlike_rest : (left : Bool) (texts : List (List ℕ)) (low high : ℕ) (made : States) → Each IsText texts
+    → Each (IsCalled texts 105 low high) (names_of made.states)
     → Unlike (names_of (beside made (left_behind left)).states) first_name
 unlike_rest true texts low high made h called =
     let all : names_of made.states ++ abandoned_name ∷ [] ≡ names_of (made.states ++ abandoned ∷ []) =
@@ -109,11 +118,13 @@ with_first false counter target number rest unlike apart = apart
 
 -- ---- the region
 
-region_is_kept : (variables : List Variable) (levels : ℕ) (name : List ℕ) (states : List State) (anew : Bool) (around : List Flags) (counter : Option ℕ) (at : Numbers)
+region_is_kept : (variables : List Variable) (levels : ℕ) (name : List ℕ) (states : List State) (anew : Bool) (around : List Flags) (counter : Option ℕ)
+    (at : Numbers)
     → begins_anew counter (pieces_of states) ≡ anew → IsText name → AreStates variables levels states
     → at.superstate + superstates_among (pieces_of states) ≤ 2 ^ 64 → Each (AreFlags variables) around → IsFlagIfAny variables counter
     → Located variables at.variable (whole_region anew states around counter at).variables
-    → IsRegion features.Core variables (AreRegions features.Core variables levels) (roll-Region (record { name = name; states = (whole_region anew states around counter at).states }))
+    → IsRegion features.Core variables (AreRegions features.Core variables levels)
+    (roll-Region (record { name = name; states = (whole_region anew states around counter at).states }))
 region_is_kept variables levels name states anew around counter at is_anew text h small flags counted located =
     let left : Bool = aborts_around around in
     let target : ℕ = initial_place (pieces_of states) around (one anew) in
@@ -126,7 +137,14 @@ region_is_kept variables levels name states anew around counter at is_anew text 
     (initial_of anew (pieces_of states)) (variables_among (weak_around around) (pieces_of states)) made =
     inner_shape variables levels states anew around counter at h small in
     let size : length all ≡ one anew + widths (pieces_of states) around + one left =
-    omega (arith, length-append first.states rest.states, length-append made.states (left_behind left).states, first_size anew counter target number, left_size left, shape.wide) in
+    omega (
+      arith,
+      length-append first.states rest.states,
+      length-append made.states (left_behind left).states,
+      first_size anew counter target number,
+      left_size left,
+      shape.wide,
+    ) in
     let scene : IsScene variables (length states) (length all) around (region_places (pieces_of states) around counter (one anew)) =
     region_scene variables levels (length states) (length all) states around counter (one anew) h.keep refl flags counted size in
     let begun : count (λ s. (out-State s).is_initial) all ≡ 1 =
@@ -148,7 +166,8 @@ region_is_kept variables levels name states anew around counter at is_anew text 
     (first_keeps variables levels (length all) anew counter target number counted
     (λ is. omega (arith, anew_within variables levels (length states) states around counter (one anew) h.keep (is_anew ∙ is), size)))
     (each_append (IsState features.Core variables (AreRegions features.Core variables levels) (length all)) made.states (left_behind left).states
-    (states_keep variables levels (length states) (length all) states anew around (region_places (pieces_of states) around counter (one anew)) (one anew) at h.keep small scene (omega (arith, size))
+    (states_keep variables levels (length states) (length all) states anew around (region_places (pieces_of states) around counter (one anew))
+    (one anew) at h.keep small scene (omega (arith, size))
     (subst (Located variables at.variable) (sym (same_variables anew left counter target number made)) located))
     (left_keeps variables levels (length all) left)))
 
@@ -156,7 +175,8 @@ pub region_piece_keeps : (variables : List Variable) (levels : ℕ) (name : List
     → RegionKeeps variables levels name (region_piece (record { name = name; states = pieces_of states }))
 region_piece_keeps variables levels name states text h = record {
   named = λ around counter at.
-      ap (λ z. z.name ∷ []) (out-roll-Region (record { name = name; states = (whole_region (begins_anew counter (pieces_of states)) states around counter at).states }));
+      ap (λ z. z.name ∷ [])
+      (out-roll-Region (record { name = name; states = (whole_region (begins_anew counter (pieces_of states)) states around counter at).states }));
   added = λ around counter at small. region_added variables levels states (begins_anew counter (pieces_of states)) around counter at h small;
   keeps = λ around counter at small flags counted located.
       (region_is_kept variables levels name states (begins_anew counter (pieces_of states)) around counter at refl text h small flags counted located, tt);

@@ -1,6 +1,7 @@
 -- A superstate becomes states that keep the rules of core charts.
 use Rattle.std.specs.Prelude.{decimal}
-use Rattle.std.proofs.Common.{◌≡◌, ◌≢◌, ℕ, suc, ◌+◌, ◌<◌, ◌≤◌, ◌^◌, inl, inr, Bool, true, false, cond, ◌||◌, None, List, [], ◌∷◌, ◌++◌, map, length, count_by, refl, ap, sym, subst, ◌∙◌, arith}
+use Rattle.std.proofs.Common.{◌≡◌, ◌≢◌, ℕ, suc, ◌+◌, ◌<◌, ◌≤◌, ◌^◌, inl, inr, Bool, true, false, cond, ◌||◌, None, List, [], ◌∷◌, ◌++◌, map, length, count_by}
+use Rattle.std.proofs.Common.{refl, ap, sym, subst, ◌∙◌, arith}
 use Rattle.std.proofs.lemmas.List.{length-append, map-append, append-nil}
 use Rattle.sc_graph.specs.declared.program.Variable.{Variable}
 use Rattle.core_charts.specs.declared.features.Features.TheVariants as features
@@ -41,7 +42,8 @@ pub record IsSuperstate (declared variables : List Variable) (levels m : ℕ) (n
   pub taken : Each (InText declared variables m true) own
   pub joins : count_by (λ t. is_join t.kind) own ≤ 1
 
-pub taken_all : (declared variables : List Variable) (m : ℕ) (super : Bool) (own : List Transition) → Each (InText declared variables m super) own → Each (IsTaken variables m) own
+pub taken_all : (declared variables : List Variable) (m : ℕ) (super : Bool) (own : List Transition) → Each (InText declared variables m super) own
+    → Each (IsTaken variables m) own
 taken_all declared variables m super own h = each_more (InText declared variables m super) (IsTaken variables m) own (λ t g. g.taken) h
 
 -- ---- the regions of a fork
@@ -133,9 +135,11 @@ sized regions own around =
 abbrev pub mine : List Transition → List Flags → Numbers → Flags
 mine own around at = flags_of (weak_around around) own at.variable
 
-pub forked_shape : (declared variables : List Variable) (levels m high : ℕ) (name : List ℕ) (regions : List Region) (own : List Transition) (around : List Flags) (to : Places) (place : ℕ) (begins : Bool) (at : Numbers)
+pub forked_shape : (declared variables : List Variable) (levels m high : ℕ) (name : List ℕ) (regions : List Region) (own : List Transition)
+    (around : List Flags) (to : Places) (place : ℕ) (begins : Bool) (at : Numbers)
     → IsSuperstate declared variables levels m name regions own → high ≡ suc at.superstate + superstates_in (map piece_of_region regions) → high ≤ 2 ^ 64
-    → HasShape (name ∷ []) at.superstate high 2 (one begins) (sized regions own around) (forked name own around (mine own around at) (inside_of regions own around at) to place begins at)
+    → HasShape (name ∷ []) at.superstate high 2 (one begins) (sized regions own around)
+    (forked name own around (mine own around at) (inside_of regions own around at) to place begins at)
 forked_shape declared variables levels m high name regions own around to place begins at h is small =
     let s : ℕ = at.superstate in
     let flags : Flags = mine own around at in
@@ -148,23 +152,35 @@ forked_shape declared variables levels m high name regions own around to place b
       wide = refl;
       begins = two_begin (out-State first).is_initial (out-State last).is_initial begins named.begins_is ending.begins_is;
       called = (inl (inl named.name_is), (inr (continuation_added s high (out-State last).name ending.name_is (omega (arith, is))), tt));
-      apart = ((apart_two (out-State first).name (out-State last).name name (continuation_name s) named.name_is ending.name_is (text_has_no_bar name (98 ∷ decimal s) h.text), tt), (tt, tt));
-      added = subst (λ n. AreAdded s n (sized regions own around) (declarations s flags ++ inside.variables)) (sym is) (all_added variables levels regions own around at h.inner (omega (arith, is, small)));
+      apart = (
+        (
+          apart_two (out-State first).name (out-State last).name name (continuation_name s) named.name_is ending.name_is
+              (text_has_no_bar name (98 ∷ decimal s) h.text),
+          tt,
+        ),
+        (tt, tt),
+      );
+      added = subst (λ n. AreAdded s n (sized regions own around) (declarations s flags ++ inside.variables)) (sym is)
+          (all_added variables levels regions own around at h.inner (omega (arith, is, small)));
     }
 
-pub forked_keeps : (declared variables : List Variable) (levels m n : ℕ) (name : List ℕ) (regions : List Region) (own : List Transition) (around : List Flags) (to : Places) (place : ℕ) (begins : Bool) (at : Numbers)
+pub forked_keeps : (declared variables : List Variable) (levels m n : ℕ) (name : List ℕ) (regions : List Region) (own : List Transition) (around : List Flags)
+    (to : Places) (place : ℕ) (begins : Bool) (at : Numbers)
     → IsSuperstate declared variables levels m name regions own → has_regions regions ≡ true
     → suc at.superstate + superstates_in (map piece_of_region regions) ≤ 2 ^ 64
     → IsScene variables m n around to → place + 2 ≤ n
     → Located variables at.variable (declarations at.superstate (mine own around at) ++ (inside_of regions own around at).variables)
-    → Each (IsState features.Core variables (AreRegions features.Core variables (suc levels)) n) (forked name own around (mine own around at) (inside_of regions own around at) to place begins at).states
+    → Each (IsState features.Core variables (AreRegions features.Core variables (suc levels)) n)
+    (forked name own around (mine own around at) (inside_of regions own around at) to place begins at).states
 forked_keeps declared variables levels m n name regions own around to place begins at h some small scene within located =
     let s : ℕ = at.superstate in
     let flags : Flags = mine own around at in
     let inside : Regions = inside_of regions own around at in
-    let here : AreFlags variables flags = flags_there variables (weak_around around) own s at.variable (located_first variables at.variable (declarations s flags) inside.variables located) in
+    let here : AreFlags variables flags = flags_there variables (weak_around around) own s at.variable
+    (located_first variables at.variable (declarations s flags) inside.variables located) in
     let there : Located variables (at.variable + flag_count (weak_around around) own) inside.variables =
-    located_later variables at.variable (flag_count (weak_around around) own) (at.variable + flag_count (weak_around around) own) (declarations s flags) inside.variables
+    located_later variables at.variable (flag_count (weak_around around) own) (at.variable + flag_count (weak_around around) own)
+    (declarations s flags) inside.variables
     (declarations_added (weak_around around) own s at.variable).many refl located in
     let taken : Each (IsTaken variables m) own = taken_all declared variables m true own h.taken in
     let names : region_names inside.regions ≡ region_names regions = inside_named variables levels regions own around at h.inner in
@@ -178,6 +194,10 @@ forked_keeps declared variables levels m n name regions own around to place begi
     (watched_keep variables levels (has_aborts own) inside.regions watching
     (inside_keeps variables levels regions own around at h.inner small scene.flags here there)
     (monitor_keeps variables levels m s around flags own scene.flags here taken)) in (
-      fork_keeps variables levels n name begins all (suc place) h.text sides (has_more inside.regions (watched (has_aborts own) watching) (still_some regions inside.regions names some)) (omega (arith, within)),
-      (continuation_keeps variables (suc levels) m n s around flags to own (added_is_named (98 ∷ decimal s)) scene.flags scene.left here scene.places taken, tt),
+      fork_keeps variables levels n name begins all (suc place) h.text sides
+          (has_more inside.regions (watched (has_aborts own) watching) (still_some regions inside.regions names some)) (omega (arith, within)),
+      (
+        continuation_keeps variables (suc levels) m n s around flags to own (added_is_named (98 ∷ decimal s)) scene.flags scene.left here scene.places taken,
+        tt,
+      ),
     )

@@ -36,19 +36,26 @@ counts_none true false weak h k = k
 counts_none false aborts weak h k = refl
 
 -- it is given no variables
-pub no_flags : (variables : List Variable) (weak : Bool) (own : List Transition) (x : ℕ) → has_aborts own ≡ false → weak ≡ false → AreFlags variables (flags_of weak own x)
+pub no_flags : (variables : List Variable) (weak : Bool) (own : List Transition) (x : ℕ) → has_aborts own ≡ false → weak ≡ false
+    → AreFlags variables (flags_of weak own x)
 no_flags variables weak own x none outside =
     let both : (has_strong own ≡ false) × (has_weak own ≡ false) = or_parts (has_strong own) (has_weak own) none in
     record {
       strong = none_given variables (has_strong own) x both.0;
       weak = none_given variables (has_weak own) (x + one (has_strong own)) both.1;
-      counter = none_given variables (counts weak own) (x + one (has_strong own) + one (has_weak own)) (counts_none (has_join own) (has_aborts own) weak none outside);
+      counter = none_given variables (counts weak own) (x + one (has_strong own) + one (has_weak own))
+          (counts_none (has_join own) (has_aborts own) weak none outside);
     }
 
 pub no_flag_count : (weak : Bool) (own : List Transition) → has_aborts own ≡ false → weak ≡ false → flag_count weak own ≡ 0
 no_flag_count weak own none outside =
     let both : (has_strong own ≡ false) × (has_weak own ≡ false) = or_parts (has_strong own) (has_weak own) none in
-    omega (arith, one_none (has_strong own) both.0, one_none (has_weak own) both.1, one_none (counts weak own) (counts_none (has_join own) (has_aborts own) weak none outside))
+    omega (
+      arith,
+      one_none (has_strong own) both.0,
+      one_none (has_weak own) both.1,
+      one_none (counts weak own) (counts_none (has_join own) (has_aborts own) weak none outside),
+    )
 
 -- ---- its transitions are terminations
 

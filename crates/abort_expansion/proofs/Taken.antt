@@ -1,5 +1,6 @@
 -- The transitions that expansion makes keep the rules of core charts.
-use Rattle.std.proofs.Common.{◌≡◌, ◌≢◌, ℕ, zero, suc, ◌<◌, Bool, true, false, ◌||◌, IsTrue, if◌then◌else◌, Option, Some, None, List, [], ◌∷◌, ◌++◌, map, slice_get, unwrap_or, refl, ap, subst}
+use Rattle.std.proofs.Common.{◌≡◌, ◌≢◌, ℕ, zero, suc, ◌<◌, Bool, true, false, ◌||◌, IsTrue, if◌then◌else◌, Option, Some, None, List, [], ◌∷◌, ◌++◌, map}
+use Rattle.std.proofs.Common.{slice_get, unwrap_or, refl, ap, subst}
 use Rattle.sc_values.specs.declared.value.Kind.TheVariants as of_kind
 use Rattle.sc_values.specs.declared.operator.BinaryOperator.TheVariants as operator
 use Rattle.sc_values.specs.declared.expression.Expr.{Expr}
@@ -15,7 +16,8 @@ use Rattle.sc_text.proofs.EachItem.{Each, each_append, each_at}
 use Rattle.abort_expansion.specs.declared.flags.Flags.{Flags}
 use Rattle.abort_expansion.specs.declared.places.Places.{Places}
 use Rattle.abort_expansion.specs.Flags.{local, is_there, aborts_around}
-use Rattle.abort_expansion.specs.Transitions.{is_number, is_raised, number, put, count_down, on, go, check, strong_checks, weak_checks, counting, place_of, led_by, answers, raising}
+use Rattle.abort_expansion.specs.Transitions.{is_number, is_raised, number, put, count_down, on, go, check, strong_checks, weak_checks, counting, place_of}
+use Rattle.abort_expansion.specs.Transitions.{led_by, answers, raising}
 use Rattle.abort_expansion.proofs.Expressions.{beside_number, number_is_expression}
 
 -- a flag or a counter among the variables

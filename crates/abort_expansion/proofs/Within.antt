@@ -1,5 +1,6 @@
 -- Where the states of a region are behind expansion: each is within it, and exactly one is initial.
-use Rattle.std.proofs.Common.{◌≡◌, ℕ, zero, suc, ◌+◌, ◌<◌, ◌≤◌, Bool, true, false, cond, ◌||◌, ◌&&◌, IsTrue, if◌then◌else◌, Option, List, [], ◌∷◌, map, length, slice_get, unwrap_or, refl, ap, arith}
+use Rattle.std.proofs.Common.{◌≡◌, ℕ, zero, suc, ◌+◌, ◌<◌, ◌≤◌, Bool, true, false, cond, ◌||◌, ◌&&◌, IsTrue, if◌then◌else◌, Option, List, [], ◌∷◌, map, length}
+use Rattle.std.proofs.Common.{slice_get, unwrap_or, refl, ap, arith}
 use Rattle.std.specs.List.{list_any}
 use Rattle.sc_graph.specs.declared.program.Variable.{Variable}
 use Rattle.core_charts.specs.declared.region.State.{State}
@@ -14,7 +15,8 @@ use Rattle.abort_expansion.proofs.Taken.{IsFlagIfAny, AreFlags}
 use Rattle.abort_expansion.proofs.Joined.{AllKeep, IsScene, initial_of, initial_in}
 
 place_within : (variables : List Variable) (levels m : ℕ) (states : List State) (around : List Flags) (begin target : ℕ) → AllKeep variables levels m states
-    → target < length states → unwrap_or (slice_get (places (map piece_of_state states) around begin) target) 0 < begin + widths (map piece_of_state states) around
+    → target < length states → unwrap_or (slice_get (places (map piece_of_state states) around begin) target) 0 < begin + widths
+    (map piece_of_state states) around
 place_within variables levels m [] around begin target h below = absurd (omega (arith, below))
 place_within variables levels m (s ∷ states) around begin zero h below = omega (arith, h.0.least around)
 place_within variables levels m (s ∷ states) around begin (suc target) h below =
@@ -73,7 +75,8 @@ still_one false false m n is same = omega (arith, same)
 pub initial_still : (states : List State) → initial_of false (map piece_of_state states) ≡ initial_in states
 initial_still [] = refl
 initial_still (s ∷ states) =
-    still_one (piece_of_state s).is_initial (out-State s).is_initial (initial_of false (map piece_of_state states)) (initial_in states) (same_initial s) (initial_still states)
+    still_one (piece_of_state s).is_initial (out-State s).is_initial (initial_of false (map piece_of_state states)) (initial_in states) (same_initial s)
+    (initial_still states)
 
 and_never : (b : Bool) → one (b && false) ≡ 0
 and_never true = refl

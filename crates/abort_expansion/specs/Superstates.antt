@@ -12,7 +12,8 @@ use Rattle.abort_expansion.specs.declared.places.Places.{Places}
 use Rattle.abort_expansion.specs.declared.pieces.States.{States}
 use Rattle.abort_expansion.specs.declared.pieces.Regions.{Regions}
 use Rattle.abort_expansion.specs.declared.pieces.Numbers.{Numbers}
-use Rattle.abort_expansion.specs.Flags.{preparation_name, continuation_name, monitor_name, watching_name, abandoned_name, counts, flag_count, declarations, aborts_around, weak_around}
+use Rattle.abort_expansion.specs.Flags.{preparation_name, continuation_name, monitor_name, watching_name, abandoned_name, counts, flag_count, declarations}
+use Rattle.abort_expansion.specs.Flags.{aborts_around, weak_around}
 use Rattle.abort_expansion.specs.Transitions.{is_number, put, on, go, strong_checks, weak_checks, led, led_by, answers, raising}
 use Rattle.core_charts.specs.declared.region.Effect.{Effect}
 use Rattle.abort_expansion.specs.Pieces.{beside}

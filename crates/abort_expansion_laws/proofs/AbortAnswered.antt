@@ -27,14 +27,15 @@ use Rattle.abort_expansion_laws.proofs.FlagAccess.{number_access}
 use Rattle.abort_expansion_laws.specs.CoreRows.{own, Images, CoreRows, pair}
 use Rattle.abort_expansion_laws.specs.Related.{Stands, outside, ended, left, trying, acting, entering, guarding, staying, within, behind, IsInside}
 use Rattle.abort_expansion_laws.specs.Related.{guarded, open_inside, Stores, Related}
-use Rattle.abort_expansion_laws.proofs.Unchanged.{get_other, get_same}
+use Rattle.abort_expansion_laws.proofs.Unchanged.{get_other, get_same, unguarded}
 use Rattle.abort_expansion_laws.proofs.StageReached.{Stage, stage_of, holds_other}
 use Rattle.abort_expansion_laws.proofs.StartingRegions.{set_behind}
 use Rattle.abort_expansion_laws.proofs.EffectFollowed.{value_size}
 use Rattle.abort_expansion_laws.proofs.CoreSteps.{takes_any}
 use Rattle.abort_expansion_laws.proofs.InsideLeaves.{FlatRows}
 use Rattle.abort_expansion_laws.proofs.Leaving.{drops, set_here, set_other, set_length}
-use Rattle.abort_expansion_laws.proofs.DropsOut.{only_inside, inside_not_over, inside_present, inside_not_acting, DropsOut, dropped_out}
+use Rattle.abort_expansion_laws.proofs.StandsInside.{only_inside, inside_not_over, inside_present, inside_not_acting}
+use Rattle.abort_expansion_laws.proofs.DropsOut.{DropsOut, dropped_out}
 use Rattle.abort_expansion_laws.proofs.DroppedInside as now
 use Rattle.abort_expansion_laws.proofs.StagesAfterDrop.{outer_stage, others_stay, reached_now}
 use Rattle.abort_expansion_laws.proofs.AbortNext.{AbortNext}
@@ -205,16 +206,13 @@ module _ (k core : Table) (i : Images) (rows : CoreRows k core i) (more : FlatRo
         first.last.regions;
   }
 
-  unguarded : (zs : List ℕ) → is_guarded core first.last zs ≡ false
-  unguarded [] = refl
-  unguarded (s ∷ zs) = rw (empty.quiet (holder core s), unguarded zs) refl
-
   flag_there : slice_get first.last.variables x ≡ Some raised_to
   flag_there = let lt = next.in_range in ap (λ vs. slice_get vs x) empty.variables ∙ get_same d.variables x raised_to (omega (lt, related.flag_count, arith))
 
   answers : step core (i.thread_of r) first.last ≡ Some answered_at
   answers =
-      takes_any core first.last (i.thread_of r) (i.behind_of o) _ empty.here.0 (unguarded (around core (i.thread_of r))) empty.here.1
+      takes_any core first.last (i.thread_of r) (i.behind_of o) _ empty.here.0
+      (unguarded core first.last empty.quiet (around core (i.thread_of r))) empty.here.1
       (same_verdict x (suc next.number) first.last.variables flag_there) (more.behind_alone o)
 
   pub abort_followed : Segment (machine core) corr Told d (Stage k i.thread_of c d) (Stage k i.thread_of c1) (act_of (machine k) c r ∷ [])

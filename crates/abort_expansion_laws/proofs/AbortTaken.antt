@@ -7,60 +7,41 @@ use Rattle.std.proofs.lemmas.List.{append_assoc}
 use Rattle.sc_values.specs.declared.value.Value.{Value}
 use Rattle.sc_values.specs.declared.value.Value.TheVariants as value_is
 use Rattle.sc_values.specs.Access.{Access, no_access}
-use Rattle.sc_values.specs.Runs.{Machine, Act, act_of}
+use Rattle.sc_values.specs.Runs.{act_of}
 use Rattle.core_charts.specs.declared.region.Transition.{Transition}
 use Rattle.core_charts.specs.Tests.{at_once}
 use Rattle.core_charts.specs.Aborts.{has_aborts}
-use Rattle.chart_machine.specs.declared.standing.Standing.{Standing}
 use Rattle.chart_machine.specs.declared.standing.Standing.TheVariants as at
 use Rattle.chart_machine.specs.declared.standing.Configuration.{Configuration}
 use Rattle.chart_machine.specs.declared.table.Table.{Table}
 use Rattle.chart_machine.specs.Table.{state_at}
-use Rattle.chart_machine.specs.Turns.{standing_of, has_ended, has_work, guards, is_guarded, inside}
-use Rattle.chart_machine.specs.Steps.{to, moved, verdict, access_of, access_of_trigger, step, state_in}
+use Rattle.chart_machine.specs.Turns.{standing_of, has_ended, has_work, guards, inside}
+use Rattle.chart_machine.specs.Steps.{to, moved, access_of, access_of_trigger, state_in}
 use Rattle.chart_machine.specs.Machine.{machine}
 use Rattle.abort_expansion.specs.Flags.{aborts_around}
-use Rattle.abort_expansion.specs.Transitions.{put, go, is_raised, is_number, led_by, answers}
+use Rattle.abort_expansion.specs.Transitions.{is_number, led_by, answers}
 use Rattle.abort_expansion.specs.Superstates.{stays}
 use Rattle.tick_laws.proofs.Lists.{same_or_not, contained}
-use Rattle.abort_expansion_laws.specs.Stages.{Entry, Watched, Silent, Correspondence, HasStage, IsSilent}
-use Rattle.abort_expansion_laws.proofs.Supplying.{climbs_step, climbs_fewer, silent_set, silent_test, silent_idle, sets, tests}
+use Rattle.abort_expansion_laws.specs.Stages.{Entry, Watched, Silent, Correspondence, IsSilent}
+use Rattle.abort_expansion_laws.proofs.Supplying.{silent_idle, tests}
 use Rattle.abort_expansion_laws.proofs.Simulation.{Segment, segment_on}
-use Rattle.abort_expansion_laws.proofs.SilentSteps.{AtHome, climbs_at, climbs_home, silent_step}
+use Rattle.abort_expansion_laws.proofs.SilentSteps.{AtHome, climbs_home, silent_step}
 use Rattle.chart_machine_laws.proofs.LyingIn.{IsNested, LiesUnder, around, holder, none_in, head_or_tail, head_in, around_around}
 use Rattle.abort_expansion_laws.proofs.TablesCorrespond.{contains_map}
-use Rattle.abort_expansion_laws.proofs.MoreValues.{number_value, up_verdict, verdict_over_more}
-use Rattle.abort_expansion_laws.proofs.FlagAccess.{put_access}
 use Rattle.abort_expansion_laws.specs.CoreRows.{own, joins, Images, CoreRows, WatcherImage, SplitImage, flags_around, watchers, behind_transitions}
 use Rattle.abort_expansion_laws.specs.Related.{is_behind, IsInside, Related}
-use Rattle.abort_expansion_laws.proofs.Unchanged.{get_same, get_other, stands_same, stands_other, no_guards}
+use Rattle.abort_expansion_laws.proofs.Unchanged.{no_guards, unguarded}
 use Rattle.abort_expansion_laws.proofs.StageReached.{Stage, holds_other, inside_in}
 use Rattle.abort_expansion_laws.proofs.ImageSteps.{pair}
-use Rattle.abort_expansion_laws.proofs.KnownVariables.{in_either, present_there, trigger_known}
-use Rattle.abort_expansion_laws.proofs.StrongNotTaken.{trigger_plain}
-use Rattle.abort_expansion_laws.proofs.CoreSteps.{takes, writes_last}
+use Rattle.abort_expansion_laws.proofs.KnownVariables.{in_either, present_there}
 use Rattle.abort_expansion_laws.proofs.InsideLeaves.{FlatRows, there_too}
-use Rattle.abort_expansion_laws.proofs.AllLeave.{all_leave, Left, all_from, inside_around}
+use Rattle.abort_expansion_laws.proofs.InsideAround.{all_from, inside_around}
+use Rattle.abort_expansion_laws.proofs.AllLeave.{Left}
 use Rattle.abort_expansion_laws.proofs.Leaving.{drops, set_here, set_other, set_length, drops_in, drops_out, drops_length, joined}
 use Rattle.abort_expansion_laws.proofs.AbortNext.{AbortNext}
 use Rattle.abort_expansion_laws.proofs.Answering.{fails_on, Passed, tests_fail, Answered, answered}
 use Rattle.chart_machine_laws.proofs.ChartTables.{around_there}
-
--- a segment from fewer stages
-pub from_fewer : (n : Machine) (k : Correspondence) (Told : n.Configuration → Entry → Type 0) (d : n.Configuration) (Fewer Before : ℕ → ℕ → Type 0)
-    (After : n.Configuration → ℕ → ℕ → Type 0)
-    (steps : List Act) (Reaches : n.Configuration → Type 0) → ((h s : ℕ) → Fewer h s → Before h s) → Segment n k Told d Before After steps Reaches →
-    Segment n k Told d Fewer After steps Reaches
-from_fewer n k Told d Fewer Before After steps Reaches fewer s =
-    record {
-      log = s.log;
-      last = s.last;
-      follows = s.follows;
-      charted = s.charted;
-      fits = s.fits;
-      climbs = λ rest climbs. climbs_fewer k Before Fewer (s.log ++ rest) fewer (s.climbs rest climbs);
-      reaches = s.reaches;
-    }
+use Rattle.abort_expansion_laws.proofs.AbortRaised as raised
 
 module _ (k core : Table) (i : Images) (rows : CoreRows k core i) (more : FlatRows k core i) (tree : IsNested k) (core_tree : IsNested core)
     (deep : (q s : ℕ) → Contains (around core q) s → holder core s < q)
@@ -79,162 +60,49 @@ module _ (k core : Table) (i : Images) (rows : CoreRows k core i) (more : FlatRo
   abbrev pub raised_to : Value
   raised_to = value_is.Int (pos (suc next.number))
 
-  abbrev watch_acts : Standing
-  watch_acts = at.Acting (i.watching_of o) (put x (suc next.number) ∷ []) 1
+  abbrev d2 : Configuration
+  d2 = raised.d2 k core i rows tree core_tree deep counts written_at Told told c d related r o stage x t next Others
 
-  -- it has taken the test, and it has raised the flag
-  abbrev pub d1 : Configuration
-  d1 = record { variables = d.variables; regions = slice_set d.regions (i.watcher_of o) watch_acts }
+  abbrev here2 : standing_of d2 (i.watcher_of o) ≡ at.Ended
+  here2 = raised.here2 k core i rows tree core_tree deep counts written_at Told told c d related r o stage x t next Others
 
-  abbrev pub d2 : Configuration
-  d2 = record { variables = slice_set d.variables x raised_to; regions = slice_set (slice_set d.regions (i.watcher_of o) watch_acts) (i.watcher_of o) at.Ended }
-
-  in_core : i.watcher_of o < length d.regions
-  in_core = let lt = image.there.1 in omega (lt, related.core_regions, arith)
-
-  here1 : standing_of d1 (i.watcher_of o) ≡ watch_acts
-  here1 = stands_same d d1 (i.watcher_of o) watch_acts refl in_core
-
-  here2 : standing_of d2 (i.watcher_of o) ≡ at.Ended
-  here2 =
-      stands_same d1 d2 (i.watcher_of o) at.Ended refl
-      (let size = set_length d.regions (i.watcher_of o) watch_acts in let lt = in_core in omega (size, lt, arith))
-
-  other1 : (q : ℕ) → q ≢ i.watcher_of o → standing_of d1 q ≡ standing_of d q
-  other1 q ne = stands_other d d1 (i.watcher_of o) q watch_acts refl ne
-
-  other2 : (q : ℕ) → q ≢ i.watcher_of o → standing_of d2 q ≡ standing_of d q
-  other2 q ne = stands_other d1 d2 (i.watcher_of o) q at.Ended refl ne ∙ other1 q ne
+  abbrev other2 : (q : ℕ) → q ≢ i.watcher_of o → standing_of d2 q ≡ standing_of d q
+  other2 = raised.other2 k core i rows tree core_tree deep counts written_at Told told c d related r o stage x t next Others
 
   quiet : (q : ℕ) → guards (standing_of d q) ≡ false
   quiet = no_guards k core i rows c d related
 
-  quiet1 : (q : ℕ) → guards (standing_of d1 q) ≡ false
-  quiet1 q = ⊎_elim (λ e. ap (λ p. guards (standing_of d1 p)) e ∙ ap guards here1) (λ ne. ap guards (other1 q ne) ∙ quiet q) (same_or_not q (i.watcher_of o))
+  abbrev quiet2 : (q : ℕ) → guards (standing_of d2 q) ≡ false
+  quiet2 = raised.quiet2 k core i rows tree core_tree deep counts written_at Told told c d related r o stage x t next Others
 
-  pub quiet2 : (q : ℕ) → guards (standing_of d2 q) ≡ false
-  quiet2 q = ⊎_elim (λ e. ap (λ p. guards (standing_of d2 p)) e ∙ ap guards here2) (λ ne. ap guards (other2 q ne) ∙ quiet q) (same_or_not q (i.watcher_of o))
+  abbrev pub sees_own : IsSilent corr (i.thread_of r) None (tests x)
+  sees_own = raised.sees_own k core i rows tree core_tree deep counts written_at Told told c d related r o stage x t next Others
 
-  unguarded : (e : Configuration) → ((q : ℕ) → guards (standing_of e q) ≡ false) → (zs : List ℕ) → is_guarded core e zs ≡ false
-  unguarded e none [] = refl
-  unguarded e none (s ∷ zs) = rw (none (holder core s), unguarded e none zs) refl
+  abbrev flag_is : slice_get d2.variables x ≡ Some raised_to
+  flag_is = raised.flag_is k core i rows tree core_tree deep counts written_at Told told c d related r o stage x t next Others
 
-  -- ---- the flag
-
-  home_of : holder core (i.main_of (rows.of_flag x)) ≡ i.thread_of r
-  home_of = ap (λ s. holder core (i.main_of s)) next.of_flag ∙ (rows.held o ∙ ap i.thread_of next.held)
-
-  sets_flag : IsSilent corr (i.watcher_of o) (Some (i.thread_of r, stage)) (sets x raised_to)
-  sets_flag =
-      silent_set corr (i.watcher_of o) (Some (i.thread_of r, stage)) x raised_to next.added
-      (inr (next.no_counter, ap i.watcher_of (sym next.of_flag), stage_is))
-    where
-      stage_is : ◌≡◌ {A = Option (ℕ × ℕ)} (Some (i.thread_of r, stage)) (Some (holder core (i.main_of (rows.of_flag x)), written_at x))
-      stage_is = ap (λ (h : ℕ). Some (h, stage)) (sym home_of) ∙ ap (λ (m : ℕ). Some (holder core (i.main_of (rows.of_flag x)), m)) (sym next.written)
-
-  pub sees_own : IsSilent corr (i.thread_of r) None (tests x)
-  sees_own = silent_test corr (i.thread_of r) None x next.added (inl (sym home_of))
-
-  pub flag_is : slice_get d2.variables x ≡ Some raised_to
-  flag_is = let lt = next.in_range in get_same d.variables x raised_to (omega (lt, related.flag_count, arith))
-
-  pub raised : verdict d2.variables (Some (is_raised x)) ≡ Some true
-  raised = up_verdict x (suc next.number) d2.variables flag_is (λ e. absurd cc)
-
-  other_value : (y : ℕ) → y ≢ x → slice_get d2.variables y ≡ slice_get d.variables y
-  other_value y ne = get_other d.variables x y raised_to ne
+  abbrev other_value : (y : ℕ) → y ≢ x → slice_get d2.variables y ≡ slice_get d.variables y
+  other_value = raised.other_value k core i rows tree core_tree deep counts written_at Told told c d related r o stage x t next Others
 
   -- ---- the three parts
-
   module _ (told_test : Told d (Watched r (i.watcher_of o) stage (access_of_trigger t.trigger)))
       (outer_stage : (b : ℕ) → LiesUnder k r b → (i.thread_of b ≢ i.thread_of r) ×
       (((u : ℕ) → Stage k i.thread_of c d (i.thread_of b) u → u ≤ 1) × Others (i.thread_of b) 1))
       (others_stay : (h s : ℕ) → h ≢ i.thread_of r → Stage k i.thread_of c d h s → Others h s) where
-    own_stages : (h s : ℕ) → HasStage corr (Watched r (i.watcher_of o) stage (access_of_trigger t.trigger)) h s →
-        ((u : ℕ) → Stage k i.thread_of c d h u → u ≤ s) × AtHome Others (i.thread_of r) stage h s
-    own_stages h s (inl here) = (
-      λ u before. let low = before.regions r next.there here.0 in let now = next.stage_now in omega (low, now, here.1, arith),
-      (λ ne. absurd (ne here.0), λ e. omega (here.1, arith)),
-    )
-    own_stages h s (inr (b, under, is, one)) =
-        let outer = outer_stage b under in (
-          λ u before. let low = outer.1.0 u (subst (λ z. Stage k i.thread_of c d z u) is before) in omega (low, one, arith),
-          (λ ne. subst (λ z. Others z s) (sym is) (subst (Others (i.thread_of b)) (sym one) outer.1.1), λ e. absurd (outer.0 (sym is ∙ e))),
-        )
+    abbrev AllLeft : Configuration → Type 0
+    AllLeft = raised.AllLeft k core i rows tree core_tree deep counts written_at Told told c d related r o stage x t next Others told_test outer_stage
+        others_stay
 
-    stays_there : (h s : ℕ) → i.watcher_of o ≢ h → Stage k i.thread_of c d h s → AtHome Others (i.thread_of r) stage h s
-    stays_there h s ne before = (
-      λ other. others_stay h s other before,
-      λ e. let low = before.regions r next.there e in let now = next.stage_now in omega (low, now, arith),
-    )
-
-    test_step : Segment (machine core) corr Told d (Stage k i.thread_of c d) (λ last. AtHome Others (i.thread_of r) stage) (act_of (machine k) c r ∷ [])
-        (λ z. z ≡ d1)
-    test_step =
-        record {
-          log = Watched r (i.watcher_of o) stage (access_of_trigger t.trigger) ∷ [];
-          last = d1;
-          follows = (ap (λ a. record { thread = i.watcher_of o; access = a }) (sym (ap access_of next.watching)), told_test, (d1, takes_it, refl));
-          charted = ap (λ a. record { thread = r; access = a } ∷ []) (sym next.chart_access);
-          fits = (
-            record {
-              watches = (o, (next.o_there, next.has), refl, next.held);
-              staged = next.staged;
-              writes_nothing = trigger_plain t.trigger;
-              no_flags = λ y touches. let lt = trigger_known c.variables t.trigger true next.true_there y touches in omega (lt, related.values, arith);
-            },
-            tt,
-          );
-          climbs = λ rest climbs.
-              climbs_step corr (Stage k i.thread_of c d) (AtHome Others (i.thread_of r) stage) (Watched r (i.watcher_of o) stage (access_of_trigger t.trigger))
-              rest own_stages stays_there climbs;
-          reaches = refl;
-        }
-      where
-        takes_it : step core (i.watcher_of o) d ≡ Some d1
-        takes_it =
-            takes core d (i.watcher_of o) (i.watching_of o) (go next.immediate t.trigger (put x (suc next.number) ∷ []) 1) next.other_tests
-            (put x (suc next.number)) [] (unguarded d quiet (around core (i.watcher_of o))) next.watching
-            (subst (λ vs. verdict vs t.trigger ≡ Some true) (sym related.variables) (verdict_over_more related.more c.variables t.trigger true next.true_there))
-            next.watching_alone refl
-
-    raise_step : Segment (machine core) corr Told d1 (AtHome Others (i.thread_of r) stage) (λ last. AtHome Others (i.thread_of r) stage) [] (λ z. z ≡ d2)
-    raise_step =
-        silent_step (machine core) corr Told told d1 d2 (i.watcher_of o) (Some (i.thread_of r, stage)) (sets x raised_to)
-        (AtHome Others (i.thread_of r) stage) (AtHome Others (i.thread_of r) stage) (λ z. z ≡ d2)
-        (writes_last core d1 (i.watcher_of o) (i.watching_of o) 1 (put x (suc next.number)) raised_to at.Ended
-        (unguarded d1 quiet1 (around core (i.watcher_of o))) here1
-        (number_value (suc next.number) d.variables) next.is_int (ap (λ s. (state_at core s).entered) image.ended ∙ image.watched))
-        (ap access_of here1 ∙ put_access x (suc next.number)) sets_flag
-        (λ rest climbs. climbs_at corr Others (i.thread_of r) stage stage (i.watcher_of o) (sets x raised_to) rest (omega arith) climbs) refl
-
-    -- all have left: what is reached at the end
-    abbrev pub AllLeft : Configuration → Type 0
-    AllLeft z = Left core core_tree deep corr Told told Others (i.thread_of r) (suc stage) (i.main_of o) d2 quiet2 0 z
-
-    leave_steps : Segment (machine core) corr Told d2 (AtHome Others (i.thread_of r) (suc stage)) (λ last. AtHome Others (i.thread_of r) (suc stage)) [] AllLeft
-    leave_steps =
-        all_leave core core_tree deep corr Told told Others (i.thread_of r) (suc stage) (i.main_of o) d2 quiet2
-        (next.leaves d2 raised other_value (λ q. other2 (i.thread_of q) (image.no_thread q)) here2)
-
-    -- the test, the raising and the leaving
-    pub aborted : Segment (machine core) corr Told d (Stage k i.thread_of c d) (λ last. AtHome Others (i.thread_of r) (suc stage))
+    abbrev aborted : Segment (machine core) corr Told d (Stage k i.thread_of c d) (λ last. AtHome Others (i.thread_of r) (suc stage))
         (act_of (machine k) c r ∷ []) AllLeft
-    aborted =
-        segment_on (machine core) corr Told d (Stage k i.thread_of c d) (λ last. AtHome Others (i.thread_of r) stage)
-        (λ last. AtHome Others (i.thread_of r) (suc stage)) (act_of (machine k) c r ∷ []) [] (λ z. z ≡ d1) AllLeft test_step
-        (subst (λ z. Segment (machine core) corr Told z (AtHome Others (i.thread_of r) stage) (λ last. AtHome Others (i.thread_of r) (suc stage)) [] AllLeft)
-        (sym test_step.reaches)
-        (segment_on (machine core) corr Told d1 (AtHome Others (i.thread_of r) stage) (λ last. AtHome Others (i.thread_of r) stage)
-        (λ last. AtHome Others (i.thread_of r) (suc stage)) [] [] (λ z. z ≡ d2) AllLeft raise_step
-        (subst (λ z. Segment (machine core) corr Told z (AtHome Others (i.thread_of r) stage) (λ last. AtHome Others (i.thread_of r) (suc stage)) [] AllLeft)
-        (sym raise_step.reaches)
-        (from_fewer (machine core) corr Told d2 (AtHome Others (i.thread_of r) stage) (AtHome Others (i.thread_of r) (suc stage))
-        (λ last. AtHome Others (i.thread_of r) (suc stage)) [] AllLeft
-        (λ h s reached. (reached.0, λ e. let low = reached.1 e in omega (low, arith))) leave_steps))))
+    aborted = raised.aborted k core i rows tree core_tree deep counts written_at Told told c d related r o stage x t next Others told_test outer_stage
+        others_stay
+
+    abbrev size2 : length d2.regions ≡ length d.regions
+    size2 = raised.size2 k core i rows tree core_tree deep counts written_at Told told c d related r o stage x t next Others told_test outer_stage
+        others_stay
 
     -- ---- the fork is over, and joined
-
     left3 : Left core core_tree deep corr Told told Others (i.thread_of r) (suc stage) (i.main_of o) d2 quiet2 0 aborted.last
     left3 = aborted.reaches
 
@@ -362,12 +230,9 @@ module _ (k core : Table) (i : Images) (rows : CoreRows k core i) (more : FlatRo
         silent_step (machine core) corr Told told aborted.last d4 (i.thread_of r) None no_access (AtHome Others (i.thread_of r) (suc stage))
         (AtHome Others (i.thread_of r) 0) (λ z. z ≡ d4)
         (joined core aborted.last (i.thread_of r) (i.main_of o) next.join
-        (at.Trying (i.behind_of o) all_tests) (unguarded aborted.last quiet3 (around core (i.thread_of r))) home3 all_over all_idle enters)
+        (at.Trying (i.behind_of o) all_tests) (unguarded core aborted.last quiet3 (around core (i.thread_of r))) home3 all_over all_idle enters)
         (ap access_of home3) (silent_idle corr (i.thread_of r) None)
         (λ rest climbs. climbs_home corr Others (i.thread_of r) (suc stage) no_access rest climbs) refl
-
-    size2 : length d2.regions ≡ length d.regions
-    size2 = set_length d1.regions (i.watcher_of o) at.Ended ∙ set_length d.regions (i.watcher_of o) watch_acts
 
     home_there : i.thread_of r < length (moved (drops (inside core (i.main_of o))) aborted.last.regions)
     home_there =
@@ -402,7 +267,6 @@ module _ (k core : Table) (i : Images) (rows : CoreRows k core i) (more : FlatRo
         omega (lt, size, arith)
 
     -- ---- the tests of the continuation, up to the one that answers
-
     pub answers_it : Answered corr (i.thread_of r) (i.places_of r) d4.variables x sees_own t (suc next.number)
         (at_once (answers (i.places_of r) (Some x) 1 next.aborts ++ next.behind_them))
     answers_it =
@@ -442,7 +306,6 @@ module _ (k core : Table) (i : Images) (rows : CoreRows k core i) (more : FlatRo
         (sym join_step.reaches) answer_steps))
 
     -- ---- what is reached
-
     abbrev pub z : Configuration
     z = answering_on.last
 

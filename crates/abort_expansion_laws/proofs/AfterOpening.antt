@@ -1,6 +1,6 @@
 -- What waits still does after the fork of a prepared superstate was entered, and its region is settled.
 use Rattle.std.proofs.Common.{◌≡◌, ◌≢◌, ℕ, suc, pos, ◌<◌, ◌≤◌, ◌⊎◌, inl, inr, ⊎_elim, Bool, true, false, Option, Some, None, List, []}
-use Rattle.std.proofs.Common.{◌∷◌, ◌++◌, map, length, slice_set, Contains, refl, sym, ap, subst, ◌∙◌, arith}
+use Rattle.std.proofs.Common.{◌∷◌, ◌++◌, length, slice_set, Contains, refl, sym, ap, subst, ◌∙◌, arith}
 use Rattle.sc_values.specs.declared.value.Value.{Value}
 use Rattle.sc_values.specs.declared.value.Value.TheVariants as value_is
 use Rattle.sc_values.specs.Access.{Access}
@@ -8,36 +8,31 @@ use Rattle.core_charts.specs.declared.region.Transition.{Transition}
 use Rattle.core_charts.specs.Aborts.{has_aborts}
 use Rattle.chart_machine.specs.declared.standing.Standing.{Standing}
 use Rattle.chart_machine.specs.declared.standing.Standing.TheVariants as at
-use Rattle.chart_machine.specs.declared.standing.Move.{Move}
 use Rattle.chart_machine.specs.declared.standing.Configuration.{Configuration}
 use Rattle.chart_machine.specs.declared.table.Table.{Table}
 use Rattle.chart_machine.specs.Table.{state_at}
 use Rattle.chart_machine.specs.Turns.{standing_of, is_guarded}
-use Rattle.chart_machine.specs.Steps.{moved, state_in}
-use Rattle.abort_expansion.specs.Transitions.{go}
-use Rattle.abort_expansion.specs.Superstates.{resets, stays}
+use Rattle.chart_machine.specs.Steps.{state_in}
+use Rattle.abort_expansion.specs.Superstates.{stays}
 use Rattle.tick_laws.proofs.Lists.{same_or_not, contained}
 use Rattle.abort_expansion_laws.specs.Stages.{Entry, Silent}
 use Rattle.abort_expansion_laws.specs.CoreRows.{own, IsState, Images, CoreRows, SplitImage, joins, flags_around}
 use Rattle.abort_expansion_laws.specs.Related.{Stands, within, IsInside, guarded, open_inside, Stores}
 use Rattle.abort_expansion_laws.specs.Related.{Watches, is_behind}
 use Rattle.chart_machine_laws.proofs.LyingIn.{IsNested, around, holder, none_in, head_in, tail_in, head_or_tail}
-use Rattle.abort_expansion_laws.proofs.TablesCorrespond.{IsThere, contains_map}
-use Rattle.abort_expansion_laws.proofs.Leaving.{at_number, set_here, set_other, set_length}
-use Rattle.abort_expansion_laws.proofs.AllLeave.{inside_around}
+use Rattle.abort_expansion_laws.proofs.TablesCorrespond.{IsThere}
+use Rattle.abort_expansion_laws.proofs.InsideAround.{inside_around, one_in_other}
 use Rattle.abort_expansion_laws.proofs.StageReached.{stage_of}
 use Rattle.abort_expansion_laws.proofs.StartingRegions.{set_behind}
 use Rattle.abort_expansion_laws.proofs.Pending.{Sound, IsOpening, IsStarting, IsJoining, Over, Waits, settled, opening, starting, joining, ending}
 use Rattle.abort_expansion_laws.proofs.Pending.{hidden, Covered, goes_in, still_going, Flagged, IsEmpty, Pending, IsBusy, starts, opens, joins_then}
-use Rattle.abort_expansion_laws.proofs.Pending.{Reached, behind_unprepared}
+use Rattle.abort_expansion_laws.proofs.Pending.{Reached}
 use Rattle.abort_expansion_laws.proofs.SettledInOrder.{skips, there_in}
 use Rattle.abort_expansion_laws.proofs.Resets.{Every, set_all, set_all_other, set_all_size, one_of}
 use Rattle.abort_expansion_laws.proofs.OpensFork.{OpeningRows, every_one, forked, forks, image, list, strong_down, weak_down, counter_full}
 use Rattle.abort_expansion_laws.proofs.OpenedRows.{Opens, WithinIt, OpenedRows, ForkRows}
-
-pub moved_size : (ms : List Move) (zs : List Standing) → length (moved ms zs) ≡ length zs
-moved_size [] zs = refl
-moved_size (m ∷ ms) zs = moved_size ms (slice_set zs m.region m.standing) ∙ set_length zs m.region m.standing
+use Rattle.abort_expansion_laws.proofs.StandsInside.{inside_present}
+use Rattle.abort_expansion_laws.proofs.OpenedKept as unmoved
 
 set_all_behind : (xs : List (ℕ × ℕ)) (vs more : List Value) → Every (λ (x : ℕ × ℕ). length vs ≤ x.0) xs →
     (zs : List Value) × (set_all xs (vs ++ more) ≡ vs ++ zs)
@@ -46,26 +41,6 @@ set_all_behind (x ∷ xs) vs more high =
     let one = set_behind vs more x.0 (value_is.Int (pos x.1)) high.0 in
     let rest = set_all_behind xs vs one.0 high.1 in
     (rest.0, ap (set_all xs) one.1 ∙ rest.1)
-
--- of two superstates around a region, one lies in the other
-module _ (k : Table) (tree : IsNested k) where
-  pub one_in_other : (ss : List ℕ) (t s u : ℕ) → around k t ≡ ss → Contains ss s → Contains ss u →
-      (s ≡ u) ⊎ (Contains (around k (holder k s)) u ⊎ Contains (around k (holder k u)) s)
-  one_in_other [] t s u e first second = absurd (none_in s first)
-  one_in_other (x ∷ xs) t s u e first second =
-      by_places (head_or_tail x s xs first) (head_or_tail x u xs second)
-      (λ a b. one_in_other xs (holder k x) s u (sym outer) a b)
-    where
-      outer : xs ≡ around k (holder k x)
-      outer = tree.upward t x xs e
-
-      by_places : (x ≡ s) ⊎ Contains xs s → (x ≡ u) ⊎ Contains xs u →
-          (Contains xs s → Contains xs u → (s ≡ u) ⊎ (Contains (around k (holder k s)) u ⊎ Contains (around k (holder k u)) s)) →
-          (s ≡ u) ⊎ (Contains (around k (holder k s)) u ⊎ Contains (around k (holder k u)) s)
-      by_places (inl a) (inl b) rest = inl (sym a ∙ b)
-      by_places (inl a) (inr b) rest = inr (inl (subst (λ v. Contains (around k (holder k v)) u) a (subst (λ zs. Contains zs u) outer b)))
-      by_places (inr a) (inl b) rest = inr (inr (subst (λ v. Contains (around k (holder k v)) s) b (subst (λ zs. Contains zs s) outer a)))
-      by_places (inr a) (inr b) rest = rest a b
 
 module _ (k core : Table) (i : Images) (rows : CoreRows k core i) (tree : IsNested k) (core_tree : IsNested core) (counts : ℕ → Bool) (written_at : ℕ → ℕ)
     (Told : Configuration → Entry → Type 0) (told : (d : Configuration) (t : ℕ) (stage : Option (ℕ × ℕ)) (a : Access) → Told d (Silent t stage a))
@@ -94,201 +69,61 @@ module _ (k core : Table) (i : Images) (rows : CoreRows k core i) (tree : IsNest
   in_chart : standing_of c r ≡ at.Within s o.tests
   in_chart = ap (standing_of c) (sym held) ∙ o.open_in_chart
 
-  empty : IsEmpty k core i c d s
-  empty = (p.ready s o).1.0
-
   free : is_guarded k c (around k (holder k s)) ≡ false
   free = (p.ready s o).1.1
 
   holder_there : IsThere k (holder k s)
   holder_there = subst (IsThere k) (sym held) there
 
-  -- a region's thread is in the fork where the superstate is around the region
-  thread_in : (q : ℕ) → Contains (around core (i.thread_of q)) (i.main_of s) → Contains (around k q) s
-  thread_in q inner =
-      let u = contains_map i.main_of (around k q) (i.main_of s) (subst (λ zs. Contains zs (i.main_of s)) (rows.encloses q) inner) in
-      subst (Contains (around k q)) (rows.main_once u.0 s u.2) u.1
+  abbrev region_in : (u q : ℕ) → Contains (around core (i.thread_of q)) (i.main_of u) → Contains (around k q) u
+  region_in = unmoved.region_in k core i rows tree counts written_at Told told deeper more fork_rows c sound r d p there s held o
 
-  in_thread : (u q : ℕ) → Contains (around k q) u → Contains (around core (i.thread_of q)) (i.main_of u)
-  in_thread u q inner = subst (λ zs. Contains zs (i.main_of u)) (sym (rows.encloses q)) (mapped (around k q) inner)
-    where
-      mapped : (zs : List ℕ) → Contains zs u → Contains (map i.main_of zs) (i.main_of u)
-      mapped [] e = absurd (none_in u e)
-      mapped (y ∷ zs) e =
-          ⊎_elim (λ f. subst (λ v. Contains (i.main_of v ∷ map i.main_of zs) (i.main_of u)) (sym f) (head_in (i.main_of u) (map i.main_of zs)))
-          (λ t. tail_in (i.main_of y) (i.main_of u) (map i.main_of zs) (mapped zs t)) (head_or_tail y u zs e)
+  abbrev in_thread : (u q : ℕ) → Contains (around k q) u → Contains (around core (i.thread_of q)) (i.main_of u)
+  in_thread = unmoved.in_thread k core i rows tree counts written_at Told told deeper more fork_rows c sound r d p there s held o
 
-  not_in_itself : ¬ Contains (around k (holder k s)) s
-  not_in_itself inner = let up = deeper (holder k s) s inner in omega (up, arith)
+  abbrev here : standing_of z h ≡ W
+  here = unmoved.here k core i rows tree counts written_at Told told deeper more fork_rows c sound r d p there s held o
 
-  h_out : ¬ Contains (around core h) (i.main_of s)
-  h_out inner = not_in_itself (thread_in (holder k s) inner)
+  abbrev same : (t : ℕ) → t ≢ h → ¬ Contains (around core t) (i.main_of s) → standing_of z t ≡ standing_of d t
+  same = unmoved.same k core i rows tree counts written_at Told told deeper more fork_rows c sound r d p there s held o
 
-  h_there : h < length d.regions
-  h_there = let lt = (rows.region (holder k s) holder_there).there.1 in let size = p.core_regions in omega (lt, size, arith)
+  abbrev size : length z.regions ≡ length d.regions
+  size = unmoved.size k core i rows tree counts written_at Told told deeper more fork_rows c sound r d p there s held o
 
-  regions_are : z.regions ≡ moved (state_at core (i.main_of s)).opened d1.regions
-  regions_are = ap (λ ms. moved ms d.regions) (forks k core i rows tree counts written_at Told told more c r d p there s held o)
+  abbrev opens_it : Opens k core i c d1 z s
+  opens_it = unmoved.opens_it k core i rows tree counts written_at Told told deeper more fork_rows c sound r d p there s held o
 
-  at_z : (t : ℕ) → standing_of z t ≡ at_number (moved (state_at core (i.main_of s)).opened d1.regions) t
-  at_z t = ap (λ zs. at_number zs t) regions_are
+  abbrev keeps : (t : ℕ) (w : Standing) → t ≢ h → standing_of d t ≡ w → w ≢ at.Outside → standing_of z t ≡ w
+  keeps = unmoved.keeps k core i rows tree counts written_at Told told deeper more fork_rows c sound r d p there s held o
 
-  here : standing_of z h ≡ W
-  here = at_z h ∙ (fork_rows.opens_inside s h d1.regions o.there o.super h_out ∙ set_here d.regions h W h_there)
+  abbrev thread_same : (q : ℕ) → q ≢ r → ¬ Contains (around k q) s → standing_of z (i.thread_of q) ≡ standing_of d (i.thread_of q)
+  thread_same = unmoved.thread_same k core i rows tree counts written_at Told told deeper more fork_rows c sound r d p there s held o
 
-  same : (t : ℕ) → t ≢ h → ¬ Contains (around core t) (i.main_of s) → standing_of z t ≡ standing_of d t
-  same t ne out = at_z t ∙ (fork_rows.opens_inside s t d1.regions o.there o.super out ∙ set_other d.regions h t W ne)
+  abbrev opening_z : (u : ℕ) → u ≢ s → IsOpening k core i c d u → IsOpening k core i c z u
+  opening_z = unmoved.opening_z k core i rows tree counts written_at Told told deeper more fork_rows c sound r d p there s held o
 
-  size : length z.regions ≡ length d.regions
-  size = ap length regions_are ∙ (moved_size (state_at core (i.main_of s)).opened d1.regions ∙ set_length d.regions h W)
+  abbrev opening_not_here : (u : ℕ) → IsOpening k core i c z u → i.thread_of (holder k u) ≢ h
+  opening_not_here = unmoved.opening_not_here k core i rows tree counts written_at Told told deeper more fork_rows c sound r d p there s held o
 
-  in_fork_ne : (t : ℕ) → Contains (around core t) (i.main_of s) → t ≢ h
-  in_fork_ne t inner e = h_out (subst (λ v. Contains (around core v) (i.main_of s)) e inner)
+  abbrev opening_back : (u : ℕ) → ¬ Contains (around k (holder k u)) s → IsOpening k core i c z u → IsOpening k core i c d u
+  opening_back = unmoved.opening_back k core i rows tree counts written_at Told told deeper more fork_rows c sound r d p there s held o
 
-  opens_it : Opens k core i c d1 z s
-  opens_it =
-      record {
-        tests = o.tests;
-        there = o.there;
-        chart_size = sound.chart_regions;
-        core_size = set_length d.regions h W ∙ p.core_regions;
-        same_size = size ∙ sym (set_length d.regions h W);
-        open_in_chart = o.open_in_chart;
-        untested = o.untested;
-        free = free;
-        fresh = (p.ready s o).0;
-        empty = λ t inner. set_other d.regions h t W (in_fork_ne t inner) ∙ empty t inner;
-        forked = λ t inner. at_z t;
-        in_fork = λ apart. (fork.join, fork.joined, here);
-      }
+  abbrev starting_z : (q u : ℕ) → q ≢ r → IsStarting k core i c d q u → IsStarting k core i c z q u
+  starting_z = unmoved.starting_z k core i rows tree counts written_at Told told deeper more fork_rows c sound r d p there s held o
 
-  -- ---- who is not in the fork stands as before
+  abbrev starting_back : (q u : ℕ) → ¬ Contains (around k q) s → IsStarting k core i c z q u → IsStarting k core i c d q u
+  starting_back = unmoved.starting_back k core i rows tree counts written_at Told told deeper more fork_rows c sound r d p there s held o
 
-  -- whoever stands somewhere is not in the fork
-  not_in_fork : (t : ℕ) → standing_of d t ≢ at.Outside → ¬ Contains (around core t) (i.main_of s)
-  not_in_fork t present inner = present (empty t inner)
+  abbrev not_joining : (u : ℕ) → is_behind k core i c u ≡ true → u ≢ s
+  not_joining = unmoved.not_joining k core i rows tree counts written_at Told told deeper more fork_rows c sound r d p there s held o
 
-  keeps : (t : ℕ) (w : Standing) → t ≢ h → standing_of d t ≡ w → w ≢ at.Outside → standing_of z t ≡ w
-  keeps t w ne is present = same t ne (not_in_fork t (λ e. present (sym is ∙ e))) ∙ is
+  abbrev joining_z : (u : ℕ) → IsJoining k core i c d u → IsJoining k core i c z u
+  joining_z = unmoved.joining_z k core i rows tree counts written_at Told told deeper more fork_rows c sound r d p there s held o
 
-  thread_same : (q : ℕ) → q ≢ r → ¬ Contains (around k q) s → standing_of z (i.thread_of q) ≡ standing_of d (i.thread_of q)
-  thread_same q ne out = same (i.thread_of q) (λ e. ne (rows.region_once q (holder k s) e ∙ held)) (λ inner. out (thread_in q inner))
-
-  same_super : (u : ℕ) (tests : List Transition) → standing_of c (holder k u) ≡ at.Within u tests → i.thread_of (holder k u) ≡ h → u ≡ s
-  same_super u tests is e =
-      let both : at.Within u tests ≡ at.Within s o.tests = sym is ∙ (ap (standing_of c) (rows.region_once (holder k u) (holder k s) e) ∙ o.open_in_chart) in cc
-
-  opening_z : (u : ℕ) → u ≢ s → IsOpening k core i c d u → IsOpening k core i c z u
-  opening_z u ne a =
-      record {
-        tests = a.tests;
-        fork = a.fork;
-        there = a.there;
-        super = a.super;
-        split = a.split;
-        prepared = a.prepared;
-        untested = a.untested;
-        open_in_chart = a.open_in_chart;
-        leads = a.leads;
-        preparing = keeps (i.thread_of (holder k u)) _ (λ e. ne (same_super u a.tests a.open_in_chart e)) a.preparing (λ e. absurd cc);
-      }
-
-  opening_not_here : (u : ℕ) → IsOpening k core i c z u → i.thread_of (holder k u) ≢ h
-  opening_not_here u a e =
-      let wrong : at.Trying (i.entry_of u) (go true None (resets (i.flags_of u) (length (state_at k u).regions)) a.fork ∷ []) ≡ W = sym a.preparing ∙
-      (ap (standing_of z) e ∙ here) in
-      absurd cc
-
-  opening_back : (u : ℕ) → ¬ Contains (around k (holder k u)) s → IsOpening k core i c z u → IsOpening k core i c d u
-  opening_back u out a =
-      record {
-        tests = a.tests;
-        fork = a.fork;
-        there = a.there;
-        super = a.super;
-        split = a.split;
-        prepared = a.prepared;
-        untested = a.untested;
-        open_in_chart = a.open_in_chart;
-        leads = a.leads;
-        preparing = sym (same (i.thread_of (holder k u)) (opening_not_here u a) (λ inner. out (thread_in (holder k u) inner))) ∙ a.preparing;
-      }
-
-  starting_z : (q u : ℕ) → q ≢ r → IsStarting k core i c d q u → IsStarting k core i c z q u
-  starting_z q u ne a =
-      record {
-        outer = a.outer;
-        first = a.first;
-        place = a.place;
-        counter = a.counter;
-        direct = a.direct;
-        counts = a.counts;
-        there = a.there;
-        tests = a.tests;
-        open_in_chart = a.open_in_chart;
-        over_in_chart = a.over_in_chart;
-        alone = a.alone;
-        ends = a.ends;
-        counting = keeps (i.thread_of q) _ (λ e. ne (rows.region_once q (holder k s) e ∙ held)) a.counting (λ e. absurd cc);
-      }
-
-  starting_not_r : (q u : ℕ) → standing_of c q ≡ at.Ended → q ≢ r
-  starting_not_r q u over e = let wrong : at.Within s o.tests ≡ at.Ended = sym in_chart ∙ (ap (standing_of c) (sym e) ∙ over) in absurd cc
-
-  starting_back : (q u : ℕ) → ¬ Contains (around k q) s → IsStarting k core i c z q u → IsStarting k core i c d q u
-  starting_back q u out a =
-      record {
-        outer = a.outer;
-        first = a.first;
-        place = a.place;
-        counter = a.counter;
-        direct = a.direct;
-        counts = a.counts;
-        there = a.there;
-        tests = a.tests;
-        open_in_chart = a.open_in_chart;
-        over_in_chart = a.over_in_chart;
-        alone = a.alone;
-        ends = a.ends;
-        counting = sym (thread_same q (starting_not_r q u a.over_in_chart) out) ∙ a.counting;
-      }
-
-  -- the superstate itself is prepared, and so is never joined
-  not_joining : (u : ℕ) → is_behind k core i c u ≡ true → u ≢ s
-  not_joining u over e =
-      let none = behind_unprepared k core i c s (subst (λ v. is_behind k core i c v ≡ true) e over) in
-      let wrong : true ≡ false = sym o.prepared ∙ none in absurd cc
-
-  joining_z : (u : ℕ) → IsJoining k core i c d u → IsJoining k core i c z u
-  joining_z u a =
-      record {
-        tests = a.tests;
-        join = a.join;
-        there = a.there;
-        super = a.super;
-        over = a.over;
-        open_in_chart = a.open_in_chart;
-        leads = a.leads;
-        forked = keeps (i.thread_of (holder k u)) _ (λ e. not_joining u a.over (same_super u a.tests a.open_in_chart e)) a.forked (λ e. absurd cc);
-      }
-
-  joining_back : (u : ℕ) → ¬ Contains (around k (holder k u)) s → IsJoining k core i c z u → IsJoining k core i c d u
-  joining_back u out a =
-      record {
-        tests = a.tests;
-        join = a.join;
-        there = a.there;
-        super = a.super;
-        over = a.over;
-        open_in_chart = a.open_in_chart;
-        leads = a.leads;
-        forked =
-            sym (same (i.thread_of (holder k u)) (λ e. not_joining u a.over (same_super u a.tests a.open_in_chart e))
-            (λ inner. out (thread_in (holder k u) inner))) ∙ a.forked;
-      }
+  abbrev joining_back : (u : ℕ) → ¬ Contains (around k (holder k u)) s → IsJoining k core i c z u → IsJoining k core i c d u
+  joining_back = unmoved.joining_back k core i rows tree counts written_at Told told deeper more fork_rows c sound r d p there s held o
 
   -- ---- each region
-
   still : is_behind k core i c s ≡ false
   still = by_case (is_behind k core i c s) refl
     where
@@ -313,7 +148,6 @@ module _ (k core : Table) (i : Images) (rows : CoreRows k core i) (tree : IsNest
   waits_other q ne out is (hidden u inner a gone) = hidden u inner (opening_z u (λ e. out (subst (Contains (around k q)) e inner)) a) (is ∙ gone)
 
   -- ---- flags and watchers
-
   within_or_not : (u : ℕ) → WithinIt k core i s u ⊎ ¬ WithinIt k core i s u
   within_or_not u =
       ⊎_elim (λ e. inl (inl e))
@@ -389,7 +223,7 @@ module _ (k core : Table) (i : Images) (rows : CoreRows k core i) (tree : IsNest
       let w = rows.watcher u u_there has in
       same (i.watcher_of u) (λ e. w.no_thread (holder k s) (sym e))
       (λ inner.
-      ⊎_elim (λ e. out (inl (rows.main_once u s e))) (λ t. out (inr (thread_in (holder k u) t)))
+      ⊎_elim (λ e. out (inl (rows.main_once u s e))) (λ t. out (inr (region_in s (holder k u) t)))
       (head_or_tail (i.main_of u) (i.main_of s) (around core (i.thread_of (holder k u))) (subst (λ zs. Contains zs (i.main_of s)) w.encloses inner)))
 
   watchers_now : (u : ℕ) → IsState k u → has_aborts (own k u) ≡ true →
@@ -411,14 +245,8 @@ module _ (k core : Table) (i : Images) (rows : CoreRows k core i) (tree : IsNest
       (λ out. ⊎_elim (λ f. inl (flagged_z u out f)) (λ covered. inr (covered_z u out covered)) (p.flags u u_there inside_u)) (within_or_not u)
 
   -- ---- forks that are still to be joined, and preparations
-
   not_preparing : (t : ℕ) (w : Standing) → standing_of d t ≡ w → ((tests : List Transition) → w ≢ at.Trying (i.entry_of s) tests) → t ≢ h
   not_preparing t w is other e = other _ (sym is ∙ (ap (standing_of d) e ∙ o.preparing))
-
-  region_in : (u q : ℕ) → Contains (around core (i.thread_of q)) (i.main_of u) → Contains (around k q) u
-  region_in u q inner =
-      let v = contains_map i.main_of (around k q) (i.main_of u) (subst (λ zs. Contains zs (i.main_of u)) (rows.encloses q) inner) in
-      subst (Contains (around k q)) (rows.main_once v.0 u v.2) v.1
 
   -- whatever is in both forks: one is the other, or lies in it
   both_forks : (t u : ℕ) → Contains (around core t) (i.main_of s) → Contains (around core t) (i.main_of u) →
@@ -516,7 +344,6 @@ module _ (k core : Table) (i : Images) (rows : CoreRows k core i) (tree : IsNest
   opened_pending = skips k core i rows tree counts written_at Told deeper c sound r z still_pending (λ _. settled_now)
 
   -- ---- which stages may be reached
-
   busy_back : (q u : ℕ) → ¬ Contains (around k q) s → IsBusy k core i c z q u → IsBusy k core i c d q u
   busy_back q u out (starts a) = starts (starting_back q u out a)
   busy_back q u out (opens its a) = opens its (opening_back u (λ inner. out (subst (λ v. Contains (around k v) s) its inner)) a)
@@ -526,10 +353,6 @@ module _ (k core : Table) (i : Images) (rows : CoreRows k core i) (tree : IsNest
   busy_present q u (starts a) e = let wrong : at.Ended ≡ at.Outside = sym a.over_in_chart ∙ e in absurd cc
   busy_present q u (opens its a) e = let wrong : at.Within u a.tests ≡ at.Outside = sym a.open_in_chart ∙ (ap (standing_of c) its ∙ e) in absurd cc
   busy_present q u (joins_then its a) e = let wrong : at.Within u a.tests ≡ at.Outside = sym a.open_in_chart ∙ (ap (standing_of c) its ∙ e) in absurd cc
-
-  inside_present : (u : ℕ) (x : Standing) → IsInside k core i u x → x ≢ at.Outside
-  inside_present u _ (guarded tests) e = absurd cc
-  inside_present u _ (open_inside tests) e = absurd cc
 
   plain_stage : (u : ℕ) (x : Standing) → has_aborts (own k u) ≡ false → IsInside k core i u x → stage_of k c x ≤ 1
   plain_stage u _ plain (guarded tests) = omega arith
@@ -551,6 +374,6 @@ module _ (k core : Table) (i : Images) (rows : CoreRows k core i) (tree : IsNest
       by_place q v u q_there b round e (inr (inr inner)) =
           let inside_u = sound.enclosed q u q_there (busy_present q v b) round in
           let holds : IsThere k (holder k u) = there_in k core i rows tree counts written_at Told deeper c sound (holder k u)
-          (inside_present u (standing_of c (holder k u)) inside_u) in
+          (inside_present k core i u (standing_of c (holder k u)) inside_u) in
           let le = before.1.staged.regions (holder k u) holds e in
           let low = plain_stage u (standing_of c (holder k u)) (fork_rows.plain_inside s u o.prepared inner) inside_u in omega (le, low, arith)

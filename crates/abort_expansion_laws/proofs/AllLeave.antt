@@ -1,10 +1,9 @@
 -- Once a flag is raised, everything inside its superstate leaves, what lies deeper first.
-use Rattle.std.proofs.Common.{◌≡◌, ◌≢◌, ℕ, zero, suc, ◌<◌, ◌≤◌, ◌⊎◌, inl, inr, ⊎_elim, Bool, true, false, not, ◌||◌, nat_eq, Option, Some, None, List, []}
-use Rattle.std.proofs.Common.{◌∷◌, length, slice_set, unwrap_or, Contains, refl, sym, ap, subst, ◌∙◌, arith, if◌then◌else◌}
-use Rattle.std.specs.Prelude.{filter}
-use Rattle.std.specs.List.{list_all, list_any}
-use Rattle.std.proofs.lemmas.Bool.Decides.{Decides-eqb}
+use Rattle.std.proofs.Common.{◌≡◌, ◌≢◌, ℕ, zero, suc, ◌<◌, ◌≤◌, ◌⊎◌, inl, inr, ⊎_elim, true, false, not, Option, Some, None, List, []}
+use Rattle.std.proofs.Common.{◌∷◌, length, slice_set, unwrap_or, Contains, refl, sym, ap, subst, ◌∙◌, arith}
+use Rattle.std.specs.List.{list_all}
 use Rattle.std.proofs.lemmas.Option.{slice_get_past}
+use Rattle.std.proofs.lemmas.Bool.{cases_lt}
 use Rattle.sc_values.specs.declared.value.Value.{Value}
 use Rattle.sc_values.specs.Access.{Access, no_access}
 use Rattle.core_charts.specs.declared.region.Transition.{Transition}
@@ -12,8 +11,8 @@ use Rattle.chart_machine.specs.declared.standing.Standing.{Standing}
 use Rattle.chart_machine.specs.declared.standing.Standing.TheVariants as at
 use Rattle.chart_machine.specs.declared.standing.Configuration.{Configuration}
 use Rattle.chart_machine.specs.declared.table.Table.{Table}
-use Rattle.chart_machine.specs.Table.{state_at, region_at}
-use Rattle.chart_machine.specs.Turns.{standing_of, has_ended, guards, has_work, is_guarded, inside, numbered_from}
+use Rattle.chart_machine.specs.Table.{state_at}
+use Rattle.chart_machine.specs.Turns.{standing_of, has_ended, guards, has_work, inside}
 use Rattle.chart_machine.specs.Steps.{to, moved, verdict, access_of, access_of_trigger, state_in}
 use Rattle.chart_machine.specs.Machine.{machine}
 use Rattle.tick_laws.proofs.Lists.{same_or_not, contained}
@@ -25,38 +24,10 @@ use Rattle.chart_machine_laws.proofs.LyingIn.{IsNested, around, holder, none_in,
 use Rattle.abort_expansion_laws.specs.CoreRows.{joins}
 use Rattle.abort_expansion_laws.proofs.TestFails.{fails}
 use Rattle.abort_expansion_laws.proofs.Leaving.{drops, set_here, set_other, set_length, drops_in, drops_out, drops_length, leaves, joined}
-
--- ---- who is inside has the superstate around it
-
-kept_head : (b : Bool) (x : ℕ) (xs : List ℕ) (P : ℕ → Type 0) → (b ≡ true → P x) → ((y : ℕ) → Contains xs y → P y) → (y : ℕ) →
-    Contains (if b then x ∷ xs else xs) y → P y
-kept_head true x xs P own rest y h = ⊎_elim (λ same. subst P same (own refl)) (λ tail. rest y tail) (head_or_tail x y xs h)
-kept_head false x xs P own rest y h = rest y h
-
-filtered : (p : ℕ → Bool) (xs : List ℕ) (y : ℕ) → Contains (filter p xs) y → p y ≡ true
-filtered p [] y h = absurd (none_in y h)
-filtered p (x ∷ xs) y h = kept_head (p x) x (filter p xs) (λ z. p z ≡ true) (λ e. e) (λ z tail. filtered p xs z tail) y h
-
-either : (b c : Bool) → (b || c) ≡ true → (b ≡ true) ⊎ (c ≡ true)
-either true c e = inl refl
-either false c e = inr e
-
-any_at : (s : ℕ) (zs : List ℕ) → list_any (nat_eq s) zs ≡ true → Contains zs s
-any_at s [] e = absurd cc
-any_at s (z ∷ zs) e =
-    ⊎_elim (λ head. let same : s ≡ z = (Decides-eqb s z).0 head in subst (λ w. Contains (w ∷ zs) s) same (head_in s zs))
-    (λ tail. tail_in z s zs (any_at s zs tail))
-    (either (nat_eq s z) (list_any (nat_eq s) zs) e)
-
-pub inside_around : (k : Table) (s r : ℕ) → Contains (inside k s) r → Contains (around k r) s
-inside_around k s r h = any_at s (around k r) (filtered (λ q. list_any (nat_eq s) (region_at k q).around) (numbered_from 1 k.regions) r h)
-
-pub all_from : (p : ℕ → Bool) (xs : List ℕ) → ((y : ℕ) → Contains xs y → p y ≡ true) → list_all p xs ≡ true
-all_from p [] h = refl
-all_from p (x ∷ xs) h = rw (h x (head_in x xs), all_from p xs (λ y tail. h y (tail_in x y xs tail))) refl
+use Rattle.abort_expansion_laws.proofs.Unchanged.{unguarded}
+use Rattle.abort_expansion_laws.proofs.InsideAround.{inside_around, all_from}
 
 -- ---- what each region inside owes
-
 -- a stage of this superstate's holder, or none
 abbrev pub IsStaged : (home stage : ℕ) → Option (ℕ × ℕ) → Type 0
 IsStaged home stage staged = (staged ≡ None) ⊎ (staged ≡ Some (home, stage))
@@ -126,17 +97,10 @@ module _ (core : Table) (tree : IsNested core) (deeper : (q s : ℕ) → Contain
   gone_idle d e n q (inl ended) = ap (has_work core e) ended
   gone_idle d e n q (inr (outside, why)) = ap (has_work core e) outside
 
-  in_or_past : (m n : ℕ) → (m < n) ⊎ (n ≤ m)
-  in_or_past m n = grind arith
-
   no_guards : (n : ℕ) (d : Configuration) → Left n d → (t : ℕ) → guards (standing_of d t) ≡ false
   no_guards n d left t =
-      ⊎_elim (λ inner. ⊎_elim (λ lt. ap guards (left.waits t inner lt) ∙ free t) (λ le. gone_quiet d n t (left.gone t inner le)) (in_or_past t n))
+      ⊎_elim (λ inner. ⊎_elim (λ lt. ap guards (left.waits t inner lt) ∙ free t) (λ le. gone_quiet d n t (left.gone t inner le)) (cases_lt t n))
       (λ outer. ap guards (left.others t outer) ∙ free t) (contained (around core t) f)
-
-  unguarded : (d : Configuration) → ((t : ℕ) → guards (standing_of d t) ≡ false) → (zs : List ℕ) → is_guarded core d zs ≡ false
-  unguarded d none [] = refl
-  unguarded d none (s ∷ zs) = rw (none (holder core s), unguarded d none zs) refl
 
   -- region n has left, and what lies in these was dropped
   left_after : (n : ℕ) (d e : Configuration) (rs : List ℕ) → Left (suc n) d →
@@ -168,7 +132,7 @@ module _ (core : Table) (tree : IsNested core) (deeper : (q s : ℕ) → Contain
   out_past d q past = ap (λ o. unwrap_or o at.Outside) (slice_get_past d.regions q past)
 
   in_range : (d : Configuration) (q : ℕ) (x : Standing) → standing_of d q ≡ x → x ≢ at.Outside → q < length d.regions
-  in_range d q x stands present = ⊎_elim (λ lt. lt) (λ past. absurd (present (sym stands ∙ out_past d q past))) (in_or_past q (length d.regions))
+  in_range d q x stands present = ⊎_elim (λ lt. lt) (λ past. absurd (present (sym stands ∙ out_past d q past))) (cases_lt q (length d.regions))
 
   -- not in it, or there already
   skips : (n : ℕ) (d : Configuration) → Left (suc n) d → (In n → Gone d n n) → Left n d
@@ -206,7 +170,7 @@ module _ (core : Table) (tree : IsNested core) (deeper : (q s : ℕ) → Contain
   tests_leave n s _ d alone (leads_out w rest true_there none ends staged within silent) values quiet lt stands =
       silent_step (machine core) corr Told told d (record { variables = d.variables; regions = slice_set d.regions n at.Ended }) n staged
       (access_of_trigger w.trigger) (AtHome Others home stage) (AtHome Others home stage) (HasLeft n d)
-      (leaves core d n s w rest (unguarded d quiet (around core n)) stands (subst (λ vs. verdict vs w.trigger ≡ Some true) (sym values) true_there) none
+      (leaves core d n s w rest (unguarded core d quiet (around core n)) stands (subst (λ vs. verdict vs w.trigger ≡ Some true) (sym values) true_there) none
       alone ends)
       (ap access_of stands) silent (λ more climbs. climbs_by n (access_of_trigger w.trigger) staged within more climbs)
       (record {
@@ -227,7 +191,7 @@ module _ (core : Table) (tree : IsNested core) (deeper : (q s : ℕ) → Contain
       one =
           silent_step (machine core) corr Told told d e n staged (access_of_trigger w.trigger) (AtHome Others home stage) (AtHome Others home stage)
           (λ z. z ≡ e)
-          (fails core d n s w rest (unguarded d quiet (around core n)) stands (subst (λ vs. verdict vs w.trigger ≡ Some false) (sym values) false_there))
+          (fails core d n s w rest (unguarded core d quiet (around core n)) stands (subst (λ vs. verdict vs w.trigger ≡ Some false) (sym values) false_there))
           (ap access_of stands) silent (λ more climbs. climbs_by n (access_of_trigger w.trigger) staged within more climbs) refl
 
       here : standing_of e n ≡ at.Trying s rest
@@ -347,7 +311,7 @@ module _ (core : Table) (tree : IsNested core) (deeper : (q s : ℕ) → Contain
         join_step : Segment (machine core) corr Told d (AtHome Others home stage) (λ last. AtHome Others home stage) [] (λ z. z ≡ e1)
         join_step =
             silent_step (machine core) corr Told told d e1 n None no_access (AtHome Others home stage) (AtHome Others home stage) (λ z. z ≡ e1)
-            (joined core d n s j (at.Trying b tests) (unguarded d none (around core n)) stands all_over all_idle enters)
+            (joined core d n s j (at.Trying b tests) (unguarded core d none (around core n)) stands all_over all_idle enters)
             (ap access_of stands) (silent_idle corr n None) (λ more climbs. climbs_over corr Others home stage n no_access more climbs) refl
 
         here1 : standing_of e1 n ≡ at.Trying b tests

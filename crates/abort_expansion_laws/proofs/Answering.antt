@@ -26,6 +26,7 @@ use Rattle.abort_expansion_laws.proofs.MoreValues.{other_verdict}
 use Rattle.abort_expansion_laws.proofs.FlagAccess.{number_access}
 use Rattle.abort_expansion_laws.proofs.Leaving.{set_here, set_other, set_length}
 use Rattle.abort_expansion_laws.proofs.TestFails.{fails}
+use Rattle.abort_expansion_laws.proofs.Unchanged.{unguarded}
 
 -- ---- tests that fail
 
@@ -48,10 +49,6 @@ module _ (core : Table) (corr : Correspondence) (Told : Configuration → Entry 
     pub here : standing_of z home ≡ at.Trying b rest
     pub others : (q : ℕ) → q ≢ home → standing_of z q ≡ standing_of from q
 
-  unguarded : (d : Configuration) → ((q : ℕ) → guards (standing_of d q) ≡ false) → (zs : List ℕ) → is_guarded core d zs ≡ false
-  unguarded d quiet [] = refl
-  unguarded d quiet (s ∷ zs) = rw (quiet (holder core s), unguarded d quiet zs) refl
-
   abbrev Piece : Configuration → Configuration → List Transition → Type 0
   Piece from d rest = Segment (machine core) corr Told d (AtHome Others home 0) (λ last. AtHome Others home 0) [] (Passed from rest)
 
@@ -72,7 +69,7 @@ module _ (core : Table) (corr : Correspondence) (Told : Configuration → Entry 
       one : Segment (machine core) corr Told d (AtHome Others home 0) (λ last. AtHome Others home 0) [] (λ z. z ≡ e)
       one =
           silent_step (machine core) corr Told told d e home None (access_of_trigger w.trigger) (AtHome Others home 0) (AtHome Others home 0) (λ z. z ≡ e)
-          (fails core d home b w (ws ++ rest) (unguarded d quiet (around core home)) stands all.0.0)
+          (fails core d home b w (ws ++ rest) (unguarded core d quiet (around core home)) stands all.0.0)
           (ap access_of stands) all.0.1 (λ more climbs. climbs_home corr Others home 0 (access_of_trigger w.trigger) more climbs) refl
 
       here : standing_of e home ≡ at.Trying b (ws ++ rest)

@@ -12,7 +12,6 @@ use Rattle.chart_machine_laws.proofs.LyingIn.{none_in, head_in, head_or_tail, ou
 use Rattle.chart_machine_laws.proofs.ChartTables.{around_there}
 use Rattle.abort_expansion_laws.specs.CoreRows.{IsState, Images}
 use Rattle.abort_expansion_laws.specs.Related.{Related, IsInside, open_inside, IsCalm, calm_outside}
-use Rattle.abort_expansion_laws.proofs.AfterOpening.{one_in_other}
 use Rattle.abort_expansion_laws.proofs.StageReached.{any_in}
 use Rattle.abort_expansion_laws.proofs.Pending.{Sound}
 use Rattle.abort_expansion_laws.proofs.InitialPairs.{chart_begins}
@@ -24,6 +23,7 @@ use Rattle.abort_expansion_laws.proofs.FirstTickWaits.{closes_first}
 use Rattle.abort_expansion_laws.proofs.Arrives.{Arrives}
 use Rattle.abort_expansion_laws.proofs.ArrivedReached.{outer_apart, arrived_lives}
 use Rattle.abort_expansion_laws.proofs.ArrivedWaits.{lies_or_not, outer_out}
+use Rattle.abort_expansion_laws.proofs.InsideAround.{one_in_other}
 
 module _ (k core : Table) (i : Images) (more : EntryRows k core i) (holds_there : (s : ℕ) → IsState k s → IsThere k (holder k s))
     (alone : (v : ℕ) → (state_at core v).regions ≡ [] → inside core v ≡ [])

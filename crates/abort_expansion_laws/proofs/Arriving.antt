@@ -28,7 +28,7 @@ use Rattle.abort_expansion_laws.specs.CoreRows.{own, IsState, is_final, Images, 
 use Rattle.abort_expansion_laws.specs.Related.{IsInside, guarded, open_inside, still_in, not_ended, Stores, Related}
 use Rattle.abort_expansion_laws.specs.StageReached.{some_work}
 use Rattle.abort_expansion_laws.proofs.StageReached.{Stage, stage_of, any_in, none_of, inside_in, one_at_least, one_at_most}
-use Rattle.abort_expansion_laws.proofs.Unchanged.{no_guards}
+use Rattle.abort_expansion_laws.proofs.Unchanged.{no_guards, unguarded}
 use Rattle.abort_expansion_laws.proofs.KnownVariables.{present_there}
 use Rattle.abort_expansion_laws.proofs.CounterValues.{counted_value, counted_access}
 use Rattle.abort_expansion_laws.proofs.StartingRegions.{Once, CounterRows}
@@ -36,6 +36,7 @@ use Rattle.abort_expansion_laws.proofs.CoreSteps.{writes_on}
 use Rattle.abort_expansion_laws.proofs.Leaving.{at_number, set_here, set_other, set_length}
 use Rattle.abort_expansion_laws.proofs.EffectAhead.{BeginsAt, overwritten, none_counted}
 use Rattle.abort_expansion_laws.proofs.Owed.{Counts, Enters, chart_enters, core_enters}
+use Rattle.abort_expansion_laws.proofs.StandsInside.{inside_present}
 
 -- ---- how many are still in
 
@@ -168,14 +169,10 @@ module _ (k core : Table) (i : Images) (rows : CoreRows k core i) (tree : IsNest
         ⊎_elim (λ same. ap (λ q. has_to_guard (standing_of counting_now q)) same ∙ ap has_to_guard here)
         (λ ne. ap has_to_guard (other t ne) ∙ no_guards k core i rows c d related t) (same_or_not t (i.thread_of r))
 
-    unguarded : (ss : List ℕ) → is_guarded core counting_now ss ≡ false
-    unguarded [] = refl
-    unguarded (v ∷ ss) = rw (quiet (holder core v), unguarded ss) refl
-
     steps : step core (i.thread_of r) counting_now ≡ Some counted_now
     steps =
         writes_on core counting_now (i.thread_of r) u (place_of (i.places_of r) p) (count_down x) less (state_at core (i.entry_of (state_in k r p))).entered
-        (unguarded (around core (i.thread_of r))) here value_is_there (counters.counter_kind o x counter) leads
+        (unguarded core counting_now quiet (around core (i.thread_of r))) here value_is_there (counters.counter_kind o x counter) leads
 
     -- the stage of the superstate is 1
 
@@ -192,11 +189,7 @@ module _ (k core : Table) (i : Images) (rows : CoreRows k core i) (tree : IsNest
     not_guarding = none_of (λ v. has_to_guard (standing_of c (holder k v))) (around k r) o free in_o
 
     holder_there : IsThere k (holder k o)
-    holder_there = present_there k core i c d related (holder k o) (inside_present (standing_of c (holder k o)) inside_o)
-      where
-        inside_present : (w : Standing) → IsInside k core i o w → w ≢ at.Outside
-        inside_present _ (guarded tests) is = absurd cc
-        inside_present _ (open_inside tests) is = absurd cc
+    holder_there = present_there k core i c d related (holder k o) (inside_present k core i o (standing_of c (holder k o)) inside_o)
 
     low : (w : Standing) → IsInside k core i o w → stage_of k c w ≤ 1
     low _ (guarded tests) = omega arith

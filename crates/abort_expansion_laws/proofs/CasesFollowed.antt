@@ -36,7 +36,7 @@ use Rattle.abort_expansion_laws.specs.Stages.{Entry, Image}
 use Rattle.abort_expansion_laws.specs.StageReached.{Stage}
 use Rattle.abort_expansion_laws.specs.CoreRows.{own, is_final, IsState, IsSimple, Images, CoreRows, flags_around}
 use Rattle.abort_expansion_laws.specs.Related.{Related}
-use Rattle.abort_expansion_laws.proofs.AllLeave.{inside_around}
+use Rattle.abort_expansion_laws.proofs.InsideAround.{inside_around}
 use Rattle.abort_expansion_laws.proofs.EffectFollowed.{IsActing, acting_back, effect_followed}
 use Rattle.abort_expansion_laws.proofs.EntryPassed.{entry_passed}
 use Rattle.abort_expansion_laws.proofs.EntryTestFails.{IsEntering, entering_back, opening_on_followed}

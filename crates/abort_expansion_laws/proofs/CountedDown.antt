@@ -1,19 +1,18 @@
 -- A region that ended on entry counts down: the first of the steps by which what was entered settles.
 use Rattle.std.proofs.Common.{◌≡◌, ◌≢◌, ℕ, zero, suc, pos, ◌+◌, ◌<◌, ◌≤◌, ◌⊎◌, inl, inr, ⊎_elim, Bool, true, false, Option, Some, None, List, [], ◌∷◌, ◌++◌}
-use Rattle.std.proofs.Common.{map, length, slice_get, slice_set, unwrap_or, Contains, refl, sym, ap, subst, ◌∙◌, arith, if◌then◌else◌}
-use Rattle.std.proofs.lemmas.Option.{same_Some, slice_get_past}
+use Rattle.std.proofs.Common.{map, length, slice_get, slice_set, Contains, refl, sym, ap, subst, ◌∙◌, arith, if◌then◌else◌}
+use Rattle.std.proofs.lemmas.Option.{same_Some}
 use Rattle.sc_values.specs.declared.value.Value.{Value}
 use Rattle.sc_values.specs.declared.value.Value.TheVariants as value_is
 use Rattle.sc_values.specs.declared.operator.Combination.TheVariants as combine
 use Rattle.sc_values.specs.Access.{Access, no_access}
 use Rattle.core_charts.specs.declared.region.Transition.{Transition}
 use Rattle.core_charts.specs.Aborts.{has_aborts}
-use Rattle.chart_machine.specs.declared.standing.Standing.{Standing}
 use Rattle.chart_machine.specs.declared.standing.Standing.TheVariants as at
 use Rattle.chart_machine.specs.declared.standing.Configuration.{Configuration}
 use Rattle.chart_machine.specs.declared.table.Table.{Table}
 use Rattle.chart_machine.specs.Table.{state_at}
-use Rattle.chart_machine.specs.Turns.{standing_of, guards as has_to_guard, is_guarded}
+use Rattle.chart_machine.specs.Turns.{standing_of, guards as has_to_guard}
 use Rattle.chart_machine.specs.Steps.{access_of}
 use Rattle.abort_expansion.specs.Transitions.{go, count_down}
 use Rattle.abort_expansion.specs.Superstates.{stays}
@@ -22,77 +21,20 @@ use Rattle.abort_expansion_laws.specs.Stages.{Entry, Silent, Correspondence, IsS
 use Rattle.abort_expansion_laws.proofs.Supplying.{climbs_step, silent_idle, silent_count, combines}
 use Rattle.chart_machine_laws.proofs.LyingIn.{IsNested, around, holder, head_in, tail_in}
 use Rattle.abort_expansion_laws.proofs.TablesCorrespond.{IsThere}
-use Rattle.abort_expansion_laws.specs.CoreRows.{own, IsState, Images, CoreRows}
-use Rattle.abort_expansion_laws.specs.Related.{is_behind, Stands, outside, ended, left, trying, acting, entering, guarding, staying, within, behind, Watches}
-use Rattle.abort_expansion_laws.specs.Related.{guards as watch_guards, waits, elsewhere, IsInside, open_inside, Stores}
-use Rattle.abort_expansion_laws.proofs.Unchanged.{get_same, get_other, stands_same, stands_other}
+use Rattle.abort_expansion_laws.specs.CoreRows.{own, Images, CoreRows}
+use Rattle.abort_expansion_laws.specs.Related.{is_behind, Stands, outside, ended, left, Watches}
+use Rattle.abort_expansion_laws.specs.Related.{waits, IsInside, open_inside, Stores}
+use Rattle.abort_expansion_laws.proofs.Unchanged.{get_same, get_other, stands_same, stands_other, unguarded}
 use Rattle.abort_expansion_laws.proofs.Leaving.{set_length}
 use Rattle.abort_expansion_laws.proofs.StageReached.{stage_of, one_at_least}
 use Rattle.abort_expansion_laws.proofs.ImageSteps.{pair}
 use Rattle.abort_expansion_laws.proofs.CoreSteps.{takes, writes_last}
 use Rattle.abort_expansion_laws.proofs.CounterValues.{counted_value, counted_access}
-use Rattle.abort_expansion_laws.proofs.Pending.{Sound, IsStarting, Waits, settled, opening, starting, joining, ending, hidden, Covered, goes_in, still_going}
+use Rattle.abort_expansion_laws.proofs.Pending.{Sound, IsStarting, Waits, settled, Covered, goes_in, still_going}
 use Rattle.abort_expansion_laws.proofs.Pending.{Flagged, Pending, IsBusy, starts, opens, joins_then, Reached, behind_parts}
 use Rattle.abort_expansion_laws.proofs.SettledInOrder.{skips, Piece}
 use Rattle.abort_expansion_laws.proofs.StartingRegions.{Once, CounterRows, set_behind, opening_on, joining_on, starting_on, covered_on, waits_on}
-
--- ---- nobody in the core guards
-
-module _ (k core : Table) (i : Images) (rows : CoreRows k core i) (c : Configuration) (n : ℕ) (d : Configuration) (p : Pending k core i c n d) where
-  settled_calm : (r : ℕ) (x y : Standing) → Stands k core i c r x y → has_to_guard y ≡ false
-  settled_calm r _ _ outside = refl
-  settled_calm r _ _ (ended inner) = refl
-  settled_calm r _ _ (left s ss e over) = refl
-  settled_calm r _ _ (trying s tests simple held) = refl
-  settled_calm r _ _ (acting s u q e effects lt) = refl
-  settled_calm r _ _ (entering s fork t tests super held leads) = refl
-  settled_calm r _ _ (guarding s join t tests has held leads) = refl
-  settled_calm r _ _ (staying s tests super held stays) = refl
-  settled_calm r _ _ (within s join tests super held stays still leads) = refl
-  settled_calm r _ _ (behind s tests super held over) = refl
-
-  waits_calm : (r : ℕ) → Waits k core i c d r → has_to_guard (standing_of d (i.thread_of r)) ≡ false
-  waits_calm r (settled stands) = settled_calm r (standing_of c r) (standing_of d (i.thread_of r)) stands
-  waits_calm r (opening s held o) = ap (λ q. has_to_guard (standing_of d (i.thread_of q))) (sym held) ∙ ap has_to_guard o.preparing
-  waits_calm r (starting s o) = ap has_to_guard o.counting
-  waits_calm r (joining s held o) = ap (λ q. has_to_guard (standing_of d (i.thread_of q))) (sym held) ∙ ap has_to_guard o.forked
-  waits_calm r (ending s ss direct o over idle) = ap has_to_guard idle
-  waits_calm r (hidden s inner o out) = ap has_to_guard out
-
-  watch_calm : (o : ℕ) (x y : Standing) → Watches k core i o x y → has_to_guard y ≡ false
-  watch_calm o _ _ (watch_guards some among) = refl
-  watch_calm o _ _ (waits some joins among all) = refl
-  watch_calm o x _ (elsewhere z a b) = refl
-
-  past_or_there : (t : ℕ) → (t ≡ 0) ⊎ (IsThere core t ⊎ (suc (length core.regions) ≤ t))
-  past_or_there zero = inl refl
-  past_or_there (suc t) = ⊎_elim (λ lt. inr (inl (omega arith, omega (lt, arith)))) (λ past. inr (inr (omega (past, arith))))
-      (in_or_past t (length core.regions))
-    where
-      in_or_past : (m n : ℕ) → (m < n) ⊎ (n ≤ m)
-      in_or_past m n = grind arith
-
-  pub all_calm : (t : ℕ) → has_to_guard (standing_of d t) ≡ false
-  all_calm t = by_place (past_or_there t)
-    where
-      by_sort : ((r : ℕ) × IsThere k r × (t ≡ i.thread_of r)) ⊎ ((o : ℕ) × IsState k o × (has_aborts (own k o) ≡ true) × (t ≡ i.watcher_of o)) →
-          has_to_guard (standing_of d t) ≡ false
-      by_sort (inl r) = ap (λ z. has_to_guard (standing_of d z)) r.2 ∙ waits_calm r.0 (p.waits r.0 r.1)
-      by_sort (inr o) =
-          ap (λ z. has_to_guard (standing_of d z)) o.3
-          ∙ ⊎_elim (λ w. watch_calm o.0 (standing_of c (holder k o.0)) (standing_of d (i.watcher_of o.0)) w) (λ hides. ap has_to_guard hides.0)
-          (p.watchers o.0 o.1 o.2)
-
-      by_place : (t ≡ 0) ⊎ (IsThere core t ⊎ (suc (length core.regions) ≤ t)) → has_to_guard (standing_of d t) ≡ false
-      by_place (inl e) = ap (λ z. has_to_guard (standing_of d z)) e ∙ ap has_to_guard p.no_core
-      by_place (inr (inl there)) = by_sort (rows.each t there)
-      by_place (inr (inr past)) =
-          let far : length d.regions ≤ t = let size = p.core_regions in omega (past, size, arith) in
-          ap (λ o. has_to_guard (unwrap_or o at.Outside)) (slice_get_past d.regions t far)
-
-pub unguarded : (core : Table) (d : Configuration) → ((t : ℕ) → has_to_guard (standing_of d t) ≡ false) → (zs : List ℕ) → is_guarded core d zs ≡ false
-unguarded core d none [] = refl
-unguarded core d none (s ∷ zs) = rw (none (holder core s), unguarded core d none zs) refl
+use Rattle.abort_expansion_laws.proofs.CalmPending.{all_calm}
 
 module _ (k core : Table) (i : Images) (rows : CoreRows k core i) (tree : IsNested k) (counts : ℕ → Bool) (written_at : ℕ → ℕ)
     (Told : Configuration → Entry → Type 0)
@@ -135,7 +77,6 @@ module _ (k core : Table) (i : Images) (rows : CoreRows k core i) (tree : IsNest
   flagged = ⊎_elim (λ f. f) (λ covered. absurd (not_covered covered)) (p.flags s st.there stands_inside)
 
   -- ---- one less is left
-
   goes_now : goes_in k core i c d r ≡ true
   goes_now = rw (st.over_in_chart, st.counting) refl
 
@@ -227,7 +168,6 @@ module _ (k core : Table) (i : Images) (rows : CoreRows k core i) (tree : IsNest
   stored = subst (λ o. Stores k core i d.variables o (suc m)) st.counts (subst (Stores k core i d.variables (i.flags_of s).counter) was flagged.counter)
 
   -- ---- the variables
-
   declared : length k.variables ≤ x
   declared = rows.counter_added s x st.counts
 
@@ -265,7 +205,6 @@ module _ (k core : Table) (i : Images) (rows : CoreRows k core i) (tree : IsNest
       }
 
   -- ---- all that waits still does, and region r is settled
-
   set_size : {A : Type 0} (ys : List A) (j : ℕ) (v : A) → length (slice_set ys j v) ≡ length ys
   set_size [] j v = refl
   set_size (y ∷ ys) zero v = refl
@@ -341,7 +280,6 @@ module _ (k core : Table) (i : Images) (rows : CoreRows k core i) (tree : IsNest
       }
 
   -- ---- the two steps
-
   abbrev at_one : Option (ℕ × ℕ)
   at_one = Some (corr.home x, written_at x)
 

@@ -25,17 +25,16 @@ use Rattle.abort_expansion_laws.specs.Stages.{Entry, Silent, Correspondence, IsS
 use Rattle.abort_expansion_laws.proofs.Supplying.{climbs_step, silent_count, combines}
 use Rattle.abort_expansion_laws.proofs.Simulation.{Segment}
 use Rattle.abort_expansion_laws.proofs.TablesCorrespond.{IsThere}
-use Rattle.abort_expansion_laws.proofs.Unchanged.{stands_same, stands_other, no_guards}
+use Rattle.abort_expansion_laws.proofs.Unchanged.{stands_same, stands_other, no_guards, unguarded, set_twice}
 use Rattle.abort_expansion_laws.proofs.StageReached.{some_work, stage_of, Stage, any_in, none_of, inside_in}
 use Rattle.abort_expansion_laws.proofs.ImageSteps.{pair}
 use Rattle.abort_expansion_laws.proofs.KnownVariables.{present_there}
 use Rattle.abort_expansion_laws.proofs.CoreSteps.{writes_last}
 use Rattle.abort_expansion_laws.proofs.CounterValues.{counted_value, counted_access}
 use Rattle.abort_expansion_laws.proofs.StartingRegions.{Once, CounterRows}
-use Rattle.abort_expansion_laws.proofs.CountedDown.{unguarded}
 use Rattle.abort_expansion_laws.proofs.EffectFollowed.{IsActing, acting_back}
-use Rattle.abort_expansion_laws.proofs.EffectAhead.{set_twice}
 use Rattle.abort_expansion_laws.proofs.Owed.{Counts, core_enters}
+use Rattle.abort_expansion_laws.proofs.StandsInside.{inside_present}
 
 module _ (k core : Table) (i : Images) (rows : CoreRows k core i) (tree : IsNested k) (counts : ℕ → Bool) (written_at : ℕ → ℕ)
     (Told : Configuration → Entry → Type 0)
@@ -66,12 +65,8 @@ module _ (k core : Table) (i : Images) (rows : CoreRows k core i) (tree : IsNest
   stands_inside =
       related.enclosed q u there (λ w. let wrong : at.Acting s (e ∷ []) p ≡ at.Outside = sym stands ∙ w in absurd cc) inner
 
-  inside_present : (x : Standing) → IsInside k core i u x → x ≢ at.Outside
-  inside_present _ (guarded tests) w = absurd cc
-  inside_present _ (open_inside tests) w = absurd cc
-
   holder_there : IsThere k (holder k u)
-  holder_there = present_there k core i c d related (holder k u) (inside_present (standing_of c (holder k u)) stands_inside)
+  holder_there = present_there k core i c d related (holder k u) (inside_present k core i u (standing_of c (holder k u)) stands_inside)
 
   -- ---- the counter holds how many regions have not ended, this one among them
 

@@ -3,6 +3,7 @@ use Rattle.std.proofs.Common.{◌≡◌, ◌≢◌, ℕ, ◌<◌, ◌≤◌, ◌
 use Rattle.std.proofs.Common.{length, slice_get, slice_set, unwrap_or, refl, sym, ap, subst, ◌∙◌, arith}
 use Rattle.std.specs.List.{list_any}
 use Rattle.std.proofs.lemmas.Option.{slice_get_past}
+use Rattle.std.proofs.lemmas.Bool.{cases_lt}
 use Rattle.sc_text.proofs.EachItem.{Each, each_append}
 use Rattle.core_charts.specs.declared.features.Features.{Features}
 use Rattle.core_charts.specs.Chart.{Chart}
@@ -25,17 +26,14 @@ use Rattle.abort_expansion_laws.proofs.Unchanged.{get_same, get_other}
 use Rattle.abort_expansion_laws.proofs.ChartSteps.{Makes, takes_trying, takes_entering, takes_guarding, takes_within, tries_on, enters_on, guards_on}
 use Rattle.abort_expansion_laws.proofs.ChartSteps.{waits_on, acts_on, StepMade, step_made}
 use Rattle.abort_expansion_laws.proofs.EnteredMoves.{EnteredBy, each_entered, each_opened}
-use Rattle.abort_expansion_laws.proofs.AfterOpening.{moved_size}
 use Rattle.abort_expansion_laws.proofs.FirstTick.{first_regions}
 use Rattle.abort_expansion_laws.proofs.FreshInside.{nobody_there}
+use Rattle.abort_expansion_laws.proofs.Leaving.{moved_size}
 
 abbrev IsPrompt : Move → Type 0
 IsPrompt m = is_late m.standing ≡ false
 
 module _ (k : Table) (enters : (s : ℕ) → EnteredBy IsPrompt (state_at k s)) where
-  in_or_past : (n m : ℕ) → (n < m) ⊎ (m ≤ n)
-  in_or_past n m = grind arith
-
   -- a move that is none of q, or leads past the regions, leaves q where it was
   unmoved : (m : Move) (zs : List Standing) (q : ℕ) → (m.region ≡ q → q < length zs → ⊥) →
       unwrap_or (slice_get (slice_set zs m.region m.standing) q) at.Outside ≡ unwrap_or (slice_get zs q) at.Outside
@@ -47,7 +45,7 @@ module _ (k : Table) (enters : (s : ℕ) → EnteredBy IsPrompt (state_at k s)) 
           (λ past.
           ap (λ o. unwrap_or o at.Outside)
           (slice_get_past (slice_set zs m.region m.standing) q (let size = moved_size (m ∷ []) zs in omega (size, past, arith))
-          ∙ sym (slice_get_past zs q past))) (in_or_past q (length zs))
+          ∙ sym (slice_get_past zs q past))) (cases_lt q (length zs))
 
   one_moved : (m : Move) (zs : List Standing) (q : ℕ) → IsPrompt m →
       is_late (unwrap_or (slice_get (slice_set zs m.region m.standing) q) at.Outside) ≡ true → is_late (unwrap_or (slice_get zs q) at.Outside) ≡ true
@@ -113,7 +111,7 @@ module _ (k : Table) (enters : (s : ℕ) → EnteredBy IsPrompt (state_at k s)) 
         let wrong : true ≡ false = sym now ∙ ap (λ o. is_late (unwrap_or o at.Outside)) none in absurd cc
 
     tried_on : is_late (standing_of c q) ≡ true
-    tried_on = ⊎_elim (λ same. ⊎_elim (in_range same) past_all (in_or_past q (length c.regions))) other (same_or_not q r)
+    tried_on = ⊎_elim (λ same. ⊎_elim (in_range same) past_all (cases_lt q (length c.regions))) other (same_or_not q r)
 
   after_moves : (c : Configuration) (r q : ℕ) (x : Standing) (ms : List Move) → standing_of c r ≡ x → Makes k r x ms →
       is_late (unwrap_or (slice_get (moved ms c.regions) q) at.Outside) ≡ true → is_late (standing_of c q) ≡ true

@@ -9,7 +9,7 @@ use Rattle.chart_machine.specs.Steps.{moved}
 use Rattle.chart_machine_laws.proofs.LyingIn.{IsNested, around, holder, around_around}
 use Rattle.abort_expansion_laws.proofs.TablesCorrespond.{IsThere}
 use Rattle.abort_expansion_laws.proofs.StageReached.{holds_other, inside_in}
-use Rattle.abort_expansion_laws.proofs.AllLeave.{inside_around}
+use Rattle.abort_expansion_laws.proofs.InsideAround.{inside_around}
 use Rattle.abort_expansion_laws.proofs.Leaving.{drops, set_here, set_other, drops_in, drops_out, drops_length}
 use Rattle.abort_expansion_laws.proofs.DropsOut.{any_alike}
 

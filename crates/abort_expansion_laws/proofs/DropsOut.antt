@@ -2,8 +2,8 @@
 use Rattle.std.proofs.Common.{◌≡◌, ◌≢◌, ℕ, zero, suc, ◌<◌, ◌≤◌, ◌⊎◌, inl, inr, ⊎_elim, Bool, true, false, List, [], ◌∷◌, ◌++◌, map, length, slice_set}
 use Rattle.std.proofs.Common.{Contains, refl, sym, ap, subst, ◌∙◌, arith}
 use Rattle.std.specs.List.{list_all, list_any}
+use Rattle.std.proofs.lemmas.Bool.{cases_lt}
 use Rattle.sc_values.specs.declared.value.Value.{Value}
-use Rattle.core_charts.specs.declared.region.Effect.{Effect}
 use Rattle.core_charts.specs.declared.region.Transition.{Transition}
 use Rattle.core_charts.specs.Aborts.{has_aborts}
 use Rattle.chart_machine.specs.declared.standing.Standing.{Standing}
@@ -24,9 +24,10 @@ use Rattle.abort_expansion_laws.specs.Related.{guarding, staying, within, behind
 use Rattle.abort_expansion_laws.specs.Related.{still_in, not_ended, Related}
 use Rattle.abort_expansion_laws.proofs.StageReached.{inside_in, holds_other}
 use Rattle.abort_expansion_laws.proofs.Leaving.{drops, at_number, set_here, set_other, set_length, drops_in, drops_out, drops_length}
-use Rattle.abort_expansion_laws.proofs.AllLeave.{inside_around}
+use Rattle.abort_expansion_laws.proofs.InsideAround.{inside_around}
 use Rattle.abort_expansion_laws.proofs.TestFails.{watch_other}
 use Rattle.chart_machine_laws.proofs.ChartTables.{nothing_around}
+use Rattle.abort_expansion_laws.proofs.StandsInside.{inside_present}
 
 pub all_alike : (p q : ℕ → Bool) (xs : List ℕ) → ((x : ℕ) → Contains xs x → p x ≡ q x) → list_all p xs ≡ list_all q xs
 all_alike p q [] h = refl
@@ -35,24 +36,6 @@ all_alike p q (x ∷ xs) h = rw (h x (head_in x xs), all_alike p q xs (λ y tail
 pub any_alike : (p q : ℕ → Bool) (xs : List ℕ) → ((x : ℕ) → Contains xs x → p x ≡ q x) → list_any p xs ≡ list_any q xs
 any_alike p q [] h = refl
 any_alike p q (x ∷ xs) h = rw (h x (head_in x xs), any_alike p q xs (λ y tail. h y (tail_in x y xs tail))) refl
-
--- who stands in a superstate stands in no other one, and has not ended
-module _ (k core : Table) (i : Images) (o : ℕ) where
-  pub only_inside : (s : ℕ) (x : Standing) → IsInside k core i o x → IsInside k core i s x → s ≡ o
-  only_inside s _ (guarded tests) (guarded others) = refl
-  only_inside s _ (open_inside tests) (open_inside others) = refl
-
-  pub inside_not_over : (x : Standing) → IsInside k core i o x → has_ended x ≡ false
-  inside_not_over _ (guarded tests) = refl
-  inside_not_over _ (open_inside tests) = refl
-
-  pub inside_present : (x : Standing) → IsInside k core i o x → x ≢ at.Outside
-  inside_present _ (guarded tests) e = absurd cc
-  inside_present _ (open_inside tests) e = absurd cc
-
-  pub inside_not_acting : (x : Standing) → IsInside k core i o x → (s : ℕ) (effects : List Effect) (target : ℕ) → x ≢ at.Acting s effects target
-  inside_not_acting _ (guarded tests) s effects target e = absurd cc
-  inside_not_acting _ (open_inside tests) s effects target e = absurd cc
 
 module _ (k core : Table) (i : Images) (rows : CoreRows k core i) (tree : IsNested k)
     (children : (s r : ℕ) → Contains (state_at k s).regions r → around k r ≡ s ∷ around k (holder k s)) where
@@ -113,7 +96,6 @@ module _ (k core : Table) (i : Images) (rows : CoreRows k core i) (tree : IsNest
         drops_out (inside k o) c.regions q (out_of_it q out_q))
 
     -- ---- the core's side
-
     in_core : (q : ℕ) → In q → Contains (around core (i.thread_of q)) (i.main_of o)
     in_core q h = subst (λ zs. Contains zs (i.main_of o)) (sym (rows.encloses q)) (map_contains i.main_of (around k q) o h)
 
@@ -126,11 +108,6 @@ module _ (k core : Table) (i : Images) (rows : CoreRows k core i) (tree : IsNest
     core_same q ne out_q = go.others (i.thread_of q) (λ e. ne (rows.region_once q r e)) (λ h. out_q (from_core q h))
 
     -- ---- who does not end, and does not guard
-
-    inside_there : (s : ℕ) (x : Standing) → IsInside k core i s x → x ≢ at.Outside
-    inside_there s _ (guarded tests) e = absurd cc
-    inside_there s _ (open_inside tests) e = absurd cc
-
     ends_alike : (q : ℕ) → ¬ In q → has_ended (standing_of c' q) ≡ has_ended (standing_of c q)
     ends_alike q out_q =
         ⊎_elim (λ e. ap (λ p. has_ended (standing_of c' p)) e ∙ (ap has_ended here ∙
@@ -274,11 +251,8 @@ module _ (k core : Table) (i : Images) (rows : CoreRows k core i) (tree : IsNest
           where
             there_or_bare : (q : ℕ) → IsThere k q ⊎ (around k q ≡ [])
             there_or_bare zero = inr refl
-            there_or_bare (suc j) = ⊎_elim (λ lt. inl (omega arith, lt)) (λ past. inr (bare_past j past)) (in_or_past (suc j) (suc (length k.regions)))
+            there_or_bare (suc j) = ⊎_elim (λ lt. inl (omega arith, lt)) (λ past. inr (bare_past j past)) (cases_lt (suc j) (suc (length k.regions)))
               where
-                in_or_past : (m n : ℕ) → (m < n) ⊎ (n ≤ m)
-                in_or_past m n = grind arith
-
                 bare_past : (m : ℕ) → suc (length k.regions) ≤ suc m → around k (suc m) ≡ []
                 bare_past m past = nothing_around k m (omega (past, arith))
 
@@ -311,10 +285,7 @@ module _ (k core : Table) (i : Images) (rows : CoreRows k core i) (tree : IsNest
         gone_in zero h = absurd (none_in o h)
         gone_in (suc j) h = ⊎_elim (λ lt. gone (suc j) (omega arith, lt) h)
             (λ past. absurd (none_in o (subst (λ zs. Contains zs o) (nothing_around k j (omega (past, arith))) h)))
-            (in_or_past (suc j) (suc (length k.regions)))
-          where
-            in_or_past : (m n : ℕ) → (m < n) ⊎ (n ≤ m)
-            in_or_past m n = grind arith
+            (cases_lt (suc j) (suc (length k.regions)))
 
     holds_before : (s : ℕ) → IsInside k core i s (standing_of c' (holder k s)) → Holds s
     holds_before s inner =
@@ -329,7 +300,7 @@ module _ (k core : Table) (i : Images) (rows : CoreRows k core i) (tree : IsNest
         not_by e = go.not_inside s (subst (IsInside k core i s) (ap (standing_of c') e ∙ here) inner)
 
         out_h : ¬ In (holder k s)
-        out_h h = present_there (holder k s) (inside_there s (standing_of c' (holder k s)) inner) h
+        out_h h = present_there (holder k s) (inside_present k core i s (standing_of c' (holder k s)) inner) h
 
     down_still : (s : ℕ) → s ≢ o → ¬ In (holder k s) → FlagsAreDown k core i c d.variables s → FlagsAreDown k core i c' d'.variables s
     down_still s not_o out_h down =

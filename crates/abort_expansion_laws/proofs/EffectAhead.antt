@@ -20,17 +20,13 @@ use Rattle.abort_expansion_laws.proofs.ImageSteps.{pair}
 use Rattle.abort_expansion_laws.proofs.Supplying.{climbs_fewer}
 use Rattle.chart_machine_laws.proofs.LyingIn.{IsNested}
 use Rattle.abort_expansion_laws.proofs.Owed.{Counts}
+use Rattle.abort_expansion_laws.proofs.Unchanged.{set_twice}
 
 pub any_same : (p q : ℕ → Bool) (xs : List ℕ) → ((x : ℕ) → p x ≡ q x) → list_any p xs ≡ list_any q xs
 any_same p q [] h = refl
 any_same p q (x ∷ xs) h = rw (h x, any_same p q xs h) refl
 
 -- ---- what is entered overwrites where the region stood
-
-pub set_twice : {A : Type 0} (xs : List A) (n : ℕ) (v w : A) → slice_set (slice_set xs n v) n w ≡ slice_set xs n w
-set_twice [] n v w = refl
-set_twice (x ∷ xs) zero v w = refl
-set_twice (x ∷ xs) (suc n) v w = ap (λ zs. x ∷ zs) (set_twice xs n v w)
 
 -- these moves begin with one of this region
 pub record BeginsAt (r : ℕ) (moves : List Move) : Type 0 where

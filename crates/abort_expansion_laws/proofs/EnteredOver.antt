@@ -16,7 +16,6 @@ use Rattle.chart_machine_laws.specs.Tree.{IsThere, around, holder}
 use Rattle.chart_machine_laws.proofs.LyingIn.{none_in, head_in, head_or_tail}
 use Rattle.chart_machine_laws.proofs.ChartTables.{around_there}
 use Rattle.abort_expansion_laws.specs.CoreRows.{own, IsState, joins, Images, flags_around, counter_over}
-use Rattle.abort_expansion_laws.proofs.AfterOpening.{one_in_other}
 use Rattle.abort_expansion_laws.proofs.TablesCorrespond.{contains_map}
 use Rattle.abort_expansion_laws.proofs.SettledInOrder.{ended_back}
 use Rattle.abort_expansion_laws.proofs.InitialPairs.{in_map}
@@ -26,6 +25,7 @@ use Rattle.abort_expansion_laws.proofs.JustEntered.{EntryRows, Reach, live, behi
 use Rattle.abort_expansion_laws.proofs.EnteredMonitors.{entered_watched}
 use Rattle.abort_expansion_laws.proofs.OpenForks.{all_over}
 use Rattle.abort_expansion_laws.proofs.ForkOver.{watch_gone, Gone, CoreGone, fork_over}
+use Rattle.abort_expansion_laws.proofs.InsideAround.{one_in_other}
 
 module _ (k core : Table) (i : Images) (more : EntryRows k core i) (c e : Configuration)
     (counter_joins : (s x : ℕ) → (i.flags_of s).counter ≡ Some x → has_join (own k s) ≡ true)

@@ -16,8 +16,7 @@ use Rattle.chart_machine_laws.specs.Tree.{IsThere, around, holder}
 use Rattle.abort_expansion_laws.specs.CoreRows.{own, IsState, Images, flags_around}
 use Rattle.abort_expansion_laws.specs.Related.{Related, IsInside}
 use Rattle.abort_expansion_laws.specs.StageReached.{stage_of}
-use Rattle.abort_expansion_laws.proofs.AfterOpening.{moved_size}
-use Rattle.abort_expansion_laws.proofs.Leaving.{set_here, set_other, set_length}
+use Rattle.abort_expansion_laws.proofs.Leaving.{set_here, set_other, set_length, moved_size}
 use Rattle.abort_expansion_laws.proofs.TableEnds.{prepared_apart}
 use Rattle.abort_expansion_laws.proofs.KnownVariables.{present_there}
 use Rattle.abort_expansion_laws.proofs.FreshInside.{Fresh, NobodyIn, ElsewhereNobody, moved_alike, one_state}

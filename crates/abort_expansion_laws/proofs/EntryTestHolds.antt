@@ -29,7 +29,7 @@ use Rattle.abort_expansion_laws.proofs.RegionGoesOn.{BareGoesOn, bare_free, bare
 use Rattle.abort_expansion_laws.proofs.ImageSteps.{pair, RegionStep, region_to, region_related}
 use Rattle.abort_expansion_laws.proofs.KnownVariables.{Stepped, stepped, present_there, trigger_known}
 use Rattle.abort_expansion_laws.proofs.Leaving.{drops, at_number, moved_append}
-use Rattle.abort_expansion_laws.proofs.AllLeave.{inside_around}
+use Rattle.abort_expansion_laws.proofs.InsideAround.{inside_around}
 use Rattle.abort_expansion_laws.proofs.TestFails.{tested_is, watch_other}
 use Rattle.abort_expansion_laws.proofs.TestHolds.{acting_no_inside}
 use Rattle.abort_expansion_laws.proofs.EntryTestFails.{IsEntering, entering_back, entering_no_inside}

@@ -19,20 +19,11 @@ use Rattle.abort_expansion_laws.specs.Stages.{Entry, Silent, Correspondence, Rea
 use Rattle.abort_expansion_laws.proofs.Supplying.{climbs_step, silent_test, tests}
 use Rattle.abort_expansion_laws.proofs.Simulation.{Segment}
 use Rattle.chart_machine_laws.proofs.LyingIn.{around, holder}
-use Rattle.abort_expansion_laws.proofs.Unchanged.{stands_same, stands_other}
+use Rattle.abort_expansion_laws.proofs.Unchanged.{stands_same, stands_other, unguarded}
 use Rattle.abort_expansion_laws.proofs.Leaving.{set_length}
 use Rattle.abort_expansion_laws.proofs.TestFails.{tested_is}
 use Rattle.abort_expansion_laws.proofs.MoreValues.{lowered_verdict}
 use Rattle.abort_expansion_laws.proofs.FlagAccess.{raised_access}
-
-unguarded : (core : Table) (d : Configuration) → ((t : ℕ) → has_to_guard (standing_of d t) ≡ false) → (zs : List ℕ) → is_guarded core d zs ≡ false
-unguarded core d none [] = refl
-unguarded core d none (s ∷ zs) = rw (none (holder core s), unguarded core d none zs) refl
-
-set_again : (zs : List Standing) (g : ℕ) (x y : Standing) → slice_set (slice_set zs g x) g y ≡ slice_set zs g y
-set_again [] g x y = refl
-set_again (z ∷ zs) zero x y = refl
-set_again (z ∷ zs) (suc g) x y = ap (λ ws. z ∷ ws) (set_again zs g x y)
 
 module _ (core : Table) (corr : Correspondence) (Told : Configuration → Entry → Type 0)
     (told : (d : Configuration) (t : ℕ) (stage : Option (ℕ × ℕ)) (a : Access) → Told d (Silent t stage a))

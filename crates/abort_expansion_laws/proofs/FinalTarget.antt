@@ -17,7 +17,6 @@ use Rattle.chart_machine_laws.specs.Tree.{IsThere, holder}
 use Rattle.abort_expansion_laws.specs.CoreRows.{own, is_final, Images, ends}
 use Rattle.abort_expansion_laws.specs.Related.{Related, IsInside, guarded, open_inside, IsCalm, calm_ended}
 use Rattle.abort_expansion_laws.proofs.Unchanged.{stands_same, stands_other}
-use Rattle.abort_expansion_laws.proofs.AfterOpening.{moved_size}
 use Rattle.abort_expansion_laws.proofs.KnownVariables.{present_there}
 use Rattle.abort_expansion_laws.proofs.EffectFollowed.{IsActing, acting_back}
 use Rattle.abort_expansion_laws.proofs.Owed.{chart_enters, core_enters}
@@ -26,6 +25,7 @@ use Rattle.abort_expansion_laws.proofs.InitialPairs.{held_there}
 use Rattle.abort_expansion_laws.proofs.BeginningSorts.{not_both}
 use Rattle.abort_expansion_laws.proofs.JustEntered.{EntryRows}
 use Rattle.abort_expansion_laws.proofs.Pending.{Sound}
+use Rattle.abort_expansion_laws.proofs.Leaving.{moved_size}
 
 -- moves that begin with one that does not end do not end the region
 goes_first : (m : Move) (ms : List Move) → has_ended m.standing ≡ false → ends (m ∷ ms) ≡ false

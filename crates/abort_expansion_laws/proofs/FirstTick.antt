@@ -20,9 +20,8 @@ use Rattle.chart_machine_laws.proofs.LyingIn.{none_in, head_in, head_or_tail}
 use Rattle.chart_machine_laws.proofs.ChartTables.{within_or_past}
 use Rattle.abort_expansion_laws.specs.CoreRows.{IsState, Images}
 use Rattle.abort_expansion_laws.specs.Related.{IsInside, open_inside}
-use Rattle.abort_expansion_laws.proofs.AfterOpening.{moved_size}
 use Rattle.abort_expansion_laws.proofs.TablesCorrespond.{contains_map}
-use Rattle.abort_expansion_laws.proofs.Leaving.{at_number}
+use Rattle.abort_expansion_laws.proofs.Leaving.{at_number, moved_size}
 use Rattle.abort_expansion_laws.proofs.StartingRegions.{Once}
 use Rattle.abort_expansion_laws.proofs.WokenConfigurations.{started_size}
 use Rattle.abort_expansion_laws.proofs.EnteredAlike.{AreEntered}

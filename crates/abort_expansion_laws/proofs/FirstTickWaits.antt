@@ -37,6 +37,7 @@ use Rattle.abort_expansion_laws.proofs.EnteredWaits.{entered_waits}
 use Rattle.abort_expansion_laws.proofs.EnteredMonitors.{Unflagged, entered_watched, entered_flags}
 use Rattle.abort_expansion_laws.proofs.EnteredReady.{opened_later, over_now}
 use Rattle.abort_expansion_laws.proofs.FirstTick.{first_size, values_size, chart_reached, reached, no_region, no_thread, present_there, all_enclosed}
+use Rattle.abort_expansion_laws.proofs.StandsInside.{inside_present}
 
 -- ---- of tests
 
@@ -96,14 +97,10 @@ module _ (k core : Table) (i : Images) (more : EntryRows k core i)
 
   -- ---- of the chart alone
 
-  inside_present : (s : ℕ) (x : Standing) → IsInside k core i s x → x ≢ at.Outside
-  inside_present s _ (guarded tests) e = absurd cc
-  inside_present s _ (open_inside tests) e = absurd cc
-
   all_opened : (s r : ℕ) → IsState k s → IsInside k core i s (standing_of at_first (holder k s)) → Contains (state_at k s).regions r →
       standing_of at_first r ≢ at.Outside
   all_opened s r here inner child =
-      let holder_is = is_there (holder k s) (inside_present s (standing_of at_first (holder k s)) inner) in
+      let holder_is = is_there (holder k s) (inside_present k core i s (standing_of at_first (holder k s)) inner) in
       let opened = reached_inside k core i more f (holder k s) s (standing_of at_first (holder k s)) refl inner (chart_is (holder k s) holder_is) in
       let fresh = (reached_open k core i more f (holder k s) s opened.0 opened.1 (chart_is (holder k s) holder_is)).1 in
       let direct = more.tree.children s r child in

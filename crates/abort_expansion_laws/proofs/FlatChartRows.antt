@@ -21,7 +21,6 @@ use Rattle.abort_expansion.specs.Expansion.{expanded}
 use Rattle.abort_expansion_laws.specs.Flat.{IsFlat}
 use Rattle.abort_expansion_laws.specs.CoreRows.{own, Images, flags_around}
 use Rattle.abort_expansion_laws.proofs.InsideLeaves.{FlatRows}
-use Rattle.abort_expansion_laws.proofs.AfterOpening.{one_in_other}
 use Rattle.abort_expansion_laws.proofs.Walked.{World, FlagsFit}
 use Rattle.abort_expansion_laws.proofs.WalkedWhole.{world, chart_size}
 use Rattle.abort_expansion_laws.proofs.RowsOfCharts as whole
@@ -43,6 +42,7 @@ use Rattle.abort_expansion_laws.proofs.WokenConfigurations.{IsLocal}
 use Rattle.chart_machine.specs.declared.standing.Configuration.{Configuration}
 use Rattle.chart_machine.specs.Machine.{machine, start}
 use Rattle.sc_graph.specs.Tick.{Inputs}
+use Rattle.abort_expansion_laws.proofs.InsideAround.{one_in_other}
 
 -- where a flag for weak aborts is around, a superstate has one
 some_weak : (f : ℕ → Flags) (zs : List ℕ) → weak_around (map f (reverse zs)) ≡ true → (u : ℕ) × Contains zs u × ((x : ℕ) × ((f u).weak ≡ Some x))

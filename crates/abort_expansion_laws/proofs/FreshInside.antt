@@ -17,10 +17,10 @@ use Rattle.tick_laws.proofs.Lists.{same_or_not}
 use Rattle.chart_machine_laws.specs.Tree.{IsTree, around, holder}
 use Rattle.chart_machine_laws.proofs.LyingIn.{none_in, head_in, tail_in, head_or_tail, around_around}
 use Rattle.abort_expansion_laws.specs.CoreRows.{own, IsState}
-use Rattle.abort_expansion_laws.proofs.Leaving.{at_number, set_here, set_other, set_length, moved_append}
+use Rattle.abort_expansion_laws.proofs.Leaving.{at_number, set_here, set_other, set_length, moved_append, moved_size}
 use Rattle.abort_expansion_laws.proofs.StartingRegions.{Once}
-use Rattle.abort_expansion_laws.proofs.AfterOpening.{one_in_other, moved_size}
 use Rattle.abort_expansion_laws.proofs.StateEntry.{Entry, entry_ends, entry_tries, entry_guards, entry_opens}
+use Rattle.abort_expansion_laws.proofs.InsideAround.{one_in_other}
 
 -- what a list of moves makes of a region depends on where that region stands alone
 pub moved_alike : (ms : List Move) (zs ys : List Standing) (q : ℕ) → length zs ≡ length ys → at_number zs q ≡ at_number ys q →

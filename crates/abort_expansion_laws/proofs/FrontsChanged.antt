@@ -11,17 +11,12 @@ use Rattle.abort_expansion_laws.specs.CoreRows.{Images}
 use Rattle.abort_expansion_laws.specs.Related.{front, held_back, is_behind, Stands, outside, ended, left, trying, acting, entering, guarding, staying}
 use Rattle.abort_expansion_laws.specs.Related.{within, behind, IsCalm, calm_outside, calm_ended, calm_trying, calm_within}
 use Rattle.abort_expansion_laws.proofs.WokenConfigurations.{behind_too}
+use Rattle.abort_expansion_laws.proofs.CalmStandings.{calm_entering}
 
 -- behind the first test
 abbrev pub tail_of : Standing → Standing
 tail_of (at.Trying u (t ∷ tests)) = at.Trying u tests
 tail_of other = other
-
-calm_enters : (x : Standing) → IsCalm x → (s : ℕ) (tests : List Transition) → x ≡ at.Entering s tests → ⊥
-calm_enters _ calm_outside s tests e = absurd cc
-calm_enters _ calm_ended s tests e = absurd cc
-calm_enters _ (calm_trying u others) s tests e = absurd cc
-calm_enters _ (calm_within u others) s tests e = absurd cc
 
 -- a standing has one of these checks first, or none
 pub data HasFirst (z : Bool → Transition) : Standing → Type 0 where
@@ -60,7 +55,7 @@ module _ (k core : Table) (i : Images) (c c' : Configuration) (ends : (r : ℕ) 
         subst (λ zs. HasFirst z (at.Trying (i.main_of s) (zs ++ map (led (i.places_of q)) tests ++ held_back k core i q))) (sym (one false))
         (one_first false (i.main_of s) (map (led (i.places_of q)) tests ++ held_back k core i q))
     has_first _ _ (acting s u p e effects lt) calm = none_first _ refl
-    has_first _ _ (entering s fork t tests super held leads) calm = absurd (calm_enters (at.Entering s (t ∷ tests)) calm s (t ∷ tests) refl)
+    has_first _ _ (entering s fork t tests super held leads) calm = absurd (calm_entering (at.Entering s (t ∷ tests)) calm s (t ∷ tests) refl)
     has_first _ _ (guarding s join t tests has held leads) calm = none_first _ refl
     has_first _ _ (staying s tests super held stay) calm = none_first _ refl
     has_first _ _ (within s join tests super held apart still leads) calm = none_first _ refl
@@ -80,7 +75,7 @@ module _ (k core : Table) (i : Images) (c c' : Configuration) (ends : (r : ℕ) 
         (subst (λ zs. Stands k core i c' q (at.Trying s tests) (at.Trying (i.main_of s) (zs ++ map (led (i.places_of q)) tests ++ held_back k core i q)))
         (none false) (trying s tests simple held))
     stands_dropped none _ _ (acting s u p e effects lt) calm = acting s u p e effects lt
-    stands_dropped none _ _ (entering s fork t tests super held leads) calm = absurd (calm_enters (at.Entering s (t ∷ tests)) calm s (t ∷ tests) refl)
+    stands_dropped none _ _ (entering s fork t tests super held leads) calm = absurd (calm_entering (at.Entering s (t ∷ tests)) calm s (t ∷ tests) refl)
     stands_dropped none _ _ (guarding s join t tests has held leads) calm = guarding s join t tests has held leads
     stands_dropped none _ _ (staying s tests super held stay) calm = staying s tests super held stay
     stands_dropped none _ _ (within s join tests super held apart still leads) calm = within s join tests super held apart (still_behind s ∙ still) leads

@@ -17,8 +17,9 @@ use Rattle.abort_expansion_laws.specs.CoreRows.{Images}
 use Rattle.abort_expansion_laws.specs.Related.{Stands, outside, ended, left, trying, acting, entering}
 use Rattle.abort_expansion_laws.specs.Related.{guarding, staying, within, behind, Related, IsCalm, calm_outside}
 use Rattle.abort_expansion_laws.specs.Related.{calm_ended, calm_trying, calm_within}
-use Rattle.abort_expansion_laws.proofs.AllLeave.{inside_around}
+use Rattle.abort_expansion_laws.proofs.InsideAround.{inside_around}
 use Rattle.abort_expansion_laws.proofs.KnownVariables.{present_there}
+use Rattle.abort_expansion_laws.proofs.CalmStandings.{calm_free}
 
 found : (p : ℕ → Bool) (xs : List ℕ) → list_any p xs ≡ true → (y : ℕ) × Contains xs y × (p y ≡ true)
 found p [] e = absurd cc
@@ -32,12 +33,6 @@ found p (x ∷ xs) e = by_own (p x) refl e (λ rest. found p xs rest)
 all_not : (p : ℕ → Bool) (xs : List ℕ) → ((y : ℕ) → Contains xs y → p y ≡ false) → list_all (λ y. not (p y)) xs ≡ true
 all_not p [] none = refl
 all_not p (x ∷ xs) none = rw (none x (head_in x xs), all_not p xs (λ y h. none y (tail_in x y xs h))) refl
-
-guard_calm : (x : Standing) → IsCalm x → has_to_guard x ≡ false
-guard_calm _ calm_outside = refl
-guard_calm _ calm_ended = refl
-guard_calm _ (calm_trying s tests) = refl
-guard_calm _ (calm_within s tests) = refl
 
 module _ (k core : Table) (i : Images) (c d : Configuration) (related : Related k core i c d)
     (deep : (q s : ℕ) → Contains (around k q) s → holder k s < q) (over : IsOver (machine k) c) where
@@ -62,7 +57,7 @@ module _ (k core : Table) (i : Images) (c d : Configuration) (related : Related 
           let s = found (λ u. has_to_guard (standing_of c (holder k u))) (around k r) some in
           let is : IsThere k r = present_there k core i c d related r
           (λ out. let wrong : true ≡ false = sym e ∙ ap has_to_guard out in absurd cc) in
-          guard_calm (standing_of c r) (related.calm r s.0 is s.1 s.2)
+          calm_free (standing_of c r) (related.calm r s.0 is s.1 s.2)
 
       by_case : (b : Bool) → has_to_guard (standing_of c r) ≡ b → has_to_guard (standing_of c r) ≡ false
       by_case false e = e

@@ -25,6 +25,8 @@ use Rattle.abort_expansion_laws.specs.Related.{IsInside, guarded, open_inside, R
 use Rattle.abort_expansion_laws.proofs.Unchanged.{stands_same, stands_other}
 use Rattle.abort_expansion_laws.proofs.RegionGoesOn.{GoesOn, goes_on}
 use Rattle.abort_expansion_laws.proofs.StageReached.{some_work, stage_of, Stage, any_in, none_of, inside_in, holds_other, one_at_least, one_at_most, stage_so}
+use Rattle.abort_expansion_laws.proofs.StandsInside.{inside_present}
+use Rattle.abort_expansion_laws.proofs.KnownVariables.{present_there}
 pub use Rattle.abort_expansion_laws.specs.CoreRows.{pair}
 
 module _ (k core : Table) (i : Images) (rows : CoreRows k core i) (tree : IsNested k) (counts : ℕ → Bool) (written_at : ℕ → ℕ) where
@@ -63,30 +65,12 @@ module _ (k core : Table) (i : Images) (rows : CoreRows k core i) (tree : IsNest
   module _ (c d : Configuration) (related : Related k core i c d) (q : ℕ) (there : IsThere k q) (was_there : standing_of c q ≢ at.Outside)
       (works : has_work k c (standing_of c q) ≡ true) (free : is_guarded k c (around k q) ≡ false) (c' : Configuration)
       (same : (u : ℕ) → Contains (around k q) u → standing_of c' (holder k u) ≡ standing_of c (holder k u)) where
-    in_or_past : (m n : ℕ) → (m < n) ⊎ (n ≤ m)
-    in_or_past m n = grind arith
-
-    -- whoever stands somewhere is a region of the table
-    present_there : (r : ℕ) → standing_of c r ≢ at.Outside → IsThere k r
-    present_there zero present = absurd (present related.no_chart)
-    present_there (suc j) present = by_place (in_or_past (suc j) (suc (length k.regions)))
-      where
-        by_place : (suc j < suc (length k.regions)) ⊎ (suc (length k.regions) ≤ suc j) → IsThere k (suc j)
-        by_place (inl lt) = (omega arith, lt)
-        by_place (inr past) =
-            let far : length c.regions ≤ suc j = omega (past, related.chart_regions, arith) in
-            absurd (present (ap (λ o. unwrap_or o at.Outside) (slice_get_past c.regions (suc j) far)))
-
-    inside_present : (u : ℕ) (x : Standing) → IsInside k core i u x → x ≢ at.Outside
-    inside_present u _ (guarded tests) e = absurd cc
-    inside_present u _ (open_inside tests) e = absurd cc
-
     module _ (u : ℕ) (inner : Contains (around k q) u) where
       stands_inside : IsInside k core i u (standing_of c (holder k u))
       stands_inside = related.enclosed q u there was_there inner
 
       holder_there : IsThere k (holder k u)
-      holder_there = present_there (holder k u) (inside_present u (standing_of c (holder k u)) stands_inside)
+      holder_there = present_there k core i c d related (holder k u) (inside_present k core i u (standing_of c (holder k u)) stands_inside)
 
       not_guarding : guards (standing_of c (holder k u)) ≡ false
       not_guarding = none_of (λ v. guards (standing_of c (holder k v))) (around k q) u free inner

@@ -33,6 +33,7 @@ use Rattle.abort_expansion_laws.specs.Related.{IsCalm, calm_outside, calm_ended,
 use Rattle.abort_expansion_laws.specs.Related.{outside, ended, left, trying, acting, entering, guarding, staying, within, behind, IsInside, open_inside}
 use Rattle.abort_expansion_laws.specs.Related.{Related}
 use Rattle.abort_expansion_laws.proofs.AllLeave.{LeavesBy, leads_out, MayLeave, out, over, tries, forks}
+use Rattle.abort_expansion_laws.proofs.CalmStandings.{calm_acting, calm_entering, calm_guarding}
 
 -- ---- one of the superstates around a region has aborts: then one check stands in front
 
@@ -293,24 +294,6 @@ module _ (k core : Table) (i : Images) (rows : CoreRows k core i) (more : FlatRo
         fork_leaves k core i rows more core_children children o has c d related corr home stage first same_first q s join tests in_o stands super held
         not_staying open_still leads
         (subst (LeavesBy core corr home stage first.variables (i.thread_of q)) (sym (continues q s in_o)) (leaves_by q true (behind_it q s) there in_o))
-
-    calm_acting : (z : Standing) → IsCalm z → (s p : ℕ) (effects : List Effect) → z ≢ at.Acting s effects p
-    calm_acting _ calm_outside s p effects e = absurd cc
-    calm_acting _ calm_ended s p effects e = absurd cc
-    calm_acting _ (calm_trying u tests) s p effects e = absurd cc
-    calm_acting _ (calm_within u tests) s p effects e = absurd cc
-
-    calm_entering : (z : Standing) → IsCalm z → (s : ℕ) (tests : List Transition) → z ≢ at.Entering s tests
-    calm_entering _ calm_outside s others e = absurd cc
-    calm_entering _ calm_ended s others e = absurd cc
-    calm_entering _ (calm_trying u tests) s others e = absurd cc
-    calm_entering _ (calm_within u tests) s others e = absurd cc
-
-    calm_guarding : (z : Standing) → IsCalm z → (s : ℕ) (tests : List Transition) → z ≢ at.Guarding s tests
-    calm_guarding _ calm_outside s others e = absurd cc
-    calm_guarding _ calm_ended s others e = absurd cc
-    calm_guarding _ (calm_trying u tests) s others e = absurd cc
-    calm_guarding _ (calm_within u tests) s others e = absurd cc
 
     never_stays : (q s : ℕ) → Contains (around k q) o → stays (flags_around k core i q) (own k s) ≡ true → ⊥
     never_stays q s in_o e = by_aborts (has_aborts (own k s)) (aborts_around (flags_around k core i q)) (aborts_here q in_o) e

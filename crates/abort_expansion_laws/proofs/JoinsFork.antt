@@ -35,14 +35,15 @@ use Rattle.abort_expansion_laws.proofs.Simulation.{Segment}
 use Rattle.abort_expansion_laws.proofs.Supplying.{climbs_step, silent_idle}
 use Rattle.abort_expansion_laws.proofs.KnownVariables.{in_either}
 use Rattle.abort_expansion_laws.proofs.Leaving.{drops, at_number, set_here, set_other, set_length, drops_in, drops_out, drops_length, joined}
-use Rattle.abort_expansion_laws.proofs.AllLeave.{all_from}
+use Rattle.abort_expansion_laws.proofs.InsideAround.{all_from}
 use Rattle.abort_expansion_laws.proofs.StageReached.{stage_of, none_of, holds_other, one_at_least}
 use Rattle.abort_expansion_laws.proofs.ImageSteps.{pair}
 use Rattle.abort_expansion_laws.proofs.Pending.{Sound, IsJoining, Over, Covered, Flagged, Pending, joins_then, Reached, behind_parts}
 use Rattle.abort_expansion_laws.proofs.StartingRegions.{CounterRows}
-use Rattle.abort_expansion_laws.proofs.CountedDown.{all_calm}
+use Rattle.abort_expansion_laws.proofs.CalmPending.{all_calm}
 use Rattle.abort_expansion_laws.proofs.FailedChecks.{IsDown, AllDown, checks_fail}
 use Rattle.abort_expansion_laws.proofs.EnteringSimple.{once_append, weak_once}
+use Rattle.abort_expansion_laws.proofs.Unchanged.{unguarded}
 
 -- ---- what the continuation tests
 
@@ -93,10 +94,6 @@ in_reverse (x ∷ xs) y h =
     ⊎_elim (λ first. tail_in x y xs (in_reverse xs y first)) (λ last. ⊎_elim (λ e. subst (Contains (x ∷ xs)) e (head_in x xs))
     (λ none. absurd (none_in y none)) (head_or_tail x y [] last))
     (in_either (reverse xs) (x ∷ []) y (subst (λ zs. Contains zs y) (reverse-append (x ∷ []) xs) h))
-
-unguarded : (core : Table) (d : Configuration) → ((t : ℕ) → has_to_guard (standing_of d t) ≡ false) → (zs : List ℕ) → is_guarded core d zs ≡ false
-unguarded core d none [] = refl
-unguarded core d none (s ∷ zs) = rw (none (holder core s), unguarded core d none zs) refl
 
 module _ (k core : Table) (i : Images) (rows : CoreRows k core i) (tree : IsNested k) (counts : ℕ → Bool) (written_at : ℕ → ℕ)
     (Told : Configuration → Entry → Type 0)

@@ -3,6 +3,7 @@ use Rattle.std.proofs.Common.{◌≡◌, ◌≢◌, ℕ, zero, suc, ◌<◌, ◌
 use Rattle.std.proofs.Common.{length, option_and_then, Contains, refl, sym, ap, subst, ◌∙◌, arith}
 use Rattle.std.proofs.lemmas.Option.{slice_get_within, slice_get_past}
 use Rattle.std.specs.Prelude.{option_map, unwrap_or}
+use Rattle.std.proofs.lemmas.Bool.{cases_lt}
 use Rattle.sc_values.specs.declared.value.Value.{Value}
 use Rattle.sc_values.specs.declared.operator.BinaryOperator.{BinaryOperator}
 use Rattle.sc_values.specs.declared.operator.UnaryOperator.{UnaryOperator}
@@ -101,12 +102,9 @@ stepped k r c next h =
     record { works = on.0; free = not_so (is_guarded k c (around k r)) two.0; done = two.1; deed = deed.0; does = deed.1; is = deed.2 }
 
 -- whoever stands somewhere is a region of the table
-in_or_past : (m n : ℕ) → (m < n) ⊎ (n ≤ m)
-in_or_past m n = grind arith
-
 pub present_there : (k core : Table) (i : Images) (c d : Configuration) → Related k core i c d → (r : ℕ) → standing_of c r ≢ at.Outside → IsThere k r
 present_there k core i c d related zero present = absurd (present related.no_chart)
-present_there k core i c d related (suc j) present = by_place (in_or_past (suc j) (suc (length k.regions)))
+present_there k core i c d related (suc j) present = by_place (cases_lt (suc j) (suc (length k.regions)))
   where
     by_place : (suc j < suc (length k.regions)) ⊎ (suc (length k.regions) ≤ suc j) → IsThere k (suc j)
     by_place (inl lt) = (omega arith, lt)

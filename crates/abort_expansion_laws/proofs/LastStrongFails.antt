@@ -31,20 +31,15 @@ use Rattle.abort_expansion_laws.proofs.InsideLeaves.{FlatRows, one_check}
 use Rattle.abort_expansion_laws.proofs.Leaving.{set_length}
 use Rattle.abort_expansion_laws.proofs.MoreValues.{verdict_over_more}
 use Rattle.abort_expansion_laws.proofs.TestFails.{fails}
-use Rattle.abort_expansion_laws.proofs.AfterOpening.{one_in_other}
 use Rattle.abort_expansion_laws.proofs.LaterTicks.{weak_no_join, each_more}
 use Rattle.abort_expansion_laws.proofs.WokenConfigurations.{numbered_from, numbered_are, all_among, raising_is, each_kept}
 use Rattle.abort_expansion_laws.proofs.FrontsChanged.{tail_of, HasFirst, stands_to, has_first, stands_dropped}
+use Rattle.abort_expansion_laws.proofs.CalmStandings.{calm_free}
+use Rattle.abort_expansion_laws.proofs.InsideAround.{one_in_other}
 
 map_empty : (xs : List (ℕ × Transition)) → map (λ (x : ℕ × Transition). x.1) xs ≡ [] → xs ≡ []
 map_empty [] e = refl
 map_empty (x ∷ xs) e = absurd cc
-
-calm_free : (x : Standing) → IsCalm x → has_to_guard x ≡ false
-calm_free _ calm_outside = refl
-calm_free _ calm_ended = refl
-calm_free _ (calm_trying s tests) = refl
-calm_free _ (calm_within s tests) = refl
 
 module _ (k core : Table) (i : Images) (rows : CoreRows k core i) (flat : FlatRows k core i) (tree : IsNested k)
     (core_children : (s r : ℕ) → Contains (state_at core s).regions r → around core r ≡ s ∷ around core (holder core s))

@@ -34,6 +34,7 @@ use Rattle.abort_expansion_laws.proofs.WokenConfigurations.{all_ended_too}
 use Rattle.abort_expansion_laws.proofs.FrontsChanged.{tail_of, HasFirst, one_first, none_first}
 use Rattle.abort_expansion_laws.proofs.ChecksInside.{Passes, nothing_checked, checked, Done, checks_pass}
 use Rattle.abort_expansion_laws.proofs.LastStrongFails as last
+use Rattle.abort_expansion_laws.proofs.StandsInside.{inside_present}
 
 module _ (k core : Table) (i : Images) (rows : CoreRows k core i) (flat : FlatRows k core i) (tree : IsNested k)
     (core_children : (s r : ℕ) → Contains (state_at core s).regions r → around core r ≡ s ∷ around core (holder core s))
@@ -128,12 +129,8 @@ module _ (k core : Table) (i : Images) (rows : CoreRows k core i) (flat : FlatRo
     stands_inside : IsInside k core i s (standing_of c (holder k s))
     stands_inside = related.enclosed r s there (λ e. let wrong : at.Guarding o (t ∷ []) ≡ at.Outside = sym stands ∙ e in absurd cc) inner
 
-    inside_present : (w : Standing) → IsInside k core i s w → w ≢ at.Outside
-    inside_present _ (guarded tests) e = absurd cc
-    inside_present _ (open_inside tests) e = absurd cc
-
     holder_there : IsThere k (holder k s)
-    holder_there = present_there k core i c d related (holder k s) (inside_present (standing_of c (holder k s)) stands_inside)
+    holder_there = present_there k core i c d related (holder k s) (inside_present k core i s (standing_of c (holder k s)) stands_inside)
 
     not_guarding : has_to_guard (standing_of c (holder k s)) ≡ false
     not_guarding = none_of (λ v. has_to_guard (standing_of c (holder k v))) (around k r) s free inner

@@ -47,6 +47,10 @@ set_length [] r x = refl
 set_length (z ∷ zs) zero x = refl
 set_length (z ∷ zs) (suc r) x = ap suc (set_length zs r x)
 
+pub moved_size : (ms : List Move) (zs : List Standing) → length (moved ms zs) ≡ length zs
+moved_size [] zs = refl
+moved_size (m ∷ ms) zs = moved_size ms (slice_set zs m.region m.standing) ∙ set_length zs m.region m.standing
+
 pub stay_out : (rs : List ℕ) (zs : List Standing) (q : ℕ) → at_number zs q ≡ at.Outside → at_number (moved (drops rs) zs) q ≡ at.Outside
 stay_out [] zs q e = e
 stay_out (r ∷ rs) zs q e =

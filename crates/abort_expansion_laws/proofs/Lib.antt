@@ -7,6 +7,7 @@ pub mod TablesCorrespond
 pub mod ListsOfTicks
 pub mod LowPriorities
 pub mod MoreValues
+pub mod CalmStandings
 pub mod Unchanged
 pub mod RegionGoesOn
 pub mod StageReached
@@ -15,11 +16,13 @@ pub mod KnownVariables
 pub mod TestFails
 pub mod SilentSteps
 pub mod Leaving
+pub mod InsideAround
 pub mod AllLeave
 pub mod MonitorGoesOn
 pub mod MonitorSteps
 pub mod StrongNotTaken
 pub mod SimpleRows
+pub mod StandsInside
 pub mod DropsOut
 pub mod MonitorsApart
 pub mod StrongTestsQuiet
@@ -28,6 +31,7 @@ pub mod FlagAccess
 pub mod CoreSteps
 pub mod Answering
 pub mod AbortNext
+pub mod AbortRaised
 pub mod AbortTaken
 pub mod StagesInside
 pub mod StagesAfterDrop
@@ -44,6 +48,7 @@ pub mod TerminationNext
 pub mod TerminationImage
 pub mod StayingTerminates
 pub mod TerminationJoins
+pub mod SplitTests
 pub mod SplitTerminates
 pub mod EntryTestHolds
 pub mod TestHolds
@@ -61,6 +66,7 @@ pub mod Pending
 pub mod SettledInOrder
 pub mod CounterValues
 pub mod StartingRegions
+pub mod CalmPending
 pub mod CountedDown
 pub mod Resets
 pub mod FailedChecks
@@ -69,6 +75,7 @@ pub mod JoinsFork
 pub mod WaitsAfterJoin
 pub mod ForkJoined
 pub mod OpenedRows
+pub mod OpenedKept
 pub mod AfterOpening
 pub mod ForkOpened
 pub mod EnteredSettles

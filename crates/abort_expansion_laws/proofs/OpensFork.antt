@@ -24,9 +24,10 @@ use Rattle.abort_expansion_laws.specs.CoreRows.{own, Images, CoreRows, SplitImag
 use Rattle.abort_expansion_laws.specs.Related.{Stores}
 use Rattle.abort_expansion_laws.proofs.ImageSteps.{pair}
 use Rattle.abort_expansion_laws.proofs.Pending.{IsOpening, Pending, Reached}
-use Rattle.abort_expansion_laws.proofs.CountedDown.{all_calm}
+use Rattle.abort_expansion_laws.proofs.CalmPending.{all_calm}
 use Rattle.abort_expansion_laws.proofs.Resets.{puts, Every, IsOwn, But, entered_with, prepares, one_of, reset_list, resets_are, Apart, IsIn, HasValue}
 use Rattle.abort_expansion_laws.proofs.Resets.{strong_reset, weak_reset, counter_reset}
+use Rattle.abort_expansion_laws.proofs.Unchanged.{set_twice}
 
 -- what more is asked of the rows, for preparations
 pub record OpeningRows (k core : Table) (i : Images) (rows : CoreRows k core i) : Type 0 where
@@ -50,11 +51,6 @@ not_empty None None None n x (inr (inr e)) = absurd cc
 pub every_one : (P : ℕ × ℕ → Type 0) (o : Option ℕ) (n : ℕ) (rest : List (ℕ × ℕ)) → ((x : ℕ) → o ≡ Some x → P (x, n)) → Every P rest → Every P (one_of o n rest)
 every_one P None n rest own others = others
 every_one P (Some x) n rest own others = (own x refl, others)
-
-set_over : (zs : List Standing) (g : ℕ) (x y : Standing) → slice_set (slice_set zs g x) g y ≡ slice_set zs g y
-set_over [] g x y = refl
-set_over (z ∷ zs) zero x y = refl
-set_over (z ∷ zs) (suc g) x y = ap (λ ws. z ∷ ws) (set_over zs g x y)
 
 is_in : (o : Option ℕ) (values : List Value) → ((x : ℕ) → o ≡ Some x → x < length values) → IsIn values o
 is_in None values lt = tt
@@ -112,7 +108,7 @@ module _ (k core : Table) (i : Images) (rows : CoreRows k core i) (tree : IsNest
       (state_at core (state_in core g o.fork)).entered zs
   overwrites zs x =
       ap (λ ms. moved ms (slice_set zs g x)) forks
-      ∙ (ap (moved (state_at core (i.main_of s)).opened) (set_over zs g x (at.Within (i.main_of s) (joins image.join ∷ []))) ∙
+      ∙ (ap (moved (state_at core (i.main_of s)).opened) (set_twice zs g x (at.Within (i.main_of s) (joins image.join ∷ []))) ∙
       ap (λ ms. moved ms zs) (sym forks))
 
   abbrev pub forked : Configuration

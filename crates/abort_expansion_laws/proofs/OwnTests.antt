@@ -3,6 +3,7 @@ use Rattle.std.proofs.Common.{◌≡◌, ℕ, zero, suc, ◌+◌, ◌<◌, ◌�
 use Rattle.std.proofs.Common.{unwrap_or, Contains, refl, sym, ap, subst, ◌∙◌, arith, Bool, true, false, inl, inr, filter, cond}
 use Rattle.std.proofs.lemmas.Option.{slice_get_past}
 use Rattle.std.specs.List.{list_all}
+use Rattle.std.proofs.lemmas.Bool.{cases_lt}
 use Rattle.sc_text.proofs.EachItem.{Each, each_append, each_more, each_of}
 use Rattle.sc_graph.specs.Tick.{Inputs}
 use Rattle.core_charts.specs.declared.region.Effect.{Effect}
@@ -23,7 +24,6 @@ use Rattle.chart_machine_laws.proofs.LyingIn.{around, holder, head_in, tail_in}
 use Rattle.chart_machine_laws.proofs.ChartTables.{within_or_past, around_there}
 use Rattle.chart_machine_laws.proofs.SoundRows.{each_filter}
 use Rattle.abort_expansion_laws.specs.CoreRows.{own, IsState, IsSuper, Images}
-use Rattle.abort_expansion_laws.proofs.AfterOpening.{moved_size}
 use Rattle.abort_expansion_laws.proofs.ChartSteps.{Makes, takes_trying, takes_entering, takes_guarding, takes_within, tries_on, enters_on, guards_on}
 use Rattle.abort_expansion_laws.proofs.ChartSteps.{waits_on, acts_on, StepMade, step_made}
 use Rattle.abort_expansion_laws.proofs.EnteredAlike.{AreEntered}
@@ -31,6 +31,7 @@ use Rattle.abort_expansion_laws.proofs.FreshInside.{nobody_there}
 use Rattle.abort_expansion_laws.proofs.StateEntry.{Entry, entry_ends, entry_tries, entry_guards, entry_opens}
 use Rattle.abort_expansion_laws.proofs.Unchanged.{get_same, get_other}
 use Rattle.abort_expansion_laws.proofs.WokenConfigurations.{woken_at}
+use Rattle.abort_expansion_laws.proofs.Leaving.{moved_size}
 
 module _ (k : Table) where
   abbrev pub AreOwn : ℕ → List Transition → Type 0
@@ -96,9 +97,6 @@ module _ (k : Table) where
 
   -- ---- moves
 
-  in_or_past : (n m : ℕ) → (n < m) ⊎ (m ≤ n)
-  in_or_past n m = grind arith
-
   at_q : List Standing → ℕ → Standing
   at_q zs q = unwrap_or (slice_get zs q) at.Outside
 
@@ -116,7 +114,7 @@ module _ (k : Table) where
           (λ past.
           subst (λ o. IsOwn (unwrap_or o at.Outside))
           (sym (slice_get_past (slice_set zs m.region m.standing) q (let size = moved_size (m ∷ []) zs in omega (size, past, arith)))) tt)
-          (in_or_past q (length zs))
+          (cases_lt q (length zs))
 
   all_moved : (ms : List Move) (zs : List Standing) → Each IsOwnMove ms → ((q : ℕ) → IsOwn (unwrap_or (slice_get zs q) at.Outside)) → (q : ℕ) →
       IsOwn (unwrap_or (slice_get (moved ms zs) q) at.Outside)

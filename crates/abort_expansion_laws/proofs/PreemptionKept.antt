@@ -29,7 +29,7 @@ module _ (c : Chart) (rules : IsChart features.Extended c) (core_rules : IsChart
   abbrev pub ToldHere : Configuration → Entry → Type 0
   ToldHere = Told (table c) (table (expanded c)) (ticks.i c rules core_rules)
 
-  own_tests_kept : ticks.KeptByChart c rules core_rules (OwnTests (table c))
+  pub own_tests_kept : ticks.KeptByChart c rules core_rules (OwnTests (table c))
   own_tests_kept =
       record {
         initially = owns_initially (table c);

@@ -56,7 +56,8 @@ pub use Rattle.abort_expansion_laws.proofs.Pending.{Pending, behind_unprepared}
 pub use Rattle.abort_expansion_laws.proofs.SettledInOrder.{settles}
 pub use Rattle.abort_expansion_laws.proofs.CounterValues.{counted_value, counted_access}
 pub use Rattle.abort_expansion_laws.proofs.StartingRegions.{waits_on}
-pub use Rattle.abort_expansion_laws.proofs.CountedDown.{all_calm, counted_down}
+pub use Rattle.abort_expansion_laws.proofs.CalmPending.{all_calm}
+pub use Rattle.abort_expansion_laws.proofs.CountedDown.{counted_down}
 pub use Rattle.abort_expansion_laws.proofs.Resets.{puts, entered_with, prepares, resets_are, strong_reset, weak_reset, counter_reset}
 pub use Rattle.abort_expansion_laws.proofs.FailedChecks.{checks_fail}
 pub use Rattle.abort_expansion_laws.proofs.OpensFork.{opens_fork, strong_down, weak_down, counter_full}

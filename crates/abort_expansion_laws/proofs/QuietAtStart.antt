@@ -3,6 +3,7 @@
 use Rattle.std.proofs.Common.{◌≡◌, ◌≢◌, ℕ, zero, suc, ◌<◌, ◌≤◌, ◌⊎◌, inl, inr, ⊎_elim, Bool, true, false, not, ◌||◌, Some, List, [], ◌∷◌, ◌++◌, map}
 use Rattle.std.proofs.Common.{length, Contains, refl, sym, ap, subst, ◌∙◌, arith, cond, unwrap_or}
 use Rattle.std.proofs.lemmas.Option.{same_Some, slice_get_past}
+use Rattle.std.proofs.lemmas.Bool.{cases_lt}
 use Rattle.sc_values.specs.Access.{Reads, init_read}
 use Rattle.sc_graph.specs.declared.tables.Tables.{Tables}
 use Rattle.sc_graph.specs.declared.control.Control.{Control}
@@ -48,6 +49,7 @@ use Rattle.abort_expansion_laws.proofs.StrongNotTaken.{inside_guarding}
 use Rattle.abort_expansion_laws.proofs.StrongTestsQuiet.{Resumes}
 use Rattle.abort_expansion_laws.proofs.LowPriorities.{Under}
 use Rattle.abort_expansion_laws.proofs.QuietBegins.{LoweredTests, IsRaising, Beside, StaysLow}
+use Rattle.abort_expansion_laws.proofs.CalmStandings.{calm_acting, calm_entering, calm_guarding}
 
 -- ---- whoever lies in a guarded superstate, and is there, sees the flag first
 
@@ -90,26 +92,14 @@ module _ (k core : Table) (i : Images) (rows : CoreRows k core i) (flat : FlatRo
         by_aborts false true e f = absurd cc
         by_aborts false false e f = absurd cc
 
-    calm_acting : (z : Standing) → IsCalm z → (s p : ℕ) (effects : List Effect) → z ≢ at.Acting s effects p
-    calm_acting _ calm_outside s p effects e = absurd cc
-    calm_acting _ calm_ended s p effects e = absurd cc
-    calm_acting _ (calm_trying u tests) s p effects e = absurd cc
-    calm_acting _ (calm_within u tests) s p effects e = absurd cc
-
-    calm_guards : (z : Standing) → IsCalm z → guards z ≡ true → ⊥
-    calm_guards _ calm_outside e = absurd cc
-    calm_guards _ calm_ended e = absurd cc
-    calm_guards _ (calm_trying u tests) e = absurd cc
-    calm_guards _ (calm_within u tests) e = absurd cc
-
     by_stands : (z y : Standing) → Stands k core i c q z y → IsCalm z → SeesFirst y
     by_stands _ _ outside calm = out
     by_stands _ _ (ended inner) calm = over
     by_stands _ _ (left s ss e over_it) calm = out
     by_stands _ _ (trying s tests simple held) calm = by_trying s tests
     by_stands _ _ (acting s u p g effects lt) calm = absurd (calm_acting (at.Acting s (g ∷ effects) p) calm s p (g ∷ effects) refl)
-    by_stands _ _ (entering s fork t tests super held leads) calm = absurd (calm_guards (at.Entering s (t ∷ tests)) calm refl)
-    by_stands _ _ (guarding s join t tests has_some held leads) calm = absurd (calm_guards (at.Guarding s (t ∷ tests)) calm refl)
+    by_stands _ _ (entering s fork t tests super held leads) calm = absurd (calm_entering (at.Entering s (t ∷ tests)) calm s (t ∷ tests) refl)
+    by_stands _ _ (guarding s join t tests has_some held leads) calm = absurd (calm_guarding (at.Guarding s (t ∷ tests)) calm s (t ∷ tests) refl)
     by_stands _ _ (staying s tests super held stay) calm = absurd (never_stays s stay)
     by_stands _ _ (within s join tests super held stay open_still leads) calm = forks (i.main_of s) (joins join) []
     by_stands _ _ (behind s tests super held over_it) calm = by_behind s
@@ -213,11 +203,8 @@ module _ (k core : Table) (i : Images) (rows : CoreRows k core i) (flat : FlatRo
 
   core_present : (t : ℕ) → standing_of d t ≢ at.Outside → IsThere core t
   core_present zero present = absurd (present related.no_core)
-  core_present (suc t) present = by_place (in_or_past (suc t) (suc (length core.regions)))
+  core_present (suc t) present = by_place (cases_lt (suc t) (suc (length core.regions)))
     where
-      in_or_past : (a b : ℕ) → (a < b) ⊎ (b ≤ a)
-      in_or_past a b = grind arith
-
       by_place : (suc t < suc (length core.regions)) ⊎ (suc (length core.regions) ≤ suc t) → IsThere core (suc t)
       by_place (inl lt) = (omega arith, lt)
       by_place (inr past) =

@@ -24,7 +24,7 @@ use Rattle.abort_expansion_laws.specs.Stages.{Entry, Silent, Correspondence, IsS
 use Rattle.abort_expansion_laws.proofs.Supplying.{climbs_step, silent_idle, silent_set, sets}
 use Rattle.abort_expansion_laws.proofs.Simulation.{Segment}
 use Rattle.chart_machine_laws.proofs.LyingIn.{around, holder}
-use Rattle.abort_expansion_laws.proofs.Unchanged.{get_same, get_other, stands_same, stands_other}
+use Rattle.abort_expansion_laws.proofs.Unchanged.{get_same, get_other, stands_same, stands_other, unguarded}
 use Rattle.abort_expansion_laws.proofs.Leaving.{set_length}
 use Rattle.abort_expansion_laws.proofs.MoreValues.{number_value}
 use Rattle.abort_expansion_laws.proofs.FlagAccess.{put_access}
@@ -41,15 +41,6 @@ set_all (x ∷ xs) values = set_all xs (slice_set values x.0 (value_is.Int (pos 
 abbrev pub Every : {A : Type 0} → (A → Type 0) → List A → Type 0
 Every P [] = Unit {0}
 Every P (x ∷ xs) = P x × Every P xs
-
-free_of : (core : Table) (d : Configuration) → ((t : ℕ) → has_to_guard (standing_of d t) ≡ false) → (zs : List ℕ) → is_guarded core d zs ≡ false
-free_of core d none [] = refl
-free_of core d none (s ∷ zs) = rw (none (holder core s), free_of core d none zs) refl
-
-set_twice : (zs : List Standing) (g : ℕ) (x y : Standing) → slice_set (slice_set zs g x) g y ≡ slice_set zs g y
-set_twice [] g x y = refl
-set_twice (z ∷ zs) zero x y = refl
-set_twice (z ∷ zs) (suc g) x y = ap (λ ws. z ∷ ws) (set_twice zs g x y)
 
 module _ (core : Table) (corr : Correspondence) (Told : Configuration → Entry → Type 0)
     (told : (d : Configuration) (t : ℕ) (stage : Option (ℕ × ℕ)) (a : Access) → Told d (Silent t stage a))
@@ -75,7 +66,7 @@ module _ (core : Table) (corr : Correspondence) (Told : Configuration → Entry 
       standing_of d g ≡ at.Acting u (put x n ∷ puts xs) fork →
       step core g d ≡ Some (record { variables = slice_set d.variables x (value_is.Int (pos n)); regions = moved (acts core g u (puts xs) fork) d.regions })
   effect_step d u x n xs none own stands =
-      let on : is_enabled core d g ≡ true = rw (stands, free_of core d none (around core g)) refl in
+      let on : is_enabled core d g ≡ true = rw (stands, unguarded core d none (around core g)) refl in
       let one : effected core g u (put x n) (puts xs) fork (value_is.Int (pos n)) ≡
       Some (record { write = Some (record { variable = x; value = value_is.Int (pos n) }); moves = acts core g u (puts xs) fork }) = rw (own.kind) refl in
       let does : deed_of core d g (standing_of d g) ≡ Some (record {
@@ -152,7 +143,7 @@ module _ (core : Table) (corr : Correspondence) (Told : Configuration → Entry 
         let ends : entered_with d1 ((x, n) ∷ xs) ≡ entered_with d ((x, n) ∷ xs) =
         ap (λ zs. record { variables = set_all ((x, n) ∷ xs) d.variables; regions = zs }) (overwrites d.regions a) in
         silently_first d d1 no_access Before (λ z. z ≡ entered_with d ((x, n) ∷ xs))
-        (takes core d g u (go true None (put x n ∷ puts xs) fork) [] (put x n) (puts xs) (free_of core d none (around core g)) stands refl alone refl)
+        (takes core d g u (go true None (put x n ∷ puts xs) fork) [] (put x n) (puts xs) (unguarded core d none (around core g)) stands refl alone refl)
         (ap access_of stands) (silent_idle corr g None) (λ rest climbs. climbs_step corr Before But (Silent g None no_access) rest (λ h m e. absurd cc)
         (λ h m ne before. (ne, before)) climbs)
         (subst (λ e. Segment (machine core) corr Told d1 But (λ last. But) [] (λ z. z ≡ e)) ends

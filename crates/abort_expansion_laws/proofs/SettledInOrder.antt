@@ -2,6 +2,7 @@
 use Rattle.std.proofs.Common.{◌≡◌, ◌≢◌, ℕ, zero, suc, ◌+◌, ◌<◌, ◌≤◌, ◌⊎◌, ⊎_elim, Bool, true, false, List, [], ◌∷◌, length, unwrap_or, Contains, refl, sym}
 use Rattle.std.proofs.Common.{ap, subst, ◌∙◌, arith, if◌then◌else◌}
 use Rattle.std.proofs.lemmas.Option.{slice_get_past}
+use Rattle.std.proofs.lemmas.Bool.{cases_lt}
 use Rattle.chart_machine.specs.declared.standing.Standing.{Standing}
 use Rattle.chart_machine.specs.declared.standing.Standing.TheVariants as at
 use Rattle.chart_machine.specs.declared.standing.Configuration.{Configuration}
@@ -38,16 +39,13 @@ module _ (k core : Table) (i : Images) (rows : CoreRows k core i) (tree : IsNest
   abbrev pub all : ℕ
   all = suc (length k.regions)
 
-  in_or_past : (m n : ℕ) → (m < n) ⊎ (n ≤ m)
-  in_or_past m n = grind arith
-
   pub there_in : (r : ℕ) → standing_of c r ≢ at.Outside → IsThere k r
   there_in zero present = absurd (present sound.no_chart)
   there_in (suc j) present =
       ⊎_elim (λ lt. (omega arith, lt))
       (λ past.
       let far : length c.regions ≤ suc j = let size = sound.chart_regions in omega (past, size, arith) in
-      absurd (present (ap (λ o. unwrap_or o at.Outside) (slice_get_past c.regions (suc j) far)))) (in_or_past (suc j) all)
+      absurd (present (ap (λ o. unwrap_or o at.Outside) (slice_get_past c.regions (suc j) far)))) (cases_lt (suc j) all)
 
   pub opening_there : (d : Configuration) (s : ℕ) → IsOpening k core i c d s → IsThere k (holder k s)
   opening_there d s o = there_in (holder k s) (λ e. let wrong : at.Within s o.tests ≡ at.Outside = sym o.open_in_chart ∙ e in absurd cc)

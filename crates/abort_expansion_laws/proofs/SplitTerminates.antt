@@ -1,11 +1,9 @@
 -- The termination of a superstate that is split: behind the fork no flag is raised, and the continuation takes it.
-use Rattle.std.proofs.Common.{◌≡◌, ◌≢◌, ℕ, ◌<◌, ◌≤◌, inl, inr, ⊎_elim, Bool, true, false, ◌||◌, pos, Option, Some, None, List, [], ◌∷◌, ◌++◌}
-use Rattle.std.proofs.Common.{map, length, slice_get, slice_set, Contains, refl, sym, ap, subst, ◌∙◌, arith, if◌then◌else◌}
+use Rattle.std.proofs.Common.{◌≡◌, ◌≢◌, ℕ, ◌<◌, inl, inr, ⊎_elim, Bool, true, false, ◌||◌, Option, Some, None, List, [], ◌∷◌, ◌++◌}
+use Rattle.std.proofs.Common.{map, length, slice_get, slice_set, Contains, refl, sym, ap, subst, ◌∙◌, arith}
 use Rattle.std.specs.Prelude.{reverse}
-use Rattle.std.proofs.lemmas.List.{append_assoc}
 use Rattle.sc_values.specs.declared.expression.Expr.{Expr}
 use Rattle.sc_values.specs.declared.value.Value.{Value}
-use Rattle.sc_values.specs.declared.value.Value.TheVariants as value_is
 use Rattle.sc_values.specs.Access.{Access, no_access}
 use Rattle.sc_values.specs.Runs.{act_of}
 use Rattle.core_charts.specs.declared.region.Effect.{Effect}
@@ -21,63 +19,36 @@ use Rattle.chart_machine.specs.Turns.{standing_of, has_ended, has_work, guards a
 use Rattle.chart_machine.specs.Steps.{to, state_in, moved, acts, verdict, deed_of, access_of, access_of_trigger, step}
 use Rattle.chart_machine.specs.Machine.{machine}
 use Rattle.abort_expansion.specs.Flags.{has_join, weak_around}
-use Rattle.abort_expansion.specs.Transitions.{put, go, is_number, counting, place_of, led_by, strong_checks, answers}
-use Rattle.abort_expansion.specs.Superstates.{stays, closing, joined_or_left}
+use Rattle.abort_expansion.specs.Transitions.{put, counting, place_of, led_by, answers}
+use Rattle.abort_expansion.specs.Superstates.{stays, closing}
 use Rattle.tick_laws.proofs.Lists.{same_or_not, map_contains}
 use Rattle.abort_expansion_laws.specs.Stages.{Entry, Image, Silent, Correspondence, IsSilent}
-use Rattle.abort_expansion_laws.proofs.Supplying.{climbs_fewer, silent_test, silent_idle, tests}
+use Rattle.abort_expansion_laws.proofs.Supplying.{climbs_fewer}
 use Rattle.abort_expansion_laws.proofs.Simulation.{Segment, segment_on}
 use Rattle.abort_expansion_laws.proofs.SilentSteps.{AtHome, climbs_home, silent_step}
 use Rattle.chart_machine_laws.proofs.LyingIn.{IsNested, around, holder, head_in, tail_in}
 use Rattle.abort_expansion_laws.proofs.TablesCorrespond.{IsThere}
-use Rattle.abort_expansion_laws.proofs.MoreValues.{same_verdict}
-use Rattle.abort_expansion_laws.proofs.FlagAccess.{number_access}
-use Rattle.abort_expansion_laws.specs.CoreRows.{own, IsState, IsSuper, joins, Images, CoreRows, flags_around, behind_transitions, pair}
-use Rattle.abort_expansion_laws.specs.Related.{acting, IsInside, guarded, open_inside, not_ended, Stores, Related}
+use Rattle.abort_expansion_laws.specs.CoreRows.{own, IsState, IsSuper, joins, Images, CoreRows, flags_around, pair}
+use Rattle.abort_expansion_laws.specs.Related.{acting, IsInside, open_inside, Stores, Related}
 use Rattle.abort_expansion_laws.proofs.StageReached.{Stage, holds_other}
 use Rattle.abort_expansion_laws.proofs.StartingRegions.{CounterRows}
 use Rattle.abort_expansion_laws.proofs.OpensFork.{OpeningRows}
 use Rattle.abort_expansion_laws.proofs.FailedChecks.{IsDown, AllDown, checks_fail}
-use Rattle.abort_expansion_laws.proofs.EnteringSimple.{once_append}
-use Rattle.abort_expansion_laws.proofs.JoinsFork.{strong_once, in_reverse}
+use Rattle.abort_expansion_laws.proofs.JoinsFork.{in_reverse}
 use Rattle.abort_expansion_laws.proofs.InsideLeaves.{FlatRows}
-use Rattle.abort_expansion_laws.proofs.Answering.{AllFail, fails_on, Passed, tests_fail, none_answered, answers_first}
+use Rattle.abort_expansion_laws.proofs.Answering.{AllFail, Passed, tests_fail}
 use Rattle.abort_expansion_laws.proofs.CoreSteps.{takes_any}
 use Rattle.abort_expansion_laws.proofs.EffectAhead.{BeginsAt}
 use Rattle.abort_expansion_laws.proofs.Owed.{Enters}
 use Rattle.abort_expansion_laws.proofs.Leaving.{drops, set_here, set_other, set_length}
-use Rattle.abort_expansion_laws.proofs.DropsOut.{only_inside, inside_not_acting, DropsOut, dropped_out}
+use Rattle.abort_expansion_laws.proofs.StandsInside.{only_inside, inside_not_acting}
+use Rattle.abort_expansion_laws.proofs.DropsOut.{DropsOut, dropped_out}
 use Rattle.abort_expansion_laws.proofs.SuperstateLeft as left_for
-use Rattle.abort_expansion_laws.proofs.TerminationNext as next
 use Rattle.abort_expansion_laws.proofs.TerminationImage as taken
 use Rattle.abort_expansion_laws.proofs.TerminationJoins as joined
-
-module _ (k core : Table) (i : Images) where
-  -- what a continuation tests
-  pub continuation_tests : (r s : ℕ) → at_once (behind_transitions k core i r s) ≡
-      strong_checks true (i.places_of r).left (flags_around k core i r) ++ ((answers (i.places_of r) (i.flags_of s).strong 1 (strong_aborts (own k s))
-      ++ answers (i.places_of r) (i.flags_of s).weak 1 (weak_aborts (own k s))) ++ at_once (closing (flags_around k core i r) (i.flags_of s) (i.places_of r)
-      (terminations (own k s))))
-  continuation_tests r s =
-      ap at_once (append_assoc (checks ++ strong) weak last ∙ append_assoc checks strong (weak ++ last))
-      ∙ (once_append checks (strong ++ (weak ++ last))
-      ∙ (ap (λ zs. zs ++ at_once (strong ++ (weak ++ last))) (strong_once (i.places_of r).left (flags_around k core i r))
-      ∙ ap (λ zs. checks ++ zs)
-      (answers_first (i.places_of r) (i.flags_of s).strong (strong_aborts (own k s)) (weak ++ last) 1
-      ∙ (ap (λ zs. strong ++ zs) (answers_first (i.places_of r) (i.flags_of s).weak (weak_aborts (own k s)) last 1)
-      ∙ sym (append_assoc strong weak (at_once last))))))
-    where
-      checks : List Transition
-      checks = strong_checks true (i.places_of r).left (flags_around k core i r)
-
-      strong : List Transition
-      strong = answers (i.places_of r) (i.flags_of s).strong 1 (strong_aborts (own k s))
-
-      weak : List Transition
-      weak = answers (i.places_of r) (i.flags_of s).weak 1 (weak_aborts (own k s))
-
-      last : List Transition
-      last = closing (flags_around k core i r) (i.flags_of s) (i.places_of r) (terminations (own k s))
+use Rattle.abort_expansion_laws.proofs.Unchanged.{unguarded}
+use Rattle.abort_expansion_laws.proofs.SplitTests.{continuation_tests}
+use Rattle.abort_expansion_laws.proofs.SplitTests as split
 
 module _ (k core : Table) (i : Images) (rows : CoreRows k core i) (flat : FlatRows k core i) (tree : IsNested k) (core_tree : IsNested core)
     (counts : ℕ → Bool) (written_at : ℕ → ℕ)
@@ -99,101 +70,21 @@ module _ (k core : Table) (i : Images) (rows : CoreRows k core i) (flat : FlatRo
   abbrev corr : Correspondence
   corr = pair k core i rows tree counts written_at
 
-  counted : (has_aborts (own k s) || weak_around (flags_around k core i r)) ≡ true → (x : ℕ) × ((i.flags_of s).counter ≡ Some x)
-  counted some =
-      counter_given s (next.has_one k core i rows tree counts written_at counters children c d related r s held t rest stands join works)
-      (subst (λ q. (has_aborts (own k s) || weak_around (flags_around k core i q)) ≡ true) (sym held) some)
+  abbrev counted_there : has_aborts (own k s) ≡ true → (x : ℕ) × ((i.flags_of s).counter ≡ Some x)
+  counted_there = split.counted_there k core i rows tree counts written_at counters opening children c d related r s held t rest stands join works s_there
+      counter_given
 
-  counted_there : has_aborts (own k s) ≡ true → (x : ℕ) × ((i.flags_of s).counter ≡ Some x)
-  counted_there has = counted (rw (has) refl)
-
-  inside_s : IsInside k core i s (standing_of c (holder k s))
-  inside_s = subst (λ q. IsInside k core i s (standing_of c q)) (sym held) (subst (IsInside k core i s) (sym stands) (open_inside (t ∷ rest)))
-
-  home_of : (y : ℕ) → rows.of_flag y ≡ s → corr.home y ≡ i.thread_of r
-  home_of y owner = ap (λ v. holder core (i.main_of v)) owner ∙ (rows.held s ∙ ap i.thread_of held)
-
-  own_flag : (y : ℕ) → length k.variables ≤ y → rows.of_flag y ≡ s → IsSilent corr (i.thread_of r) None (tests y)
-  own_flag y added owner = silent_test corr (i.thread_of r) None y added (inl (sym (home_of y owner)))
-
-  -- ---- the tests of the continuation
-
-  -- its own flags are down, and no abort is answered
-  none_of : (values : List Value) → values ≡ d.variables → AllFail corr (i.thread_of r) values
+  abbrev none_of : (values : List Value) → values ≡ d.variables → AllFail corr (i.thread_of r) values
       (answers (i.places_of r) (i.flags_of s).strong 1 (strong_aborts (own k s)) ++ answers (i.places_of r) (i.flags_of s).weak 1 (weak_aborts (own k s)))
-  none_of values are =
-      fails_on corr (i.thread_of r) values (answers (i.places_of r) (i.flags_of s).strong 1 (strong_aborts (own k s)))
-      (answers (i.places_of r) (i.flags_of s).weak 1 (weak_aborts (own k s)))
-      (by_flag (i.flags_of s).strong (i.flags_of s).strong refl (related.flags s s_there inside_s).strong (rows.strong_added s) (λ y e.
-      (opening.flag_of s y (inl e)).0)
-      (strong_aborts (own k s)))
-      (by_flag (i.flags_of s).weak (i.flags_of s).weak refl (related.flags s s_there inside_s).weak (rows.weak_added s) (λ y e. (opening.flag_of s y
-      (inr (inl e))).0)
-      (weak_aborts (own k s)))
-    where
-      no_answers : (aborts : List Transition) (m : ℕ) → AllFail corr (i.thread_of r) values (answers (i.places_of r) None m aborts)
-      no_answers [] m = tt
-      no_answers (u ∷ aborts) m = tt
+  none_of = split.none_of k core i rows tree counts written_at counters opening children c d related r s held t rest stands join works s_there counter_given
 
-      by_flag : (f g : Option ℕ) → g ≡ f → Stores k core i d.variables g 0 → ((y : ℕ) → g ≡ Some y → length k.variables ≤ y) →
-          ((y : ℕ) → g ≡ Some y → rows.of_flag y ≡ s) → (aborts : List Transition) → AllFail corr (i.thread_of r) values (answers (i.places_of r) f 1 aborts)
-      by_flag None g e stored added owner aborts = no_answers aborts 1
-      by_flag (Some y) g e stored added owner aborts =
-          none_answered corr (i.thread_of r) (i.places_of r) values y (own_flag y (added y e) (owner y e))
-          (ap (λ vs. slice_get vs y) are ∙ subst (λ z. Stores k core i d.variables z 0) e stored) aborts 1 (omega arith)
+  abbrev Takes : Type 0
+  Takes = split.Takes k core i rows tree counts written_at counters opening children c d related r s held t rest stands join works s_there counter_given
 
-  -- what is tested last takes the termination
-  record Takes : Type 0 where
-    trigger : Option Expr
-    later : List Transition
-    are : at_once (closing (flags_around k core i r) (i.flags_of s) (i.places_of r) (terminations (own k s))) ≡ led_by (i.places_of r) trigger t ∷ later
-    true_there : verdict d.variables trigger ≡ Some true
-    silent : IsSilent corr (i.thread_of r) None (access_of_trigger trigger)
-
-  ends_are : terminations (own k s) ≡ t ∷ rest
-  ends_are = next.ends_are k core i rows tree counts written_at counters children c d related r s held t rest stands join works
-
-  takes : Takes
-  takes = by_weak (weak_around (flags_around k core i r)) refl
-    where
-      none_left : not_ended k core i c s ≡ 0
-      none_left =
-          joined.none_still k core i c (state_at k s).regions
-          (next.child_ended k core i rows tree counts written_at counters children c d related r s held t rest stands join works)
-
-      by_weak : (b : Bool) → weak_around (flags_around k core i r) ≡ b → Takes
-      by_weak false none =
-          record {
-            trigger = None;
-            later = [];
-            are = ap (λ ts. at_once (closing (flags_around k core i r) (i.flags_of s) (i.places_of r) ts)) ends_are
-                ∙ rw (none) refl;
-            true_there = refl;
-            silent = silent_idle corr (i.thread_of r) None;
-          }
-      by_weak true some =
-          let counter = counted (weak_too (has_aborts (own k s)) some) in
-          let stored : slice_get d.variables counter.0 ≡ Some (value_is.Int (pos 0)) =
-          subst (λ f. Stores k core i d.variables f (not_ended k core i c s)) counter.1 (related.flags s s_there inside_s).counter
-          ∙ ap (λ n. Some (value_is.Int (pos n))) none_left in
-          record {
-            trigger = Some (is_number counter.0 0);
-            later = go true None [] (i.places_of r).left ∷ [];
-            are = ap (λ ts. at_once (closing (flags_around k core i r) (i.flags_of s) (i.places_of r) ts)) ends_are
-                ∙ (ap (λ b. at_once (if b then joined_or_left (i.places_of r) (i.flags_of s).counter t else led_by (i.places_of r) None t ∷ [])) some
-                ∙ ap (λ f. at_once (joined_or_left (i.places_of r) f t)) counter.1);
-            true_there = same_verdict counter.0 0 d.variables stored;
-            silent =
-                subst (IsSilent corr (i.thread_of r) None) (sym (number_access counter.0 0))
-                (own_flag counter.0 (rows.counter_added s counter.0 counter.1) (counters.counter_of s counter.0 counter.1));
-          }
-        where
-          weak_too : (b : Bool) → weak_around (flags_around k core i r) ≡ true → (b || weak_around (flags_around k core i r)) ≡ true
-          weak_too true e = refl
-          weak_too false e = e
+  abbrev takes : Takes
+  takes = split.takes k core i rows tree counts written_at counters opening children c d related r s held t rest stands join works s_there counter_given
 
   -- ---- as if these were the effects
-
   module _ (e : Effect) (es : List Effect) where
     abbrev c1 : Configuration
     c1 = record { variables = c.variables; regions = slice_set (moved (drops (inside k s)) c.regions) r (at.Acting s (e ∷ es) t.target) }
@@ -237,7 +128,6 @@ module _ (k core : Table) (i : Images) (rows : CoreRows k core i) (flat : FlatRo
     home_there = let lt = (rows.region r there).there.1 in let size = at_join.size in omega (lt, size, related.core_regions, arith)
 
     -- ---- strong checks
-
     abbrev CheckedTo : List Transition → Configuration → Type 0
     CheckedTo ts w = (w.variables ≡ d4.variables) × ((standing_of w (i.thread_of r) ≡ at.Trying (i.behind_of s) ts)
         × (((g : ℕ) → g ≢ i.thread_of r → standing_of w g ≡ standing_of d4 g) × (length w.regions ≡ length d4.regions)))
@@ -294,7 +184,6 @@ module _ (k core : Table) (i : Images) (rows : CoreRows k core i) (flat : FlatRo
         (at_join.here ∙ ap (at.Trying (i.behind_of s)) (continuation_tests k core i r s))
 
     -- ---- answers
-
     d5 : Configuration
     d5 = check_part.last
 
@@ -332,12 +221,7 @@ module _ (k core : Table) (i : Images) (rows : CoreRows k core i) (flat : FlatRo
         ⊎_elim (λ same. ap (λ v. has_to_guard (standing_of answer_part.last v)) same ∙ ap has_to_guard home_is)
         (λ ne. ap has_to_guard (others_are g ne) ∙ at_join.quiet g) (same_or_not g (i.thread_of r))
 
-    unguarded : (zs : List ℕ) → is_guarded core answer_part.last zs ≡ false
-    unguarded [] = refl
-    unguarded (v ∷ zs) = rw (quiet_z (holder core v), unguarded zs) refl
-
     -- ---- the termination itself
-
     abbrev leads_to : Configuration
     leads_to = record {
       variables = answer_part.last.variables;
@@ -349,7 +233,7 @@ module _ (k core : Table) (i : Images) (rows : CoreRows k core i) (flat : FlatRo
     last_part =
         silent_step (machine core) corr Told told answer_part.last leads_to (i.thread_of r) None (access_of_trigger takes.trigger) Now Now (λ w. w ≡ leads_to)
         (takes_any core answer_part.last (i.thread_of r) (i.behind_of s) (led_by (i.places_of r) takes.trigger t) takes.later
-        (unguarded (around core (i.thread_of r))) home_is
+        (unguarded core answer_part.last quiet_z (around core (i.thread_of r))) home_is
         (subst (λ vs. verdict vs takes.trigger ≡ Some true) (sym values_are) takes.true_there) (flat.behind_alone s))
         (ap access_of home_is) takes.silent
         (λ more climbs. climbs_home corr (Stage k i.thread_of c1 d) (i.thread_of r) 0 (access_of_trigger takes.trigger) more climbs) refl
@@ -384,7 +268,6 @@ module _ (k core : Table) (i : Images) (rows : CoreRows k core i) (flat : FlatRo
         }
 
     -- ---- what is reached corresponds
-
     abbrev y : Standing
     y = at.Acting s (e ∷ es) t.target
 
@@ -444,7 +327,6 @@ module _ (k core : Table) (i : Images) (rows : CoreRows k core i) (flat : FlatRo
     related1 = dropped_out k core i rows tree children c d related r s y x c1 d1 drops_all
 
   -- ---- the step
-
   module _ (last : Configuration) (steps_to : step k r c ≡ Some last) where
     abbrev Follows : Type 0
     Follows = left_for.Followed k core i rows tree counts written_at Told c d r s t last (Related k core i last)

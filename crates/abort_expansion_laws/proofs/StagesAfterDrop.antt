@@ -19,9 +19,9 @@ use Rattle.abort_expansion_laws.specs.Related.{guarded, open_inside, Related}
 use Rattle.abort_expansion_laws.proofs.StageReached.{some_work, stage_of, Stage, any_in, none_of, inside_in, holds_other, either_rises}
 use Rattle.abort_expansion_laws.proofs.StageReached.{one_at_least, one_at_most}
 use Rattle.abort_expansion_laws.proofs.KnownVariables.{present_there}
-use Rattle.abort_expansion_laws.proofs.AfterOpening.{one_in_other}
-use Rattle.abort_expansion_laws.proofs.DropsOut.{inside_present}
+use Rattle.abort_expansion_laws.proofs.StandsInside.{inside_present}
 use Rattle.abort_expansion_laws.proofs.StagesInside.{none_comes}
+use Rattle.abort_expansion_laws.proofs.InsideAround.{one_in_other}
 
 module _ (k core : Table) (i : Images) (rows : CoreRows k core i) (tree : IsNested k)
     (children : (s r : ℕ) → Contains (state_at k s).regions r → around k r ≡ s ∷ around k (holder k s))

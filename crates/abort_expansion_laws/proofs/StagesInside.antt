@@ -16,7 +16,7 @@ use Rattle.chart_machine_laws.proofs.ChartTables.{around_there}
 use Rattle.abort_expansion_laws.specs.CoreRows.{own, Images}
 use Rattle.abort_expansion_laws.specs.Related.{Stands, outside, ended, left, trying, acting, entering, guarding, staying, within, behind, Related}
 use Rattle.abort_expansion_laws.proofs.StageReached.{some_work, stage_of, either_rises}
-use Rattle.abort_expansion_laws.proofs.AllLeave.{inside_around}
+use Rattle.abort_expansion_laws.proofs.InsideAround.{inside_around}
 use Rattle.abort_expansion_laws.proofs.DropsOut.{all_alike}
 
 neither_of : (b c : Bool) → (b || c) ≡ false → (b ≡ false) × (c ≡ false)

@@ -32,9 +32,10 @@ use Rattle.abort_expansion_laws.proofs.StageReached.{Stage, holds_other, inside_
 use Rattle.abort_expansion_laws.proofs.StartingRegions.{CounterRows}
 use Rattle.abort_expansion_laws.proofs.EffectAhead.{BeginsAt}
 use Rattle.abort_expansion_laws.proofs.Owed.{Enters}
-use Rattle.abort_expansion_laws.proofs.AllLeave.{all_from, inside_around}
+use Rattle.abort_expansion_laws.proofs.InsideAround.{all_from, inside_around}
 use Rattle.abort_expansion_laws.proofs.Leaving.{drops, set_here, set_other, set_length, drops_in, drops_out, drops_length, terminated}
-use Rattle.abort_expansion_laws.proofs.DropsOut.{only_inside, inside_not_acting, DropsOut, dropped_out}
+use Rattle.abort_expansion_laws.proofs.StandsInside.{only_inside, inside_not_acting}
+use Rattle.abort_expansion_laws.proofs.DropsOut.{DropsOut, dropped_out}
 use Rattle.abort_expansion_laws.proofs.SuperstateLeft as left_for
 use Rattle.abort_expansion_laws.proofs.TerminationNext as next
 use Rattle.abort_expansion_laws.proofs.TerminationImage as taken

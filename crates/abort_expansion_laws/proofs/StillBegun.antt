@@ -2,6 +2,7 @@
 use Rattle.std.proofs.Common.{◌≡◌, ◌≢◌, ℕ, ◌<◌, ◌≤◌, ◌⊎◌, ⊎_elim, Bool, true, false, Option, Some, None, List, [], ◌∷◌, map, length}
 use Rattle.std.proofs.Common.{slice_get, slice_set, unwrap_or, option_map, option_and_then, if◌then◌else◌, Contains, refl, sym, ap, subst, ◌∙◌, arith}
 use Rattle.std.proofs.lemmas.Option.{same_Some, slice_get_past}
+use Rattle.std.proofs.lemmas.Bool.{cases_lt}
 use Rattle.sc_text.proofs.EachItem.{Each, each_append, each_more}
 use Rattle.sc_values.specs.declared.value.Value.{Value}
 use Rattle.sc_values.specs.Operator.{kind_of}
@@ -23,7 +24,7 @@ use Rattle.chart_machine.specs.Turns.{standing_of, inside, is_enabled}
 use Rattle.chart_machine.specs.Steps.{to, moved, after, verdict, state_in, dropped, acts, taken, entering_on, guarding_on, effected, deed_of, step}
 use Rattle.chart_machine_laws.specs.Tree.{IsThere, around}
 use Rattle.chart_machine_laws.proofs.LyingIn.{none_in, head_in, tail_in}
-use Rattle.abort_expansion_laws.proofs.AllLeave.{inside_around}
+use Rattle.abort_expansion_laws.proofs.InsideAround.{inside_around}
 use Rattle.tick_laws.proofs.Lists.{same_or_not}
 use Rattle.abort_expansion_laws.proofs.Unchanged.{get_same, get_other}
 use Rattle.abort_expansion_laws.proofs.EnteredMoves.{Comes, Enters, entering_comes}
@@ -44,9 +45,6 @@ module _ (k : Table) (enters : (s : ℕ) → Enters (state_at k s)) (q : ℕ) (r
   at_q : List Standing → Standing
   at_q zs = unwrap_or (slice_get zs q) at.Outside
 
-  in_or_past : (n m : ℕ) → (n < m) ⊎ (m ≤ n)
-  in_or_past n m = grind arith
-
   one_moved : (m : Move) (zs : List Standing) → Spares m → unwrap_or (slice_get zs q) at.Outside ≢ at.Outside →
       unwrap_or (slice_get (slice_set zs m.region m.standing) q) at.Outside ≢ at.Outside
   one_moved m zs spares before =
@@ -57,7 +55,7 @@ module _ (k : Table) (enters : (s : ℕ) → Enters (state_at k s)) (q : ℕ) (r
       spares (sym same)
       (sym (ap (λ o. unwrap_or o at.Outside)
       (ap (λ g. slice_get (slice_set zs g m.standing) q) (sym same) ∙ get_same zs q m.standing lt)) ∙ e))
-      (λ past. absurd (before (ap (λ o. unwrap_or o at.Outside) (slice_get_past zs q past)))) (in_or_past q (length zs)))
+      (λ past. absurd (before (ap (λ o. unwrap_or o at.Outside) (slice_get_past zs q past)))) (cases_lt q (length zs)))
       (λ ne. λ e. before (sym (ap (λ o. unwrap_or o at.Outside) (get_other zs m.region q m.standing ne)) ∙ e)) (same_or_not q m.region)
 
   all_moved : (ms : List Move) (zs : List Standing) → AllSpare ms → unwrap_or (slice_get zs q) at.Outside ≢ at.Outside →

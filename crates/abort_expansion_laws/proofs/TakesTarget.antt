@@ -27,9 +27,10 @@ use Rattle.abort_expansion_laws.proofs.ImageSteps.{pair}
 use Rattle.abort_expansion_laws.proofs.TestFails.{tested_is}
 use Rattle.abort_expansion_laws.proofs.CoreSteps.{takes}
 use Rattle.abort_expansion_laws.proofs.StartingRegions.{CounterRows}
-use Rattle.abort_expansion_laws.proofs.EffectAhead.{BeginsAt, overwritten, set_twice, not_counting, staged}
+use Rattle.abort_expansion_laws.proofs.EffectAhead.{BeginsAt, overwritten, not_counting, staged}
 use Rattle.abort_expansion_laws.proofs.CountsFirst.{values, counted, before, arrived, counts_first}
 use Rattle.abort_expansion_laws.proofs.Owed.{Counts, Enters, chart_enters, core_enters}
+use Rattle.abort_expansion_laws.proofs.Unchanged.{set_twice}
 
 module _ (k core : Table) (i : Images) (rows : CoreRows k core i) (tree : IsNested k) (counts : ℕ → Bool) (written_at : ℕ → ℕ)
     (Told : Configuration → Entry → Type 0) where

@@ -12,13 +12,13 @@ use Rattle.chart_machine_laws.specs.Tree.{around}
 use Rattle.abort_expansion_laws.specs.CoreRows.{is_final, Images}
 use Rattle.abort_expansion_laws.specs.Related.{Related}
 use Rattle.abort_expansion_laws.specs.StageReached.{stage_of}
-use Rattle.abort_expansion_laws.proofs.AfterOpening.{moved_size}
 use Rattle.abort_expansion_laws.proofs.FreshInside.{entered_apart}
 use Rattle.abort_expansion_laws.proofs.JustEntered.{EntryRows}
 use Rattle.abort_expansion_laws.proofs.ChartEntered.{Stood, stood_of}
 use Rattle.abort_expansion_laws.proofs.Arrives.{Arrives}
 use Rattle.abort_expansion_laws.proofs.TargetEntered.{next, core_next, there, held, here, chart_none, in_none, core_held, core_is_state, chart_begins_there}
 use Rattle.abort_expansion_laws.proofs.TargetEntered.{target_goes, target_sort}
+use Rattle.abort_expansion_laws.proofs.Leaving.{moved_size}
 
 module _ (k core : Table) (i : Images) (more : EntryRows k core i) (c d : Configuration) (related : Related k core i c d) (r s p : ℕ) (e : Effect)
     (stands : standing_of c r ≡ at.Acting s (e ∷ []) p) (free : is_guarded k c (around k r) ≡ false) (values : List Value)

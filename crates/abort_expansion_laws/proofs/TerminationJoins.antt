@@ -29,13 +29,13 @@ use Rattle.abort_expansion_laws.specs.CoreRows.{own, IsState, IsSuper, joins, Im
 use Rattle.abort_expansion_laws.specs.CoreRows.{behind_transitions, pair}
 use Rattle.abort_expansion_laws.specs.Related.{raise_each, Watches, guards as watch_guards, waits, elsewhere, IsInside, open_inside, still_in}
 use Rattle.abort_expansion_laws.specs.Related.{not_ended, Stores, Related}
-use Rattle.abort_expansion_laws.proofs.Unchanged.{no_guards}
+use Rattle.abort_expansion_laws.proofs.Unchanged.{no_guards, unguarded}
 use Rattle.abort_expansion_laws.proofs.StageReached.{Stage, holds_other, inside_in}
 use Rattle.abort_expansion_laws.proofs.KnownVariables.{in_either}
 use Rattle.abort_expansion_laws.proofs.StartingRegions.{CounterRows}
 use Rattle.abort_expansion_laws.proofs.LeftTests.{kept_is}
 use Rattle.abort_expansion_laws.proofs.LaterTicks.{weak_no_join}
-use Rattle.abort_expansion_laws.proofs.AllLeave.{all_from, inside_around}
+use Rattle.abort_expansion_laws.proofs.InsideAround.{all_from, inside_around}
 use Rattle.abort_expansion_laws.proofs.Leaving.{drops, at_number, set_here, set_other, set_length, drops_in, drops_out, drops_length, leaves, joined}
 use Rattle.chart_machine_laws.proofs.ChartTables.{around_there}
 use Rattle.abort_expansion_laws.proofs.TerminationNext as next
@@ -124,10 +124,6 @@ module _ (k core : Table) (i : Images) (rows : CoreRows k core i) (tree : IsNest
         stage_is : ◌≡◌ {A = Option (ℕ × ℕ)} (Some (i.thread_of r, 3)) (Some (corr.home (counted has).0, 3))
         stage_is = ap (λ (h : ℕ). Some (h, 3)) (sym (ap (λ v. holder core (i.main_of v)) owner ∙ (rows.held s ∙ ap i.thread_of held)))
 
-    unguarded : (zs : List ℕ) → is_guarded core d zs ≡ false
-    unguarded [] = refl
-    unguarded (v ∷ zs) = rw (no_guards k core i rows c d related (holder core v), unguarded zs) refl
-
     in_core : i.watcher_of s < length d.regions
     in_core = let lt = image.there.1 in omega (lt, related.core_regions, arith)
 
@@ -138,7 +134,8 @@ module _ (k core : Table) (i : Images) (rows : CoreRows k core i) (tree : IsNest
         (i.watcher_of s) (Some (i.thread_of r, 3)) (tests (counted has).0) (AtHome (Stage k i.thread_of c d) (i.thread_of r) 3)
         (AtHome (Stage k i.thread_of c d) (i.thread_of r) 3) MonitorOver
         (leaves core d (i.watcher_of s) (i.watching_of s) (go true (Some (is_number (counted has).0 0)) [] 1) []
-        (unguarded (around core (i.watcher_of s))) watching (same_verdict (counted has).0 0 d.variables is_zero) refl
+        (unguarded core d (no_guards k core i rows c d related) (around core (i.watcher_of s))) watching
+        (same_verdict (counted has).0 0 d.variables is_zero) refl
         (alone (i.watching_of s) (ap (λ z. z.regions) image.row))
         (ap (λ n. (state_at core n).entered) image.ended ∙ image.watched))
         (ap access_of watching ∙ number_access (counted has).0 0) silent
@@ -265,10 +262,6 @@ module _ (k core : Table) (i : Images) (rows : CoreRows k core i) (tree : IsNest
       it_is : g ≡ i.watcher_of s → has_to_guard (standing_of monitor_ends.last g) ≡ false
       it_is = by_aborts (has_aborts (own k s)) refl
 
-  unguarded0 : (zs : List ℕ) → is_guarded core monitor_ends.last zs ≡ false
-  unguarded0 [] = refl
-  unguarded0 (v ∷ zs) = rw (quiet0 (holder core v), unguarded0 zs) refl
-
   abbrev pub all_tests : List Transition
   all_tests = at_once (behind_transitions k core i r s)
 
@@ -289,7 +282,7 @@ module _ (k core : Table) (i : Images) (rows : CoreRows k core i) (tree : IsNest
   pub joins_it : step core (i.thread_of r) monitor_ends.last ≡ Some d4
   joins_it =
       joined core monitor_ends.last (i.thread_of r) (i.main_of s) j (at.Trying (i.behind_of s) (at_once (behind_transitions k core i r s)))
-      (unguarded0 (around core (i.thread_of r))) home0
+      (unguarded core monitor_ends.last quiet0 (around core (i.thread_of r))) home0
       (all_from (λ g. has_ended (standing_of monitor_ends.last g)) (state_at core (i.main_of s)).regions child_over0)
       (all_from (λ g. not (has_work core monitor_ends.last (standing_of monitor_ends.last g))) (inside core (i.main_of s)) idle0) enters
 

@@ -6,6 +6,7 @@ use Rattle.std.specs.List.{list_any}
 use Rattle.std.proofs.lemmas.List.{append_assoc, append-nil, length-map}
 use Rattle.std.proofs.lemmas.List.Folds.{flat_map-map}
 use Rattle.std.proofs.lemmas.Option.{slice_get_past}
+use Rattle.std.proofs.lemmas.Bool.{cases_lt}
 use Rattle.sc_graph.specs.Tick.{Inputs, values_at_start}
 use Rattle.core_charts.specs.declared.region.Transition.{Transition}
 use Rattle.core_charts.specs.Tests.{strong_aborts, weak_aborts, terminations, closing_tests, is_strong, is_weak, is_join}
@@ -120,11 +121,8 @@ module _ (k core : Table) (i : Images) (rows : CoreRows k core i) (flat : FlatRo
 
   pub there : (r : ℕ) → standing_of before r ≢ at.Outside → IsThere k r
   there zero present = absurd (present rests.no_chart)
-  there (suc j) present = by_place (in_or_past j (length k.regions))
+  there (suc j) present = by_place (cases_lt j (length k.regions))
     where
-      in_or_past : (n m : ℕ) → (n < m) ⊎ (m ≤ n)
-      in_or_past n m = grind arith
-
       by_place : (j < length k.regions) ⊎ (length k.regions ≤ j) → IsThere k (suc j)
       by_place (inl lt) = (omega arith, omega (lt, arith))
       by_place (inr past) =

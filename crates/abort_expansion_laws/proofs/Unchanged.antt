@@ -3,7 +3,7 @@ use Rattle.std.proofs.Common.{◌≡◌, ◌≢◌, ℕ, zero, suc, ◌<◌, ◌
 use Rattle.std.proofs.Common.{slice_set, unwrap_or, Contains, refl, sym, ap, subst, ◌∙◌, arith}
 use Rattle.std.specs.List.{list_all, list_any}
 use Rattle.std.proofs.lemmas.Option.{slice_get_past}
-use Rattle.std.proofs.lemmas.Bool.{or_parts}
+use Rattle.std.proofs.lemmas.Bool.{cases_lt, or_parts}
 use Rattle.core_charts.specs.declared.region.Transition.{Transition}
 use Rattle.core_charts.specs.Aborts.{has_aborts}
 use Rattle.chart_machine.specs.declared.standing.Standing.{Standing}
@@ -33,6 +33,11 @@ get_other (x ∷ xs) zero (suc j) v ne = refl
 get_other (x ∷ xs) (suc i) zero v ne = refl
 get_other (x ∷ xs) (suc i) (suc j) v ne = get_other xs i j v (λ e. ne (ap suc e))
 
+pub set_twice : {A : Type 0} (xs : List A) (n : ℕ) (v w : A) → slice_set (slice_set xs n v) n w ≡ slice_set xs n w
+set_twice [] n v w = refl
+set_twice (x ∷ xs) zero v w = refl
+set_twice (x ∷ xs) (suc n) v w = ap (λ zs. x ∷ zs) (set_twice xs n v w)
+
 pub stands_same : (c d : Configuration) (r : ℕ) (x : Standing) → d.regions ≡ slice_set c.regions r x → r < length c.regions → standing_of d r ≡ x
 stands_same c d r x is lt = ap (λ zs. unwrap_or (slice_get zs r) at.Outside) is ∙ ap (λ o. unwrap_or o at.Outside) (get_same c.regions r x lt)
 
@@ -44,6 +49,11 @@ stands_other c d r q x is ne = ap (λ zs. unwrap_or (slice_get zs q) at.Outside)
 pub record SameShape (c d : Configuration) : Type 0 where
   pub ends : (q : ℕ) → has_ended (standing_of d q) ≡ has_ended (standing_of c q)
   pub guards_alike : (q : ℕ) → guards (standing_of d q) ≡ guards (standing_of c q)
+
+-- where nobody has to guard, no region is guarded
+pub unguarded : (k : Table) (d : Configuration) → ((q : ℕ) → guards (standing_of d q) ≡ false) → (ss : List ℕ) → is_guarded k d ss ≡ false
+unguarded k d none [] = refl
+unguarded k d none (s ∷ ss) = rw (none (holder k s), unguarded k d none ss) refl
 
 pub all_ended_by : (c d : Configuration) → ((q : ℕ) → has_ended (standing_of d q) ≡ has_ended (standing_of c q)) → (rs : List ℕ) →
     list_all (λ r. has_ended (standing_of d r)) rs ≡ list_all (λ r. has_ended (standing_of c r)) rs
@@ -129,11 +139,8 @@ module _ (k core : Table) (i : Images) (rows : CoreRows k core i) (c d : Configu
 
   past_or_there : (t : ℕ) → (t ≡ 0) ⊎ (IsThere core t ⊎ (suc (length core.regions) ≤ t))
   past_or_there zero = inl refl
-  past_or_there (suc t) = by_place (in_or_past t (length core.regions))
+  past_or_there (suc t) = by_place (cases_lt t (length core.regions))
     where
-      in_or_past : (m n : ℕ) → (m < n) ⊎ (n ≤ m)
-      in_or_past m n = grind arith
-
       by_place : (t < length core.regions) ⊎ (length core.regions ≤ t) → (suc t ≡ 0) ⊎ (IsThere core (suc t) ⊎ (suc (length core.regions) ≤ suc t))
       by_place (inl lt) = inr (inl (omega arith, omega (lt, arith)))
       by_place (inr past) = inr (inr (omega (past, arith)))
@@ -178,12 +185,6 @@ none_are p (x ∷ xs) each = rw (never (p x) (each x (head_in x xs)), none_are p
     never : (b : Bool) → (b ≡ true → ⊥) → b ≡ false
     never true no_way = absurd (no_way refl)
     never false no_way = refl
-
-pub guards_no_calm : (x : Standing) → IsCalm x → (o : ℕ) (tests : List Transition) → x ≢ at.Guarding o tests
-guards_no_calm _ calm_outside o tests e = absurd cc
-guards_no_calm _ calm_ended o tests e = absurd cc
-guards_no_calm _ (calm_trying s others) o tests e = absurd cc
-guards_no_calm _ (calm_within s others) o tests e = absurd cc
 
 -- who is not calm is guarded by nobody
 pub not_calm_free : (k core : Table) (i : Images) (c d : Configuration) → Related k core i c d → (r : ℕ) → IsThere k r → (IsCalm (standing_of c r) → ⊥) →

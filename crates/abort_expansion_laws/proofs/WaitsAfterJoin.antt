@@ -17,7 +17,7 @@ use Rattle.abort_expansion_laws.specs.Related.{held_back, Stores}
 use Rattle.abort_expansion_laws.proofs.Pending.{Sound, IsJoining, Over, Covered, Flagged, Pending, IsBusy, joins_then, Reached}
 use Rattle.abort_expansion_laws.specs.Related.{is_behind, front, Stands, outside, left, behind, Watches, guards as watch_guards, waits, elsewhere}
 use Rattle.abort_expansion_laws.proofs.TablesCorrespond.{contains_map}
-use Rattle.abort_expansion_laws.proofs.AllLeave.{inside_around}
+use Rattle.abort_expansion_laws.proofs.InsideAround.{inside_around}
 use Rattle.abort_expansion_laws.proofs.StageReached.{inside_in}
 use Rattle.abort_expansion_laws.proofs.Pending.{is_trying, IsOpening, IsStarting, Waits, settled, opening, starting, joining, ending, hidden, goes_in}
 use Rattle.abort_expansion_laws.proofs.Pending.{still_going, starts, opens, behind_unprepared}

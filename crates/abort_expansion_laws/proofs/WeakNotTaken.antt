@@ -30,7 +30,7 @@ use Rattle.abort_expansion_laws.specs.Related.{guarding, staying, within, behind
 use Rattle.abort_expansion_laws.specs.Related.{open_inside, Related}
 use Rattle.abort_expansion_laws.proofs.Unchanged.{SameShape, stands_same, stands_other, never_guarded}
 use Rattle.abort_expansion_laws.proofs.StageReached.{Stage, some_work, has_work_same, holds_other}
-use Rattle.abort_expansion_laws.proofs.AllLeave.{inside_around}
+use Rattle.abort_expansion_laws.proofs.InsideAround.{inside_around}
 use Rattle.tick_laws.proofs.Lists.{same_or_not}
 use Rattle.abort_expansion_laws.proofs.StrongNotTaken.{trigger_plain}
 use Rattle.abort_expansion_laws.proofs.ImageSteps.{pair}

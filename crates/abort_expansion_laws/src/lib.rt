@@ -21,16 +21,16 @@ pub fn states_are_mapped()
     ensures { StatesAreMapped }
 {}
 
-/// The rows of a chart and of its core chart belong together: each region has its thread, each state what stands for it,
-/// each superstate with aborts its monitor, with the transitions of the expansion. This function does nothing; its
+/// The rows of a chart and of its core chart belong together: each region has its thread, each state what stands for
+/// it, each superstate with aborts its monitor, with the transitions of the expansion. This function does nothing; its
 /// contract is the law.
 pub fn expanded_charts_have_rows()
     ensures { ExpandedChartsHaveRows }
 {}
 
 /// A flat chart that has a valid image, and whose core chart keeps the rules of core charts, is kept by its core chart:
-/// each list of ends of the chart, one for each of a list of inputs that are accepted, has one of the core chart for the
-/// same inputs, in each of which the declared variables have the same values and the same states are active. This
+/// each list of ends of the chart, one for each of a list of inputs that are accepted, has one of the core chart for
+/// the same inputs, in each of which the declared variables have the same values and the same states are active. This
 /// function does nothing; its contract is the law.
 pub fn preemption_is_kept()
     ensures { PreemptionIsKept }

@@ -1,13 +1,16 @@
 -- Rows as they are made: how many places are of each class, and where each row begins.
-use Rattle.std.proofs.Common.{◌≡◌, ◌≢◌, ℕ, zero, suc, ◌+◌, ◌*◌, ◌<◌, ◌≤◌, ◌⊎◌, Bool, true, false, nat_eq, List, [], ◌∷◌, ◌++◌, length, length-set, length-append, take, get_or, set, Option, Some, None, slice_get, slice_index, refl, sym, ap, subst, ◌∙◌, inl, inr, arith, eqb-true, eq-eqb}
+use Rattle.std.proofs.Common.{◌≡◌, ◌≢◌, ℕ, zero, suc, ◌+◌, ◌*◌, ◌<◌, ◌≤◌, ◌⊎◌, Bool, true, false, nat_eq, List, [], ◌∷◌, ◌++◌, length, length-set}
+use Rattle.std.proofs.Common.{length-append, take, get_or, set, Option, Some, None, slice_index, refl, sym, ap, ◌∙◌, inl, inr, arith}
+use Rattle.std.proofs.Common.{eqb-true, eq-eqb}
 use Rattle.std.specs.Prelude.{count_by, sum_by, replicate}
 use Rattle.std.proofs.lemmas.List.{take_all, length-take-le, get_or_append_left, length-replicate, get_or-replicate}
-use Rattle.std.proofs.lemmas.List.Sums.{count_by_more_no, count_by_more_yes, count_by-le-length, sum_by-set, sum_by_more, sum_by_more_le, sum_by-take-le, sum_by-cons}
+use Rattle.std.proofs.lemmas.List.Sums.{count_by_more_no, count_by_more_yes, count_by-le-length, sum_by-set, sum_by_more, sum_by_more_le}
+use Rattle.std.proofs.lemmas.List.Sums.{sum_by-cons}
 use Rattle.std.proofs.Math.Seq.{get_or-append_seam}
 use Rattle.std.proofs.lemmas.List.Folds.{sum_by-replicate}
 use Rattle.std.proofs.lemmas.Option.{slice_get_within, get_or_from_slice_get}
-use Rattle.buckets.specs.Rows.{IsIn, is_of, members, HasRooms}
-use Rattle.buckets.specs.Inside.Places.{is_in, HasPlace, Holds, LieApart, Stand}
+use Rattle.buckets.specs.Rows.{IsIn, is_of, HasRooms}
+use Rattle.buckets.specs.Inside.Places.{is_in, Stand}
 use Rattle.buckets.proofs.Lists.{index_same, index_other, same_or_not, counts_one}
 
 -- the first n places are counted
@@ -25,7 +28,12 @@ pub record Begun (starts rooms : List ℕ) (n next : ℕ) : Type 0 where
 module _ (rooms places : List ℕ) (n classes : ℕ) (h : Counted rooms places n classes) (below : n < length places) (known : slice_index places n < classes) where
   -- so far no class counts more places than there are
   pub few : slice_index rooms (slice_index places n) < length places
-  few = omega (arith, h.counted (slice_index places n) known, count_by-le-length (nat_eq (slice_index places n)) (take n places), length-take-le n places (omega arith))
+  few = omega (
+    arith,
+    h.counted (slice_index places n) known,
+    count_by-le-length (nat_eq (slice_index places n)) (take n places),
+    length-take-le n places (omega arith),
+  )
 
   -- one more place is counted
   pub count_more : (count : ℕ) → count ≡ slice_index rooms (slice_index places n) + 1 → Counted (set rooms (slice_index places n) count) places (n + 1) classes
@@ -40,11 +48,13 @@ module _ (rooms places : List ℕ) (n classes : ℕ) (h : Counted rooms places n
           slice_index (set rooms (slice_index places n) count) class ≡ count_by (nat_eq class) (take (n + 1) places)
       counted class within true same =
           let e : class ≡ slice_index places n = eqb-true class (slice_index places n) same in
-          let now : slice_index (set rooms (slice_index places n) count) (slice_index places n) ≡ count = index_same rooms (slice_index places n) count (omega (arith, h.long)) in
+          let now : slice_index (set rooms (slice_index places n) count) (slice_index places n) ≡ count = index_same rooms (slice_index places n) count
+          (omega (arith, h.long)) in
           ap (slice_index (set rooms (slice_index places n) count)) e ∙ (now ∙ (is ∙ (ap (λ c. slice_index rooms c + 1) (sym e)
           ∙ (ap (λ m. m + 1) (h.counted class within) ∙ sym (count_by_more_yes (nat_eq class) places n 0 below same)))))
       counted class within false differ =
-          let other : class ≢ slice_index places n = λ e. absurd (let yes = eq-eqb class (slice_index places n) e in let never : true ≡ false = sym yes ∙ differ in cc) in
+          let other : class ≢ slice_index places n = λ e. absurd (let yes = eq-eqb class (slice_index places n) e in let never : true ≡ false = sym yes
+          ∙ differ in cc) in
           index_other rooms (slice_index places n) class count other ∙ (h.counted class within ∙ sym (count_by_more_no (nat_eq class) places n 0 below differ))
 
 -- before the first place nothing is counted
@@ -59,7 +69,8 @@ count_none rooms places classes is =
     none : (n : ℕ) → n * 0 ≡ 0
     none n = omega arith
 
-pub all_counted : (rooms places : List ℕ) (n classes : ℕ) → Counted rooms places n classes → n ≡ length places → ((i : ℕ) → i < length places → slice_index places i < classes) → HasRooms rooms places
+pub all_counted : (rooms places : List ℕ) (n classes : ℕ) → Counted rooms places n classes → n ≡ length places
+    → ((i : ℕ) → i < length places → slice_index places i < classes) → HasRooms rooms places
 all_counted rooms places n classes h all known =
     record {
       known = λ i below. omega (arith, known i below, h.long);
@@ -80,7 +91,8 @@ module _ (starts rooms : List ℕ) (n next : ℕ) (h : Begun starts rooms n next
     where
       begins : (class : ℕ) → class < n + 1 → (class ≡ n) ⊎ (class ≢ n) → slice_index (starts ++ next ∷ []) class ≡ sum_by (λ x. x) (take class rooms)
       begins class within (inl same) =
-          ap (slice_index (starts ++ next ∷ [])) (same ∙ sym h.long) ∙ (get_or-append_seam starts next [] 0 ∙ (h.next_is ∙ ap (λ m. sum_by (λ x. x) (take m rooms)) (sym same)))
+          ap (slice_index (starts ++ next ∷ [])) (same ∙ sym h.long)
+          ∙ (get_or-append_seam starts next [] 0 ∙ (h.next_is ∙ ap (λ m. sum_by (λ x. x) (take m rooms)) (sym same)))
       begins class within (inr other) = get_or_append_left starts (next ∷ []) 0 class (omega (arith, h.long)) ∙ h.begins class (omega arith)
 
 -- the sum of fewer rooms is no greater
@@ -88,7 +100,12 @@ sums_grow : (rooms : List ℕ) (low high : ℕ) → low ≤ high → sum_by (λ 
 sums_grow rooms zero high less = omega arith
 sums_grow [] (suc low) high less = omega arith
 sums_grow (x ∷ rooms) (suc low) zero less = absurd (omega arith)
-sums_grow (x ∷ rooms) (suc low) (suc high) less = omega (arith, sums_grow rooms low high (omega arith), sum_by-cons (λ x. x) x (take low rooms), sum_by-cons (λ x. x) x (take high rooms))
+sums_grow (x ∷ rooms) (suc low) (suc high) less = omega (
+  arith,
+  sums_grow rooms low high (omega arith),
+  sum_by-cons (λ x. x) x (take low rooms),
+  sum_by-cons (λ x. x) x (take high rooms),
+)
 
 -- rows without items stand
 pub stand_empty : (rooms : List ℕ) (classes : List (Option ℕ)) (starts counts row places : List ℕ) (items : ℕ) →
@@ -111,7 +128,13 @@ stand_empty rooms classes starts counts row places items starts_long starts_are 
   where
     apart : (low high : ℕ) → low < high → high < length rooms → slice_index starts low + slice_index rooms low ≤ slice_index starts high
     apart low high less known =
-        omega (arith, starts_are low (omega arith), starts_are high known, sum_by_more (λ x. x) rooms low 0 (omega arith), sums_grow rooms (low + 1) high (omega arith))
+        omega (
+          arith,
+          starts_are low (omega arith),
+          starts_are high known,
+          sum_by_more (λ x. x) rooms low 0 (omega arith),
+          sums_grow rooms (low + 1) high (omega arith),
+        )
 
     within : (class : ℕ) → class < length rooms → slice_index starts class + slice_index rooms class ≤ length row
     within class known = omega (arith, starts_are class known, sum_by_more_le (λ x. x) rooms class 0 known)

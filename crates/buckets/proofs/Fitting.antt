@@ -1,5 +1,6 @@
 -- Items of one class that each own a place of it are no more than its places.
-use Rattle.std.proofs.Common.{◌≡◌, ◌≢◌, ℕ, zero, suc, ◌+◌, ◌<◌, ◌≤◌, Bool, true, false, nat_eq, List, [], ◌∷◌, length, length-set, set, Option, Some, None, slice_get, slice_index, refl, sym, ap, subst, ◌∙◌, arith, eqb-true, eq-eqb}
+use Rattle.std.proofs.Common.{◌≡◌, ◌≢◌, ℕ, suc, ◌<◌, ◌≤◌, Bool, true, false, nat_eq, List, [], ◌∷◌, length, length-set, set, Option, Some, None}
+use Rattle.std.proofs.Common.{slice_index, refl, ap, subst, ◌∙◌, arith, eqb-true, eq-eqb}
 use Rattle.std.specs.Prelude.{count_by}
 use Rattle.std.proofs.lemmas.Option.{slice_get-get_or}
 use Rattle.std.proofs.lemmas.List.Sums.{sum_by-cons}
@@ -25,16 +26,19 @@ class_is class None counts = absurd cc
 class_is class (Some other) counts = ap Some (eqb-true other class counts)
 
 pub fits_in : (R : ℕ → ℕ → Type 0) (classes : List (Option ℕ)) (places : List ℕ) (class : ℕ) →
-    ((place t u : ℕ) → R place t → R place u → t ≡ u) → ((t : ℕ) → IsIn classes t class → Owns R places t class) → members classes class ≤ count_by (nat_eq class) places
+    ((place t u : ℕ) → R place t → R place u → t ≡ u) → ((t : ℕ) → IsIn classes t class → Owns R places t class)
+    → members classes class ≤ count_by (nat_eq class) places
 fits_in R [] places class alone own = omega arith
 fits_in R (o ∷ classes) places class alone own =
-    at_head (is_of class o) refl (λ rest other. fits_in (λ place t. R place (suc t)) classes rest class (λ place t u x y. next (alone place (suc t) (suc u) x y)) other)
+    at_head (is_of class o) refl
+    (λ rest other. fits_in (λ place t. R place (suc t)) classes rest class (λ place t u x y. next (alone place (suc t) (suc u) x y)) other)
   where
     next : {t u : ℕ} → suc t ≡ suc u → t ≡ u
     next {t} {u} e = omega arith
 
     at_head : (b : Bool) → is_of class o ≡ b →
-        ((rest : List ℕ) → ((t : ℕ) → IsIn classes t class → Owns (λ place u. R place (suc u)) rest t class) → members classes class ≤ count_by (nat_eq class) rest) →
+        ((rest : List ℕ) → ((t : ℕ) → IsIn classes t class → Owns (λ place u. R place (suc u)) rest t class)
+        → members classes class ≤ count_by (nat_eq class) rest) →
         members (o ∷ classes) class ≤ count_by (nat_eq class) places
     at_head false is go =
         let none : counts_one (is_of class o) ≡ 0 = ap counts_one is in
@@ -52,9 +56,11 @@ fits_in R (o ∷ classes) places class alone own =
         go (set places first.place (suc class)) (λ t stands. others first t (own (suc t) stands)) in
         omega (arith, sum_by-cons (λ x. counts_one (is_of class x)) o classes)
       where
-        others : (first : Owns R places 0 class) (t : ℕ) → Owns R places (suc t) class → Owns (λ place u. R place (suc u)) (set places first.place (suc class)) t class
+        others : (first : Owns R places 0 class) (t : ℕ) → Owns R places (suc t) class
+            → Owns (λ place u. R place (suc u)) (set places first.place (suc class)) t class
         others first t it =
-            let differ : it.place ≢ first.place = λ same. absurd (let e = alone first.place (suc t) 0 (subst (λ n. R n (suc t)) same it.owned) first.owned in omega arith) in
+            let differ : it.place ≢ first.place = λ same. absurd (let e = alone first.place (suc t) 0 (subst (λ n. R n (suc t)) same it.owned) first.owned in
+            omega arith) in
             record {
               place = it.place;
               owned = it.owned;

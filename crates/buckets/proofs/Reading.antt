@@ -1,16 +1,16 @@
 -- What the rows tell: who stands in one, and whether anybody does.
-use Rattle.std.proofs.Common.{◌≡◌, ◌≢◌, ℕ, zero, suc, ◌+◌, ◌-◌, ◌<◌, ◌≤◌, ◌⊎◌, Bool, true, false, nat_eq, List, [], ◌∷◌, length, length-drop, take, drop, get_or, Option, Some, None, slice_get, slice_index, Contains, refl, sym, ap, subst, ◌∙◌, inl, inr, ⊎_elim, zero-add, arith}
-use Rattle.std.specs.Prelude.{count_by, cond, IsTrue, ◌↔◌, slice_range, MatchOption}
-use Rattle.std.proofs.lemmas.Option.{slice_get_within, slice_get-get_or, get_or_from_slice_get}
+use Rattle.std.proofs.Common.{◌≡◌, ◌≢◌, ℕ, zero, suc, ◌+◌, ◌-◌, ◌<◌, ◌≤◌, ◌⊎◌, Bool, true, false, List, [], ◌∷◌, length, length-drop, take, drop}
+use Rattle.std.proofs.Common.{get_or, Option, Some, None, slice_get, slice_index, Contains, refl, sym, ap, subst, ◌∙◌, inl, inr, arith}
+use Rattle.std.specs.Prelude.{count_by, cond, ◌↔◌, MatchOption}
+use Rattle.std.proofs.lemmas.Option.{slice_get_within, get_or_from_slice_get}
 use Rattle.std.proofs.lemmas.Grind.{get_or_default_zero}
 use Rattle.std.proofs.lemmas.Bool.{cases_lt}
 use Rattle.std.proofs.lemmas.List.{get_or_past, length-take-le, get_or-take, get_or-drop}
 use Rattle.std.proofs.lemmas.List.Recursion.{is_count_by}
 use Rattle.std.proofs.lemmas.List.Sums.{get_or-le-sum_by}
-use Rattle.buckets.specs.Rows.{Rows, IsIn, is_of, members, IsRow, IsBare, AreEmpty, IsGreatest, IsFirst}
-use Rattle.buckets.specs.Inside.Places.{is_in, HasPlace, Holds, LieApart, Stand}
+use Rattle.buckets.specs.Rows.{IsIn, IsRow, IsBare, AreEmpty, IsGreatest, IsFirst}
+use Rattle.buckets.specs.Inside.Places.{is_in, Holds, Stand}
 use Rattle.buckets.proofs.Lists.{counts_one}
-use Rattle.buckets.proofs.Classes.{one_class}
 
 -- what is counted is counted at least once where it stands
 counted_once : {X : Type 0} (p : X → Bool) (xs : List X) (i : ℕ) (x : X) → slice_get xs i ≡ Some x → p x ≡ true → 1 ≤ count_by p xs
@@ -27,7 +27,8 @@ somewhere : (X : Type 0) (p : X → Bool) (xs : List X) → 1 ≤ tally X p xs �
 somewhere X p [] some = absurd (omega arith)
 somewhere X p (x ∷ xs) some = at_head (p x) refl (λ more. somewhere X p xs more)
   where
-    at_head : (b : Bool) → p x ≡ b → (1 ≤ tally X p xs → (i : ℕ) × (y : X) × (slice_get xs i ≡ Some y) × (p y ≡ true)) → (i : ℕ) × (y : X) × (slice_get (x ∷ xs) i ≡ Some y) × (p y ≡ true)
+    at_head : (b : Bool) → p x ≡ b → (1 ≤ tally X p xs → (i : ℕ) × (y : X) × (slice_get xs i ≡ Some y) × (p y ≡ true)) → (i : ℕ) × (y : X)
+        × (slice_get (x ∷ xs) i ≡ Some y) × (p y ≡ true)
     at_head true is rest = (0, x, refl, is)
     at_head false is rest =
         let found = rest (subst (λ b. 1 ≤ cond b (1 + tally X p xs) (tally X p xs)) is some) in
@@ -41,7 +42,8 @@ class_in : (o : Option ℕ) → is_in o ≡ true → (class : ℕ) × (o ≡ Som
 class_in None stands = absurd cc
 class_in (Some class) stands = (class, refl)
 
-module _ (rooms : List ℕ) (classes : List (Option ℕ)) (starts counts row places : List ℕ) (top len : ℕ) (h : Stand rooms classes starts counts row places top len) where
+module _ (rooms : List ℕ) (classes : List (Option ℕ)) (starts counts row places : List ℕ) (top len : ℕ)
+    (h : Stand rooms classes starts counts row places top len) where
   pub empty_is : (len ≡ 0) ↔ AreEmpty (record { rooms = rooms; classes = classes })
   empty_is = (
     λ none. record { each = λ t class is. absurd (let one = counted_once is_in classes t (Some class) is refl in omega (arith, h.len_is)) },
@@ -67,11 +69,13 @@ module _ (rooms : List ℕ) (classes : List (Option ℕ)) (starts counts row pla
   -- a row as it is lent
   module _ (class : ℕ) (xs : List ℕ) (known : class < length rooms) (is : xs ≡ take (slice_index counts class) (drop (slice_index starts class) row)) where
     long : length xs ≡ slice_index counts class
-    long = ap length is ∙ length-take-le (slice_index counts class) (drop (slice_index starts class) row) (omega (arith, lies_within class known, length-drop (slice_index starts class) row))
+    long = ap length is ∙ length-take-le (slice_index counts class) (drop (slice_index starts class) row)
+        (omega (arith, lies_within class known, length-drop (slice_index starts class) row))
 
     at : (i d : ℕ) → i < slice_index counts class → get_or xs i d ≡ get_or row (slice_index starts class + i) d
     at i d below =
-        ap (λ l. get_or l i d) is ∙ (get_or-take (slice_index counts class) (drop (slice_index starts class) row) i d below ∙ get_or-drop (slice_index starts class) row i d)
+        ap (λ l. get_or l i d) is ∙ (get_or-take (slice_index counts class) (drop (slice_index starts class) row) i d below
+        ∙ get_or-drop (slice_index starts class) row i d)
 
     -- who stands at a place of the row
     at_place : (i t : ℕ) → i < slice_index counts class → get_or xs i t ≡ t → slice_index row (slice_index starts class + i) ≡ t
@@ -123,7 +127,8 @@ module _ (rooms : List ℕ) (classes : List (Option ℕ)) (starts counts row pla
       }
 
   -- the class to which the search has fallen
-  pub greatest_is : (class : ℕ) → ¬ (len ≡ 0) → class ≤ top → ((other : ℕ) → class < other → other ≤ top → slice_index counts other ≡ 0) → (slice_index counts class ≡ 0 → class ≡ 0) →
+  pub greatest_is : (class : ℕ) → ¬ (len ≡ 0) → class ≤ top → ((other : ℕ) → class < other → other ≤ top → slice_index counts other ≡ 0)
+      → (slice_index counts class ≡ 0 → class ≡ 0) →
       IsGreatest (record { rooms = rooms; classes = classes }) class
   greatest_is class some at_most bare stands =
       let there = counted_somewhere (Option ℕ) is_in classes (omega (arith, h.len_is, some)) in

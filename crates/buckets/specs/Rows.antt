@@ -1,5 +1,6 @@
 -- Items in rows by class: each stands in the row of one class, or in none.
-use Rattle.std.specs.Prelude.{ℕ, ◌≡◌, ◌≢◌, ◌<◌, ◌≤◌, Bool, true, false, nat_eq, Option, Some, None, List, Contains, length, slice_get, slice_index, slice_set, count_by}
+use Rattle.std.specs.Prelude.{ℕ, ◌≡◌, ◌≢◌, ◌<◌, ◌≤◌, Bool, true, false, nat_eq, Option, Some, None, List, Contains, length, slice_get, slice_index, slice_set}
+use Rattle.std.specs.Prelude.{count_by}
 
 -- how many items the row of each class has room for, and the class in whose row each item stands
 pub record Rows : Type 0 where

@@ -1,5 +1,6 @@
 -- The bad fields of codes.
-use Rattle.std.proofs.Common.{◌≡◌, ℕ, zero, suc, ◌≤◌, pos, Bool, true, false, cond, eqb, FitsSigned, List, [], ◌∷◌, ◌++◌, length, Option, Some, None, Result, Ok, Err, refl, sym, ap, subst, ◌∙◌, arith}
+use Rattle.std.proofs.Common.{◌≡◌, ℕ, zero, suc, ◌≤◌, pos, Bool, true, false, cond, eqb, FitsSigned, List, [], ◌∷◌, ◌++◌, length, Option, Some, None, Result}
+use Rattle.std.proofs.Common.{Ok, Err, refl, sym, ap, subst, ◌∙◌, arith}
 use Rattle.std.specs.Prelude.{slice_get, replicate}
 use Rattle.std.specs.List.{concat, flat_map, AllByRecursion}
 use Rattle.std.specs.Int.{w16, w32, cast_signed, cast_unsigned}
@@ -26,7 +27,8 @@ use Rattle.bytecode.specs.Reading.Codes.{operators, operation_body, divisor_at, 
 use Rattle.bytecode.proofs.Readers.{IsBytes, IsRead}
 use Rattle.bytecode.proofs.FieldLaws.{IsBytes-rest, number32_law, length_law}
 use Rattle.bytecode.proofs.CodeLaws.{operation_law}
-use Rattle.bytecode.proofs.BadFields.{Extends, step_on, begin_at, Breaks, broken, reads, CanBreak, met_first, met_behind, then_breaks, before_made, at_once, number_breaks_not, same_left, choice_breaks, length_breaks}
+use Rattle.bytecode.proofs.BadFields.{Extends, step_on, begin_at, Breaks, broken, reads, CanBreak, met_first, met_behind, then_breaks, before_made, at_once}
+use Rattle.bytecode.proofs.BadFields.{number_breaks_not, same_left, choice_breaks, length_breaks}
 
 -- ---- so many, one behind the other
 
@@ -36,13 +38,15 @@ pub each_spelt : {A : Type 0} (text : A → List ℕ) (fields : A → List (List
 each_spelt text fields spelt [] = refl
 each_spelt text fields spelt (x ∷ xs) =
     ap concat (flat_map-cons fields x xs) ∙ concat-append (fields x) (flat_map fields xs)
-    ∙ ap (λ (t : List ℕ). t ++ concat (flat_map fields xs)) (spelt x) ∙ ap (λ (t : List ℕ). text x ++ t) (each_spelt text fields spelt xs) ∙ sym (flat_map-cons text x xs)
+    ∙ ap (λ (t : List ℕ). t ++ concat (flat_map fields xs)) (spelt x) ∙ ap (λ (t : List ℕ). text x ++ t) (each_spelt text fields spelt xs)
+    ∙ sym (flat_map-cons text x xs)
 
 several_fit : {A : Type 0} (Fits : A → Type 0) (x : A) → Fits x → (n : ℕ) → AllByRecursion Fits (replicate n x)
 several_fit Fits x fits zero = tt
 several_fit Fits x fits (suc n) = (fits, several_fit Fits x fits n)
 
-pub each_breaks : {A : Type 0} {read : Reader A} {text : A → List ℕ} {Fits : A → Type 0} (law : IsRead read text Fits) (fields : A → List (List ℕ)) → ((x : A) → concat (fields x) ≡ text x)
+pub each_breaks : {A : Type 0} {read : Reader A} {text : A → List ℕ} {Fits : A → Type 0} (law : IsRead read text Fits) (fields : A → List (List ℕ))
+    → ((x : A) → concat (fields x) ≡ text x)
     → (some : A) → Fits some → CanBreak read fields Fits
     → (n : ℕ) (Whole : List (List ℕ) → Type 0) (front : List (List ℕ)) (bytes : List ℕ) (left : ℕ) → IsBytes bytes
     → ((xs : List A) → length xs ≡ n → AllByRecursion Fits xs → Extends Whole (front ++ flat_map fields xs))
@@ -53,7 +57,9 @@ each_breaks {A} {read} {text} {Fits} law fields spelt some some_fits can (suc n)
     let joined : (x : A) (xs : List A) → length xs ≡ n → Fits x → AllByRecursion Fits xs → Extends Whole (front ++ (fields x ++ flat_map fields xs)) =
     λ x xs len is all. subst (λ (fs : List (List ℕ)). Extends Whole (front ++ fs)) (flat_map-cons fields x xs) (goes_on (x ∷ xs) (ap suc len) (is, all)) in
     then_breaks law fields spelt Whole front _ bytes left fits
-    (can Whole front bytes left fits (λ x is. begin_at Whole front (fields x) (flat_map fields (replicate n some)) (joined x (replicate n some) (length-replicate n some) is (several_fit Fits some some_fits n))))
+    (can Whole front bytes left fits
+    (λ x is. begin_at Whole front (fields x) (flat_map fields (replicate n some))
+    (joined x (replicate n some) (length-replicate n some) is (several_fit Fits some some_fits n))))
     (λ x rest is rest_fits failed. met_first Whole (front ++ fields x) (each_at read n) _ rest left
     (each_breaks law fields spelt some some_fits can n Whole (front ++ fields x) rest left rest_fits
     (λ xs len all. step_on Whole front (fields x) (flat_map fields xs) (joined x xs len is all)) (before_made (each_at read n rest) _ left failed))) e
@@ -81,7 +87,8 @@ divisor_breaks Whole front bytes left fits goes_on e = when (number_at w32 bytes
         subst (λ (b : List ℕ). Breaks Whole front divisor_at b left) (sym t.0.parts)
         (at_once Whole front divisor_at (u32_bytes x.0) x.1 (divisor_bytes one) left goes_on refl as_long (rw (alone, lacking) refl))
 
-    when : (r : Result (ℕ × List ℕ) DecodeFault) → number_at w32 bytes ≡ r → (r >>= λ n. or_field bytes (divisor_of (cast_signed w32 n.0)) >>= λ d. reads d n.1) ≡ broken left
+    when : (r : Result (ℕ × List ℕ) DecodeFault) → number_at w32 bytes ≡ r → (r >>= λ n. or_field bytes (divisor_of (cast_signed w32 n.0)) >>= λ d. reads d n.1)
+        ≡ broken left
         → Breaks Whole front divisor_at bytes left
     when (Err f) is failed = absurd (number_breaks_not w32 bytes left (is ∙ let same : f ≡ fault.Field left = cc in cc))
     when (Ok x) is failed = chosen x (divisor_of (cast_signed w32 x.0)) is refl failed
@@ -109,26 +116,31 @@ division_begins version n Whole front is goes_on =
     when (eqb n 18) refl low high new
   where
     when : (b : Bool) → eqb n 18 ≡ b → 18 ≤ n → n ≤ 19 → division_version ≤ version → Extends Whole (front ++ (byte n ∷ divisor_bytes one ∷ []))
-    when true e low high new = subst (λ (m : ℕ). Extends Whole (front ++ (byte m ∷ divisor_bytes one ∷ []))) (sym (eqb-true n 18 e)) (goes_on (op.Unary (unary.Divide one)) (new, one_fits))
+    when true e low high new = subst (λ (m : ℕ). Extends Whole (front ++ (byte m ∷ divisor_bytes one ∷ []))) (sym (eqb-true n 18 e))
+        (goes_on (op.Unary (unary.Divide one)) (new, one_fits))
     when false e low high new =
         let other : n ≡ 18 → ⊥ = eqb-false n 18 e in
         let at : 19 ≡ n = omega (arith, low, high, other) in
         subst (λ (m : ℕ). Extends Whole (front ++ (byte m ∷ divisor_bytes one ∷ []))) at (goes_on (op.Unary (unary.Remainder one)) (new, one_fits))
 
-body_breaks : (version number : ℕ) (rest : List ℕ) (Whole : List (List ℕ) → Type 0) (front : List (List ℕ)) (left : ℕ) → IsBytes rest → is_division version number ≡ false
+body_breaks : (version number : ℕ) (rest : List ℕ) (Whole : List (List ℕ) → Type 0) (front : List (List ℕ)) (left : ℕ) → IsBytes rest
+    → is_division version number ≡ false
     → ((o : Operation) → SayableOperation version o → Extends Whole (front ++ operation_fields o)) → operation_body (number ∷ rest) number rest ≡ broken left
     → Breaks Whole front (operation_at version) (number ∷ rest) left
 unfolding operation_at byte_at operation_body
 body_breaks version zero rest Whole front left fits is goes_on e =
-    met_behind Whole front (byte 0 ∷ []) (0 ∷ []) (operation_at version) (λ b. choice_at flags b >>= λ x. reads (op.Literal (value.Bool x.0)) x.1) (0 ∷ rest) rest left refl refl (λ more. rw is refl)
+    met_behind Whole front (byte 0 ∷ []) (0 ∷ []) (operation_at version) (λ b. choice_at flags b >>= λ x. reads (op.Literal (value.Bool x.0)) x.1)
+    (0 ∷ rest) rest left refl refl (λ more. rw is refl)
     (met_first Whole (front ++ (byte 0 ∷ [])) (choice_at flags) _ rest left
-    (choice_breaks flags 0 Whole (front ++ (byte 0 ∷ [])) rest left (step_on Whole front (byte 0 ∷ []) (byte 0 ∷ []) (goes_on (op.Literal (value.Bool false)) tt)) (before_flag (choice_at flags rest) left e)))
+    (choice_breaks flags 0 Whole (front ++ (byte 0 ∷ [])) rest left
+    (step_on Whole front (byte 0 ∷ []) (byte 0 ∷ []) (goes_on (op.Literal (value.Bool false)) tt)) (before_flag (choice_at flags rest) left e)))
   where
     before_flag : (r : Result (Bool × List ℕ) DecodeFault) (left : ℕ) → (r >>= λ x. reads (op.Literal (value.Bool x.0)) x.1) ≡ broken left → r ≡ broken left
     before_flag (Ok x) left e = absurd cc
     before_flag (Err f) left e = cc
 body_breaks version (suc zero) rest Whole front left fits is goes_on e = absurd (number_breaks_not w32 rest left (before_made (number_at w32 rest) _ left e))
-body_breaks version (suc (suc zero)) rest Whole front left fits is goes_on e = absurd (number_breaks_not w16 rest left (before_made (number_at w16 rest) _ left e))
+body_breaks version (suc (suc zero)) rest Whole front left fits is goes_on e = absurd
+    (number_breaks_not w16 rest left (before_made (number_at w16 rest) _ left e))
 body_breaks version (suc (suc (suc n))) rest Whole front left fits is goes_on e = when (slice_get operators n) refl e
   where
     when : (o : Option Operation) → slice_get operators n ≡ o → (or_field (suc (suc (suc n)) ∷ rest) o >>= λ operator. reads operator rest) ≡ broken left
@@ -147,7 +159,8 @@ operation_breaks version Whole front (number ∷ rest) left fits goes_on e = whe
         → Breaks Whole front (operation_at version) (number ∷ rest) left
     when false is failed = body_breaks version number rest Whole front left (IsBytes-rest number rest fits) is goes_on failed
     when true is failed =
-        met_behind Whole front (byte number ∷ []) (number ∷ []) (operation_at version) (division_at number) (number ∷ rest) rest left refl refl (λ more. rw is refl)
+        met_behind Whole front (byte number ∷ []) (number ∷ []) (operation_at version) (division_at number) (number ∷ rest) rest left refl refl
+        (λ more. rw is refl)
         (met_first Whole (front ++ (byte number ∷ [])) divisor_at _ rest left
         (divisor_breaks Whole (front ++ (byte number ∷ [])) rest left (IsBytes-rest number rest fits)
         (step_on Whole front (byte number ∷ []) (divisor_bytes one ∷ []) (division_begins version number Whole front is goes_on))
@@ -162,6 +175,7 @@ unfolding code_at
 code_breaks version Whole front bytes left fits goes_on e =
     then_breaks (length_law 0 operation_limit) (λ n. byte n ∷ []) (λ n. refl) Whole front _ bytes left fits
     (length_breaks 0 operation_limit 0 Whole front bytes left (goes_on [] (omega arith, tt)))
-    (λ n rest within rest_fits failed. each_breaks (operation_law version) operation_fields operation_spelt (op.Unary unary.Negate) tt (operation_breaks version) n Whole (front ++ (byte n ∷ [])) rest left rest_fits
+    (λ n rest within rest_fits failed. each_breaks (operation_law version) operation_fields operation_spelt (op.Unary unary.Negate) tt
+    (operation_breaks version) n Whole (front ++ (byte n ∷ [])) rest left rest_fits
     (λ ops len all. step_on Whole front (byte n ∷ []) (flat_map operation_fields ops)
     (subst (λ (m : ℕ). Extends Whole (front ++ (byte m ∷ flat_map operation_fields ops))) len (goes_on ops (omega (arith, len, within.1), all)))) failed) e

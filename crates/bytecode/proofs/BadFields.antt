@@ -1,6 +1,7 @@
 -- A reading that meets a bad field: the fields before it begin a whole of which all can be read, and the bad one fails by
 -- itself, whatever stands behind it.
-use Rattle.std.proofs.Common.{◌≡◌, ◌≢◌, ℕ, zero, suc, ◌^◌, ◌<◌, ◌≤◌, Bool, true, false, cond, ltb, leb, List, [], ◌∷◌, ◌++◌, length, take, drop, Option, Some, None, IsTrue, Result, Ok, Err, refl, sym, ap, subst, ◌∙◌, append_assoc, arith}
+use Rattle.std.proofs.Common.{◌≡◌, ◌≢◌, ℕ, zero, suc, ◌^◌, ◌<◌, ◌≤◌, Bool, true, false, cond, ltb, leb, List, [], ◌∷◌, ◌++◌, length, take, drop, Option, Some}
+use Rattle.std.proofs.Common.{None, IsTrue, Result, Ok, Err, refl, sym, ap, subst, ◌∙◌, append_assoc, arith}
 use Rattle.std.specs.Prelude.{slice_get, ◌&&◌, ◌||◌, replicate}
 use Rattle.std.specs.List.{concat, list_all}
 use Rattle.std.specs.Int.{Width, w16, byte_len, from_le_bytes}
@@ -35,7 +36,8 @@ begin_at Whole a b c (after, whole) =
     (c ++ after, subst Whole moved whole)
 
 -- behind these fields a reading of the bytes meets a bad one, with so many bytes from its first on
-pub record Breaks {A : Type 0} (Whole : List (List ℕ) → Type 0) (front : List (List ℕ)) (read : List ℕ → Result A DecodeFault) (bytes : List ℕ) (left : ℕ) : Type 0 where
+pub record Breaks {A : Type 0} (Whole : List (List ℕ) → Type 0) (front : List (List ℕ)) (read : List ℕ → Result A DecodeFault) (bytes : List ℕ)
+    (left : ℕ) : Type 0 where
   pub before : List (List ℕ)
   pub field : List ℕ
   pub after : List (List ℕ)
@@ -59,7 +61,8 @@ CanBreak {A} read fields Fits = (Whole : List (List ℕ) → Type 0) (front : Li
     → ((x : A) → Fits x → Extends Whole (front ++ fields x)) → read bytes ≡ broken left → Breaks Whole front read bytes left
 
 -- the first reader met it
-pub met_first : {A B : Type 0} (Whole : List (List ℕ) → Type 0) (front : List (List ℕ)) (read : List ℕ → Result A DecodeFault) (f : A → Result B DecodeFault) (bytes : List ℕ) (left : ℕ)
+pub met_first : {A B : Type 0} (Whole : List (List ℕ) → Type 0) (front : List (List ℕ)) (read : List ℕ → Result A DecodeFault) (f : A → Result B DecodeFault)
+    (bytes : List ℕ) (left : ℕ)
     → Breaks Whole front read bytes left → Breaks Whole front (λ b. read b >>= f) bytes left
 met_first {A} {B} Whole front read f bytes left b = record {
   before = b.before;
@@ -75,14 +78,16 @@ met_first {A} {B} Whole front read f bytes left b = record {
 }
 
 -- what comes behind what was read met it
-pub met_behind : {B : Type 0} (Whole : List (List ℕ) → Type 0) (front fields : List (List ℕ)) (text : List ℕ) (whole : List ℕ → Result B DecodeFault) (next : List ℕ → Result B DecodeFault) (bytes rest : List ℕ) (left : ℕ)
+pub met_behind : {B : Type 0} (Whole : List (List ℕ) → Type 0) (front fields : List (List ℕ)) (text : List ℕ) (whole : List ℕ → Result B DecodeFault)
+    (next : List ℕ → Result B DecodeFault) (bytes rest : List ℕ) (left : ℕ)
     → concat fields ≡ text → bytes ≡ text ++ rest → ((more : List ℕ) → whole (text ++ more) ≡ next more)
     → Breaks Whole (front ++ fields) next rest left → Breaks Whole front whole bytes left
 met_behind {B} Whole front fields text whole next bytes rest left spelt parts again b =
     let moved : (front ++ fields) ++ (b.before ++ b.field ∷ b.after) ≡ front ++ ((fields ++ b.before) ++ b.field ∷ b.after) = simp append_assoc in
     let text_is : concat (fields ++ b.before) ≡ text ++ concat b.before = concat-append fields b.before ∙ ap (λ (t : List ℕ). t ++ concat b.before) spelt in
     let stands : bytes ≡ concat (fields ++ b.before) ++ (b.bad ++ b.rest) =
-    parts ∙ ap (λ (r : List ℕ). text ++ r) b.stands ∙ sym (append_assoc text (concat b.before) (b.bad ++ b.rest)) ∙ ap (λ (t : List ℕ). t ++ (b.bad ++ b.rest)) (sym text_is) in
+    parts ∙ ap (λ (r : List ℕ). text ++ r) b.stands ∙ sym (append_assoc text (concat b.before) (b.bad ++ b.rest))
+    ∙ ap (λ (t : List ℕ). t ++ (b.bad ++ b.rest)) (sym text_is) in
     let at : concat (fields ++ b.before) ++ b.bad ≡ text ++ (concat b.before ++ b.bad) =
     ap (λ (t : List ℕ). t ++ b.bad) text_is ∙ append_assoc text (concat b.before) b.bad in
     record {
@@ -99,7 +104,8 @@ met_behind {B} Whole front fields text whole next bytes rest left spelt parts ag
     }
 
 -- one reader and then another
-pub then_breaks : {A B : Type 0} {read : Reader A} {text : A → List ℕ} {Fits : A → Type 0} (law : IsRead read text Fits) (fields : A → List (List ℕ)) (spelt : (x : A) → concat (fields x) ≡ text x)
+pub then_breaks : {A B : Type 0} {read : Reader A} {text : A → List ℕ} {Fits : A → Type 0} (law : IsRead read text Fits) (fields : A → List (List ℕ))
+    (spelt : (x : A) → concat (fields x) ≡ text x)
     (Whole : List (List ℕ) → Type 0) (front : List (List ℕ)) (next : A × List ℕ → Result B DecodeFault) (bytes : List ℕ) (left : ℕ) → IsBytes bytes
     → (read bytes ≡ broken left → Breaks Whole front read bytes left)
     → ((x : A) (rest : List ℕ) → Fits x → IsBytes rest → next (x, rest) ≡ broken left → Breaks Whole (front ++ fields x) (λ b. next (x, b)) rest left)
@@ -113,8 +119,10 @@ then_breaks {A} {B} {read} {text} {Fits} law fields spelt Whole front next bytes
     when (Ok x) is =
         let t = law.takes bytes x fits is in
         let good : next x ≡ broken left = ap (λ (r : Result (A × List ℕ) DecodeFault). r >>= next) (sym is) ∙ e in
-        let go : (more : List ℕ) → (read (text x.0 ++ more) >>= next) ≡ next (x.0, more) = λ more. ap (λ (r : Result (A × List ℕ) DecodeFault). r >>= next) (law.again x.0 more t.1) in
-        met_behind Whole front (fields x.0) (text x.0) (λ b. read b >>= next) (λ b. next (x.0, b)) bytes x.1 left (spelt x.0) t.0.parts go (second x.0 x.1 t.1 t.0.rest_bytes good)
+        let go : (more : List ℕ) → (read (text x.0 ++ more) >>= next) ≡ next (x.0, more) = λ more. ap (λ (r : Result (A × List ℕ) DecodeFault). r >>= next)
+        (law.again x.0 more t.1) in
+        met_behind Whole front (fields x.0) (text x.0) (λ b. read b >>= next) (λ b. next (x.0, b)) bytes x.1 left (spelt x.0) t.0.parts go
+        (second x.0 x.1 t.1 t.0.rest_bytes good)
 
 -- what is made of what was read fails nowhere
 pub before_made : {A B : Type 0} (r : Result A DecodeFault) (make : A → B) (left : ℕ) → (r >>= λ x. Ok (make x)) ≡ broken left → r ≡ broken left
@@ -123,7 +131,8 @@ before_made (Err f) make left e = cc
 
 -- the first field is the bad one
 pub at_once : {A : Type 0} (Whole : List (List ℕ) → Type 0) (front : List (List ℕ)) (read : List ℕ → Result A DecodeFault) (bad rest field : List ℕ) (left : ℕ)
-    → Extends Whole (front ++ (field ∷ [])) → length bad ≡ length field → length (bad ++ rest) ≡ left → read bad ≡ broken (length bad) → Breaks Whole front read (bad ++ rest) left
+    → Extends Whole (front ++ (field ∷ [])) → length bad ≡ length field → length (bad ++ rest) ≡ left → read bad ≡ broken (length bad)
+    → Breaks Whole front read (bad ++ rest) left
 at_once Whole front read bad rest field left (after, whole) long from fails = record {
   before = [];
   field = field;
@@ -169,8 +178,10 @@ unfolding choice_at byte_at
 choice_breaks choices other Whole front [] left goes_on e = absurd cc
 choice_breaks {A} choices other Whole front (b ∷ rest) left goes_on e = when (slice_get choices b) refl e
   where
-    when : (o : Option A) → slice_get choices b ≡ o → (or_field (b ∷ rest) o >>= λ choice. reads choice rest) ≡ broken left → Breaks Whole front (choice_at choices) (b ∷ rest) left
-    when None is failed = at_once Whole front (choice_at choices) (b ∷ []) rest (byte other) left goes_on refl (same_left {A = A × List ℕ} (suc (length rest)) left failed) (rw is refl)
+    when : (o : Option A) → slice_get choices b ≡ o → (or_field (b ∷ rest) o >>= λ choice. reads choice rest) ≡ broken left
+        → Breaks Whole front (choice_at choices) (b ∷ rest) left
+    when None is failed = at_once Whole front (choice_at choices) (b ∷ []) rest (byte other) left goes_on refl
+        (same_left {A = A × List ℕ} (suc (length rest)) left failed) (rw is refl)
     when (Some x) is failed = absurd cc
 
 pub length_breaks : (least most other : ℕ) (Whole : List (List ℕ) → Type 0) (front : List (List ℕ)) (bytes : List ℕ) (left : ℕ)
@@ -182,9 +193,11 @@ length_breaks least most other Whole front (b ∷ rest) left goes_on e = when (l
     got : Result (ℕ × List ℕ) DecodeFault
     got = Ok (b, rest)
 
-    when : (is : Bool) → (leb least b && leb b most) ≡ is → cond is got (broken (suc (length rest))) ≡ broken left → Breaks Whole front (length_at least most) (b ∷ rest) left
+    when : (is : Bool) → (leb least b && leb b most) ≡ is → cond is got (broken (suc (length rest))) ≡ broken left
+        → Breaks Whole front (length_at least most) (b ∷ rest) left
     when true is failed = absurd cc
-    when false is failed = at_once Whole front (length_at least most) (b ∷ []) rest (byte other) left goes_on refl (same_left {A = ℕ × List ℕ} (suc (length rest)) left failed) (rw is refl)
+    when false is failed = at_once Whole front (length_at least most) (b ∷ []) rest (byte other) left goes_on refl
+        (same_left {A = ℕ × List ℕ} (suc (length rest)) left failed) (rw is refl)
 
 -- ---- names and variables
 
@@ -211,16 +224,20 @@ text_breaks : (n : ℕ) (Whole : List (List ℕ) → Type 0) (front : List (List
 text_breaks n Whole front bytes left fits goes_on e = when (bytes_at n bytes) refl e
   where
     named : (x : List ℕ × List ℕ) (o : Option (List ℕ)) → bytes_at n bytes ≡ Ok x → name_of x.0 ≡ o
-        → (or_field bytes o >>= λ name. reads name x.1) ≡ broken left → Breaks Whole front (λ b. bytes_at n b >>= λ text. or_field b (name_of text.0) >>= λ name. reads name text.1) bytes left
+        → (or_field bytes o >>= λ name. reads name x.1) ≡ broken left
+        → Breaks Whole front (λ b. bytes_at n b >>= λ text. or_field b (name_of text.0) >>= λ name. reads name text.1) bytes left
     named x (Some name) is lacking failed = absurd cc
     named x None is lacking failed =
         let t = bytes_takes n bytes x fits is in
         let alone : bytes_at n x.0 ≡ Ok (x.0, []) = ap (bytes_at n) (sym (append-nil x.0)) ∙ bytes_again n x.0 [] t.1 in
         let as_long : length (x.0 ++ x.1) ≡ left = ap length (sym t.0.parts) ∙ same_left {A = List ℕ × List ℕ} (length bytes) left failed in
-        subst (λ (b : List ℕ). Breaks Whole front (λ b. bytes_at n b >>= λ text. or_field b (name_of text.0) >>= λ name. reads name text.1) b left) (sym t.0.parts)
-        (at_once Whole front (λ b. bytes_at n b >>= λ text. or_field b (name_of text.0) >>= λ name. reads name text.1) x.0 x.1 (letters n) left goes_on (t.1 ∙ sym (letters_length n)) as_long (rw (alone, lacking) refl))
+        subst (λ (b : List ℕ). Breaks Whole front (λ b. bytes_at n b >>= λ text. or_field b (name_of text.0) >>= λ name. reads name text.1) b left)
+        (sym t.0.parts)
+        (at_once Whole front (λ b. bytes_at n b >>= λ text. or_field b (name_of text.0) >>= λ name. reads name text.1) x.0 x.1 (letters n) left goes_on
+        (t.1 ∙ sym (letters_length n)) as_long (rw (alone, lacking) refl))
 
-    when : (r : Result (List ℕ × List ℕ) DecodeFault) → bytes_at n bytes ≡ r → (r >>= λ text. or_field bytes (name_of text.0) >>= λ name. reads name text.1) ≡ broken left
+    when : (r : Result (List ℕ × List ℕ) DecodeFault) → bytes_at n bytes ≡ r → (r >>= λ text. or_field bytes (name_of text.0) >>= λ name. reads name text.1)
+        ≡ broken left
         → Breaks Whole front (λ b. bytes_at n b >>= λ text. or_field b (name_of text.0) >>= λ name. reads name text.1) bytes left
     when (Err f) is failed = absurd (bytes_break_not n bytes left (is ∙ let same : f ≡ fault.Field left = cc in cc))
     when (Ok x) is failed = named x (name_of x.0) is refl failed
@@ -239,12 +256,16 @@ unfolding variable_at
 variable_breaks Whole front bytes left fits goes_on e =
     let a : List ℕ = 97 ∷ [] in
     then_breaks role_law (λ r. byte (role_number r) ∷ []) (λ r. refl) Whole front _ bytes left fits
-    (choice_breaks roles 0 Whole front bytes left (begin_at Whole front (byte 0 ∷ []) (byte 0 ∷ byte 1 ∷ a ∷ []) (goes_on (record { name = a; kind = kind.Bool; role = role.Input }) refl)))
-    (λ r rest any rest_fits failed. then_breaks kind_law (λ k. byte (kind_number k) ∷ []) (λ k. refl) Whole (front ++ (byte (role_number r) ∷ [])) _ rest left rest_fits
-    (choice_breaks kinds 0 Whole (front ++ (byte (role_number r) ∷ [])) rest left (begin_at Whole (front ++ (byte (role_number r) ∷ [])) (byte 0 ∷ []) (byte 1 ∷ a ∷ [])
+    (choice_breaks roles 0 Whole front bytes left
+    (begin_at Whole front (byte 0 ∷ []) (byte 0 ∷ byte 1 ∷ a ∷ []) (goes_on (record { name = a; kind = kind.Bool; role = role.Input }) refl)))
+    (λ r rest any rest_fits failed. then_breaks kind_law (λ k. byte (kind_number k) ∷ []) (λ k. refl) Whole (front ++ (byte (role_number r) ∷ [])) _ rest left
+    rest_fits
+    (choice_breaks kinds 0 Whole (front ++ (byte (role_number r) ∷ [])) rest left
+    (begin_at Whole (front ++ (byte (role_number r) ∷ [])) (byte 0 ∷ []) (byte 1 ∷ a ∷ [])
     (step_on Whole front (byte (role_number r) ∷ []) (byte 0 ∷ byte 1 ∷ a ∷ []) (goes_on (record { name = a; kind = kind.Bool; role = r }) refl))))
     (λ k last any last_fits last_failed. met_first Whole ((front ++ (byte (role_number r) ∷ [])) ++ (byte (kind_number k) ∷ [])) name_at _ last left
     (name_breaks Whole ((front ++ (byte (role_number r) ∷ [])) ++ (byte (kind_number k) ∷ [])) last left last_fits
     (λ name is. step_on Whole (front ++ (byte (role_number r) ∷ [])) (byte (kind_number k) ∷ []) (byte (length name) ∷ name ∷ [])
-    (step_on Whole front (byte (role_number r) ∷ []) (byte (kind_number k) ∷ byte (length name) ∷ name ∷ []) (goes_on (record { name = name; kind = k; role = r }) is)))
+    (step_on Whole front (byte (role_number r) ∷ []) (byte (kind_number k) ∷ byte (length name) ∷ name ∷ [])
+    (goes_on (record { name = name; kind = k; role = r }) is)))
     (before_made (name_at last) _ left last_failed))) failed) e

@@ -1,5 +1,6 @@
 -- The bad fields of images: what is told is such.
-use Rattle.std.proofs.Common.{◌≡◌, ◌≢◌, ℕ, ◌-◌, ◌^◌, ◌<◌, Bool, true, false, cond, eqb, List, [], ◌∷◌, ◌++◌, length, None, Result, Ok, Err, refl, sym, ap, subst, ◌∙◌, append_assoc, arith}
+use Rattle.std.proofs.Common.{◌≡◌, ◌≢◌, ℕ, ◌-◌, ◌^◌, ◌<◌, Bool, true, false, cond, eqb, List, [], ◌∷◌, ◌++◌, length, None, Result, Ok, Err, refl, sym, ap}
+use Rattle.std.proofs.Common.{subst, ◌∙◌, append_assoc, arith}
 use Rattle.std.specs.Prelude.{nat_eq}
 use Rattle.std.specs.List.{concat, flat_map}
 use Rattle.std.specs.Int.{w32}
@@ -31,7 +32,8 @@ use Rattle.bytecode.proofs.NodeLaws.{thread_law, node_law}
 use Rattle.bytecode.proofs.ImageRows.{thread_rows_back, node_rows_back}
 use Rattle.bytecode.proofs.ImageLaws.{counted_bytes, CountedFits, counted_law, header_takes, header_again, rows_image_fits, image_again}
 use Rattle.bytecode.proofs.Longer.{Grown, tailed, image_grows}
-use Rattle.bytecode.proofs.BadFields.{Extends, step_on, begin_at, Breaks, broken, CanBreak, met_behind, then_breaks, bytes_break_not, byte_breaks_not, number_breaks_not, variable_breaks}
+use Rattle.bytecode.proofs.BadFields.{Extends, step_on, begin_at, Breaks, broken, CanBreak, met_behind, then_breaks, bytes_break_not, byte_breaks_not}
+use Rattle.bytecode.proofs.BadFields.{number_breaks_not, variable_breaks}
 use Rattle.bytecode.proofs.BadCodes.{each_spelt, each_breaks}
 use Rattle.bytecode.proofs.BadNodes.{number_then, not_then, thread_spelt, thread_breaks, node_spelt, node_breaks}
 
@@ -53,7 +55,8 @@ counted_spelt text fields_of spelt xs = ap (λ (t : List ℕ). u16_bytes (length
 -- the fields of an image of these rows
 abbrev rows_fields : ℕ → List Variable → List ThreadRow → List NodeRow → ℕ → List (List ℕ)
 rows_fields version variables threads nodes budget =
-    (magic ∷ byte version ∷ []) ++ (counted_fields variable_fields variables ++ (counted_fields thread_fields threads ++ (counted_fields node_fields nodes ++ (u32_bytes budget ∷ []))))
+    (magic ∷ byte version ∷ []) ++ (counted_fields variable_fields
+    variables ++ (counted_fields thread_fields threads ++ (counted_fields node_fields nodes ++ (u32_bytes budget ∷ []))))
 
 regroup : {A : Type 0} (m v t n b : List A) → (((m ++ v) ++ t) ++ n) ++ b ≡ m ++ (v ++ (t ++ (n ++ b)))
 regroup m v t n b = simp append_assoc
@@ -62,7 +65,8 @@ rows_have : (version : ℕ) (variables : List Variable) (threads : List ThreadRo
     → fields version (image_of variables threads nodes budget) ≡ rows_fields version variables threads nodes budget
 rows_have version variables threads nodes budget =
     rw (thread_rows_back threads, node_rows_back nodes, length-map threads (λ t. t.thread), length-map nodes (λ n. n.node))
-    (regroup (magic ∷ byte version ∷ []) (counted_fields variable_fields variables) (counted_fields thread_fields threads) (counted_fields node_fields nodes) (u32_bytes budget ∷ []))
+    (regroup (magic ∷ byte version ∷ []) (counted_fields variable_fields variables) (counted_fields thread_fields threads) (counted_fields node_fields nodes)
+    (u32_bytes budget ∷ []))
 
 abbrev Whole : ℕ → List (List ℕ) → Type 0
 Whole version parts = (i : Image) × SayableImage version i × (fields version i ≡ parts)
@@ -70,10 +74,17 @@ Whole version parts = (i : Image) × SayableImage version i × (fields version i
 whole_of : (version : ℕ) (variables : List Variable) (threads : List ThreadRow) (nodes : List NodeRow) (budget : ℕ)
     → CountedFits SayableVariable variables → CountedFits SayableThread threads → CountedFits (SayableNode version) nodes → budget < 2 ^ 32
     → Extends (Whole version) (rows_fields version variables threads nodes budget)
-whole_of version variables threads nodes budget v t n b =
-    ([], (image_of variables threads nodes budget, rows_image_fits version variables threads nodes budget v t n b, rows_have version variables threads nodes budget ∙ sym (append-nil (rows_fields version variables threads nodes budget))))
+whole_of version variables threads nodes budget v t n b = (
+  [],
+  (
+    image_of variables threads nodes budget,
+    rows_image_fits version variables threads nodes budget v t n b,
+    rows_have version variables threads nodes budget ∙ sym (append-nil (rows_fields version variables threads nodes budget)),
+  ),
+)
 
-counted_breaks : {A : Type 0} {read : Reader A} {text : A → List ℕ} {Fits : A → Type 0} (law : IsRead read text Fits) (fields_of : A → List (List ℕ)) → ((x : A) → concat (fields_of x) ≡ text x)
+counted_breaks : {A : Type 0} {read : Reader A} {text : A → List ℕ} {Fits : A → Type 0} (law : IsRead read text Fits) (fields_of : A → List (List ℕ))
+    → ((x : A) → concat (fields_of x) ≡ text x)
     → (some : A) → Fits some → CanBreak read fields_of Fits → CanBreak (counted_at read) (counted_fields fields_of) (CountedFits Fits)
 unfolding counted_at
 counted_breaks {A} {read} {text} {Fits} law fields_of spelt some some_fits can Whole front bytes left fits goes_on e =
@@ -96,24 +107,31 @@ ended_breaks_not : (b : Bool) (i : Image) (left : ℕ) → cond b (Ok i) (Err fa
 ended_breaks_not true i left e = absurd cc
 ended_breaks_not false i left e = absurd cc
 
-body_breaks : (version : ℕ) (bytes : List ℕ) (left : ℕ) → IsBytes bytes → body_at version bytes ≡ broken left → Breaks (Whole version) (magic ∷ byte version ∷ []) (body_at version) bytes left
+body_breaks : (version : ℕ) (bytes : List ℕ) (left : ℕ) → IsBytes bytes → body_at version bytes ≡ broken left
+    → Breaks (Whole version) (magic ∷ byte version ∷ []) (body_at version) bytes left
 unfolding body_at
 body_breaks version bytes left fits e =
     let front : List (List ℕ) = magic ∷ byte version ∷ [] in
     let W : List (List ℕ) → Type 0 = Whole version in
-    then_breaks (counted_law variable_law) (counted_fields variable_fields) (counted_spelt variable_bytes variable_fields variable_spelt) W front _ bytes left fits
+    then_breaks (counted_law variable_law) (counted_fields variable_fields) (counted_spelt variable_bytes variable_fields variable_spelt) W front _ bytes left
+    fits
     (counted_breaks variable_law variable_fields variable_spelt some_variable refl variable_breaks W front bytes left fits
     (λ vs v. begin_at W front (counted_fields variable_fields vs) _ (whole_of version vs [] [] 0 v (omega arith, tt) (omega arith, tt) (omega arith))))
     (λ vs rest1 v fits1 failed1.
     let front1 : List (List ℕ) = front ++ counted_fields variable_fields vs in
     then_breaks (counted_law thread_law) (counted_fields thread_fields) (counted_spelt thread_bytes thread_fields thread_spelt) W front1 _ rest1 left fits1
-    (counted_breaks thread_law thread_fields thread_spelt some_thread (record { parent = tt; entry = omega arith; bound = omega arith }) thread_breaks W front1 rest1 left fits1
-    (λ ts t. begin_at W front1 (counted_fields thread_fields ts) _ (step_on W front (counted_fields variable_fields vs) _ (whole_of version vs ts [] 0 v t (omega arith, tt) (omega arith)))))
+    (counted_breaks thread_law thread_fields thread_spelt some_thread (record { parent = tt; entry = omega arith; bound = omega arith }) thread_breaks W front1
+    rest1 left fits1
+    (λ ts t. begin_at W front1 (counted_fields thread_fields ts) _
+    (step_on W front (counted_fields variable_fields vs) _ (whole_of version vs ts [] 0 v t (omega arith, tt) (omega arith)))))
     (λ ts rest2 t fits2 failed2.
     let front2 : List (List ℕ) = front1 ++ counted_fields thread_fields ts in
     then_breaks (counted_law (node_law version)) (counted_fields node_fields) (counted_spelt node_bytes node_fields node_spelt) W front2 _ rest2 left fits2
-    (counted_breaks (node_law version) node_fields node_spelt some_node (record { owner = omega arith; priority = omega arith; weight = omega arith; step = tt }) (node_breaks version) W front2 rest2 left fits2
-    (λ ns n. begin_at W front2 (counted_fields node_fields ns) _ (step_on W front1 (counted_fields thread_fields ts) _ (step_on W front (counted_fields variable_fields vs) _ (whole_of version vs ts ns 0 v t n (omega arith))))))
+    (counted_breaks (node_law version) node_fields node_spelt some_node
+    (record { owner = omega arith; priority = omega arith; weight = omega arith; step = tt }) (node_breaks version) W front2 rest2 left fits2
+    (λ ns n. begin_at W front2 (counted_fields node_fields ns) _
+    (step_on W front1 (counted_fields thread_fields ts) _
+    (step_on W front (counted_fields variable_fields vs) _ (whole_of version vs ts ns 0 v t n (omega arith))))))
     (λ ns rest3 n fits3 failed3.
     absurd (not_then (number_at w32 rest3) _ left (number_breaks_not w32 rest3 left)
     (λ budget. ended_breaks_not (eqb (length budget.1) 0) (image_of vs ts ns budget.0) left) failed3)) failed2) failed1) e
@@ -128,15 +146,18 @@ header_breaks_not : (version : ℕ) (bytes : List ℕ) (left : ℕ) → header_a
 unfolding header_at
 header_breaks_not version bytes left =
     not_then (bytes_at 4 bytes) _ left (bytes_break_not 4 bytes left)
-    (λ start. not_then (cond (pointwise nat_eq start.0 magic) (Ok start.1) (Err fault.Magic)) _ left (test_breaks_not (pointwise nat_eq start.0 magic) start.1 left fault.Magic (λ e. absurd cc))
+    (λ start. not_then (cond (pointwise nat_eq start.0 magic) (Ok start.1) (Err fault.Magic)) _ left
+    (test_breaks_not (pointwise nat_eq start.0 magic) start.1 left fault.Magic (λ e. absurd cc))
     (λ marked. not_then (byte_at marked) _ left (byte_breaks_not marked left)
     (λ number. test_breaks_not (eqb number.0 version) number.1 left fault.Version (λ e. absurd cc))))
 
-image_breaks : (version : ℕ) (bytes : List ℕ) (left : ℕ) → IsBytes bytes → image_at version bytes ≡ broken left → Breaks (Whole version) [] (image_at version) bytes left
+image_breaks : (version : ℕ) (bytes : List ℕ) (left : ℕ) → IsBytes bytes → image_at version bytes ≡ broken left
+    → Breaks (Whole version) [] (image_at version) bytes left
 unfolding image_at
 image_breaks version bytes left fits e = when (header_at version bytes) refl e
   where
-    when : (r : Result (List ℕ) DecodeFault) → header_at version bytes ≡ r → (r >>= body_at version) ≡ broken left → Breaks (Whole version) [] (image_at version) bytes left
+    when : (r : Result (List ℕ) DecodeFault) → header_at version bytes ≡ r → (r >>= body_at version) ≡ broken left
+        → Breaks (Whole version) [] (image_at version) bytes left
     when (Err f) is failed = absurd (header_breaks_not version bytes left (is ∙ let same : f ≡ fault.Field left = cc in cc))
     when (Ok rest) is failed =
         let header = header_takes version bytes rest fits is in
@@ -145,7 +166,8 @@ image_breaks version bytes left fits e = when (header_at version bytes) refl e
 
 -- ---- what is told
 
-told_broken : (bytes : List ℕ) (r : Result Image DecodeFault) (offset : ℕ) → answer bytes r ≡ Err (fault.Field offset) → (left : ℕ) × (r ≡ broken left) × (length bytes - left ≡ offset)
+told_broken : (bytes : List ℕ) (r : Result Image DecodeFault) (offset : ℕ) → answer bytes r ≡ Err (fault.Field offset) → (left : ℕ) × (r ≡ broken left)
+    × (length bytes - left ≡ offset)
 told_broken bytes (Ok i) offset e = absurd cc
 told_broken bytes (Err fault.Short) offset e = absurd cc
 told_broken bytes (Err fault.Magic) offset e = absurd cc
@@ -165,7 +187,8 @@ no_spelling version bytes (b ∷ more) left e (i, spells) =
     let same = subst (λ (r : Result Image DecodeFault). Grown tailed (length (b ∷ more)) r (image_at version (bytes ++ b ∷ more))) e grown in
     absurd cc
 
-pub told_is_bad : (version : ℕ) (bytes : List ℕ) (offset : ℕ) → IsBytes bytes → reading version bytes ≡ Err (fault.Field offset) → IsBadField version bytes offset
+pub told_is_bad : (version : ℕ) (bytes : List ℕ) (offset : ℕ) → IsBytes bytes → reading version bytes ≡ Err (fault.Field offset)
+    → IsBadField version bytes offset
 unfolding reading
 told_is_bad version bytes offset fits e =
     let (left, is, from) = told_broken bytes (image_at version bytes) offset e in
@@ -218,5 +241,6 @@ fields_spelt version i =
       append-nil (u32_bytes i.tables.budget),
     )
     (ap (λ (rest : List ℕ). magic ++ version ∷ rest)
-    (in_row (u16_bytes (length i.program.variables)) (flat_map variable_bytes i.program.variables) (u16_bytes (length i.program.threads)) (flat_map thread_bytes (rows_of_threads i))
+    (in_row (u16_bytes (length i.program.variables)) (flat_map variable_bytes i.program.variables) (u16_bytes (length i.program.threads))
+    (flat_map thread_bytes (rows_of_threads i))
     (u16_bytes (length i.program.nodes)) (flat_map node_bytes (rows_of_nodes i)) (u32_bytes i.tables.budget)))

@@ -20,15 +20,19 @@ use Rattle.bytecode.specs.Reading.Codes.{code_at}
 use Rattle.bytecode.specs.Reading.Nodes.{thread_at, assign_at, update_at, cond_at, fork_at, target_at, step_body, tagged_step_at, node_at}
 use Rattle.bytecode.proofs.Readers.{IsBytes}
 use Rattle.bytecode.proofs.FieldLaws.{IsBytes-rest, number16_law, flag_law, combination_law}
-use Rattle.bytecode.proofs.BadFields.{Extends, step_on, begin_at, Breaks, broken, reads, CanBreak, met_first, met_behind, then_breaks, before_made, at_once, number_breaks_not, byte_breaks_not, same_left, choice_breaks}
+use Rattle.bytecode.proofs.BadFields.{Extends, step_on, begin_at, Breaks, broken, reads, CanBreak, met_first, met_behind, then_breaks, before_made, at_once}
+use Rattle.bytecode.proofs.BadFields.{number_breaks_not, byte_breaks_not, same_left, choice_breaks}
 use Rattle.bytecode.proofs.BadCodes.{each_spelt, code_spelt, code_breaks}
 
 -- a number is never bad, so what comes behind it is
-pub number_then : {B : Type 0} (Whole : List (List ℕ) → Type 0) (front : List (List ℕ)) (next : ℕ × List ℕ → Result B DecodeFault) (bytes : List ℕ) (left : ℕ) → IsBytes bytes
-    → ((n : ℕ) (rest : List ℕ) → n < 2 ^ 16 → IsBytes rest → next (n, rest) ≡ broken left → Breaks Whole (front ++ (u16_bytes n ∷ [])) (λ b. next (n, b)) rest left)
+pub number_then : {B : Type 0} (Whole : List (List ℕ) → Type 0) (front : List (List ℕ)) (next : ℕ × List ℕ → Result B DecodeFault) (bytes : List ℕ) (left : ℕ)
+    → IsBytes bytes
+    → ((n : ℕ) (rest : List ℕ) → n < 2 ^ 16 → IsBytes rest → next (n, rest) ≡ broken left
+    → Breaks Whole (front ++ (u16_bytes n ∷ [])) (λ b. next (n, b)) rest left)
     → (number_at w16 bytes >>= next) ≡ broken left → Breaks Whole front (λ b. number_at w16 b >>= next) bytes left
 number_then Whole front next bytes left fits second e =
-    then_breaks number16_law (λ n. u16_bytes n ∷ []) (λ n. append-nil (u16_bytes n)) Whole front next bytes left fits (λ failed. absurd (number_breaks_not w16 bytes left failed)) second e
+    then_breaks number16_law (λ n. u16_bytes n ∷ []) (λ n. append-nil (u16_bytes n)) Whole front next bytes left fits
+    (λ failed. absurd (number_breaks_not w16 bytes left failed)) second e
 
 -- ---- threads
 
@@ -46,10 +50,14 @@ thread_breaks Whole front bytes left fits goes_on e =
 -- ---- steps
 
 -- two numbers and a code
-coded_breaks : {A : Type 0} (version : ℕ) (made : ℕ → ℕ → List Operation → A) (Whole : List (List ℕ) → Type 0) (front : List (List ℕ)) (bytes : List ℕ) (left : ℕ) → IsBytes bytes
-    → ((m n : ℕ) (code : List Operation) → m < 2 ^ 16 → n < 2 ^ 16 → SayableCode version code → Extends Whole (front ++ (u16_bytes m ∷ u16_bytes n ∷ code_fields code)))
-    → (number_at w16 bytes >>= λ first. number_at w16 first.1 >>= λ second. code_at version second.1 >>= λ code. reads (made first.0 second.0 code.0) code.1) ≡ broken left
-    → Breaks Whole front (λ b. number_at w16 b >>= λ first. number_at w16 first.1 >>= λ second. code_at version second.1 >>= λ code. reads (made first.0 second.0 code.0) code.1) bytes left
+coded_breaks : {A : Type 0} (version : ℕ) (made : ℕ → ℕ → List Operation → A) (Whole : List (List ℕ) → Type 0) (front : List (List ℕ)) (bytes : List ℕ)
+    (left : ℕ) → IsBytes bytes
+    → ((m n : ℕ) (code : List Operation) → m < 2 ^ 16 → n < 2 ^ 16 → SayableCode version code
+    → Extends Whole (front ++ (u16_bytes m ∷ u16_bytes n ∷ code_fields code)))
+    → (number_at w16 bytes >>= λ first. number_at w16 first.1 >>= λ second. code_at version second.1 >>= λ code. reads (made first.0 second.0 code.0) code.1)
+    ≡ broken left
+    → Breaks Whole front (λ b. number_at w16 b >>= λ first. number_at w16 first.1 >>= λ second. code_at version second.1 >>= λ code.
+    reads (made first.0 second.0 code.0) code.1) bytes left
 coded_breaks version made Whole front bytes left fits goes_on e =
     number_then Whole front _ bytes left fits
     (λ m rest m_fits rest_fits failed. number_then Whole (front ++ (u16_bytes m ∷ [])) _ rest left rest_fits
@@ -71,7 +79,8 @@ update_breaks version Whole front bytes left fits goes_on e =
     then_breaks combination_law (λ f. byte (combination_number f) ∷ []) (λ f. refl) Whole named _ rest left rest_fits
     (choice_breaks combinations 0 Whole named rest left
     (begin_at Whole named (byte 0 ∷ []) (u16_bytes 0 ∷ byte 0 ∷ []) (step_on Whole tagged (u16_bytes variable ∷ []) (byte 0 ∷ u16_bytes 0 ∷ byte 0 ∷ [])
-    (step_on Whole front (byte 2 ∷ []) (u16_bytes variable ∷ byte 0 ∷ u16_bytes 0 ∷ byte 0 ∷ []) (goes_on (step.Update variable combine.Add [] 0) (v_fits, omega arith, (omega arith, tt)))))))
+    (step_on Whole front (byte 2 ∷ []) (u16_bytes variable ∷ byte 0 ∷ u16_bytes 0 ∷ byte 0 ∷ [])
+    (goes_on (step.Update variable combine.Add [] 0) (v_fits, omega arith, (omega arith, tt)))))))
     (λ f rest2 any rest2_fits failed2.
     let combined : List (List ℕ) = named ++ (byte (combination_number f) ∷ []) in
     number_then Whole combined _ rest2 left rest2_fits
@@ -85,7 +94,8 @@ update_breaks version Whole front bytes left fits goes_on e =
     (before_made (code_at version last) _ left last_failed))) failed2) failed) e
 
 -- neither of two readers met one
-pub not_then : {A B : Type 0} (r : Result A DecodeFault) (f : A → Result B DecodeFault) (left : ℕ) → r ≢ broken left → ((x : A) → f x ≢ broken left) → (r >>= f) ≢ broken left
+pub not_then : {A B : Type 0} (r : Result A DecodeFault) (f : A → Result B DecodeFault) (left : ℕ) → r ≢ broken left → ((x : A) → f x ≢ broken left)
+    → (r >>= f) ≢ broken left
 not_then (Ok x) f left first next e = next x e
 not_then (Err d) f left first next e = first cc
 
@@ -111,7 +121,8 @@ step_spelt : (s : Step) → concat (step_fields s) ≡ step_bytes s
 unfolding step_bytes u16_bytes
 step_spelt step.Exit = refl
 step_spelt (step.Assign variable code next) = ap (λ (t : List ℕ). 1 ∷ u16_bytes variable ++ u16_bytes next ++ t) (code_spelt code)
-step_spelt (step.Update variable combine code next) = ap (λ (t : List ℕ). 2 ∷ u16_bytes variable ++ combination_number combine ∷ u16_bytes next ++ t) (code_spelt code)
+step_spelt (step.Update variable combine code next) = ap (λ (t : List ℕ). 2 ∷ u16_bytes variable ++ combination_number combine ∷ u16_bytes next ++ t)
+    (code_spelt code)
 step_spelt (step.Cond code target other) = ap (λ (t : List ℕ). 3 ∷ u16_bytes target ++ u16_bytes other ++ t) (code_spelt code)
 step_spelt (step.Fork children join) =
     ap (λ (t : List ℕ). 4 ∷ u16_bytes join ++ length children ∷ t) (each_spelt u16_bytes (λ t. u16_bytes t ∷ []) (λ t. append-nil (u16_bytes t)) children)
@@ -127,19 +138,23 @@ step_body_breaks version zero rest Whole front left fits goes_on e = absurd cc
 step_body_breaks version (suc zero) rest Whole front left fits goes_on e =
     met_behind Whole front (byte 1 ∷ []) (1 ∷ []) (tagged_step_at version) (assign_at version) (1 ∷ rest) rest left refl refl (λ more. refl)
     (coded_breaks version (λ variable next code. step.Assign variable code next) Whole (front ++ (byte 1 ∷ [])) rest left fits
-    (λ variable next code v n c. step_on Whole front (byte 1 ∷ []) (u16_bytes variable ∷ u16_bytes next ∷ code_fields code) (goes_on (step.Assign variable code next) (v, n, c))) e)
+    (λ variable next code v n c. step_on Whole front (byte 1 ∷ []) (u16_bytes variable ∷ u16_bytes next ∷ code_fields code)
+    (goes_on (step.Assign variable code next) (v, n, c))) e)
 step_body_breaks version (suc (suc zero)) rest Whole front left fits goes_on e =
-    met_behind Whole front (byte 2 ∷ []) (2 ∷ []) (tagged_step_at version) (update_at version) (2 ∷ rest) rest left refl refl (λ more. refl) (update_breaks version Whole front rest left fits goes_on e)
+    met_behind Whole front (byte 2 ∷ []) (2 ∷ []) (tagged_step_at version) (update_at version) (2 ∷ rest) rest left refl refl (λ more. refl)
+    (update_breaks version Whole front rest left fits goes_on e)
 step_body_breaks version (suc (suc (suc zero))) rest Whole front left fits goes_on e =
     met_behind Whole front (byte 3 ∷ []) (3 ∷ []) (tagged_step_at version) (cond_at version) (3 ∷ rest) rest left refl refl (λ more. refl)
     (coded_breaks version (λ target other code. step.Cond code target other) Whole (front ++ (byte 3 ∷ [])) rest left fits
-    (λ target other code t o c. step_on Whole front (byte 3 ∷ []) (u16_bytes target ∷ u16_bytes other ∷ code_fields code) (goes_on (step.Cond code target other) (t, o, c))) e)
+    (λ target other code t o c. step_on Whole front (byte 3 ∷ []) (u16_bytes target ∷ u16_bytes other ∷ code_fields code)
+    (goes_on (step.Cond code target other) (t, o, c))) e)
 step_body_breaks version (suc (suc (suc (suc zero)))) rest Whole front left fits goes_on e = absurd (fork_breaks_not rest left e)
 step_body_breaks version (suc (suc (suc (suc (suc zero))))) rest Whole front left fits goes_on e = absurd (target_breaks_not step.Join rest left e)
 step_body_breaks version (suc (suc (suc (suc (suc (suc zero)))))) rest Whole front left fits goes_on e = absurd (target_breaks_not step.Surf rest left e)
 step_body_breaks version (suc (suc (suc (suc (suc (suc (suc zero))))))) rest Whole front left fits goes_on e = absurd (target_breaks_not step.Depth rest left e)
 step_body_breaks version (suc (suc (suc (suc (suc (suc (suc (suc n)))))))) rest Whole front left fits goes_on e =
-    at_once Whole front (tagged_step_at version) (suc (suc (suc (suc (suc (suc (suc (suc n))))))) ∷ []) rest (byte 0) left (goes_on step.Exit tt) refl (same_left {A = Step × List ℕ} (suc (length rest)) left e) refl
+    at_once Whole front (tagged_step_at version) (suc (suc (suc (suc (suc (suc (suc (suc n))))))) ∷ []) rest (byte 0) left (goes_on step.Exit tt) refl
+    (same_left {A = Step × List ℕ} (suc (length rest)) left e) refl
 
 step_breaks : (version : ℕ) → CanBreak (tagged_step_at version) step_fields (SayableStep version)
 unfolding tagged_step_at byte_at

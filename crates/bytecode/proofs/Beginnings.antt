@@ -28,7 +28,8 @@ unfolding reading
 cut_is_short version bytes (rest, some, (i, spells)) =
     let grown = image_grows version bytes rest some in
     let whole = image_again version (bytes ++ rest) i spells in
-    ap (answer bytes) (short_before (length rest) (image_at version bytes) i (image_remembers version bytes) (subst (Grown tailed (length rest) (image_at version bytes)) whole grown))
+    ap (answer bytes) (short_before (length rest) (image_at version bytes) i (image_remembers version bytes)
+    (subst (Grown tailed (length rest) (image_at version bytes)) whole grown))
 
 tail_said : (bytes : List ℕ) (r : Result Image DecodeFault) → answer bytes r ≡ Err fault.Trailing → r ≡ Err fault.Trailing
 tail_said bytes (Ok i) e = absurd cc

@@ -1,5 +1,6 @@
 -- Operations and codes: what is read is what is written, and what is written is read again.
-use Rattle.std.proofs.Common.{◌≡◌, ℕ, zero, suc, ◌≤◌, ℤ, Bool, true, false, cond, eqb, FitsSigned, Option, List, [], ◌∷◌, ◌++◌, length, Some, Ok, Fits, refl, sym, ap, ◌∙◌, subst, arith}
+use Rattle.std.proofs.Common.{◌≡◌, ℕ, zero, suc, ◌≤◌, ℤ, Bool, true, false, cond, eqb, FitsSigned, Option, List, [], ◌∷◌, ◌++◌, length, Some, Ok, Fits, refl}
+use Rattle.std.proofs.Common.{sym, ap, ◌∙◌, subst, arith}
 use Rattle.std.specs.Prelude.{slice_get}
 use Rattle.std.specs.List.{flat_map}
 use Rattle.std.specs.Int.{w32, cast_signed, cast_unsigned}
@@ -47,9 +48,12 @@ operator_place version (suc (suc (suc (suc (suc (suc (suc (suc zero)))))))) o e 
 operator_place version (suc (suc (suc (suc (suc (suc (suc (suc (suc zero))))))))) o e = (numbered version) 9 o (op.Binary binary.Equal) e (refl, tt)
 operator_place version (suc (suc (suc (suc (suc (suc (suc (suc (suc (suc zero)))))))))) o e = (numbered version) 10 o (op.Binary binary.NotEqual) e (refl, tt)
 operator_place version (suc (suc (suc (suc (suc (suc (suc (suc (suc (suc (suc zero))))))))))) o e = (numbered version) 11 o (op.Binary binary.Less) e (refl, tt)
-operator_place version (suc (suc (suc (suc (suc (suc (suc (suc (suc (suc (suc (suc zero)))))))))))) o e = (numbered version) 12 o (op.Binary binary.LessOrEqual) e (refl, tt)
-operator_place version (suc (suc (suc (suc (suc (suc (suc (suc (suc (suc (suc (suc (suc zero))))))))))))) o e = (numbered version) 13 o (op.Binary binary.Greater) e (refl, tt)
-operator_place version (suc (suc (suc (suc (suc (suc (suc (suc (suc (suc (suc (suc (suc (suc zero)))))))))))))) o e = (numbered version) 14 o (op.Binary binary.GreaterOrEqual) e (refl, tt)
+operator_place version (suc (suc (suc (suc (suc (suc (suc (suc (suc (suc (suc (suc zero)))))))))))) o e = (numbered version) 12 o
+    (op.Binary binary.LessOrEqual) e (refl, tt)
+operator_place version (suc (suc (suc (suc (suc (suc (suc (suc (suc (suc (suc (suc (suc zero))))))))))))) o e = (numbered version) 13 o
+    (op.Binary binary.Greater) e (refl, tt)
+operator_place version (suc (suc (suc (suc (suc (suc (suc (suc (suc (suc (suc (suc (suc (suc zero)))))))))))))) o e = (numbered version) 14 o
+    (op.Binary binary.GreaterOrEqual) e (refl, tt)
 operator_place version (suc (suc (suc (suc (suc (suc (suc (suc (suc (suc (suc (suc (suc (suc (suc n))))))))))))))) o e = absurd cc
 
 -- the number of an operation stands before these bytes
@@ -148,11 +152,13 @@ operation_takes : (version : ℕ) (bytes : List ℕ) (x : Operation × List ℕ)
     → Takes bytes (operation_bytes x.0) x.1 × SayableOperation version x.0
 unfolding operation_at
 operation_takes version bytes x fits e =
-    let a = first byte_law bytes (λ number. cond (is_division version number.0) (division_at number.0 number.1) (operation_body bytes number.0 number.1)) x fits e in
+    let a = first byte_law bytes (λ number. cond (is_division version number.0) (division_at number.0 number.1) (operation_body bytes number.0 number.1)) x fits
+    e in
     subst (λ (from : List ℕ). Takes from (operation_bytes x.0) x.1 × SayableOperation version x.0) (sym a.took.parts)
     (either_takes version bytes a.got.0 a.got.1 x (is_division version a.got.0) refl a.took.rest_bytes a.next)
 
-operation_again : (version : ℕ) (o : Operation) (rest : List ℕ) → (SayableOperation version) o → (operation_at version) (operation_bytes o ++ rest) ≡ Ok (o, rest)
+operation_again : (version : ℕ) (o : Operation) (rest : List ℕ) → (SayableOperation version) o → (operation_at version) (operation_bytes o ++ rest)
+    ≡ Ok (o, rest)
 unfolding operation_at operation_body division_at operation_bytes byte_at
 operation_again version (op.Literal (value.Bool b)) rest fits = rw (flag_law.again b rest tt) refl
 operation_again version (op.Literal (value.Int n)) rest fits =
@@ -180,7 +186,8 @@ operation_again version (op.Binary binary.GreaterOrEqual) rest fits = refl
 pub operation_law : (version : ℕ) → IsRead (operation_at version) operation_bytes (SayableOperation version)
 operation_law version = record { takes = (operation_takes version); again = (operation_again version) }
 
-code_takes : (version : ℕ) (bytes : List ℕ) (x : List Operation × List ℕ) → IsBytes bytes → (code_at version) bytes ≡ Ok x → Takes bytes (code_bytes x.0) x.1 × (SayableCode version) x.0
+code_takes : (version : ℕ) (bytes : List ℕ) (x : List Operation × List ℕ) → IsBytes bytes → (code_at version) bytes ≡ Ok x → Takes bytes (code_bytes x.0) x.1
+    × (SayableCode version) x.0
 unfolding code_at code_bytes
 code_takes version bytes x fits e =
     let a = first (length_law 0 operation_limit) bytes (λ len. each_at (operation_at version) len.0 len.1) x fits e in
@@ -190,7 +197,10 @@ code_takes version bytes x fits e =
 code_again : (version : ℕ) (code : List Operation) (rest : List ℕ) → (SayableCode version) code → (code_at version) (code_bytes code ++ rest) ≡ Ok (code, rest)
 unfolding code_at code_bytes
 code_again version code rest fits =
-    rw ((length_law 0 operation_limit).again (length code) (flat_map operation_bytes code ++ rest) (omega arith, fits.0), each_again (operation_law version) code rest fits.1) refl
+    rw (
+      (length_law 0 operation_limit).again (length code) (flat_map operation_bytes code ++ rest) (omega arith, fits.0),
+      each_again (operation_law version) code rest fits.1,
+    ) refl
 
 pub code_law : (version : ℕ) → IsRead (code_at version) code_bytes (SayableCode version)
 code_law version = record { takes = (code_takes version); again = (code_again version) }

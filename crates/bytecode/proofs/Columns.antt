@@ -21,7 +21,8 @@ thread_rows_push [] (b ∷ bounds) count row k = absurd (omega (arith, k.threads
 thread_rows_push (t ∷ threads) [] count row k = absurd (omega (arith, k.threads_counted, k.bounds_counted))
 thread_rows_push (t ∷ threads) (b ∷ bounds) count row k =
     ap (λ (rows : List ThreadRow). record { thread = t; bound = b } ∷ rows)
-    (thread_rows_push threads bounds (length threads) row (record { threads_counted = refl; bounds_counted = omega (arith, k.threads_counted, k.bounds_counted) }))
+    (thread_rows_push threads bounds (length threads) row
+    (record { threads_counted = refl; bounds_counted = omega (arith, k.threads_counted, k.bounds_counted) }))
 
 pub are_threads_push : (threads : List Thread) (bounds : List ℕ) (count : ℕ) (row : ThreadRow) → AreThreads threads bounds count
     → AreThreads (threads ++ row.thread ∷ []) (bounds ++ row.bound ∷ []) (count + 1)
@@ -30,7 +31,8 @@ are_threads_push threads bounds count row k = record {
   bounds_counted = grown bounds row.bound count k.bounds_counted;
 }
 
-pub node_rows_push : (nodes : List Node) (priorities weights : List ℕ) (end_bits : List Bool) (count : ℕ) (row : NodeRow) → AreNodes nodes priorities weights end_bits count
+pub node_rows_push : (nodes : List Node) (priorities weights : List ℕ) (end_bits : List Bool) (count : ℕ) (row : NodeRow)
+    → AreNodes nodes priorities weights end_bits count
     → node_rows (nodes ++ row.node ∷ []) (priorities ++ row.priority ∷ []) (weights ++ row.weight ∷ []) (end_bits ++ row.end_bit ∷ [])
     ≡ node_rows nodes priorities weights end_bits ++ row ∷ []
 node_rows_push [] [] [] [] count row k = refl
@@ -49,7 +51,8 @@ node_rows_push (n ∷ ns) (p ∷ ps) (w ∷ ws) (e ∷ es) count row k =
       end_bits_counted = omega (arith, k.nodes_counted, k.end_bits_counted);
     }))
 
-pub are_nodes_push : (nodes : List Node) (priorities weights : List ℕ) (end_bits : List Bool) (count : ℕ) (row : NodeRow) → AreNodes nodes priorities weights end_bits count
+pub are_nodes_push : (nodes : List Node) (priorities weights : List ℕ) (end_bits : List Bool) (count : ℕ) (row : NodeRow)
+    → AreNodes nodes priorities weights end_bits count
     → AreNodes (nodes ++ row.node ∷ []) (priorities ++ row.priority ∷ []) (weights ++ row.weight ∷ []) (end_bits ++ row.end_bit ∷ []) (count + 1)
 are_nodes_push nodes priorities weights end_bits count row k = record {
   nodes_counted = grown nodes row.node count k.nodes_counted;
@@ -89,11 +92,17 @@ thread_rows_more threads bounds t row d lt lb et eb =
 
 pub node_rows_more : (nodes : List Node) (priorities weights : List ℕ) (end_bits : List Bool) (n : ℕ) (row : NodeRow)
     → n < length nodes → n < length priorities → n < length weights → n < length end_bits
-    → row.node ≡ get_or nodes n row.node → row.priority ≡ get_or priorities n 0 → row.weight ≡ get_or weights n 0 → row.end_bit ≡ unwrap_or (slice_get end_bits n) false
+    → row.node ≡ get_or nodes n row.node → row.priority ≡ get_or priorities n 0 → row.weight ≡ get_or weights n 0
+    → row.end_bit ≡ unwrap_or (slice_get end_bits n) false
     → node_rows (take (n + 1) nodes) priorities weights end_bits ≡ node_rows (take n nodes) priorities weights end_bits ++ row ∷ []
 node_rows_more nodes priorities weights end_bits n row ln lp lw le en ep ew ee =
     rw add-one (node_rows_next nodes priorities weights end_bits n row.node ln lp lw le
-    ∙ (λ i. node_rows (take n nodes) priorities weights end_bits ++ record { node = sym en i; priority = sym ep i; weight = sym ew i; end_bit = sym ee i } ∷ []))
+    ∙ (λ i. node_rows (take n nodes) priorities weights end_bits ++ record {
+      node = sym en i;
+      priority = sym ep i;
+      weight = sym ew i;
+      end_bit = sym ee i;
+    } ∷ []))
 
 -- what holds of all, and of one more
 pub all_push : {A : Type 0} (P : A → Type 0) (xs : List A) (x : A) → AllByRecursion P xs → P x → AllByRecursion P (xs ++ x ∷ [])

@@ -54,7 +54,8 @@ pub headed : (version : ℕ) (bytes rest : List ℕ) → IsBytes bytes → heade
 headed version bytes rest fits e = (rest, (header_takes version bytes rest fits e).parts)
 
 -- the columns of what was read fit the layout
-pub columns_fit : (version : ℕ) (bytes : List ℕ) (variables : List Variable) (threads : List Thread) (bounds : List ℕ) (nodes : List Node) (priorities weights : List ℕ) (end_bits : List Bool) (budget : ℕ)
+pub columns_fit : (version : ℕ) (bytes : List ℕ) (variables : List Variable) (threads : List Thread) (bounds : List ℕ) (nodes : List Node)
+    (priorities weights : List ℕ) (end_bits : List Bool) (budget : ℕ)
     → IsBytes bytes → AreThreads threads bounds (length threads) → AreNodes nodes priorities weights end_bits (length nodes)
     → (body_at version) bytes ≡ Ok (image_of variables (thread_rows threads bounds) (node_rows nodes priorities weights end_bits) budget)
     → FitsLayout variables threads nodes
@@ -73,7 +74,8 @@ pub reading_of_spelt : (version : ℕ) (bytes : List ℕ) (i : Image) → Spells
 unfolding reading
 reading_of_spelt version bytes i spells = ap (answer bytes) (image_again version bytes i spells)
 
-pub is_found : (version : ℕ) (bytes : List ℕ) (r : Result Image DecodeFault) → IsBytes bytes → Answers r (reading version bytes) → IfOk r (λ i. Spells version bytes i)
+pub is_found : (version : ℕ) (bytes : List ℕ) (r : Result Image DecodeFault) → IsBytes bytes → Answers r (reading version bytes)
+    → IfOk r (λ i. Spells version bytes i)
 is_found version bytes (Ok i) fits given = reading_spells version bytes i fits given
 is_found version bytes (Err f) fits given = tt
 

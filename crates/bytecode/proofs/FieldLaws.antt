@@ -1,5 +1,6 @@
 -- Numbers, choices, names and variables: what is read is what is written, and what is written is read again.
-use Rattle.std.proofs.Common.{◌≡◌, ℕ, zero, suc, ◌^◌, ◌<◌, ◌≤◌, Bool, true, false, cond, ltb, leb, List, [], ◌∷◌, ◌++◌, length, take, drop, Option, Some, None, IsTrue, Ok, Err, refl, sym, ap, subst, arith}
+use Rattle.std.proofs.Common.{◌≡◌, ℕ, zero, suc, ◌^◌, ◌<◌, ◌≤◌, Bool, true, false, cond, ltb, leb, List, [], ◌∷◌, ◌++◌, length, take, drop, Option, Some, None}
+use Rattle.std.proofs.Common.{IsTrue, Ok, Err, refl, sym, ap, subst, arith}
 use Rattle.std.specs.Prelude.{slice_get, ◌&&◌}
 use Rattle.std.specs.Int.{Width, w16, w32, byte_len, to_le_bytes, from_le_bytes}
 use Rattle.std.proofs.lemmas.Bool.{ltb-false, le-ltb, leb-true, le-leb, and_parts}
@@ -24,13 +25,18 @@ use Rattle.bytecode.proofs.Readers.{IsBytes, IsBytes-drop, IsBytes-take, bind_ok
 
 -- ---- bytes
 
-pub bytes_takes : (n : ℕ) (bytes : List ℕ) (x : List ℕ × List ℕ) → IsBytes bytes → bytes_at n bytes ≡ Ok x → Takes bytes x.0 x.1 × (length x.0 ≡ n) × IsBytes x.0
+pub bytes_takes : (n : ℕ) (bytes : List ℕ) (x : List ℕ × List ℕ) → IsBytes bytes → bytes_at n bytes ≡ Ok x → Takes bytes x.0 x.1 × (length x.0 ≡ n)
+    × IsBytes x.0
 unfolding bytes_at
 bytes_takes n bytes x fits e =
     let g = not_short (ltb (length bytes) n) fault.Short (take n bytes, drop n bytes) x e in
     let long : n ≤ length bytes = ltb-false _ _ g.0 in
     let whole : Takes bytes (take n bytes) (drop n bytes) = record { parts = sym (take-append-drop n bytes); rest_bytes = IsBytes-drop n bytes fits } in
-    subst (λ (p : List ℕ × List ℕ). Takes bytes p.0 p.1 × (length p.0 ≡ n) × IsBytes p.0) g.1 (whole, omega (arith, length-take n bytes), IsBytes-take n bytes fits)
+    subst (λ (p : List ℕ × List ℕ). Takes bytes p.0 p.1 × (length p.0 ≡ n) × IsBytes p.0) g.1 (
+      whole,
+      omega (arith, length-take n bytes),
+      IsBytes-take n bytes fits,
+    )
 
 pub bytes_again : (n : ℕ) (text rest : List ℕ) → length text ≡ n → bytes_at n (text ++ rest) ≡ Ok (text, rest)
 unfolding bytes_at
@@ -45,7 +51,8 @@ byte_takes : (bytes : List ℕ) (x : ℕ × List ℕ) → IsBytes bytes → byte
 unfolding byte_at
 byte_takes [] x fits e = absurd cc
 byte_takes (b ∷ rest) x fits e =
-    subst (λ (p : ℕ × List ℕ). Takes (b ∷ rest) (p.0 ∷ []) p.1 × (p.0 < 256)) (ok_is (b, rest) x e) (record { parts = refl; rest_bytes = IsBytes-rest b rest fits }, fits 0)
+    subst (λ (p : ℕ × List ℕ). Takes (b ∷ rest) (p.0 ∷ []) p.1 × (p.0 < 256)) (ok_is (b, rest) x e)
+    (record { parts = refl; rest_bytes = IsBytes-rest b rest fits }, fits 0)
 
 byte_again : (b : ℕ) (rest : List ℕ) → b < 256 → byte_at ((b ∷ []) ++ rest) ≡ Ok (b, rest)
 unfolding byte_at
@@ -78,7 +85,8 @@ wide32 = record {
   below = λ bytes fits. omega (arith, fits 0, fits 1, fits 2, fits 3);
 }
 
-number_takes : (w : Width) (limit : ℕ) (wide : IsWide w limit) (bytes : List ℕ) (x : ℕ × List ℕ) → IsBytes bytes → number_at w bytes ≡ Ok x → Takes bytes (to_le_bytes w x.0) x.1 × (x.0 < limit)
+number_takes : (w : Width) (limit : ℕ) (wide : IsWide w limit) (bytes : List ℕ) (x : ℕ × List ℕ) → IsBytes bytes → number_at w bytes ≡ Ok x
+    → Takes bytes (to_le_bytes w x.0) x.1 × (x.0 < limit)
 unfolding number_at
 number_takes w limit wide bytes x fits e =
     let a = bind_ok (bytes_at (byte_len w) bytes) (λ front. Ok (from_le_bytes w front.0, front.1)) x e in
@@ -236,7 +244,8 @@ named bytes text name e = name_when (is_name text) text name (chosen bytes (cond
 name_takes : (bytes : List ℕ) (x : List ℕ × List ℕ) → IsBytes bytes → name_at bytes ≡ Ok x → Takes bytes (name_bytes x.0) x.1 × IsTrue (is_name x.0)
 unfolding name_at name_bytes
 name_takes bytes x fits e =
-    let a = first (length_law 1 name_limit) bytes (λ len. bytes_at len.0 len.1 >>= λ text. or_field len.1 (name_of text.0) >>= λ name. Ok (name, text.1)) x fits e in
+    let a = first (length_law 1 name_limit) bytes (λ len. bytes_at len.0 len.1 >>= λ text. or_field len.1 (name_of text.0) >>= λ name. Ok (name, text.1)) x fits
+    e in
     let b = bind_ok (bytes_at a.got.0 a.got.1) (λ text. or_field a.got.1 (name_of text.0) >>= λ name. Ok (name, text.1)) x a.next in
     let c = bind_ok (or_field a.got.1 (name_of b.0.0)) (λ name. Ok (name, b.0.1)) x b.2 in
     let t = bytes_takes a.got.0 a.got.1 b.0 a.took.rest_bytes b.1 in
@@ -254,20 +263,26 @@ name_again name rest is =
 pub name_law : IsRead name_at name_bytes (λ name. IsTrue (is_name name))
 name_law = record { takes = name_takes; again = name_again }
 
-variable_takes : (bytes : List ℕ) (x : Variable × List ℕ) → IsBytes bytes → variable_at bytes ≡ Ok x → Takes bytes (variable_bytes x.0) x.1 × SayableVariable x.0
+variable_takes : (bytes : List ℕ) (x : Variable × List ℕ) → IsBytes bytes → variable_at bytes ≡ Ok x → Takes bytes (variable_bytes x.0) x.1
+    × SayableVariable x.0
 unfolding variable_at variable_bytes
 variable_takes bytes x fits e =
     let a = first role_law bytes _ x fits e in
     let b = first kind_law a.got.1 _ x a.took.rest_bytes a.next in
     let c = first name_law b.got.1 _ x b.took.rest_bytes b.next in
     let made : Variable × List ℕ = (record { name = c.got.0; kind = b.got.0; role = a.got.0 }, c.got.1) in
-    subst (λ (p : Variable × List ℕ). Takes bytes (role_number p.0.role ∷ kind_number p.0.kind ∷ name_bytes p.0.name) p.1 × SayableVariable p.0) (ok_is made x c.next)
+    subst (λ (p : Variable × List ℕ). Takes bytes (role_number p.0.role ∷ kind_number p.0.kind ∷ name_bytes p.0.name) p.1 × SayableVariable p.0)
+    (ok_is made x c.next)
     (then_takes a.took (then_takes b.took c.took), c.fits)
 
 variable_again : (v : Variable) (rest : List ℕ) → SayableVariable v → variable_at (variable_bytes v ++ rest) ≡ Ok (v, rest)
 unfolding variable_at variable_bytes
 variable_again v rest fits =
-    rw (role_law.again v.role (kind_number v.kind ∷ name_bytes v.name ++ rest) tt, kind_law.again v.kind (name_bytes v.name ++ rest) tt, name_law.again v.name rest fits) refl
+    rw (
+      role_law.again v.role (kind_number v.kind ∷ name_bytes v.name ++ rest) tt,
+      kind_law.again v.kind (name_bytes v.name ++ rest) tt,
+      name_law.again v.name rest fits,
+    ) refl
 
 pub variable_law : IsRead variable_at variable_bytes SayableVariable
 variable_law = record { takes = variable_takes; again = variable_again }

@@ -1,5 +1,6 @@
 -- Images: what is read is what is written, and what is written is read again.
-use Rattle.std.proofs.Common.{◌≡◌, ◌≢◌, ℕ, ◌^◌, ◌<◌, ◌≤◌, Bool, true, false, cond, eqb, List, [], ◌∷◌, ◌++◌, length, Ok, Err, refl, sym, ap, subst, ◌∙◌, append_assoc, arith}
+use Rattle.std.proofs.Common.{◌≡◌, ◌≢◌, ℕ, ◌^◌, ◌<◌, ◌≤◌, Bool, true, false, cond, eqb, List, [], ◌∷◌, ◌++◌, length, Ok, Err, refl, sym, ap, subst, ◌∙◌}
+use Rattle.std.proofs.Common.{append_assoc, arith}
 use Rattle.std.specs.Prelude.{nat_eq}
 use Rattle.std.specs.List.{flat_map, AllByRecursion}
 use Rattle.std.specs.Int.{w32}
@@ -54,7 +55,8 @@ counted_again {A} {read} {text} {Fits} law xs rest fits =
     ap (counted_at read) (append_assoc (u16_bytes (length xs)) (flat_map text xs) rest)
     ∙ rw (number16_law.again (length xs) (flat_map text xs ++ rest) (omega (arith, fits.0)), each_again law xs rest fits.1) refl
 
-pub counted_law : {A : Type 0} {read : Reader A} {text : A → List ℕ} {Fits : A → Type 0} → IsRead read text Fits → IsRead (counted_at read) (counted_bytes text) (CountedFits Fits)
+pub counted_law : {A : Type 0} {read : Reader A} {text : A → List ℕ} {Fits : A → Type 0} → IsRead read text Fits
+    → IsRead (counted_at read) (counted_bytes text) (CountedFits Fits)
 counted_law law = record { takes = counted_takes law; again = counted_again law }
 
 -- ---- the header
@@ -62,15 +64,19 @@ counted_law law = record { takes = counted_takes law; again = counted_again law 
 pub header_takes : (version : ℕ) (bytes rest : List ℕ) → IsBytes bytes → header_at version bytes ≡ Ok rest → Takes bytes (magic ++ version ∷ []) rest
 unfolding header_at
 header_takes version bytes rest fits e =
-    let a = bind_ok (bytes_at 4 bytes) (λ start. cond (pointwise nat_eq start.0 magic) (Ok start.1) (Err fault.Magic) >>= λ marked. byte_at marked >>= λ number. cond (eqb number.0 version) (Ok number.1) (Err fault.Version)) rest e in
-    let b = bind_ok (cond (pointwise nat_eq a.0.0 magic) (Ok a.0.1) (Err fault.Magic)) (λ marked. byte_at marked >>= λ number. cond (eqb number.0 version) (Ok number.1) (Err fault.Version)) rest a.2 in
+    let a = bind_ok (bytes_at 4 bytes) (λ start. cond (pointwise nat_eq start.0 magic) (Ok start.1) (Err fault.Magic) >>= λ marked. byte_at marked >>= λ number.
+    cond (eqb number.0 version) (Ok number.1) (Err fault.Version)) rest e in
+    let b = bind_ok (cond (pointwise nat_eq a.0.0 magic) (Ok a.0.1) (Err fault.Magic))
+    (λ marked. byte_at marked >>= λ number. cond (eqb number.0 version) (Ok number.1) (Err fault.Version)) rest a.2 in
     let m = passed (pointwise nat_eq a.0.0 magic) fault.Magic a.0.1 b.0 b.1 in
     let start = bytes_takes 4 bytes a.0 fits a.1 in
     let is_magic : a.0.0 ≡ magic = (slice_eq-Decides Decides-eqb a.0.0 magic (pointwise nat_eq a.0.0 magic) refl).0 m.0 in
-    let marked : Takes bytes magic b.0 = subst (λ (after : List ℕ). Takes bytes magic after) m.1 (subst (λ (text : List ℕ). Takes bytes text a.0.1) is_magic start.0) in
+    let marked : Takes bytes magic b.0 = subst (λ (after : List ℕ). Takes bytes magic after) m.1
+    (subst (λ (text : List ℕ). Takes bytes text a.0.1) is_magic start.0) in
     let c = first byte_law b.0 (λ number. cond (eqb number.0 version) (Ok number.1) (Err fault.Version)) rest marked.rest_bytes b.2 in
     let v = passed (eqb c.got.0 version) fault.Version c.got.1 rest c.next in
-    let versioned : Takes b.0 (version ∷ []) rest = subst (λ (after : List ℕ). Takes b.0 (version ∷ []) after) v.1 (subst (λ (n : ℕ). Takes b.0 (n ∷ []) c.got.1) (eqb-true c.got.0 version v.0) c.took) in
+    let versioned : Takes b.0 (version ∷ []) rest = subst (λ (after : List ℕ). Takes b.0 (version ∷ []) after) v.1
+    (subst (λ (n : ℕ). Takes b.0 (n ∷ []) c.got.1) (eqb-true c.got.0 version v.0) c.took) in
     then_takes marked versioned
 
 pub header_again : (version : ℕ) (rest : List ℕ) → header_at version (magic ++ version ∷ rest) ≡ Ok rest
@@ -83,7 +89,8 @@ header_again version rest =
 
 -- the rows of an image
 abbrev rows_bytes : List Variable → List ThreadRow → List NodeRow → ℕ → List ℕ
-rows_bytes variables threads nodes budget = counted_bytes variable_bytes variables ++ (counted_bytes thread_bytes threads ++ (counted_bytes node_bytes nodes ++ u32_bytes budget))
+rows_bytes variables threads nodes budget =
+    counted_bytes variable_bytes variables ++ (counted_bytes thread_bytes threads ++ (counted_bytes node_bytes nodes ++ u32_bytes budget))
 
 body_is : (variables : List Variable) (threads : List ThreadRow) (nodes : List NodeRow) (budget : ℕ)
     → body_bytes (image_of variables threads nodes budget) ≡ rows_bytes variables threads nodes budget
@@ -93,7 +100,8 @@ body_is variables threads nodes budget =
 
 -- an image of rows that fit
 pub rows_image_fits : (version : ℕ) (variables : List Variable) (threads : List ThreadRow) (nodes : List NodeRow) (budget : ℕ)
-    → CountedFits SayableVariable variables → CountedFits SayableThread threads → CountedFits (SayableNode version) nodes → budget < 2 ^ 32 → (SayableImage version) (image_of variables threads nodes budget)
+    → CountedFits SayableVariable variables → CountedFits SayableThread threads → CountedFits (SayableNode version) nodes → budget < 2 ^ 32
+    → (SayableImage version) (image_of variables threads nodes budget)
 rows_image_fits version variables threads nodes budget v t n b = record {
   variables_counted = v.0;
   threads_counted = omega (arith, t.0, length-map threads (λ x. x.thread));
@@ -116,14 +124,16 @@ body_takes version bytes i fits e =
     let v = first (counted_law variable_law) bytes _ i fits e in
     let t = first (counted_law thread_law) v.got.1 _ i v.took.rest_bytes v.next in
     let n = first (counted_law (node_law version)) t.got.1 _ i t.took.rest_bytes t.next in
-    let b = first number32_law n.got.1 (λ budget. cond (eqb (length budget.1) 0) (Ok (image_of v.got.0 t.got.0 n.got.0 budget.0)) (Err fault.Trailing)) i n.took.rest_bytes n.next in
+    let b = first number32_law n.got.1 (λ budget. cond (eqb (length budget.1) 0) (Ok (image_of v.got.0 t.got.0 n.got.0 budget.0)) (Err fault.Trailing)) i
+    n.took.rest_bytes n.next in
     let g = passed (eqb (length b.got.1) 0) fault.Trailing (image_of v.got.0 t.got.0 n.got.0 b.got.0) i b.next in
     let nothing : b.got.1 ≡ [] = nil_from_length b.got.1 (eqb-true _ _ g.0) in
     let whole = then_takes v.took (then_takes t.took (then_takes n.took b.took)) in
     let text = rows_bytes v.got.0 t.got.0 n.got.0 b.got.0 in
     let same : bytes ≡ body_bytes (image_of v.got.0 t.got.0 n.got.0 b.got.0) =
     whole.parts ∙ ap (λ (rest : List ℕ). text ++ rest) nothing ∙ append-nil text ∙ sym (body_is v.got.0 t.got.0 n.got.0 b.got.0) in
-    subst (λ (x : Image). (bytes ≡ body_bytes x) × (SayableImage version) x) g.1 (same, (rows_image_fits version) v.got.0 t.got.0 n.got.0 b.got.0 v.fits t.fits n.fits b.fits)
+    subst (λ (x : Image). (bytes ≡ body_bytes x) × (SayableImage version) x) g.1
+    (same, (rows_image_fits version) v.got.0 t.got.0 n.got.0 b.got.0 v.fits t.fits n.fits b.fits)
 
 rows_again : (version : ℕ) (variables : List Variable) (threads : List ThreadRow) (nodes : List NodeRow) (budget : ℕ)
     → CountedFits SayableVariable variables → CountedFits SayableThread threads → CountedFits (SayableNode version) nodes → budget < 2 ^ 32
@@ -149,11 +159,18 @@ body_again version i fits =
     let made : image_of i.program.variables threads nodes i.tables.budget ≡ i =
     image_is i.program.variables i.program.threads i.tables.bounds i.program.nodes i.tables.priorities i.tables.weights i.tables.end_bits i.tables.budget _ _
     (record { threads_counted = refl; bounds_counted = fits.lengths.bounds })
-    (record { nodes_counted = refl; priorities_counted = fits.lengths.priorities; weights_counted = fits.lengths.weights; end_bits_counted = fits.lengths.end_bits }) in
-    let thread_count : length threads ≡ length i.program.threads = sym (length-map threads (λ x. x.thread)) ∙ ap (λ (x : Image). length x.program.threads) made in
+    (record {
+      nodes_counted = refl;
+      priorities_counted = fits.lengths.priorities;
+      weights_counted = fits.lengths.weights;
+      end_bits_counted = fits.lengths.end_bits;
+    }) in
+    let thread_count : length threads ≡ length i.program.threads = sym (length-map threads (λ x. x.thread))
+    ∙ ap (λ (x : Image). length x.program.threads) made in
     let node_count : length nodes ≡ length i.program.nodes = sym (length-map nodes (λ x. x.node)) ∙ ap (λ (x : Image). length x.program.nodes) made in
     ap (body_at version) (ap body_bytes (sym made) ∙ body_is i.program.variables threads nodes i.tables.budget)
-    ∙ (rows_again version) i.program.variables threads nodes i.tables.budget (fits.variables_counted, fits.variables) (omega (arith, thread_count, fits.threads_counted), fits.threads)
+    ∙ (rows_again version) i.program.variables threads nodes i.tables.budget (fits.variables_counted, fits.variables)
+    (omega (arith, thread_count, fits.threads_counted), fits.threads)
     (omega (arith, node_count, fits.nodes_counted), fits.nodes) fits.budget
     ∙ ap (λ (x : Image). Ok x) made
 

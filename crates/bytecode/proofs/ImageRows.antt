@@ -22,7 +22,8 @@ pub thread_rows_back : (rows : List ThreadRow) → thread_rows (map (λ t. t.thr
 thread_rows_back [] = refl
 thread_rows_back (row ∷ rows) = ap (λ (others : List ThreadRow). row ∷ others) (thread_rows_back rows)
 
-pub node_rows_back : (rows : List NodeRow) → node_rows (map (λ n. n.node) rows) (map (λ n. n.priority) rows) (map (λ n. n.weight) rows) (map (λ n. n.end_bit) rows) ≡ rows
+pub node_rows_back : (rows : List NodeRow) → node_rows (map (λ n. n.node) rows) (map (λ n. n.priority) rows) (map (λ n. n.weight) rows)
+    (map (λ n. n.end_bit) rows) ≡ rows
 node_rows_back [] = refl
 node_rows_back (row ∷ rows) = ap (λ (others : List NodeRow). row ∷ others) (node_rows_back rows)
 
@@ -32,12 +33,14 @@ record ThreadColumns (threads : List Thread) (bounds : List ℕ) (rows : List Th
   threads_back : map (λ t. t.thread) rows ≡ threads
   bounds_back : map (λ t. t.bound) rows ≡ bounds
 
-thread_columns : (threads : List Thread) (bounds : List ℕ) (count : ℕ) → AreThreads threads bounds count → ThreadColumns threads bounds (thread_rows threads bounds)
+thread_columns : (threads : List Thread) (bounds : List ℕ) (count : ℕ) → AreThreads threads bounds count
+    → ThreadColumns threads bounds (thread_rows threads bounds)
 thread_columns [] [] count k = record { threads_back = refl; bounds_back = refl }
 thread_columns [] (b ∷ bounds) count k = absurd (omega (arith, k.threads_counted, k.bounds_counted))
 thread_columns (t ∷ threads) [] count k = absurd (omega (arith, k.threads_counted, k.bounds_counted))
 thread_columns (t ∷ threads) (b ∷ bounds) count k =
-    let others = thread_columns threads bounds (length threads) (record { threads_counted = refl; bounds_counted = omega (arith, k.threads_counted, k.bounds_counted) }) in
+    let others = thread_columns threads bounds (length threads)
+    (record { threads_counted = refl; bounds_counted = omega (arith, k.threads_counted, k.bounds_counted) }) in
     record { threads_back = ap (λ (xs : List Thread). t ∷ xs) others.threads_back; bounds_back = ap (λ (xs : List ℕ). b ∷ xs) others.bounds_back }
 
 record NodeColumns (nodes : List Node) (priorities weights : List ℕ) (end_bits : List Bool) (rows : List NodeRow) : Type 0 where
@@ -70,7 +73,8 @@ node_columns (n ∷ ns) (p ∷ ps) (w ∷ ws) (e ∷ es) count k =
     }
 
 -- the image that is made of the rows of these columns
-pub image_is : (variables : List Variable) (threads : List Thread) (bounds : List ℕ) (nodes : List Node) (priorities weights : List ℕ) (end_bits : List Bool) (budget t n : ℕ)
+pub image_is : (variables : List Variable) (threads : List Thread) (bounds : List ℕ) (nodes : List Node) (priorities weights : List ℕ) (end_bits : List Bool)
+    (budget t n : ℕ)
     → AreThreads threads bounds t → AreNodes nodes priorities weights end_bits n
     → image_of variables (thread_rows threads bounds) (node_rows nodes priorities weights end_bits) budget
     ≡ record {
@@ -103,7 +107,8 @@ node_given x = Some x
 counts_of : (a x : Node) → node_given a ≡ node_given x → CountsChildren a.step → CountsChildren x.step
 counts_of a x e counts = let same : a ≡ x = cc in subst (λ (n : Node). CountsChildren n.step) same counts
 
-children_counted : (version : ℕ) (rows : List NodeRow) → AllByRecursion (SayableNode version) rows → (n : ℕ) (x : Node) → slice_get (map (λ r. r.node) rows) n ≡ Some x → CountsChildren x.step
+children_counted : (version : ℕ) (rows : List NodeRow) → AllByRecursion (SayableNode version) rows → (n : ℕ) (x : Node) → slice_get (map (λ r. r.node) rows) n
+    ≡ Some x → CountsChildren x.step
 children_counted version [] all n x e = absurd cc
 children_counted version (row ∷ rows) all zero x e = counts_of row.node x e ((counts_children version) row.node.step all.0.step)
 children_counted version (row ∷ rows) all (suc n) x e = (children_counted version) rows all.1 n x e
@@ -118,13 +123,15 @@ thread_given x = Some x
 parent_same : (a x : Thread) → thread_given a ≡ thread_given x → a.parent ≢ Some no_parent → x.parent ≢ Some no_parent
 parent_same a x e is = let same : a ≡ x = cc in subst (λ (t : Thread). t.parent ≢ Some no_parent) same is
 
-parents : (rows : List ThreadRow) → AllByRecursion SayableThread rows → (t : ℕ) (x : Thread) → slice_get (map (λ r. r.thread) rows) t ≡ Some x → x.parent ≢ Some no_parent
+parents : (rows : List ThreadRow) → AllByRecursion SayableThread rows → (t : ℕ) (x : Thread) → slice_get (map (λ r. r.thread) rows) t ≡ Some x
+    → x.parent ≢ Some no_parent
 parents [] all t x e = absurd cc
 parents (row ∷ rows) all zero x e = parent_same row.thread x e (no_such_parent row.thread.parent all.0.parent)
 parents (row ∷ rows) all (suc t) x e = parents rows all.1 t x e
 
 -- the columns of these rows fit the layout
-pub rows_fit : (version : ℕ) (variables : List Variable) (threads : List ThreadRow) (nodes : List NodeRow) (budget : ℕ) → (SayableImage version) (image_of variables threads nodes budget)
+pub rows_fit : (version : ℕ) (variables : List Variable) (threads : List ThreadRow) (nodes : List NodeRow) (budget : ℕ)
+    → (SayableImage version) (image_of variables threads nodes budget)
     → FitsLayout variables (map (λ t. t.thread) threads) (map (λ n. n.node) nodes)
 rows_fit version variables threads nodes budget fits = record {
   variables_counted = fits.variables_counted;

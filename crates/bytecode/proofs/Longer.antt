@@ -1,5 +1,6 @@
 -- What more bytes behind the bytes change in a reading: what is left, and nothing else, unless the bytes were too short.
-use Rattle.std.proofs.Common.{◌≡◌, ◌≢◌, ℕ, zero, suc, ◌+◌, ◌≤◌, Bool, true, false, cond, ltb, leb, eqb, List, [], ◌∷◌, ◌++◌, length, take, drop, Option, Some, None, Result, Ok, Err, refl, sym, ap, subst, ◌∙◌, append_assoc, arith}
+use Rattle.std.proofs.Common.{◌≡◌, ◌≢◌, ℕ, zero, suc, ◌+◌, ◌≤◌, Bool, true, false, cond, ltb, leb, eqb, List, [], ◌∷◌, ◌++◌, length, take, drop, Option, Some}
+use Rattle.std.proofs.Common.{None, Result, Ok, Err, refl, sym, ap, subst, ◌∙◌, append_assoc, arith}
 use Rattle.std.specs.Prelude.{nat_eq, slice_get, ◌&&◌}
 use Rattle.std.specs.Int.{Width, w16, w32, byte_len, cast_signed}
 use Rattle.std.specs.Cmp.Lexicographic.{pointwise}
@@ -133,7 +134,8 @@ each_grows read grows (suc n) bytes more =
 -- ---- codes
 
 body_grows : (number : ℕ) (rest more : List ℕ)
-    → Grown (λ x. good (more_left more x)) (length more) (operation_body (number ∷ rest) number rest) (operation_body (number ∷ rest ++ more) number (rest ++ more))
+    → Grown (λ x. good (more_left more x)) (length more) (operation_body (number ∷ rest) number rest)
+    (operation_body (number ∷ rest ++ more) number (rest ++ more))
 unfolding operation_body
 body_grows zero rest more = then_grows (more_left more) _ (length more) _ _ _ _ (choice_grows flags rest more) (λ b. refl)
 body_grows (suc zero) rest more = then_grows (more_left more) _ (length more) _ _ _ _ (number_grows w32 rest more) (λ n. refl)
@@ -224,7 +226,8 @@ step_body_grows version (suc (suc (suc (suc (suc zero))))) rest more = target_gr
 step_body_grows version (suc (suc (suc (suc (suc (suc zero)))))) rest more = target_grows step.Surf rest more
 step_body_grows version (suc (suc (suc (suc (suc (suc (suc zero))))))) rest more = target_grows step.Depth rest more
 step_body_grows version (suc (suc (suc (suc (suc (suc (suc (suc n)))))))) rest more =
-    let fault_of : ℕ → Result (Step × List ℕ) DecodeFault = λ n. Err (fault.Field n) in ap fault_of (length-append (suc (suc (suc (suc (suc (suc (suc (suc n))))))) ∷ rest) more)
+    let fault_of : ℕ → Result (Step × List ℕ) DecodeFault = λ n. Err (fault.Field n) in
+    ap fault_of (length-append (suc (suc (suc (suc (suc (suc (suc (suc n))))))) ∷ rest) more)
 
 step_grows : (version : ℕ) → Grows (tagged_step_at version)
 unfolding tagged_step_at byte_at
@@ -258,7 +261,8 @@ tested_grows false rest more fault.Trailing same = refl
 tested_grows false rest more fault.Memory same = refl
 tested_grows false rest more (fault.Field left) same = same
 
-header_grows : (version : ℕ) (bytes more : List ℕ) → Grown (λ (rest : List ℕ). good (rest ++ more)) (length more) (header_at version bytes) (header_at version (bytes ++ more))
+header_grows : (version : ℕ) (bytes more : List ℕ) → Grown (λ (rest : List ℕ). good (rest ++ more)) (length more) (header_at version bytes)
+    (header_at version (bytes ++ more))
 unfolding header_at
 header_grows version bytes more =
     then_grows (more_left more) _ (length more) _ _ _ _ (bytes_grow 4 bytes more)

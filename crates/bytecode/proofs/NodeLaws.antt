@@ -1,5 +1,6 @@
 -- Threads, steps and nodes: what is read is what is written, and what is written is read again.
-use Rattle.std.proofs.Common.{◌≡◌, ℕ, zero, suc, ◌^◌, ◌<◌, Bool, true, false, cond, eqb, List, [], ◌∷◌, ◌++◌, length, Option, Some, None, Ok, refl, sym, ap, subst, ◌∙◌, append_assoc, arith}
+use Rattle.std.proofs.Common.{◌≡◌, ℕ, zero, suc, ◌^◌, ◌<◌, Bool, true, false, cond, eqb, List, [], ◌∷◌, ◌++◌, length, Option, Some, None, Ok, refl, sym, ap}
+use Rattle.std.proofs.Common.{subst, ◌∙◌, append_assoc, arith}
 use Rattle.std.specs.Prelude.{IfSome}
 use Rattle.std.specs.List.{flat_map}
 use Rattle.std.specs.Int.{w16}
@@ -32,7 +33,8 @@ parent_when false n e lt =
 parent_back : (parent : Option ℕ) → IfSome parent (λ p. p < no_parent) → parent_of (parent_number parent) ≡ parent
 parent_back None fits = refl
 parent_back (Some p) fits =
-    let other : eqb p no_parent ≡ false = false_from_ne_true (eqb p no_parent) (λ e. let same : p ≡ no_parent = eqb-true p no_parent e in omega (arith, same, fits)) in
+    let other : eqb p no_parent ≡ false = false_from_ne_true (eqb p no_parent) (λ e. let same : p ≡ no_parent = eqb-true p no_parent e in
+    omega (arith, same, fits)) in
     rw other refl
 
 parent_fits : (parent : Option ℕ) → IfSome parent (λ p. p < no_parent) → parent_number parent < 2 ^ 16
@@ -54,7 +56,8 @@ thread_takes bytes x fits e =
 thread_again : (t : ThreadRow) (rest : List ℕ) → SayableThread t → thread_at (thread_bytes t ++ rest) ≡ Ok (t, rest)
 unfolding thread_at thread_bytes
 thread_again t rest fits =
-    let regrouped : thread_bytes t ++ rest ≡ u16_bytes (parent_number t.thread.parent) ++ (u16_bytes t.thread.entry ++ (u32_bytes t.bound ++ rest)) = simp append_assoc in
+    let regrouped : thread_bytes t ++ rest ≡ u16_bytes (parent_number t.thread.parent) ++ (u16_bytes t.thread.entry ++ (u32_bytes t.bound ++ rest)) =
+    simp append_assoc in
     ap thread_at regrouped ∙ rw (
       number16_law.again (parent_number t.thread.parent) (u16_bytes t.thread.entry ++ (u32_bytes t.bound ++ rest)) (parent_fits t.thread.parent fits.parent),
       number16_law.again t.thread.entry (u32_bytes t.bound ++ rest) fits.entry,
@@ -104,7 +107,8 @@ fork_takes : (version : ℕ) (rest : List ℕ) (x : Step × List ℕ) → IsByte
 unfolding fork_at step_bytes
 fork_takes version rest x fits e =
     let a = first number16_law rest _ x fits e in
-    let n = first byte_law a.got.1 (λ count. each_at (number_at w16) count.0 count.1 >>= λ children. Ok (step.Fork children.0 a.got.0, children.1)) x a.took.rest_bytes a.next in
+    let n = first byte_law a.got.1 (λ count. each_at (number_at w16) count.0 count.1 >>= λ children. Ok (step.Fork children.0 a.got.0, children.1)) x
+    a.took.rest_bytes a.next in
     let b = bind_ok (each_at (number_at w16) n.got.0 n.got.1) (λ children. Ok (step.Fork children.0 a.got.0, children.1)) x n.next in
     let t = each_takes number16_law n.got.0 n.got.1 b.0 n.took.rest_bytes b.1 in
     let counted : Takes a.got.1 (length b.0.0 ∷ flat_map u16_bytes b.0.0) b.0.1 =
@@ -113,7 +117,8 @@ fork_takes version rest x fits e =
     subst ((StepTakes version) 4 rest) (ok_is made x b.2) (behind 4 rest _ _ (then_takes a.took counted), (a.fits, omega (arith, t.1, n.fits), t.2))
 
 -- a step that is told by one node
-target_takes : (version : ℕ) (tag : ℕ) (make : ℕ → Step) → ((n : ℕ) → step_bytes (make n) ≡ tag ∷ u16_bytes n) → ((n : ℕ) → n < 2 ^ 16 → (SayableStep version) (make n))
+target_takes : (version : ℕ) (tag : ℕ) (make : ℕ → Step) → ((n : ℕ) → step_bytes (make n) ≡ tag ∷ u16_bytes n)
+    → ((n : ℕ) → n < 2 ^ 16 → (SayableStep version) (make n))
     → (rest : List ℕ) (x : Step × List ℕ) → IsBytes rest → target_at make rest ≡ Ok x → (StepTakes version) tag rest x
 unfolding target_at
 target_takes version tag make bytes_are fits_too rest x fits e =
@@ -122,7 +127,8 @@ target_takes version tag make bytes_are fits_too rest x fits e =
     subst ((StepTakes version) tag rest) (ok_is made x a.next)
     (subst (λ (text : List ℕ). Takes (tag ∷ rest) text a.got.1) (sym (bytes_are a.got.0)) (behind tag rest _ _ a.took), fits_too a.got.0 a.fits)
 
-body_takes : (version : ℕ) (bytes : List ℕ) (tag : ℕ) (rest : List ℕ) (x : Step × List ℕ) → IsBytes rest → (step_body version) bytes tag rest ≡ Ok x → (StepTakes version) tag rest x
+body_takes : (version : ℕ) (bytes : List ℕ) (tag : ℕ) (rest : List ℕ) (x : Step × List ℕ) → IsBytes rest → (step_body version) bytes tag rest ≡ Ok x
+    → (StepTakes version) tag rest x
 unfolding step_body step_bytes
 body_takes version bytes zero rest x fits e =
     let made : Step × List ℕ = (step.Exit, rest) in
@@ -133,10 +139,12 @@ body_takes version bytes (suc (suc (suc zero))) rest x fits e = (cond_takes vers
 body_takes version bytes (suc (suc (suc (suc zero)))) rest x fits e = (fork_takes version) rest x fits e
 body_takes version bytes (suc (suc (suc (suc (suc zero))))) rest x fits e = (target_takes version) 5 step.Join (λ n. refl) (λ n lt. lt) rest x fits e
 body_takes version bytes (suc (suc (suc (suc (suc (suc zero)))))) rest x fits e = (target_takes version) 6 step.Surf (λ n. refl) (λ n lt. lt) rest x fits e
-body_takes version bytes (suc (suc (suc (suc (suc (suc (suc zero))))))) rest x fits e = (target_takes version) 7 step.Depth (λ n. refl) (λ n lt. lt) rest x fits e
+body_takes version bytes (suc (suc (suc (suc (suc (suc (suc zero))))))) rest x fits e = (target_takes version) 7 step.Depth (λ n. refl)
+    (λ n lt. lt) rest x fits e
 body_takes version bytes (suc (suc (suc (suc (suc (suc (suc (suc n)))))))) rest x fits e = absurd cc
 
-step_takes : (version : ℕ) (bytes : List ℕ) (x : Step × List ℕ) → IsBytes bytes → (tagged_step_at version) bytes ≡ Ok x → Takes bytes (step_bytes x.0) x.1 × (SayableStep version) x.0
+step_takes : (version : ℕ) (bytes : List ℕ) (x : Step × List ℕ) → IsBytes bytes → (tagged_step_at version) bytes ≡ Ok x → Takes bytes (step_bytes x.0) x.1
+    × (SayableStep version) x.0
 unfolding tagged_step_at
 step_takes version bytes x fits e =
     let a = first byte_law bytes (λ tag. (step_body version) bytes tag.0 tag.1) x fits e in
@@ -147,10 +155,16 @@ step_again : (version : ℕ) (s : Step) (rest : List ℕ) → (SayableStep versi
 unfolding tagged_step_at step_body step_bytes byte_at assign_at update_at cond_at fork_at target_at
 step_again version step.Exit rest fits = refl
 step_again version (step.Assign variable code next) rest fits =
-    let regrouped : (u16_bytes variable ++ u16_bytes next ++ code_bytes code) ++ rest ≡ u16_bytes variable ++ (u16_bytes next ++ (code_bytes code ++ rest)) = simp append_assoc in
-    ap (assign_at version) regrouped ∙ rw (number16_law.again variable (u16_bytes next ++ (code_bytes code ++ rest)) fits.0, number16_law.again next (code_bytes code ++ rest) fits.1, (code_law version).again code rest fits.2) refl
+    let regrouped : (u16_bytes variable ++ u16_bytes next ++ code_bytes code) ++ rest ≡ u16_bytes variable ++ (u16_bytes next ++ (code_bytes code ++ rest)) =
+    simp append_assoc in
+    ap (assign_at version) regrouped ∙ rw (
+      number16_law.again variable (u16_bytes next ++ (code_bytes code ++ rest)) fits.0,
+      number16_law.again next (code_bytes code ++ rest) fits.1,
+      (code_law version).again code rest fits.2,
+    ) refl
 step_again version (step.Update variable combine code next) rest fits =
-    let regrouped : (u16_bytes variable ++ combination_number combine ∷ u16_bytes next ++ code_bytes code) ++ rest ≡ u16_bytes variable ++ ((combination_number combine ∷ []) ++ (u16_bytes next ++ (code_bytes code ++ rest))) = simp append_assoc in
+    let regrouped : (u16_bytes variable ++ combination_number combine ∷ u16_bytes next ++ code_bytes code) ++ rest
+    ≡ u16_bytes variable ++ ((combination_number combine ∷ []) ++ (u16_bytes next ++ (code_bytes code ++ rest))) = simp append_assoc in
     ap (update_at version) regrouped ∙ rw (
       number16_law.again variable ((combination_number combine ∷ []) ++ (u16_bytes next ++ (code_bytes code ++ rest))) fits.0,
       combination_law.again combine (u16_bytes next ++ (code_bytes code ++ rest)) tt,
@@ -158,11 +172,20 @@ step_again version (step.Update variable combine code next) rest fits =
       (code_law version).again code rest fits.2,
     ) refl
 step_again version (step.Cond code target other) rest fits =
-    let regrouped : (u16_bytes target ++ u16_bytes other ++ code_bytes code) ++ rest ≡ u16_bytes target ++ (u16_bytes other ++ (code_bytes code ++ rest)) = simp append_assoc in
-    ap (cond_at version) regrouped ∙ rw (number16_law.again target (u16_bytes other ++ (code_bytes code ++ rest)) fits.0, number16_law.again other (code_bytes code ++ rest) fits.1, (code_law version).again code rest fits.2) refl
+    let regrouped : (u16_bytes target ++ u16_bytes other ++ code_bytes code) ++ rest ≡ u16_bytes target ++ (u16_bytes other ++ (code_bytes code ++ rest)) =
+    simp append_assoc in
+    ap (cond_at version) regrouped ∙ rw (
+      number16_law.again target (u16_bytes other ++ (code_bytes code ++ rest)) fits.0,
+      number16_law.again other (code_bytes code ++ rest) fits.1,
+      (code_law version).again code rest fits.2,
+    ) refl
 step_again version (step.Fork children join) rest fits =
-    let regrouped : (u16_bytes join ++ length children ∷ flat_map u16_bytes children) ++ rest ≡ u16_bytes join ++ (length children ∷ (flat_map u16_bytes children ++ rest)) = simp append_assoc in
-    ap fork_at regrouped ∙ rw (number16_law.again join (length children ∷ (flat_map u16_bytes children ++ rest)) fits.0, each_again number16_law children rest fits.2) refl
+    let regrouped : (u16_bytes join ++ length children ∷ flat_map u16_bytes children) ++ rest
+    ≡ u16_bytes join ++ (length children ∷ (flat_map u16_bytes children ++ rest)) = simp append_assoc in
+    ap fork_at regrouped ∙ rw (
+      number16_law.again join (length children ∷ (flat_map u16_bytes children ++ rest)) fits.0,
+      each_again number16_law children rest fits.2,
+    ) refl
 step_again version (step.Join next) rest fits = rw (number16_law.again next rest fits) refl
 step_again version (step.Surf depth) rest fits = rw (number16_law.again depth rest fits) refl
 step_again version (step.Depth next) rest fits = rw (number16_law.again next rest fits) refl
@@ -172,7 +195,8 @@ step_law version = record { takes = (step_takes version); again = (step_again ve
 
 -- ---- nodes
 
-node_takes : (version : ℕ) (bytes : List ℕ) (x : NodeRow × List ℕ) → IsBytes bytes → (node_at version) bytes ≡ Ok x → Takes bytes (node_bytes x.0) x.1 × (SayableNode version) x.0
+node_takes : (version : ℕ) (bytes : List ℕ) (x : NodeRow × List ℕ) → IsBytes bytes → (node_at version) bytes ≡ Ok x → Takes bytes (node_bytes x.0) x.1
+    × (SayableNode version) x.0
 unfolding node_at node_bytes
 node_takes version bytes x fits e =
     let a = first number16_law bytes _ x fits e in
@@ -180,16 +204,24 @@ node_takes version bytes x fits e =
     let c = first number16_law b.got.1 _ x b.took.rest_bytes b.next in
     let d = first flag_law c.got.1 _ x c.took.rest_bytes c.next in
     let s = first (step_law version) d.got.1 _ x d.took.rest_bytes d.next in
-    let made : NodeRow × List ℕ = (record { node = record { owner = a.got.0; step = s.got.0 }; priority = b.got.0; weight = c.got.0; end_bit = d.got.0 }, s.got.1) in
-    subst (λ (y : NodeRow × List ℕ). Takes bytes (node_bytes y.0) y.1 × (SayableNode version) y.0) (ok_is made x s.next)
-    (then_takes (then_takes (then_takes a.took b.took) c.took) (then_takes d.took s.took), record { owner = a.fits; priority = b.fits; weight = c.fits; step = s.fits })
+    let made : NodeRow × List ℕ = (
+      record { node = record { owner = a.got.0; step = s.got.0 }; priority = b.got.0; weight = c.got.0; end_bit = d.got.0 },
+      s.got.1,
+    ) in
+    subst (λ (y : NodeRow × List ℕ). Takes bytes (node_bytes y.0) y.1 × (SayableNode version) y.0) (ok_is made x s.next) (
+      then_takes (then_takes (then_takes a.took b.took) c.took) (then_takes d.took s.took),
+      record { owner = a.fits; priority = b.fits; weight = c.fits; step = s.fits },
+    )
 
 node_again : (version : ℕ) (n : NodeRow) (rest : List ℕ) → (SayableNode version) n → (node_at version) (node_bytes n ++ rest) ≡ Ok (n, rest)
 unfolding node_at node_bytes
 node_again version n rest fits =
-    let regrouped : node_bytes n ++ rest ≡ u16_bytes n.node.owner ++ (u16_bytes n.priority ++ (u16_bytes n.weight ++ ((flag_number n.end_bit ∷ []) ++ (step_bytes n.node.step ++ rest)))) = simp append_assoc in
+    let regrouped : node_bytes n ++ rest
+    ≡ u16_bytes n.node.owner ++ (u16_bytes n.priority ++ (u16_bytes n.weight ++ ((flag_number n.end_bit ∷ []) ++ (step_bytes n.node.step ++ rest)))) =
+    simp append_assoc in
     ap (node_at version) regrouped ∙ rw (
-      number16_law.again n.node.owner (u16_bytes n.priority ++ (u16_bytes n.weight ++ ((flag_number n.end_bit ∷ []) ++ (step_bytes n.node.step ++ rest)))) fits.owner,
+      number16_law.again n.node.owner (u16_bytes n.priority ++ (u16_bytes n.weight ++ ((flag_number n.end_bit ∷ []) ++ (step_bytes n.node.step ++ rest))))
+          fits.owner,
       number16_law.again n.priority (u16_bytes n.weight ++ ((flag_number n.end_bit ∷ []) ++ (step_bytes n.node.step ++ rest))) fits.priority,
       number16_law.again n.weight ((flag_number n.end_bit ∷ []) ++ (step_bytes n.node.step ++ rest)) fits.weight,
       flag_law.again n.end_bit (step_bytes n.node.step ++ rest) tt,

@@ -1,6 +1,7 @@
 -- Where a bad field begins: at one of the bytes that were read. A reader leaves no more bytes than it was given,
 -- takes no memory, and says nothing of a tail.
-use Rattle.std.proofs.Common.{◌≡◌, ◌≢◌, ℕ, zero, suc, ◌-◌, ◌<◌, ◌≤◌, Bool, true, false, cond, ltb, leb, eqb, List, [], ◌∷◌, length, take, drop, Option, Some, None, Result, Ok, Err, refl, subst, arith}
+use Rattle.std.proofs.Common.{◌≡◌, ◌≢◌, ℕ, zero, suc, ◌-◌, ◌<◌, ◌≤◌, Bool, true, false, cond, ltb, leb, eqb, List, [], ◌∷◌, length, take, drop, Option, Some}
+use Rattle.std.proofs.Common.{None, Result, Ok, Err, refl, subst, arith}
 use Rattle.std.specs.Prelude.{nat_eq, slice_get, ◌&&◌}
 use Rattle.std.specs.Int.{Width, w16, w32, byte_len, from_le_bytes, cast_signed}
 use Rattle.std.specs.Cmp.Lexicographic.{pointwise}
@@ -112,7 +113,8 @@ byte_stays (b ∷ rest) = omega arith
 pub number_stays : (w : Width) (bytes : List ℕ) → Stays unread (length bytes) (number_at w bytes)
 unfolding number_at
 number_stays w bytes =
-    then_stays unread unread (length bytes) (bytes_at (byte_len w) bytes) (λ front. Ok (from_le_bytes w front.0, front.1)) (bytes_stay (byte_len w) bytes) (λ x e. omega arith)
+    then_stays unread unread (length bytes) (bytes_at (byte_len w) bytes) (λ front. Ok (from_le_bytes w front.0, front.1)) (bytes_stay (byte_len w) bytes)
+    (λ x e. omega arith)
 
 choice_stays : {A : Type 0} (choices : List A) (bytes : List ℕ) → Stays unread (length bytes) (choice_at choices bytes)
 unfolding choice_at byte_at
@@ -125,7 +127,8 @@ unfolding each_at
 each_stays read stays zero bytes = omega arith
 each_stays read stays (suc n) bytes =
     then_stays unread unread (length bytes) (read bytes) (λ first. each_at read n first.1 >>= λ others. Ok (first.0 ∷ others.0, others.1)) (stays bytes)
-    (λ x e. then_stays unread unread (length x.1) (each_at read n x.1) (λ others. Ok (x.0 ∷ others.0, others.1)) (each_stays read stays n x.1) (λ y f. omega arith))
+    (λ x e. then_stays unread unread (length x.1) (each_at read n x.1) (λ others. Ok (x.0 ∷ others.0, others.1)) (each_stays read stays n x.1)
+    (λ y f. omega arith))
 
 length_stays : (least most : ℕ) (bytes : List ℕ) → Stays unread (length bytes) (length_at least most bytes)
 unfolding length_at byte_at
@@ -148,10 +151,12 @@ unfolding bytes_at
 bytes_enough n bytes x e = ltb-false _ _ (not_short (ltb (length bytes) n) fault.Short (take n bytes, drop n bytes) x e).0
 
 -- a name that is bad begins behind its length
-text_stays : (n : ℕ) (bytes : List ℕ) → 1 ≤ n → Stays unread (length bytes) (bytes_at n bytes >>= λ text. or_field bytes (name_of text.0) >>= λ name. Ok (name, text.1))
+text_stays : (n : ℕ) (bytes : List ℕ) → 1 ≤ n
+    → Stays unread (length bytes) (bytes_at n bytes >>= λ text. or_field bytes (name_of text.0) >>= λ name. Ok (name, text.1))
 text_stays n bytes some = when (bytes_at n bytes) refl
   where
-    when : (r : Result (List ℕ × List ℕ) DecodeFault) → bytes_at n bytes ≡ r → Stays unread (length bytes) (r >>= λ text. or_field bytes (name_of text.0) >>= λ name. Ok (name, text.1))
+    when : (r : Result (List ℕ × List ℕ) DecodeFault) → bytes_at n bytes ≡ r
+        → Stays unread (length bytes) (r >>= λ text. or_field bytes (name_of text.0) >>= λ name. Ok (name, text.1))
     when (Err f) e = subst (Stays unread (length bytes)) e (bytes_stay n bytes)
     when (Ok x) e =
         let enough = bytes_enough n bytes x e in
@@ -161,7 +166,8 @@ text_stays n bytes some = when (bytes_at n bytes) refl
 name_stays : (bytes : List ℕ) → Stays unread (length bytes) (name_at bytes)
 unfolding name_at
 name_stays bytes =
-    then_stays unread unread (length bytes) (length_at 1 name_limit bytes) (λ len. bytes_at len.0 len.1 >>= λ text. or_field len.1 (name_of text.0) >>= λ name. Ok (name, text.1)) (length_stays 1 name_limit bytes)
+    then_stays unread unread (length bytes) (length_at 1 name_limit bytes) (λ len. bytes_at len.0 len.1 >>= λ text. or_field len.1 (name_of text.0) >>= λ name.
+    Ok (name, text.1)) (length_stays 1 name_limit bytes)
     (λ len e. text_stays len.0 len.1 (length_least 1 name_limit bytes len e))
 
 pub variable_stays : (bytes : List ℕ) → Stays unread (length bytes) (variable_at bytes)
@@ -207,7 +213,8 @@ division_stays : (number : ℕ) (bytes : List ℕ) → Stays unread (length byte
 unfolding division_at
 division_stays number bytes = then_stays unread unread _ (divisor_at bytes) _ (divisor_stays bytes) (λ d e. omega arith)
 
-either_stays : (number : ℕ) (rest : List ℕ) (b : Bool) → Stays unread (suc (length rest)) (cond b (division_at number rest) (operation_body (number ∷ rest) number rest))
+either_stays : (number : ℕ) (rest : List ℕ) (b : Bool)
+    → Stays unread (suc (length rest)) (cond b (division_at number rest) (operation_body (number ∷ rest) number rest))
 either_stays number rest true = behind_byte rest _ (division_stays number rest)
 either_stays number rest false = operation_body_stays number rest
 
@@ -233,7 +240,8 @@ thread_stays bytes =
 
 -- two numbers and a code
 coded_stays : (version : ℕ) {A : Type 0} (bytes : List ℕ) (made : ℕ → ℕ → List Operation → A)
-    → Stays unread (length bytes) (number_at w16 bytes >>= λ first. number_at w16 first.1 >>= λ second. (code_at version) second.1 >>= λ code. Ok (made first.0 second.0 code.0, code.1))
+    → Stays unread (length bytes) (number_at w16 bytes >>= λ first. number_at w16 first.1 >>= λ second. (code_at version) second.1 >>= λ code.
+    Ok (made first.0 second.0 code.0, code.1))
 coded_stays version bytes made =
     then_stays unread unread _ (number_at w16 bytes) _ (number_stays w16 bytes)
     (λ first e. then_stays unread unread _ (number_at w16 first.1) _ (number_stays w16 first.1)
@@ -252,7 +260,8 @@ unfolding fork_at
 fork_stays bytes =
     then_stays unread unread _ (number_at w16 bytes) _ (number_stays w16 bytes)
     (λ join e. then_stays unread unread _ (byte_at join.1) _ (byte_stays join.1)
-    (λ count f. then_stays unread unread _ (each_at (number_at w16) count.0 count.1) _ (each_stays (number_at w16) (number_stays w16) count.0 count.1) (λ children g. omega arith)))
+    (λ count f. then_stays unread unread _ (each_at (number_at w16) count.0 count.1) _ (each_stays (number_at w16) (number_stays w16) count.0 count.1)
+    (λ children g. omega arith)))
 
 target_stays : (made : ℕ → Step) (bytes : List ℕ) → Stays unread (length bytes) (target_at made bytes)
 unfolding target_at
@@ -286,13 +295,15 @@ node_stays version bytes =
 
 -- ---- images
 
-pub counted_stays : {A : Type 0} (read : Reader A) → ((bytes : List ℕ) → Stays unread (length bytes) (read bytes)) → (bytes : List ℕ) → Stays unread (length bytes) (counted_at read bytes)
+pub counted_stays : {A : Type 0} (read : Reader A) → ((bytes : List ℕ) → Stays unread (length bytes) (read bytes)) → (bytes : List ℕ)
+    → Stays unread (length bytes) (counted_at read bytes)
 unfolding counted_at
 counted_stays read stays bytes =
     then_stays unread unread _ (number_at w16 bytes) _ (number_stays w16 bytes) (λ count e. each_stays read stays count.0 count.1)
 
 -- a test that leads to an image or to a fault of no field
-tested_stays : {A : Type 0} (tail : Type 0) (left : A → ℕ) (n : ℕ) (b : Bool) (x : A) (f : DecodeFault) → left x ≤ n → IsWithin tail n f → StaysOr tail left n (cond b (Ok x) (Err f))
+tested_stays : {A : Type 0} (tail : Type 0) (left : A → ℕ) (n : ℕ) (b : Bool) (x : A) (f : DecodeFault) → left x ≤ n → IsWithin tail n f
+    → StaysOr tail left n (cond b (Ok x) (Err f))
 tested_stays tail left n true x f kept none = kept
 tested_stays tail left n false x f kept none = none
 
@@ -300,7 +311,8 @@ pub header_stays : (version : ℕ) (bytes : List ℕ) → Stays length (length b
 unfolding header_at
 header_stays version bytes =
     then_stays unread length _ (bytes_at 4 bytes) _ (bytes_stay 4 bytes)
-    (λ start e. then_stays length length _ (cond (pointwise nat_eq start.0 magic) (Ok start.1) (Err fault.Magic)) _ (tested_stays ⊥ length _ (pointwise nat_eq start.0 magic) start.1 fault.Magic (omega arith) tt)
+    (λ start e. then_stays length length _ (cond (pointwise nat_eq start.0 magic) (Ok start.1) (Err fault.Magic)) _
+    (tested_stays ⊥ length _ (pointwise nat_eq start.0 magic) start.1 fault.Magic (omega arith) tt)
     (λ marked f. then_stays unread length _ (byte_at marked) _ (byte_stays marked)
     (λ number g. tested_stays ⊥ length _ (eqb number.0 version) number.1 fault.Version (omega arith) tt)))
 
@@ -315,7 +327,8 @@ body_stays version bytes =
     (λ variables e. then_may_end unread all_read _ (counted_at thread_at variables.1) _ (counted_stays thread_at thread_stays variables.1)
     (λ threads f. then_may_end unread all_read _ (counted_at (node_at version) threads.1) _ (counted_stays (node_at version) (node_stays version) threads.1)
     (λ nodes g. then_may_end unread all_read _ (number_at w32 nodes.1) _ (number_stays w32 nodes.1)
-    (λ budget h. tested_stays (Unit {0}) all_read _ (eqb (length budget.1) 0) (image_of variables.0 threads.0 nodes.0 budget.0) fault.Trailing (omega arith) tt))))
+    (λ budget h. tested_stays (Unit {0}) all_read _ (eqb (length budget.1) 0) (image_of variables.0 threads.0 nodes.0 budget.0) fault.Trailing
+    (omega arith) tt))))
 
 image_stays : (version : ℕ) (bytes : List ℕ) → StaysOr (Unit {0}) all_read (length bytes) (image_at version bytes)
 unfolding image_at
@@ -326,7 +339,8 @@ pub image_remembers : (version : ℕ) (bytes : List ℕ) → image_at version by
 image_remembers version bytes e = subst (StaysOr (Unit {0}) all_read (length bytes)) e (image_stays version bytes)
 
 -- a bad field of these bytes has the offset of one of them
-offset_within : (bytes : List ℕ) (r : Result Image DecodeFault) (offset : ℕ) → StaysOr (Unit {0}) all_read (length bytes) r → IsErrOf (answer bytes r) (fault.Field offset) → offset < length bytes
+offset_within : (bytes : List ℕ) (r : Result Image DecodeFault) (offset : ℕ) → StaysOr (Unit {0}) all_read (length bytes) r
+    → IsErrOf (answer bytes r) (fault.Field offset) → offset < length bytes
 offset_within bytes (Ok i) offset stays e = absurd cc
 offset_within bytes (Err fault.Short) offset stays e = absurd cc
 offset_within bytes (Err fault.Magic) offset stays e = absurd cc
@@ -338,7 +352,9 @@ offset_within bytes (Err (fault.Field left)) offset stays e =
     omega (arith, same, stays.0, stays.1)
 
 -- what a function answers of a reading
-pub fault_within : (version : ℕ) (bytes : List ℕ) (r : Result Image DecodeFault) (offset : ℕ) → Answers r (reading version bytes) → IsErrOf r (fault.Field offset) → offset < length bytes
+pub fault_within : (version : ℕ) (bytes : List ℕ) (r : Result Image DecodeFault) (offset : ℕ) → Answers r (reading version bytes)
+    → IsErrOf r (fault.Field offset) → offset < length bytes
 unfolding reading
 fault_within version bytes r offset given is =
-    offset_within bytes (image_at version bytes) offset (image_stays version bytes) (subst (λ (x : Result Image DecodeFault). Answers x (answer bytes (image_at version bytes))) is given)
+    offset_within bytes (image_at version bytes) offset (image_stays version bytes)
+    (subst (λ (x : Result Image DecodeFault). Answers x (answer bytes (image_at version bytes))) is given)

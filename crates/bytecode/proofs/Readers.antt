@@ -1,5 +1,6 @@
 -- What a reader and a spelling are to one another: what is read is the spelling of what it gives, and a spelling is read again.
-use Rattle.std.proofs.Common.{◌≡◌, ℕ, zero, suc, ◌+◌, ◌<◌, Bool, true, false, cond, List, [], ◌∷◌, ◌++◌, length, get_or, take, drop, Option, Some, None, Result, Ok, Err, refl, sym, ap, subst, ◌∙◌, append_assoc, arith, inl, inr}
+use Rattle.std.proofs.Common.{◌≡◌, ℕ, zero, suc, ◌+◌, ◌<◌, Bool, true, false, cond, List, [], ◌∷◌, ◌++◌, length, get_or, take, drop, Option, Some, None, Result}
+use Rattle.std.proofs.Common.{Ok, Err, refl, sym, ap, subst, ◌∙◌, append_assoc, arith, inl, inr}
 use Rattle.std.specs.List.{flat_map, AllByRecursion}
 use Rattle.std.proofs.lemmas.Bool.{cases_lt}
 use Rattle.std.proofs.lemmas.List.{length-take, get_or-drop, get_or-take, get_or_past}
@@ -59,13 +60,15 @@ pub record IsRead {A : Type 0} (read : Reader A) (text : A → List ℕ) (Fits :
   pub again : (a : A) (rest : List ℕ) → Fits a → read (text a ++ rest) ≡ Ok (a, rest)
 
 -- the first reader of several, and what it took
-pub record First {A B : Type 0} (read : Reader A) (text : A → List ℕ) (Fits : A → Type 0) (bytes : List ℕ) (f : A × List ℕ → Result B DecodeFault) (y : B) : Type 0 where
+pub record First {A B : Type 0} (read : Reader A) (text : A → List ℕ) (Fits : A → Type 0) (bytes : List ℕ) (f : A × List ℕ → Result B DecodeFault)
+    (y : B) : Type 0 where
   pub got : A × List ℕ
   pub took : Takes bytes (text got.0) got.1
   pub fits : Fits got.0
   pub next : f got ≡ Ok y
 
-pub first : {A B : Type 0} {read : Reader A} {text : A → List ℕ} {Fits : A → Type 0} (law : IsRead read text Fits) (bytes : List ℕ) (f : A × List ℕ → Result B DecodeFault) (y : B)
+pub first : {A B : Type 0} {read : Reader A} {text : A → List ℕ} {Fits : A → Type 0} (law : IsRead read text Fits) (bytes : List ℕ)
+    (f : A × List ℕ → Result B DecodeFault) (y : B)
     → IsBytes bytes → (read bytes >>= f) ≡ Ok y → First read text Fits bytes f y
 first {read = read} law bytes f y fits e =
     let a = bind_ok (read bytes) f y e in
@@ -74,11 +77,13 @@ first {read = read} law bytes f y fits e =
 
 -- ---- so many, one behind the other
 
-pub each_takes : {A : Type 0} {read : Reader A} {text : A → List ℕ} {Fits : A → Type 0} (law : IsRead read text Fits) (n : ℕ) (bytes : List ℕ) (x : List A × List ℕ)
+pub each_takes : {A : Type 0} {read : Reader A} {text : A → List ℕ} {Fits : A → Type 0} (law : IsRead read text Fits) (n : ℕ) (bytes : List ℕ)
+    (x : List A × List ℕ)
     → IsBytes bytes → each_at read n bytes ≡ Ok x → Takes bytes (flat_map text x.0) x.1 × (length x.0 ≡ n) × AllByRecursion Fits x.0
 unfolding each_at
 each_takes {A} {read} {text} {Fits} law zero bytes x fits e =
-    subst (λ (y : List A × List ℕ). Takes bytes (flat_map text y.0) y.1 × (length y.0 ≡ 0) × AllByRecursion Fits y.0) (ok_is ([], bytes) x e) (record { parts = refl; rest_bytes = fits }, refl, tt)
+    subst (λ (y : List A × List ℕ). Takes bytes (flat_map text y.0) y.1 × (length y.0 ≡ 0) × AllByRecursion Fits y.0) (ok_is ([], bytes) x e)
+    (record { parts = refl; rest_bytes = fits }, refl, tt)
 each_takes {A} {read} {text} {Fits} law (suc n) bytes x fits e =
     let a = first law bytes (λ here. each_at read n here.1 >>= λ others. Ok (here.0 ∷ others.0, others.1)) x fits e in
     let b = bind_ok (each_at read n a.got.1) (λ others. Ok (a.got.0 ∷ others.0, others.1)) x a.next in
@@ -92,5 +97,6 @@ pub each_again : {A : Type 0} {read : Reader A} {text : A → List ℕ} {Fits : 
 unfolding each_at
 each_again law [] rest fits = refl
 each_again {A} {read} {text} {Fits} law (x ∷ xs) rest fits =
-    let regrouped : flat_map text (x ∷ xs) ++ rest ≡ text x ++ (flat_map text xs ++ rest) = ap (λ (t : List ℕ). t ++ rest) (flat_map-cons text x xs) ∙ append_assoc (text x) (flat_map text xs) rest in
+    let regrouped : flat_map text (x ∷ xs) ++ rest ≡ text x ++ (flat_map text xs ++ rest) = ap (λ (t : List ℕ). t ++ rest) (flat_map-cons text x xs)
+    ∙ append_assoc (text x) (flat_map text xs) rest in
     ap (each_at read (suc (length xs))) regrouped ∙ rw (law.again x (flat_map text xs ++ rest) fits.0, each_again law xs rest fits.1) refl

@@ -1,6 +1,7 @@
 -- Where more parentheses and more regions may stand in one another, only what was barred is open.
 use Rattle.std.proofs.Common.{ℕ, suc, ◌+◌, Bool, List}
-use Rattle.grammar.specs.Deeper.{Deeper, IsLanguage, same_one, deeper_seq, deeper_either, deeper_maybe, deeper_many, deeper_made, deeper_headed, opened, with_one, with_seq, with_made}
+use Rattle.grammar.specs.Deeper.{Deeper, IsLanguage, same_one, deeper_seq, deeper_either, deeper_maybe, deeper_many, deeper_made, deeper_headed, opened}
+use Rattle.grammar.specs.Deeper.{with_one, with_seq, with_made}
 use Rattle.sc_text.specs.declared.word.Word.{Word}
 use Rattle.sc_text.specs.Phrases.{Phrase}
 use Rattle.sc_text.specs.Expression.{expression}
@@ -13,7 +14,9 @@ use Rattle.chart_drafts.specs.declared.draft.DraftRegion.{DraftRegion}
 use Rattle.chart_drafts.specs.declared.draft.DraftState.{DraftState}
 use Rattle.chart_drafts.specs.declared.draft.DraftChart.{DraftChart}
 use Rattle.drafts.specs.declared.parts.Declaration.{Declaration}
-use Rattle.chart_drafts.specs.ChartText.{Grows, name, last_name, declaration, flag, placed, effect, next_effect, some_effects, effects, target, trigger, deed, termination, tested, transition, leaving, Inner, NoMore, Nested, bare, inside, body, state, states, region, within, chart, chart_text}
+use Rattle.chart_drafts.specs.ChartText.{Grows, name, last_name, declaration, flag, placed, effect, next_effect, some_effects, effects, target, trigger, deed}
+use Rattle.chart_drafts.specs.ChartText.{termination, tested, transition, leaving, Inner, NoMore, Nested, bare, inside, body, state, states, region, within}
+use Rattle.chart_drafts.specs.ChartText.{chart, chart_text}
 use Rattle.chart_drafts.proofs.Shapes.{chart_text_is}
 
 data Opened : Inner → Inner → Type 1 where
@@ -88,7 +91,8 @@ module _ (e e' : Grows Phrase) (w : Deeper Phrase e e') where
   unfolding inside region states
   inside_wider i j (from_none f k) =
       opened _ _ _ _ _
-      (with_seq _ _ _ _ _ (with_made _ _ _ _ _ (with_seq _ _ _ _ _ (with_made _ _ _ _ _ (with_seq _ _ _ _ _ (with_made _ _ _ _ _ (with_seq _ _ _ _ _ (with_one _))))))))
+      (with_seq _ _ _ _ _ (with_made _ _ _ _ _
+      (with_seq _ _ _ _ _ (with_made _ _ _ _ _ (with_seq _ _ _ _ _ (with_made _ _ _ _ _ (with_seq _ _ _ _ _ (with_one _))))))))
       bare_wider
   inside_wider i j (in_each r r' d) =
       deeper_either _ _ _ _ _

@@ -25,11 +25,13 @@ module _ (tokens : List Token) where
   pub chart_stops : (end : ℕ) (f : ReadFault) → Stops end (read (chart_text 0) tokens) f → Stops end (read_all (chart_text 0) tokens) f
   chart_stops end f s = next_stops end (read (chart_text 0) tokens) ended f s
 
-  more_wrong : (d : DraftChart) (rest : List Token) → read (chart_text 0) tokens ≡ Got d rest → ¬ (rest ≡ []) → read_all (chart_text 0) tokens ≡ Failed Wrong rest
+  more_wrong : (d : DraftChart) (rest : List Token) → read (chart_text 0) tokens ≡ Got d rest → ¬ (rest ≡ []) → read_all (chart_text 0) tokens
+      ≡ Failed Wrong rest
   more_wrong d [] e n = absurd (n refl)
   more_wrong d (t ∷ rest) e n = ap (λ o. next o ended) e
 
-  pub more_stops : (d : DraftChart) (rest : List Token) (end : ℕ) (f : ReadFault) → Gives (read (chart_text 0) tokens) d rest → ¬ (rest ≡ []) → f ≡ wrong_at end rest → Stops end (read_all (chart_text 0) tokens) f
+  pub more_stops : (d : DraftChart) (rest : List Token) (end : ℕ) (f : ReadFault) → Gives (read (chart_text 0) tokens) d rest → ¬ (rest ≡ [])
+      → f ≡ wrong_at end rest → Stops end (read_all (chart_text 0) tokens) f
   more_stops d rest end f r n w =
       subst (Stops end (read_all (chart_text 0) tokens)) (sym w)
       (record { flaw = Wrong; rest = rest; is = more_wrong d rest r.is n; breaks = refl; place = refl })

@@ -20,10 +20,12 @@ use Rattle.chart_drafts.specs.declared.draft.DraftRegion.{DraftRegion}
 use Rattle.chart_drafts.specs.declared.draft.DraftState.{DraftState}
 use Rattle.chart_drafts.specs.declared.draft.DraftChart.{DraftChart}
 use Rattle.chart_drafts.specs.Draft.{state_of, region_of, chart_of}
-use Rattle.chart_drafts.specs.ChartText.{Grows, the_word, the_sign, name, declaration, flag, leaving, listed, bare, inside, simple, body, state_first, state, braced, states, region, within, chart, chart_text}
+use Rattle.chart_drafts.specs.ChartText.{Grows, the_word, the_sign, name, declaration, flag, leaving, listed, bare, inside, simple, body, state_first, state}
+use Rattle.chart_drafts.specs.ChartText.{braced, states, region, within, chart, chart_text}
 use Rattle.chart_drafts.specs.Inside.{Gives, IsGoing}
 use Rattle.chart_drafts.proofs.Shapes.{nested_is, region_is, state_is, within_fits}
-use Rattle.chart_drafts.proofs.Parts.{seq_gives, seq_stops_first, seq_stops_second, made_gives, made_stops, after_gives, after_stops_first, after_stops_second, before_gives, before_stops_first, before_stops_second, left_read, right_read, gives_as}
+use Rattle.chart_drafts.proofs.Parts.{seq_gives, seq_stops_first, seq_stops_second, made_gives, made_stops, after_gives, after_stops_first, after_stops_second}
+use Rattle.chart_drafts.proofs.Parts.{before_gives, before_stops_first, before_stops_second, left_read, right_read, gives_as}
 use Rattle.chart_drafts.proofs.RowReading.{listed_goes, listed_stops}
 
 abbrev e0 : Grows Phrase
@@ -36,30 +38,40 @@ Inside = List DraftRegion × List DraftTransition
 -- ---- braces
 
 module _ {A : Type 0} (g : Grows A) (text a : List Token) where
-  pub braced_stops_inside : (end : ℕ) (f : ReadFault) → Takes (read (one {L = text_tokens} (the_sign sign.OpenBrace)) text) a → Stops end (read g a) f → Stops end (read (braced g) text) f
+  pub braced_stops_inside : (end : ℕ) (f : ReadFault) → Takes (read (one {L = text_tokens} (the_sign sign.OpenBrace)) text) a → Stops end (read g a) f
+      → Stops end (read (braced g) text) f
   braced_stops_inside end f t s =
-      after_stops_second (the_sign sign.OpenBrace) (before g (the_sign sign.CloseBrace)) text a end f t (before_stops_first (the_sign sign.CloseBrace) g a end f s)
+      after_stops_second (the_sign sign.OpenBrace) (before g (the_sign sign.CloseBrace)) text a end f t
+      (before_stops_first (the_sign sign.CloseBrace) g a end f s)
 
-  pub braced_stops_last : (b : List Token) (x : A) (end : ℕ) (f : ReadFault) → Takes (read (one {L = text_tokens} (the_sign sign.OpenBrace)) text) a → Gives (read g a) x b → Stops end (read (one {L = text_tokens} (the_sign sign.CloseBrace)) b) f → Stops end (read (braced g) text) f
+  pub braced_stops_last : (b : List Token) (x : A) (end : ℕ) (f : ReadFault) → Takes (read (one {L = text_tokens} (the_sign sign.OpenBrace)) text) a
+      → Gives (read g a) x b → Stops end (read (one {L = text_tokens} (the_sign sign.CloseBrace)) b) f → Stops end (read (braced g) text) f
   braced_stops_last b x end f t r s =
-      after_stops_second (the_sign sign.OpenBrace) (before g (the_sign sign.CloseBrace)) text a end f t (before_stops_second (the_sign sign.CloseBrace) g a b x end f r s)
+      after_stops_second (the_sign sign.OpenBrace) (before g (the_sign sign.CloseBrace)) text a end f t
+      (before_stops_second (the_sign sign.CloseBrace) g a b x end f r s)
 
-  pub braced_gives : (b rest : List Token) (x : A) → Takes (read (one {L = text_tokens} (the_sign sign.OpenBrace)) text) a → Gives (read g a) x b → Takes (read (one {L = text_tokens} (the_sign sign.CloseBrace)) b) rest → Gives (read (braced g) text) x rest
+  pub braced_gives : (b rest : List Token) (x : A) → Takes (read (one {L = text_tokens} (the_sign sign.OpenBrace)) text) a → Gives (read g a) x b
+      → Takes (read (one {L = text_tokens} (the_sign sign.CloseBrace)) b) rest → Gives (read (braced g) text) x rest
   braced_gives b rest x t r u =
       after_gives (the_sign sign.OpenBrace) (before g (the_sign sign.CloseBrace)) text a rest x t (before_gives (the_sign sign.CloseBrace) g a b rest x r u)
 
 -- ---- states
 
 module _ (n : ℕ) (text : List Token) where
-  pub state_gives : (a b c rest : List Token) (i f : Bool) (m : Named) (x : Inside) → Gives (read (flag word.Initial) text) i a → Gives (read (flag word.Final) a) f b → Gives (read (after (the_word word.State) name) b) m c → Gives (read (body e0 (within e0 n)) c) x rest → Gives (read (state e0 (within e0 n)) text) (state_of i f m x) rest
+  pub state_gives : (a b c rest : List Token) (i f : Bool) (m : Named) (x : Inside) → Gives (read (flag word.Initial) text) i a
+      → Gives (read (flag word.Final) a) f b → Gives (read (after (the_word word.State) name) b) m c → Gives (read (body e0 (within e0 n)) c) x rest
+      → Gives (read (state e0 (within e0 n)) text) (state_of i f m x) rest
   unfolding state
   state_gives a b c rest i f m x p q r s =
-      made_gives (λ x. state_of x.0 x.1.0 x.1.1.0 x.1.1.1) (seq (flag word.Initial) (seq (flag word.Final) (seq (after (the_word word.State) name) (body e0 (within e0 n))))) text (i, (f, (m, x))) rest
+      made_gives (λ x. state_of x.0 x.1.0 x.1.1.0 x.1.1.1)
+      (seq (flag word.Initial) (seq (flag word.Final) (seq (after (the_word word.State) name) (body e0 (within e0 n))))) text (i, (f, (m, x))) rest
       (seq_gives (flag word.Initial) (seq (flag word.Final) (seq (after (the_word word.State) name) (body e0 (within e0 n)))) text a rest i (f, (m, x)) p
       (seq_gives (flag word.Final) (seq (after (the_word word.State) name) (body e0 (within e0 n))) a b rest f (m, x) q
       (seq_gives (after (the_word word.State) name) (body e0 (within e0 n)) b c rest m x r s)))
 
-  pub states_go : (rest : List Token) (x : DraftState) (most : ℕ) (none found : List DraftState) → Gives (read (state e0 (within e0 n)) text) x rest → most ≡ length rest → none ≡ [] → found ≡ none ++ x ∷ [] → IsGoing (read (states e0 (within e0 n)) text) (state e0 (within e0 n)) state_first found (most - 0) rest
+  pub states_go : (rest : List Token) (x : DraftState) (most : ℕ) (none found : List DraftState) → Gives (read (state e0 (within e0 n)) text) x rest
+      → most ≡ length rest → none ≡ [] → found ≡ none ++ x ∷ [] → IsGoing (read (states e0 (within e0 n)) text) (state e0 (within e0 n)) state_first found
+      (most - 0) rest
   unfolding states
   states_go rest x left none found r e z f =
       let s = state e0 (within e0 n) in
@@ -72,18 +84,23 @@ module _ (n : ℕ) (text : List Token) where
 -- ---- regions
 
 module _ (n : ℕ) (text : List Token) where
-  pub region_gives : (a rest : List Token) (m : Named) (xs : List DraftState) → Gives (read (after (the_word word.Region) name) text) m a → Gives (read (braced (states e0 (within e0 n))) a) xs rest → Gives (read (region e0 (within e0 n)) text) (region_of m xs) rest
+  pub region_gives : (a rest : List Token) (m : Named) (xs : List DraftState) → Gives (read (after (the_word word.Region) name) text) m a
+      → Gives (read (braced (states e0 (within e0 n))) a) xs rest → Gives (read (region e0 (within e0 n)) text) (region_of m xs) rest
   unfolding region
   region_gives a rest m xs p q =
       made_gives (λ x. region_of x.0 x.1) (seq (after (the_word word.Region) name) (braced (states e0 (within e0 n)))) text (m, xs) rest
       (seq_gives (after (the_word word.Region) name) (braced (states e0 (within e0 n))) text a rest m xs p q)
 
-  pub regions_go : (rest : List Token) (x : DraftRegion) (most : ℕ) (none found : List DraftRegion) → Gives (read (region e0 (within e0 n)) text) x rest → most ≡ length rest → none ≡ [] → found ≡ none ++ x ∷ [] → IsGoing (read (listed (region e0 (within e0 n)) (region e0 (within e0 n))) text) (region e0 (within e0 n)) (the_word word.Region) found (most - 0) rest
+  pub regions_go : (rest : List Token) (x : DraftRegion) (most : ℕ) (none found : List DraftRegion) → Gives (read (region e0 (within e0 n)) text) x rest
+      → most ≡ length rest → none ≡ [] → found ≡ none ++ x ∷ [] → IsGoing (read (listed (region e0 (within e0 n)) (region e0 (within e0 n))) text)
+      (region e0 (within e0 n)) (the_word word.Region) found (most - 0) rest
   regions_go rest x left none found r e z f =
       let s = region e0 (within e0 n) in
-      listed_goes s (the_word word.Region) (region_is e0 (expression_is 0) (within e0 n) (within_fits e0 (expression_is 0) n)).begins s text rest x left none found r e z f
+      listed_goes s (the_word word.Region) (region_is e0 (expression_is 0) (within e0 n) (within_fits e0 (expression_is 0) n)).begins s text rest x left none
+      found r e z f
 
-  pub no_first_region : (end : ℕ) (f : ReadFault) → Stops end (read (region e0 (within e0 n)) text) f → Stops end (read (listed (region e0 (within e0 n)) (region e0 (within e0 n))) text) f
+  pub no_first_region : (end : ℕ) (f : ReadFault) → Stops end (read (region e0 (within e0 n)) text) f
+      → Stops end (read (listed (region e0 (within e0 n)) (region e0 (within e0 n))) text) f
   no_first_region end f s = listed_stops (region e0 (within e0 n)) (region e0 (within e0 n)) text end f s
 
 -- ---- what is in a state, or the semicolon where nothing is
@@ -93,24 +110,31 @@ module _ (n : ℕ) (text : List Token) where
   unfolding body
   is_simple e = left_read simple (the_sign sign.Semicolon) refl text (after (the_sign sign.OpenBrace) (inside e0 (within e0 n))) e
 
-  is_braced : starts text_tokens (the_sign sign.Semicolon) text ≡ false → read (body e0 (within e0 n)) text ≡ read (after (the_sign sign.OpenBrace) (inside e0 (within e0 n))) text
+  is_braced : starts text_tokens (the_sign sign.Semicolon) text ≡ false → read (body e0 (within e0 n)) text
+      ≡ read (after (the_sign sign.OpenBrace) (inside e0 (within e0 n))) text
   unfolding body
   is_braced e = right_read simple (the_sign sign.Semicolon) refl text (after (the_sign sign.OpenBrace) (inside e0 (within e0 n))) e
 
-  pub simple_gives : (rest : List Token) (regions : List DraftRegion) (transitions : List DraftTransition) → starts text_tokens (the_sign sign.Semicolon) text ≡ true → rest ≡ drop 1 text → regions ≡ [] → transitions ≡ [] → Gives (read (body e0 (within e0 n)) text) (regions, transitions) rest
+  pub simple_gives : (rest : List Token) (regions : List DraftRegion) (transitions : List DraftTransition) → starts text_tokens (the_sign sign.Semicolon) text
+      ≡ true → rest ≡ drop 1 text → regions ≡ [] → transitions ≡ [] → Gives (read (body e0 (within e0 n)) text) (regions, transitions) rest
   simple_gives rest regions transitions e d r t =
       let taken = one_taken (the_sign sign.Semicolon) text rest e d in
       subst (λ x. Gives (read (body e0 (within e0 n)) text) (x, transitions) rest) (sym r)
       (subst (λ x. Gives (read (body e0 (within e0 n)) text) ([], x) rest) (sym t)
       (gives_as _ _ ([], []) rest (is_simple e) (made_gives (λ t. ([], [])) (one (the_sign sign.Semicolon)) text taken.token rest (record { is = taken.is }))))
 
-  pub brace_stops : (end : ℕ) (f : ReadFault) → starts text_tokens (the_sign sign.Semicolon) text ≡ false → Stops end (read (one {L = text_tokens} (the_sign sign.OpenBrace)) text) f → Stops end (read (body e0 (within e0 n)) text) f
+  pub brace_stops : (end : ℕ) (f : ReadFault) → starts text_tokens (the_sign sign.Semicolon) text ≡ false
+      → Stops end (read (one {L = text_tokens} (the_sign sign.OpenBrace)) text) f → Stops end (read (body e0 (within e0 n)) text) f
   brace_stops end f e s = stops_as end _ _ f (is_braced e) (after_stops_first (the_sign sign.OpenBrace) (inside e0 (within e0 n)) text end f s)
 
-  pub inside_stops : (a : List Token) (end : ℕ) (f : ReadFault) → starts text_tokens (the_sign sign.Semicolon) text ≡ false → Takes (read (one {L = text_tokens} (the_sign sign.OpenBrace)) text) a → Stops end (read (inside e0 (within e0 n)) a) f → Stops end (read (body e0 (within e0 n)) text) f
+  pub inside_stops : (a : List Token) (end : ℕ) (f : ReadFault) → starts text_tokens (the_sign sign.Semicolon) text ≡ false
+      → Takes (read (one {L = text_tokens} (the_sign sign.OpenBrace)) text) a → Stops end (read (inside e0 (within e0 n)) a) f
+      → Stops end (read (body e0 (within e0 n)) text) f
   inside_stops a end f e t s = stops_as end _ _ f (is_braced e) (after_stops_second (the_sign sign.OpenBrace) (inside e0 (within e0 n)) text a end f t s)
 
-  pub inside_gives : (a rest : List Token) (x : Inside) → starts text_tokens (the_sign sign.Semicolon) text ≡ false → Takes (read (one {L = text_tokens} (the_sign sign.OpenBrace)) text) a → Gives (read (inside e0 (within e0 n)) a) x rest → Gives (read (body e0 (within e0 n)) text) x rest
+  pub inside_gives : (a rest : List Token) (x : Inside) → starts text_tokens (the_sign sign.Semicolon) text ≡ false
+      → Takes (read (one {L = text_tokens} (the_sign sign.OpenBrace)) text) a → Gives (read (inside e0 (within e0 n)) a) x rest
+      → Gives (read (body e0 (within e0 n)) text) x rest
   inside_gives a rest x e t r =
       gives_as _ _ x rest (is_braced e) (after_gives (the_sign sign.OpenBrace) (inside e0 (within e0 n)) text a rest x t r)
 
@@ -125,7 +149,8 @@ abbrev regions_of : ℕ → Grows (List DraftRegion)
 regions_of n = listed (region e0 (within e0 n)) (region e0 (within e0 n))
 
 nested_first : (n : ℕ) → first (seq (regions_of n) (leaving e0)) ≡ the_word word.Region
-nested_first n = (nested_is e0 (expression_is 0) (region e0 (within e0 n)) (region_is e0 (expression_is 0) (within e0 n) (within_fits e0 (expression_is 0) n))).begins
+nested_first n = (nested_is e0 (expression_is 0) (region e0 (within e0 n))
+    (region_is e0 (expression_is 0) (within e0 n) (within_fits e0 (expression_is 0) n))).begins
 
 module _ (text : List Token) where
   is_bare : (n : ℕ) → starts text_tokens (the_word word.Region) text ≡ false → read (inside e0 (within e0 n)) text ≡ read (bare e0) text
@@ -133,39 +158,49 @@ module _ (text : List Token) where
   is_bare zero e = ap (λ b. choose b (Failed Deep text) (read (bare e0) text)) e
   is_bare (suc n) e = right_read (seq (regions_of n) (leaving e0)) (the_word word.Region) (nested_first n) text (bare e0) e
 
-  nested_read : (n : ℕ) → starts text_tokens (the_word word.Region) text ≡ true → read (inside e0 (within e0 (suc n))) text ≡ read (seq (regions_of n) (leaving e0)) text
+  nested_read : (n : ℕ) → starts text_tokens (the_word word.Region) text ≡ true → read (inside e0 (within e0 (suc n))) text
+      ≡ read (seq (regions_of n) (leaving e0)) text
   unfolding inside within
   nested_read n e = left_read (seq (regions_of n) (leaving e0)) (the_word word.Region) (nested_first n) text (bare e0) e
 
-  is_nested : (n : ℕ) → (n ≡ 0 → ⊥) → starts text_tokens (the_word word.Region) text ≡ true → read (inside e0 (within e0 n)) text ≡ read (seq (regions_of (n - 1)) (leaving e0)) text
+  is_nested : (n : ℕ) → (n ≡ 0 → ⊥) → starts text_tokens (the_word word.Region) text ≡ true → read (inside e0 (within e0 n)) text
+      ≡ read (seq (regions_of (n - 1)) (leaving e0)) text
   is_nested n z e = ap (λ m. read (inside e0 (within e0 m)) text) (one_less n z) ∙ nested_read (n - 1) e
 
   is_deep : starts text_tokens (the_word word.Region) text ≡ true → read (inside e0 (within e0 0)) text ≡ Failed Deep text
   unfolding inside within
   is_deep e = ap (λ b. choose b (Failed Deep text) (read (bare e0) text)) e
 
-  pub bare_gives : (n : ℕ) (rest : List Token) (regions : List DraftRegion) (transitions : List DraftTransition) → starts text_tokens (the_word word.Region) text ≡ false → regions ≡ [] → Gives (read (leaving e0) text) transitions rest → Gives (read (inside e0 (within e0 n)) text) (regions, transitions) rest
+  pub bare_gives : (n : ℕ) (rest : List Token) (regions : List DraftRegion) (transitions : List DraftTransition)
+      → starts text_tokens (the_word word.Region) text ≡ false → regions ≡ [] → Gives (read (leaving e0) text) transitions rest
+      → Gives (read (inside e0 (within e0 n)) text) (regions, transitions) rest
   unfolding bare
   bare_gives n rest regions transitions e z r =
       subst (λ x. Gives (read (inside e0 (within e0 n)) text) (x, transitions) rest) (sym z)
       (gives_as _ _ ([], transitions) rest (is_bare n e) (made_gives (λ x. ([], x)) (leaving e0) text transitions rest r))
 
-  pub bare_stops : (n end : ℕ) (f : ReadFault) → starts text_tokens (the_word word.Region) text ≡ false → Stops end (read (leaving e0) text) f → Stops end (read (inside e0 (within e0 n)) text) f
+  pub bare_stops : (n end : ℕ) (f : ReadFault) → starts text_tokens (the_word word.Region) text ≡ false → Stops end (read (leaving e0) text) f
+      → Stops end (read (inside e0 (within e0 n)) text) f
   unfolding bare
   bare_stops n end f e s = stops_as end _ _ f (is_bare n e) (made_stops (λ x. ([], x)) (leaving e0) text end f s)
 
-  pub too_deep_stops : (n end : ℕ) (f : ReadFault) → starts text_tokens (the_word word.Region) text ≡ true → n ≡ 0 → f ≡ deep_at end text → Stops end (read (inside e0 (within e0 n)) text) f
+  pub too_deep_stops : (n end : ℕ) (f : ReadFault) → starts text_tokens (the_word word.Region) text ≡ true → n ≡ 0 → f ≡ deep_at end text
+      → Stops end (read (inside e0 (within e0 n)) text) f
   too_deep_stops n end f e z w =
       subst (Stops end (read (inside e0 (within e0 n)) text)) (sym w)
       (record { flaw = Deep; rest = text; is = ap (λ m. read (inside e0 (within e0 m)) text) z ∙ is_deep e; breaks = refl; place = refl })
 
-  pub regions_stop : (n end : ℕ) (f : ReadFault) → starts text_tokens (the_word word.Region) text ≡ true → (n ≡ 0 → ⊥) → Stops end (read (regions_of (n - 1)) text) f → Stops end (read (inside e0 (within e0 n)) text) f
+  pub regions_stop : (n end : ℕ) (f : ReadFault) → starts text_tokens (the_word word.Region) text ≡ true → (n ≡ 0 → ⊥)
+      → Stops end (read (regions_of (n - 1)) text) f → Stops end (read (inside e0 (within e0 n)) text) f
   regions_stop n end f e z s = stops_as end _ _ f (is_nested n z e) (seq_stops_first (regions_of (n - 1)) (leaving e0) text end f s)
 
-  pub leaving_stops : (n : ℕ) (a : List Token) (end : ℕ) (f : ReadFault) (regions : List DraftRegion) → starts text_tokens (the_word word.Region) text ≡ true → (n ≡ 0 → ⊥) → Gives (read (regions_of (n - 1)) text) regions a → Stops end (read (leaving e0) a) f → Stops end (read (inside e0 (within e0 n)) text) f
+  pub leaving_stops : (n : ℕ) (a : List Token) (end : ℕ) (f : ReadFault) (regions : List DraftRegion) → starts text_tokens (the_word word.Region) text ≡ true
+      → (n ≡ 0 → ⊥) → Gives (read (regions_of (n - 1)) text) regions a → Stops end (read (leaving e0) a) f → Stops end (read (inside e0 (within e0 n)) text) f
   leaving_stops n a end f regions e z r s = stops_as end _ _ f (is_nested n z e) (seq_stops_second (regions_of (n - 1)) (leaving e0) text a regions end f r s)
 
-  pub nested_gives : (n : ℕ) (a rest : List Token) (regions : List DraftRegion) (transitions : List DraftTransition) → starts text_tokens (the_word word.Region) text ≡ true → (n ≡ 0 → ⊥) → Gives (read (regions_of (n - 1)) text) regions a → Gives (read (leaving e0) a) transitions rest → Gives (read (inside e0 (within e0 n)) text) (regions, transitions) rest
+  pub nested_gives : (n : ℕ) (a rest : List Token) (regions : List DraftRegion) (transitions : List DraftTransition)
+      → starts text_tokens (the_word word.Region) text ≡ true → (n ≡ 0 → ⊥) → Gives (read (regions_of (n - 1)) text) regions a
+      → Gives (read (leaving e0) a) transitions rest → Gives (read (inside e0 (within e0 n)) text) (regions, transitions) rest
   nested_gives n a rest regions transitions e z r s =
       gives_as _ _ (regions, transitions) rest (is_nested n z e) (seq_gives (regions_of (n - 1)) (leaving e0) text a rest regions transitions r s)
 
@@ -180,15 +215,18 @@ chart_title = after (the_word word.Chart) name
 abbrev to_chart : Named × (List Declaration × List DraftRegion) → DraftChart
 to_chart x = chart_of x.0 x.1.0 x.1.1
 
-pub chart_gives : (text a rest : List Token) (m : Named) (x : List Declaration × List DraftRegion) → Gives (read chart_title text) m a → Gives (read (braced parts) a) x rest → Gives (read (chart_text 0) text) (chart_of m x.0 x.1) rest
+pub chart_gives : (text a rest : List Token) (m : Named) (x : List Declaration × List DraftRegion) → Gives (read chart_title text) m a
+    → Gives (read (braced parts) a) x rest → Gives (read (chart_text 0) text) (chart_of m x.0 x.1) rest
 unfolding chart_text chart
-chart_gives text a rest m x p q = made_gives to_chart (seq chart_title (braced parts)) text (m, x) rest (seq_gives chart_title (braced parts) text a rest m x p q)
+chart_gives text a rest m x p q = made_gives to_chart (seq chart_title (braced parts)) text (m, x) rest
+    (seq_gives chart_title (braced parts) text a rest m x p q)
 
 pub title_stops : (text : List Token) (end : ℕ) (f : ReadFault) → Stops end (read chart_title text) f → Stops end (read (chart_text 0) text) f
 unfolding chart_text chart
 title_stops text end f s = made_stops to_chart (seq chart_title (braced parts)) text end f (seq_stops_first chart_title (braced parts) text end f s)
 
-pub parts_stop : (text a : List Token) (m : Named) (end : ℕ) (f : ReadFault) → Gives (read chart_title text) m a → Stops end (read (braced parts) a) f → Stops end (read (chart_text 0) text) f
+pub parts_stop : (text a : List Token) (m : Named) (end : ℕ) (f : ReadFault) → Gives (read chart_title text) m a → Stops end (read (braced parts) a) f
+    → Stops end (read (chart_text 0) text) f
 unfolding chart_text chart
 parts_stop text a m end f r s =
     made_stops to_chart (seq chart_title (braced parts)) text end f (seq_stops_second chart_title (braced parts) text a m end f r s)

@@ -16,7 +16,8 @@ module _ {A B : Type 0} (g : Grows A) (h : Grows B) (text : List Token) where
   pub seq_stops_first : (end : ℕ) (f : ReadFault) → Stops end (read g text) f → Stops end (read (seq g h) text) f
   seq_stops_first end f s = next_stops end (read g text) _ f s
 
-  pub seq_stops_second : (rest : List Token) (a : A) (end : ℕ) (f : ReadFault) → Gives (read g text) a rest → Stops end (read h rest) f → Stops end (read (seq g h) text) f
+  pub seq_stops_second : (rest : List Token) (a : A) (end : ℕ) (f : ReadFault) → Gives (read g text) a rest → Stops end (read h rest) f
+      → Stops end (read (seq g h) text) f
   seq_stops_second rest a end f r s =
       stops_as end _ _ f (ap (λ o. next o (λ a rest. next (read h rest) (λ b end. Got (a, b) end))) r.is) (next_stops end (read h rest) _ f s)
 
@@ -37,32 +38,38 @@ module _ {A : Type 0} (ks : List Class) (g : Grows A) (text : List Token) where
   pub after_stops_first : (end : ℕ) (f : ReadFault) → Stops end (read (one {L = text_tokens} ks) text) f → Stops end (read (after ks g) text) f
   after_stops_first end f s = made_stops _ (seq (one ks) g) text end f (seq_stops_first (one ks) g text end f s)
 
-  pub after_stops_second : (rest : List Token) (end : ℕ) (f : ReadFault) → Takes (read (one {L = text_tokens} ks) text) rest → Stops end (read g rest) f → Stops end (read (after ks g) text) f
+  pub after_stops_second : (rest : List Token) (end : ℕ) (f : ReadFault) → Takes (read (one {L = text_tokens} ks) text) rest → Stops end (read g rest) f
+      → Stops end (read (after ks g) text) f
   after_stops_second rest end f t s =
       made_stops _ (seq (one ks) g) text end f (seq_stops_second (one ks) g text rest t.token end f (record { is = t.is }) s)
 
-  pub after_gives : (rest more : List Token) (a : A) → Takes (read (one {L = text_tokens} ks) text) rest → Gives (read g rest) a more → Gives (read (after ks g) text) a more
+  pub after_gives : (rest more : List Token) (a : A) → Takes (read (one {L = text_tokens} ks) text) rest → Gives (read g rest) a more
+      → Gives (read (after ks g) text) a more
   after_gives rest more a t r =
       made_gives _ (seq (one ks) g) text (t.token, a) more (seq_gives (one ks) g text rest more t.token a (record { is = t.is }) r)
 
   pub before_stops_first : (end : ℕ) (f : ReadFault) → Stops end (read g text) f → Stops end (read (before g ks) text) f
   before_stops_first end f s = made_stops _ (seq g (one ks)) text end f (seq_stops_first g (one ks) text end f s)
 
-  pub before_stops_second : (rest : List Token) (a : A) (end : ℕ) (f : ReadFault) → Gives (read g text) a rest → Stops end (read (one {L = text_tokens} ks) rest) f → Stops end (read (before g ks) text) f
+  pub before_stops_second : (rest : List Token) (a : A) (end : ℕ) (f : ReadFault) → Gives (read g text) a rest
+      → Stops end (read (one {L = text_tokens} ks) rest) f → Stops end (read (before g ks) text) f
   before_stops_second rest a end f r s =
       made_stops _ (seq g (one ks)) text end f (seq_stops_second g (one ks) text rest a end f r s)
 
-  pub before_gives : (rest more : List Token) (a : A) → Gives (read g text) a rest → Takes (read (one {L = text_tokens} ks) rest) more → Gives (read (before g ks) text) a more
+  pub before_gives : (rest more : List Token) (a : A) → Gives (read g text) a rest → Takes (read (one {L = text_tokens} ks) rest) more
+      → Gives (read (before g ks) text) a more
   before_gives rest more a r t =
       made_gives _ (seq g (one ks)) text (a, t.token) more (seq_gives g (one ks) text rest more a t.token r (record { is = t.is }))
 
 -- ---- one token
 
 module _ {A : Type 0} (F : Token → A) (ks : List Class) where
-  pub token_fails : (text : List Token) (end : ℕ) (f : ReadFault) → starts text_tokens ks text ≡ false → f ≡ wrong_at end text → Stops end (read (made F (one {L = text_tokens} ks)) text) f
+  pub token_fails : (text : List Token) (end : ℕ) (f : ReadFault) → starts text_tokens ks text ≡ false → f ≡ wrong_at end text
+      → Stops end (read (made F (one {L = text_tokens} ks)) text) f
   token_fails text end f e w = made_stops F (one ks) text end f (one_fails ks text end f e w)
 
-  pub token_gives : (t : Token) (rest : List Token) → starts text_tokens ks (t ∷ rest) ≡ true → Gives (read (made F (one {L = text_tokens} ks)) (t ∷ rest)) (F t) rest
+  pub token_gives : (t : Token) (rest : List Token) → starts text_tokens ks (t ∷ rest) ≡ true
+      → Gives (read (made F (one {L = text_tokens} ks)) (t ∷ rest)) (F t) rest
   token_gives t rest e = made_gives F (one ks) (t ∷ rest) t rest (record { is = one_got ks t rest e })
 
 -- ---- what may be missing, and choices

@@ -26,10 +26,13 @@ use Rattle.chart_drafts.specs.declared.draft.DraftEffect.{DraftEffect}
 use Rattle.chart_drafts.specs.declared.draft.DraftTransition.{DraftTransition}
 use Rattle.chart_drafts.specs.Draft.{is_there, effect_of, transition_of}
 use Rattle.drafts.specs.Parts.{or_none, expressed, declared_as}
-use Rattle.chart_drafts.specs.ChartText.{Grows, the_word, the_sign, roles, declared_role, declared_kind, last_name, name, declaration, flag, placed, effect, next_effect, some_effects, effects, trigger, deed, moment, termination, tested_words, tested, transition_first, transition}
+use Rattle.chart_drafts.specs.ChartText.{Grows, the_word, the_sign, roles, declared_role, declared_kind, last_name, name, declaration, flag, placed, effect}
+use Rattle.chart_drafts.specs.ChartText.{next_effect, some_effects, effects, trigger, deed, moment, termination, tested_words, tested, transition_first}
+use Rattle.chart_drafts.specs.ChartText.{transition}
 use Rattle.chart_drafts.specs.Inside.{Gives, IsGoing}
 use Rattle.chart_drafts.proofs.Shapes.{declaration_is, next_effect_is, termination_is, transition_is}
-use Rattle.chart_drafts.proofs.Parts.{seq_gives, made_gives, made_stops, after_gives, after_stops_second, maybe_none, maybe_some, maybe_stops, left_read, right_read, gives_as}
+use Rattle.chart_drafts.proofs.Parts.{seq_gives, made_gives, made_stops, after_gives, after_stops_second, maybe_none, maybe_some, maybe_stops, left_read}
+use Rattle.chart_drafts.proofs.Parts.{right_read, gives_as}
 use Rattle.chart_drafts.proofs.RowReading.{many_goes, listed_goes, listed_stops}
 
 abbrev e0 : Grows Phrase
@@ -76,12 +79,14 @@ pub placed_stops : (text : List Token) (end : ℕ) (f : ReadFault) → Stops end
 unfolding placed
 placed_stops text end f s = next_stops end _ _ f (next_stops end (read e0 text) _ f s)
 
-placed_read : (text rest : List Token) (p : Phrase) (end : ℕ) → read e0 text ≡ Got p rest → read (placed e0) text ≡ Got (record { start = place_of end text; operations = p }) rest
+placed_read : (text rest : List Token) (p : Phrase) (end : ℕ) → read e0 text ≡ Got p rest → read (placed e0) text
+    ≡ Got (record { start = place_of end text; operations = p }) rest
 unfolding placed
 placed_read [] rest p end e = absurd (nothing_read e0 _ _ (expression_is 0) p rest e)
 placed_read (t ∷ text) rest p end e = ap (λ o. next (next o (with_head (t ∷ text))) (λ x r. Got (expressed x) r)) e
 
-pub placed_gives : (text rest : List Token) (start end : ℕ) (old new : Phrase) → start ≡ place_of end text → old ≡ [] → Reads (read e0 text) old new rest → Gives (read (placed e0) text) (record { start = start; operations = new }) rest
+pub placed_gives : (text rest : List Token) (start end : ℕ) (old new : Phrase) → start ≡ place_of end text → old ≡ [] → Reads (read e0 text) old new rest
+    → Gives (read (placed e0) text) (record { start = start; operations = new }) rest
 placed_gives text rest start end old new s o r =
     record {
       is =
@@ -92,13 +97,15 @@ placed_gives text rest start end old new s o r =
 
 -- ---- declarations
 
-pub declaration_gives : (text a b rest : List Token) (r : Role) (k : Kind) (n : Named) → Gives (read declared_role text) r a → Gives (read declared_kind a) k b → Gives (read last_name b) n rest → Gives (read declaration text) (declared_as r k n) rest
+pub declaration_gives : (text a b rest : List Token) (r : Role) (k : Kind) (n : Named) → Gives (read declared_role text) r a → Gives (read declared_kind a) k b
+    → Gives (read last_name b) n rest → Gives (read declaration text) (declared_as r k n) rest
 unfolding declaration
 declaration_gives text a b rest r k n x y z =
     made_gives (λ x. declared_as x.0 x.1.0 x.1.1) (seq declared_role (seq declared_kind last_name)) text (r, (k, n)) rest
     (seq_gives declared_role (seq declared_kind last_name) text a rest r (k, n) x (seq_gives declared_kind last_name a b rest k n y z))
 
-pub declarations_go : (text : List Token) (most : ℕ) (found : List Declaration) → most ≡ length text → found ≡ [] → IsGoing (read (many declaration) text) declaration roles found (most - 0) text
+pub declarations_go : (text : List Token) (most : ℕ) (found : List Declaration) → most ≡ length text → found ≡ []
+    → IsGoing (read (many declaration) text) declaration roles found (most - 0) text
 declarations_go text left found e f = many_goes declaration roles declaration_is.begins text left found e f
 
 -- ---- effects
@@ -106,12 +113,15 @@ declarations_go text left found e f = many_goes declaration roles declaration_is
 abbrev becomes : Grows TextExpression
 becomes = after (the_sign sign.Becomes) (placed e0)
 
-pub effect_gives : (text a rest : List Token) (n : Named) (e : TextExpression) → Gives (read name text) n a → Gives (read (after (the_sign sign.Becomes) (placed e0)) a) e rest → Gives (read (effect e0) text) (effect_of n e) rest
+pub effect_gives : (text a rest : List Token) (n : Named) (e : TextExpression) → Gives (read name text) n a
+    → Gives (read (after (the_sign sign.Becomes) (placed e0)) a) e rest → Gives (read (effect e0) text) (effect_of n e) rest
 unfolding effect
 effect_gives text a rest n e x y =
     made_gives (λ x. effect_of x.0 x.1) (seq name becomes) text (n, e) rest (seq_gives name becomes text a rest n e x y)
 
-pub effects_go : (text rest : List Token) (x : DraftEffect) (most : ℕ) (none found : List DraftEffect) → Gives (read (effect e0) text) x rest → most ≡ length rest → none ≡ [] → found ≡ none ++ x ∷ [] → IsGoing (read (some_effects e0) text) (next_effect e0) (the_sign sign.Comma) found (most - 0) rest
+pub effects_go : (text rest : List Token) (x : DraftEffect) (most : ℕ) (none found : List DraftEffect) → Gives (read (effect e0) text) x rest
+    → most ≡ length rest → none ≡ [] → found ≡ none ++ x ∷ [] → IsGoing (read (some_effects e0) text) (next_effect e0) (the_sign sign.Comma) found
+    (most - 0) rest
 unfolding some_effects
 effects_go text rest x left none found r e n f =
     listed_goes (next_effect e0) (the_sign sign.Comma) (next_effect_is e0 (expression_is 0)).begins (effect e0) text rest x left none found r e n f
@@ -120,17 +130,22 @@ pub no_first_effect : (text : List Token) (end : ℕ) (f : ReadFault) → Stops 
 unfolding some_effects
 no_first_effect text end f s = listed_stops (next_effect e0) (effect e0) text end f s
 
-pub effects_missing : (text : List Token) (none : List DraftEffect) → starts text_tokens (the_word word.Do) text ≡ false → none ≡ [] → Gives (read (effects e0) text) none text
+pub effects_missing : (text : List Token) (none : List DraftEffect) → starts text_tokens (the_word word.Do) text ≡ false → none ≡ []
+    → Gives (read (effects e0) text) none text
 unfolding effects
 effects_missing text none e n =
     subst (λ d. Gives (read (effects e0) text) d text) (sym n)
-    (made_gives or_none (maybe (after (the_word word.Do) (some_effects e0))) text None text (maybe_none (after (the_word word.Do) (some_effects e0)) (the_word word.Do) refl text e))
+    (made_gives or_none (maybe (after (the_word word.Do) (some_effects e0))) text None text
+    (maybe_none (after (the_word word.Do) (some_effects e0)) (the_word word.Do) refl text e))
 
-pub effects_there : (text more rest : List Token) (xs : List DraftEffect) → starts text_tokens (the_word word.Do) text ≡ true → more ≡ drop 1 text → Gives (read (some_effects e0) more) xs rest → Gives (read (effects e0) text) xs rest
+pub effects_there : (text more rest : List Token) (xs : List DraftEffect) → starts text_tokens (the_word word.Do) text ≡ true → more ≡ drop 1 text
+    → Gives (read (some_effects e0) more) xs rest → Gives (read (effects e0) text) xs rest
 unfolding effects
-effects_there text more rest xs e d r = made_gives or_none (maybe (after (the_word word.Do) (some_effects e0))) text (Some xs) rest (behind_gives (the_word word.Do) (some_effects e0) text more e d xs rest r)
+effects_there text more rest xs e d r = made_gives or_none (maybe (after (the_word word.Do) (some_effects e0))) text (Some xs) rest
+    (behind_gives (the_word word.Do) (some_effects e0) text more e d xs rest r)
 
-pub effects_stop : (text more : List Token) (end : ℕ) (f : ReadFault) → starts text_tokens (the_word word.Do) text ≡ true → more ≡ drop 1 text → Stops end (read (some_effects e0) more) f → Stops end (read (effects e0) text) f
+pub effects_stop : (text more : List Token) (end : ℕ) (f : ReadFault) → starts text_tokens (the_word word.Do) text ≡ true → more ≡ drop 1 text
+    → Stops end (read (some_effects e0) more) f → Stops end (read (effects e0) text) f
 unfolding effects
 effects_stop text more end f e d s =
     made_stops or_none (maybe (after (the_word word.Do) (some_effects e0))) text end f (behind_stops (the_word word.Do) (some_effects e0) text more e d end f s)
@@ -141,26 +156,32 @@ pub trigger_missing : (text : List Token) → starts text_tokens (the_word word.
 unfolding trigger
 trigger_missing text e = maybe_none (after (the_word word.If) (placed e0)) (the_word word.If) refl text e
 
-pub trigger_there : (text more rest : List Token) (x : TextExpression) → starts text_tokens (the_word word.If) text ≡ true → more ≡ drop 1 text → Gives (read (placed e0) more) x rest → Gives (read (trigger e0) text) (Some x) rest
+pub trigger_there : (text more rest : List Token) (x : TextExpression) → starts text_tokens (the_word word.If) text ≡ true → more ≡ drop 1 text
+    → Gives (read (placed e0) more) x rest → Gives (read (trigger e0) text) (Some x) rest
 unfolding trigger
 trigger_there text more rest x e d r = behind_gives (the_word word.If) (placed e0) text more e d x rest r
 
-pub trigger_stops : (text more : List Token) (end : ℕ) (f : ReadFault) → starts text_tokens (the_word word.If) text ≡ true → more ≡ drop 1 text → Stops end (read (placed e0) more) f → Stops end (read (trigger e0) text) f
+pub trigger_stops : (text more : List Token) (end : ℕ) (f : ReadFault) → starts text_tokens (the_word word.If) text ≡ true → more ≡ drop 1 text
+    → Stops end (read (placed e0) more) f → Stops end (read (trigger e0) text) f
 unfolding trigger
 trigger_stops text more end f e d s = behind_stops (the_word word.If) (placed e0) text more e d end f s
 
 -- ---- transitions
 
-pub termination_made : (text a rest : List Token) (m : TransitionKind × ℕ) (d : List DraftEffect × Named) → Gives (read (moment (the_word word.Join)) text) m a → Gives (read (deed e0) a) d rest → Gives (read (termination e0) text) (transition_of m false None d.0 d.1) rest
+pub termination_made : (text a rest : List Token) (m : TransitionKind × ℕ) (d : List DraftEffect × Named) → Gives (read (moment (the_word word.Join)) text) m a
+    → Gives (read (deed e0) a) d rest → Gives (read (termination e0) text) (transition_of m false None d.0 d.1) rest
 unfolding termination
 termination_made text a rest m d x y =
     made_gives (λ x. transition_of x.0 false None x.1.0 x.1.1) (seq (moment (the_word word.Join)) (deed e0)) text (m, d) rest
     (seq_gives (moment (the_word word.Join)) (deed e0) text a rest m d x y)
 
-pub tested_made : (text a b c rest : List Token) (m : TransitionKind × ℕ) (i : Bool) (t : Option TextExpression) (d : List DraftEffect × Named) → Gives (read (moment tested_words) text) m a → Gives (read (flag word.Immediate) a) i b → Gives (read (trigger e0) b) t c → Gives (read (deed e0) c) d rest → Gives (read (tested e0) text) (transition_of m i t d.0 d.1) rest
+pub tested_made : (text a b c rest : List Token) (m : TransitionKind × ℕ) (i : Bool) (t : Option TextExpression) (d : List DraftEffect × Named)
+    → Gives (read (moment tested_words) text) m a → Gives (read (flag word.Immediate) a) i b → Gives (read (trigger e0) b) t c → Gives (read (deed e0) c) d rest
+    → Gives (read (tested e0) text) (transition_of m i t d.0 d.1) rest
 unfolding tested
 tested_made text a b c rest m i t d w x y z =
-    made_gives (λ x. transition_of x.0 x.1.0 x.1.1.0 x.1.1.1.0 x.1.1.1.1) (seq (moment tested_words) (seq (flag word.Immediate) (seq (trigger e0) (deed e0)))) text (m, (i, (t, d))) rest
+    made_gives (λ x. transition_of x.0 x.1.0 x.1.1.0 x.1.1.1.0 x.1.1.1.1) (seq (moment tested_words) (seq (flag word.Immediate) (seq (trigger e0) (deed e0))))
+    text (m, (i, (t, d))) rest
     (seq_gives (moment tested_words) (seq (flag word.Immediate) (seq (trigger e0) (deed e0))) text a rest m (i, (t, d)) w
     (seq_gives (flag word.Immediate) (seq (trigger e0) (deed e0)) a b rest i (t, d) x (seq_gives (trigger e0) (deed e0) b c rest t d y z)))
 
@@ -173,17 +194,22 @@ module _ (text : List Token) where
   unfolding transition
   is_tested e = right_read (termination e0) (the_word word.Join) (termination_is e0 (expression_is 0)).begins text (tested e0) e
 
-  pub termination_gives : (x : DraftTransition) (rest : List Token) → starts text_tokens (the_word word.Join) text ≡ true → Gives (read (termination e0) text) x rest → Gives (read (transition e0) text) x rest
+  pub termination_gives : (x : DraftTransition) (rest : List Token) → starts text_tokens (the_word word.Join) text ≡ true
+      → Gives (read (termination e0) text) x rest → Gives (read (transition e0) text) x rest
   termination_gives x rest e r = gives_as _ _ x rest (is_termination e) r
 
-  pub termination_stops : (end : ℕ) (f : ReadFault) → starts text_tokens (the_word word.Join) text ≡ true → Stops end (read (termination e0) text) f → Stops end (read (transition e0) text) f
+  pub termination_stops : (end : ℕ) (f : ReadFault) → starts text_tokens (the_word word.Join) text ≡ true → Stops end (read (termination e0) text) f
+      → Stops end (read (transition e0) text) f
   termination_stops end f e s = stops_as end _ _ f (is_termination e) s
 
-  pub tested_gives : (x : DraftTransition) (rest : List Token) → starts text_tokens (the_word word.Join) text ≡ false → Gives (read (tested e0) text) x rest → Gives (read (transition e0) text) x rest
+  pub tested_gives : (x : DraftTransition) (rest : List Token) → starts text_tokens (the_word word.Join) text ≡ false → Gives (read (tested e0) text) x rest
+      → Gives (read (transition e0) text) x rest
   tested_gives x rest e r = gives_as _ _ x rest (is_tested e) r
 
-  pub tested_stops : (end : ℕ) (f : ReadFault) → starts text_tokens (the_word word.Join) text ≡ false → Stops end (read (tested e0) text) f → Stops end (read (transition e0) text) f
+  pub tested_stops : (end : ℕ) (f : ReadFault) → starts text_tokens (the_word word.Join) text ≡ false → Stops end (read (tested e0) text) f
+      → Stops end (read (transition e0) text) f
   tested_stops end f e s = stops_as end _ _ f (is_tested e) s
 
-  pub transitions_go : (most : ℕ) (found : List DraftTransition) → most ≡ length text → found ≡ [] → IsGoing (read (many (transition e0)) text) (transition e0) transition_first found (most - 0) text
+  pub transitions_go : (most : ℕ) (found : List DraftTransition) → most ≡ length text → found ≡ []
+      → IsGoing (read (many (transition e0)) text) (transition e0) transition_first found (most - 0) text
   transitions_go left found e f = many_goes (transition e0) transition_first (transition_is e0 (expression_is 0)).begins text left found e f

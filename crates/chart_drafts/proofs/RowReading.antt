@@ -24,7 +24,8 @@ module _ {A : Type 0} (g : Grows A) where
   behind_nothing (Got xs rest) = refl
   behind_nothing (Failed flaw rest) = refl
 
-  pub many_goes : (ks : List Class) → first g ≡ ks → (text : List Token) (most : ℕ) (found : List A) → most ≡ length text → found ≡ [] → IsGoing (read (many g) text) g ks found (most - 0) text
+  pub many_goes : (ks : List Class) → first g ≡ ks → (text : List Token) (most : ℕ) (found : List A) → most ≡ length text → found ≡ []
+      → IsGoing (read (many g) text) g ks found (most - 0) text
   many_goes ks b text most found e f =
       let left : length text ≡ most - 0 = omega (arith, e) in
       record {
@@ -34,11 +35,13 @@ module _ {A : Type 0} (g : Grows A) where
             ∙ ap (λ d. next (each_of (most - 0) text) (λ xs end. Got (d ++ xs) end)) (sym f);
       }
 
-  behind_one : (x : A) (o : Outcome Token (List A)) → next (next o (λ b end. Got (paired x b) end)) (λ y r. Got (y.0 ∷ y.1) r) ≡ next o (λ xs end. Got ((x ∷ []) ++ xs) end)
+  behind_one : (x : A) (o : Outcome Token (List A)) → next (next o (λ b end. Got (paired x b) end)) (λ y r. Got (y.0 ∷ y.1) r)
+      ≡ next o (λ xs end. Got ((x ∷ []) ++ xs) end)
   behind_one x (Got xs rest) = refl
   behind_one x (Failed flaw rest) = refl
 
-  pub listed_goes : (ks : List Class) → first g ≡ ks → (h : Grows A) (text rest : List Token) (x : A) (most : ℕ) (none found : List A) → Gives (read h text) x rest → most ≡ length rest → none ≡ [] → found ≡ none ++ x ∷ [] → IsGoing (read (listed h g) text) g ks found (most - 0) rest
+  pub listed_goes : (ks : List Class) → first g ≡ ks → (h : Grows A) (text rest : List Token) (x : A) (most : ℕ) (none found : List A)
+      → Gives (read h text) x rest → most ≡ length rest → none ≡ [] → found ≡ none ++ x ∷ [] → IsGoing (read (listed h g) text) g ks found (most - 0) rest
   listed_goes ks b h text rest x most none found r e n f =
       let left : length rest ≡ most - 0 = omega (arith, e) in
       record {
@@ -70,24 +73,29 @@ module _ {A : Type 0} (g : Grows A) where
         let none : most - used ≡ 0 = omega (arith, le) in
         ended (most - used) rest i (ap (λ n. each_of n rest) none)
 
-    one_round : (less : ℕ) (rest : List Token) → IsGoing o g ks found (suc less) rest → starts text_tokens ks rest ≡ true → o ≡ next (next (read g rest) (λ x r. next (each_of less r) (λ xs end. Got (x ∷ xs) end))) (λ xs end. Got (found ++ xs) end)
+    one_round : (less : ℕ) (rest : List Token) → IsGoing o g ks found (suc less) rest → starts text_tokens ks rest ≡ true
+        → o ≡ next (next (read g rest) (λ x r. next (each_of less r) (λ xs end. Got (x ∷ xs) end))) (λ xs end. Got (found ++ xs) end)
     one_round less rest i e =
         i.is
-        ∙ ap (λ c. next (choose c (next (read g rest) (λ x r. next (each_of less r) (λ xs end. Got (x ∷ xs) end))) (Got [] rest)) (λ xs end. Got (found ++ xs) end)) (ap (λ ls. starts text_tokens ls rest) i.begins ∙ e)
+        ∙ ap (λ c. next (choose c (next (read g rest) (λ x r. next (each_of less r) (λ xs end. Got (x ∷ xs) end))) (Got [] rest))
+        (λ xs end. Got (found ++ xs) end)) (ap (λ ls. starts text_tokens ls rest) i.begins ∙ e)
 
     one_less : (most used : ℕ) → used < most → most - used ≡ suc (most - (used + 1))
     one_less most used lt = omega (arith, lt)
 
-    pub going_stops : (most used : ℕ) (rest : List Token) (end : ℕ) (f : ReadFault) → used < most → IsGoing o g ks found (most - used) rest → starts text_tokens ks rest ≡ true → Stops end (read g rest) f → Stops end o f
+    pub going_stops : (most used : ℕ) (rest : List Token) (end : ℕ) (f : ReadFault) → used < most → IsGoing o g ks found (most - used) rest
+        → starts text_tokens ks rest ≡ true → Stops end (read g rest) f → Stops end o f
     going_stops most used rest end f lt i e s =
         let j : IsGoing o g ks found (suc (most - (used + 1))) rest = subst (λ n. IsGoing o g ks found n rest) (one_less most used lt) i in
         stops_as end o _ f (one_round (most - (used + 1)) rest j e) (next_stops end _ _ f (next_stops end (read g rest) _ f s))
 
-    more_found : (x : A) (q : Outcome Token (List A)) → next (next q (λ xs end. Got (x ∷ xs) end)) (λ xs end. Got (found ++ xs) end) ≡ next q (λ xs end. Got ((found ++ x ∷ []) ++ xs) end)
+    more_found : (x : A) (q : Outcome Token (List A)) → next (next q (λ xs end. Got (x ∷ xs) end)) (λ xs end. Got (found ++ xs) end)
+        ≡ next q (λ xs end. Got ((found ++ x ∷ []) ++ xs) end)
     more_found x (Got xs end) = ap (λ d. Got d end) (sym (append_assoc found (x ∷ []) xs))
     more_found x (Failed flaw end) = refl
 
-    pub going_on : (most used : ℕ) (rest after : List Token) (x : A) (new : List A) → used < most → IsGoing o g ks found (most - used) rest → starts text_tokens ks rest ≡ true → Gives (read g rest) x after → new ≡ found ++ x ∷ [] → IsGoing o g ks new (most - (used + 1)) after
+    pub going_on : (most used : ℕ) (rest after : List Token) (x : A) (new : List A) → used < most → IsGoing o g ks found (most - used) rest
+        → starts text_tokens ks rest ≡ true → Gives (read g rest) x after → new ≡ found ++ x ∷ [] → IsGoing o g ks new (most - (used + 1)) after
     going_on most used rest after x new lt i e r n =
         let j : IsGoing o g ks found (suc (most - (used + 1))) rest = subst (λ n. IsGoing o g ks found n rest) (one_less most used lt) i in
         record {

@@ -2,7 +2,8 @@
 use Rattle.std.proofs.Common.{◌≡◌, ◌≢◌, ℕ, zero, suc, Bool, IsTrue, List, [], ◌∷◌, Option, Some, None, refl, sym, subst}
 use Rattle.std.specs.List.{slice_get}
 use Rattle.grammar.specs.Grammar.{is_in}
-use Rattle.grammar.proofs.Each.{Every, OfIt, Each, every_at, each_one, each_seq, each_either, each_maybe, each_many, each_made, each_headed, each_barred, each_as}
+use Rattle.grammar.proofs.Each.{Every, OfIt, Each, every_at, each_one, each_seq, each_either, each_maybe, each_many, each_made, each_headed, each_barred}
+use Rattle.grammar.proofs.Each.{each_as}
 use Rattle.sc_text.specs.declared.language.Language.TheVariants as language
 use Rattle.sc_text.specs.declared.token.TokenKind.{TokenKind}
 use Rattle.sc_text.specs.declared.token.TokenKind.TheVariants as token
@@ -25,7 +26,9 @@ use Rattle.chart_drafts.specs.declared.draft.DraftRegion.TheViews.{out-roll-Draf
 use Rattle.chart_drafts.specs.declared.draft.DraftState.{DraftState}
 use Rattle.chart_drafts.specs.declared.draft.DraftChart.{DraftChart}
 use Rattle.chart_drafts.specs.Draft.{tested_by, state_of, region_of, chart_of}
-use Rattle.chart_drafts.specs.ChartText.{Grows, name, last_name, declaration, placed, effect, next_effect, listed, some_effects, effects, trigger, deed, moment, termination, tested_words, tested, transition, leaving, Inner, NoMore, Nested, bare, inside, body, state, states, region, within, chart, chart_text}
+use Rattle.chart_drafts.specs.ChartText.{Grows, name, last_name, declaration, placed, effect, next_effect, listed, some_effects, effects, trigger, deed, moment}
+use Rattle.chart_drafts.specs.ChartText.{termination, tested_words, tested, transition, leaving, Inner, NoMore, Nested, bare, inside, body, state, states}
+use Rattle.chart_drafts.specs.ChartText.{region, within, chart, chart_text}
 use Rattle.chart_drafts.specs.Reading.{IsDraft}
 use Rattle.chart_drafts.specs.Shape.{IsWritable, IsTransitionShaped, IsStateShaped, IsRegionShaped, AreRegionsShaped, IsShaped}
 
@@ -152,21 +155,25 @@ module _ (e : Grows Phrase) (w : EachChart e CanWrite) where
   body_kept n i f =
       each_either _ _ _ _ (each_made _ _ _ _ _ (InsideShaped n) (each_any _) (λ t h. (none_shaped n, tt))) (each_after _ _ _ (inside_kept n i f))
 
-  state_shaped : (n : ℕ) (is_initial is_final : Bool) (called : Named) (x : List DraftRegion × List DraftTransition) → IsNamed called → InsideShaped n x → IsStateShaped (AreRegionsShaped n) (state_of is_initial is_final called x)
+  state_shaped : (n : ℕ) (is_initial is_final : Bool) (called : Named) (x : List DraftRegion × List DraftTransition) → IsNamed called → InsideShaped n x
+      → IsStateShaped (AreRegionsShaped n) (state_of is_initial is_final called x)
   state_shaped n is_initial is_final called x h i =
       let is = out-roll-DraftState (record { is_initial = is_initial; is_final = is_final; named = called; regions = x.0; transitions = x.1 }) in
       record {
         named = subst (λ s. IsNamed s.named) (sym is) h;
         regions = subst (λ s. AreRegionsShaped n s.regions) (sym is) i.0;
-        transitions = subst (λ s. (k : ℕ) (t : DraftTransition) → slice_get s.transitions k ≡ Some t → IsTransitionShaped t) (sym is) (every_at IsTransitionShaped x.1 i.1);
+        transitions = subst (λ s. (k : ℕ) (t : DraftTransition) → slice_get s.transitions k ≡ Some t → IsTransitionShaped t) (sym is)
+            (every_at IsTransitionShaped x.1 i.1);
       }
 
-  region_shaped : (n : ℕ) (called : Named) (inner : List DraftState) → IsNamed called → Every (IsStateShaped (AreRegionsShaped n)) inner → IsRegionShaped (AreRegionsShaped n) (region_of called inner)
+  region_shaped : (n : ℕ) (called : Named) (inner : List DraftState) → IsNamed called → Every (IsStateShaped (AreRegionsShaped n)) inner
+      → IsRegionShaped (AreRegionsShaped n) (region_of called inner)
   region_shaped n called inner h i =
       let is = out-roll-DraftRegion (record { named = called; states = inner }) in
       record {
         named = subst (λ r. IsNamed r.named) (sym is) h;
-        states = subst (λ r. (k : ℕ) (s : DraftState) → slice_get r.states k ≡ Some s → IsStateShaped (AreRegionsShaped n) s) (sym is) (every_at (IsStateShaped (AreRegionsShaped n)) inner i);
+        states = subst (λ r. (k : ℕ) (s : DraftState) → slice_get r.states k ≡ Some s → IsStateShaped (AreRegionsShaped n) s) (sym is)
+            (every_at (IsStateShaped (AreRegionsShaped n)) inner i);
       }
 
   state_kept : (n : ℕ) (i : Inner) → Fits n i → EachChart (state e i) (IsStateShaped (AreRegionsShaped n))

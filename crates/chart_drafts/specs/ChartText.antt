@@ -14,6 +14,7 @@ use Rattle.grammar.specs.Grammar.{Grammar, one, seq, either, maybe, many, made, 
 use Rattle.sc_values.specs.declared.value.Kind.{Kind}
 use Rattle.sc_graph.specs.declared.program.Role.{Role}
 use Rattle.core_charts.specs.declared.region.TransitionKind.{TransitionKind}
+use Rattle.core_charts.specs.Rules.{inner_depth_limit}
 use Rattle.sc_text.specs.declared.word.Word.{Word}
 use Rattle.sc_text.specs.declared.word.Word.TheVariants as word
 use Rattle.sc_text.specs.declared.sign.Sign.{Sign}
@@ -173,4 +174,4 @@ chart e inner =
 
 -- the texts of charts, with k more levels of parentheses and of regions than are allowed
 unfoldable pub chart_text : ℕ → Grows DraftChart
-chart_text k = chart (expression k) (within (expression k) (31 + k))
+chart_text k = chart (expression k) (within (expression k) (inner_depth_limit + k))

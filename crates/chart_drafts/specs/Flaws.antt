@@ -4,7 +4,7 @@ use Rattle.std.specs.Prelude.{ℕ, zero, suc, ◌+◌, nat_eq, Bool, true, false
 use Rattle.sc_values.specs.declared.value.Kind.TheVariants as kind
 use Rattle.sc_text.specs.declared.read_fault.Broken.TheVariants as broken
 use Rattle.drafts.specs.declared.flaw.Flaw.{Flaw}
-use Rattle.core_charts.specs.Rules.{fits_state, depth_limit}
+use Rattle.core_charts.specs.Rules.{depth_limit, effect_text_limit, fits_state, region_text_limit, state_text_limit, transition_text_limit}
 use Rattle.core_charts.specs.Tests.{is_join}
 use Rattle.drafts.specs.declared.parts.TextExpression.{TextExpression}
 use Rattle.drafts.specs.declared.parts.Declaration.{Declaration}
@@ -22,7 +22,7 @@ use Rattle.drafts.specs.Flaws.{assigned_flaws, flaw_if, is_full, is_among, varia
 abbrev pub effect_flaws : List Declaration → ℕ → List DraftEffect → List Flaw
 effect_flaws variables before [] = []
 effect_flaws variables before (e ∷ more) =
-    flaw_if (is_full 16 before) broken.Limit e.variable.at
+    flaw_if (is_full effect_text_limit before) broken.Limit e.variable.at
     ++ (assigned_flaws variables (variable_named variables e.variable.name) e.variable e.value ++ effect_flaws variables (before + 1) more)
 
 abbrev pub trigger_flaws : List Declaration → Option TextExpression → List Flaw
@@ -38,7 +38,7 @@ kind_flaws is_superstate is_behind_join t =
 abbrev pub transition_flaws : List Declaration → (states : List (List ℕ)) → (is_superstate is_behind_join : Bool) → ℕ → List DraftTransition → List Flaw
 transition_flaws variables states is_superstate is_behind_join before [] = []
 transition_flaws variables states is_superstate is_behind_join before (t ∷ more) =
-    flaw_if (is_full 64 before) broken.Limit t.at
+    flaw_if (is_full transition_text_limit before) broken.Limit t.at
     ++ (kind_flaws is_superstate is_behind_join t
     ++ (trigger_flaws variables t.trigger
     ++ (effect_flaws variables 0 t.effects
@@ -60,14 +60,15 @@ region_names regions = map (λ r. (out-DraftRegion r).named.name) regions
 -- a final state has neither regions nor transitions
 abbrev pub final_flaws : DraftState → List Flaw
 final_flaws s =
-    flaw_if ((out-DraftState s).is_final && (is_filled (out-DraftState s).regions || is_filled (out-DraftState s).transitions)) broken.Rule (out-DraftState s).named.at
+    flaw_if ((out-DraftState s).is_final && (is_filled (out-DraftState s).regions || is_filled (out-DraftState s).transitions)) broken.Rule
+    (out-DraftState s).named.at
 
 -- the states of a region from this place on, whose own regions have these flaws; `names` are those of all its states
 abbrev pub state_flaws : List Declaration → (List DraftRegion → List Flaw) → (names : List (List ℕ)) → (at : ℕ) → List DraftState → List Flaw
 state_flaws variables inside names at [] = []
 state_flaws variables inside names at (s ∷ more) =
     flaw_if (is_repeated names at (out-DraftState s).named.name) broken.Repeated (out-DraftState s).named.at
-    ++ (flaw_if (is_full 256 at) broken.Limit (out-DraftState s).named.at
+    ++ (flaw_if (is_full state_text_limit at) broken.Limit (out-DraftState s).named.at
     ++ (final_flaws s
     ++ (transition_flaws variables names (is_filled (out-DraftState s).regions) false 0 (out-DraftState s).transitions
     ++ (inside (out-DraftState s).regions ++ state_flaws variables inside names (at + 1) more))))
@@ -82,7 +83,7 @@ abbrev pub region_flaws : List Declaration → (List DraftRegion → List Flaw) 
 region_flaws variables inside names at [] = []
 region_flaws variables inside names at (r ∷ more) =
     flaw_if (is_repeated names at (out-DraftRegion r).named.name) broken.Repeated (out-DraftRegion r).named.at
-    ++ (flaw_if (is_full 63 at) broken.Limit (out-DraftRegion r).named.at
+    ++ (flaw_if (is_full region_text_limit at) broken.Limit (out-DraftRegion r).named.at
     ++ (initial_flaws r
     ++ (state_flaws variables inside (state_names (out-DraftRegion r).states) 0 (out-DraftRegion r).states
     ++ region_flaws variables inside names (at + 1) more)))

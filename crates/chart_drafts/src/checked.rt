@@ -1,6 +1,7 @@
-//! Reading a chart, and telling the first flaw of its draft.
+//! Reading a chart, and telling the flaws of its draft.
 
-ghost use Rattle.std.specs.Prelude.{◌≡◌, None, IfOk, IfErr};
+ghost use Rattle.std.specs.Prelude.{◌≡◌, None, IfOk, IfErr, slice_get};
+ghost use Rattle.drafts.specs.Told.{told_of};
 ghost use Rattle.drafts.specs.Inside.{first_behind};
 ghost use Rattle.chart_drafts.specs.Flaws.{chart_flaws};
 ghost use Rattle.chart_drafts.specs.Checked.{IsSound, IsTextFault};
@@ -11,6 +12,7 @@ use crate::whole::read_draft;
 use core_charts::DEPTH_LIMIT;
 use drafts::{Flaw, Scope};
 use sc_text::ReadFault;
+use sqlite_items::Items;
 use std::alloc::{AllocError, Global};
 
 /// The draft of a text that spells a chart without flaws. Err: the fault of a text that has no draft, as `read_draft`
@@ -27,13 +29,31 @@ pub fn read_checked(alloc: Global, text: &str) -> Result<DraftChart, ReadFault>
     }
 }
 
+#[tactic(auto, using(drafts::proofs::ToldInOrder::first_is))]
 fn first_flaw(alloc: Global, draft: &DraftChart) -> Result<Option<Flaw>, AllocError>
     ensures { IfOk result (λ first. first ≡ first_behind None (chart_flaws draft.now)) }
 {
+    let told = told_flaws(alloc, draft)?;
+    Ok(first_of(told.as_slice()))
+}
+
+fn first_of(told: &[Flaw]) -> Option<Flaw>
+    ensures { result ≡ slice_get told.now 0 }
+{
+    match told {
+        [] => None,
+        [first, ..] => Some(*first),
+    }
+}
+
+/// The flaws of a draft that are told: the first twenty, in the order of the text. Err: memory was refused.
+pub fn told_flaws(alloc: Global, draft: &DraftChart) -> Result<Items<Flaw>, AllocError>
+    ensures { IfOk result (λ told. told ≡ told_of (chart_flaws draft.now)) }
+{
     let scope = Scope::of(alloc, draft.variables.as_slice())?;
-    let mut first = None;
-    scope.declarations(&mut first);
+    let mut found = Items::new(alloc);
+    scope.tell_declarations(alloc, &mut found)?;
     let regions = draft.regions.as_slice();
-    region_flaws(alloc, &scope, DEPTH_LIMIT, regions, &mut first)?;
-    Ok(first)
+    region_flaws(alloc, &scope, DEPTH_LIMIT, regions, &mut found)?;
+    Ok(found)
 }

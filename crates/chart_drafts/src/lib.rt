@@ -13,7 +13,7 @@ mod transitions;
 mod whole;
 mod words;
 
-pub use checked::read_checked;
+pub use checked::{read_checked, told_flaws};
 pub use draft::{DraftChart, DraftEffect, DraftRegion, DraftState, DraftTransition};
 pub use laws::{chart_drafts_are_shaped, chart_texts_are_told};
 pub use region_flaws::state_names;

@@ -2,8 +2,9 @@
 
 ghost use Rattle.std.specs.Prelude.{◌≡◌, [], OnOk, IfOk, false, count_by};
 ghost use Rattle.sc_text.specs.declared.read_fault.Broken.TheVariants as broken;
+ghost use Rattle.core_charts.specs.Rules.{state_text_limit};
 ghost use Rattle.drafts.specs.Flaws.{flaw_if, is_full, is_repeated};
-ghost use Rattle.drafts.specs.Inside.{first_behind};
+ghost use Rattle.drafts.specs.Told.{told_behind};
 ghost use Rattle.chart_drafts.specs.declared.draft.DraftRegion.TheViews.{out-DraftRegion, out-DraftState};
 ghost use Rattle.chart_drafts.specs.Flaws.{is_filled, final_flaws, transition_flaws, state_names, state_flaws};
 ghost use Rattle.chart_drafts.specs.Flaws.{initial_flaws, region_names, nested_flaws};
@@ -12,13 +13,13 @@ use crate::draft::{DraftRegion, DraftState};
 use crate::names::Names;
 use crate::transition_flaws::transition_flaws;
 use core_charts::{REGION_LIMIT, STATE_LIMIT};
-use drafts::{Flaw, Scope, is_full, note_if};
+use drafts::{Flaw, Scope, is_full, note_told};
 use sc_text::Broken;
 use sc_values::Name;
 use sqlite_items::Items;
 use std::alloc::{AllocError, Global};
 
-/// Notes the flaws of the regions of one superstate, which nest so many levels deep at most. Err: memory was
+/// Tells the flaws of the regions of one superstate, which nest so many levels deep at most. Err: memory was
 /// refused.
 #[cycle(flaws)]
 #[tactic(auto, using(crate::proofs::Flawed::nested_past, crate::proofs::Flawed::nested_is, crate::proofs::Flawed::regions_over))]
@@ -27,29 +28,29 @@ pub(crate) fn region_flaws(
     scope: &Scope,
     levels: u8,
     regions: &[DraftRegion],
-    first: &mut Option<Flaw>,
+    found: &mut Items<Flaw>,
 ) -> Result<(), AllocError>
-    ensures { OnOk result (first.new ≡ first_behind first.old
+    ensures { OnOk result (found.new ≡ told_behind found.old
         (nested_flaws scope.now.variables.now levels regions.now)) }
 {
     if levels == 0 {
-        deeper_flaws(regions, first);
-        return Ok(());
+        return deeper_flaws(alloc, regions, found);
     }
     let names = Names::of(alloc, region_names(alloc, regions)?)?;
     for (at, region) in regions.iter().enumerate() {
         let named = region.named;
         let is_repeated = names.is_repeated(at, named.name);
-        note_if(first, is_repeated, Broken::Repeated, named.at);
-        note_if(first, is_full(REGION_LIMIT, at), Broken::Limit, named.at);
-        initial_flaws(region, first);
+        note_told(alloc, found, is_repeated, Broken::Repeated, named.at)?;
+        let is_past = is_full(REGION_LIMIT, at);
+        note_told(alloc, found, is_past, Broken::Limit, named.at)?;
+        initial_flaws(alloc, region, found)?;
         let states = region.states.as_slice();
-        state_flaws(alloc, scope, levels - 1, states, first)?;
+        state_flaws(alloc, scope, levels - 1, states, found)?;
     }
     Ok(())
 }
 
-// Notes the flaws of the states of a region, whose own regions nest so many levels deep at most.
+// Tells the flaws of the states of a region, whose own regions nest so many levels deep at most.
 #[cycle(flaws)]
 #[tactic(auto, using(crate::proofs::Flawed::states_over))]
 fn state_flaws(
@@ -57,55 +58,62 @@ fn state_flaws(
     scope: &Scope,
     levels: u8,
     states: &[DraftState],
-    first: &mut Option<Flaw>,
+    found: &mut Items<Flaw>,
 ) -> Result<(), AllocError>
-    ensures { OnOk result (first.new ≡ first_behind first.old
+    ensures { OnOk result (found.new ≡ told_behind found.old
         (state_flaws scope.now.variables.now (nested_flaws scope.now.variables.now levels)
         (state_names states.now) 0 states.now)) }
 {
     let names = Names::of(alloc, state_names(alloc, states)?)?;
     for (at, state) in states.iter().enumerate() {
-        place_flaws(&names, at, state, first);
-        final_flaws(state, first);
-        own_transition_flaws(alloc, scope, &names, state, first)?;
-        region_flaws(alloc, scope, levels, state.regions.as_slice(), first)?;
+        place_flaws(alloc, &names, at, state, found)?;
+        final_flaws(alloc, state, found)?;
+        own_transition_flaws(alloc, scope, &names, state, found)?;
+        region_flaws(alloc, scope, levels, state.regions.as_slice(), found)?;
     }
     Ok(())
 }
 
 // The flaws of regions where none may stand.
-fn deeper_flaws(regions: &[DraftRegion], first: &mut Option<Flaw>)
-    ensures { first.new ≡ first_behind first.old (nested_flaws [] 0 regions.now) }
+fn deeper_flaws(
+    alloc: Global,
+    regions: &[DraftRegion],
+    found: &mut Items<Flaw>,
+) -> Result<(), AllocError>
+    ensures { OnOk result (found.new ≡ told_behind found.old (nested_flaws [] 0 regions.now)) }
 {
     match regions {
-        [] => {}
-        [region, ..] => note_if(first, true, Broken::Limit, region.named.at),
+        [] => Ok(()),
+        [region, ..] => note_told(alloc, found, true, Broken::Limit, region.named.at),
     }
 }
 
 // The flaws of a state by its place among the states of its region, which have these names.
-fn place_flaws(names: &Names, at: usize, state: &DraftState, first: &mut Option<Flaw>)
-    ensures { first.new ≡ first_behind (first_behind first.old
+fn place_flaws(
+    alloc: Global,
+    names: &Names,
+    at: usize,
+    state: &DraftState,
+    found: &mut Items<Flaw>,
+) -> Result<(), AllocError>
+    ensures { OnOk result (found.new ≡ told_behind (told_behind found.old
         (flaw_if (is_repeated names.now.names at (out-DraftState state.now).named.name) broken.Repeated
         (out-DraftState state.now).named.at))
-        (flaw_if (is_full 256 at) broken.Limit (out-DraftState state.now).named.at) }
+        (flaw_if (is_full state_text_limit at) broken.Limit (out-DraftState state.now).named.at)) }
 {
     let named = state.named;
     let is_repeated = names.is_repeated(at, named.name);
-    note_if(first, is_repeated, Broken::Repeated, named.at);
-    note_if(first, is_full(STATE_LIMIT, at), Broken::Limit, named.at);
+    note_told(alloc, found, is_repeated, Broken::Repeated, named.at)?;
+    let is_past = is_full(STATE_LIMIT, at);
+    note_told(alloc, found, is_past, Broken::Limit, named.at)
 }
 
-fn final_flaws(state: &DraftState, first: &mut Option<Flaw>)
-    ensures { first.new ≡ first_behind first.old (final_flaws state.now) }
+fn final_flaws(alloc: Global, state: &DraftState, found: &mut Items<Flaw>) -> Result<(), AllocError>
+    ensures { OnOk result (found.new ≡ told_behind found.old (final_flaws state.now)) }
 {
     let is_bare = state.regions.is_empty() && state.transitions.is_empty();
-    note_if(
-        first,
-        state.is_final && !is_bare,
-        Broken::Rule,
-        state.named.at,
-    );
+    let is_broken = state.is_final && !is_bare;
+    note_told(alloc, found, is_broken, Broken::Rule, state.named.at)
 }
 
 fn own_transition_flaws(
@@ -113,9 +121,9 @@ fn own_transition_flaws(
     scope: &Scope,
     names: &Names,
     state: &DraftState,
-    first: &mut Option<Flaw>,
+    found: &mut Items<Flaw>,
 ) -> Result<(), AllocError>
-    ensures { OnOk result (first.new ≡ first_behind first.old
+    ensures { OnOk result (found.new ≡ told_behind found.old
         (transition_flaws scope.now.variables.now names.now.names (is_filled (out-DraftState state.now).regions) false 0
         (out-DraftState state.now).transitions)) }
 {
@@ -126,16 +134,20 @@ fn own_transition_flaws(
         names,
         is_superstate,
         state.transitions.as_slice(),
-        first,
+        found,
     )
 }
 
 // A region has exactly one initial state.
-fn initial_flaws(region: &DraftRegion, first: &mut Option<Flaw>)
-    ensures { first.new ≡ first_behind first.old (initial_flaws region.now) }
+fn initial_flaws(
+    alloc: Global,
+    region: &DraftRegion,
+    found: &mut Items<Flaw>,
+) -> Result<(), AllocError>
+    ensures { OnOk result (found.new ≡ told_behind found.old (initial_flaws region.now)) }
 {
     let count = initial_count(region.states.as_slice());
-    note_if(first, count != 1, Broken::Rule, region.named.at);
+    note_told(alloc, found, count != 1, Broken::Rule, region.named.at)
 }
 
 fn initial_count(states: &[DraftState]) -> usize

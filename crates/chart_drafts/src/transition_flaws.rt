@@ -3,18 +3,19 @@
 ghost use Rattle.std.specs.Prelude.{◌≡◌, ◌||◌, OnOk, false};
 ghost use Rattle.core_charts.specs.Rules.{fits_state};
 ghost use Rattle.core_charts.specs.Tests.{is_join};
-ghost use Rattle.drafts.specs.Inside.{first_behind};
+ghost use Rattle.drafts.specs.Told.{told_behind};
 ghost use Rattle.chart_drafts.specs.Flaws.{effect_flaws, trigger_flaws, kind_flaws, transition_flaws};
 
 use crate::draft::{DraftEffect, DraftTransition};
 use crate::names::Names;
 use core_charts::{EFFECT_LIMIT, TRANSITION_LIMIT, TransitionKind};
-use drafts::{Flaw, Scope, is_full, note_if};
+use drafts::{Flaw, Scope, is_full, note_told};
 use sc_text::Broken;
 use sc_values::Kind;
+use sqlite_items::Items;
 use std::alloc::{AllocError, Global};
 
-/// Notes the flaws of the transitions of a state, a superstate or a simple one, of a region with these states. Err:
+/// Tells the flaws of the transitions of a state, a superstate or a simple one, of a region with these states. Err:
 /// memory was refused.
 #[tactic(auto, using(crate::proofs::Flawed::transitions_over))]
 pub(crate) fn transition_flaws(
@@ -23,24 +24,26 @@ pub(crate) fn transition_flaws(
     states: &Names,
     is_superstate: bool,
     transitions: &[DraftTransition],
-    first: &mut Option<Flaw>,
+    found: &mut Items<Flaw>,
 ) -> Result<(), AllocError>
-    ensures { OnOk result (first.new ≡ first_behind first.old
+    ensures { OnOk result (found.new ≡ told_behind found.old
         (transition_flaws scope.now.variables.now states.now.names is_superstate false 0 transitions.now)) }
 {
     let mut is_behind_join = false;
     for (at, transition) in transitions.iter().enumerate() {
-        note_if(
-            first,
-            is_full(TRANSITION_LIMIT, at),
-            Broken::Limit,
-            transition.at,
-        );
-        kind_flaws(is_superstate, is_behind_join, transition, first);
-        trigger_flaws(alloc, scope, transition, first)?;
-        effect_flaws(alloc, scope, transition.effects.as_slice(), first)?;
+        let is_past = is_full(TRANSITION_LIMIT, at);
+        note_told(alloc, found, is_past, Broken::Limit, transition.at)?;
+        kind_flaws(alloc, is_superstate, is_behind_join, transition, found)?;
+        trigger_flaws(alloc, scope, transition, found)?;
+        effect_flaws(alloc, scope, transition.effects.as_slice(), found)?;
         let is_unknown = !states.has(transition.target.name);
-        note_if(first, is_unknown, Broken::Unknown, transition.target.at);
+        note_told(
+            alloc,
+            found,
+            is_unknown,
+            Broken::Unknown,
+            transition.target.at,
+        )?;
         is_behind_join = is_past_join(is_behind_join, transition);
     }
     Ok(())
@@ -54,16 +57,18 @@ fn is_past_join(is_behind_join: bool, transition: &DraftTransition) -> bool
 }
 
 fn kind_flaws(
+    alloc: Global,
     is_superstate: bool,
     is_behind_join: bool,
     transition: &DraftTransition,
-    first: &mut Option<Flaw>,
-)
-    ensures { first.new ≡ first_behind first.old (kind_flaws is_superstate is_behind_join transition.now) }
+    found: &mut Items<Flaw>,
+) -> Result<(), AllocError>
+    ensures { OnOk result (found.new ≡ told_behind found.old
+        (kind_flaws is_superstate is_behind_join transition.now)) }
 {
     let is_second = transition.kind.is_join() && is_behind_join;
     let is_broken = !fits_state(is_superstate, transition.kind) || is_second;
-    note_if(first, is_broken, Broken::Rule, transition.at);
+    note_told(alloc, found, is_broken, Broken::Rule, transition.at)
 }
 
 // Simple states have transitions by `go`, superstates aborts and terminations.
@@ -80,13 +85,13 @@ fn trigger_flaws(
     alloc: Global,
     scope: &Scope,
     transition: &DraftTransition,
-    first: &mut Option<Flaw>,
+    found: &mut Items<Flaw>,
 ) -> Result<(), AllocError>
-    ensures { OnOk result (first.new ≡ first_behind first.old
+    ensures { OnOk result (found.new ≡ told_behind found.old
         (trigger_flaws scope.now.variables.now transition.now.trigger)) }
 {
     match &transition.trigger {
-        Some(trigger) => scope.expression(alloc, Some(Kind::Bool), trigger, first),
+        Some(trigger) => scope.tell_expression(alloc, Some(Kind::Bool), trigger, found),
         None => Ok(()),
     }
 }
@@ -96,18 +101,14 @@ fn effect_flaws(
     alloc: Global,
     scope: &Scope,
     effects: &[DraftEffect],
-    first: &mut Option<Flaw>,
+    found: &mut Items<Flaw>,
 ) -> Result<(), AllocError>
-    ensures { OnOk result (first.new ≡ first_behind first.old (effect_flaws scope.now.variables.now 0 effects.now)) }
+    ensures { OnOk result (found.new ≡ told_behind found.old (effect_flaws scope.now.variables.now 0 effects.now)) }
 {
     for (at, effect) in effects.iter().enumerate() {
-        note_if(
-            first,
-            is_full(EFFECT_LIMIT, at),
-            Broken::Limit,
-            effect.variable.at,
-        );
-        scope.assignment(alloc, effect.variable, &effect.value, first)?;
+        let is_past = is_full(EFFECT_LIMIT, at);
+        note_told(alloc, found, is_past, Broken::Limit, effect.variable.at)?;
+        scope.tell_assignment(alloc, effect.variable, &effect.value, found)?;
     }
     Ok(())
 }

@@ -102,7 +102,8 @@ within_right : (left right : List Statement) (all : List (List ℕ)) → Within 
 within_right left right all h name is =
     h name (subst (λ p. IsTrue (is_in p.labels name)) (sym (row_append left right)) (is_in_right (row left).labels (row right).labels name is))
 
-one_more_there : (n : ℕ) (ns : List ℕ) (all : List (List ℕ)) → IsTrue (is_in all (label_name n)) → Within (map label_name ns) all → Within (label_name n ∷ map label_name ns) all
+one_more_there : (n : ℕ) (ns : List ℕ) (all : List (List ℕ)) → IsTrue (is_in all (label_name n)) → Within (map label_name ns) all
+    → Within (label_name n ∷ map label_name ns) all
 one_more_there n ns all here others name is =
     elim (or_cases (bytes_eq (label_name n) name) (is_in (map label_name ns) name) is) [
       | inl same ↦ subst (λ l. IsTrue (is_in all l)) (same_name (label_name n) name same) here

@@ -1,5 +1,6 @@
 -- Transitions and states, as pieces of a thread's text.
-use Rattle.std.proofs.Common.{◌≡◌, ℕ, zero, suc, ◌+◌, ◌≤◌, inl, inr, Bool, true, false, IsTrue, if◌then◌else◌, Option, Some, None, List, [], ◌∷◌, ◌++◌, map, length, slice_get, unwrap_or, refl, ap, sym, subst, arith}
+use Rattle.std.proofs.Common.{◌≡◌, ℕ, zero, suc, ◌+◌, ◌≤◌, inl, inr, Bool, true, false, IsTrue, if◌then◌else◌, Option, Some, None, List, [], ◌∷◌, ◌++◌, map}
+use Rattle.std.proofs.Common.{length, slice_get, unwrap_or, refl, ap, sym, subst, arith}
 use Rattle.std.specs.Str.{bytes_eq}
 use Rattle.sc_values.specs.declared.expression.Expr.{Expr}
 use Rattle.sc_values.specs.declared.value.Kind.TheVariants as kind_is
@@ -16,9 +17,11 @@ use Rattle.core_charts.specs.Rules.{IsEffect, kinds_of}
 use Rattle.core_charts.specs.Tests.{at_once, terminations}
 use Rattle.sc_text.proofs.EachItem.{Each}
 use Rattle.chart_lowering.specs.declared.targets.Targets.{Targets}
-use Rattle.chart_lowering.specs.Lowering.{label_name, label, goto, label_at, assignment, taken, tested, transitions, is_sure, leaves_surely, RegionPiece, labels_in, labels_of_simple, branches, depth, simple, final, behind, superstate, labels_behind}
+use Rattle.chart_lowering.specs.Lowering.{label_name, label, goto, label_at, assignment, taken, tested, transitions, is_sure, leaves_surely, RegionPiece}
+use Rattle.chart_lowering.specs.Lowering.{labels_in, labels_of_simple, branches, depth, simple, final, behind, superstate, labels_behind}
 use Rattle.chart_lowering.proofs.Parts.{part_of_assign, part_of_label, part_of_goto, part_of_pause, part_of_if, part_of_fork, row, row_append}
-use Rattle.chart_lowering.proofs.Pieces.{IsPiece, or_left, or_right, or_cases, name_itself, both_pieces, empty_piece, label_piece, goto_piece, assign_piece, if_piece, fork_piece, widened, narrowed}
+use Rattle.chart_lowering.proofs.Pieces.{IsPiece, or_left, or_right, or_cases, name_itself, both_pieces, empty_piece, label_piece, goto_piece, assign_piece}
+use Rattle.chart_lowering.proofs.Pieces.{if_piece, fork_piece, widened, narrowed}
 
 -- a statement, and behind it a text whose labels have the next numbers
 pub first_piece : (variables : List Variable) (targets : List (List ℕ)) (deep most from m n mid size : ℕ) (s : Statement) (rest : List Statement) (p : Part)
@@ -108,7 +111,8 @@ tested_piece variables targets deep from size (Some e) does rest surely h a b =
     (omega arith) (omega arith) (part_of_if e does [])
     (if_piece variables targets deep from e (map part_of does) (h e refl) a) b
 
-pub transitions_piece : (variables : List Variable) (targets : List (List ℕ)) (deep from size : ℕ) (at : Targets) (all : List Transition) (rest : List Statement)
+pub transitions_piece : (variables : List Variable) (targets : List (List ℕ)) (deep from size : ℕ) (at : Targets) (all : List Transition)
+    (rest : List Statement)
     → ((place : ℕ) → IsTrue (is_in targets (label_at at place))) → Each (IsTaken variables) all
     → IsPiece variables targets deep 1 from size (row rest)
     → IsPiece variables targets deep 1 from (if leaves_surely all then 0 else size) (row (transitions at all rest))
@@ -210,7 +214,9 @@ pub superstate_piece : (variables : List Variable) (deep n : ℕ) (at : Targets)
 superstate_piece variables deep n at regions all some few h k =
     let last : ℕ = labels_behind (terminations all) in
     let rest : List Statement = behind at (terminations all) (suc n + labels_in regions) in
-    label_first variables (targets_of at) (suc deep) n (labels_in regions + last) (suc (labels_in regions + last)) (statement.Fork (branches regions (suc n)) ∷ rest) (omega arith)
-    (subst (λ m. IsPiece variables (targets_of at) (suc deep) 1 m (labels_in regions + last) (row (statement.Fork (branches regions (suc n)) ∷ rest))) (omega arith)
+    label_first variables (targets_of at) (suc deep) n (labels_in regions + last) (suc (labels_in regions + last))
+    (statement.Fork (branches regions (suc n)) ∷ rest) (omega arith)
+    (subst (λ m. IsPiece variables (targets_of at) (suc deep) 1 m (labels_in regions + last) (row (statement.Fork (branches regions (suc n)) ∷ rest)))
+    (omega arith)
     (fork_row variables (targets_of at) deep (suc n) last (suc n + labels_in regions) (labels_in regions + last) regions rest refl refl some few h
     (behind_piece variables (suc deep) (suc n + labels_in regions) at (terminations all) k)))

@@ -120,7 +120,8 @@ final_first : root (region (initial final ∷ []) ∷ []) ≡
 final_first = refl
 
 -- a simple state: the immediate transitions stand on its surface, all of them in its depth, in their order
-surface_and_depth : (a b c e : Expr) → root (region (initial (simple (go (Some a) [] 0 ∷ at_once (go (Some b) (put 2 e ∷ put 3 e ∷ []) 0) ∷ at_once (go (Some c) [] 0) ∷ [])) ∷ []) ∷ []) ≡
+surface_and_depth : (a b c e : Expr)
+    → root (region (initial (simple (go (Some a) [] 0 ∷ at_once (go (Some b) (put 2 e ∷ put 3 e ∷ []) 0) ∷ at_once (go (Some c) [] 0) ∷ [])) ∷ []) ∷ []) ≡
     Fork
     ((label 1
     ∷ If b (Assign 2 e ∷ Assign 3 e ∷ goto 1 ∷ []) []
@@ -153,7 +154,9 @@ sure_depth : (a b e : Expr) → root (region (initial (simple (go (Some a) [] 0 
 sure_depth a b e = refl
 
 -- and behind an immediate one neither the second label nor the pause and the depth
-sure_surface : (a b e : Expr) → root (region (initial (simple (go (Some a) [] 0 ∷ at_once (go (Some b) [] 0) ∷ at_once (go None (put 2 e ∷ []) 1) ∷ at_once (go (Some a) [] 0) ∷ [])) ∷ final ∷ []) ∷ []) ≡
+sure_surface : (a b e : Expr)
+    → root (region (initial
+    (simple (go (Some a) [] 0 ∷ at_once (go (Some b) [] 0) ∷ at_once (go None (put 2 e ∷ []) 1) ∷ at_once (go (Some a) [] 0) ∷ [])) ∷ final ∷ []) ∷ []) ≡
     Fork
     ((label 1
     ∷ If b (goto 1 ∷ []) []
@@ -186,7 +189,9 @@ join_effects e = refl
 
 -- superstates three deep, the innermost without a termination; the chart's second region goes on with the numbers
 three_deep : (e : Expr) → root
-    (region (initial (superstate (region (initial (superstate (region (initial (superstate (region (initial final ∷ []) ∷ []) []) ∷ []) ∷ []) (join [] 0 ∷ [])) ∷ []) ∷ []) (join [] 0 ∷ [])) ∷ [])
+    (region (initial (superstate
+    (region (initial (superstate (region (initial (superstate (region (initial final ∷ []) ∷ []) []) ∷ []) ∷ []) (join [] 0 ∷ [])) ∷ []) ∷ [])
+    (join [] 0 ∷ [])) ∷ [])
     ∷ region (initial final ∷ [])
     ∷ []) ≡
     Fork

@@ -45,7 +45,8 @@ one_once n = record {
 }
 
 -- two ranges side by side
-pub both_once : (from m n : ℕ) (mid size : ℕ) (c d e : ℕ → ℕ) → mid ≡ from + m → size ≡ m + n → Once from m c → Once mid n d → ((k : ℕ) → e k ≡ c k + d k) → Once from size e
+pub both_once : (from m n : ℕ) (mid size : ℕ) (c d e : ℕ → ℕ) → mid ≡ from + m → size ≡ m + n → Once from m c → Once mid n d → ((k : ℕ) → e k ≡ c k + d k)
+    → Once from size e
 both_once from m n mid size c d e is_mid is_size left right sum = record {
   before = λ k lt. omega (arith, sum k, left.before k lt, right.before k (omega (arith, lt, is_mid)));
   behind = λ k le. omega (arith, sum k, left.behind k (omega (arith, le, is_size)), right.behind k (omega (arith, le, is_mid, is_size)));

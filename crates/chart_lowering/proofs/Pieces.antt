@@ -1,5 +1,6 @@
 -- What is known of a piece of a thread's text, and how pieces come together.
-use Rattle.std.proofs.Common.{◌≡◌, ℕ, suc, ◌+◌, ◌≤◌, max, ◌⊎◌, inl, inr, Bool, true, false, not, ◌||◌, IsTrue, List, [], ◌∷◌, ◌++◌, map, length, refl, ap, sym, subst, ◌∙◌, arith}
+use Rattle.std.proofs.Common.{◌≡◌, ℕ, suc, ◌+◌, ◌≤◌, max, ◌⊎◌, inl, inr, Bool, true, false, not, ◌||◌, IsTrue, List, [], ◌∷◌, ◌++◌, map, length, refl, ap, sym}
+use Rattle.std.proofs.Common.{subst, ◌∙◌, arith}
 use Rattle.std.specs.List.{filter}
 use Rattle.std.specs.Str.{bytes_eq}
 use Rattle.sc_values.specs.declared.expression.Expr.{Expr}
@@ -253,7 +254,8 @@ pub if_piece : (variables : List Variable) (targets : List (List ℕ)) (deep fro
     → IsPiece variables targets deep 0 from 0 (in_row does)
     → IsPiece variables targets deep 1 from 0 (part (text.If e does []))
 if_piece variables targets deep from e does test a =
-    let both : IsPiece variables targets deep 0 from 0 (both (in_row does) nothing) = both_pieces variables targets deep 0 from 0 0 from 0 (in_row does) nothing (omega arith) (omega arith) a (empty_piece variables targets deep 0 from) in
+    let both : IsPiece variables targets deep 0 from 0 (both (in_row does) nothing) = both_pieces variables targets deep 0 from 0 0 from 0 (in_row does) nothing
+    (omega arith) (omega arith) a (empty_piece variables targets deep 0 from) in
     record {
       own = both.own;
       below = both.below;

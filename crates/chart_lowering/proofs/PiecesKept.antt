@@ -15,7 +15,8 @@ use Rattle.core_charts.specs.declared.region.Region.TheFolds.{fold_out-Region, f
 use Rattle.core_charts.specs.Rules.{IsEffect, IsTransition, IsState, IsRegion, AreRegions, has_regions, region_limit}
 use Rattle.core_charts.specs.Tests.{at_once, is_join, terminations}
 use Rattle.sc_text.proofs.EachItem.{Each, each_of}
-use Rattle.chart_lowering.specs.Lowering.{branches, transitions, depth, behind, labels_in, RegionPiece, StatePiece, text_of, labels_of, region_piece, state_piece, piece_of_region, piece_of_state}
+use Rattle.chart_lowering.specs.Lowering.{branches, transitions, depth, behind, labels_in, RegionPiece, StatePiece, text_of, labels_of, region_piece}
+use Rattle.chart_lowering.specs.Lowering.{state_piece, piece_of_region, piece_of_state}
 use Rattle.chart_lowering.proofs.Inside.{IsTaken, IsBody, begins_with, simple_piece, final_piece, superstate_piece}
 use Rattle.chart_lowering.proofs.Bodies.{IsText, initial_count, body_is_piece}
 
@@ -76,7 +77,8 @@ state_text variables (suc levels) is_initial false (r ∷ regions) all inner h =
     }
 
 -- a state whose regions keep their rules
-state_is_text : (f : Features) (variables : List Variable) (levels : ℕ) → ((regions : List Region) → AreRegions f variables levels regions → AreInner variables levels regions)
+state_is_text : (f : Features) (variables : List Variable) (levels : ℕ)
+    → ((regions : List Region) → AreRegions f variables levels regions → AreInner variables levels regions)
     → (n : ℕ) (s : State) → IsState f variables (AreRegions f variables levels) n s → IsText variables levels (piece_of_state s)
 state_is_text f variables levels inner n s h =
     subst (IsText variables levels) (sym (fold_out-State RegionPiece StatePiece region_piece state_piece s))
@@ -91,7 +93,8 @@ same_initial : (s : State) → (piece_of_state s).is_initial ≡ (out-State s).i
 same_initial s = ap (λ p. p.is_initial) (fold_out-State RegionPiece StatePiece region_piece state_piece s)
 
 initial_step : (s : State) (states : List State)
-    → initial_count (map piece_of_state (s ∷ states)) ≡ cond (out-State s).is_initial (1 + initial_count (map piece_of_state states)) (initial_count (map piece_of_state states))
+    → initial_count (map piece_of_state (s ∷ states)) ≡ cond (out-State s).is_initial (1 + initial_count (map piece_of_state states))
+    (initial_count (map piece_of_state states))
 initial_step s states = rw (same_initial s) refl
 
 one_initial : (states : List State) → count_by (λ s. (out-State s).is_initial) states ≡ 1 → initial_count (map piece_of_state states) ≡ 1
@@ -99,7 +102,8 @@ one_initial states one =
     is_count_by (λ xs. initial_count (map piece_of_state xs)) (λ s. (out-State s).is_initial) refl initial_step states ∙ one
 
 -- a region whose states keep their rules
-region_is_body : (f : Features) (variables : List Variable) (levels : ℕ) → ((regions : List Region) → AreRegions f variables levels regions → AreInner variables levels regions)
+region_is_body : (f : Features) (variables : List Variable) (levels : ℕ)
+    → ((regions : List Region) → AreRegions f variables levels regions → AreInner variables levels regions)
     → (r : Region) → IsRegion f variables (AreRegions f variables levels) r → IsBody variables levels (piece_of_region r)
 region_is_body f variables levels inner r h =
     let states : List State = (out-Region r).states in
@@ -108,7 +112,8 @@ region_is_body f variables levels inner r h =
       piece = λ targets n.
           body_is_piece variables levels (map piece_of_state states)
           (each_mapped (IsText variables levels) piece_of_state states
-          (each_of (λ s. IsText variables levels (piece_of_state s)) states (λ i s at. state_is_text f variables levels inner (length states) s (h.states i s at))))
+          (each_of (λ s. IsText variables levels (piece_of_state s)) states
+          (λ i s at. state_is_text f variables levels inner (length states) s (h.states i s at))))
           (one_initial states h.one_initial) targets n;
     })
 
@@ -116,7 +121,8 @@ few_regions : (f : Features) (n : ℕ) → n ≤ region_limit f → n ≤ child_
 few_regions features.Extended n h = omega (arith, h)
 few_regions features.Core n h = h
 
-pub inner : (f : Features) (variables : List Variable) (levels : ℕ) (regions : List Region) → AreRegions f variables levels regions → AreInner variables levels regions
+pub inner : (f : Features) (variables : List Variable) (levels : ℕ) (regions : List Region) → AreRegions f variables levels regions
+    → AreInner variables levels regions
 inner f variables zero regions h = h
 inner f variables (suc levels) regions h = (
   few_regions f (length regions) h.count,

@@ -3,7 +3,8 @@ use Rattle.std.proofs.Common.{◌≡◌, ℕ, suc, ◌+◌, map, ap}
 use Rattle.core_charts.specs.declared.region.Region.{Region}
 use Rattle.core_charts.specs.declared.region.Region.TheViews.{out-Region}
 use Rattle.core_charts.specs.declared.region.Region.TheFolds.{fold_out-Region}
-use Rattle.chart_lowering.specs.Lowering.{RegionPiece, StatePiece, labels_in_initial, labels_in_states, numbers, body_from, region_piece, state_piece, piece_of_region, piece_of_state}
+use Rattle.chart_lowering.specs.Lowering.{RegionPiece, StatePiece, labels_in_initial, labels_in_states, numbers, body_from, region_piece, state_piece}
+use Rattle.chart_lowering.specs.Lowering.{piece_of_region, piece_of_state}
 
 pub region_body : (r : Region) (n : ℕ) → (piece_of_region r).body n ≡
     body_from (map piece_of_state (out-Region r).states)

@@ -25,7 +25,8 @@ each_name [] = tt
 each_name (n ∷ ns) = (label_in_scl n, each_name ns)
 
 -- what a whole thread says, where its labels can be counted
-keeps_body : (variables : List Variable) (end size : ℕ) (p : Part) → 1 + size ≤ 2 ^ 64 → IsPiece variables [] fork_limit 0 1 size p → p.labels ≡ [] → KeepsBody variables p
+keeps_body : (variables : List Variable) (end size : ℕ) (p : Part) → 1 + size ≤ 2 ^ 64 → IsPiece variables [] fork_limit 0 1 size p → p.labels ≡ []
+    → KeepsBody variables p
 keeps_body variables end size p small a none =
     let once : (k : ℕ) → count k a.below ≤ 1 = λ k. omega (arith, a.counted.once k) in
     let below : Each (λ n. n < 1 + size) a.below = all_below (1 + size) a.below (λ k le. omega (arith, a.counted.behind k le)) in
@@ -34,7 +35,8 @@ keeps_body variables end size p small a none =
       assignments = λ n x e at. each_at (λ y. IsAssignment variables y.0 y.1) p.assigned a.assigned n (x, e) at;
       tests = λ n e at. each_at (IsExpression (map (λ v. v.kind) variables) kind_is.Bool) p.tests a.tests n e at;
       distinct = subst (λ names. IsTrue (are_distinct names)) (sym a.lower) (names_distinct a.below countable once);
-      named = λ n name at. each_at (λ x. IsNameIn language.Scl x) p.lower (subst (Each (λ x. IsNameIn language.Scl x)) (sym a.lower) (each_name a.below)) n name at;
+      named = λ n name at. each_at (λ x. IsNameIn language.Scl x) p.lower (subst (Each (λ x. IsNameIn language.Scl x)) (sym a.lower) (each_name a.below)) n name
+          at;
       found = a.lost;
       branches = λ n m at. each_at (λ x. (1 ≤ x) × (x ≤ child_limit)) p.forks a.forks n m at;
       forks = a.depth;
@@ -59,7 +61,8 @@ variables_in_scl l variables h = record {
 pub keeps_rules : (f : Features) (c : Chart) → IsChart f c → 1 + labels_in (map piece_of_region c.regions) ≤ 2 ^ 64 → KeepsRules c.name c.variables (lowered c)
 keeps_rules f c h small =
     let pieces : List RegionPiece = map piece_of_region c.regions in
-    let inside : (length c.regions ≤ child_limit) × Each (λ r. IsBody c.variables 31 (piece_of_region r)) c.regions = inner f c.variables 32 c.regions h.regions in
+    let inside : (length c.regions ≤ child_limit) × Each (λ r. IsBody c.variables 31 (piece_of_region r)) c.regions = inner f c.variables 32 c.regions h.regions
+    in
     let same : length pieces ≡ length c.regions = same_length c.regions in
     let some : 1 ≤ length c.regions = some_regions c.regions h.some_region in
     let size : ℕ = labels_in pieces in

@@ -1,7 +1,8 @@
 //! The lowering of a core chart keeps its ticks: the laws, over the definitions alone.
 #![tactic(auto)]
 
-ghost use Rattle.chart_lowering_laws.specs.Laws.{ChartsAreLowered, ChartsKeepTicks, LoweringsKeepRuns, ThreadsTellStates};
+ghost use Rattle.chart_lowering_laws.specs.Laws.{ChartsAreLowered, ChartsKeepTicks, LoweringsKeepRuns};
+ghost use Rattle.chart_lowering_laws.specs.Laws.{ThreadsTellStates};
 
 /// A program that is laid out as a lowering of a chart's table keeps the chart's runs, there and back. Each
 /// step of the one is followed by steps of the other that show the same; each end of a tick of the one, by

@@ -1,6 +1,7 @@
 -- Whose turn it is: who is guarded by a strong abort waits, weak aborts and terminations wait for the inside, a
 -- termination for the end of all regions.
-use Rattle.std.specs.Prelude.{ℕ, zero, suc, ◌+◌, ◌≡◌, ◌≢◌, ◌<◌, Bool, true, false, Option, Some, None, if◌then◌else◌, not, ◌&&◌, ◌||◌, nat_eq, List, [], ◌∷◌, filter, length, slice_get, unwrap_or, Contains}
+use Rattle.std.specs.Prelude.{ℕ, zero, suc, ◌+◌, ◌≡◌, ◌≢◌, ◌<◌, Bool, true, false, Option, Some, None, if◌then◌else◌, not, ◌&&◌, ◌||◌, nat_eq, List, [], ◌∷◌}
+use Rattle.std.specs.Prelude.{filter, length, slice_get, unwrap_or, Contains}
 use Rattle.std.specs.List.{list_all, list_any}
 use Rattle.core_charts.specs.declared.region.Transition.{Transition}
 use Rattle.chart_machine.specs.declared.standing.Standing.{Standing}

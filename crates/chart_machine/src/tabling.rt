@@ -1,7 +1,8 @@
 //! The table of a chart.
 
 ghost use Rattle.std.specs.Prelude.{◌≡◌, ◌++◌, IfOk, OnOk, map};
-ghost use Rattle.chart_machine.specs.Table.{both, followed_by, alone, next_behind, side_by_side, in_region, piece_of_region};
+ghost use Rattle.chart_machine.specs.Table.{both, followed_by, alone, next_behind, side_by_side, in_region};
+ghost use Rattle.chart_machine.specs.Table.{piece_of_region};
 ghost use Rattle.chart_machine.specs.Table.{piece_of_state, table_of, table};
 
 use crate::copies::copied_moves;

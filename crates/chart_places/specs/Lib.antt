@@ -1,3 +1,4 @@
+pub mod Scenes
 pub mod Places
 pub mod Read
 pub mod Laws

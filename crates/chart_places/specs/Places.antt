@@ -1,6 +1,6 @@
 -- Where the elements of a chart stand in its text, by their numbers: a region and a state at their names, a transition at
 -- its word, and an effect at its variable. A fold over the draft of the text.
-use Rattle.std.specs.Prelude.{ℕ, Option, Some, List, [], ◌∷◌, ◌++◌, map, slice_get}
+use Rattle.std.specs.Prelude.{ℕ, Option, Some, None, List, [], ◌∷◌, ◌++◌, map, slice_get}
 use Rattle.chart_elements.specs.declared.element.Element.{Element}
 use Rattle.chart_elements.specs.declared.element.Element.TheVariants as element
 use Rattle.chart_drafts.specs.declared.draft.DraftEffect.{DraftEffect}
@@ -12,6 +12,8 @@ use Rattle.chart_drafts.specs.declared.draft.DraftState.{DraftState}
 use Rattle.chart_drafts.specs.declared.draft.DraftChart.{DraftChart}
 use Rattle.chart_places.specs.declared.places.Rows.{Rows}
 use Rattle.chart_places.specs.declared.places.Places.{Places}
+use Rattle.chart_places.specs.declared.scenes.Scene.{Scene}
+use Rattle.chart_places.specs.Scenes.{scenes_of}
 
 -- ---- rows of places, one sort beside the other
 
@@ -65,7 +67,7 @@ abbrev pub of_state : DraftState → Rows
 of_state = fold-DraftState Rows Rows in_region in_state
 
 abbrev pub places_of : DraftChart → Places
-places_of d = record { chart = d.named.at; rows = all (map of_region d.regions) }
+places_of d = record { chart = d.named.at; rows = all (map of_region d.regions); scenes = scenes_of d }
 
 -- ---- one place
 
@@ -75,3 +77,12 @@ place_of p (element.Region n) = slice_get p.rows.regions n
 place_of p (element.State n) = slice_get p.rows.states n
 place_of p (element.Transition n) = slice_get p.rows.transitions n
 place_of p (element.Effect n) = slice_get p.rows.effects n
+
+-- ---- in which state and which region an element stands
+
+abbrev pub scene_of : Places → Element → Option Scene
+scene_of p element.Chart = None
+scene_of p (element.Region n) = None
+scene_of p (element.State n) = slice_get p.scenes.states n
+scene_of p (element.Transition n) = slice_get p.scenes.transitions n
+scene_of p (element.Effect n) = slice_get p.scenes.effects n

@@ -1,12 +1,14 @@
-//! Where the elements of a chart stand in its text.
+//! Where the elements of a chart stand in its text, and in which states.
 #![tactic(auto)]
 
 mod laws;
 mod places;
 mod read;
 mod rows;
+mod scenes;
 
 pub use laws::{placed_texts_have_one_answer, places_tell_texts};
 pub use places::{Places, Rows};
 pub use read::{Placed, read_placed};
 pub use rows::places_of;
+pub use scenes::{Scene, Scenes, scenes_of};

@@ -1,8 +1,9 @@
 //! The places of elements, by their numbers.
 
 ghost use Rattle.std.specs.Prelude.{◌≡◌, OnOk, slice_get};
-ghost use Rattle.chart_places.specs.Places.{beside, nothing, place_of, region, state};
+ghost use Rattle.chart_places.specs.Places.{beside, nothing, place_of, region, scene_of, state};
 
+use crate::scenes::{Scene, Scenes};
 use chart_elements::Element;
 use sqlite_items::{Items, at};
 use std::alloc::{AllocError, Global};
@@ -17,11 +18,12 @@ pub struct Rows {
     pub effects: Items<usize>,
 }
 
-/// Where a chart stands in its text, by its name, and where its elements do.
+/// Where a chart stands in its text, by its name, where its elements do, and in which states.
 #[derive(Debug, Drop)]
 pub struct Places {
     pub chart: usize,
     pub rows: Rows,
+    pub scenes: Scenes,
 }
 
 impl Rows {
@@ -64,6 +66,28 @@ impl Places {
             Element::Transition(number) => place_at(self.rows.transitions.as_slice(), number),
             Element::Effect(number) => place_at(self.rows.effects.as_slice(), number),
         }
+    }
+
+    /// In which state of which region an element stands. None: in none, or the chart has none of this number.
+    pub fn scene_of(&self, element: Element) -> Option<Scene>
+        ensures { result ≡ scene_of self.now element }
+    {
+        match element {
+            Element::Chart => None,
+            Element::Region(_) => None,
+            Element::State(number) => scene_at(self.scenes.states.as_slice(), number),
+            Element::Transition(number) => scene_at(self.scenes.transitions.as_slice(), number),
+            Element::Effect(number) => scene_at(self.scenes.effects.as_slice(), number),
+        }
+    }
+}
+
+fn scene_at(scenes: &[Scene], number: u32) -> Option<Scene>
+    ensures { result ≡ slice_get scenes.now number }
+{
+    match at(scenes, number as usize) {
+        Some(scene) => Some(*scene),
+        None => None,
     }
 }
 

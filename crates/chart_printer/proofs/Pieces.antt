@@ -7,7 +7,8 @@ use Rattle.core_charts.specs.declared.region.State.{State}
 use Rattle.core_charts.specs.declared.region.Region.TheViews.{out-Region, out-State}
 use Rattle.core_charts.specs.declared.region.Region.TheFolds.{fold_out-Region, fold_out-State}
 use Rattle.core_charts.specs.Chart.{Chart}
-use Rattle.chart_printer.specs.Layout.{Piece, StatePiece, among_all, chart_head, chart_text, declarations_text, deeper, in_row, is_bare, line, names_of, opened, piece_of_state, region_head, region_over, region_text, state_head, state_over, state_piece, transitions_text}
+use Rattle.chart_printer.specs.Layout.{Piece, StatePiece, among_all, chart_head, chart_text, declarations_text, deeper, in_row, is_bare, line, names_of, opened}
+use Rattle.chart_printer.specs.Layout.{piece_of_state, region_head, region_over, region_text, state_head, state_over, state_piece, transitions_text}
 
 -- ---- one text behind another
 

@@ -3,7 +3,8 @@
 ghost use Rattle.std.specs.Prelude.{◌≡◌, ◌++◌, IfOk, map, string_bytes};
 ghost use Rattle.std.specs.List.{list_any};
 ghost use Rattle.chart_printer.specs.Renaming.{begins_with, free_from, is_added, is_taken, rival, rivals};
-ghost use Rattle.chart_printer.specs.Renaming.{rivals_in, rivals_of_region, rivals_of_state, shown_name, word, word_for};
+ghost use Rattle.chart_printer.specs.Renaming.{rivals_in, rivals_of_region, rivals_of_state, shown_name, word};
+ghost use Rattle.chart_printer.specs.Renaming.{word_for};
 
 use core_charts::{CoreChart, Region, State};
 use sc_graph::Variable;

@@ -36,7 +36,8 @@ record AreParts (V : List Declaration) (AreInner : List Region → Type 0) (part
   pub distinct : are_distinct (map (λ (s : State). (out-State s).name) parts.states) ≡ true
   pub states : (i : ℕ) (s : State) → slice_get parts.states i ≡ Some s → IsState features.Extended (variables_of V) AreInner (length parts.states) s
 
-of_parts : (V : List Declaration) (AreInner : List Region → Type 0) (r : Region) → AreParts V AreInner (out-Region r) → IsRegion features.Extended (variables_of V) AreInner r
+of_parts : (V : List Declaration) (AreInner : List Region → Type 0) (r : Region) → AreParts V AreInner (out-Region r)
+    → IsRegion features.Extended (variables_of V) AreInner r
 of_parts V AreInner r h = record {
   named = h.named;
   state_count = h.state_count;
@@ -49,11 +50,13 @@ module _ (V : List Declaration) where
   abbrev vn : List (List ℕ)
   vn = variable_names V
 
-  module _ (inside : List DraftRegion → List Flaw) (AreInside : List DraftRegion → Type 0) (AreInner : List Region → Type 0) (keep : (regions : List DraftRegion) → inside regions ≡ [] → AreInside regions → AreInner (map (region_of vn) regions)) where
+  module _ (inside : List DraftRegion → List Flaw) (AreInside : List DraftRegion → Type 0) (AreInner : List Region → Type 0)
+      (keep : (regions : List DraftRegion) → inside regions ≡ [] → AreInside regions → AreInner (map (region_of vn) regions)) where
     abbrev IsOne : Region → Type 0
     IsOne = IsRegion features.Extended (variables_of V) AreInner
 
-    region_is : (r : DraftRegion) → IsRegionShaped AreInside r → initial_flaws r ≡ [] → state_flaws V inside (state_names (out-DraftRegion r).states) 0 (out-DraftRegion r).states ≡ [] → IsOne (region_of vn r)
+    region_is : (r : DraftRegion) → IsRegionShaped AreInside r → initial_flaws r ≡ []
+        → state_flaws V inside (state_names (out-DraftRegion r).states) 0 (out-DraftRegion r).states ≡ [] → IsOne (region_of vn r)
     region_is r shaped initial none =
         let states : List DraftState = (out-DraftRegion r).states in
         let names : List (List ℕ) = state_names (out-DraftRegion r).states in
@@ -80,7 +83,9 @@ module _ (V : List Declaration) where
       pub first : AreFirstBehind names at (region_names regions)
       pub each : Every IsOne (map (region_of vn) regions)
 
-    regions_are : (names : List (List ℕ)) (at : ℕ) (regions : List DraftRegion) → ((i : ℕ) (r : DraftRegion) → slice_get regions i ≡ Some r → IsRegionShaped AreInside r) → region_flaws V inside names at regions ≡ [] → Regions names at regions
+    regions_are : (names : List (List ℕ)) (at : ℕ) (regions : List DraftRegion)
+        → ((i : ℕ) (r : DraftRegion) → slice_get regions i ≡ Some r → IsRegionShaped AreInside r) → region_flaws V inside names at regions ≡ []
+        → Regions names at regions
     regions_are names at [] shaped none = record { count = λ le. omega (arith, le); first = no_more_names names at; each = tt }
     regions_are names at (r ∷ more) shaped none =
         let name : List ℕ = (out-DraftRegion r).named.name in
@@ -104,13 +109,17 @@ module _ (V : List Declaration) where
 
   -- ---- levels
 
-  pub levels_keep : (levels : ℕ) (regions : List DraftRegion) → nested_flaws V levels regions ≡ [] → AreRegionsShaped levels regions → AreRegions features.Extended (variables_of V) levels (regions_of vn regions)
+  pub levels_keep : (levels : ℕ) (regions : List DraftRegion) → nested_flaws V levels regions ≡ [] → AreRegionsShaped levels regions
+      → AreRegions features.Extended (variables_of V) levels (regions_of vn regions)
   levels_keep zero regions none shaped = ap (map (region_of vn)) shaped
   levels_keep (suc levels) regions none shaped =
-      let all : Regions (nested_flaws V levels) (AreRegionsShaped levels) (AreRegions features.Extended (variables_of V) levels) (levels_keep levels) (region_names regions) 0 regions =
-      regions_are (nested_flaws V levels) (AreRegionsShaped levels) (AreRegions features.Extended (variables_of V) levels) (levels_keep levels) (region_names regions) 0 regions shaped none in
+      let all : Regions (nested_flaws V levels) (AreRegionsShaped levels) (AreRegions features.Extended (variables_of V) levels) (levels_keep levels)
+      (region_names regions) 0 regions =
+      regions_are (nested_flaws V levels) (AreRegionsShaped levels) (AreRegions features.Extended (variables_of V) levels) (levels_keep levels)
+      (region_names regions) 0 regions shaped none in
       record {
         count = (let few = all.count (omega arith) in let long = length-map regions (region_of vn) in omega (arith, few, long));
         distinct = ap are_distinct (region_names_same regions) ∙ first_distinct (region_names regions) (all_first (region_names regions) all.first);
-        each = every_at (IsRegion features.Extended (variables_of V) (AreRegions features.Extended (variables_of V) levels)) (map (region_of vn) regions) all.each;
+        each = every_at (IsRegion features.Extended (variables_of V) (AreRegions features.Extended (variables_of V) levels))
+            (map (region_of vn) regions) all.each;
       }

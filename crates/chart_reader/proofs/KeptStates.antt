@@ -46,9 +46,11 @@ record AreParts (V : List Declaration) (AreInner : List Region → Type 0) (stat
   pub regions : AreInner parts.regions
   pub transition_count : length parts.transitions ≤ 64
   pub one_join : count_by (λ (t : Transition). is_join t.kind) parts.transitions ≤ 1
-  pub transitions : (i : ℕ) (t : Transition) → slice_get parts.transitions i ≡ Some t → IsTransition features.Extended (variables_of V) states (has_regions parts.regions) t
+  pub transitions : (i : ℕ) (t : Transition) → slice_get parts.transitions i ≡ Some t
+      → IsTransition features.Extended (variables_of V) states (has_regions parts.regions) t
 
-of_parts : (V : List Declaration) (AreInner : List Region → Type 0) (states : ℕ) (s : State) → AreParts V AreInner states (out-State s) → IsState features.Extended (variables_of V) AreInner states s
+of_parts : (V : List Declaration) (AreInner : List Region → Type 0) (states : ℕ) (s : State) → AreParts V AreInner states (out-State s)
+    → IsState features.Extended (variables_of V) AreInner states s
 of_parts V AreInner states s h = record {
   named = h.named;
   bare = h.bare;
@@ -66,22 +68,27 @@ module _ (V : List Declaration) where
   same_filled [] = refl
   same_filled (r ∷ regions) = refl
 
-  bare_is : (names : List (List ℕ)) (s : DraftState) → final_flaws s ≡ [] → (state_parts vn names s).is_final ≡ true → ((state_parts vn names s).regions ≡ []) × ((state_parts vn names s).transitions ≡ [])
+  bare_is : (names : List (List ℕ)) (s : DraftState) → final_flaws s ≡ [] → (state_parts vn names s).is_final ≡ true → ((state_parts vn names s).regions ≡ [])
+      × ((state_parts vn names s).transitions ≡ [])
   bare_is names s none final =
-      let neither : (is_filled (out-DraftState s).regions || is_filled (out-DraftState s).transitions) ≡ false = not_both (out-DraftState s).is_final _ (no_flaw _ _ _ none) final in (
+      let neither : (is_filled (out-DraftState s).regions || is_filled (out-DraftState s).transitions)
+      ≡ false = not_both (out-DraftState s).is_final _ (no_flaw _ _ _ none) final in (
         ap (map (region_of vn)) (not_filled (out-DraftState s).regions (or_first _ _ neither)),
         ap (map (transition_of vn names)) (not_filled (out-DraftState s).transitions (or_second _ _ neither)),
       )
 
-  module _ (inside : List DraftRegion → List Flaw) (AreInside : List DraftRegion → Type 0) (AreInner : List Region → Type 0) (keep : (regions : List DraftRegion) → inside regions ≡ [] → AreInside regions → AreInner (map (region_of vn) regions)) (names : List (List ℕ)) where
+  module _ (inside : List DraftRegion → List Flaw) (AreInside : List DraftRegion → Type 0) (AreInner : List Region → Type 0)
+      (keep : (regions : List DraftRegion) → inside regions ≡ [] → AreInside regions → AreInner (map (region_of vn) regions)) (names : List (List ℕ)) where
     abbrev pub IsOne : State → Type 0
     IsOne = IsState features.Extended (variables_of V) AreInner (length names)
 
-    state_is : (s : DraftState) → IsStateShaped AreInside s → final_flaws s ≡ [] → transition_flaws V names (is_filled (out-DraftState s).regions) false 0 (out-DraftState s).transitions ≡ [] → inside (out-DraftState s).regions ≡ [] → IsOne (state_of vn names s)
+    state_is : (s : DraftState) → IsStateShaped AreInside s → final_flaws s ≡ [] → transition_flaws V names (is_filled (out-DraftState s).regions) false 0
+        (out-DraftState s).transitions ≡ [] → inside (out-DraftState s).regions ≡ [] → IsOne (state_of vn names s)
     state_is s shaped final transitions inner =
         let own : List DraftTransition = (out-DraftState s).transitions in
         let super : Bool = is_filled (out-DraftState s).regions in
-        let all : Transitions V names (is_filled (out-DraftState s).regions) false 0 own = transitions_are V names (is_filled (out-DraftState s).regions) false 0 own shaped.transitions transitions in
+        let all : Transitions V names (is_filled (out-DraftState s).regions) false 0 own = transitions_are V names (is_filled (out-DraftState s).regions) false
+        0 own shaped.transitions transitions in
         of_parts V AreInner (length names) (state_of vn names s)
         (subst (AreParts V AreInner (length names)) (sym (state_out vn names s))
         (record {
@@ -91,8 +98,10 @@ module _ (V : List Declaration) where
           transition_count = (let few = all.count (omega arith) in let long = length-map own (transition_of vn names) in omega (arith, few, long));
           one_join = (let one = all.joins in omega (arith, one));
           transitions =
-              subst (λ super. (i : ℕ) (t : Transition) → slice_get (map (transition_of vn names) own) i ≡ Some t → IsTransition features.Extended (variables_of V) (length names) super t) (same_filled (out-DraftState s).regions)
-              (every_at (IsTransition features.Extended (variables_of V) (length names) (is_filled (out-DraftState s).regions)) (map (transition_of vn names) own) all.each);
+              subst (λ super. (i : ℕ) (t : Transition) → slice_get (map (transition_of vn names) own) i ≡ Some t
+              → IsTransition features.Extended (variables_of V) (length names) super t) (same_filled (out-DraftState s).regions)
+              (every_at (IsTransition features.Extended (variables_of V) (length names) (is_filled (out-DraftState s).regions))
+              (map (transition_of vn names) own) all.each);
         }))
 
     -- what is known of the states from one place on
@@ -101,7 +110,8 @@ module _ (V : List Declaration) where
       pub first : AreFirstBehind names at (state_names states)
       pub each : Every IsOne (map (state_of vn names) states)
 
-    pub states_are : (at : ℕ) (states : List DraftState) → ((i : ℕ) (s : DraftState) → slice_get states i ≡ Some s → IsStateShaped AreInside s) → state_flaws V inside names at states ≡ [] → States at states
+    pub states_are : (at : ℕ) (states : List DraftState) → ((i : ℕ) (s : DraftState) → slice_get states i ≡ Some s → IsStateShaped AreInside s)
+        → state_flaws V inside names at states ≡ [] → States at states
     states_are at [] shaped none = record { count = λ le. omega (arith, le); first = no_more_names names at; each = tt }
     states_are at (s ∷ more) shaped none =
         let name : List ℕ = (out-DraftState s).named.name in
@@ -120,7 +130,8 @@ module _ (V : List Declaration) where
 
   -- ---- names and initial states of the states of a region
 
-  pub state_names_same : (names : List (List ℕ)) (states : List DraftState) → map (λ (s : State). (out-State s).name) (map (state_of vn names) states) ≡ state_names states
+  pub state_names_same : (names : List (List ℕ)) (states : List DraftState) → map (λ (s : State). (out-State s).name) (map (state_of vn names) states)
+      ≡ state_names states
   state_names_same names [] = refl
   state_names_same names (s ∷ states) =
       ap (λ n. n ∷ map (λ (s : State). (out-State s).name) (map (state_of vn names) states)) (ap (λ parts. parts.name) (state_out vn names s))
@@ -129,10 +140,12 @@ module _ (V : List Declaration) where
   abbrev once : Bool → ℕ
   once b = cond b 1 0
 
-  pub initial_same : (names : List (List ℕ)) (states : List DraftState) → count_by (λ (s : State). (out-State s).is_initial) (map (state_of vn names) states) ≡ count_by (λ (s : DraftState). (out-DraftState s).is_initial) states
+  pub initial_same : (names : List (List ℕ)) (states : List DraftState) → count_by (λ (s : State). (out-State s).is_initial) (map (state_of vn names) states)
+      ≡ count_by (λ (s : DraftState). (out-DraftState s).is_initial) states
   initial_same names [] = refl
   initial_same names (s ∷ states) =
-      let one : once (out-State (state_of vn names s)).is_initial ≡ once (out-DraftState s).is_initial = ap (λ parts. once parts.is_initial) (state_out vn names s) in
+      let one : once (out-State (state_of vn names s)).is_initial ≡ once (out-DraftState s).is_initial = ap (λ parts. once parts.is_initial)
+      (state_out vn names s) in
       let first = sum_by-cons (λ (z : State). cond (out-State z).is_initial 1 0) (state_of vn names s) (map (state_of vn names) states) in
       let second = sum_by-cons (λ (z : DraftState). cond (out-DraftState z).is_initial 1 0) s states in
       let more = initial_same names states in

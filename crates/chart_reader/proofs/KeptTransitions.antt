@@ -1,5 +1,6 @@
 -- What the effects, the trigger and the transitions of a state of a draft are where nothing is wrong with them.
-use Rattle.std.proofs.Common.{◌≡◌, ℕ, suc, ◌+◌, ◌≤◌, Bool, true, false, cond, IsTrue, Option, Some, None, List, [], ◌∷◌, ◌++◌, length, map, slice_get, refl, ap, subst, arith}
+use Rattle.std.proofs.Common.{◌≡◌, ℕ, suc, ◌+◌, ◌≤◌, Bool, true, false, cond, IsTrue, Option, Some, None, List, [], ◌∷◌, ◌++◌, length, map, slice_get, refl, ap}
+use Rattle.std.proofs.Common.{subst, arith}
 use Rattle.std.specs.Prelude.{not, ◌&&◌, ◌||◌, count_by, option_map}
 use Rattle.std.proofs.lemmas.List.{length-map}
 use Rattle.std.proofs.lemmas.List.Sums.{sum_by-cons}
@@ -34,7 +35,8 @@ module _ (V : List Declaration) where
   abbrev vn : List (List ℕ)
   vn = variable_names V
 
-  effect_is : (e : DraftEffect) → IsWritable e.value → assigned_flaws V (variable_named V e.variable.name) e.variable e.value ≡ [] → IsEffect (variables_of V) (effect_of vn e)
+  effect_is : (e : DraftEffect) → IsWritable e.value → assigned_flaws V (variable_named V e.variable.name) e.variable e.value ≡ []
+      → IsEffect (variables_of V) (effect_of vn e)
   effect_is e can none =
       let assigned : IsAssigned V e.variable e.value = assigned_is V e.variable e.value can none in
       record { target = assigned.variable; is_target = assigned.is_there; no_input = assigned.no_input; value = assigned.value }
@@ -43,7 +45,8 @@ module _ (V : List Declaration) where
     pub count : before ≤ 16 → before + length effects ≤ 16
     pub each : Every (IsEffect (variables_of V)) (map (effect_of vn) effects)
 
-  effects_are : (before : ℕ) (effects : List DraftEffect) → ((i : ℕ) (e : DraftEffect) → slice_get effects i ≡ Some e → IsWritable e.value) → effect_flaws V before effects ≡ [] → Effects before effects
+  effects_are : (before : ℕ) (effects : List DraftEffect) → ((i : ℕ) (e : DraftEffect) → slice_get effects i ≡ Some e → IsWritable e.value)
+      → effect_flaws V before effects ≡ [] → Effects before effects
   effects_are before [] can none = record { count = λ le. omega (arith, le); each = tt }
   effects_are before (e ∷ more) can none =
       let own : assigned_flaws V (variable_named V e.variable.name) e.variable e.value ++ effect_flaws V (before + 1) more ≡ [] = none_second _ _ none in
@@ -54,7 +57,8 @@ module _ (V : List Declaration) where
         each = (effect_is e (can 0 e refl) (none_first _ _ own), rest.each);
       }
 
-  trigger_is : (trigger : Option TextExpression) → ((e : TextExpression) → trigger ≡ Some e → IsWritable e) → trigger_flaws V trigger ≡ [] → (x : Expr) → option_map (λ (e : TextExpression). expression_of vn e.operations) trigger ≡ Some x → IsExpression (kinds_of V) of_kind.Bool x
+  trigger_is : (trigger : Option TextExpression) → ((e : TextExpression) → trigger ≡ Some e → IsWritable e) → trigger_flaws V trigger ≡ [] → (x : Expr)
+      → option_map (λ (e : TextExpression). expression_of vn e.operations) trigger ≡ Some x → IsExpression (kinds_of V) of_kind.Bool x
   trigger_is None can none x is = absurd cc
   trigger_is (Some e) can none x is =
       let same : expression_of vn e.operations ≡ x = cc in
@@ -78,7 +82,8 @@ at_most_one false true n e le = omega (arith, le)
 at_most_one false false n e le = omega (arith, le)
 
 -- a transition in front of others, behind a termination or not
-one_join : (behind : Bool) (t : Transition) (more : List Transition) → (is_join t.kind && behind) ≡ false → cond (behind || is_join t.kind) 1 0 + joins_in more ≤ 1 → cond behind 1 0 + joins_in (t ∷ more) ≤ 1
+one_join : (behind : Bool) (t : Transition) (more : List Transition) → (is_join t.kind && behind) ≡ false
+    → cond (behind || is_join t.kind) 1 0 + joins_in more ≤ 1 → cond behind 1 0 + joins_in (t ∷ more) ≤ 1
 one_join behind t more e le =
     let sum = sum_by-cons (λ (x : Transition). cond (is_join x.kind) 1 0) t more in
     let one = at_most_one behind (is_join t.kind) (joins_in more) e le in
@@ -91,13 +96,18 @@ module _ (V : List Declaration) (names : List (List ℕ)) (is_superstate : Bool)
   abbrev pub IsOne : Transition → Type 0
   IsOne = IsTransition features.Extended (variables_of V) (length names) is_superstate
 
-  transition_is : (t : DraftTransition) → IsTransitionShaped t → fits_state is_superstate t.kind ≡ true → trigger_flaws V t.trigger ≡ [] → effect_flaws V 0 t.effects ≡ [] → is_among names t.target.name ≡ true → IsOne (of_transition t)
+  transition_is : (t : DraftTransition) → IsTransitionShaped t → fits_state is_superstate t.kind ≡ true → trigger_flaws V t.trigger ≡ []
+      → effect_flaws V 0 t.effects ≡ [] → is_among names t.target.name ≡ true → IsOne (of_transition t)
   transition_is t shaped fits trigger effects target =
       let all : Effects V 0 t.effects = effects_are V 0 t.effects shaped.effects effects in
       record {
         allowed = all_allowed t.kind;
         fits = fits;
-        plain_join = λ join. ((shaped.plain_join join).0, ap (option_map (λ (e : TextExpression). expression_of (variable_names V) e.operations)) (shaped.plain_join join).1);
+        plain_join = λ join. (
+          (shaped.plain_join join).0,
+          ap (option_map (λ (e : TextExpression). expression_of (variable_names V) e.operations))
+              (shaped.plain_join join).1,
+        );
         trigger = trigger_is V t.trigger shaped.trigger trigger;
         effect_count = (let few = all.count (omega arith) in let long = length-map t.effects (effect_of (variable_names V)) in omega (arith, few, long));
         effects = every_at (IsEffect (variables_of V)) (map (effect_of (variable_names V)) t.effects) all.each;
@@ -110,7 +120,9 @@ module _ (V : List Declaration) (names : List (List ℕ)) (is_superstate : Bool)
     pub joins : cond behind 1 0 + joins_in (map of_transition transitions) ≤ 1
     pub each : Every IsOne (map of_transition transitions)
 
-  pub transitions_are : (behind : Bool) (before : ℕ) (transitions : List DraftTransition) → ((i : ℕ) (t : DraftTransition) → slice_get transitions i ≡ Some t → IsTransitionShaped t) → transition_flaws V names is_superstate behind before transitions ≡ [] → Transitions behind before transitions
+  pub transitions_are : (behind : Bool) (before : ℕ) (transitions : List DraftTransition)
+      → ((i : ℕ) (t : DraftTransition) → slice_get transitions i ≡ Some t → IsTransitionShaped t)
+      → transition_flaws V names is_superstate behind before transitions ≡ [] → Transitions behind before transitions
   transitions_are true before [] shaped none = record { count = λ le. omega (arith, le); joins = omega arith; each = tt }
   transitions_are false before [] shaped none = record { count = λ le. omega (arith, le); joins = omega arith; each = tt }
   transitions_are behind before (t ∷ more) shaped none =
@@ -121,7 +133,8 @@ module _ (V : List Declaration) (names : List (List ℕ)) (is_superstate : Bool)
       let room : before + 1 ≤ 64 = room_for_one 64 before (no_flaw _ _ _ (none_first _ _ none)) in
       let kinds : (not (fits_state is_superstate t.kind) || (is_join t.kind && behind)) ≡ false = no_flaw _ _ _ (none_first _ _ from_kind) in
       let among : is_among names t.target.name ≡ true = not_false _ (no_flaw _ _ _ (none_first _ _ from_target)) in
-      let rest : Transitions (behind || is_join t.kind) (before + 1) more = transitions_are (behind || is_join t.kind) (before + 1) more (λ i x at. shaped (suc i) x at) (none_second _ _ from_target) in
+      let rest : Transitions (behind || is_join t.kind) (before + 1) more = transitions_are (behind || is_join t.kind) (before + 1) more
+      (λ i x at. shaped (suc i) x at) (none_second _ _ from_target) in
       record {
         count = λ le. room_for_more 64 before (length more) room rest.count;
         joins = one_join behind (of_transition t) (map of_transition more) (or_second _ _ kinds) rest.joins;

@@ -26,7 +26,8 @@ module _ (variables : List (List ℕ)) where
 
   piece_names : (states : List DraftState) → map (λ (p : StatePiece). p.name) (map (piece_of_state variables) states) ≡ state_names states
   piece_names [] = refl
-  piece_names (s ∷ states) = ap (λ n. n ∷ map (λ (p : StatePiece). p.name) (map (piece_of_state variables) states)) (piece_name s) ∙ ap (λ ns. (out-DraftState s).named.name ∷ ns) (piece_names states)
+  piece_names (s ∷ states) = ap (λ n. n ∷ map (λ (p : StatePiece). p.name) (map (piece_of_state variables) states)) (piece_name s)
+      ∙ ap (λ ns. (out-DraftState s).named.name ∷ ns) (piece_names states)
 
   -- what a state is made of
   abbrev pub state_parts : (states : List (List ℕ)) → DraftState → State-F Region State
@@ -44,7 +45,8 @@ module _ (variables : List (List ℕ)) where
   pub state_out : (states : List (List ℕ)) (s : DraftState) → out-State (state_of variables states s) ≡ state_parts states s
   state_out states s = ap out-State (state_is states s) ∙ out-roll-State (state_parts states s)
 
-  among_all : (names : List (List ℕ)) (states : List DraftState) → map (λ (p : StatePiece). p.among names) (map (piece_of_state variables) states) ≡ map (state_of variables names) states
+  among_all : (names : List (List ℕ)) (states : List DraftState) → map (λ (p : StatePiece). p.among names) (map (piece_of_state variables) states)
+      ≡ map (state_of variables names) states
   among_all names [] = refl
   among_all names (s ∷ states) = ap (λ all. state_of variables names s ∷ all) (among_all names states)
 

@@ -24,8 +24,10 @@ module _ (V : List Declaration) where
   abbrev vn : List (List ℕ)
   vn = variable_names V
 
-  few_within : (levels : ℕ) → ((regions : List DraftRegion) → AreRegions features.Extended (variables_of V) levels (regions_of vn regions) → AreNarrow levels regions)
-      → (r : DraftRegion) → IsRegion features.Extended (variables_of V) (AreRegions features.Extended (variables_of V) levels) (region_of vn r) → AreStatesFew (AreNarrow levels) (out-DraftRegion r).states
+  few_within : (levels : ℕ) → ((regions : List DraftRegion) → AreRegions features.Extended (variables_of V) levels (regions_of vn regions)
+      → AreNarrow levels regions)
+      → (r : DraftRegion) → IsRegion features.Extended (variables_of V) (AreRegions features.Extended (variables_of V) levels) (region_of vn r)
+      → AreStatesFew (AreNarrow levels) (out-DraftRegion r).states
   few_within levels inner r keeps =
       let states : List DraftState = (out-DraftRegion r).states in
       let names : List (List ℕ) = state_names (out-DraftRegion r).states in
@@ -37,12 +39,14 @@ module _ (V : List Declaration) where
         inside = λ i s at.
             (let there : slice_get (out-Region (region_of vn r)).states i ≡ Some (state_of vn names s) =
             ap (λ all. slice_get all i) same ∙ slice_get-map (state_of vn names) states i ∙ ap (option_map (state_of vn names)) at in
-            let regions : (out-State (state_of vn names s)).regions ≡ regions_of vn (out-DraftState s).regions = ap (λ parts. parts.regions) (state_out vn names s) in
+            let regions : (out-State (state_of vn names s)).regions ≡ regions_of vn (out-DraftState s).regions = ap (λ parts. parts.regions)
+            (state_out vn names s) in
             inner (out-DraftState s).regions
             (subst (AreRegions features.Extended (variables_of V) levels) regions (keeps.states i (state_of vn names s) there).regions));
       }
 
-  narrow_within : (levels : ℕ) (regions : List DraftRegion) → AreRegions features.Extended (variables_of V) levels (regions_of vn regions) → AreNarrow levels regions
+  narrow_within : (levels : ℕ) (regions : List DraftRegion) → AreRegions features.Extended (variables_of V) levels (regions_of vn regions)
+      → AreNarrow levels regions
   narrow_within zero [] keep = refl
   narrow_within zero (r ∷ more) keep = absurd cc
   narrow_within (suc levels) regions keep = λ i r is.
@@ -51,4 +55,5 @@ module _ (V : List Declaration) where
 
 -- the regions of a draft without flaws
 pub narrow : (d : DraftChart) (regions : List DraftRegion) → chart_flaws d ≡ [] → IsShaped d → regions ≡ d.regions → AreNarrow depth_limit regions
-narrow d regions none shaped same = subst (AreNarrow depth_limit) (sym same) (narrow_within d.variables depth_limit d.regions (chart_kept d none shaped).regions)
+narrow d regions none shaped same = subst (AreNarrow depth_limit) (sym same)
+    (narrow_within d.variables depth_limit d.regions (chart_kept d none shaped).regions)

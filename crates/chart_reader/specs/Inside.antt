@@ -1,15 +1,16 @@
 -- What private functions alone ask for. It is proved, and no public contract rests on what it means.
 use Rattle.std.specs.Prelude.{ℕ, zero, suc, ◌≡◌, ◌≤◌, Some, List, [], length, slice_get}
+use Rattle.core_charts.specs.Rules.{state_text_limit}
 use Rattle.chart_drafts.specs.declared.draft.DraftRegion.{DraftRegion}
 use Rattle.chart_drafts.specs.declared.draft.DraftRegion.TheViews.{out-DraftRegion, out-DraftState}
 use Rattle.chart_drafts.specs.declared.draft.DraftState.{DraftState}
 
--- no more than 256 states of one region, of which the own regions keep this
+-- no more states of one region than a text may have, of which the own regions keep this
 pub record AreStatesFew (AreInside : List DraftRegion → Type 0) (states : List DraftState) : Type 0 where
-  pub count : length states ≤ 256
+  pub count : length states ≤ state_text_limit
   pub inside : (i : ℕ) (s : DraftState) → slice_get states i ≡ Some s → AreInside (out-DraftState s).regions
 
--- regions that nest this many levels deep at most, none of which has more than 256 states
+-- regions that nest this many levels deep at most, none of which has more states than that
 abbrev pub AreNarrow : ℕ → List DraftRegion → Type 0
 AreNarrow zero regions = regions ≡ []
 AreNarrow (suc levels) regions =

@@ -1,6 +1,7 @@
 //! The states of a region by their names.
 
 ghost use Rattle.std.specs.Prelude.{◌≡◌, ◌≤◌, IfOk, length};
+ghost use Rattle.core_charts.specs.Rules.{state_text_limit};
 ghost use Rattle.drafts.specs.Inside.{IsIndex};
 ghost use Rattle.drafts.specs.Resolved.{number_of};
 ghost use Rattle.chart_drafts.specs.Flaws.{state_names};
@@ -16,13 +17,13 @@ pub(crate) struct StateScope<'a> {
     pub(crate) states: &'a [DraftState],
     index: Index,
     ghost same: { IsIndex (state_names states.now) index },
-    ghost few: { length states.now ≤ 256 },
+    ghost few: { length states.now ≤ state_text_limit },
 }
 
 impl<'a> StateScope<'a> {
     /// The scope of these states. Err: memory was refused.
     pub(crate) fn of(alloc: Global, states: &'a [DraftState]) -> Result<StateScope<'a>, AllocError>
-        requires { length states.now ≤ 256 }
+        requires { length states.now ≤ state_text_limit }
         ensures { IfOk result (λ scope. scope.states.now ≡ states.now) }
     {
         let names = state_names(alloc, states)?;

@@ -1,13 +1,12 @@
 //! Ticks of the machine of a table.
 
-use crate::judging::{is_admissible, step_there};
-use crate::reading::{halves, inputs, known, numbers};
-use crate::telling::{tell_numbers, tell_values};
+use crate::judging::{Judged, is_admissible, step_there};
+use crate::reading::{inputs, numbers};
 use abort_expansion::{StateMap, expand};
-use chart_machine::{Configuration, Table};
+use chart_machine::{Configuration, Ran, Table};
 use core_charts::Chart;
+use row_answers::{Answers, Unanswered, halves, known};
 use std::alloc::{AllocError, Global};
-use std::io;
 
 // The steps of a tick, at most.
 const BUDGET: u32 = 20_000;
@@ -24,7 +23,7 @@ pub(crate) struct Played {
 
 impl Played {
     /// The chart itself.
-    pub(crate) fn of_chart(alloc: Global, chart: &Chart) -> io::Result<Played> {
+    pub(crate) fn of_chart(alloc: Global, chart: &Chart) -> Result<Played, Unanswered> {
         let table = known(Table::of_chart(alloc, chart).ok())?;
         Ok(Played {
             table,
@@ -35,7 +34,7 @@ impl Played {
     }
 
     /// Its core chart.
-    pub(crate) fn of_core_chart(alloc: Global, chart: &Chart) -> io::Result<Played> {
+    pub(crate) fn of_core_chart(alloc: Global, chart: &Chart) -> Result<Played, Unanswered> {
         let (core, map) = known(expand(alloc, chart).ok())?;
         let table = known(Table::of_core_chart(alloc, &core).ok())?;
         Ok(Played {
@@ -57,7 +56,7 @@ impl Played {
     }
 
     /// From here on these regions come first, in this order.
-    pub(crate) fn first(&mut self, alloc: Global, row: &str) -> io::Result<()> {
+    pub(crate) fn first(&mut self, alloc: Global, row: &str) -> Result<(), Unanswered> {
         self.order = numbers(alloc, row)?;
         Ok(())
     }
@@ -98,12 +97,35 @@ impl Played {
         Ok(active)
     }
 
-    fn tell(&self, alloc: Global, c: &Configuration, told: &mut String) -> Result<(), AllocError> {
-        told.push_str("; values")?;
-        tell_values(alloc, told, c.variables.as_slice(), self.declared)?;
-        told.push_str("; active")?;
+    fn tell(
+        &self,
+        alloc: Global,
+        c: &Configuration,
+        answers: &mut Answers,
+    ) -> Result<(), AllocError> {
+        answers.tell("; values");
+        answers.first_values(c.variables.as_slice(), self.declared);
+        answers.tell("; active");
         let active = self.active(alloc, c)?;
-        tell_numbers(alloc, told, &active)
+        answers.numbers(&active);
+        Ok(())
+    }
+
+    // What stands at the start of a tick with these inputs.
+    fn started(
+        &self,
+        alloc: Global,
+        c: &Configuration,
+        row: &str,
+    ) -> Result<Configuration, Unanswered> {
+        let given = inputs(alloc, row)?;
+        Ok(self.table.start(alloc, &given, c)?)
+    }
+
+    // A run from here, by the order in which regions come to step.
+    fn ran(&self, alloc: Global, start: &Configuration) -> Result<Ran, AllocError> {
+        let order = self.ordered(alloc)?;
+        self.table.run(alloc, &order, BUDGET, start)
     }
 
     /// A tick with these inputs: the steps of regions, and what stands behind them.
@@ -112,19 +134,17 @@ impl Played {
         alloc: Global,
         c: &Configuration,
         row: &str,
-        told: &mut String,
-    ) -> io::Result<Configuration> {
-        let given = inputs(alloc, row)?;
-        let start = self.table.start(alloc, &given, c)?;
-        let order = self.ordered(alloc)?;
-        let ran = self.table.run(alloc, &order, BUDGET, &start)?;
-        told.push_str(if ran.is_over {
+        answers: &mut Answers,
+    ) -> Result<Configuration, Unanswered> {
+        let start = self.started(alloc, c, row)?;
+        let ran = self.ran(alloc, &start)?;
+        answers.tell(if ran.is_over {
             "steps"
         } else {
             "stopped, steps"
-        })?;
-        tell_numbers(alloc, told, &ran.run)?;
-        self.tell(alloc, &ran.end, told)?;
+        });
+        answers.numbers(&ran.run);
+        self.tell(alloc, &ran.end, answers)?;
         Ok(ran.end)
     }
 
@@ -134,6 +154,17 @@ impl Played {
         Ok(ran.is_over)
     }
 
+    // Where these regions lead one after the other. None: at some step it is not that region's turn.
+    fn led(
+        &self,
+        alloc: Global,
+        start: &Configuration,
+        regions: &str,
+    ) -> Result<Option<Configuration>, Unanswered> {
+        let run = numbers(alloc, regions)?;
+        Ok(self.table.replay(alloc, &run, start)?)
+    }
+
     /// Where these regions, given as `INPUTS: REGIONS`, lead one after the other from the start of a tick. None: at
     /// some step it is not that region's turn.
     pub(crate) fn replayed(
@@ -141,22 +172,40 @@ impl Played {
         alloc: Global,
         c: &Configuration,
         row: &str,
-        told: &mut String,
-    ) -> io::Result<Option<Configuration>> {
+        answers: &mut Answers,
+    ) -> Result<Option<Configuration>, Unanswered> {
         let (given, regions) = halves(row, ':');
-        let start = self.table.start(alloc, &inputs(alloc, given)?, c)?;
-        let run = numbers(alloc, regions)?;
-        let Some(end) = self.table.replay(alloc, &run, &start)? else {
-            told.push_str("no run")?;
+        let start = self.started(alloc, c, given)?;
+        let Some(end) = self.led(alloc, &start, regions)? else {
+            answers.tell("no run");
             return Ok(None);
         };
-        told.push_str(if self.is_over(alloc, &end)? {
+        answers.tell(if self.is_over(alloc, &end)? {
             "whole run"
         } else {
             "run"
-        })?;
-        self.tell(alloc, &end, told)?;
+        });
+        self.tell(alloc, &end, answers)?;
         Ok(Some(end))
+    }
+
+    // The steps of these regions one after the other. None: at some step it is not that region's turn.
+    fn steps_of(
+        &self,
+        alloc: Global,
+        start: Configuration,
+        regions: &[usize],
+    ) -> Result<Option<Vec<Judged>>, Unanswered> {
+        let mut c = start;
+        let mut steps = Vec::new(alloc);
+        for region in regions {
+            let Some(after) = self.table.step(alloc, &c, *region)? else {
+                return Ok(None);
+            };
+            steps.push(known(step_there(&c, *region))?)?;
+            c = after;
+        }
+        Ok(Some(steps))
     }
 
     /// Whether these regions, given as `INPUTS: REGIONS`, take admissible steps one after the other from the start of a
@@ -166,24 +215,20 @@ impl Played {
         alloc: Global,
         c: &Configuration,
         row: &str,
-        told: &mut String,
-    ) -> io::Result<()> {
+        answers: &mut Answers,
+    ) -> Result<(), Unanswered> {
         let (given, regions) = halves(row, ':');
-        let mut c = self.table.start(alloc, &inputs(alloc, given)?, c)?;
-        let mut steps = Vec::new(alloc);
-        for region in &numbers(alloc, regions)? {
-            let Some(after) = self.table.step(alloc, &c, *region)? else {
-                told.push_str("no run")?;
-                return Ok(());
-            };
-            steps.push(known(step_there(&c, *region))?)?;
-            c = after;
-        }
-        told.push_str(if is_admissible(alloc, &self.table, &steps)? {
+        let regions = numbers(alloc, regions)?;
+        let start = self.started(alloc, c, given)?;
+        let Some(steps) = self.steps_of(alloc, start, &regions)? else {
+            answers.tell("no run");
+            return Ok(());
+        };
+        answers.tell(if is_admissible(alloc, &self.table, &steps)? {
             "admissible"
         } else {
             "not admissible"
-        })?;
+        });
         Ok(())
     }
 }

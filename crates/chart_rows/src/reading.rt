@@ -1,28 +1,11 @@
 //! What the words of a row stand for.
 
+use row_answers::{Unanswered, halves, known};
 use sc_values::{Name, Value};
 use std::alloc::Global;
-use std::io;
-
-/// What it holds; else the row means nothing.
-pub(crate) fn known<T>(answer: Option<T>) -> io::Result<T> {
-    match answer {
-        Some(it) => Ok(it),
-        None => Err(io::Error::from(io::ErrorKind::InvalidData)),
-    }
-}
-
-/// The text before a sign, and the text behind it.
-pub(crate) fn halves(text: &str, sign: char) -> (&str, &str) {
-    let mut parts = text.splitn(2, sign);
-    match (parts.next(), parts.next()) {
-        (Some(first), Some(second)) => (first, second),
-        _ => (text, ""),
-    }
-}
 
 /// Numbers, each a word.
-pub(crate) fn numbers(alloc: Global, text: &str) -> io::Result<Vec<usize>> {
+pub(crate) fn numbers(alloc: Global, text: &str) -> Result<Vec<usize>, Unanswered> {
     let mut numbers = Vec::new(alloc);
     for word in text.split_whitespace() {
         numbers.push(known(word.parse::<usize>().ok())?)?;
@@ -31,7 +14,7 @@ pub(crate) fn numbers(alloc: Global, text: &str) -> io::Result<Vec<usize>> {
 }
 
 // A value: `false`, a number, or, where there is no word, `true`.
-fn value(word: &str) -> io::Result<Value> {
+fn value(word: &str) -> Result<Value, Unanswered> {
     match word {
         "" => Ok(Value::Bool(true)),
         "false" => Ok(Value::Bool(false)),
@@ -39,12 +22,17 @@ fn value(word: &str) -> io::Result<Value> {
     }
 }
 
-/// Inputs, each as `NAME=VALUE`, or as `NAME` where it is `true`.
-pub(crate) fn inputs(alloc: Global, text: &str) -> io::Result<Vec<(Name, Value)>> {
+// An input, as `NAME=VALUE`, or as `NAME` where it is `true`.
+fn input(word: &str) -> Result<(Name, Value), Unanswered> {
+    let (name, given) = halves(word, '=');
+    Ok((known(Name::of(name))?, value(given)?))
+}
+
+/// Inputs, each a word.
+pub(crate) fn inputs(alloc: Global, text: &str) -> Result<Vec<(Name, Value)>, Unanswered> {
     let mut inputs = Vec::new(alloc);
     for word in text.split_whitespace() {
-        let (name, given) = halves(word, '=');
-        inputs.push((known(Name::of(name))?, value(given)?))?;
+        inputs.push(input(word)?)?;
     }
     Ok(inputs)
 }

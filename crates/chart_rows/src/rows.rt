@@ -1,13 +1,12 @@
 //! Rows, each answered by a line.
 
 use crate::playing::Played;
-use crate::reading::{halves, known};
 use crate::tables::{tell_standings, tell_table};
 use chart_machine::Configuration;
 use chart_reader::read_chart;
 use core_charts::Chart;
+use row_answers::{Answers, Unanswered, halves, known};
 use std::alloc::Global;
-use std::io;
 
 // Answers a row about a chart as it is played. A tick leaves another configuration.
 fn answer_one(
@@ -15,21 +14,21 @@ fn answer_one(
     played: &mut Played,
     c: &Configuration,
     row: &str,
-    told: &mut String,
-) -> io::Result<Option<Configuration>> {
+    answers: &mut Answers,
+) -> Result<Option<Configuration>, Unanswered> {
     let (word, rest) = halves(row, ' ');
     match word {
-        "tick" => return Ok(Some(played.tick(alloc, c, rest, told)?)),
+        "tick" => return Ok(Some(played.tick(alloc, c, rest, answers)?)),
         "order" => played.first(alloc, rest)?,
-        "play" => return played.replayed(alloc, c, rest, told),
+        "play" => return played.replayed(alloc, c, rest, answers),
         "run" => {
-            let _end = played.replayed(alloc, c, rest, told)?;
+            let _end = played.replayed(alloc, c, rest, answers)?;
         }
-        "judge" => played.judged(alloc, c, rest, told)?,
-        "table" => tell_table(alloc, played.table(), told)?,
-        "standings" => tell_standings(alloc, c, told)?,
+        "judge" => played.judged(alloc, c, rest, answers)?,
+        "table" => tell_table(played.table(), answers),
+        "standings" => tell_standings(c, answers),
         "again" => return Ok(Some(played.initial(alloc)?)),
-        _ => return known(None),
+        _ => return Err(Unanswered),
     }
     Ok(None)
 }
@@ -39,42 +38,58 @@ fn answer_played(
     alloc: Global,
     mut played: Played,
     rows: &str,
-    told: &mut String,
-) -> io::Result<()> {
+    answers: &mut Answers,
+) -> Result<(), Unanswered> {
     let mut c = played.initial(alloc)?;
     for row in rows.lines() {
         if !row.is_empty() {
-            if let Some(end) = answer_one(alloc, &mut played, &c, row, told)? {
+            if let Some(end) = answer_one(alloc, &mut played, &c, row, answers)? {
                 c = end;
             }
-            told.push_str("\n")?;
+            answers.tell("\n");
         }
     }
     Ok(())
 }
 
 // Answers the rows about a chart: those before a row `core` are about itself, those behind it about its core chart.
-fn answer_of_chart(alloc: Global, chart: &Chart, rows: &str, told: &mut String) -> io::Result<()> {
+fn answer_of_chart(
+    alloc: Global,
+    chart: &Chart,
+    rows: &str,
+    answers: &mut Answers,
+) -> Result<(), Unanswered> {
     let mut parts = rows.splitn(2, "core\n");
     if let Some(own) = parts.next() {
-        answer_played(alloc, Played::of_chart(alloc, chart)?, own, told)?;
+        answer_played(alloc, Played::of_chart(alloc, chart)?, own, answers)?;
     }
     if let Some(of_core) = parts.next() {
-        told.push_str("core\n")?;
-        answer_played(alloc, Played::of_core_chart(alloc, chart)?, of_core, told)?;
+        answers.tell("core\n");
+        answer_played(
+            alloc,
+            Played::of_core_chart(alloc, chart)?,
+            of_core,
+            answers,
+        )?;
     }
     Ok(())
 }
 
-/// Answers all rows: each chart by its own text, and then the rows behind it.
-pub(crate) fn answer(alloc: Global, text: &str, told: &mut String) -> io::Result<()> {
+// The chart whose text stands behind its word.
+fn chart_of(alloc: Global, spelled: &str) -> Result<Chart, Unanswered> {
+    let text = format!(in alloc; "chart {spelled}")?;
+    known(read_chart(alloc, text.as_str()).ok())
+}
+
+/// Answers all rows: each chart by its own text, and then the rows behind it. Err: a row means nothing, or memory was
+/// refused.
+pub(crate) fn answer(alloc: Global, text: &str, answers: &mut Answers) -> Result<(), Unanswered> {
     for part in text.split("\nchart ") {
         if !part.is_empty() {
             let (spelled, rows) = halves(part, '\n');
-            let chart = format!(in alloc; "chart {spelled}")?;
-            let chart = known(read_chart(alloc, chart.as_str()).ok())?;
-            told.push_str("chart\n")?;
-            answer_of_chart(alloc, &chart, rows, told)?;
+            let chart = chart_of(alloc, spelled)?;
+            answers.tell("chart\n");
+            answer_of_chart(alloc, &chart, rows, answers)?;
         }
     }
     Ok(())

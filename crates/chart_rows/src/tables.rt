@@ -1,69 +1,57 @@
 //! What is told of the table of a chart, row by row, and of where its regions stand.
 
-use crate::telling::tell_numbers;
 use chart_machine::{Configuration, Standing, Table};
-use std::alloc::{AllocError, Global};
+use row_answers::Answers;
 
 // Of each state the region that holds it and its own regions.
-fn tell_states(alloc: Global, table: &Table, told: &mut String) -> Result<(), AllocError> {
+fn tell_states(table: &Table, answers: &mut Answers) {
     for (number, row) in table.states.as_slice().iter().enumerate() {
-        let holder = row.holder;
-        told.push_str(format!(in alloc; "state {number} in {holder} has")?.as_str())?;
-        tell_numbers(alloc, told, row.regions.as_slice())?;
-        told.push_str("; ")?;
+        answers.tell_with("state ", number);
+        answers.tell_with(" in ", row.holder);
+        answers.tell(" has");
+        answers.numbers(row.regions.as_slice());
+        answers.tell("; ");
     }
-    Ok(())
 }
 
 /// Of each state the region that holds it and its own regions; of each region its states, and the superstates around
 /// it, the innermost first.
-pub(crate) fn tell_table(
-    alloc: Global,
-    table: &Table,
-    told: &mut String,
-) -> Result<(), AllocError> {
-    tell_states(alloc, table, told)?;
+pub(crate) fn tell_table(table: &Table, answers: &mut Answers) {
+    tell_states(table, answers);
     let mut number: usize = 0;
     for row in table.regions.as_slice() {
         number = number.saturating_add(1);
-        told.push_str(format!(in alloc; "region {number} has")?.as_str())?;
-        tell_numbers(alloc, told, row.states.as_slice())?;
-        told.push_str(" in")?;
-        tell_numbers(alloc, told, row.around.as_slice())?;
-        told.push_str("; ")?;
+        answers.tell_with("region ", number);
+        answers.tell(" has");
+        answers.numbers(row.states.as_slice());
+        answers.tell(" in");
+        answers.numbers(row.around.as_slice());
+        answers.tell("; ");
     }
-    Ok(())
 }
 
-fn tell_standing(alloc: Global, standing: &Standing, told: &mut String) -> Result<(), AllocError> {
+fn tell_standing(standing: &Standing, answers: &mut Answers) {
     match standing {
-        Standing::Outside => told.push_str(" outside"),
-        Standing::Ended => told.push_str(" ended"),
+        Standing::Outside => answers.tell(" outside"),
+        Standing::Ended => answers.tell(" ended"),
         Standing::Trying { state, tests: _ }
         | Standing::Entering { state, tests: _ }
         | Standing::Guarding { state, tests: _ }
-        | Standing::Within { state, tests: _ } => {
-            told.push_str(format!(in alloc; " {state}")?.as_str())
-        }
+        | Standing::Within { state, tests: _ } => answers.tell_with(" ", *state),
         Standing::Acting {
             state,
             effects: _,
             target: _,
-        } => told.push_str(format!(in alloc; " {state}")?.as_str()),
+        } => answers.tell_with(" ", *state),
     }
 }
 
 /// Where each region stands, from that of number 1 on: outside, ended, or in a state.
-pub(crate) fn tell_standings(
-    alloc: Global,
-    c: &Configuration,
-    told: &mut String,
-) -> Result<(), AllocError> {
-    told.push_str("stand")?;
+pub(crate) fn tell_standings(c: &Configuration, answers: &mut Answers) {
+    answers.tell("stand");
     for (number, standing) in c.regions.as_slice().iter().enumerate() {
         if number > 0 {
-            tell_standing(alloc, standing, told)?;
+            tell_standing(standing, answers);
         }
     }
-    Ok(())
 }

@@ -4,12 +4,17 @@
 
 mod telling;
 
+use row_answers::Answers;
 use std::io;
 
 fn main(rt: HostRuntime) -> io::Result<()> {
     let text = io::read_to_string(rt.alloc(), rt.stdin())?;
-    let mut told = String::new(rt.alloc());
-    let answered = telling::answer(rt.alloc(), text.as_str(), &mut told);
-    print!(rt; "{told}")?;
-    answered
+    let mut answers = Answers::new(rt.alloc());
+    let answered = telling::answer(rt.alloc(), text.as_str(), &mut answers);
+    print!(rt; "{}", answers.text())?;
+    if answered.is_ok() && answers.is_whole() {
+        Ok(())
+    } else {
+        Err(io::Error::from(io::ErrorKind::OutOfMemory))
+    }
 }

@@ -9,7 +9,11 @@ use Rattle.command_files.specs.Sources.{ProgramLacksImage, FileLacksProgramImage
 
 pub compiled : (files : Option Contents) (name bytes : List ℕ) (image : Image) → HasBytes files name bytes → SpellsImage bytes image
     → IsCompiledFrom files name image
-compiled files name bytes image held is = record { scl = is.scl; source = record { bytes = bytes; held = held; text = is.text; read = is.read }; compiled = is.compiled }
+compiled files name bytes image held is = record {
+  scl = is.scl;
+  source = record { bytes = bytes; held = held; text = is.text; read = is.read };
+  compiled = is.compiled;
+}
 
 pub no_source : (files : Option Contents) (name bytes : List ℕ) (f : LoadFault) → HasBytes files name bytes → BytesLackProgram bytes f
     → FileLacksProgram files name f

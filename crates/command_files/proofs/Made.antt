@@ -11,7 +11,8 @@ other_made text p q true made same = subst (Makes text) (same.0 refl) made
 other_made text p q false made same = inr (record { other = q; made = made; differs = λ e. (let is : false ≡ true = same.1 e in cc) })
 
 -- it makes none, for a fault that says so
-pub none_made : {E : Type 0} (text : List ℕ) (p : Program) (f : LoadFault) (r : Result Bool E) → HasNone text f → IfOk r (λ made. made ≡ false) → IfOk r (λ _. SaysOfText f) → IfOk r (λ made. MatchBool made (Makes text p) (IsUnmade text p))
+pub none_made : {E : Type 0} (text : List ℕ) (p : Program) (f : LoadFault) (r : Result Bool E) → HasNone text f → IfOk r (λ made. made ≡ false)
+    → IfOk r (λ _. SaysOfText f) → IfOk r (λ made. MatchBool made (Makes text p) (IsUnmade text p))
 none_made text p f (Ok made) why none said =
     subst (λ b. MatchBool b (Makes text p) (IsUnmade text p)) (sym none) (inl (record { fault = f; why = why; said = said }))
 none_made text p f (Err e) why none said = tt

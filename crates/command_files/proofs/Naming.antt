@@ -1,5 +1,6 @@
 -- The names of files as they are shown: byte by byte, or character by character.
-use Rattle.std.proofs.Common.{◌≡◌, ◌∙◌, ℕ, ◌+◌, ◌/◌, ◌<◌, ◌≤◌, ◌==◌, Bool, true, false, List, [], ◌∷◌, ◌++◌, map, refl, sym, ap, arith, cond, if◌then◌else◌, ◌⊎◌, inl, inr}
+use Rattle.std.proofs.Common.{◌≡◌, ◌∙◌, ℕ, ◌+◌, ◌/◌, ◌<◌, ◌≤◌, ◌==◌, Bool, true, false, List, [], ◌∷◌, ◌++◌, map, refl, sym, ap, arith, cond, if◌then◌else◌}
+use Rattle.std.proofs.Common.{◌⊎◌, inl, inr}
 use Rattle.std.proofs.lemmas.List.{map-append, append_assoc}
 use Rattle.std.proofs.lemmas.Str.{encode_ascii}
 use Rattle.std.proofs.lemmas.Bool.Decides.{nat_tests}
@@ -67,7 +68,8 @@ one_shown shown shown' rest rest' name c so_far first more =
     let split : shown_name rest ≡ shown_name (encode c) ++ shown_name rest' = ap shown_name first ∙ map-append shown_byte (encode c) rest' in
     let letter = shown_letter c in
     let same : shown' ++ shown_name rest' ≡ (shown ++ encode (shown_byte c)) ++ shown_name rest' = ap (λ s. s ++ shown_name rest') more in
-    let joined : (shown ++ encode (shown_byte c)) ++ shown_name rest' ≡ shown ++ (encode (shown_byte c) ++ shown_name rest') = append_assoc shown (encode (shown_byte c)) (shown_name rest') in
+    let joined : (shown ++ encode (shown_byte c)) ++ shown_name rest' ≡ shown ++ (encode (shown_byte c) ++ shown_name rest') = append_assoc shown
+    (encode (shown_byte c)) (shown_name rest') in
     same ∙ joined ∙ ap (λ s. shown ++ (s ++ shown_name rest')) (sym letter) ∙ ap (λ s. shown ++ s) (sym split) ∙ so_far
 
 abbrev is_feed : ℕ → Bool

@@ -9,6 +9,7 @@ use crate::files::Files;
 use crate::load::bytes_of;
 use crate::source::read_bytes;
 use compiler::compile_scl;
+use sqlite_items::Boxed;
 use std::alloc::Global;
 use verifier::Verified;
 
@@ -25,13 +26,8 @@ pub fn compile_bytes(alloc: Global, bytes: &[u8]) -> Result<Verified, LoadFault>
     }
 }
 
-/// The image of the program whose text, or the text of whose chart, is in the file of this name. Err: there is no
-/// program in the file, or why it has no image.
-pub fn load_compiled<F: Files>(
-    alloc: Global,
-    files: &mut F,
-    name: &str,
-) -> Result<Verified, LoadFault>
+// The image of the program whose text, or the text of whose chart, is in the file of this name.
+fn compile_file<F: Files>(alloc: Global, files: &mut F, name: &str) -> Result<Verified, LoadFault>
     ensures compiled { IfOk result (IsCompiledFrom (F.contents files.old) name.now) }
     ensures fault { IfErr result (FileLacksCompiled (F.contents files.old) name.now) }
     ensures same { F.contents files.new ≡ F.contents files.old }
@@ -40,4 +36,21 @@ pub fn load_compiled<F: Files>(
 {
     let bytes = bytes_of(alloc, files, name)?;
     compile_bytes(alloc, &bytes)
+}
+
+/// The image of the program whose text, or the text of whose chart, is in the file of this name, in a box. Err: there
+/// is no program in the file, or why it has no image.
+pub fn load_compiled<F: Files>(
+    alloc: Global,
+    files: &mut F,
+    name: &str,
+) -> Result<Boxed<Verified>, LoadFault>
+    ensures compiled { IfOk result (IsCompiledFrom (F.contents files.old) name.now) }
+    ensures fault { IfErr result (FileLacksCompiled (F.contents files.old) name.now) }
+    ensures same { F.contents files.new ≡ F.contents files.old }
+    ensures none_failed { OnOk result (F.failures files.new ≡ F.failures files.old) }
+    ensures failed { IfErr result (λ fault. F.failures files.new ≡ F.failures files.old + files_failed fault) }
+{
+    let image = compile_file(alloc, files, name)?;
+    Ok(Boxed::new(alloc, image)?)
 }

@@ -11,6 +11,7 @@ use crate::fault::LoadFault;
 use crate::files::Files;
 use crate::load::bytes_of;
 use bytecode::decode_either;
+use sqlite_items::Boxed;
 use std::alloc::Global;
 use verifier::{Verified, verify};
 
@@ -29,13 +30,13 @@ fn verified(alloc: Global, bytes: &[u8]) -> Result<Verified, LoadFault>
     }
 }
 
-/// The image in the file of this name, once it is verified. Err: the file could not be read, or why
-/// it has no valid image.
+/// The image in the file of this name, once it is verified, in a box, which is dropped in one step. Err: the file could
+/// not be read, or why it has no valid image.
 pub fn load_verified<F: Files>(
     alloc: Global,
     files: &mut F,
     name: &str,
-) -> Result<Verified, LoadFault>
+) -> Result<Boxed<Verified>, LoadFault>
     ensures loaded { IfOk result (IsLoaded (F.contents files.old) name.now) }
     ensures fault { IfErr result (FileLacksImage (F.contents files.old) name.now) }
     ensures same { F.contents files.new ≡ F.contents files.old }
@@ -43,5 +44,6 @@ pub fn load_verified<F: Files>(
     ensures failed { IfErr result (λ fault. F.failures files.new ≡ F.failures files.old + files_failed fault) }
 {
     let bytes = bytes_of(alloc, files, name)?;
-    verified(alloc, &bytes)
+    let image = verified(alloc, &bytes)?;
+    Ok(Boxed::new(alloc, image)?)
 }

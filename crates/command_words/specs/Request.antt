@@ -1,45 +1,54 @@
 -- What the words of a command ask for.
-use Rattle.std.specs.Prelude.{ℕ, Bool, true, false, not, ◌&&◌, option_map, if◌then◌else◌, codes, map, string_bytes, unwrap_or, Option, Some, None, List, [], ◌∷◌}
+use Rattle.std.specs.Prelude.{ℕ, Bool, true, false, not, ◌&&◌, option_map, if◌then◌else◌, codes, map, string_bytes, unwrap_or, Option, Some, None, List, []}
+use Rattle.std.specs.Prelude.{◌∷◌}
 use Rattle.std.specs.Option.{option_and_then}
 use Rattle.std.specs.Str.{bytes_eq}
 use Rattle.command_words.specs.Said.{Names, NoName, One, Two, Said, is_option, said_by}
 use Rattle.command_words.specs.declared.arguments.Request.{Request as Words}
 use Rattle.command_words.specs.declared.arguments.Request.TheVariants as words
+use Rattle.command_words.specs.declared.arguments.Wanted.{Wanted as WantedWords}
+use Rattle.command_words.specs.declared.arguments.Wanted.TheVariants as wanted
 
--- a request, with the name of a file or of two, or of several; a run by so many workers; an image for the output in place
--- of a file
+-- a text that is written to the output, with the name of its file or of two, or the bytes of an image
+pub data Wanted : Type 0 where
+  Summary : (name : List ℕ) → Wanted
+  Core : (name : List ℕ) → Wanted
+  Nodes : (name : List ℕ) → Wanted
+  Places : (name source : List ℕ) → Wanted
+  Drawing : (name : List ℕ) → Wanted
+  Compiled : (from : List ℕ) → Wanted
+  Migrated : (from : List ℕ) → Wanted
+
+-- a request, with the name of a file or of two, or of several; a run by so many workers
 pub data Request : Type 0 where
-  Check : (name : List ℕ) → Request
+  Write : Wanted → Request
   Run : (name : List ℕ) (workers : ℕ) → Request
   RunWithStates : (name chart : List ℕ) → Request
   Compile : (from to : List ℕ) → Request
-  CompileToOutput : (from : List ℕ) → Request
   Print : (name : List ℕ) → Request
-  PrintCore : (name : List ℕ) → Request
   Migrate : (from to : List ℕ) → Request
-  MigrateToOutput : (from : List ℕ) → Request
-  ListNodes : (name : List ℕ) → Request
-  ListPlaces : (name source : List ℕ) → Request
   Explain : (name : List ℕ) → Request
-  Draw : (name : List ℕ) → Request
   Test : (names : List (List ℕ)) → Request
   Simulate : (name : List ℕ) → Request
 
 -- a request whose name is text
+abbrev pub wanted_seen : WantedWords → Wanted
+wanted_seen (wanted.Summary name) = Summary name.now
+wanted_seen (wanted.Core name) = Core name.now
+wanted_seen (wanted.Nodes name) = Nodes name.now
+wanted_seen (wanted.Places name source) = Places name.now source.now
+wanted_seen (wanted.Drawing name) = Drawing name.now
+wanted_seen (wanted.Compiled from) = Compiled from.now
+wanted_seen (wanted.Migrated from) = Migrated from.now
+
 abbrev pub seen : Words → Request
-seen (words.Check name) = Check name.now
+seen (words.Write asked) = Write (wanted_seen asked)
 seen (words.Run name workers) = Run name.now workers.number
 seen (words.RunWithStates name chart) = RunWithStates name.now chart.now
 seen (words.Compile from to) = Compile from.now to.now
-seen (words.CompileToOutput from) = CompileToOutput from.now
 seen (words.Print name) = Print name.now
-seen (words.PrintCore name) = PrintCore name.now
 seen (words.Migrate from to) = Migrate from.now to.now
-seen (words.MigrateToOutput from) = MigrateToOutput from.now
-seen (words.ListNodes name) = ListNodes name.now
-seen (words.ListPlaces name source) = ListPlaces name.now source.now
 seen (words.Explain name) = Explain name.now
-seen (words.Draw name) = Draw name.now
 seen (words.Test names) = Test (map string_bytes names.now)
 seen (words.Simulate name) = Simulate name.now
 
@@ -55,25 +64,25 @@ run_of workers source chart names = None
 
 -- a listing of one file, with a source or without
 abbrev pub list_of : Option ℕ → Option (List ℕ) → Option (List ℕ) → Names → Option Request
-list_of None None None (One name) = Some (ListNodes name)
-list_of None (Some source) None (One name) = Some (ListPlaces name source)
+list_of None None None (One name) = Some (Write (Nodes name))
+list_of None (Some source) None (One name) = Some (Write (Places name source))
 list_of workers source chart names = None
 
 -- where an image goes: to the file of a name, or, of the name `-`, to the output
 abbrev pub compile_to : List ℕ → List ℕ → Request
-compile_to from to = if bytes_eq to (codes "-") then CompileToOutput from else Compile from to
+compile_to from to = if bytes_eq to (codes "-") then Write (Compiled from) else Compile from to
 
 abbrev pub migrate_to : List ℕ → List ℕ → Request
-migrate_to from to = if bytes_eq to (codes "-") then MigrateToOutput from else Migrate from to
+migrate_to from to = if bytes_eq to (codes "-") then Write (Migrated from) else Migrate from to
 
 -- what another verb asks for with these names
 abbrev pub asked : List ℕ → Names → Option Request
 asked verb (One name) =
-    if bytes_eq verb (codes "check") then Some (Check name)
+    if bytes_eq verb (codes "check") then Some (Write (Summary name))
+    else if bytes_eq verb (codes "core") then Some (Write (Core name))
+    else if bytes_eq verb (codes "dot") then Some (Write (Drawing name))
     else if bytes_eq verb (codes "scl") then Some (Print name)
-    else if bytes_eq verb (codes "core") then Some (PrintCore name)
     else if bytes_eq verb (codes "explain") then Some (Explain name)
-    else if bytes_eq verb (codes "dot") then Some (Draw name)
     else if bytes_eq verb (codes "simulate") then Some (Simulate name)
     else None
 asked verb (Two from to) =

@@ -1,5 +1,6 @@
 -- What the words behind a verb say: its options with their values, and the names of files.
-use Rattle.std.specs.Prelude.{ℕ, Bool, true, false, ◌==◌, ◌-◌, ◌||◌, nat_eq, nat_lt, if◌then◌else◌, codes, is_some, Option, Some, None, option_map, List, [], ◌∷◌, take, drop}
+use Rattle.std.specs.Prelude.{ℕ, Bool, true, false, ◌==◌, ◌-◌, ◌||◌, nat_eq, nat_lt, if◌then◌else◌, codes, is_some, Option, Some, None, option_map, List, []}
+use Rattle.std.specs.Prelude.{◌∷◌, take, drop}
 use Rattle.std.specs.List.{starts_with}
 use Rattle.std.specs.Option.{option_and_then}
 use Rattle.std.specs.Str.{bytes_eq}

@@ -16,35 +16,42 @@ use std::alloc::{AllocError, Global};
 // How many workers a run has where its words do not say.
 const USUAL_WORKERS: Workers = Workers { number: 2 };
 
+/// A text that is written to the output, or the bytes of an image.
+#[derive(Clone, Copy, Debug, PartialEq, Eq)]
+pub enum Wanted<'a> {
+    /// The summary of the image in this file.
+    Summary(&'a str),
+    /// The core chart of the chart in this file.
+    Core(&'a str),
+    /// The listing of the image in this file.
+    Nodes(&'a str),
+    /// The listing of the image in the first file, with the places of its nodes in the text of the second.
+    Places(&'a str, &'a str),
+    /// The drawing of the chart in this file, or of the graph of the SCL text.
+    Drawing(&'a str),
+    /// The image of the chart or SCL text in this file.
+    Compiled(&'a str),
+    /// The image in this file, in version 2 of the layout.
+    Migrated(&'a str),
+}
+
 /// What the words ask for.
 #[derive(Clone, Copy, Debug, PartialEq, Eq)]
 pub enum Request<'a> {
-    /// Check the image in this file.
-    Check(&'a str),
+    /// Write one text, or one image, to the output.
+    Write(Wanted<'a>),
     /// Run the image in this file by so many workers.
     Run(&'a str, Workers),
     /// Run it, and tell in each line which states are active of the chart in the second file.
     RunWithStates(&'a str, &'a str),
     /// Write the image of the chart or SCL text in the first file to the second.
     Compile(&'a str, &'a str),
-    /// Write it to the output.
-    CompileToOutput(&'a str),
     /// Print the SCL text in this file, or that of the chart in it.
     Print(&'a str),
-    /// Print the core chart of the chart in this file.
-    PrintCore(&'a str),
     /// Write the image in the first file to the second, in version 2 of the layout.
     Migrate(&'a str, &'a str),
-    /// Write it to the output.
-    MigrateToOutput(&'a str),
-    /// List the image in this file.
-    ListNodes(&'a str),
-    /// List the image in the first file, with the places of its nodes in the text of the second.
-    ListPlaces(&'a str, &'a str),
     /// Tell why the chart or SCL text in this file is refused.
     Explain(&'a str),
-    /// Draw the chart in this file, or the graph of the SCL text.
-    Draw(&'a str),
     /// Test the charts and SCL texts in these files, of which there is one at least.
     Test(&'a [String]),
     /// Step the chart or SCL text in this file by hand.
@@ -110,8 +117,10 @@ fn list_of<'a>(said: &Said<'a>) -> Option<Request<'a>>
         (said_seen said.now).chart (said_seen said.now).names }
 {
     match (said.workers, said.source, said.chart, said.names) {
-        (None, None, None, Names::One(name)) => Some(Request::ListNodes(name)),
-        (None, Some(source), None, Names::One(name)) => Some(Request::ListPlaces(name, source)),
+        (None, None, None, Names::One(name)) => Some(Request::Write(Wanted::Nodes(name))),
+        (None, Some(source), None, Names::One(name)) => {
+            Some(Request::Write(Wanted::Places(name, source)))
+        }
         _ => None,
     }
 }
@@ -121,7 +130,7 @@ fn compile_to<'a>(from: &'a str, to: &'a str) -> Request<'a>
     ensures { seen result ≡ compile_to from.now to.now }
 {
     match to {
-        "-" => Request::CompileToOutput(from),
+        "-" => Request::Write(Wanted::Compiled(from)),
         to => Request::Compile(from, to),
     }
 }
@@ -131,7 +140,7 @@ fn migrate_to<'a>(from: &'a str, to: &'a str) -> Request<'a>
     ensures { seen result ≡ migrate_to from.now to.now }
 {
     match to {
-        "-" => Request::MigrateToOutput(from),
+        "-" => Request::Write(Wanted::Migrated(from)),
         to => Request::Migrate(from, to),
     }
 }
@@ -141,11 +150,11 @@ fn asked<'a>(verb: &str, names: Names<'a>) -> Option<Request<'a>>
     ensures { option_map seen result ≡ asked verb.now (names_seen names.entry) }
 {
     match names {
-        Names::One(name) if verb == "check" => Some(Request::Check(name)),
+        Names::One(name) if verb == "check" => Some(Request::Write(Wanted::Summary(name))),
+        Names::One(name) if verb == "core" => Some(Request::Write(Wanted::Core(name))),
+        Names::One(name) if verb == "dot" => Some(Request::Write(Wanted::Drawing(name))),
         Names::One(name) if verb == "scl" => Some(Request::Print(name)),
-        Names::One(name) if verb == "core" => Some(Request::PrintCore(name)),
         Names::One(name) if verb == "explain" => Some(Request::Explain(name)),
-        Names::One(name) if verb == "dot" => Some(Request::Draw(name)),
         Names::One(name) if verb == "simulate" => Some(Request::Simulate(name)),
         Names::Two(from, to) if verb == "compile" => Some(compile_to(from, to)),
         Names::Two(from, to) if verb == "migrate" => Some(migrate_to(from, to)),

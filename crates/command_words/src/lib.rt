@@ -6,5 +6,5 @@ mod said;
 mod verbs;
 mod workers;
 
-pub use arguments::{Asking, Request, Unread, read_words};
+pub use arguments::{Asking, Request, Unread, Wanted, read_words};
 pub use workers::Workers;

@@ -8,6 +8,8 @@ mod Resting
 pub mod Ticks
 mod StepsFollowed
 pub mod LateTests
+pub mod Mirrored
+pub mod AtJoins
 pub mod Stands
 pub mod TestNodes
 pub mod TickStarts

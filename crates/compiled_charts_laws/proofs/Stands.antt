@@ -1,17 +1,14 @@
 -- A core chart and the graph of its lowering stand alike through each step of the chart, and what follows of how they stand.
 use Rattle.std.proofs.Common.{◌≡◌, ◌≢◌, ℕ, zero, suc, ◌<◌, ◌⊎◌, inl, inr, ⊎_elim, Option, Some, None, List, [], ◌∷◌, length, slice_get, unwrap_or}
-use Rattle.std.proofs.Common.{option_map, Contains, refl, sym, ap, subst, ◌∙◌, arith, Bool, true, false, nat_eq, eqb-true, if◌then◌else◌}
+use Rattle.std.proofs.Common.{Contains, refl, sym, ap, subst, ◌∙◌, arith, Bool, true, false, nat_eq, eqb-true, if◌then◌else◌}
 use Rattle.std.proofs.lemmas.Option.{slice_get_within}
 use Rattle.sc_values.specs.declared.expression.Expr.{Expr}
-use Rattle.sc_values.specs.Access.{Access, Nothing, no_access}
-use Rattle.sc_values.specs.Assignment.{Assignment, Inits, Combines, assignment_of, access_of_assignment}
+use Rattle.sc_values.specs.Access.{Access, Nothing}
+use Rattle.sc_values.specs.Assignment.{assignment_of, access_of_assignment}
 use Rattle.sc_graph.specs.declared.control.Control.{Control}
 use Rattle.sc_graph.specs.declared.control.Status.TheVariants as status
 use Rattle.sc_graph.specs.declared.program.Step.{Step}
-use Rattle.sc_graph.specs.declared.program.Step.TheVariants as node_step
-use Rattle.sc_graph.specs.Program.{Program, parent_of, owner_of, step_at}
-use Rattle.sc_graph.specs.Accesses.{accesses}
-use Rattle.sc_graph.specs.Accesses.{access_of as access_of_node}
+use Rattle.sc_graph.specs.Program.{Program, parent_of}
 use Rattle.sc_graph.specs.Control.{status_of}
 use Rattle.sc_graph.specs.Threads as threads
 use Rattle.sc_graph.specs.Valid.{IsFormed}
@@ -30,18 +27,15 @@ use Rattle.chart_machine.specs.Turns.{standing_of}
 use Rattle.chart_machine.specs.Steps.{access_of, access_of_trigger, state_in}
 use Rattle.scl.specs.declared.program.Scl.{Scl}
 use Rattle.scl.specs.Block.{Block, End, Assign, Label, Goto, Pause, If, Fork, Branches}
-use Rattle.scl.specs.Places.{threads_of}
-use Rattle.scl.specs.Places as places
 use Rattle.scl.specs.Numbering.{Numbered, numbered}
 use Rattle.scl.specs.Meaning.{State, Doing, Away, Todo, Forked, Resting, Resuming, Finished, doing}
 use Rattle.scl_graph.specs.Graph.{program_of, assigns}
 use Rattle.scl_graph_laws.specs.Standing.{standing, IsOfText}
-use Rattle.scl_graph_laws.specs.Mirrors.{Mirrors, HasNode, HasFork, leads}
+use Rattle.scl_graph_laws.specs.Mirrors.{Mirrors, HasNode, leads}
 use Rattle.scl_graph_laws.specs.Keeps.{Corresponds as StandsInGraph}
 use Rattle.scl_graph_laws.proofs.Texts.{program_mirrors}
-use Rattle.node_states.specs.Nodes.{state_of_node}
 use Rattle.chart_lowering_laws.specs.Layout.{Layout, IsSimple, IsFinal, IsSuper, LiesIn, IsRegionOf, Acts, Lowers}
-use Rattle.chart_lowering_laws.specs.Corresponds.{Live, HeldBy, IsAtRoot, Giving, Nothing as NotGiven, Ready, Turn, Past, given, giving, giving_in}
+use Rattle.chart_lowering_laws.specs.Corresponds.{Live, Giving, Nothing as NotGiven, Ready, Turn, Past, given, giving, giving_in}
 use Rattle.chart_lowering_laws.specs.Corresponds.{fresh, first_standing, Fits}
 use Rattle.chart_lowering_laws.specs.Keeps.{KeepsSteps}
 use Rattle.chart_lowering_laws.specs.Laws.{IsLowering}
@@ -51,64 +45,18 @@ use Rattle.chart_lowering_laws.proofs.LeadAlike.{is_there}
 use Rattle.chart_lowering_laws.proofs.Showing.{region_of}
 use Rattle.chart_lowering_laws.proofs.Lowered.{chart_is_lowered}
 use Rattle.chart_lowering_laws.proofs.TicksKept.{keeps_runs}
-use Rattle.compiled_charts_laws.specs.Nodes.{StandForStates}
 use Rattle.compiled_charts_laws.specs.Stands.{StandAlike}
 use Rattle.compiled_charts_laws.proofs.LateTests.{is_late, late_has_turn}
-use Rattle.compiled_charts_laws.proofs.Told.{nodes_stand}
-use Rattle.compiled_charts_laws.proofs.StepsFollowed.{status_is, waits_forked, follow}
+use Rattle.compiled_charts_laws.proofs.StepsFollowed.{status_is, follow}
+use Rattle.compiled_charts_laws.proofs.Mirrored.{owned, node_access, apart_too, access_of_assigns}
+use Rattle.compiled_charts_laws.proofs.AtJoins.{join_at}
+use Rattle.compiled_charts_laws.proofs.AtJoins as at_joins
 
 heads : (x y : ℕ) (xs ys : List ℕ) → x ∷ xs ≡ y ∷ ys → x ≡ y
 heads x y xs ys h = cc
 
 no_item : (x : ℕ) (xs : List ℕ) → [] ≡ x ∷ xs → ⊥
 no_item x xs h = cc
-
-waits_at : (n j : ℕ) → status.Waiting n ≡ status.Waiting j → n ≡ j
-waits_at n j h = cc
-
--- ---- who is apart in the text is so in the graph
-
-module _ (p : Numbered) (q : Program) (mirrors : Mirrors p q) where
-  pub owned : (n t : ℕ) (s : Step) → HasNode q n t s → owner_of q n ≡ Some t
-  owned n t s has = ap (option_map (λ x. x.owner)) has.is
-
-  pub stepped : (n t : ℕ) (s : Step) → HasNode q n t s → step_at q n ≡ Some s
-  stepped n t s has = ap (option_map (λ x. x.step)) has.is
-
-  pub node_access : (n t : ℕ) (s : Step) → HasNode q n t s → accesses q n ≡ access_of_node s
-  node_access n t s has = ap (λ o. unwrap_or (option_map access_of_node o) no_access) (stepped n t s has)
-
-  descends : (n t a : ℕ) → places.Descends p.root n t a → threads.Descends q n t a
-  descends zero t a h = h
-  descends (suc n) t a h = (h.0, mirrors.parents t h.0 h.1, descends n h.0 a h.2)
-
-  below : (t a : ℕ) → places.Below p.root t a → threads.Below q t a
-  below t a h = record { generations = h.generations; descends = descends h.generations t a h.descends }
-
-  apart_too : (t u a : ℕ) → places.ForkedApart p.root t u a → threads.ForkedApart q t u a
-  apart_too t u a h =
-      let has : HasFork q h.fork a (threads_of h.branches) (leads p.root h.is_fork.rest) =
-      mirrors.nodes a (Fork h.fork h.branches h.is_fork.rest) h.is_fork.place in
-      let step : Step = node_step.Fork (threads_of h.branches) (suc h.fork) in
-      record {
-        fork = h.fork;
-        children = threads_of h.branches;
-        join = suc h.fork;
-        is_fork = record { owned = owned h.fork a step has.nodes.first; forks = stepped h.fork a step has.nodes.first };
-        left = h.left;
-        right = h.right;
-        left_child = h.left_branch;
-        right_child = h.right_branch;
-        differ = h.differ;
-        t_below = below t h.left h.t_below;
-        u_below = below u h.right h.u_below;
-      }
-
--- ---- the chart and its graph
-
-pub access_of_assigns : (x : ℕ) (a : Assignment) (next : ℕ) → access_of_node (assigns x a next) ≡ access_of_assignment x a
-access_of_assigns x (Inits e) next = refl
-access_of_assigns x (Combines f e) next = refl
 
 trigger_writes : (o : Option Expr) → (access_of_trigger o).writes ≡ Nothing
 trigger_writes None = refl
@@ -117,10 +65,6 @@ trigger_writes (Some e) = refl
 -- the row of a number without a region
 abbrev no_row : RegionRow
 no_row = record { around = []; states = [] }
-
-abbrev join_at : Block → ℕ
-join_at (Fork n branches rest) = suc n
-join_at other = 0
 
 module _ (c : Chart) (p : Scl) (low : IsLowering c p) (formed : IsFormed (program_of (numbered p))) where
   abbrev K : Table
@@ -141,102 +85,25 @@ module _ (c : Chart) (p : Scl) (low : IsLowering c p) (formed : IsFormed (progra
   lowers : Lowers K P L
   lowers = chart_is_lowered c p low
 
+  abbrev join_in : Option StateRow → ℕ → ℕ
+  join_in = at_joins.join_in c p low
+
+  abbrev join_of : ℕ → ℕ
+  join_of = at_joins.join_of c p low
+
+  abbrev InState : ℕ → Standing → Type 0
+  InState = at_joins.InState c p low
+
+  abbrev waits_back : (d : Configuration) (m : Control) (t s : ℕ) → Alike d m → status_of m t ≡ status.Waiting (join_of s) → InState s (standing_of d t)
+  waits_back = at_joins.waits_back c p low
+
   steps : KeepsSteps K P L
   steps = (keeps_runs K P L lowers).steps
 
   mirrors : Mirrors P G
   mirrors = program_mirrors p
 
-  told : StandForStates K P.root L (state_of_node c)
-  told = nodes_stand c p low
-
-  -- ---- who waits at a join stands in its superstate
-
-  abbrev join_in : Option StateRow → ℕ → ℕ
-  join_in None s = 0
-  join_in (Some r) s = join_at (L.fork s)
-
-  abbrev join_of : ℕ → ℕ
-  join_of s = join_in (slice_get K.states s) s
-
-  join_told : (s n : ℕ) → suc n ≡ join_of s → slice_get (state_of_node c) (suc n) ≡ Some (Some s)
-  join_told s n = by (slice_get K.states s) refl
-    where
-      by_fork : s < length K.states → (b : Block) → L.fork s ≡ b → suc n ≡ join_at b → slice_get (state_of_node c) (suc n) ≡ Some (Some s)
-      by_fork less (Fork k branches rest) is same = subst (λ z. slice_get (state_of_node c) z ≡ Some (Some s)) (sym same) (told.forks s k branches rest less is)
-      by_fork less (End k) is same = absurd (cc)
-      by_fork less (Assign k x e rest) is same = absurd (cc)
-      by_fork less (Label name rest) is same = absurd (cc)
-      by_fork less (Goto g name rest) is same = absurd (cc)
-      by_fork less (Pause k rest) is same = absurd (cc)
-      by_fork less (If k e a b rest) is same = absurd (cc)
-
-      by : (o : Option StateRow) → slice_get K.states s ≡ o → suc n ≡ join_in o s → slice_get (state_of_node c) (suc n) ≡ Some (Some s)
-      by None is same = absurd (cc)
-      by (Some r) is same = by_fork (slice_get_within K.states s r is) (L.fork s) refl same
-
-  abbrev InState : ℕ → Standing → Type 0
-  InState s z = (tests : List Transition) × (z ≡ stand.Within s tests)
-
-  same_state : (u s : ℕ) (o : Option (Option ℕ)) → o ≡ Some (Some u) → o ≡ Some (Some s) → u ≡ s
-  same_state u s o h i = let same : Some (Some u) ≡ Some (Some s) = sym h ∙ i in cc
-
-  no_state : (s : ℕ) (o : Option (Option ℕ)) → o ≡ Some None → o ≡ Some (Some s) → ⊥
-  no_state s o h i = let same : Some None ≡ Some (Some s) = sym h ∙ i in absurd (cc)
-
-  live_waits : (t s : ℕ) (z : Standing) (d : Doing) → Live K P.root L t z d → HeldBy K P.root L t z → standing d ≡ status.Waiting (join_of s) → InState s z
-  live_waits t s (stand.Within u tests) (Forked n branches rest) live held w =
-      let same : u ≡ s = same_state u s (slice_get (state_of_node c) (suc n)) (told.forks u n branches rest held.0.there live.1)
-      (join_told s n (waits_at (suc n) (join_of s) w)) in (tests, ap (λ y. stand.Within y tests) same)
-  live_waits t s z Away live held w = absurd (waits_forked Away (join_of s) w)
-  live_waits t s z (Todo todo) live held w = absurd (waits_forked (Todo todo) (join_of s) w)
-  live_waits t s z (Resting n rest) live held w = absurd (waits_forked (Resting n rest) (join_of s) w)
-  live_waits t s z (Resuming n rest) live held w = absurd (waits_forked (Resuming n rest) (join_of s) w)
-  live_waits t s z Finished live held w = absurd (waits_forked Finished (join_of s) w)
-  live_waits t s stand.Outside (Forked n branches rest) live held w = absurd live
-  live_waits t s stand.Ended (Forked n branches rest) live held w = absurd live
-  live_waits t s (stand.Trying u tests) (Forked n branches rest) live held w = absurd live
-  live_waits t s (stand.Entering u tests) (Forked n branches rest) live held w = absurd live
-  live_waits t s (stand.Guarding u tests) (Forked n branches rest) live held w = absurd live
-  live_waits t s (stand.Acting u [] place) (Forked n branches rest) live held w = absurd live
-  live_waits t s (stand.Acting u (e ∷ effects) place) (Forked n branches rest) live held w = absurd live
-
-  away_waits : (s : ℕ) (z : Standing) (d : Doing) → d ≡ Away → standing d ≡ status.Waiting (join_of s) → InState s z
-  away_waits s z d away w = absurd (waits_forked Away (join_of s) (ap standing (sym away) ∙ w))
-
-  given_waits : (t s : ℕ) (g : Giving) (z : Standing) (d : Doing) → Fits K P.root L t g z d → standing d ≡ status.Waiting (join_of s) → InState s z
-  given_waits t s NotGiven z d fits w = away_waits s z d fits.1 w
-  given_waits t s Ready z d fits w = away_waits s z d fits.1 w
-  given_waits t s Past z d fits w = away_waits s z d fits.1 w
-  given_waits t s Turn z d fits w = live_waits t s z d fits.0 fits.1 w
-
-  root_waits : (s : ℕ) (z : Standing) (d : Doing) → IsAtRoot P.root d → standing d ≡ status.Waiting (join_of s) → InState s z
-  root_waits s z (Forked n branches rest) at w =
-      absurd (no_state s (slice_get (state_of_node c) (suc n)) (told.top n branches rest at) (join_told s n (waits_at (suc n) (join_of s) w)))
-  root_waits s z Away at w = absurd (waits_forked Away (join_of s) w)
-  root_waits s z (Todo todo) at w = absurd (waits_forked (Todo todo) (join_of s) w)
-  root_waits s z (Resting n rest) at w = absurd at
-  root_waits s z (Resuming n rest) at w = absurd at
-  root_waits s z Finished at w = absurd (waits_forked Finished (join_of s) w)
-
-  waits_back : (d : Configuration) (m : Control) (t s : ℕ) → Alike d m → status_of m t ≡ status.Waiting (join_of s) → InState s (standing_of d t)
-  waits_back d m t s x waits = by t (sym (status_is P x.state m x.of_graph t) ∙ waits)
-    where
-      by : (r : ℕ) → standing (doing x.state r) ≡ status.Waiting (join_of s) → InState s (standing_of d r)
-      by zero w = root_waits s (standing_of d zero) (doing x.state zero) x.of_chart.root w
-      by (suc r) w = there (slice_get x.state.threads (suc r)) refl
-        where
-          there : (o : Option Doing) → slice_get x.state.threads (suc r) ≡ o → InState s (standing_of d (suc r))
-          there None is = away_waits s (standing_of d (suc r)) (doing x.state (suc r)) (ap (λ o. unwrap_or o Away) is) w
-          there (Some y) is =
-              let less : suc r < length x.state.threads = slice_get_within x.state.threads (suc r) y is in
-              let many : length x.state.threads ≡ suc (length K.regions) = x.of_chart.threads in
-              let region : IsRegionOf K (suc r) = (omega arith, omega (arith, less, many)) in
-              given_waits (suc r) s (given K d x.state (region_at K (suc r)).around) (standing_of d (suc r)) (doing x.state (suc r))
-              (x.of_chart.each (suc r) region) w
-
   -- ---- who is about to write stands at the node
-
   abbrev Acting : ℕ → Effect → List Effect → ℕ → Standing
   Acting u e effects place = stand.Acting u (e ∷ effects) place
 
@@ -303,7 +170,6 @@ module _ (c : Chart) (p : Scl) (low : IsLowering c p) (formed : IsFormed (progra
       by (stand.Within u (y ∷ tests)) is writes = absurd (writes (trigger_writes y.trigger))
 
   -- ---- the tree of threads
-
   parent : (t s : ℕ) (ss : List ℕ) → (region_at K t).around ≡ s ∷ ss → parent_of G t ≡ Some (state_at K s).holder
   parent t s ss is = by_tree (lowers.tree.each t (there t is))
     where
@@ -351,7 +217,6 @@ module _ (c : Chart) (p : Scl) (low : IsLowering c p) (formed : IsFormed (progra
   }
 
   -- ---- while a region has its turn, the holder of the superstate around it waits at the join
-
   holder_waits : (d : Configuration) (m : Control) (x : StandAlike K P L G d m) (s : ℕ) → s < length K.states →
       giving_in s (standing_of d (state_at K s).holder) (doing x.state (state_at K s).holder) ≡ Turn →
       status_of m (state_at K s).holder ≡ status.Waiting (stand_alike.join_of s)

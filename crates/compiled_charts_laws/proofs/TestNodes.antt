@@ -42,7 +42,7 @@ use Rattle.chart_lowering_laws.proofs.Showing.{region_of}
 use Rattle.chart_lowering_laws.proofs.Lowered.{chart_is_lowered}
 use Rattle.compiled_charts_laws.specs.Stands.{StandAlike}
 use Rattle.compiled_charts_laws.proofs.LateTests.{is_late, late_has_turn}
-use Rattle.compiled_charts_laws.proofs.Stands.{owned, stepped, node_access, access_of_assigns}
+use Rattle.compiled_charts_laws.proofs.Mirrored.{owned, stepped, node_access, access_of_assigns}
 
 -- thread t tests e at a node, behind which it does this effect where the test holds
 pub record TestNode (q : Program) (t : ℕ) (e : Expr) (f : Effect) : Type 0 where

@@ -56,7 +56,7 @@ use Rattle.chart_lowering_laws.proofs.TicksKept.{keeps_runs}
 use Rattle.node_states.specs.Nodes.{state_of_node}
 use Rattle.compiled_charts_laws.specs.Stands.{StandAlike}
 use Rattle.compiled_charts_laws.proofs.StepsFollowed.{status_is}
-use Rattle.compiled_charts_laws.proofs.Stands.{owned, stepped}
+use Rattle.compiled_charts_laws.proofs.Mirrored.{owned, stepped}
 use Rattle.compiled_charts_laws.proofs.TestNodes.{tried, tried_node, tried_access}
 use Rattle.compiled_charts_laws.proofs.Ticks as ticks
 use Rattle.compiled_charts_laws.proofs.Told.{nodes_stand}

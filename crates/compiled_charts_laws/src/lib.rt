@@ -2,7 +2,8 @@
 //! active states, and a chart without aborts is its own core chart. The laws, over the definitions alone.
 #![tactic(auto)]
 
-ghost use Rattle.compiled_charts_laws.specs.Laws.{ChartsHaveOneReaction, ChartsWithoutAbortsStay, LoweringsStand, NodesTellStates};
+ghost use Rattle.compiled_charts_laws.specs.Laws.{ChartsHaveOneReaction, ChartsWithoutAbortsStay, LoweringsStand};
+ghost use Rattle.compiled_charts_laws.specs.Laws.{NodesTellStates};
 
 /// In the graph of a core chart's lowering each state rests at the node that stands for it: at the depth of its
 /// pause, or at the join of its fork. This function does nothing; its contract is the law.

@@ -1,30 +1,15 @@
 //! What the words of a row stand for.
 
+ghost use Rattle.std.specs.Prelude.{◌≤◌, IfOk};
+
+use row_answers::{Unanswered, halves, known};
 use sc_values::{Name, Value};
 use sqlite_items::Items;
 use std::alloc::Global;
-use std::io;
 use tick_core::Inputs;
 
-/// What it holds; else the row means nothing.
-pub(crate) fn known<T>(answer: Option<T>) -> io::Result<T> {
-    match answer {
-        Some(it) => Ok(it),
-        None => Err(io::Error::from(io::ErrorKind::InvalidData)),
-    }
-}
-
-/// The text before a sign, and the text behind it.
-pub(crate) fn halves(text: &str, sign: char) -> (&str, &str) {
-    let mut parts = text.splitn(2, sign);
-    match (parts.next(), parts.next()) {
-        (Some(first), Some(second)) => (first, second),
-        _ => (text, ""),
-    }
-}
-
 // A value: `false`, a number, or, where there is no word, `true`.
-fn value(word: &str) -> io::Result<Value> {
+fn value(word: &str) -> Result<Value, Unanswered> {
     match word {
         "" => Ok(Value::Bool(true)),
         "false" => Ok(Value::Bool(false)),
@@ -32,21 +17,35 @@ fn value(word: &str) -> io::Result<Value> {
     }
 }
 
-// Inputs, each as `NAME=VALUE`, or as `NAME` where it is `true`.
-fn inputs(alloc: Global, text: &str) -> io::Result<Inputs> {
+// An input, as `NAME=VALUE`, or as `NAME` where it is `true`.
+fn input(word: &str) -> Result<(Name, Value), Unanswered> {
+    let (name, given) = halves(word, '=');
+    Ok((known(Name::of(name))?, value(given)?))
+}
+
+fn inputs(alloc: Global, text: &str) -> Result<Inputs, Unanswered> {
     let mut inputs = Items::new(alloc);
     for word in text.split_whitespace() {
-        let (name, given) = halves(word, '=');
-        inputs.push((known(Name::of(name))?, value(given)?))?;
+        inputs.push(input(word)?)?;
     }
     Ok(inputs)
 }
 
 /// The inputs of ticks, one behind the other, with `;` between them.
-pub(crate) fn ticks(alloc: Global, text: &str) -> io::Result<Vec<Inputs>> {
+pub(crate) fn ticks(alloc: Global, text: &str) -> Result<Vec<Inputs>, Unanswered> {
     let mut ticks = Vec::new(alloc);
     for part in text.split(';') {
         ticks.push(inputs(alloc, part)?)?;
     }
     Ok(ticks)
+}
+
+/// A number of workers, 1 to 8.
+pub(crate) fn workers(text: &str) -> Result<u8, Unanswered>
+    ensures { IfOk result (λ workers. (1 ≤ workers) × (workers ≤ 8)) }
+{
+    match text.parse::<u8>().ok() {
+        Some(workers) if 1 <= workers && workers <= 8 => Ok(workers),
+        _ => Err(Unanswered),
+    }
 }

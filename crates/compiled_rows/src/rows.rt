@@ -1,12 +1,12 @@
 //! Rows, each answered by a line.
 
-use crate::reading::{halves, known, ticks};
-use crate::telling::{tell_numbers, tell_values};
+use crate::reading::{ticks, workers};
 use chart_reader::read_chart;
 use compiled_charts::{Compiled, RunFault, compile_chart};
+use core_charts::Chart;
+use row_answers::{Answers, Unanswered, halves, known};
 use sc_graph::Control;
-use std::alloc::Global;
-use std::io;
+use std::alloc::{AllocError, Global};
 use std::sync::Wait;
 use std::thread::Threads;
 
@@ -17,22 +17,35 @@ struct Asked {
     declared: usize,
 }
 
+// The active states in a configuration, each behind a space.
+fn tell_active(
+    alloc: Global,
+    asked: &Asked,
+    control: &Control,
+    answers: &mut Answers,
+) -> Result<(), AllocError> {
+    let active = asked.compiled.active(alloc, control)?;
+    for state in active.as_slice() {
+        answers.tell_with(" ", *state as usize);
+    }
+    Ok(())
+}
+
 // The declared variables and the active states of each configuration, with `|` between them.
 fn tell_controls(
     alloc: Global,
     asked: &Asked,
     controls: &[Control],
-    told: &mut String,
-) -> io::Result<()> {
+    answers: &mut Answers,
+) -> Result<(), AllocError> {
     for (at, control) in controls.iter().enumerate() {
         if at > 0 {
-            told.push_str(" | ")?;
+            answers.tell(" | ");
         }
-        told.push_str("values")?;
-        tell_values(alloc, told, control.variables.as_slice(), asked.declared)?;
-        told.push_str("; active")?;
-        let active = asked.compiled.active(alloc, control)?;
-        tell_numbers(alloc, told, active.as_slice())?;
+        answers.tell("values");
+        answers.first_values(control.variables.as_slice(), asked.declared);
+        answers.tell("; active");
+        tell_active(alloc, asked, control, answers)?;
     }
     Ok(())
 }
@@ -43,20 +56,18 @@ fn answer_run<R: Threads + Wait + Sync>(
     alloc: Global,
     asked: &Asked,
     row: &str,
-    told: &mut String,
-) -> io::Result<()> {
-    let (workers, given) = halves(row, ':');
-    let workers = known(workers.parse::<u8>().ok())?;
-    if workers < 1 || workers > 8 {
-        return known(None);
-    }
+    answers: &mut Answers,
+) -> Result<(), Unanswered> {
+    let (count, given) = halves(row, ':');
+    let count = workers(count)?;
     let ticks = ticks(alloc, given)?;
-    match asked.compiled.run(rt, alloc, &ticks, workers) {
-        Ok(controls) => tell_controls(alloc, asked, controls.as_slice(), told)?,
+    match asked.compiled.run(rt, alloc, &ticks, count) {
+        Ok(controls) => tell_controls(alloc, asked, controls.as_slice(), answers)?,
         Err(RunFault::Input(tick)) => {
-            told.push_str(format!(in alloc; "refused in tick {tick}")?.as_str())?;
+            answers.tell("refused in tick ");
+            answers.show(&tick);
         }
-        Err(RunFault::Memory) => return known(None),
+        Err(RunFault::Memory) => return Err(Unanswered),
     }
     Ok(())
 }
@@ -67,13 +78,13 @@ fn answer_rows<R: Threads + Wait + Sync>(
     alloc: Global,
     asked: &Asked,
     rows: &str,
-    told: &mut String,
-) -> io::Result<()> {
+    answers: &mut Answers,
+) -> Result<(), Unanswered> {
     for row in rows.lines() {
         let (word, rest) = halves(row, ' ');
         if word == "run" {
-            answer_run(rt, alloc, asked, rest, told)?;
-            told.push_str("\n")?;
+            answer_run(rt, alloc, asked, rest, answers)?;
+            answers.tell("\n");
         }
     }
     Ok(())
@@ -83,36 +94,43 @@ fn answer_rows<R: Threads + Wait + Sync>(
 fn answer_chart<R: Threads + Wait + Sync>(
     rt: &R,
     alloc: Global,
-    text: &str,
+    chart: &Chart,
     rows: &str,
-    told: &mut String,
-) -> io::Result<()> {
-    let chart = known(read_chart(alloc, text).ok())?;
-    match compile_chart(alloc, &chart) {
+    answers: &mut Answers,
+) -> Result<(), Unanswered> {
+    match compile_chart(alloc, chart) {
         Ok(compiled) => {
-            told.push_str("chart\n")?;
+            answers.tell("chart\n");
             let declared = chart.variables().len();
-            answer_rows(rt, alloc, &Asked { compiled, declared }, rows, told)
+            answer_rows(rt, alloc, &Asked { compiled, declared }, rows, answers)
         }
         Err(fault) => {
-            told.push_str(format!(in alloc; "{fault}\n")?.as_str())?;
+            answers.show(&fault);
+            answers.tell("\n");
             Ok(())
         }
     }
 }
 
-/// Answers all rows: each chart by `chart`, or why it has no image, and then the rows behind it.
+// The chart whose text stands behind its word.
+fn chart_of(alloc: Global, spelled: &str) -> Result<Chart, Unanswered> {
+    let text = format!(in alloc; "chart {spelled}")?;
+    known(read_chart(alloc, text.as_str()).ok())
+}
+
+/// Answers all rows: each chart by `chart`, or why it has no image, and then the rows behind it. Err: a row means
+/// nothing, or memory was refused.
 pub(crate) fn answer<R: Threads + Wait + Sync>(
     rt: &R,
     alloc: Global,
     text: &str,
-    told: &mut String,
-) -> io::Result<()> {
+    answers: &mut Answers,
+) -> Result<(), Unanswered> {
     for part in text.split("\nchart ") {
         if !part.is_empty() {
             let (spelled, rows) = halves(part, '\n');
-            let chart = format!(in alloc; "chart {spelled}")?;
-            answer_chart(rt, alloc, chart.as_str(), rows, told)?;
+            let chart = chart_of(alloc, spelled)?;
+            answer_chart(rt, alloc, &chart, rows, answers)?;
         }
     }
     Ok(())

@@ -10,7 +10,7 @@ use Rattle.verifier.specs.declared.rule.Rule.{Rule}
 use Rattle.verifier.specs.declared.rule.Rule.TheVariants as rule
 use Rattle.verifier.specs.declared.rule.Refusal.{Refusal}
 use Rattle.verifier.specs.declared.rule.Refusal.TheVariants as refusal
-use Rattle.conflict_edges.specs.Conflicts.{HasNoConflict}
+use Rattle.program_edges.specs.Conflicts.{HasNoConflict}
 use Rattle.conflict_edges.specs.declared.fault.ConflictFault.{ConflictFault}
 use Rattle.conflict_edges.specs.declared.fault.ConflictFault.TheVariants as conflict
 use Rattle.priority_weights.specs.Edges.{IsInstantLoop, IsOrderCycle, HasNoWalk}

@@ -1,7 +1,7 @@
 //! From a program to its image.
 
 ghost use Rattle.std.specs.Prelude.{◌≤◌, IfErr, IfOk};
-ghost use Rattle.conflict_edges.specs.Conflicts.{HasNoConflict};
+ghost use Rattle.program_edges.specs.Conflicts.{HasNoConflict};
 ghost use Rattle.compiler.specs.Compiled.{IsCompiled, LacksImage};
 ghost use Rattle.priority_weights.specs.Edges.{HasNoWalk};
 ghost use Rattle.priority_weights.specs.LeastTables.{AreLeast};

@@ -11,7 +11,7 @@ use Rattle.sc_graph.specs.Program.{Program, step_at}
 use Rattle.sc_graph.specs.Accesses.{accesses, access_of}
 use Rattle.sc_graph.specs.declared.links.Links.{Links}
 use Rattle.conflict_edges.specs.declared.edges.Followers.{Followers}
-use Rattle.conflict_edges.specs.Conflicts.{AreFollowers, IsListed}
+use Rattle.conflict_edges.specs.Followers.{AreFollowers, IsListed}
 use Rattle.program_edges.specs.Users.{InitsAt, UpdatesAt, ReadsAt}
 use Rattle.program_edges.specs.declared.users.Users.{Users}
 use Rattle.conflict_edges.specs.Inside.Held.{AreHeld}
@@ -21,9 +21,9 @@ nothing_in : (n : ℕ) → ¬ Contains [] n
 nothing_in n c = let lt = c.1 in omega (arith, lt)
 
 -- an init comes before the updates and the reads of its variable
-pub after_init : (p threads : Program) (links : Links) (users : Users) (m x : ℕ) (f : Followers) → AreHeld p threads links users → InitsAt p x m →
+pub after_init : (p : Program) (links : Links) (users : Users) (m x : ℕ) (f : Followers) → AreHeld p links users → InitsAt p x m →
     f.updates.now ≡ get_or users.updates x [] → f.reads.now ≡ get_or users.reads x [] → AreFollowers p m f
-after_init p threads links users m x f l init u r =
+after_init p links users m x f l init u r =
     let lt : x < length p.variables = init_variable p l.formed m x init in
     let C : (n : ℕ) → List ℕ → Type 0 = λ n xs. Contains xs n in
     record {
@@ -54,9 +54,9 @@ after_init p threads links users m x f l init u r =
     listed n (update_read y g w z) = absurd (let b = init.1 in cc)
 
 -- an update comes before the reads of its variable
-pub after_update : (p threads : Program) (links : Links) (users : Users) (m x : ℕ) (f : Followers) → AreHeld p threads links users → UpdatesAt p x m →
+pub after_update : (p : Program) (links : Links) (users : Users) (m x : ℕ) (f : Followers) → AreHeld p links users → UpdatesAt p x m →
     f.updates.now ≡ [] → f.reads.now ≡ get_or users.reads x [] → AreFollowers p m f
-after_update p threads links users m x f l update u r =
+after_update p links users m x f l update u r =
     let lt : x < length p.variables = update_variable p l.formed m x update.0 update.1 in
     let C : (n : ℕ) → List ℕ → Type 0 = λ n xs. Contains xs n in
     record {

@@ -1,3 +1,1 @@
-pub mod Finding
 pub mod Followed
-pub mod Covered

@@ -1,2 +1,2 @@
-pub mod Conflicts
+pub mod Followers
 pub mod Inside

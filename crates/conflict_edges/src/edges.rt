@@ -2,16 +2,16 @@
 //! the update and the read, and the update before the read. Pairs of nodes are never stored.
 
 ghost use Rattle.std.specs.Prelude.{◌≡◌, ◌↔◌, IfOk, IsTrue, ℕ, Err, []};
-ghost use Rattle.conflict_edges.specs.Conflicts.{AreFollowers, HasNoConflict};
+ghost use Rattle.conflict_edges.specs.Followers.{AreFollowers};
 ghost use Rattle.conflict_edges.specs.declared.fault.ConflictFault.TheVariants.{WriteWrite};
+ghost use Rattle.program_edges.specs.Conflicts.{HasNoConflict};
 ghost use Rattle.sc_graph.specs.Protocol.{WriteConflict};
 ghost use Rattle.sc_graph.specs.Threads.{ConcurrentNodes};
 ghost use Rattle.sc_graph.specs.Valid.{IsFormed};
 
 use crate::fault::ConflictFault;
-use crate::pairs::find_conflict;
-use program_edges::{Users, has_company};
-use sc_graph::{ConcurrentThreads, Links, NodeId, Program, Step};
+use program_edges::{Users, are_concurrent, find_conflict, has_company};
+use sc_graph::{Links, NodeId, Program, Step};
 use std::alloc::Global;
 use std::marker::Model;
 
@@ -19,7 +19,6 @@ use std::marker::Model;
 #[derive(Drop)]
 pub struct Edges<'a> {
     program: &'a Program,
-    threads: ConcurrentThreads<'a>,
     links: Links,
     users: Users,
 }
@@ -32,7 +31,7 @@ impl<'a> Model for Edges<'a> {
 
     ghost view = { λ e. e.program.now };
 
-    ghost invariant = { λ e. AreHeld e.program.now e.threads e.links e.users };
+    ghost invariant = { λ e. AreHeld e.program.now e.links e.users };
 }
 
 /// Nodes of which each that is concurrent with a given one must come after it: those that update the
@@ -51,14 +50,12 @@ pub fn conflicts<'a>(alloc: Global, program: &'a Program) -> Result<Edges<'a>, C
     ensures none { IfOk result (λ _. HasNoConflict program.now) }
     ensures conflict { (m n : ℕ) → result ≡ Err (WriteWrite m n) → WriteConflict program.now m n }
 {
-    let threads = ConcurrentThreads::of(alloc, program)?;
     let links = Links::of(alloc, program)?;
     let users = Users::of(alloc, program)?;
-    match find_conflict(alloc, program, &threads, &links, &users)? {
+    match find_conflict(alloc, program, &links, &users)? {
         Some((m, n)) => Err(ConflictFault::WriteWrite(m, n)),
         None => Ok(Edges {
             program,
-            threads,
             links,
             users,
         }),
@@ -102,11 +99,9 @@ impl<'a> Edges<'a> {
     pub fn are_concurrent(&self, m: NodeId, n: NodeId) -> bool
         ensures { IsTrue result ↔ ConcurrentNodes self.now m n }
     {
-        match (self.program.owner(m), self.program.owner(n)) {
-            (Some(first), Some(second)) => self.threads.are(first, second),
-            _ => false,
-        }
+        are_concurrent(self.program, &self.links, m, n)
     }
+
     /// Whether a node may be concurrent with another: where not, it is so with none. It costs a step for each thread
     /// above it, so that where many pairs are asked for the first of them is asked for this before.
     pub fn has_company(&self, node: NodeId) -> bool

@@ -1,4 +1,6 @@
 mod Alike
 mod Cut
+mod Listed
+mod Replayed
 mod Stem
 mod Tested

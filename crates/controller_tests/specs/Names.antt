@@ -1,5 +1,7 @@
 -- The names of the files that stand beside a program's text.
-use Rattle.std.specs.Prelude.{ℕ, ◌-◌, List, ◌++◌, Option, Some, None, codes, length, take, drop, if◌then◌else◌, unwrap_or}
+use Rattle.std.specs.Prelude.{ℕ, ◌-◌, Bool, ◌&&◌, ◌||◌, List, ◌∷◌, ◌++◌, Option, Some}
+use Rattle.std.specs.Prelude.{None, codes, filter, is_some, length, map, take, drop, if◌then◌else◌, unwrap_or}
+use Rattle.std.specs.List.{list_any}
 use Rattle.std.specs.Str.{bytes_eq}
 
 -- a name without this ending, where it has it
@@ -19,3 +21,17 @@ stem name = or_whole name (without (codes ".chart") name)
 -- the name of the file beside a text, with this ending
 abbrev pub beside : List ℕ → List ℕ → List ℕ
 beside name ending = stem name ++ ending
+
+-- ---- the tests in a folder
+
+-- a name that ends as that of a chart or of a program
+abbrev pub is_text : List ℕ → Bool
+is_text name = is_some (without (codes ".chart") name) || is_some (without (codes ".scl") name)
+
+-- the name of a text, beside which there are ticks among these names
+abbrev pub is_test : List (List ℕ) → List ℕ → Bool
+is_test names name = is_text name && list_any (bytes_eq (beside name (codes ".ticks"))) names
+
+-- the names of a folder that are those of tests, in the folder
+abbrev pub tests_in : List ℕ → List (List ℕ) → List (List ℕ)
+tests_in folder names = map (λ name. folder ++ (47 ∷ name)) (filter (is_test names) names)

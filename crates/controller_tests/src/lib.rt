@@ -3,17 +3,21 @@
 #![tactic(auto)]
 
 mod difference;
+mod folders;
 mod lines;
 mod members;
 mod names;
 mod outcome;
+mod replay;
 mod shown;
 mod silent;
 mod told;
 mod trace;
 
 pub use difference::{Difference, compare};
+pub use folders::tests_in;
 pub use names::beside;
 pub use outcome::{Outcome, test_controller};
+pub use replay::states_told;
 pub use told::difference_told;
 pub use trace::trace_of;

@@ -1,7 +1,7 @@
 //! The names of the files beside a program's text.
 
 ghost use Rattle.std.specs.Prelude.{◌≡◌, IfOk, option_map, string_bytes};
-ghost use Rattle.controller_tests.specs.Names.{beside, stem, without};
+ghost use Rattle.controller_tests.specs.Names.{beside, is_text, stem, without};
 
 use std::alloc::{AllocError, Global};
 
@@ -21,6 +21,13 @@ fn stem(name: &str) -> &str
         Some(front) => front,
         None => without(".scl", name).unwrap_or(name),
     }
+}
+
+/// Whether a name ends as that of a chart or of an SCL text.
+pub(crate) fn is_text(name: &str) -> bool
+    ensures { result ≡ is_text name.now }
+{
+    without(".chart", name).is_some() || without(".scl", name).is_some()
 }
 
 /// The name of the file beside the one of this name: the name without its ending `.chart` or `.scl`, or else the whole

@@ -1,5 +1,6 @@
 -- The rules and limits of charts: of those that texts spell, and of those that the expansion of aborts leaves.
-use Rattle.std.specs.Prelude.{ℕ, zero, suc, ◌≡◌, ◌≢◌, ◌≤◌, ◌<◌, Bool, true, false, not, IsTrue, Option, Some, None, List, [], ◌∷◌, map, slice_get, length, count_by}
+use Rattle.std.specs.Prelude.{ℕ, zero, suc, ◌≡◌, ◌≢◌, ◌≤◌, ◌<◌, Bool, true, false, not, IsTrue, Option, Some, None, List, [], ◌∷◌, map, slice_get, length}
+use Rattle.std.specs.Prelude.{count_by}
 use Rattle.sc_values.specs.declared.value.Kind.{Kind}
 use Rattle.sc_values.specs.declared.value.Kind.TheVariants as of_kind
 use Rattle.sc_graph.specs.declared.program.Variable.{Variable}
@@ -25,29 +26,46 @@ abbrev pub language : Features → Language
 language features.Extended = languages.Chart
 language features.Core = languages.Scl
 
+-- what a text may have: regions of a superstate, states of a region, transitions of a state, effects of a transition
+abbrev pub region_text_limit : ℕ
+region_text_limit = 63
+
+abbrev pub state_text_limit : ℕ
+state_text_limit = 256
+
+abbrev pub transition_text_limit : ℕ
+transition_text_limit = 64
+
+abbrev pub effect_text_limit : ℕ
+effect_text_limit = 16
+
 -- the regions of a superstate, as which the chart counts
 abbrev pub region_limit : Features → ℕ
-region_limit features.Extended = 63
+region_limit features.Extended = region_text_limit
 region_limit features.Core = 64
 
 -- the states of a region
 abbrev pub state_limit : Features → Option ℕ
-state_limit features.Extended = Some 256
+state_limit features.Extended = Some state_text_limit
 state_limit features.Core = None
 
 -- the transitions of a state
 abbrev pub transition_limit : Features → Option ℕ
-transition_limit features.Extended = Some 64
+transition_limit features.Extended = Some transition_text_limit
 transition_limit features.Core = None
 
 -- the effects of a transition
 abbrev pub effect_limit : Features → Option ℕ
-effect_limit features.Extended = Some 16
+effect_limit features.Extended = Some effect_text_limit
 effect_limit features.Core = None
 
 -- how deep regions nest; a region of the chart is 1 deep
 abbrev pub depth_limit : ℕ
 depth_limit = 32
+
+-- how deep they nest inside a region of the chart
+abbrev pub inner_depth_limit : ℕ
+inner_depth_limit = 31
 
 -- the expansion leaves no aborts
 abbrev pub allows : Features → TransitionKind → Bool

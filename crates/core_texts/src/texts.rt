@@ -38,8 +38,8 @@ fn text_that_spells(alloc: Global, chart: &Chart) -> Result<Option<String>, Allo
 
 /// The text of the core chart of a chart, in which names that begin with `_` have a word in front. It is read again
 /// before it is given, and spells that chart. None: the core chart breaks a rule or a limit of chart text, which has
-/// fewer regions in a superstate, and limits of states, transitions and effects; or its text laid out does not spell it.
-/// Err: with the variables that expansion adds the chart has more than a program may; or memory was refused.
+/// fewer regions in a superstate, and limits of states, transitions and effects; or its text laid out does not spell
+/// it. Err: with the variables that expansion adds the chart has more than a program may; or memory was refused.
 #[tactic(auto, using(crate::proofs::Spelling::core_spelled, crate::proofs::Spelling::core_unfit))]
 pub fn core_text(alloc: Global, chart: &Chart) -> Result<Option<String>, ExpandFault>
     ensures text { IfOk result (λ text. Answers chart.now (option_map string_bytes text)) }

@@ -31,7 +31,8 @@ pub record IsAssigned (V : List Declaration) (target : Named) (e : TextExpressio
   pub value : IsExpression (kinds_of V) variable.kind (expression_of (variable_names V) e.operations)
 
 module _ (V : List Declaration) (target : Named) (e : TextExpression) (can : list_all is_writable_operation e.operations ≡ true) where
-  assigned_at : (p : Option ℕ) (o : Option Declaration) → place_among (variable_names V) target.name ≡ p → option_and_then (slice_get V) p ≡ o → assigned_flaws V o target e ≡ [] → IsAssigned V target e
+  assigned_at : (p : Option ℕ) (o : Option Declaration) → place_among (variable_names V) target.name ≡ p → option_and_then (slice_get V) p ≡ o
+      → assigned_flaws V o target e ≡ [] → IsAssigned V target e
   assigned_at p None was is none = absurd cc
   assigned_at None (Some x) was is none = absurd cc
   assigned_at (Some i) (Some x) was is none =

@@ -1,5 +1,6 @@
 -- What the variables of a draft are where nothing is wrong with them.
-use Rattle.std.proofs.Common.{◌≡◌, ℕ, suc, ◌+◌, ◌≤◌, Bool, true, false, cond, Option, Some, None, List, [], ◌∷◌, ◌++◌, length, map, slice_get, refl, sym, ◌∙◌, ap, subst, arith}
+use Rattle.std.proofs.Common.{◌≡◌, ℕ, suc, ◌+◌, ◌≤◌, Bool, true, false, cond, Option, Some, None, List, [], ◌∷◌, ◌++◌, length, map, slice_get, refl, sym, ◌∙◌}
+use Rattle.std.proofs.Common.{ap, subst, arith}
 use Rattle.std.specs.Prelude.{◌&&◌, nat_lt, count_by, option_map}
 use Rattle.std.proofs.lemmas.Bool.Decides.{Decides-eqb}
 use Rattle.std.proofs.lemmas.List.{length-map}
@@ -40,7 +41,9 @@ record Flawless (names : List (List ℕ)) (at outputs : ℕ) (V : List Declarati
   pub outputs_are : outputs ≤ output_limit → outputs + count_by (λ x. is_output x.role) (variables_of V) ≤ output_limit
   pub first : AreFirstBehind names at (variable_names V)
 
-outputs_more : (b : Bool) (outputs rest : ℕ) → (b && is_full output_limit outputs) ≡ false → (one_more_if b outputs ≤ output_limit → one_more_if b outputs + rest ≤ output_limit) → outputs ≤ output_limit → outputs + (cond b 1 0 + rest) ≤ output_limit
+outputs_more : (b : Bool) (outputs rest : ℕ) → (b && is_full output_limit outputs) ≡ false
+    → (one_more_if b outputs ≤ output_limit → one_more_if b outputs + rest ≤ output_limit) → outputs ≤ output_limit
+    → outputs + (cond b 1 0 + rest) ≤ output_limit
 outputs_more false outputs rest e more le = let m = more le in omega (arith, m)
 outputs_more true outputs rest e more le =
     let fits = room_for_one output_limit outputs e in
@@ -56,10 +59,15 @@ flawless names at outputs (x ∷ V) none =
     let d : List Flaw = variable_flaws names (at + 1) (one_more_if (is_output x.role) outputs) V in
     let behind_a : b ++ (c ++ d) ≡ [] = none_second a (b ++ (c ++ d)) none in
     let behind_b : c ++ d ≡ [] = none_second b (c ++ d) behind_a in
-    let here : place_among names x.named.name ≡ Some at = is_first names at x.named.name (no_flaw (is_repeated names at x.named.name) broken.Repeated x.named.at (none_first a (b ++ (c ++ d)) none)) in
-    let room : at + 1 ≤ variable_limit = room_for_one variable_limit at (no_flaw (is_full variable_limit at) broken.Limit x.named.at (none_first b (c ++ d) behind_a)) in
-    let output : (is_output x.role && is_full output_limit outputs) ≡ false = no_flaw (is_output x.role && is_full output_limit outputs) broken.Limit x.named.at (none_first c d behind_b) in
-    let rest : Flawless names (at + 1) (one_more_if (is_output x.role) outputs) V = flawless names (at + 1) (one_more_if (is_output x.role) outputs) V (none_second c d behind_b) in
+    let here : place_among names x.named.name
+    ≡ Some at = is_first names at x.named.name (no_flaw (is_repeated names at x.named.name) broken.Repeated x.named.at (none_first a (b ++ (c ++ d)) none))
+    in
+    let room : at + 1 ≤ variable_limit = room_for_one variable_limit at
+    (no_flaw (is_full variable_limit at) broken.Limit x.named.at (none_first b (c ++ d) behind_a)) in
+    let output : (is_output x.role && is_full output_limit outputs) ≡ false = no_flaw (is_output x.role && is_full output_limit outputs) broken.Limit x.named.at
+    (none_first c d behind_b) in
+    let rest : Flawless names (at + 1) (one_more_if (is_output x.role) outputs) V = flawless names (at + 1) (one_more_if (is_output x.role) outputs) V
+    (none_second c d behind_b) in
     record {
       count = λ le. room_for_more variable_limit at (length V) room rest.count;
       outputs_are = λ le.
@@ -77,7 +85,8 @@ names_same [] = refl
 names_same (x ∷ V) = ap (λ names. x.named.name ∷ names) (names_same V)
 
 -- the variables of a draft
-pub variables_are : (l : Language) (V : List Declaration) → ((i : ℕ) (x : Declaration) → slice_get V i ≡ Some x → IsNameIn l x.named.name) → variable_flaws (variable_names V) 0 0 V ≡ [] → AreVariables l (variables_of V)
+pub variables_are : (l : Language) (V : List Declaration) → ((i : ℕ) (x : Declaration) → slice_get V i ≡ Some x → IsNameIn l x.named.name)
+    → variable_flaws (variable_names V) 0 0 V ≡ [] → AreVariables l (variables_of V)
 variables_are l V called none =
     let all : Flawless (variable_names V) 0 0 V = flawless (variable_names V) 0 0 V none in
     let few = all.count (omega arith) in

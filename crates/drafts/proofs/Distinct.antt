@@ -1,5 +1,6 @@
 -- Names of which each is the first of its kind are distinct, in whichever order they stand.
-use Rattle.std.proofs.Common.{◌≡◌, ℕ, zero, suc, ◌+◌, ◌≤◌, Bool, true, false, cond, Option, Some, None, List, [], ◌∷◌, ◌++◌, slice_get, refl, sym, ◌∙◌, ap, arith}
+use Rattle.std.proofs.Common.{◌≡◌, ℕ, zero, suc, ◌+◌, ◌≤◌, Bool, true, false, cond, Option, Some, None, List, [], ◌∷◌, ◌++◌, slice_get, refl, sym, ◌∙◌, ap}
+use Rattle.std.proofs.Common.{arith}
 use Rattle.std.specs.Prelude.{not, ◌&&◌, ◌||◌}
 use Rattle.std.specs.List.{list_any}
 use Rattle.std.specs.Str.{bytes_eq}
@@ -20,7 +21,8 @@ module _ (names : List (List ℕ)) where
   pub no_more_names : (at : ℕ) → AreFirstBehind names at []
   no_more_names at k name e = absurd cc
 
-  pub one_more_name : (at : ℕ) (name : List ℕ) (rest : List (List ℕ)) → place_among names name ≡ Some at → AreFirstBehind names (at + 1) rest → AreFirstBehind names at (name ∷ rest)
+  pub one_more_name : (at : ℕ) (name : List ℕ) (rest : List (List ℕ)) → place_among names name ≡ Some at → AreFirstBehind names (at + 1) rest
+      → AreFirstBehind names at (name ∷ rest)
   one_more_name at name rest here more zero n e =
       let same : name ≡ n = cc in
       let sum : at + 0 ≡ at = omega arith in
@@ -56,7 +58,8 @@ turned a b e = by_cases (bytes_eq b a) refl
         let yes : bytes_eq a b ≡ true = (bytes_eq-Decides a b).1 (sym same) in
         absurd cc
 
-none_later : (n : List ℕ) (names : List (List ℕ)) → ((k : ℕ) (name : List ℕ) → slice_get names k ≡ Some name → bytes_eq n name ≡ false) → list_any (bytes_eq n) names ≡ false
+none_later : (n : List ℕ) (names : List (List ℕ)) → ((k : ℕ) (name : List ℕ) → slice_get names k ≡ Some name → bytes_eq n name ≡ false)
+    → list_any (bytes_eq n) names ≡ false
 none_later n [] differ = refl
 none_later n (name ∷ names) differ =
     ap (λ b. b || list_any (bytes_eq n) names) (differ 0 name refl)
@@ -83,7 +86,8 @@ none_counted : (n : List ℕ) (names : List (List ℕ)) → count n names ≡ 0 
 none_counted n [] e = refl
 none_counted n (name ∷ names) e = by_cases (bytes_eq n name) e (none_counted n names)
   where
-    by_cases : (b : Bool) → cond b 1 0 + count n names ≡ 0 → (count n names ≡ 0 → list_any (bytes_eq n) names ≡ false) → (b || list_any (bytes_eq n) names) ≡ false
+    by_cases : (b : Bool) → cond b 1 0 + count n names ≡ 0 → (count n names ≡ 0 → list_any (bytes_eq n) names ≡ false) → (b || list_any (bytes_eq n) names)
+        ≡ false
     by_cases true e more = absurd (omega (arith, e))
     by_cases false e more = more (omega (arith, e))
 

@@ -1,5 +1,6 @@
 -- The first of some flaws is found by going over them.
-use Rattle.std.proofs.Common.{◌≡◌, ℕ, zero, suc, ◌+◌, ◌*◌, ◌≤◌, ◌<◌, Bool, true, false, Option, Some, None, List, [], ◌∷◌, ◌++◌, ◌⊎◌, inl, inr, ⊎_elim, refl, ap, subst, arith, slice_get, if◌then◌else◌}
+use Rattle.std.proofs.Common.{◌≡◌, ℕ, zero, suc, ◌+◌, ◌*◌, ◌≤◌, ◌<◌, Bool, true, false, Option, Some, None, List, [], ◌∷◌, ◌++◌, ◌⊎◌, inl, inr, ⊎_elim, refl}
+use Rattle.std.proofs.Common.{ap, subst, arith, slice_get, if◌then◌else◌}
 use Rattle.std.proofs.lemmas.Bool.Decides.{nat_tests}
 use Rattle.sc_text.specs.declared.read_fault.Broken.{Broken}
 use Rattle.sc_text.specs.declared.read_fault.Broken.TheVariants as broken
@@ -52,11 +53,13 @@ some_one x y e = cc
 abbrev first_of : Flaw → Flaw → Bool → Flaw
 first_of found x b = if b then x else found
 
-step_stands : (found x f : Flaw) (flaws : List Flaw) (b : Bool) → (first_of found x b ≡ f) ⊎ ((i : ℕ) × (slice_get flaws i ≡ Some f)) → (found ≡ f) ⊎ ((i : ℕ) × (slice_get (x ∷ flaws) i ≡ Some f))
+step_stands : (found x f : Flaw) (flaws : List Flaw) (b : Bool) → (first_of found x b ≡ f) ⊎ ((i : ℕ) × (slice_get flaws i ≡ Some f))
+    → (found ≡ f) ⊎ ((i : ℕ) × (slice_get (x ∷ flaws) i ≡ Some f))
 step_stands found x f flaws true h = ⊎_elim (λ e. inr (0, ap Some e)) (λ s. inr (suc s.0, s.1)) h
 step_stands found x f flaws false h = ⊎_elim (λ e. inl e) (λ s. inr (suc s.0, s.1)) h
 
-step_others : (x f : Flaw) (flaws : List Flaw) → key f ≤ key x → ((i : ℕ) (g : Flaw) → slice_get flaws i ≡ Some g → key f ≤ key g) → (i : ℕ) (g : Flaw) → slice_get (x ∷ flaws) i ≡ Some g → key f ≤ key g
+step_others : (x f : Flaw) (flaws : List Flaw) → key f ≤ key x → ((i : ℕ) (g : Flaw) → slice_get flaws i ≡ Some g → key f ≤ key g) → (i : ℕ) (g : Flaw)
+    → slice_get (x ∷ flaws) i ≡ Some g → key f ≤ key g
 step_others x f flaws h all zero g e = subst (λ y. key f ≤ key y) (some_one x g e) h
 step_others x f flaws h all (suc i) g e = all i g e
 

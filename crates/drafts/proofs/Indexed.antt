@@ -10,7 +10,7 @@ use Rattle.std.specs.Ordering.{nat_cmp, is_eq}
 use Rattle.drafts.specs.declared.index.Index.{Index}
 use Rattle.drafts.specs.Inside.{IsIndex, first_place}
 use Rattle.drafts.specs.Flaws.{first_or, place_among}
-use Rattle.drafts.proofs.Flawed.{drop_is}
+use Rattle.drafts.proofs.PartsInOrder.{drop_is}
 
 -- the place of a name among those from this place on
 abbrev pub place_from : ℕ → List (List ℕ) → List ℕ → Option ℕ
@@ -25,7 +25,9 @@ first at true later = ap Some (omega arith)
 first at false later = one_more at later
 
 -- what a table holds once the name before the others is put into it
-pub one_before : (f g : List ℕ → Option ℕ) (names : List (List ℕ)) (left : ℕ) (name : List ℕ) → 0 < left → slice_get names (left - 1) ≡ Some name → ((q : List ℕ) → f q ≡ place_from left names q) → ((q : List ℕ) → g q ≡ cond (bytes_eq name q) (Some (left - 1)) (f q)) → (q : List ℕ) → g q ≡ place_from (left - 1) names q
+pub one_before : (f g : List ℕ → Option ℕ) (names : List (List ℕ)) (left : ℕ) (name : List ℕ) → 0 < left → slice_get names (left - 1) ≡ Some name
+    → ((q : List ℕ) → f q ≡ place_from left names q) → ((q : List ℕ) → g q ≡ cond (bytes_eq name q) (Some (left - 1)) (f q)) → (q : List ℕ)
+    → g q ≡ place_from (left - 1) names q
 one_before f g names left name some is was more q =
     let next : left ≡ (left - 1) + 1 = omega (arith, some) in
     more q
@@ -39,12 +41,15 @@ first_alone : (o other : Option ℕ) → other ≡ None → first_place o other 
 first_alone None other e = e
 first_alone (Some p) other e = refl
 
-pub hashed_alone : (names : List (List ℕ)) (index : Index) → index.ordered.entries ≡ [] → ((q : List ℕ) → hash.get (pointwise nat_eq) index.hashed q ≡ place_among names q) → IsIndex names index
+pub hashed_alone : (names : List (List ℕ)) (index : Index) → index.ordered.entries ≡ []
+    → ((q : List ℕ) → hash.get (pointwise nat_eq) index.hashed q ≡ place_among names q) → IsIndex names index
 hashed_alone names index bare is = record {
-  places = λ q. first_alone (hash.get (pointwise nat_eq) index.hashed q) (tree.get (slice_cmp nat_cmp) index.ordered q) (ap (lookup (λ k. is_eq (slice_cmp nat_cmp q k))) bare) ∙ is q;
+  places = λ q. first_alone (hash.get (pointwise nat_eq) index.hashed q) (tree.get (slice_cmp nat_cmp) index.ordered q)
+      (ap (lookup (λ k. is_eq (slice_cmp nat_cmp q k))) bare) ∙ is q;
 }
 
-pub ordered_alone : (names : List (List ℕ)) (index : Index) → index.hashed.entries ≡ [] → ((q : List ℕ) → tree.get (slice_cmp nat_cmp) index.ordered q ≡ place_among names q) → IsIndex names index
+pub ordered_alone : (names : List (List ℕ)) (index : Index) → index.hashed.entries ≡ []
+    → ((q : List ℕ) → tree.get (slice_cmp nat_cmp) index.ordered q ≡ place_among names q) → IsIndex names index
 ordered_alone names index bare is = record {
   places = λ q. ap (λ o. first_place o (tree.get (slice_cmp nat_cmp) index.ordered q)) (ap (lookup (pointwise nat_eq q)) bare) ∙ is q;
 }

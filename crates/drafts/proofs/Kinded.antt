@@ -42,7 +42,8 @@ kind_at V i x e =
     ∙ ap (option_map (λ v. v.kind)) (slice_get-map variable_of V i ∙ ap (option_map variable_of) e)
 
 module _ (V : List Declaration) (ts : List Expr) (ks after : List Kind) where
-  load_stands : AreKinds (kinds_of V) ts ks → (p : Option ℕ) (x : Option Declaration) → option_and_then (slice_get V) p ≡ x → option_map (λ k. k ∷ ks) (option_map (λ (d : Declaration). d.kind) x) ≡ Some after → Stands (kinds_of V) (grown (op.Load (unwrap_or p 0)) ts) after
+  load_stands : AreKinds (kinds_of V) ts ks → (p : Option ℕ) (x : Option Declaration) → option_and_then (slice_get V) p ≡ x
+      → option_map (λ k. k ∷ ks) (option_map (λ (d : Declaration). d.kind) x) ≡ Some after → Stands (kinds_of V) (grown (op.Load (unwrap_or p 0)) ts) after
   load_stands are None None is e = absurd cc
   load_stands are None (Some x) is e = absurd cc
   load_stands are (Some i) None is e = absurd cc
@@ -51,14 +52,16 @@ module _ (V : List Declaration) (ts : List Expr) (ks after : List Kind) where
       let here : kind (roll-Expr (tree.Load i)) (kinds_of V) ≡ Some x.kind = kind-load i (kinds_of V) ∙ kind_at V i x is in
       subst (Stands (kinds_of V) (grown (op.Load i) ts)) same (record { stack = roll-Expr (tree.Load i) ∷ ts; is = refl; are = (here, are) })
 
-  unary_stands : (f : UnaryOperator) (t : Expr) (a : Kind) → kind t (kinds_of V) ≡ Some a → AreKinds (kinds_of V) ts ks → (r : Option Kind) → unary_kind f a ≡ r → option_map (λ k. k ∷ ks) r ≡ Some after → Stands (kinds_of V) (grown (op.Unary f) (t ∷ ts)) after
+  unary_stands : (f : UnaryOperator) (t : Expr) (a : Kind) → kind t (kinds_of V) ≡ Some a → AreKinds (kinds_of V) ts ks → (r : Option Kind) → unary_kind f a ≡ r
+      → option_map (λ k. k ∷ ks) r ≡ Some after → Stands (kinds_of V) (grown (op.Unary f) (t ∷ ts)) after
   unary_stands f t a of are None is e = absurd cc
   unary_stands f t a of are (Some k) is e =
       let same : k ∷ ks ≡ after = cc in
       let here : kind (roll-Expr (tree.Unary f t)) (kinds_of V) ≡ Some k = kind-unary f t (kinds_of V) ∙ ap (option_and_then (unary_kind f)) of ∙ is in
       subst (Stands (kinds_of V) (grown (op.Unary f) (t ∷ ts))) same (record { stack = roll-Expr (tree.Unary f t) ∷ ts; is = refl; are = (here, are) })
 
-  binary_stands : (f : BinaryOperator) (s t : Expr) (a b : Kind) → kind s (kinds_of V) ≡ Some a → kind t (kinds_of V) ≡ Some b → AreKinds (kinds_of V) ts ks → (r : Option Kind) → binary_kind f a b ≡ r → option_map (λ k. k ∷ ks) r ≡ Some after → Stands (kinds_of V) (grown (op.Binary f) (t ∷ s ∷ ts)) after
+  binary_stands : (f : BinaryOperator) (s t : Expr) (a b : Kind) → kind s (kinds_of V) ≡ Some a → kind t (kinds_of V) ≡ Some b → AreKinds (kinds_of V) ts ks
+      → (r : Option Kind) → binary_kind f a b ≡ r → option_map (λ k. k ∷ ks) r ≡ Some after → Stands (kinds_of V) (grown (op.Binary f) (t ∷ s ∷ ts)) after
   binary_stands f s t a b left right are None is e = absurd cc
   binary_stands f s t a b left right are (Some k) is e =
       let same : k ∷ ks ≡ after = cc in
@@ -68,10 +71,12 @@ module _ (V : List Declaration) (ts : List Expr) (ks after : List Kind) where
       ∙ ap (option_and_then (binary_kind f a)) right ∙ is in
       subst (Stands (kinds_of V) (grown (op.Binary f) (t ∷ s ∷ ts))) same (record { stack = roll-Expr (tree.Binary f s t) ∷ ts; is = refl; are = (here, are) })
 
-one_stands : (V : List Declaration) (o : TextOperation) (ts : List Expr) (ks after : List Kind) → AreKinds (kinds_of V) ts ks → kinds_behind (kind_named V) o ks ≡ Some after → Stands (kinds_of V) (grown (operation_of (variable_names V) o) ts) after
+one_stands : (V : List Declaration) (o : TextOperation) (ts : List Expr) (ks after : List Kind) → AreKinds (kinds_of V) ts ks → kinds_behind (kind_named V) o ks
+    ≡ Some after → Stands (kinds_of V) (grown (operation_of (variable_names V) o) ts) after
 one_stands V (text.Literal v) ts ks after are e =
     let same : kind_of v ∷ ks ≡ after = cc in
-    subst (Stands (kinds_of V) (grown (op.Literal v) ts)) same (record { stack = roll-Expr (tree.Literal v) ∷ ts; is = refl; are = (kind-literal v (kinds_of V), are) })
+    subst (Stands (kinds_of V) (grown (op.Literal v) ts)) same
+    (record { stack = roll-Expr (tree.Literal v) ∷ ts; is = refl; are = (kind-literal v (kinds_of V), are) })
 one_stands V (text.Load name at) ts ks after are e =
     load_stands V ts ks after are (place_among (variable_names V) name) (variable_named V name) refl e
 one_stands V (text.Unary f) ts [] after are e = absurd cc
@@ -84,14 +89,16 @@ one_stands V (text.Binary f) (t ∷ []) (b ∷ a ∷ ks) after are e = absurd ar
 one_stands V (text.Binary f) (t ∷ s ∷ ts) (b ∷ a ∷ ks) after are e =
     binary_stands V ts ks after f s t a b are.1.0 are.0 are.1.1 (binary_kind f a b) refl e
 
-pub all_stand : (V : List Declaration) (p : Phrase) (ts : List Expr) (ks after : List Kind) → AreKinds (kinds_of V) ts ks → kinds_left (kind_named V) p ks ≡ Some after → Stands (kinds_of V) (trees (code_of (variable_names V) p) ts) after
+pub all_stand : (V : List Declaration) (p : Phrase) (ts : List Expr) (ks after : List Kind) → AreKinds (kinds_of V) ts ks → kinds_left (kind_named V) p ks
+    ≡ Some after → Stands (kinds_of V) (trees (code_of (variable_names V) p) ts) after
 all_stand V [] ts ks after are e =
     let same : ks ≡ after = cc in
     subst (Stands (kinds_of V) (Some ts)) same (record { stack = ts; is = refl; are = are })
 all_stand V (o ∷ p) ts ks after are e = go (kinds_behind (kind_named V) o ks) refl e (λ us ms fit left. all_stand V p us ms after fit left)
   where
     go : (m : Option (List Kind)) → kinds_behind (kind_named V) o ks ≡ m → option_and_then (kinds_left (kind_named V) p) m ≡ Some after →
-        ((us : List Expr) (ms : List Kind) → AreKinds (kinds_of V) us ms → kinds_left (kind_named V) p ms ≡ Some after → Stands (kinds_of V) (trees (code_of (variable_names V) p) us) after) →
+        ((us : List Expr) (ms : List Kind) → AreKinds (kinds_of V) us ms → kinds_left (kind_named V) p ms ≡ Some after
+        → Stands (kinds_of V) (trees (code_of (variable_names V) p) us) after) →
         Stands (kinds_of V) (option_and_then (trees (code_of (variable_names V) p)) (grown (operation_of (variable_names V) o) ts)) after
     go None was e more = absurd cc
     go (Some middle) was e more =

@@ -1,5 +1,6 @@
 pub mod Firsts
 pub mod Indexed
+pub mod PartsInOrder
 pub mod Flawed
 pub mod Resolving
 pub mod Kinded
@@ -10,3 +11,5 @@ pub mod Declared
 pub mod EachName
 pub mod Assigned
 pub mod OneFirst
+pub mod ToldInOrder
+pub mod ToldFlaws

@@ -11,7 +11,8 @@ pub place_below : (names : List (List ℕ)) (name : List ℕ) (at : ℕ) → pla
 place_below [] name at e = absurd cc
 place_below (n ∷ names) name at e = by_name (bytes_eq n name) (place_among names name) refl e (λ k was. place_below names name k was)
   where
-    by_name : (b : Bool) (later : Option ℕ) → place_among names name ≡ later → first_or b later ≡ Some at → ((k : ℕ) → place_among names name ≡ Some k → k < length names) → at < suc (length names)
+    by_name : (b : Bool) (later : Option ℕ) → place_among names name ≡ later → first_or b later ≡ Some at
+        → ((k : ℕ) → place_among names name ≡ Some k → k < length names) → at < suc (length names)
     by_name true later was e below = let same : 0 ≡ at = cc in omega (arith, same)
     by_name false None was e below = absurd cc
     by_name false (Some k) was e below =

@@ -21,7 +21,8 @@ use Rattle.sc_text.specs.Writable.{is_writable_operation}
 use Rattle.drafts.specs.declared.flaw.Flaw.{Flaw}
 use Rattle.drafts.specs.declared.parts.Declaration.{Declaration}
 use Rattle.drafts.specs.declared.parts.TextExpression.{TextExpression}
-use Rattle.drafts.specs.Flaws.{flaw_if, is_among, variable_names, unknown_one, unknown_names, has_known_name, kind_named, kinds_left, is_of_kind, is_of_other_kind, is_load, greatest_height, passes_limits, expression_flaws}
+use Rattle.drafts.specs.Flaws.{flaw_if, is_among, variable_names, unknown_one, unknown_names, has_known_name, kind_named, kinds_left, is_of_kind}
+use Rattle.drafts.specs.Flaws.{is_of_other_kind, is_load, greatest_height, passes_limits, expression_flaws}
 use Rattle.drafts.specs.Resolved.{operation_of, code_of, expression_of}
 use Rattle.drafts.proofs.Kinded.{kinds_of, AreKinds, Stands, all_stand, alone}
 use Rattle.drafts.proofs.Within.{heights, load_count, writable}
@@ -64,7 +65,8 @@ known : (test : List ℕ → Bool) (p : Phrase) → unknown_names test p ≡ [] 
 known test [] e = refl
 known test (text.Literal v ∷ p) e = known test p e
 known test (text.Load name at ∷ p) e =
-    let here = not_false (test name) (no_flaw (not (test name)) broken.Unknown at (none_first (unknown_one test (text.Load name at)) (unknown_names test p) e)) in
+    let here = not_false (test name) (no_flaw (not (test name)) broken.Unknown at (none_first (unknown_one test (text.Load name at)) (unknown_names test p) e))
+    in
     let more = known test p (none_second (unknown_one test (text.Load name at)) (unknown_names test p) e) in
     ap (λ b. b && list_all (has_known_name test) p) here ∙ more
 known test (text.Unary f ∷ p) e = known test p e
@@ -76,7 +78,8 @@ kind_fits true false e f = absurd cc
 kind_fits false l e f = absurd cc
 
 -- an expression of this kind
-pub expression_is : (V : List Declaration) (k : Kind) (e : TextExpression) → list_all is_writable_operation e.operations ≡ true → expression_flaws V (Some k) e ≡ [] → IsExpression (kinds_of V) k (expression_of (variable_names V) e.operations)
+pub expression_is : (V : List Declaration) (k : Kind) (e : TextExpression) → list_all is_writable_operation e.operations ≡ true → expression_flaws V (Some k) e
+    ≡ [] → IsExpression (kinds_of V) k (expression_of (variable_names V) e.operations)
 expression_is V k e can none =
     let p : Phrase = e.operations in
     let names : List (List ℕ) = variable_names V in
@@ -86,12 +89,14 @@ expression_is V k e can none =
     let all : list_all (has_known_name (is_among names)) p ≡ true = known (is_among names) p (none_first first (second ++ third) none) in
     let rest : second ++ third ≡ [] = none_second first (second ++ third) none in
     let same : is_of_kind (kind_named V) k p ≡ true =
-    kind_fits (list_all (has_known_name (is_among names)) p) (is_of_kind (kind_named V) k p) all (no_flaw (is_of_other_kind V (Some k) p) broken.Kind e.start (none_first second third rest)) in
+    kind_fits (list_all (has_known_name (is_among names)) p) (is_of_kind (kind_named V) k p) all
+    (no_flaw (is_of_other_kind V (Some k) p) broken.Kind e.start (none_first second third rest)) in
     let within : passes_limits p ≡ false = no_flaw (passes_limits p) broken.Limit e.start (none_second second third rest) in
     let left : kinds_left (kind_named V) p [] ≡ Some (k ∷ []) = alone k (kinds_left (kind_named V) p []) same in
     built (all_stand V p [] [] (k ∷ []) tt left) within
   where
-    by_stack : (stack : List Expr) → trees (code_of (variable_names V) e.operations) [] ≡ Some stack → AreKinds (kinds_of V) stack (k ∷ []) → passes_limits e.operations ≡ false → IsExpression (kinds_of V) k (expression_of (variable_names V) e.operations)
+    by_stack : (stack : List Expr) → trees (code_of (variable_names V) e.operations) [] ≡ Some stack → AreKinds (kinds_of V) stack (k ∷ [])
+        → passes_limits e.operations ≡ false → IsExpression (kinds_of V) k (expression_of (variable_names V) e.operations)
     by_stack [] is are within = absurd are
     by_stack (t ∷ u ∷ ts) is are within = absurd are.1
     by_stack (t ∷ []) is are within =
@@ -100,16 +105,23 @@ expression_is V k e can none =
         let tree_is : tree_of (code_of names p) ≡ Some t = ap (option_and_then only) is in
         let spelt : postorder t ≡ code_of names p = tree_of-spells (code_of names p) t tree_is in
         let is_it : t ≡ expression_of names p = sym (ap (λ o. unwrap_or o (tree.Literal (value.Bool false))) tree_is) in
-        let long : length p ≤ operation_limit = not_less operation_limit (length p) (or_first (nat_lt operation_limit (length p)) (nat_lt load_limit (count_by is_load p) || nat_lt operand_limit (greatest_height 0 p)) within) in
-        let others : (nat_lt load_limit (count_by is_load p) || nat_lt operand_limit (greatest_height 0 p)) ≡ false = or_second (nat_lt operation_limit (length p)) (nat_lt load_limit (count_by is_load p) || nat_lt operand_limit (greatest_height 0 p)) within in
-        let few : count_by is_load p ≤ load_limit = not_less load_limit (count_by is_load p) (or_first (nat_lt load_limit (count_by is_load p)) (nat_lt operand_limit (greatest_height 0 p)) others) in
-        let low : greatest_height 0 p ≤ operand_limit = not_less operand_limit (greatest_height 0 p) (or_second (nat_lt load_limit (count_by is_load p)) (nat_lt operand_limit (greatest_height 0 p)) others) in
+        let long : length p ≤ operation_limit = not_less operation_limit (length p)
+        (or_first (nat_lt operation_limit (length p)) (nat_lt load_limit (count_by is_load p) || nat_lt operand_limit (greatest_height 0 p)) within) in
+        let others : (nat_lt load_limit (count_by is_load p) || nat_lt operand_limit (greatest_height 0 p))
+        ≡ false = or_second (nat_lt operation_limit (length p)) (nat_lt load_limit (count_by is_load p) || nat_lt operand_limit (greatest_height 0 p))
+        within in
+        let few : count_by is_load p ≤ load_limit = not_less load_limit (count_by is_load p)
+        (or_first (nat_lt load_limit (count_by is_load p)) (nat_lt operand_limit (greatest_height 0 p)) others) in
+        let low : greatest_height 0 p ≤ operand_limit = not_less operand_limit (greatest_height 0 p)
+        (or_second (nat_lt load_limit (count_by is_load p)) (nat_lt operand_limit (greatest_height 0 p)) others) in
         let limits : IsWithinLimits (code_of names p) = record {
           operations = (let l = length-map p (operation_of names) in omega (arith, l, long));
           operands = λ n stack e. (let h = heights names p [] n stack e in omega (arith, h, low));
           loaded = (let l = load_count names p in omega (arith, l, few));
         } in
-        subst (IsExpression (kinds_of V) k) is_it (record { kinded = are.0; within = subst IsWithinLimits (sym spelt) limits; writable = writable names p t spelt can })
+        subst (IsExpression (kinds_of V) k) is_it
+        (record { kinded = are.0; within = subst IsWithinLimits (sym spelt) limits; writable = writable names p t spelt can })
 
-    built : Stands (kinds_of V) (trees (code_of (variable_names V) e.operations) []) (k ∷ []) → passes_limits e.operations ≡ false → IsExpression (kinds_of V) k (expression_of (variable_names V) e.operations)
+    built : Stands (kinds_of V) (trees (code_of (variable_names V) e.operations) []) (k ∷ []) → passes_limits e.operations ≡ false
+        → IsExpression (kinds_of V) k (expression_of (variable_names V) e.operations)
     built s within = by_stack s.stack s.is s.are within

@@ -1,5 +1,6 @@
 -- What the limits of a draft's expression are to the code of it.
-use Rattle.std.proofs.Common.{◌≡◌, ℕ, zero, suc, ◌+◌, ◌≤◌, max, Bool, true, false, cond, Option, Some, None, List, [], ◌∷◌, ◌++◌, length, take, refl, sym, ◌∙◌, ap, subst, arith}
+use Rattle.std.proofs.Common.{◌≡◌, ℕ, zero, suc, ◌+◌, ◌≤◌, max, Bool, true, false, cond, Option, Some, None, List, [], ◌∷◌, ◌++◌, length, take, refl, sym, ◌∙◌}
+use Rattle.std.proofs.Common.{ap, subst, arith}
 use Rattle.std.specs.Prelude.{option_and_then, count_by, ◌&&◌}
 use Rattle.std.specs.List.{list_all}
 use Rattle.std.proofs.Math.Nat.{le-max_left, le-max_right}
@@ -24,7 +25,8 @@ use Rattle.drafts.specs.Resolved.{operation_of, code_of}
 
 -- ---- how many operands stand
 
-height_grown : (names : List (List ℕ)) (o : TextOperation) (ts after : List Expr) → grown (operation_of names o) ts ≡ Some after → length after ≡ height_behind o (length ts)
+height_grown : (names : List (List ℕ)) (o : TextOperation) (ts after : List Expr) → grown (operation_of names o) ts ≡ Some after
+    → length after ≡ height_behind o (length ts)
 height_grown names (text.Literal v) ts after e =
     let same : roll-Expr (tree.Literal v) ∷ ts ≡ after = cc in
     let long = ap length same in
@@ -48,7 +50,8 @@ height_grown names (text.Binary f) (t ∷ s ∷ ts) after e =
     let long = ap length same in
     omega (arith, long)
 
-pub heights : (names : List (List ℕ)) (p : Phrase) (ts : List Expr) (n : ℕ) (stack : List Expr) → trees (take n (code_of names p)) ts ≡ Some stack → length stack ≤ greatest_height (length ts) p
+pub heights : (names : List (List ℕ)) (p : Phrase) (ts : List Expr) (n : ℕ) (stack : List Expr) → trees (take n (code_of names p)) ts ≡ Some stack
+    → length stack ≤ greatest_height (length ts) p
 heights names [] ts zero stack e =
     let same : ts ≡ stack = cc in
     let long = ap length same in

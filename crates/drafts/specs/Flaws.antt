@@ -1,6 +1,7 @@
 -- What is wrong with the variables and the expressions of a draft: the list of all their flaws, each with its place. A
 -- variable stands at its name, an expression at its first byte.
-use Rattle.std.specs.Prelude.{ℕ, suc, ◌+◌, ◌-◌, nat_eq, nat_lt, max, Bool, true, false, not, ◌&&◌, ◌||◌, Option, Some, None, option_and_then, option_map, List, [], ◌∷◌, ◌++◌, length, map, count_by, slice_get}
+use Rattle.std.specs.Prelude.{ℕ, suc, ◌+◌, ◌-◌, nat_eq, nat_lt, max, Bool, true, false, not, ◌&&◌, ◌||◌, Option, Some, None, option_and_then, option_map, List}
+use Rattle.std.specs.Prelude.{[], ◌∷◌, ◌++◌, length, map, count_by, slice_get}
 use Rattle.std.specs.Option.{is_some}
 use Rattle.std.specs.List.{list_all}
 use Rattle.std.specs.Str.{bytes_eq}

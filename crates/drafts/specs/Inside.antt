@@ -9,6 +9,7 @@ use Rattle.drafts.specs.declared.flaw.Flaw.{Flaw}
 use Rattle.drafts.specs.declared.index.Index.{Index}
 use Rattle.drafts.specs.Flaws.{place_among}
 use Rattle.drafts.specs.First.{comes_before}
+use Rattle.drafts.specs.Told.{inserted}
 
 -- ---- the first of some flaws, found by going over them
 
@@ -20,6 +21,13 @@ earlier (Some f) g = if comes_before g f then g else f
 abbrev pub first_behind : Option Flaw → List Flaw → Option Flaw
 first_behind found [] = found
 first_behind found (f ∷ flaws) = first_behind (Some (earlier found f)) flaws
+
+-- ---- flaws at their places
+
+-- a flaw that may still have to be put at its place
+abbrev pub placed : Option Flaw → List Flaw → List Flaw
+placed None found = found
+placed (Some f) found = inserted f found
 
 -- ---- tables of names
 

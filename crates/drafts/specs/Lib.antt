@@ -1,5 +1,6 @@
 pub mod Parts
 pub mod First
+pub mod Told
 pub mod Flaws
 pub mod Inside
 pub mod Resolved

@@ -49,8 +49,8 @@ fn count_one(counts: &mut [usize], hash: u64) {
     }
 }
 
-// Each group hands on what it has no room for. How many the last one hands on, and the most that one does, where so many
-// are handed to the first.
+// Each group hands on what it has no room for. How many the last one hands on, and the most that one does, where so
+// many are handed to the first.
 fn left_over(counts: &[usize], handed: usize) -> (usize, usize) {
     let mut rest = handed;
     let mut most = handed;

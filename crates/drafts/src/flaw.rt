@@ -16,7 +16,7 @@ pub struct Flaw {
 
 impl Flaw {
     /// Whether it stands before the other, or at the same place with a smaller number.
-    fn comes_before(self, other: Flaw) -> bool
+    pub(crate) fn comes_before(self, other: Flaw) -> bool
         ensures { result ≡ comes_before self other }
     {
         self.at < other.at || (self.at == other.at && self.broken.number() < other.broken.number())

@@ -11,6 +11,8 @@ mod kinds;
 mod parts;
 mod resolved;
 mod scope;
+mod told;
+mod told_scope;
 mod trees;
 
 pub use flaw::{Flaw, is_full, note_if};
@@ -18,3 +20,4 @@ pub use index::Index;
 pub use parts::{Declaration, Named, TextExpression};
 pub use resolved::variables;
 pub use scope::Scope;
+pub use told::{TOLD_LIMIT, note_told};

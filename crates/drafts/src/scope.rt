@@ -143,7 +143,8 @@ impl<'a> Scope<'a> {
         }
     }
 
-    fn is_known(&self, name: Name) -> bool
+    /// Whether a variable has this name.
+    pub(crate) fn is_known(&self, name: Name) -> bool
         ensures { result ≡ is_among (variable_names self.now.variables.now) name }
     {
         self.index.has(name)
@@ -193,8 +194,8 @@ impl<'a> Scope<'a> {
         }
     }
 
-    // Whether the names are all known, and the expression is of another kind than the one that is wanted.
-    fn is_of_other_kind(
+    /// Whether the names are all known, and the expression is of another kind than the one that is wanted.
+    pub(crate) fn is_of_other_kind(
         &self,
         alloc: Global,
         wanted: Option<Kind>,
@@ -284,7 +285,8 @@ fn variable_names(alloc: Global, variables: &[Declaration]) -> Result<Items<Name
     Ok(names)
 }
 
-fn is_input(role: Role) -> bool
+/// Whether a variable is given its values from outside.
+pub(crate) fn is_input(role: Role) -> bool
     ensures { result ≡ is_input role }
 {
     match role {

@@ -1,2 +1,4 @@
+pub mod Expressions
 pub mod Labels
 pub mod Drawing
+pub mod Inside

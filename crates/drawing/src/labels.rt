@@ -1,12 +1,13 @@
-//! What stands at the arrow of a transition.
+//! The words of a transition.
 
 ghost use Rattle.std.specs.Prelude.{◌≡◌, IfOk, string_bytes};
-ghost use Rattle.drawing.specs.Labels.{effects_text, further_text, immediate_text, kind_text};
-ghost use Rattle.drawing.specs.Labels.{line_text, tail_text, transition_text};
+ghost use Rattle.drawing.specs.Labels.{do_text, effect_text, effects_text, further_text, immediate_text};
+ghost use Rattle.drawing.specs.Labels.{kind_text, transition_text, trigger_text};
 
-use chart_printer::{effect_text, trigger_text};
+use crate::expressions::{sparing_text, variable_text};
 use core_charts::{Effect, Transition, TransitionKind};
 use sc_graph::Variable;
+use sc_values::Expr;
 use std::alloc::{AllocError, Global};
 
 fn kind_text(kind: TransitionKind) -> &'static str
@@ -20,29 +21,37 @@ fn kind_text(kind: TransitionKind) -> &'static str
     }
 }
 
-/// How the tail of a transition's arrow is drawn.
-pub(crate) fn tail_text(kind: TransitionKind) -> &'static str
-    ensures { result.now ≡ tail_text kind }
-{
-    match kind {
-        TransitionKind::Go => "",
-        TransitionKind::Strong => ", dir=\"both\", arrowtail=\"dot\", color=\"red3\"",
-        TransitionKind::Weak => ", dir=\"both\", arrowtail=\"odot\", color=\"orange3\"",
-        TransitionKind::Join => ", dir=\"both\", arrowtail=\"invempty\", color=\"green4\"",
-    }
-}
-
-/// How the line of a transition's arrow is drawn.
-pub(crate) fn line_text(immediate: bool) -> &'static str
-    ensures { result.now ≡ line_text immediate }
-{
-    if immediate { ", style=\"dashed\"" } else { "" }
-}
-
 fn immediate_text(immediate: bool) -> &'static str
     ensures { result.now ≡ immediate_text immediate }
 {
     if immediate { " immediate" } else { "" }
+}
+
+// The condition of a transition with the word before it; nothing where there is none.
+fn trigger_text(
+    alloc: Global,
+    variables: &[Variable],
+    trigger: &Option<Expr>,
+) -> Result<String, AllocError>
+    ensures { IfOk result (λ text. string_bytes text ≡ trigger_text variables.now trigger.now) }
+{
+    match trigger {
+        Some(trigger) => {
+            let test = sparing_text(alloc, variables, trigger)?;
+            format!(in alloc; " if {test}")
+        }
+        None => Ok(String::new(alloc)),
+    }
+}
+
+// An effect: the name of its variable, and the expression whose value that gets.
+#[tactic(auto, unfolding(crate::specs::Labels::effect_text))]
+fn effect_text(alloc: Global, variables: &[Variable], effect: &Effect) -> Result<String, AllocError>
+    ensures { IfOk result (λ text. string_bytes text ≡ effect_text variables.now effect.now) }
+{
+    let name = variable_text(alloc, variables, effect.variable)?;
+    let value = sparing_text(alloc, variables, &effect.value)?;
+    format!(in alloc; "{name} = {value}")
 }
 
 // The effects behind the first, each in a line of its own.
@@ -56,26 +65,38 @@ fn further_text(
     let mut text = String::new(alloc);
     for effect in effects {
         let one = effect_text(alloc, variables, effect)?;
-        text.push_str(",\\n")?;
+        text.push_str(",  \\l     ")?;
         text.push_str(one.as_str())?;
     }
     Ok(text)
+}
+
+// What stands before the effects.
+fn do_text(trigger: &Option<Expr>) -> &'static str
+    ensures { result.now ≡ do_text trigger.now }
+{
+    match trigger {
+        Some(_) => "  \\l     do ",
+        None => " do ",
+    }
 }
 
 // All effects, where there are some.
 fn effects_text(
     alloc: Global,
     variables: &[Variable],
+    trigger: &Option<Expr>,
     effects: &[Effect],
 ) -> Result<String, AllocError>
-    ensures { IfOk result (λ text. string_bytes text ≡ effects_text variables.now effects.now) }
+    ensures { IfOk result (λ text. string_bytes text ≡ effects_text variables.now trigger.now effects.now) }
 {
     match effects {
         [] => Ok(String::new(alloc)),
         [first, rest @ ..] => {
+            let word = do_text(trigger);
             let one = effect_text(alloc, variables, first)?;
             let others = further_text(alloc, variables, rest)?;
-            format!(in alloc; "\\ndo {one}{others}")
+            format!(in alloc; "{word}{one}{others}")
         }
     }
 }
@@ -93,6 +114,7 @@ pub(crate) fn transition_text(
     let kind = kind_text(transition.kind);
     let immediate = immediate_text(transition.immediate);
     let trigger = trigger_text(alloc, variables, &transition.trigger)?;
-    let effects = effects_text(alloc, variables, transition.effects.as_slice())?;
-    format!(in alloc; "{number}:{kind}{immediate}{trigger}{effects}")
+    let own = transition.effects.as_slice();
+    let effects = effects_text(alloc, variables, &transition.trigger, own)?;
+    format!(in alloc; "  {number}:{kind}{immediate}{trigger}{effects}  \\l")
 }

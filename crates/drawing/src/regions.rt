@@ -1,20 +1,19 @@
 //! The drawing of a chart: a cluster for each region and each superstate, a node for each simple state, an arrow for
-//! each transition. A superstate has a point inside, which is not seen, at which its arrows begin and end; they are cut at
-//! its border.
+//! each transition. A superstate has a point inside, which is not seen, at which its arrows begin and end; they are cut
+//! at its border.
 
 ghost use Rattle.std.specs.Prelude.{IfOk, string_bytes};
 ghost use Rattle.drawing.specs.Drawing.{IsDrawing};
 
-use crate::labels::{line_text, tail_text, transition_text};
+use crate::arrows::{Place, put_transitions};
 use crate::stacking::put_stacks;
 use crate::variables::put_variables;
-use core_charts::{Chart, Region, State, Transition};
+use core_charts::{Chart, Region, State};
 use sc_graph::Variable;
-use sqlite_items::at;
 use std::alloc::{AllocError, Global};
 
 const FONTS: &str =
-    "node [fontname=\"Helvetica\", fontsize=11];\nedge [fontname=\"Helvetica\", fontsize=10];\n";
+    "ranksep=\"0.25\";\nnode [fontname=\"Helvetica\", fontsize=11];\nedge [fontname=\"Helvetica\", fontsize=10];\n";
 
 // How a state's border is drawn.
 fn border(state: &State) -> &'static str {
@@ -26,78 +25,15 @@ fn rings(state: &State) -> &'static str {
     if state.is_final { "2" } else { "1" }
 }
 
-// Where an arrow is cut: at the border of a superstate.
-fn cut(
-    alloc: Global,
-    end: &str,
-    state: Option<&State>,
-    path: &str,
-    number: u32,
-) -> Result<String, AllocError> {
-    match state {
-        Some(state) if state.is_superstate() => {
-            format!(in alloc; ", {end}=\"cluster_{path}_{number}\"")
-        }
-        _ => Ok(String::new(alloc)),
-    }
-}
-
-// The line of a transition of the state of this number, in the region of this path.
-fn arrow(
-    alloc: Global,
-    variables: &[Variable],
-    states: &[State],
-    path: &str,
-    from: u32,
-    number: u32,
-    transition: &Transition,
-) -> Result<String, AllocError> {
-    let label = transition_text(alloc, variables, number, transition)?;
-    let kind = tail_text(transition.kind);
-    let line = line_text(transition.immediate);
-    let to = transition.target;
-    if from == to {
-        return format!(in alloc;
-            "\"{path}_{from}\" -> \"{path}_{to}\" [label=\"{label}\"{kind}{line}];\n"
-        );
-    }
-    let tail = cut(alloc, "ltail", at(states, from as usize), path, from)?;
-    let head = cut(alloc, "lhead", at(states, to as usize), path, to)?;
-    format!(in alloc;
-        "\"{path}_{from}\" -> \"{path}_{to}\" [label=\"{label}\"{kind}{line}{tail}{head}];\n"
-    )
-}
-
-// Puts the lines of the transitions of a state behind a text.
-fn put_arrows(
+// Puts the arrows of the transitions of all states of a region behind a text.
+fn put_all_transitions(
     alloc: Global,
     text: &mut String,
-    variables: &[Variable],
-    states: &[State],
-    path: &str,
-    from: u32,
-    state: &State,
-) -> Result<(), AllocError> {
-    let mut number: u32 = 1;
-    for transition in state.transitions.as_slice() {
-        let line = arrow(alloc, variables, states, path, from, number, transition)?;
-        text.push_str(line.as_str())?;
-        number = number.saturating_add(1);
-    }
-    Ok(())
-}
-
-// Puts the lines of the transitions of all states of a region behind a text.
-fn put_all_arrows(
-    alloc: Global,
-    text: &mut String,
-    variables: &[Variable],
-    states: &[State],
-    path: &str,
+    place: Place<'_>,
 ) -> Result<(), AllocError> {
     let mut from: u32 = 0;
-    for state in states {
-        put_arrows(alloc, text, variables, states, path, from, state)?;
+    for state in place.states {
+        put_transitions(alloc, text, place, from, state)?;
         from = from.saturating_add(1);
     }
     Ok(())
@@ -123,7 +59,13 @@ fn put_region(
         put_state(state, alloc, text, variables, inner.as_str())?;
         number = number.saturating_add(1);
     }
-    put_all_arrows(alloc, text, variables, region.states.as_slice(), path)?;
+    let states = region.states.as_slice();
+    let place = Place {
+        variables,
+        states,
+        path,
+    };
+    put_all_transitions(alloc, text, place)?;
     text.push_str("}\n")?;
     Ok(())
 }
@@ -178,9 +120,10 @@ fn chart_body(alloc: Global, chart: &Chart) -> Result<String, AllocError> {
 }
 
 /// A chart as Graphviz text: regions and superstates are clusters, simple states nodes, and each transition an arrow
-/// with its number, in the order in which its state tests them, and its words. Initial states have a bold border, final
-/// ones two; strong aborts begin with a red disc, weak ones with an orange circle, terminations with a green triangle;
-/// immediate transitions are dashed. The regions of a state stand below one another. Err: memory was refused.
+/// through its words, which begin with its number, in the order in which its state tests them. Initial states have a
+/// bold border, final ones two; strong aborts begin with a red disc, weak ones with an orange circle, terminations with
+/// a green triangle; immediate transitions are dashed. The regions of a state stand below one another, and where there
+/// is much in them, in several columns. Err: memory was refused.
 pub fn chart_drawing(alloc: Global, chart: &Chart) -> Result<String, AllocError>
     ensures { IfOk result (λ text. IsDrawing chart.now.name (string_bytes text)) }
 {

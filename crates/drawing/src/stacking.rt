@@ -1,4 +1,5 @@
-//! Regions below one another: arrows that are not seen, from all that is in one region to the initial state of the next.
+//! Regions below one another, in columns: arrows that are not seen, from all that is in one region to the initial state
+//! of the next.
 
 use core_charts::{Region, State};
 use std::alloc::{AllocError, Global};
@@ -17,7 +18,7 @@ fn initial_of(region: &Region) -> u32 {
 
 // Puts an arrow that is not seen behind a text.
 fn put_unseen(alloc: Global, text: &mut String, from: &str, to: &str) -> Result<(), AllocError> {
-    let line = format!(in alloc; "\"{from}\" -> \"{to}\" [style=\"invis\"];\n")?;
+    let line = format!(in alloc; "\"{from}\" -> \"{to}\" [style=\"invis\", weight=0];\n")?;
     text.push_str(line.as_str())
 }
 
@@ -58,26 +59,89 @@ fn put_state_above(
     Ok(())
 }
 
-/// Puts the arrows by which each of these regions, whose paths begin so, stands above the next one behind a text. Err:
-/// memory was refused.
+// How many states stand in a region, those of its superstates with it.
+#[cycle(counted)]
+fn count_in_region(region: &Region) -> u32 {
+    let mut count: u32 = 0;
+    for state in region.states.as_slice() {
+        count = count.saturating_add(count_in_state(state));
+    }
+    count
+}
+
+// How many states a state is, those in it with it.
+#[cycle(counted)]
+fn count_in_state(state: &State) -> u32 {
+    let mut count: u32 = 1;
+    for region in state.regions.as_slice() {
+        count = count.saturating_add(count_in_region(region));
+    }
+    count
+}
+
+fn count_in_all(regions: &[Region]) -> u32 {
+    let mut count: u32 = 0;
+    for region in regions {
+        count = count.saturating_add(count_in_region(region));
+    }
+    count
+}
+
+// From how many states on regions stand in one column more: a column of 16 states is some four times as high as wide,
+// so that k columns are for four times the square of k.
+const MORE: [u32; 7] = [16, 36, 64, 100, 144, 196, 256];
+
+// In how many columns regions with so many states stand, so that the drawing is about as wide as high.
+fn columns_for(states: u32) -> u32 {
+    let mut columns: u32 = 1;
+    for least in &MORE {
+        if states >= *least {
+            columns = columns.saturating_add(1);
+        }
+    }
+    columns
+}
+
+/// Puts the arrows by which regions, whose paths begin so, stand above the next ones of their column behind a text. A
+/// column has its share of the states. Err: memory was refused.
 pub(crate) fn put_stacks(
     alloc: Global,
     text: &mut String,
     regions: &[Region],
     path: &str,
 ) -> Result<(), AllocError> {
+    let all = count_in_all(regions);
+    let columns = columns_for(all);
     let mut above: Option<&Region> = None;
+    let mut filled: u32 = 0;
     let mut number: u32 = 0;
     for region in regions {
+        if filled.saturating_mul(columns) >= all {
+            above = None;
+            filled = 0;
+        }
         if let Some(upper) = above {
-            let initial = initial_of(region);
-            let last = number.saturating_sub(1);
-            let from = format!(in alloc; "{path}{last}")?;
-            let to = format!(in alloc; "{path}{number}_{initial}")?;
-            put_region_above(upper, alloc, text, from.as_str(), to.as_str())?;
+            put_above(alloc, text, upper, region, path, number)?;
         }
         above = Some(region);
+        filled = filled.saturating_add(count_in_region(region));
         number = number.saturating_add(1);
     }
     Ok(())
+}
+
+// Puts the arrows by which a region stands above the next one, which has this number, behind a text.
+fn put_above(
+    alloc: Global,
+    text: &mut String,
+    upper: &Region,
+    region: &Region,
+    path: &str,
+    number: u32,
+) -> Result<(), AllocError> {
+    let initial = initial_of(region);
+    let last = number.saturating_sub(1);
+    let from = format!(in alloc; "{path}{last}")?;
+    let to = format!(in alloc; "{path}{number}_{initial}")?;
+    put_region_above(upper, alloc, text, from.as_str(), to.as_str())
 }

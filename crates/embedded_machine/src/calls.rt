@@ -64,8 +64,8 @@ fn hold(alloc: Global, handle: &mut MachineHandle, boxed: Box<Machine>)
 }
 
 /// One tick of the machine behind a handle, by the inputs in cells, whose values go into cells; how many steps it
-/// took. Err: there is none; or there are not as many cells as variables, or one of an input holds no value of its kind;
-/// or memory was refused. Nothing has changed then.
+/// took. Err: there is none; or there are not as many cells as variables, or one of an input holds no value of its
+/// kind; or memory was refused. Nothing has changed then.
 pub fn react(
     alloc: Global,
     handle: &mut MachineHandle,

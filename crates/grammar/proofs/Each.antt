@@ -42,10 +42,12 @@ every_map P f [] e = tt
 every_map P f (x ∷ xs) e = (e.0, every_map P f xs e.1)
 
 module _ {L : Tokens} {Q : L.Token → Type 0} where
-  pub each_one : (classes : List L.Class) (P : L.Token → Type 0) → ((t : L.Token) → Q t → IsTrue (is_in L classes (L.class t)) → P t) → Each {L = L} Q (One classes) P
+  pub each_one : (classes : List L.Class) (P : L.Token → Type 0) → ((t : L.Token) → Q t → IsTrue (is_in L classes (L.class t)) → P t)
+      → Each {L = L} Q (One classes) P
   each_one classes P step = record { holds = λ text x q s. step x (subst (Every Q) s.0 q).0 s.1 }
 
-  pub each_seq : (A B : Type 0) (g : Grammar L A) (h : Grammar L B) (P : A → Type 0) (R : B → Type 0) → Each Q g P → Each Q h R → Each Q (Seq A B g h) (λ x. P x.0 × R x.1)
+  pub each_seq : (A B : Type 0) (g : Grammar L A) (h : Grammar L B) (P : A → Type 0) (R : B → Type 0) → Each Q g P → Each Q h R
+      → Each Q (Seq A B g h) (λ x. P x.0 × R x.1)
   each_seq A B g h P R a b =
       record {
         holds =
@@ -56,14 +58,16 @@ module _ {L : Tokens} {Q : L.Token → Type 0} where
   pub each_either : (A : Type 0) (g h : Grammar L A) (P : A → Type 0) → Each Q g P → Each Q h P → Each Q (Either A g h) P
   each_either A g h P a b = record { holds = λ text x q s. ⊎_elim (a.holds text x q) (b.holds text x q) s }
 
-  maybe_holds : (A : Type 0) (g : Grammar L A) (P : A → Type 0) → Each Q g P → (text : List L.Token) (x : Option A) → Every Q text → spells (Maybe A g) text x → OfIt P x
+  maybe_holds : (A : Type 0) (g : Grammar L A) (P : A → Type 0) → Each Q g P → (text : List L.Token) (x : Option A) → Every Q text → spells (Maybe A g) text x
+      → OfIt P x
   maybe_holds A g P a text None q s = tt
   maybe_holds A g P a text (Some x) q s = a.holds text x q s
 
   pub each_maybe : (A : Type 0) (g : Grammar L A) (P : A → Type 0) → Each Q g P → Each Q (Maybe A g) (OfIt P)
   each_maybe A g P a = record { holds = maybe_holds A g P a }
 
-  many_holds : (A : Type 0) (g : Grammar L A) (P : A → Type 0) → Each Q g P → (text : List L.Token) (xs : List A) → Every Q text → each_spelled (spells g) text xs → Every P xs
+  many_holds : (A : Type 0) (g : Grammar L A) (P : A → Type 0) → Each Q g P → (text : List L.Token) (xs : List A) → Every Q text
+      → each_spelled (spells g) text xs → Every P xs
   many_holds A g P a text [] q s = tt
   many_holds A g P a text (x ∷ xs) q s =
       let both = subst (Every Q) s.2 q in
@@ -72,7 +76,8 @@ module _ {L : Tokens} {Q : L.Token → Type 0} where
   pub each_many : (A : Type 0) (g : Grammar L A) (P : A → Type 0) → Each Q g P → Each Q (Many A g) (Every P)
   each_many A g P a = record { holds = many_holds A g P a }
 
-  pub each_made : (A B : Type 0) (f : A → B) (g : Grammar L A) (P : A → Type 0) (R : B → Type 0) → Each Q g P → ((a : A) → P a → R (f a)) → Each Q (Made A B f g) R
+  pub each_made : (A B : Type 0) (f : A → B) (g : Grammar L A) (P : A → Type 0) (R : B → Type 0) → Each Q g P → ((a : A) → P a → R (f a))
+      → Each Q (Made A B f g) R
   each_made A B f g P R a step = record { holds = λ text x q s. subst R (sym s.1) (step s.0 (a.holds text s.0 q s.2)) }
 
   pub each_headed : (A : Type 0) (g : Grammar L A) (P : A → Type 0) → Each Q g P → Each Q (Headed A g) (λ x. P x.1)

@@ -8,7 +8,8 @@ use Rattle.grammar.proofs.Parts.{one_reads, made_reads, headed_reads, barred_rea
 use Rattle.grammar.proofs.Joined.{seq_reads, either_reads}
 use Rattle.grammar.proofs.Repeated.{many_reads}
 
-never_void : (L : Tokens) (A : Type 0) (s : List L.Token → A → Type 0) (r : List L.Token → Outcome L.Token A) (o t : List L.Class) (v : Bool) → v ≡ false → Reading L A s r o t v → Reading L A s r o t false
+never_void : (L : Tokens) (A : Type 0) (s : List L.Token → A → Type 0) (r : List L.Token → Outcome L.Token A) (o t : List L.Class) (v : Bool) → v ≡ false
+    → Reading L A s r o t v → Reading L A s r o t false
 never_void L A s r o t v e h = subst (λ b. Reading L A s r o t b) e h
 
 pub reads : {L : Tokens} {A : Type 0} (g : Grammar L A) → Predictive g → Reading L A (spells g) (read g) (first g) (tails g) (empties g)

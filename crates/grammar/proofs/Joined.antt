@@ -22,14 +22,19 @@ module _ (L : Tokens) (A B : Type 0)
   then_b x rest = next (rb rest) (λ y end. Got (x, y) end)
 
   -- of what may stand behind the whole, what may stand behind the first
-  seq_stops : (second rest : List L.Token) (y : B) → sb second y → (v : Bool) → vb ≡ v → starts L (cond v (union L tb ta) tb) rest ≡ false → (starts L tb rest ≡ false) × (starts L ta (second ++ rest) ≡ false)
+  seq_stops : (second rest : List L.Token) (y : B) → sb second y → (v : Bool) → vb ≡ v → starts L (cond v (union L tb ta) tb) rest ≡ false
+      → (starts L tb rest ≡ false) × (starts L ta (second ++ rest) ≡ false)
   seq_stops second rest y s true e h =
-      let parts = union_none L tb ta rest h in
-      (parts.0, ⊎_elim (λ i. subst (λ f. starts L ta (f ++ rest) ≡ false) (sym i.0) parts.1) (λ i. starts_apart L ob ta (second ++ rest) d (starts_behind L ob second rest i)) (b.begins second y s))
+      let parts = union_none L tb ta rest h in (
+        parts.0,
+        ⊎_elim (λ i. subst (λ f. starts L ta (f ++ rest) ≡ false) (sym i.0) parts.1)
+            (λ i. starts_apart L ob ta (second ++ rest) d (starts_behind L ob second rest i)) (b.begins second y s),
+      )
   seq_stops second rest y s false e h =
       (h, starts_apart L ob ta (second ++ rest) d (starts_behind L ob second rest (begins_some L B sb rb ob tb vb b e second y s)))
 
-  seq_complete : (front rest : List L.Token) (x : A × B) → Seq-s front x → starts L (cond vb (union L tb ta) tb) rest ≡ false → seq_r (front ++ rest) ≡ Got x rest
+  seq_complete : (front rest : List L.Token) (x : A × B) → Seq-s front x → starts L (cond vb (union L tb ta) tb) rest ≡ false → seq_r (front ++ rest)
+      ≡ Got x rest
   seq_complete front rest x s h =
       let stops = seq_stops s.1 rest x.1 s.4 vb refl h in
       let text : front ++ rest ≡ s.0 ++ (s.1 ++ rest) = ap (λ f. f ++ rest) s.2 ∙ append_assoc s.0 s.1 rest in
@@ -37,7 +42,8 @@ module _ (L : Tokens) (A B : Type 0)
       ∙ ap (λ o. next o then_b) (a.complete s.0 (s.1 ++ rest) x.0 s.3 stops.1)
       ∙ ap (λ o. next o (λ y end. Got (x.0, y) end)) (b.complete s.1 rest x.1 s.4 stops.0)
 
-  seq_second : (front rest text : List L.Token) (x : A) → text ≡ front ++ rest → sa front x → ((more : List L.Token) → Alike rest more → ra (front ++ more) ≡ Got x more) → Verdict sb rb rest → Verdict Seq-s seq_r text
+  seq_second : (front rest text : List L.Token) (x : A) → text ≡ front ++ rest → sa front x
+      → ((more : List L.Token) → Alike rest more → ra (front ++ more) ≡ Got x more) → Verdict sb rb rest → Verdict Seq-s seq_r text
   seq_second front rest text x e s again (good second end y f t other) =
       good (front ++ second) end (x, y) (e ∙ ap (λ r. front ++ r) f ∙ sym (append_assoc front second end)) (front, second, refl, s, t)
       (λ more h. ap seq_r (append_assoc front second more)
@@ -57,7 +63,8 @@ module _ (L : Tokens) (A B : Type 0)
       bad front rest flaw e (s.0 ++ p.0, (s.1, p.1), (front ++ s.0, p.0, sym (append_assoc front s.0 p.0), s.2, p.2))
       (λ more h. ap (λ o. next o then_b) (again more h))
 
-  seq_begins : (front : List L.Token) (x : A × B) → Seq-s front x → (v : Bool) → va ≡ v → ((front ≡ []) × ((v && vb) ≡ true)) ⊎ (starts L (cond v (union L oa ob) oa) front ≡ true)
+  seq_begins : (front : List L.Token) (x : A × B) → Seq-s front x → (v : Bool) → va ≡ v → ((front ≡ []) × ((v && vb) ≡ true))
+      ⊎ (starts L (cond v (union L oa ob) oa) front ≡ true)
   seq_begins front x s false e =
       inr (subst (λ f. starts L oa f ≡ true) (sym s.2) (starts_behind L oa s.0 s.1 (begins_some L A sa ra oa ta va a e s.0 x.0 s.3)))
   seq_begins front x s true e =
@@ -98,20 +105,23 @@ module _ (L : Tokens) (A : Type 0)
   either_complete front rest x s h =
       ⊎_elim
       (λ i. goes (front ++ rest) true (starts_behind L oa front rest (begins_a front x i)) ∙ a.complete front rest x i (union_none L ta tb rest h).0)
-      (λ i. goes (front ++ rest) false (starts_apart L ob oa (front ++ rest) d (starts_behind L ob front rest (begins_b front x i))) ∙ b.complete front rest x i (union_none L ta tb rest h).1)
+      (λ i. goes (front ++ rest) false (starts_apart L ob oa (front ++ rest) d (starts_behind L ob front rest (begins_b front x i)))
+      ∙ b.complete front rest x i (union_none L ta tb rest h).1)
       s
 
   either_left : (text : List L.Token) → starts L oa text ≡ true → Verdict sa ra text → Verdict Either-s either_r text
   either_left text n (good front rest x e s again) =
       good front rest x e (inl s) (λ more h. goes (front ++ more) true (same_way L oa front rest more h ∙ ap (starts L oa) (sym e) ∙ n) ∙ again more h)
   either_left text n (bad front rest flaw e s again) =
-      bad front rest flaw e (s.0, s.1, inl s.2) (λ more h. goes (front ++ more) true (same_way L oa front rest more h ∙ ap (starts L oa) (sym e) ∙ n) ∙ again more h)
+      bad front rest flaw e (s.0, s.1, inl s.2) (λ more h. goes (front ++ more) true (same_way L oa front rest more h ∙ ap (starts L oa) (sym e) ∙ n)
+      ∙ again more h)
 
   either_right : (text : List L.Token) → starts L oa text ≡ false → Verdict sb rb text → Verdict Either-s either_r text
   either_right text n (good front rest x e s again) =
       good front rest x e (inr s) (λ more h. goes (front ++ more) false (same_way L oa front rest more h ∙ ap (starts L oa) (sym e) ∙ n) ∙ again more h)
   either_right text n (bad front rest flaw e s again) =
-      bad front rest flaw e (s.0, s.1, inr s.2) (λ more h. goes (front ++ more) false (same_way L oa front rest more h ∙ ap (starts L oa) (sym e) ∙ n) ∙ again more h)
+      bad front rest flaw e (s.0, s.1, inr s.2) (λ more h. goes (front ++ more) false (same_way L oa front rest more h ∙ ap (starts L oa) (sym e) ∙ n)
+      ∙ again more h)
 
   either_verdict : (text : List L.Token) (v : Bool) → starts L oa text ≡ v → Verdict Either-s either_r text
   either_verdict text true e = either_left text e (a.verdict text)

@@ -1,9 +1,11 @@
 -- A grammar with more levels of nesting is read alike, up to where the first one finds a text too deep.
-use Rattle.std.proofs.Common.{◌≡◌, ℕ, zero, suc, ◌≤◌, ◌<◌, Bool, true, false, ◌||◌, ◌&&◌, cond, List, [], ◌∷◌, Some, None, length, refl, sym, ◌∙◌, ap, subst, arith}
+use Rattle.std.proofs.Common.{◌≡◌, ℕ, zero, suc, ◌≤◌, ◌<◌, Bool, true, false, ◌||◌, ◌&&◌, cond, List, [], ◌∷◌, Some, None, length, refl, sym, ◌∙◌, ap, subst}
+use Rattle.std.proofs.Common.{arith}
 use Rattle.grammar.specs.Grammar.{Tokens, Grammar, is_in}
 use Rattle.grammar.specs.Predictive.{union, empties, first}
 use Rattle.grammar.specs.Read.{Wrong, Deep, Outcome, Got, Failed, starts, next, choose, read_one, read_each, with_head, read}
-use Rattle.grammar.specs.Deeper.{Opens, with_one, with_seq, with_either, with_made, with_headed, Deeper, same_one, deeper_seq, deeper_either, deeper_maybe, deeper_many, deeper_made, deeper_headed, opened}
+use Rattle.grammar.specs.Deeper.{Opens, with_one, with_seq, with_either, with_made, with_headed, Deeper, same_one, deeper_seq, deeper_either, deeper_maybe}
+use Rattle.grammar.specs.Deeper.{deeper_many, deeper_made, deeper_headed, opened}
 use Rattle.grammar.proofs.Sets.{starts_union}
 use Rattle.grammar.proofs.Shorter.{left, pair, next_left, each_left, head_left, read_left}
 
@@ -14,7 +16,9 @@ Follows (Failed Wrong rest) o = o ≡ Failed Wrong rest
 Follows (Failed Deep rest) o = left o < length rest
 
 module _ {T : Type 0} where
-  pub next_follows : {A B : Type 0} (o o' : Outcome T A) (go go' : A → List T → Outcome T B) → Follows o o' → ((x : A) (rest : List T) → Follows (go x rest) (go' x rest)) → ((x : A) (rest : List T) → left (go' x rest) ≤ length rest) → Follows (next o go) (next o' go')
+  pub next_follows : {A B : Type 0} (o o' : Outcome T A) (go go' : A → List T → Outcome T B) → Follows o o'
+      → ((x : A) (rest : List T) → Follows (go x rest) (go' x rest)) → ((x : A) (rest : List T) → left (go' x rest) ≤ length rest)
+      → Follows (next o go) (next o' go')
   next_follows (Got x rest) o' go go' e f s = subst (λ p. Follows (go x rest) (next p go')) (sym e) (f x rest)
   next_follows (Failed Wrong rest) o' go go' e f s = ap (λ p. next p go') e
   next_follows (Failed Deep rest) o' go go' e f s = let less = next_left o' go' s in omega arith
@@ -33,15 +37,19 @@ module _ {T : Type 0} where
   head_follows [] x rest = refl
   head_follows (t ∷ text) x rest = refl
 
-  each_follows : {A : Type 0} (begins begins' : List T → Bool) (r r' : List T → Outcome T A) → ((text : List T) → begins text ≡ begins' text) → ((text : List T) → Follows (r text) (r' text)) → ((n : ℕ) (text : List T) → left (read_each begins' r' n text) ≤ length text) → (n : ℕ) (text : List T) → Follows (read_each begins r n text) (read_each begins' r' n text)
+  each_follows : {A : Type 0} (begins begins' : List T → Bool) (r r' : List T → Outcome T A) → ((text : List T) → begins text ≡ begins' text)
+      → ((text : List T) → Follows (r text) (r' text)) → ((n : ℕ) (text : List T) → left (read_each begins' r' n text) ≤ length text) → (n : ℕ) (text : List T)
+      → Follows (read_each begins r n text) (read_each begins' r' n text)
   each_follows begins begins' r r' same f s zero text = refl
   each_follows {A = A} begins begins' r r' same f s (suc n) text =
       choose_follows (begins text) (begins' text)
       (next (r text) (λ x rest. next (read_each begins r n rest) (λ xs end. Got (x ∷ xs) end)))
       (next (r' text) (λ x rest. next (read_each begins' r' n rest) (λ xs end. Got (x ∷ xs) end)))
       (Got [] text) (Got [] text) (same text)
-      (next_follows (r text) (r' text) (λ x rest. next (read_each begins r n rest) (λ xs end. Got (x ∷ xs) end)) (λ x rest. next (read_each begins' r' n rest) (λ xs end. Got (x ∷ xs) end)) (f text)
-      (λ x rest. next_follows (read_each begins r n rest) (read_each begins' r' n rest) (λ xs end. Got (x ∷ xs) end) (λ xs end. Got (x ∷ xs) end) (each_follows begins begins' r r' same f s n rest) (λ xs end. refl) (λ xs end. omega arith))
+      (next_follows (r text) (r' text) (λ x rest. next (read_each begins r n rest) (λ xs end. Got (x ∷ xs) end))
+      (λ x rest. next (read_each begins' r' n rest) (λ xs end. Got (x ∷ xs) end)) (f text)
+      (λ x rest. next_follows (read_each begins r n rest) (read_each begins' r' n rest) (λ xs end. Got (x ∷ xs) end) (λ xs end. Got (x ∷ xs) end)
+      (each_follows begins begins' r r' same f s n rest) (λ xs end. refl) (λ xs end. omega arith))
       more)
       refl
     where
@@ -100,11 +108,13 @@ first_same {L} A g g' (opened X ks p p' h o d) =
 one_taken : {T : Type 0} (fits : T → Bool) (t : T) (text : List T) → fits t ≡ true → left (read_one fits (t ∷ text)) < length (t ∷ text)
 one_taken fits t text e = subst (λ b. left (choose b (Got t text) (Failed Wrong (t ∷ text))) < suc (length text)) (sym e) (omega arith)
 
-either_taken : {T A : Type 0} (b c : Bool) (o p : Outcome T A) (n : ℕ) → (b || c) ≡ true → (b ≡ true → left o < n) → (c ≡ true → left p < n) → left (choose b o p) < n
+either_taken : {T A : Type 0} (b c : Bool) (o p : Outcome T A) (n : ℕ) → (b || c) ≡ true → (b ≡ true → left o < n) → (c ≡ true → left p < n)
+    → left (choose b o p) < n
 either_taken true c o p n e h i = h refl
 either_taken false c o p n e h i = i e
 
-opens_taken : {L : Tokens} (A : Type 0) (g : Grammar L A) (ks : List L.Class) → Opens A g ks → (text : List L.Token) → starts L ks text ≡ true → left (read g text) < length text
+opens_taken : {L : Tokens} (A : Type 0) (g : Grammar L A) (ks : List L.Class) → Opens A g ks → (text : List L.Token) → starts L ks text ≡ true
+    → left (read g text) < length text
 opens_taken A g ks (with_one classes) [] e = absurd (cc)
 opens_taken {L} A g ks (with_one classes) (t ∷ text) e = one_taken (λ u. is_in L classes (L.class u)) t text e
 opens_taken {L} A g ks (with_seq X Y p q classes o) text e =
@@ -132,7 +142,8 @@ opens_taken A g ks (with_headed X p classes o) text e =
 
 -- ---- both readings
 
-barred_follows : {T A : Type 0} (b : Bool) (text : List T) (o p q : Outcome T A) → (b ≡ true → left q < length text) → Follows o p → Follows (choose b (Failed Deep text) o) (choose b q p)
+barred_follows : {T A : Type 0} (b : Bool) (text : List T) (o p q : Outcome T A) → (b ≡ true → left q < length text) → Follows o p
+    → Follows (choose b (Failed Deep text) o) (choose b q p)
 barred_follows true text o p q h f = h refl
 barred_follows false text o p q h f = f
 
@@ -148,23 +159,29 @@ deeper_follows {L} A g g' (deeper_seq X Y p p' q q' d e) text =
         let less = next_left (read q' rest) (pair a) (λ b end. omega arith) in
         omega arith
 
-    second : ((rest : List L.Token) → Follows (read q rest) (read q' rest)) → (a : X) (rest : List L.Token) → Follows (next (read q rest) (pair a)) (next (read q' rest) (pair a))
+    second : ((rest : List L.Token) → Follows (read q rest) (read q' rest)) → (a : X) (rest : List L.Token)
+        → Follows (next (read q rest) (pair a)) (next (read q' rest) (pair a))
     second h a rest = next_follows (read q rest) (read q' rest) (pair a) (pair a) (h rest) (λ b end. refl) (λ b end. omega arith)
 deeper_follows {L} A g g' (deeper_either X p p' q q' d e) text =
-    choose_follows (starts L (first p) text) (starts L (first p') text) (read p text) (read p' text) (read q text) (read q' text) (ap (λ f. starts L f text) (first_same X p p' d))
+    choose_follows (starts L (first p) text) (starts L (first p') text) (read p text) (read p' text) (read q text) (read q' text)
+    (ap (λ f. starts L f text) (first_same X p p' d))
     (deeper_follows X p p' d text) (deeper_follows X q q' e text)
 deeper_follows {L} A g g' (deeper_maybe X p p' d) text =
     choose_follows (starts L (first p) text) (starts L (first p') text)
     (next (read p text) (λ a rest. Got (Some a) rest)) (next (read p' text) (λ a rest. Got (Some a) rest)) (Got None text) (Got None text)
     (ap (λ f. starts L f text) (first_same X p p' d))
-    (next_follows (read p text) (read p' text) (λ a rest. Got (Some a) rest) (λ a rest. Got (Some a) rest) (deeper_follows X p p' d text) (λ a rest. refl) (λ a rest. omega arith))
+    (next_follows (read p text) (read p' text) (λ a rest. Got (Some a) rest) (λ a rest. Got (Some a) rest) (deeper_follows X p p' d text) (λ a rest. refl)
+    (λ a rest. omega arith))
     refl
 deeper_follows {L} A g g' (deeper_many X p p' d) text =
-    each_follows (starts L (first p)) (starts L (first p')) (read p) (read p') (λ t. ap (λ f. starts L f t) (first_same X p p' d)) (deeper_follows X p p' d) (each_left (starts L (first p')) (read p') (read_left p')) (length text) text
+    each_follows (starts L (first p)) (starts L (first p')) (read p) (read p') (λ t. ap (λ f. starts L f t) (first_same X p p' d)) (deeper_follows X p p' d)
+    (each_left (starts L (first p')) (read p') (read_left p')) (length text) text
 deeper_follows A g g' (deeper_made X Y f p p' d) text =
-    next_follows (read p text) (read p' text) (λ a rest. Got (f a) rest) (λ a rest. Got (f a) rest) (deeper_follows X p p' d text) (λ a rest. refl) (λ a rest. omega arith)
+    next_follows (read p text) (read p' text) (λ a rest. Got (f a) rest) (λ a rest. Got (f a) rest) (deeper_follows X p p' d text) (λ a rest. refl)
+    (λ a rest. omega arith)
 deeper_follows A g g' (deeper_headed X p p' d) text =
     next_follows (read p text) (read p' text) (with_head text) (with_head text) (deeper_follows X p p' d text) (head_follows text) (head_left text)
 deeper_follows {L} A g g' (opened X ks p p' h o d) text =
-    subst (λ f. Follows (choose (starts L ks text) (Failed Deep text) (read p text)) (choose (starts L f text) (read h text) (read p' text))) (sym (opens_first X h ks o))
+    subst (λ f. Follows (choose (starts L ks text) (Failed Deep text) (read p text)) (choose (starts L f text) (read h text) (read p' text)))
+    (sym (opens_first X h ks o))
     (barred_follows (starts L ks text) text (read p text) (read p' text) (read h text) (opens_taken X h ks o text) (deeper_follows X p p' d text))

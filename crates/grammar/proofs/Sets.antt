@@ -43,7 +43,8 @@ module _ (L : Tokens) where
   in_rest ks [] c out = refl
   in_rest ks (l ∷ ls) c out = go (in_rest ks ls c out) (is_in L ks l) refl (L.same l c) refl
     where
-      go : is_in L (filter (λ d. not (is_in L ks d)) ls) c ≡ is_in L ls c → (b : Bool) → is_in L ks l ≡ b → (s : Bool) → L.same l c ≡ s → is_in L (cond (not b) (l ∷ filter (λ d. not (is_in L ks d)) ls) (filter (λ d. not (is_in L ks d)) ls)) c ≡ (s || is_in L ls c)
+      go : is_in L (filter (λ d. not (is_in L ks d)) ls) c ≡ is_in L ls c → (b : Bool) → is_in L ks l ≡ b → (s : Bool) → L.same l c ≡ s
+          → is_in L (cond (not b) (l ∷ filter (λ d. not (is_in L ks d)) ls) (filter (λ d. not (is_in L ks d)) ls)) c ≡ (s || is_in L ls c)
       go rest false e s f = ap (λ b. b || is_in L (filter (λ d. not (is_in L ks d)) ls) c) f ∙ ap (λ b. s || b) rest
       go rest true e false f = rest
       go rest true e true f =
@@ -84,7 +85,8 @@ module _ (L : Tokens) where
   starts_union ks ls [] = refl
   starts_union ks ls (t ∷ text) = in_union ks ls (L.class t)
 
-  pub union_none : (ks ls : List L.Class) (text : List L.Token) → starts L (union L ks ls) text ≡ false → (starts L ks text ≡ false) × (starts L ls text ≡ false)
+  pub union_none : (ks ls : List L.Class) (text : List L.Token) → starts L (union L ks ls) text ≡ false → (starts L ks text ≡ false)
+      × (starts L ls text ≡ false)
   union_none ks ls text h = or_parts (starts L ks text) (starts L ls text) (sym (starts_union ks ls text) ∙ h)
 
   pub union_left : (ks ls : List L.Class) (text : List L.Token) → starts L ks text ≡ true → starts L (union L ks ls) text ≡ true

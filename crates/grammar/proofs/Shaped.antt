@@ -26,7 +26,8 @@ module _ {L : Tokens} where
   pub shaped_one : (classes : List L.Class) → is_filled classes ≡ true → Shaped {L = L} (One classes) false classes []
   shaped_one classes e = record { predictive = e; voids = refl; begins = refl; ends = refl }
 
-  pub shaped_seq : (A B : Type 0) (g : Grammar L A) (h : Grammar L B) (v w : Bool) (o t p s : List L.Class) → Shaped g v o t → Shaped h w p s → disjoint L p t ≡ true → Shaped (Seq A B g h) (v && w) (cond v (union L o p) o) (cond w (union L s t) s)
+  pub shaped_seq : (A B : Type 0) (g : Grammar L A) (h : Grammar L B) (v w : Bool) (o t p s : List L.Class) → Shaped g v o t → Shaped h w p s
+      → disjoint L p t ≡ true → Shaped (Seq A B g h) (v && w) (cond v (union L o p) o) (cond w (union L s t) s)
   shaped_seq A B g h v w o t p s a b d = record {
     predictive = (a.predictive, b.predictive, apart_as L _ _ _ _ b.begins a.ends d);
     voids = ap (λ x. x && empties h) a.voids ∙ ap (λ x. v && x) b.voids;
@@ -34,7 +35,8 @@ module _ {L : Tokens} where
     ends = joined_as L _ _ _ _ _ _ b.voids b.ends a.ends;
   }
 
-  pub shaped_either : (A : Type 0) (g h : Grammar L A) (o t p s : List L.Class) → Shaped g false o t → Shaped h false p s → disjoint L p o ≡ true → Shaped (Either A g h) false (union L o p) (union L t s)
+  pub shaped_either : (A : Type 0) (g h : Grammar L A) (o t p s : List L.Class) → Shaped g false o t → Shaped h false p s → disjoint L p o ≡ true
+      → Shaped (Either A g h) false (union L o p) (union L t s)
   shaped_either A g h o t p s a b d = record {
     predictive = (a.predictive, b.predictive, a.voids, b.voids, apart_as L _ _ _ _ b.begins a.begins d);
     voids = refl;
@@ -64,7 +66,8 @@ module _ {L : Tokens} where
   pub shaped_headed : (A : Type 0) (g : Grammar L A) (o t : List L.Class) → Shaped g false o t → Shaped (Headed A g) false o t
   shaped_headed A g o t a = record { predictive = (a.predictive, a.voids); voids = refl; begins = a.begins; ends = a.ends }
 
-  pub shaped_barred : (A : Type 0) (ks : List L.Class) (g : Grammar L A) (o t : List L.Class) → Shaped g false o t → disjoint L o ks ≡ true → Shaped (Barred A ks g) false (union L ks o) t
+  pub shaped_barred : (A : Type 0) (ks : List L.Class) (g : Grammar L A) (o t : List L.Class) → Shaped g false o t → disjoint L o ks ≡ true
+      → Shaped (Barred A ks g) false (union L ks o) t
   shaped_barred A ks g o t a d = record {
     predictive = (a.predictive, a.voids, apart_as L _ _ _ _ a.begins refl d);
     voids = refl;

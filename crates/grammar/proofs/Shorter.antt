@@ -14,7 +14,8 @@ abbrev pub pair : {T A B : Type 0} → A → B → List T → Outcome T (A × B)
 pair a b end = Got (a, b) end
 
 module _ {T : Type 0} where
-  pub next_left : {A B : Type 0} (o : Outcome T A) (go : A → List T → Outcome T B) → ((x : A) (rest : List T) → left (go x rest) ≤ length rest) → left (next o go) ≤ left o
+  pub next_left : {A B : Type 0} (o : Outcome T A) (go : A → List T → Outcome T B) → ((x : A) (rest : List T) → left (go x rest) ≤ length rest)
+      → left (next o go) ≤ left o
   next_left (Got x rest) go h = h x rest
   next_left (Failed flaw rest) go h = omega arith
 
@@ -26,15 +27,18 @@ module _ {T : Type 0} where
   one_left fits [] = omega arith
   one_left fits (t ∷ text) = choose_left (fits t) (Got t text) (Failed Wrong (t ∷ text)) (length (t ∷ text)) (omega arith) (omega arith)
 
-  pub each_left : {A : Type 0} (begins : List T → Bool) (r : List T → Outcome T A) → ((text : List T) → left (r text) ≤ length text) → (n : ℕ) (text : List T) → left (read_each begins r n text) ≤ length text
+  pub each_left : {A : Type 0} (begins : List T → Bool) (r : List T → Outcome T A) → ((text : List T) → left (r text) ≤ length text) → (n : ℕ) (text : List T)
+      → left (read_each begins r n text) ≤ length text
   each_left begins r h zero text = omega arith
   each_left {A = A} begins r h (suc n) text =
       let some : left (next (r text) (λ x rest. next (read_each begins r n rest) (λ xs end. Got (x ∷ xs) end))) ≤ left (r text) =
       next_left (r text) (λ x rest. next (read_each begins r n rest) (λ xs end. Got (x ∷ xs) end)) (λ x rest. more x rest (each_left begins r h n rest)) in
       let given = h text in
-      choose_left (begins text) (next (r text) (λ x rest. next (read_each begins r n rest) (λ xs end. Got (x ∷ xs) end))) (Got [] text) (length text) (omega arith) (omega arith)
+      choose_left (begins text) (next (r text) (λ x rest. next (read_each begins r n rest) (λ xs end. Got (x ∷ xs) end))) (Got [] text) (length text)
+      (omega arith) (omega arith)
     where
-      more : (x : A) (rest : List T) → left (read_each begins r n rest) ≤ length rest → left (next (read_each begins r n rest) (λ xs end. Got (x ∷ xs) end)) ≤ length rest
+      more : (x : A) (rest : List T) → left (read_each begins r n rest) ≤ length rest
+          → left (next (read_each begins r n rest) (λ xs end. Got (x ∷ xs) end)) ≤ length rest
       more x rest le =
           let less = next_left (read_each begins r n rest) (λ xs end. Got (x ∷ xs) end) (λ xs end. omega arith) in
           omega arith

@@ -46,7 +46,8 @@ operand_deeper : (n m : ℕ) → Above n m → Deeper ℕ (operand n) (operand m
 operand_deeper n m (above_none k) = opened _ _ _ _ _ (with_made _ _ _ _ _ (with_seq _ _ _ _ _ (with_one _))) unit_deeper
 operand_deeper n m (above_more k l a) =
     deeper_either _ _ _ _ _
-    (deeper_made _ _ _ _ _ (deeper_seq _ _ _ _ _ _ (same_one _) (deeper_made _ _ _ _ _ (deeper_seq _ _ _ _ _ _ (sum_deeper _ _ (operand_deeper k l a)) (same_one _)))))
+    (deeper_made _ _ _ _ _
+    (deeper_seq _ _ _ _ _ _ (same_one _) (deeper_made _ _ _ _ _ (deeper_seq _ _ _ _ _ _ (sum_deeper _ _ (operand_deeper k l a)) (same_one _)))))
     unit_deeper
 
 is_language : IsLanguage sums

@@ -38,9 +38,12 @@ module _ {L : Tokens} {A : Type 0} (g : Grammar L A) (p : Predictive g) where
 
   data Whole (text : List L.Token) : Type 0 where
     whole : (x : A) → spells g text x → Whole text
-    broken : (front rest : List L.Token) (flaw : Flaw) → text ≡ front ++ rest → Begins (spells g) front → ((more : List L.Token) → Alike rest more → read_all g (front ++ more) ≡ Failed flaw more) → Whole text
+    broken : (front rest : List L.Token) (flaw : Flaw) → text ≡ front ++ rest → Begins (spells g) front
+        → ((more : List L.Token) → Alike rest more → read_all g (front ++ more) ≡ Failed flaw more) → Whole text
 
-  goes_on : (front : List L.Token) (t : L.Token) (rest : List L.Token) (x : A) → ((more : List L.Token) → Alike (t ∷ rest) more → read g (front ++ more) ≡ Got x more) → (more : List L.Token) → Alike (t ∷ rest) more → read_all g (front ++ more) ≡ Failed Wrong more
+  goes_on : (front : List L.Token) (t : L.Token) (rest : List L.Token) (x : A)
+      → ((more : List L.Token) → Alike (t ∷ rest) more → read g (front ++ more) ≡ Got x more) → (more : List L.Token) → Alike (t ∷ rest) more
+      → read_all g (front ++ more) ≡ Failed Wrong more
   goes_on front t rest x again [] h = absurd h
   goes_on front t rest x again (u ∷ more) h = ap (λ o. next o ended) (again (u ∷ more) h)
 
@@ -54,7 +57,8 @@ module _ {L : Tokens} {A : Type 0} (g : Grammar L A) (p : Predictive g) where
   every_text text = whole_of text ((reads g p).verdict text)
 
   -- no phrase goes on with the token at which reading fails
-  no_phrase : (front : List L.Token) (t : L.Token) (flaw : Flaw) → ((more : List L.Token) → read_all g (front ++ t ∷ more) ≡ Failed flaw (t ∷ more)) → ¬ Begins (spells g) (front ++ t ∷ [])
+  no_phrase : (front : List L.Token) (t : L.Token) (flaw : Flaw) → ((more : List L.Token) → read_all g (front ++ t ∷ more) ≡ Failed flaw (t ∷ more))
+      → ¬ Begins (spells g) (front ++ t ∷ [])
   no_phrase front t flaw again b =
       let fails = again b.0 in
       let reads_it : read_all g (front ++ t ∷ b.0) ≡ Got b.1 [] =
@@ -80,13 +84,15 @@ module _ {L : Tokens} {A : Type 0} (g : ℕ → Grammar L A) (l : IsLanguage g) 
       next_follows (read (g 0) text) (read (g (suc k)) text) ended ended (deeper_follows A (g 0) (g (suc k)) (l.deeper k) text) end_follows end_left
 
   -- what is wrong stays wrong in every deeper grammar
-  always_wrong : (front : List L.Token) (t : L.Token) → ((more : List L.Token) → read_all (g 0) (front ++ t ∷ more) ≡ Failed Wrong (t ∷ more)) → (k : ℕ) → ¬ Begins (spells (g k)) (front ++ t ∷ [])
+  always_wrong : (front : List L.Token) (t : L.Token) → ((more : List L.Token) → read_all (g 0) (front ++ t ∷ more) ≡ Failed Wrong (t ∷ more)) → (k : ℕ)
+      → ¬ Begins (spells (g k)) (front ++ t ∷ [])
   always_wrong front t again zero = no_phrase (g 0) (l.predictive 0) front t Wrong again
   always_wrong front t again (suc k) =
       no_phrase (g (suc k)) (l.predictive (suc k)) front t Wrong
       (λ more. subst (λ o. Follows o (read_all (g (suc k)) (front ++ t ∷ more))) (again more) (all_follows k (front ++ t ∷ more)))
 
-  deep_past : (text front : List L.Token) (t : L.Token) (rest : List L.Token) → text ≡ front ++ t ∷ rest → left (read_all (g 1) text) < length (t ∷ rest) → Whole (g 1) (l.predictive 1) text → Begins (spells (g 1)) (front ++ t ∷ [])
+  deep_past : (text front : List L.Token) (t : L.Token) (rest : List L.Token) → text ≡ front ++ t ∷ rest → left (read_all (g 1) text) < length (t ∷ rest)
+      → Whole (g 1) (l.predictive 1) text → Begins (spells (g 1)) (front ++ t ∷ [])
   deep_past text front t rest e less (whole x s) = (rest, x, subst (λ u. spells (g 1) u x) (e ∙ one_more front t rest) s)
   deep_past text front t rest e less (broken other behind flaw f b again) =
       let fails : read_all (g 1) text ≡ Failed flaw behind = subst (λ u. read_all (g 1) u ≡ Failed flaw behind) (sym f) (again behind (alike_same behind)) in
@@ -94,7 +100,8 @@ module _ {L : Tokens} {A : Type 0} (g : ℕ → Grammar L A) (l : IsLanguage g) 
       let s = split (front ++ t ∷ []) rest other behind (sym (one_more front t rest) ∙ sym e ∙ f) (omega arith) in
       begins_less (spells (g 1)) (front ++ t ∷ []) s.0 (subst (λ u. Begins (spells (g 1)) u) s.1 b)
 
-  flawed : (text front rest : List L.Token) (flaw : Flaw) → text ≡ front ++ rest → ((more : List L.Token) → Alike rest more → read_all (g 0) (front ++ more) ≡ Failed flaw more) → IsFlaw g flaw front rest
+  flawed : (text front rest : List L.Token) (flaw : Flaw) → text ≡ front ++ rest
+      → ((more : List L.Token) → Alike rest more → read_all (g 0) (front ++ more) ≡ Failed flaw more) → IsFlaw g flaw front rest
   flawed text front [] Wrong e again = no_end (g 0) (l.predictive 0) front Wrong (again [] tt)
   flawed text front (t ∷ rest) Wrong e again = always_wrong front t (λ more. again (t ∷ more) refl)
   flawed text front [] Deep e again =
@@ -102,8 +109,11 @@ module _ {L : Tokens} {A : Type 0} (g : ℕ → Grammar L A) (l : IsLanguage g) 
       absurd (omega arith)
   flawed text front (t ∷ rest) Deep e again =
       let less : left (read_all (g 1) (front ++ t ∷ rest)) < length (t ∷ rest) =
-      subst (λ o. Follows o (read_all (g 1) (front ++ t ∷ rest))) (again (t ∷ rest) refl) (all_follows 0 (front ++ t ∷ rest)) in
-      (1, deep_past text front t rest e (subst (λ u. left (read_all (g 1) u) < length (t ∷ rest)) (sym e) less) (every_text (g 1) (l.predictive 1) text), no_phrase (g 0) (l.predictive 0) front t Deep (λ more. again (t ∷ more) refl))
+      subst (λ o. Follows o (read_all (g 1) (front ++ t ∷ rest))) (again (t ∷ rest) refl) (all_follows 0 (front ++ t ∷ rest)) in (
+        1,
+        deep_past text front t rest e (subst (λ u. left (read_all (g 1) u) < length (t ∷ rest)) (sym e) less) (every_text (g 1) (l.predictive 1) text),
+        no_phrase (g 0) (l.predictive 0) front t Deep (λ more. again (t ∷ more) refl),
+      )
 
   told_whole : (text : List L.Token) → Whole (g 0) (l.predictive 0) text → Told g text (read_all (g 0) text)
   told_whole text (whole x s) = subst (Told g text) (sym (complete_all (g 0) (l.predictive 0) text x s)) (refl, s)
@@ -141,14 +151,17 @@ module _ {L : Tokens} {A : Type 0} (g : ℕ → Grammar L A) (l : IsLanguage g) 
   no_tokens [] e = refl
   no_tokens (x ∷ xs) e = absurd (omega arith)
 
-  one_fault : (text rest rest' : List L.Token) (flaw flaw' : Flaw) → Fault g text flaw rest → Fault g text flaw' rest' → length rest ≡ length rest' → (flaw ≡ flaw') × (rest ≡ rest')
+  one_fault : (text rest rest' : List L.Token) (flaw flaw' : Flaw) → Fault g text flaw rest → Fault g text flaw' rest' → length rest ≡ length rest'
+      → (flaw ≡ flaw') × (rest ≡ rest')
   one_fault text rest rest' flaw flaw' f h same =
       let s = split f.front rest h.front rest' (sym f.parts ∙ h.parts) (omega arith) in
       let len : length rest ≡ length s.0 + length rest' = ap length s.2 ∙ length-append s.0 rest' in
       let none : s.0 ≡ [] = no_tokens s.0 (omega arith) in
       let fronts : h.front ≡ f.front = s.1 ∙ ap (λ m. f.front ++ m) none ∙ append-nil f.front in
-      let rests : rest ≡ rest' = s.2 ∙ ap (λ m. m ++ rest') none in
-      (same_flaw flaw flaw' f.front rest f.flawed (subst (λ u. IsFlaw g flaw' u rest) fronts (subst (λ u. IsFlaw g flaw' h.front u) (sym rests) h.flawed)), rests)
+      let rests : rest ≡ rest' = s.2 ∙ ap (λ m. m ++ rest') none in (
+        same_flaw flaw flaw' f.front rest f.flawed (subst (λ u. IsFlaw g flaw' u rest) fronts (subst (λ u. IsFlaw g flaw' h.front u) (sym rests) h.flawed)),
+        rests,
+      )
 
   less_or_same : (m n : ℕ) → (m < n) ⊎ ((n < m) ⊎ (m ≡ n))
   less_or_same m n = grind arith

@@ -6,6 +6,8 @@ ghost use Rattle.state_paths.specs.Paths.{paths_of};
 use compiled_charts::Compiled;
 use core_charts::Chart;
 use sc_graph::Control;
+use simulation::States;
+use sqlite_items::Items;
 use state_paths::paths_of;
 use state_traces::{Words, put_states, quoted_all};
 use std::alloc::{AllocError, Global};
@@ -62,5 +64,21 @@ impl Words for ChartStates {
     fn put(&self, alloc: Global, line: &mut Vec<u8>, control: &Control) -> Result<(), AllocError> {
         let active = self.compiled.active(alloc, control)?;
         put_states(line, &self.shown, active.as_slice())
+    }
+}
+
+impl States for ChartStates {
+    ghost use Rattle.node_states.specs.Active.{active_states};
+
+    ghost paths = { λ s. s.paths };
+
+    ghost active = { λ s c. active_states s.compiled.nodes s.compiled.states c };
+
+    fn paths(&self) -> &[String] {
+        &self.paths
+    }
+
+    fn active(&self, alloc: Global, control: &Control) -> Result<Items<u32>, AllocError> {
+        self.compiled.active(alloc, control)
     }
 }

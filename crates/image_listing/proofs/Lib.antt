@@ -1,1 +1,2 @@
 mod Spaces
+mod CellsFound

@@ -15,8 +15,8 @@ fn put_spaces(text: &mut String, count: usize) -> Result<(), AllocError>
     Ok(())
 }
 
-/// The text, with spaces behind it up to the width.
-pub(crate) fn left_cell(alloc: Global, width: usize, text: &str) -> Result<String, AllocError>
+/// The text, with spaces behind it up to the width; a longer one stays as it is. Err: memory was refused.
+pub fn left_cell(alloc: Global, width: usize, text: &str) -> Result<String, AllocError>
     ensures { IfOk result (λ cell. string_bytes cell ≡ left_cell width text.now) }
 {
     let mut cell = String::from_str(alloc, text)?;

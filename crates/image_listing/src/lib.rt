@@ -1,4 +1,4 @@
-//! Images for people: their variables, threads, nodes and protocol edges as text.
+//! Images for people: their variables, threads, nodes and protocol edges as text, and cells beside the nodes.
 #![tactic(auto)]
 
 mod cells;
@@ -10,5 +10,6 @@ mod steps;
 mod threads;
 mod variables;
 
-pub use listing::image_text;
+pub use cells::left_cell;
+pub use listing::{image_text, image_text_with_cells};
 pub use steps::step_text;

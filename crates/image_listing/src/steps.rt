@@ -93,7 +93,8 @@ fn combined_text(
     combine: Combination,
     code: &Code,
 ) -> Result<String, AllocError>
-    ensures { IfOk result (λ text. string_bytes text ≡ combined_text variables.now variable combine (tree_of code.now)) }
+    ensures { IfOk result (λ text. string_bytes text
+        ≡ combined_text variables.now variable combine (tree_of code.now)) }
 {
     match tree_of(alloc, code.operations())? {
         Some(by) => {

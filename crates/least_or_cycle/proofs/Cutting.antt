@@ -38,7 +38,8 @@ cuts_none leads count = record {
 less_or_same : (m bound : ℕ) → m < bound + 1 → (m < bound) ⊎ (m ≡ bound)
 less_or_same m bound lt = grind arith
 
-pub cuts_more : (leads : ℕ → ℕ → ℕ → Type 0) (count bound : ℕ) → bound < count → AreCuts leads count bound → IsCut leads count bound → AreCuts leads count (bound + 1)
+pub cuts_more : (leads : ℕ → ℕ → ℕ → Type 0) (count bound : ℕ) → bound < count → AreCuts leads count bound → IsCut leads count bound
+    → AreCuts leads count (bound + 1)
 cuts_more leads count bound within cuts one = record {
   table = λ n. cuts.table n + one.table n;
   level = λ m n w lt edge. let a = cuts.level m n w lt edge in let b = one.level m n w lt edge in omega (arith, a, b);

@@ -16,7 +16,8 @@ fewer_zeros ranks m x lt none more =
     omega (arith, h, none, more)
 
 -- there is room for one more rank
-pub room : (leads : ℕ → ℕ → ℕ → Type 0) (target : ℕ) (ranks : List ℕ) (m n : ℕ) → AreRanks leads target ranks → m < length ranks → slice_index ranks m ≡ 0 → slice_index ranks n + 1 ≤ length ranks
+pub room : (leads : ℕ → ℕ → ℕ → Type 0) (target : ℕ) (ranks : List ℕ) (m n : ℕ) → AreRanks leads target ranks → m < length ranks → slice_index ranks m ≡ 0
+    → slice_index ranks n + 1 ≤ length ranks
 room leads target ranks m n are lt none =
     let fewer : zeros (set ranks m 1) + 1 ≡ zeros ranks = fewer_zeros ranks m 1 lt none (omega arith) in
     let bound = are.small n in
@@ -32,7 +33,8 @@ ranked_more leads target ranks m n below are lt none to =
     let here : get_or new m 0 ≡ x = get_or-set_same ranks m x 0 lt in
     let long : length new ≡ length ranks = length-set ranks m x in
     let other : (k : ℕ) → k ≢ m → get_or new k 0 ≡ get_or ranks k 0 = λ k ne. get_or-set_other ranks m k x 0 ne in
-    let ranked_other : (k : ℕ) → 0 < slice_index ranks k → k ≢ m = λ k lt e. let P : ℕ → Type 0 = λ y. 0 < slice_index ranks y in let bad : 0 < slice_index ranks m = subst P e lt in omega (arith, bad, none) in
+    let ranked_other : (k : ℕ) → 0 < slice_index ranks k → k ≢ m = λ k lt e. let P : ℕ → Type 0 = λ y. 0 < slice_index ranks y in
+    let bad : 0 < slice_index ranks m = subst P e lt in omega (arith, bad, none) in
     let first = are.first in
     record {
       ranks = record {
@@ -69,7 +71,8 @@ ranked_more leads target ranks m n below are lt none to =
     }
 
 -- nothing leads from the node to a ranked one
-pub none_found : (leads : ℕ → ℕ → ℕ → Type 0) (target : ℕ) (ranks : List ℕ) (node below : ℕ) → AreRanks leads target ranks → length ranks < below → ((n : ℕ) → ¬ LeadsTo leads ranks node below n) →
+pub none_found : (leads : ℕ → ℕ → ℕ → Type 0) (target : ℕ) (ranks : List ℕ) (node below : ℕ) → AreRanks leads target ranks → length ranks < below
+    → ((n : ℕ) → ¬ LeadsTo leads ranks node below n) →
     (m n w : ℕ) → m ≡ node → m < length ranks → leads m n w → 0 < slice_index ranks n → 0 < slice_index ranks m
 none_found leads target ranks node below are short none m n w e lt edge ranked =
     let P : ℕ → Type 0 = λ k. leads k n w in

@@ -1,5 +1,6 @@
 -- A table that is under every one that keeps a rule stays so as it rises.
-use Rattle.std.proofs.Common.{ℕ, ◌≡◌, ◌≢◌, ◌<◌, ◌≤◌, ◌+◌, ◌*◌, ◌-◌, ◌⊎◌, inl, inr, List, length, get_or, sum, sym, subst, arith, get_or-set_other, get_or-set_same}
+use Rattle.std.proofs.Common.{ℕ, ◌≡◌, ◌≢◌, ◌<◌, ◌≤◌, ◌+◌, ◌*◌, ◌-◌, ◌⊎◌, inl, inr, List, length, get_or, sum, sym, subst, arith, get_or-set_other}
+use Rattle.std.proofs.Common.{get_or-set_same}
 use Rattle.std.specs.Prelude.{slice_index}
 use Rattle.std.proofs.Math.ListN.{set}
 use Rattle.std.proofs.lemmas.List.{length-set}
@@ -88,9 +89,11 @@ zeros_under rule top p zeros = record {
 }
 
 -- what is left to the top falls as the sum grows
-pub sum_left : (rule : (ℕ → ℕ) → ℕ → Type 0) (top : ℕ) (p q : List ℕ) (count : ℕ) → length q ≡ count → IsUnder rule top q → sum p < sum q → count * top - sum q < count * top - sum p
+pub sum_left : (rule : (ℕ → ℕ) → ℕ → Type 0) (top : ℕ) (p q : List ℕ) (count : ℕ) → length q ≡ count → IsUnder rule top q → sum p < sum q
+    → count * top - sum q < count * top - sum p
 sum_left rule top p q count long u more =
-    let all : All (λ x. x ≤ top) q = λ n d lt. let same : get_or q n d ≡ get_or q n 0 = get_or_default_zero q n d lt in let w = u.within n in omega (arith, same, w) in
+    let all : All (λ x. x ≤ top) q = λ n d lt. let same : get_or q n d ≡ get_or q n 0 = get_or_default_zero q n d lt in let w = u.within n in
+    omega (arith, same, w) in
     let h : sum q ≤ length q * top = sum_by-le (λ x. x) top q all in
     let P : ℕ → Type 0 = λ c. sum q ≤ c * top in
     let k : sum q ≤ count * top = subst P long h in

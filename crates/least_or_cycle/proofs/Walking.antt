@@ -1,5 +1,6 @@
 -- Walks that grow, close, and are turned to begin elsewhere.
-use Rattle.std.proofs.Common.{ℕ, zero, suc, ◌≡◌, ◌≢◌, ◌<◌, ◌≤◌, ◌+◌, ◌⊎◌, inl, inr, Bool, true, false, cond, List, [], ◌∷◌, ◌++◌, length, get_or, take, drop, refl, sym, subst, ap, arith}
+use Rattle.std.proofs.Common.{ℕ, zero, suc, ◌≡◌, ◌≢◌, ◌<◌, ◌≤◌, ◌+◌, ◌⊎◌, inl, inr, Bool, true, false, cond, List, [], ◌∷◌, ◌++◌, length, get_or, take, drop}
+use Rattle.std.proofs.Common.{refl, sym, subst, ap, arith}
 use Rattle.std.specs.Prelude.{slice_index, count_by, ◌==◌, All}
 use Rattle.std.proofs.lemmas.List.{take-append-drop, append-nil}
 use Rattle.std.proofs.lemmas.List.Sums.{sum_by-append, sum_by_push, sum_by-cons}
@@ -10,14 +11,16 @@ use Rattle.least_or_cycle.specs.Inside.Ranking.{AreRanks}
 use Rattle.least_or_cycle.specs.Inside.Tracing.{IsRound, IsTraced, IsLeastAt}
 
 -- two walks, one after the other
-pub walk_join : (leads : ℕ → ℕ → ℕ → Type 0) (m : ℕ) (front : List ℕ) (k : ℕ) (back : List ℕ) (n u v : ℕ) → Walk leads m front k u → Walk leads k back n v → Walk leads m (front ++ k ∷ back) n (u + v)
+pub walk_join : (leads : ℕ → ℕ → ℕ → Type 0) (m : ℕ) (front : List ℕ) (k : ℕ) (back : List ℕ) (n u v : ℕ) → Walk leads m front k u → Walk leads k back n v
+    → Walk leads m (front ++ k ∷ back) n (u + v)
 walk_join leads m [] k back n u v a b = (u, v, a, b, refl)
 walk_join leads m (x ∷ front) k back n u v a b =
     let sums = a.4 in
     (a.0, a.1 + v, a.2, walk_join leads x front k back n a.1 v a.3 b, omega (arith, sums))
 
 -- a walk, cut at one of its nodes
-pub walk_split : (leads : ℕ → ℕ → ℕ → Type 0) (m : ℕ) (front : List ℕ) (k : ℕ) (back : List ℕ) (n w : ℕ) → Walk leads m (front ++ k ∷ back) n w → (u : ℕ) × (v : ℕ) × Walk leads m front k u × Walk leads k back n v × (w ≡ u + v)
+pub walk_split : (leads : ℕ → ℕ → ℕ → Type 0) (m : ℕ) (front : List ℕ) (k : ℕ) (back : List ℕ) (n w : ℕ) → Walk leads m (front ++ k ∷ back) n w
+    → (u : ℕ) × (v : ℕ) × Walk leads m front k u × Walk leads k back n v × (w ≡ u + v)
 walk_split leads m [] k back n w a = a
 walk_split leads m (x ∷ front) k back n w a =
     let r = walk_split leads x front k back n a.1 a.3 in
@@ -69,7 +72,8 @@ turned leads walk at r l =
     head_of (x ∷ xs) (suc i) ys lt = head_of xs i ys (omega arith)
 
 -- a walk that begins
-pub traced_first : (leads : ℕ → ℕ → ℕ → Type 0) (ranks : List ℕ) (start first : ℕ) → LeadsStrictlyTo leads ranks start first → IsTraced leads ranks start (start ∷ []) first
+pub traced_first : (leads : ℕ → ℕ → ℕ → Type 0) (ranks : List ℕ) (start first : ℕ) → LeadsStrictlyTo leads ranks start first
+    → IsTraced leads ranks start (start ∷ []) first
 traced_first leads ranks start first to = record {
   way = [];
   is = refl;
@@ -105,7 +109,8 @@ counted a n = elim (eqb_tells a n) [
 ]
 
 -- a walk that goes on
-pub traced_more : (leads : ℕ → ℕ → ℕ → Type 0) (ranks : List ℕ) (start : ℕ) (walk : List ℕ) (at next : ℕ) → AreRanks leads start ranks → IsTraced leads ranks start walk at → at ≢ start →
+pub traced_more : (leads : ℕ → ℕ → ℕ → Type 0) (ranks : List ℕ) (start : ℕ) (walk : List ℕ) (at next : ℕ) → AreRanks leads start ranks
+    → IsTraced leads ranks start walk at → at ≢ start →
     LeadsTo leads ranks at (slice_index ranks at) next → IsTraced leads ranks start (walk ++ at ∷ []) next
 traced_more leads ranks start walk at next are t ne to =
     let strict = t.strict in
@@ -149,11 +154,13 @@ traced_more leads ranks start walk at next are t ne to =
         let whole : count_by (λ m. m == at) (start ∷ t.way) ≡ adds start at + count_by (λ m. m == at) t.way = sum_by-cons one start t.way in
         let P : List ℕ → Type 0 = λ xs. count_by (λ m. m == at) xs ≡ 0 in
         let no_start : adds start at ≡ 0 = elim (counted start at) [ inl same ↦ absurd (ne (sym same.0)) | inr other ↦ other.1 ] in
-        let no_way : count_by (λ m. m == at) t.way ≡ 0 = elim (behind (count_by (λ m. m == at) t.way)) [ inl e ↦ e | inr lt ↦ absurd (let bad = t.above at lt in omega (arith, bad)) ] in
+        let no_way : count_by (λ m. m == at) t.way
+        ≡ 0 = elim (behind (count_by (λ m. m == at) t.way)) [ inl e ↦ e | inr lt ↦ absurd (let bad = t.above at lt in omega (arith, bad)) ] in
         subst P (sym t.is) (omega (arith, whole, no_start, no_way))
 
 -- a walk that is back at its start
-pub traced_round : (leads : ℕ → ℕ → ℕ → Type 0) (ranks : List ℕ) (start : ℕ) (walk : List ℕ) (at : ℕ) → IsTraced leads ranks start walk at → at ≡ start → IsRound leads walk
+pub traced_round : (leads : ℕ → ℕ → ℕ → Type 0) (ranks : List ℕ) (start : ℕ) (walk : List ℕ) (at : ℕ) → IsTraced leads ranks start walk at → at ≡ start
+    → IsRound leads walk
 traced_round leads ranks start walk at t e =
     let P : List ℕ → Type 0 = λ xs. Closes leads xs t.weight in
     let Q : ℕ → Type 0 = λ n. Walk leads start t.way n t.weight in

@@ -2,11 +2,11 @@
 
 ghost use Rattle.std.specs.Prelude.{◌≤◌, IfOk};
 
-use crate::reading::{halves, known, number, place};
-use crate::telling::{tell_any, tell_control, tell_values};
+use crate::reading::{number, place};
+use crate::telling::{tell_any, tell_control};
+use row_answers::{Answers, Unanswered, halves, known};
 use sc_graph::ThreadId;
-use std::alloc::{AllocError, Global};
-use std::io;
+use std::alloc::Global;
 use tick_core::{Claim, Done, TickState, Turn, evaluate};
 
 // What an act is answered.
@@ -23,30 +23,34 @@ enum Told {
     NoSuchClaim,
 }
 
-fn tell(alloc: Global, told: &mut String, answer: Told) -> Result<(), AllocError> {
+fn tell(answers: &mut Answers, answer: Told) {
     match answer {
-        Told::Given(thread) => told.push_str(format!(in alloc; " given {thread}")?.as_str()),
-        Told::NoneNow => told.push_str(" none now"),
-        Told::Over => told.push_str(" over"),
-        Told::At(at) => told.push_str(format!(in alloc; " at {at}")?.as_str()),
-        Told::GivenBack => told.push_str(" given back"),
-        Told::Stale => told.push_str(" stale"),
-        Told::NoSuchClaim => told.push_str(" no such claim"),
+        Told::Given(thread) => answers.tell_with(" given ", thread as usize),
+        Told::NoneNow => answers.tell(" none now"),
+        Told::Over => answers.tell(" over"),
+        Told::At(at) => answers.tell_with(" at ", at as usize),
+        Told::GivenBack => answers.tell(" given back"),
+        Told::Stale => answers.tell(" stale"),
+        Told::NoSuchClaim => answers.tell(" no such claim"),
     }
 }
 
 // A worker: one of eight, or 0, who runs alone.
-fn worker(word: &str) -> io::Result<u8>
+fn worker(word: &str) -> Result<u8, Unanswered>
     ensures { IfOk result (λ worker. worker ≤ 8) }
 {
     match word.parse::<u8>().ok() {
         Some(worker) if worker <= 8 => Ok(worker),
-        _ => Err(io::Error::from(io::ErrorKind::InvalidData)),
+        _ => Err(Unanswered),
     }
 }
 
 // A worker asks for a claim, which is evaluated and put behind those that were given.
-fn claim<'a>(state: &mut TickState<'a>, given: &mut Vec<Done<'a>>, word: &str) -> io::Result<Told> {
+fn claim<'a>(
+    state: &mut TickState<'a>,
+    given: &mut Vec<Done<'a>>,
+    word: &str,
+) -> Result<Told, Unanswered> {
     match state.claim(worker(word)?) {
         Turn::Claim(claim) => {
             let thread = claim.thread();
@@ -59,9 +63,12 @@ fn claim<'a>(state: &mut TickState<'a>, given: &mut Vec<Done<'a>>, word: &str) -
 }
 
 // Gives the claim back that was given before the last one, and forgets it.
-fn forget_other<'a>(state: &mut TickState<'a>, given: &mut Vec<Done<'a>>) -> io::Result<()> {
+fn forget_other<'a>(
+    state: &mut TickState<'a>,
+    given: &mut Vec<Done<'a>>,
+) -> Result<(), Unanswered> {
     if given.len() < 2 {
-        return known(None);
+        return Err(Unanswered);
     }
     let other = given.swap_remove(given.len() - 2);
     known(state.give_back(other.claim()).ok())
@@ -73,7 +80,7 @@ fn claim_of<'a>(
     given: &mut Vec<Done<'a>>,
     word: &str,
     thread: ThreadId,
-) -> io::Result<Told> {
+) -> Result<Told, Unanswered> {
     match claim(state, given, word)? {
         Told::Given(other) if other != thread => {
             let answer = claim(state, given, word)?;
@@ -89,7 +96,7 @@ fn asked<'a>(
     state: &mut TickState<'a>,
     given: &mut Vec<Done<'a>>,
     words: &str,
-) -> io::Result<Told> {
+) -> Result<Told, Unanswered> {
     let (word, rest) = halves(words, ' ');
     let (_of, thread) = halves(rest, ' ');
     if thread.is_empty() {
@@ -119,7 +126,7 @@ fn bring<'a>(
     given: &[Done<'a>],
     word: &str,
     is_commit: bool,
-) -> io::Result<Told> {
+) -> Result<Told, Unanswered> {
     match given.get(number(word)?) {
         Some(done) if is_commit => Ok(commit(state, done)),
         Some(done) => Ok(give_back(state, done)),
@@ -127,100 +134,103 @@ fn bring<'a>(
     }
 }
 
-// What a claim bears beside its value: its worker, thread, node, commits before it, operations and operands.
-fn tell_claim(alloc: Global, told: &mut String, claim: &Claim<'_>) -> Result<(), AllocError> {
-    let (worker, thread, node) = (claim.worker(), claim.thread(), claim.node());
-    let commits = claim.commits();
-    let operations = claim
+// How many operations the code of a claim has.
+fn operations_of(claim: &Claim<'_>) -> usize {
+    claim
         .code()
-        .map_or(0, |code| code.code().operations().len());
-    told.push_str(format!(in alloc; " worker {worker} thread {thread} node {node}")?.as_str())?;
-    told.push_str(format!(in alloc;
-        " commits {commits} operations {operations} operands"
-    )?.as_str())?;
-    tell_values(alloc, told, claim.operands().values())
+        .map_or(0, |code| code.code().operations().len())
 }
 
-fn tell_done(alloc: Global, told: &mut String, done: &Done<'_>) -> io::Result<()> {
-    tell_claim(alloc, told, done.claim())?;
-    told.push_str(" value")?;
-    tell_any(alloc, told, done.value())?;
-    Ok(())
+// What a claim bears beside its value: its worker, thread, node, commits before it, operations and operands.
+fn tell_claim(answers: &mut Answers, claim: &Claim<'_>) {
+    answers.tell_with(" worker ", claim.worker() as usize);
+    answers.tell_with(" thread ", claim.thread() as usize);
+    answers.tell_with(" node ", claim.node() as usize);
+    answers.tell_with(" commits ", claim.commits() as usize);
+    answers.tell_with(" operations ", operations_of(claim));
+    answers.tell(" operands");
+    answers.values(claim.operands().values());
+}
+
+fn tell_done(answers: &mut Answers, done: &Done<'_>) {
+    tell_claim(answers, done.claim());
+    answers.tell(" value");
+    tell_any(answers, done.value());
 }
 
 // The threads that can be claimed at this priority.
-fn tell_ready(
-    alloc: Global,
-    told: &mut String,
-    state: &TickState<'_>,
-    priority: u16,
-) -> Result<(), AllocError> {
-    told.push_str(" ready")?;
+fn tell_ready(answers: &mut Answers, state: &TickState<'_>, priority: u16) {
+    answers.tell(" ready");
     for thread in state.ready(priority) {
-        told.push_str(format!(in alloc; " {thread}")?.as_str())?;
+        answers.tell_with(" ", *thread as usize);
     }
-    Ok(())
 }
 
 // The steps so far, the present configuration, and whether the tick is over.
-fn tell_look(alloc: Global, told: &mut String, state: &TickState<'_>) -> Result<(), AllocError> {
-    let steps = state.history().len();
-    let word = if state.is_over() { " over" } else { "" };
-    told.push_str(format!(in alloc; " {steps} steps{word}")?.as_str())?;
-    tell_control(alloc, told, state.present())
+fn tell_look(answers: &mut Answers, state: &TickState<'_>) {
+    answers.tell_with(" ", state.history().len());
+    answers.tell(if state.is_over() {
+        " steps over"
+    } else {
+        " steps"
+    });
+    tell_control(answers, state.present());
 }
 
 // The open claims: of each its thread, its worker and the commits before it.
-fn tell_open(alloc: Global, told: &mut String, state: &TickState<'_>) -> Result<(), AllocError> {
-    told.push_str(" open")?;
+fn tell_open(answers: &mut Answers, state: &TickState<'_>) {
+    answers.tell(" open");
     for claim in state.open_claims() {
         if let Some(claim) = claim {
-            let (thread, worker, commits) = (claim.thread(), claim.worker(), claim.commits());
-            told.push_str(format!(in alloc; " {thread}/{worker}/{commits}")?.as_str())?;
+            answers.tell_with(" ", claim.thread() as usize);
+            answers.tell_with("/", claim.worker() as usize);
+            answers.tell_with("/", claim.commits() as usize);
         }
     }
-    Ok(())
 }
 
 // What is looked at in a tick.
 fn tell_state(
-    alloc: Global,
-    told: &mut String,
+    answers: &mut Answers,
     state: &TickState<'_>,
     word: &str,
     rest: &str,
-) -> io::Result<()> {
+) -> Result<(), Unanswered> {
     match word {
-        "look" => tell_look(alloc, told, state)?,
-        "begun" => tell_control(alloc, told, state.begun())?,
-        "open" => tell_open(alloc, told, state)?,
-        "ready" => tell_ready(alloc, told, state, place(rest)?)?,
-        _ => return known(None),
+        "look" => tell_look(answers, state),
+        "begun" => tell_control(answers, state.begun()),
+        "open" => tell_open(answers, state),
+        "ready" => tell_ready(answers, state, place(rest)?),
+        _ => return Err(Unanswered),
     }
     Ok(())
 }
 
 // Does what is to be done, and tells what is answered.
 fn act<'a>(
-    alloc: Global,
     state: &mut TickState<'a>,
     given: &mut Vec<Done<'a>>,
-    told: &mut String,
+    answers: &mut Answers,
     words: &str,
-) -> io::Result<()> {
+) -> Result<(), Unanswered> {
     let (word, rest) = halves(words, ' ');
     let answer = match word {
         "claim" => asked(state, given, rest)?,
         "commit" => bring(state, given.as_slice(), rest, true)?,
         "back" => bring(state, given.as_slice(), rest, false)?,
-        "bears" => return tell_done(alloc, told, known(given.get(number(rest)?))?),
+        "bears" => {
+            tell_done(answers, known(given.get(number(rest)?))?);
+            return Ok(());
+        }
         "alone" => {
             state.run_alone();
-            return Ok(told.push_str(" alone")?);
+            answers.tell(" alone");
+            return Ok(());
         }
-        _ => return tell_state(alloc, told, state, word, rest),
+        _ => return tell_state(answers, state, word, rest),
     };
-    Ok(tell(alloc, told, answer)?)
+    tell(answers, answer);
+    Ok(())
 }
 
 /// Does what is to be done, act by act, and tells what each is answered.
@@ -228,14 +238,14 @@ pub(crate) fn act_all(
     alloc: Global,
     state: &mut TickState<'_>,
     acts: &str,
-    told: &mut String,
-) -> io::Result<()> {
+    answers: &mut Answers,
+) -> Result<(), Unanswered> {
     let mut given = Vec::new(alloc);
     for words in acts.split(';') {
         let words = words.trim();
         if !words.is_empty() {
-            act(alloc, state, &mut given, told, words)?;
-            told.push_str(";")?;
+            act(state, &mut given, answers, words)?;
+            answers.tell(";");
         }
     }
     Ok(())

@@ -1,11 +1,11 @@
 //! Programs of so many rows, whatever rule they break: the counts that the layout of an image has room for.
 
-use crate::reading::{halves, known, number};
+use crate::reading::number;
+use row_answers::{Answers, Unanswered, halves, known};
 use sc_graph::{Node, Program, ProgramFault, Role, Step, Thread, ThreadId, Variable};
 use sc_values::{Kind, Name};
 use sqlite_items::Items;
 use std::alloc::{AllocError, Global};
-use std::io;
 
 // So many variables, all of one name.
 fn variables(alloc: Global, name: Name, count: usize) -> Result<Items<Variable>, AllocError> {
@@ -69,7 +69,7 @@ fn fork(alloc: Global, count: usize) -> Result<Items<Node>, AllocError> {
 
 // `WORD COUNT`: a program of so many variables, threads or nodes, of a fork of so many children, or of a thread whose
 // parent has this number.
-fn program(alloc: Global, words: &str) -> io::Result<Result<Program, ProgramFault>> {
+fn program(alloc: Global, words: &str) -> Result<Result<Program, ProgramFault>, Unanswered> {
     let (word, count) = halves(words, ' ');
     let count = number(count)?;
     let (mut x, mut t, mut n) = (Items::new(alloc), Items::new(alloc), Items::new(alloc));
@@ -79,31 +79,34 @@ fn program(alloc: Global, words: &str) -> io::Result<Result<Program, ProgramFaul
         "nodes" => n = nodes(alloc, count)?,
         "children" => n = fork(alloc, count)?,
         "parent" => t = threads(alloc, Some(known(u16::try_from(count).ok())?), 1)?,
-        _ => return known(None),
+        _ => return Err(Unanswered),
     }
     Ok(Program::of(x, t, n))
 }
 
 // How many variables, threads and nodes a program has, and the parent of its first thread, where there is one.
-fn tell_program(alloc: Global, program: &Program, told: &mut String) -> Result<(), AllocError> {
-    let (x, t) = (program.variable_count(), program.thread_count());
-    let n = program.node_count();
-    told.push_str(format!(in alloc; "{x} {t} {n}")?.as_str())?;
-    match program.parent(0) {
-        Some(parent) => told.push_str(format!(in alloc; " parent {parent}")?.as_str()),
-        None => Ok(()),
+fn tell_program(program: &Program, answers: &mut Answers) {
+    answers.number(program.variable_count() as usize);
+    answers.tell_with(" ", program.thread_count() as usize);
+    answers.tell_with(" ", program.node_count() as usize);
+    if let Some(parent) = program.parent(0) {
+        answers.tell_with(" parent ", parent as usize);
     }
 }
 
 /// Whether a row is about counts; what is told of it.
-pub(crate) fn tell_counts(alloc: Global, row: &str, told: &mut String) -> io::Result<bool> {
+pub(crate) fn tell_counts(
+    alloc: Global,
+    row: &str,
+    answers: &mut Answers,
+) -> Result<bool, Unanswered> {
     let (word, rest) = halves(row, ' ');
     if word != "count" {
         return Ok(false);
     }
     match program(alloc, rest)? {
-        Ok(program) => tell_program(alloc, &program, told)?,
-        Err(fault) => told.push_str(format!(in alloc; "{fault}")?.as_str())?,
+        Ok(program) => tell_program(&program, answers),
+        Err(fault) => answers.show(&fault),
     }
     Ok(true)
 }

@@ -1,9 +1,8 @@
 //! Images, spelled by their bytes.
 
-use crate::reading::known;
 use bytecode::{Image, decode};
+use row_answers::{Unanswered, known};
 use std::alloc::Global;
-use std::io;
 use verifier::{Verified, verify};
 
 // The value of a digit to the base of 16.
@@ -23,7 +22,7 @@ fn byte(word: &str) -> Option<u8> {
     }
 }
 
-fn bytes_of(alloc: Global, text: &str) -> io::Result<Vec<u8>> {
+fn bytes_of(alloc: Global, text: &str) -> Result<Vec<u8>, Unanswered> {
     let mut bytes = Vec::new(alloc);
     for word in text.split_whitespace() {
         bytes.push(known(byte(word))?)?;
@@ -32,13 +31,13 @@ fn bytes_of(alloc: Global, text: &str) -> io::Result<Vec<u8>> {
 }
 
 /// The image that these bytes spell, whatever rule of the verifier it breaks.
-pub(crate) fn decoded(alloc: Global, text: &str) -> io::Result<Image> {
+pub(crate) fn decoded(alloc: Global, text: &str) -> Result<Image, Unanswered> {
     let bytes = bytes_of(alloc, text)?;
     known(decode(alloc, bytes.as_slice()).ok())
 }
 
 /// The valid image that these bytes spell.
-pub(crate) fn verified(alloc: Global, text: &str) -> io::Result<Verified> {
+pub(crate) fn verified(alloc: Global, text: &str) -> Result<Verified, Unanswered> {
     let image = decoded(alloc, text)?;
     known(verify(alloc, image).ok())
 }

@@ -1,27 +1,31 @@
 //! Names: their bytes, their order, and how they print; and the texts of faults.
 
-use crate::reading::{halves, known};
+use row_answers::{Answers, Unanswered, halves, known};
 use sc_graph::ProgramFault;
 use sc_values::{CodeFault, Name};
-use std::alloc::{AllocError, Global};
+use std::alloc::Global;
 use std::collections::HashSet;
-use std::io;
 use tick_core::{BeginFault, StaleClaim};
 
-// A name, as its text and as it is printed.
-fn tell_printed(alloc: Global, text: &str, told: &mut String) -> Result<(), AllocError> {
+// A name, as its text, as it is printed, and as it is for people who look for faults.
+fn tell_printed(alloc: Global, name: &Name, answers: &mut Answers) -> Result<(), Unanswered> {
+    answers.tell(name.as_str());
+    answers.tell(" ");
+    answers.show(name);
+    answers.tell(format!(in alloc; " {name:?}")?.as_str());
+    Ok(())
+}
+
+// The name that a text is, if it is one.
+fn tell_named(alloc: Global, text: &str, answers: &mut Answers) -> Result<(), Unanswered> {
     match Name::of(text) {
-        Some(name) => {
-            told.push_str(name.as_str())?;
-            told.push_str(format!(in alloc; " {name} {name:?}")?.as_str())?;
-        }
-        None => told.push_str("no name")?,
+        Some(name) => tell_printed(alloc, &name, answers)?,
+        None => answers.tell("no name"),
     }
-    if Name::of(text) == Name::from_bytes(text.as_bytes()) {
-        Ok(())
-    } else {
-        told.push_str("; otherwise by its bytes")
+    if Name::of(text) != Name::from_bytes(text.as_bytes()) {
+        answers.tell("; otherwise by its bytes");
     }
+    Ok(())
 }
 
 fn word_of_order(first: &Name, second: &Name) -> &'static str {
@@ -34,7 +38,7 @@ fn word_of_order(first: &Name, second: &Name) -> &'static str {
     }
 }
 
-fn order_of(words: &str) -> io::Result<&'static str> {
+fn order_of(words: &str) -> Result<&'static str, Unanswered> {
     let (first, second) = halves(words, ' ');
     let first = known(Name::of(first))?;
     let second = known(Name::of(second))?;
@@ -42,34 +46,44 @@ fn order_of(words: &str) -> io::Result<&'static str> {
 }
 
 // Of names that are put into a set which are new, and how many it then has.
-fn tell_set(alloc: Global, words: &str, told: &mut String) -> io::Result<()> {
+fn tell_set(alloc: Global, words: &str, answers: &mut Answers) -> Result<(), Unanswered> {
     let mut seen = HashSet::new(alloc);
     for word in words.split_whitespace() {
         let is_new = seen.insert(known(Name::of(word))?)?;
-        told.push_str(if is_new { "new " } else { "known " })?;
+        answers.tell(if is_new { "new " } else { "known " });
     }
-    let count = seen.len();
-    Ok(told.push_str(format!(in alloc; "{count}")?.as_str())?)
+    answers.number(seen.len());
+    Ok(())
 }
 
 // The texts of faults.
-fn tell_faults(alloc: Global, told: &mut String) -> Result<(), AllocError> {
-    let (input, memory) = (BeginFault::Input, BeginFault::Memory);
-    told.push_str(format!(in alloc; "begin {input} {memory}")?.as_str())?;
-    told.push_str(format!(in alloc; "; claim {}", StaleClaim)?.as_str())?;
-    let (kind, limit) = (CodeFault::Kind, CodeFault::Limit);
-    told.push_str(format!(in alloc; "; code {kind} {limit}")?.as_str())?;
-    told.push_str(format!(in alloc; "; program {}", ProgramFault::Limit)?.as_str())
+fn tell_faults(answers: &mut Answers) {
+    answers.tell("begin ");
+    answers.show(&BeginFault::Input);
+    answers.tell(" ");
+    answers.show(&BeginFault::Memory);
+    answers.tell("; claim ");
+    answers.show(&StaleClaim);
+    answers.tell("; code ");
+    answers.show(&CodeFault::Kind);
+    answers.tell(" ");
+    answers.show(&CodeFault::Limit);
+    answers.tell("; program ");
+    answers.show(&ProgramFault::Limit);
 }
 
 /// Whether a row is about names or faults; what is told of it.
-pub(crate) fn tell_name(alloc: Global, row: &str, told: &mut String) -> io::Result<bool> {
+pub(crate) fn tell_name(
+    alloc: Global,
+    row: &str,
+    answers: &mut Answers,
+) -> Result<bool, Unanswered> {
     let (word, rest) = halves(row, ' ');
     match word {
-        "name" => tell_printed(alloc, rest, told)?,
-        "compare" => told.push_str(order_of(rest)?)?,
-        "set" => tell_set(alloc, rest, told)?,
-        "faults" => tell_faults(alloc, told)?,
+        "name" => tell_named(alloc, rest, answers)?,
+        "compare" => answers.tell(order_of(rest)?),
+        "set" => tell_set(alloc, rest, answers)?,
+        "faults" => tell_faults(answers),
         _ => return Ok(false),
     }
     Ok(true)

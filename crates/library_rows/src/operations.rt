@@ -1,10 +1,9 @@
 //! The words of operations.
 
-use crate::reading::{known, place, value};
-use crate::telling::tell_value;
+use crate::reading::{place, value};
+use row_answers::{Answers, Unanswered};
 use sc_values::{BinaryOperator, Combination, Divisor, Operation, UnaryOperator};
-use std::alloc::{AllocError, Global};
-use std::io;
+use std::alloc::Global;
 
 /// The operator of two operands of this word.
 pub(crate) fn binary(word: &str) -> Option<BinaryOperator> {
@@ -88,7 +87,7 @@ pub(crate) fn word_of_combination(combination: Combination) -> &'static str {
 }
 
 /// The operation of this word, as in a code of an image: `v0` loads variable 0, and what is no operator is a value.
-pub(crate) fn operation(word: &str) -> io::Result<Operation> {
+pub(crate) fn operation(word: &str) -> Result<Operation, Unanswered> {
     if let Some(operator) = binary(word) {
         return Ok(Operation::Binary(operator));
     }
@@ -102,7 +101,7 @@ pub(crate) fn operation(word: &str) -> io::Result<Operation> {
 }
 
 /// Operations, each a word.
-pub(crate) fn operations(alloc: Global, text: &str) -> io::Result<Vec<Operation>> {
+pub(crate) fn operations(alloc: Global, text: &str) -> Result<Vec<Operation>, Unanswered> {
     let mut operations = Vec::new(alloc);
     for word in text.split_whitespace() {
         operations.push(operation(word)?)?;
@@ -110,34 +109,29 @@ pub(crate) fn operations(alloc: Global, text: &str) -> io::Result<Vec<Operation>
     Ok(operations)
 }
 
-fn tell_unary(alloc: Global, told: &mut String, operator: UnaryOperator) -> Result<(), AllocError> {
+// A sign behind a space, and the divisor behind it.
+fn tell_divisor(answers: &mut Answers, sign: &str, divisor: Divisor) {
+    answers.tell(sign);
+    answers.show(&divisor.number());
+}
+
+fn tell_unary(answers: &mut Answers, operator: UnaryOperator) {
     match operator {
-        UnaryOperator::Negate => told.push_str(" neg"),
-        UnaryOperator::Not => told.push_str(" not"),
-        UnaryOperator::Divide(by) => {
-            let number = by.number();
-            told.push_str(format!(in alloc; " /{number}")?.as_str())
-        }
-        UnaryOperator::Remainder(by) => {
-            let number = by.number();
-            told.push_str(format!(in alloc; " %{number}")?.as_str())
-        }
+        UnaryOperator::Negate => answers.tell(" neg"),
+        UnaryOperator::Not => answers.tell(" not"),
+        UnaryOperator::Divide(by) => tell_divisor(answers, " /", by),
+        UnaryOperator::Remainder(by) => tell_divisor(answers, " %", by),
     }
 }
 
 /// Operations, each behind a space.
-pub(crate) fn tell_operations(
-    alloc: Global,
-    told: &mut String,
-    operations: &[Operation],
-) -> Result<(), AllocError> {
+pub(crate) fn tell_operations(answers: &mut Answers, operations: &[Operation]) {
     for operation in operations {
         match operation {
-            Operation::Literal(value) => tell_value(alloc, told, *value)?,
-            Operation::Load(x) => told.push_str(format!(in alloc; " v{x}")?.as_str())?,
-            Operation::Unary(operator) => tell_unary(alloc, told, *operator)?,
-            Operation::Binary(operator) => told.push_str(word_of_binary(*operator))?,
+            Operation::Literal(value) => answers.value(*value),
+            Operation::Load(x) => answers.tell_with(" v", *x as usize),
+            Operation::Unary(operator) => tell_unary(answers, *operator),
+            Operation::Binary(operator) => answers.tell(word_of_binary(*operator)),
         }
     }
-    Ok(())
 }

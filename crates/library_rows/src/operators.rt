@@ -1,14 +1,13 @@
 //! What operators make of values and of kinds.
 
 use crate::operations::{binary, combination, unary};
-use crate::reading::{halves, kind, known, value};
+use crate::reading::{kind, value};
 use crate::telling::{tell_any, word_of_kind};
+use row_answers::{Answers, Unanswered, halves, known};
 use sc_values::{Divisor, Kind, Value};
-use std::alloc::Global;
-use std::io;
 
 // `OPERATOR VALUE`, or `OPERATOR VALUE VALUE`.
-fn applied(words: &str) -> io::Result<Option<Value>> {
+fn applied(words: &str) -> Result<Option<Value>, Unanswered> {
     let (word, rest) = halves(words, ' ');
     let (first, second) = halves(rest, ' ');
     let first = value(first)?;
@@ -20,7 +19,7 @@ fn applied(words: &str) -> io::Result<Option<Value>> {
 }
 
 // The same of kinds.
-fn kind_of(words: &str) -> io::Result<Option<Kind>> {
+fn kind_of(words: &str) -> Result<Option<Kind>, Unanswered> {
     let (word, rest) = halves(words, ' ');
     let (first, second) = halves(rest, ' ');
     let first = kind(first)?;
@@ -32,29 +31,28 @@ fn kind_of(words: &str) -> io::Result<Option<Kind>> {
 }
 
 // `COMBINATION PRESENT VALUE`.
-fn combined(words: &str) -> io::Result<Value> {
+fn combined(words: &str) -> Result<Value, Unanswered> {
     let (word, rest) = halves(words, ' ');
     let (present, by) = halves(rest, ' ');
     Ok(known(combination(word))?.combine(value(present)?, value(by)?))
 }
 
 // The divisor that a number is.
-fn tell_divisor(alloc: Global, word: &str, told: &mut String) -> io::Result<()> {
+fn divisor(word: &str) -> Result<Option<Value>, Unanswered> {
     let number = known(word.parse::<i32>().ok())?;
-    let divisor = Divisor::of(number).map(|divisor| Value::Int(divisor.number()));
-    Ok(tell_any(alloc, told, divisor)?)
+    Ok(Divisor::of(number).map(|divisor| Value::Int(divisor.number())))
 }
 
 /// Whether a row is about operators; what is told of it.
-pub(crate) fn tell_operator(alloc: Global, row: &str, told: &mut String) -> io::Result<bool> {
+pub(crate) fn tell_operator(row: &str, answers: &mut Answers) -> Result<bool, Unanswered> {
     let (word, rest) = halves(row, ' ');
     match word {
-        "apply" => tell_any(alloc, told, applied(rest)?)?,
-        "divisor" => tell_divisor(alloc, rest, told)?,
-        "combine" => tell_any(alloc, told, Some(combined(rest)?))?,
-        "initial" => tell_any(alloc, told, Some(kind(rest)?.initial()))?,
-        "kind" => told.push_str(word_of_kind(kind_of(rest)?))?,
-        "combines" => told.push_str(word_of_kind(Some(known(combination(rest))?.kind())))?,
+        "apply" => tell_any(answers, applied(rest)?),
+        "divisor" => tell_any(answers, divisor(rest)?),
+        "combine" => tell_any(answers, Some(combined(rest)?)),
+        "initial" => tell_any(answers, Some(kind(rest)?.initial())),
+        "kind" => answers.tell(word_of_kind(kind_of(rest)?)),
+        "combines" => answers.tell(word_of_kind(Some(known(combination(rest))?.kind()))),
         _ => return Ok(false),
     }
     Ok(true)

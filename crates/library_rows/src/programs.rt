@@ -2,109 +2,115 @@
 
 ghost use Rattle.sc_graph.specs.Valid.{IsFormed};
 
-use crate::reading::{halves, known, place, values};
+use crate::reading::{place, values};
 use crate::telling::{tell_control, tell_place};
+use row_answers::{Answers, Unanswered, halves, known};
 use sc_graph::{ConcurrentThreads, Control, Program, Status, Step, concurrent, lca};
 use sqlite_items::Items;
-use std::alloc::{AllocError, Global};
-use std::io;
+use std::alloc::Global;
 
 // Whether a program is formed, and where it first breaks the rule of sizes and that of structure.
-fn tell_rules(alloc: Global, program: &Program, told: &mut String) -> Result<(), AllocError> {
-    told.push_str(if program.formed() {
+fn tell_rules(program: &Program, answers: &mut Answers) {
+    answers.tell(if program.formed() {
         "formed; size"
     } else {
         "not formed; size"
-    })?;
-    tell_place(alloc, told, program.size_fault())?;
-    told.push_str("; structure")?;
-    tell_place(alloc, told, program.structure_fault())
+    });
+    tell_place(answers, program.size_fault());
+    answers.tell("; structure");
+    tell_place(answers, program.structure_fault());
 }
 
 // Whether two threads are concurrent, by the table, by asking for the two, and which thread forks them apart.
 fn tell_pair(
-    alloc: Global,
     program: &Program,
     table: &ConcurrentThreads<'_>,
     first: u16,
     second: u16,
-    told: &mut String,
-) -> Result<(), AllocError>
+    answers: &mut Answers,
+)
     requires { IsFormed program.now }
 {
     let is_asked = concurrent(program, first, second);
     if table.are(first, second) != is_asked {
-        told.push_str(" otherwise by the table:")?;
+        answers.tell(" otherwise by the table:");
     }
     match lca(program, first, second) {
-        Some(forking) => told.push_str(format!(in alloc; " {first},{second}:{forking}")?.as_str()),
-        None if is_asked => told.push_str(" concurrent without a fork"),
-        None => Ok(()),
+        Some(forking) => {
+            answers.tell_with(" ", first as usize);
+            answers.tell_with(",", second as usize);
+            answers.tell_with(":", forking as usize);
+        }
+        None if is_asked => answers.tell(" concurrent without a fork"),
+        None => {}
     }
 }
 
-// Each pair of concurrent threads, as FIRST,SECOND:FORKING.
-fn tell_pairs(
-    alloc: Global,
+// Each pair of concurrent threads with this first one, as FIRST,SECOND:FORKING.
+fn tell_pairs_of(
     program: &Program,
     table: &ConcurrentThreads<'_>,
-    told: &mut String,
-) -> Result<(), AllocError>
+    first: u16,
+    answers: &mut Answers,
+)
     requires { IsFormed program.now }
 {
-    for first in 0..program.thread_count() {
-        for second in 0..program.thread_count() {
-            tell_pair(alloc, program, table, first, second, told)?;
-        }
+    for second in 0..program.thread_count() {
+        tell_pair(program, table, first, second, answers);
     }
-    Ok(())
 }
 
-fn tell_concurrent(alloc: Global, program: &Program, told: &mut String) -> io::Result<()> {
+fn tell_concurrent(
+    alloc: Global,
+    program: &Program,
+    answers: &mut Answers,
+) -> Result<(), Unanswered> {
     if !program.formed() {
-        return known(None);
+        return Err(Unanswered);
     }
-    told.push_str(" concurrent")?;
+    answers.tell(" concurrent");
     let table = ConcurrentThreads::of(alloc, program)?;
-    tell_pairs(alloc, program, &table, told)?;
-    Ok(())
-}
-
-fn tell_yes(told: &mut String, word: &str, is_so: bool) -> Result<(), AllocError> {
-    if is_so {
-        told.push_str(" ")?;
-        told.push_str(word)?;
+    for first in 0..program.thread_count() {
+        tell_pairs_of(program, &table, first, answers);
     }
     Ok(())
 }
 
-fn step_of<'p>(program: &'p Program, word: &str) -> io::Result<&'p Step> {
+fn tell_yes(answers: &mut Answers, word: &str, is_so: bool) {
+    if is_so {
+        answers.tell(word);
+    }
+}
+
+fn step_of<'p>(program: &'p Program, word: &str) -> Result<&'p Step, Unanswered> {
     known(program.step(place(word)?))
 }
 
 // Of two nodes' steps whether the first precedes the second, clashes with it, and may precede it.
-fn tell_order(program: &Program, words: &str, told: &mut String) -> io::Result<()> {
+fn tell_order(program: &Program, words: &str, answers: &mut Answers) -> Result<(), Unanswered> {
     let (first, second) = halves(words, ' ');
     let first = step_of(program, first)?;
     let second = step_of(program, second)?;
-    told.push_str(" the first")?;
-    tell_yes(told, "precedes", first.precedes(second))?;
-    tell_yes(told, "clashes", first.clashes(second))?;
-    Ok(tell_yes(told, "may-precede", first.may_precede(second))?)
+    answers.tell(" the first");
+    tell_yes(answers, " precedes", first.precedes(second));
+    tell_yes(answers, " clashes", first.clashes(second));
+    tell_yes(answers, " may-precede", first.may_precede(second));
+    Ok(())
 }
 
 // Whether a node's step initializes, updates and reads a variable.
-fn tell_uses(program: &Program, words: &str, told: &mut String) -> io::Result<()> {
+fn tell_uses(program: &Program, words: &str, answers: &mut Answers) -> Result<(), Unanswered> {
     let (node, variable) = halves(words, ' ');
     let step = step_of(program, node)?;
     let variable = place(variable)?;
-    told.push_str(" it")?;
-    tell_yes(told, "initializes", step.initializes(variable))?;
-    tell_yes(told, "updates", step.updates(variable))?;
-    Ok(tell_yes(told, "reads", step.reads(variable))?)
+    answers.tell(" it");
+    tell_yes(answers, " initializes", step.initializes(variable));
+    tell_yes(answers, " updates", step.updates(variable));
+    tell_yes(answers, " reads", step.reads(variable));
+    Ok(())
 }
 
-fn status(word: &str) -> io::Result<Status> {
+fn status(word: &str) -> Result<Status, Unanswered> {
     let (word, node) = halves(word, ':');
     match word {
         "absent" => Ok(Status::Absent),
@@ -112,11 +118,11 @@ fn status(word: &str) -> io::Result<Status> {
         "at" => Ok(Status::At(place(node)?)),
         "waits" => Ok(Status::Waiting(place(node)?)),
         "paused" => Ok(Status::Paused(place(node)?)),
-        _ => known(None),
+        _ => Err(Unanswered),
     }
 }
 
-fn statuses(alloc: Global, words: &str) -> io::Result<Items<Status>> {
+fn statuses(alloc: Global, words: &str) -> Result<Items<Status>, Unanswered> {
     let mut statuses = Items::new(alloc);
     for word in words.split_whitespace() {
         statuses.push(status(word)?)?;
@@ -125,7 +131,7 @@ fn statuses(alloc: Global, words: &str) -> io::Result<Items<Status>> {
 }
 
 /// A configuration, given as `VALUES; STATUSES`.
-pub(crate) fn control(alloc: Global, words: &str) -> io::Result<Control> {
+pub(crate) fn control(alloc: Global, words: &str) -> Result<Control, Unanswered> {
     let (given, standing) = halves(words, ';');
     let given = values(alloc, given)?;
     let variables = Items::from_slice(alloc, given.as_slice())?;
@@ -137,24 +143,31 @@ pub(crate) fn control(alloc: Global, words: &str) -> io::Result<Control> {
 }
 
 // Whether a configuration rests in a program.
-fn tell_rest(alloc: Global, program: &Program, words: &str, told: &mut String) -> io::Result<()> {
+fn tell_rest(
+    alloc: Global,
+    program: &Program,
+    words: &str,
+    answers: &mut Answers,
+) -> Result<(), Unanswered> {
     let control = control(alloc, words)?;
-    Ok(told.push_str(if control.fits(program) {
+    answers.tell(if control.fits(program) {
         " rests"
     } else {
         " does not rest"
-    })?)
+    });
+    Ok(())
 }
 
 // The configuration before the first tick, and whether it rests.
-fn tell_initial(alloc: Global, program: &Program, told: &mut String) -> io::Result<()> {
+fn tell_initial(alloc: Global, program: &Program, answers: &mut Answers) -> Result<(), Unanswered> {
     let initial = Control::initial(alloc, program)?;
-    tell_control(alloc, told, &initial)?;
-    Ok(told.push_str(if initial.fits(program) {
+    tell_control(answers, &initial);
+    answers.tell(if initial.fits(program) {
         "; rests"
     } else {
         "; does not rest"
-    })?)
+    });
+    Ok(())
 }
 
 /// What is told of a program.
@@ -162,17 +175,17 @@ pub(crate) fn tell_program(
     alloc: Global,
     program: &Program,
     row: &str,
-    told: &mut String,
-) -> io::Result<()> {
+    answers: &mut Answers,
+) -> Result<(), Unanswered> {
     let (word, rest) = halves(row, ' ');
     match word {
-        "rules" => tell_rules(alloc, program, told)?,
-        "concurrent" => tell_concurrent(alloc, program, told)?,
-        "order" => tell_order(program, rest, told)?,
-        "uses" => tell_uses(program, rest, told)?,
-        "initial" => tell_initial(alloc, program, told)?,
-        "rests" => tell_rest(alloc, program, rest, told)?,
-        _ => return known(None),
+        "rules" => tell_rules(program, answers),
+        "concurrent" => tell_concurrent(alloc, program, answers)?,
+        "order" => tell_order(program, rest, answers)?,
+        "uses" => tell_uses(program, rest, answers)?,
+        "initial" => tell_initial(alloc, program, answers)?,
+        "rests" => tell_rest(alloc, program, rest, answers)?,
+        _ => return Err(Unanswered),
     }
     Ok(())
 }

@@ -3,12 +3,12 @@
 ghost use Rattle.std.specs.Prelude.{All};
 ghost use Rattle.ready_queue.specs.Rule.{IsPassOf};
 
-use crate::reading::{halves, known, number};
+use crate::reading::number;
 use ready_queue::{Pass, ReadyQueue};
+use row_answers::{Answers, Unanswered, halves, known};
 use sc_graph::ThreadId;
 use sqlite_items::Items;
 use std::alloc::{AllocError, Global};
-use std::io;
 use std::sync::Wait;
 use tick_core::{Claim, Control, Inputs, TickState, Turn, begin, evaluate};
 use verifier::Verified;
@@ -100,42 +100,39 @@ fn hand<'x, R: Wait>(
     }
 }
 
-fn tell(alloc: Global, told: &mut String, handed: Handed) -> Result<(), AllocError> {
+fn tell(answers: &mut Answers, handed: Handed) {
     match handed {
-        Handed::Put(thread) => told.push_str(format!(in alloc; " put {thread};")?.as_str()),
-        Handed::Back(thread) => told.push_str(format!(in alloc; " back {thread};")?.as_str()),
-        Handed::Taken(thread) => told.push_str(format!(in alloc; " took {thread};")?.as_str()),
-        Handed::Nothing => told.push_str(" nothing;"),
+        Handed::Put(thread) => answers.tell_with(" put ", thread as usize),
+        Handed::Back(thread) => answers.tell_with(" back ", thread as usize),
+        Handed::Taken(thread) => answers.tell_with(" took ", thread as usize),
+        Handed::Nothing => answers.tell(" nothing"),
     }
+    answers.tell(";");
 }
 
 // One act: `put PASS` or `take PASS`, the passes counted from 0.
 fn act<'x, R: Wait>(
     rt: &R,
-    alloc: Global,
     ports: &mut [Port<'_, 'x>],
     state: &mut TickState<'x>,
     words: &str,
-    told: &mut String,
-) -> io::Result<()> {
+) -> Result<Handed, Unanswered> {
     let (word, pass) = halves(words, ' ');
     let port = known(ports.get_mut(number(pass)?))?;
-    let handed = known(hand(rt, port, state, word))?;
-    Ok(tell(alloc, told, handed)?)
+    known(hand(rt, port, state, word))
 }
 
 fn act_all<'x, R: Wait>(
     rt: &R,
-    alloc: Global,
     ports: &mut [Port<'_, 'x>],
     state: &mut TickState<'x>,
     acts: &str,
-    told: &mut String,
-) -> io::Result<()> {
+    answers: &mut Answers,
+) -> Result<(), Unanswered> {
     for words in acts.split(';') {
         let words = words.trim();
         if !words.is_empty() {
-            act(rt, alloc, ports, state, words, told)?;
+            tell(answers, act(rt, ports, state, words)?);
         }
     }
     Ok(())
@@ -148,27 +145,27 @@ fn in_queue<'x, R: Wait>(
     narrow: &'x Verified,
     state: &mut TickState<'x>,
     acts: &str,
-    told: &mut String,
-) -> io::Result<()> {
+    answers: &mut Answers,
+) -> Result<(), Unanswered> {
     let (queue, passes) = ReadyQueue::open(alloc, narrow)?;
-    let count = passes.len();
-    told.push_str(format!(in alloc; " {count} passes;")?.as_str())?;
+    answers.tell_with(" ", passes.len());
+    answers.tell(" passes;");
     let mut ports = ports_of(alloc, &queue, passes)?;
-    act_all(rt, alloc, ports.as_mut_slice(), state, acts, told)
+    act_all(rt, ports.as_mut_slice(), state, acts, answers)
 }
 
 /// Acts of the passes of a queue, on claims of the first tick of an image, behind its first step.
-pub(crate) fn tell_queue<R: Wait>(
+pub(crate) fn tell_queue<'x, R: Wait>(
     rt: &R,
     alloc: Global,
-    image: &Verified,
-    narrow: &Verified,
+    image: &'x Verified,
+    narrow: &'x Verified,
     acts: &str,
-    told: &mut String,
-) -> io::Result<()> {
+    answers: &mut Answers,
+) -> Result<(), Unanswered> {
     let opening = Control::initial(alloc, image.image().program())?;
     let inputs: Inputs = Items::new(alloc);
     let mut state = known(begin(alloc, image, &opening, &inputs).ok())?;
     step(&mut state);
-    in_queue(rt, alloc, narrow, &mut state, acts, told)
+    in_queue(rt, alloc, narrow, &mut state, acts, answers)
 }

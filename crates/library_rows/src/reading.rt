@@ -1,40 +1,23 @@
 //! What the words of a row stand for.
 
+use row_answers::{Unanswered, halves, known};
 use sc_values::{Kind, Name, Value};
 use sqlite_items::Items;
 use std::alloc::Global;
-use std::io;
 use tick_core::Inputs;
 
-/// What it holds; else the row means nothing.
-pub(crate) fn known<T>(answer: Option<T>) -> io::Result<T> {
-    match answer {
-        Some(it) => Ok(it),
-        None => Err(io::Error::from(io::ErrorKind::InvalidData)),
-    }
-}
-
-/// The text before a sign, and the text behind it.
-pub(crate) fn halves(text: &str, sign: char) -> (&str, &str) {
-    let mut parts = text.splitn(2, sign);
-    match (parts.next(), parts.next()) {
-        (Some(first), Some(second)) => (first, second),
-        _ => (text, ""),
-    }
-}
-
 /// A number.
-pub(crate) fn number(word: &str) -> io::Result<usize> {
+pub(crate) fn number(word: &str) -> Result<usize, Unanswered> {
     known(word.parse::<usize>().ok())
 }
 
 /// The number of a thread, a node or a variable.
-pub(crate) fn place(word: &str) -> io::Result<u16> {
+pub(crate) fn place(word: &str) -> Result<u16, Unanswered> {
     known(word.parse::<u16>().ok())
 }
 
 /// Numbers of threads, each a word.
-pub(crate) fn places(alloc: Global, text: &str) -> io::Result<Vec<u16>> {
+pub(crate) fn places(alloc: Global, text: &str) -> Result<Vec<u16>, Unanswered> {
     let mut places = Vec::new(alloc);
     for word in text.split_whitespace() {
         places.push(place(word)?)?;
@@ -43,7 +26,7 @@ pub(crate) fn places(alloc: Global, text: &str) -> io::Result<Vec<u16>> {
 }
 
 /// A value: `true`, `false` or a number.
-pub(crate) fn value(word: &str) -> io::Result<Value> {
+pub(crate) fn value(word: &str) -> Result<Value, Unanswered> {
     match word {
         "true" => Ok(Value::Bool(true)),
         "false" => Ok(Value::Bool(false)),
@@ -52,7 +35,7 @@ pub(crate) fn value(word: &str) -> io::Result<Value> {
 }
 
 /// Values, each a word.
-pub(crate) fn values(alloc: Global, text: &str) -> io::Result<Vec<Value>> {
+pub(crate) fn values(alloc: Global, text: &str) -> Result<Vec<Value>, Unanswered> {
     let mut values = Vec::new(alloc);
     for word in text.split_whitespace() {
         values.push(value(word)?)?;
@@ -61,16 +44,16 @@ pub(crate) fn values(alloc: Global, text: &str) -> io::Result<Vec<Value>> {
 }
 
 /// A kind: `int` or `bool`.
-pub(crate) fn kind(word: &str) -> io::Result<Kind> {
+pub(crate) fn kind(word: &str) -> Result<Kind, Unanswered> {
     match word {
         "int" => Ok(Kind::Int),
         "bool" => Ok(Kind::Bool),
-        _ => known(None),
+        _ => Err(Unanswered),
     }
 }
 
 /// Kinds, each a word.
-pub(crate) fn kinds(alloc: Global, text: &str) -> io::Result<Vec<Kind>> {
+pub(crate) fn kinds(alloc: Global, text: &str) -> Result<Vec<Kind>, Unanswered> {
     let mut kinds = Vec::new(alloc);
     for word in text.split_whitespace() {
         kinds.push(kind(word)?)?;
@@ -78,12 +61,17 @@ pub(crate) fn kinds(alloc: Global, text: &str) -> io::Result<Vec<Kind>> {
     Ok(kinds)
 }
 
+// An input, as `NAME=VALUE`.
+fn input(word: &str) -> Result<(Name, Value), Unanswered> {
+    let (name, given) = halves(word, '=');
+    Ok((known(Name::of(name))?, value(given)?))
+}
+
 /// Inputs, each as `NAME=VALUE`.
-pub(crate) fn inputs(alloc: Global, text: &str) -> io::Result<Inputs> {
+pub(crate) fn inputs(alloc: Global, text: &str) -> Result<Inputs, Unanswered> {
     let mut inputs = Items::new(alloc);
     for word in text.split_whitespace() {
-        let (name, given) = halves(word, '=');
-        inputs.push((known(Name::of(name))?, value(given)?))?;
+        inputs.push(input(word)?)?;
     }
     Ok(inputs)
 }

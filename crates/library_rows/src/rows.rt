@@ -7,13 +7,13 @@ use crate::names::tell_name;
 use crate::operators::tell_operator;
 use crate::programs::{control, tell_program};
 use crate::queues::tell_queue;
-use crate::reading::{halves, known};
 use crate::telling::tell_control;
 use crate::ticks::{tell_judgement, tick};
 use bytecode::Image;
+use row_answers::{Answers, Unanswered, halves};
 use sc_graph::Control;
+use sqlite_items::Boxed;
 use std::alloc::Global;
-use std::io;
 use std::sync::Wait;
 use verifier::Verified;
 
@@ -23,11 +23,11 @@ fn in_queue<R: Wait>(
     alloc: Global,
     image: &Verified,
     words: &str,
-    told: &mut String,
-) -> io::Result<()> {
+    answers: &mut Answers,
+) -> Result<(), Unanswered> {
     let (spelled, acts) = halves(words, ':');
-    let narrow = verified(alloc, spelled)?;
-    tell_queue(rt, alloc, image, &narrow, acts, told)
+    let narrow = Boxed::new(alloc, verified(alloc, spelled)?)?;
+    tell_queue(rt, alloc, image, narrow.get(), acts, answers)
 }
 
 // Answers a row about a valid image. A tick leaves another configuration.
@@ -37,20 +37,20 @@ fn answer_one<R: Wait>(
     image: &Verified,
     present: &Control,
     row: &str,
-    told: &mut String,
-) -> io::Result<Option<Control>> {
+    answers: &mut Answers,
+) -> Result<Option<Control>, Unanswered> {
     let (word, rest) = halves(row, ' ');
     match word {
-        "tick" => return tick(alloc, image, present, rest, told),
-        "judge" => tell_judgement(alloc, image, present, rest, told)?,
+        "tick" => return tick(alloc, image, present, rest, answers),
         "stand" => return Ok(Some(control(alloc, rest)?)),
-        "present" => tell_control(alloc, told, present)?,
+        "judge" => tell_judgement(alloc, image, present, rest, answers)?,
+        "present" => tell_control(answers, present),
         "budget" => {
-            let budget = image.image().tables().budget;
-            told.push_str(format!(in alloc; " {budget}")?.as_str())?;
+            answers.tell(" ");
+            answers.show(&image.image().tables().budget);
         }
-        "queue" => in_queue(rt, alloc, image, rest, told)?,
-        _ => tell_program(alloc, image.image().program(), row, told)?,
+        "queue" => in_queue(rt, alloc, image, rest, answers)?,
+        _ => tell_program(alloc, image.image().program(), row, answers)?,
     }
     Ok(None)
 }
@@ -61,15 +61,15 @@ fn answer_of_image<R: Wait>(
     alloc: Global,
     image: &Verified,
     rows: &str,
-    told: &mut String,
-) -> io::Result<()> {
+    answers: &mut Answers,
+) -> Result<(), Unanswered> {
     let mut present = Control::initial(alloc, image.image().program())?;
     for row in rows.lines() {
         if !row.is_empty() {
-            if let Some(end) = answer_one(rt, alloc, image, &present, row, told)? {
+            if let Some(end) = answer_one(rt, alloc, image, &present, row, answers)? {
                 present = end;
             }
-            told.push_str("\n")?;
+            answers.tell("\n");
         }
     }
     Ok(())
@@ -80,66 +80,73 @@ fn answer_of_program(
     alloc: Global,
     image: &Image,
     rows: &str,
-    told: &mut String,
-) -> io::Result<()> {
+    answers: &mut Answers,
+) -> Result<(), Unanswered> {
     for row in rows.lines() {
         if !row.is_empty() {
-            tell_program(alloc, image.program(), row, told)?;
-            told.push_str("\n")?;
+            tell_program(alloc, image.program(), row, answers)?;
+            answers.tell("\n");
         }
     }
     Ok(())
 }
 
 // Answers rows about names, operators, codes and counts.
-fn answer_of_values(alloc: Global, rows: &str, told: &mut String) -> io::Result<()> {
+fn answer_of_values(alloc: Global, rows: &str, answers: &mut Answers) -> Result<(), Unanswered> {
     for row in rows.lines() {
         if !row.is_empty() {
-            tell_of_values(alloc, row, told)?;
-            told.push_str("\n")?;
+            tell_of_values(alloc, row, answers)?;
+            answers.tell("\n");
         }
     }
     Ok(())
 }
 
-fn tell_of_values(alloc: Global, row: &str, told: &mut String) -> io::Result<()> {
-    if tell_operator(alloc, row, told)? || tell_name(alloc, row, told)? {
-        return Ok(());
+fn tell_of_values(alloc: Global, row: &str, answers: &mut Answers) -> Result<(), Unanswered> {
+    if tell_operator(row, answers)?
+        || tell_name(alloc, row, answers)?
+        || tell_code(alloc, row, answers)?
+        || tell_counts(alloc, row, answers)?
+    {
+        Ok(())
+    } else {
+        Err(Unanswered)
     }
-    if tell_code(alloc, row, told)? || tell_counts(alloc, row, told)? {
-        return Ok(());
-    }
-    known(None)
 }
 
 // Answers rows behind an image: `IMAGE`, which is valid, or `of any IMAGE`; or rows of `none`.
-fn answer_behind<R: Wait>(rt: &R, alloc: Global, part: &str, told: &mut String) -> io::Result<()> {
+fn answer_behind<R: Wait>(
+    rt: &R,
+    alloc: Global,
+    part: &str,
+    answers: &mut Answers,
+) -> Result<(), Unanswered> {
     let (spelled, rows) = halves(part, '\n');
     if spelled == "none" {
-        return answer_of_values(alloc, rows, told);
+        return answer_of_values(alloc, rows, answers);
     }
     match spelled.strip_prefix("of any ") {
         Some(spelled) => {
-            let image = decoded(alloc, spelled)?;
-            answer_of_program(alloc, &image, rows, told)
+            let image = Boxed::new(alloc, decoded(alloc, spelled)?)?;
+            answer_of_program(alloc, image.get(), rows, answers)
         }
         None => {
-            let image = verified(alloc, spelled)?;
-            answer_of_image(rt, alloc, &image, rows, told)
+            let image = Boxed::new(alloc, verified(alloc, spelled)?)?;
+            answer_of_image(rt, alloc, image.get(), rows, answers)
         }
     }
 }
 
-/// Answers all rows: those behind each row `image`.
+/// Answers all rows: those behind each row `image`. Err: a row means nothing, or memory was refused.
 pub(crate) fn answer<R: Wait>(
     rt: &R,
     alloc: Global,
     text: &str,
-    told: &mut String,
-) -> io::Result<()> {
+    answers: &mut Answers,
+) -> Result<(), Unanswered> {
     for part in text.split("image ") {
         if !part.is_empty() {
-            answer_behind(rt, alloc, part, told)?;
+            answer_behind(rt, alloc, part, answers)?;
         }
     }
     Ok(())

@@ -1,40 +1,15 @@
 //! What is told of values, kinds, places and configurations.
 
+use row_answers::Answers;
 use sc_graph::{Control, Place, Status};
 use sc_values::{Kind, Value};
-use std::alloc::{AllocError, Global};
-
-/// A value behind a space.
-pub(crate) fn tell_value(alloc: Global, told: &mut String, value: Value) -> Result<(), AllocError> {
-    match value {
-        Value::Bool(true) => told.push_str(" true"),
-        Value::Bool(false) => told.push_str(" false"),
-        Value::Int(number) => told.push_str(format!(in alloc; " {number}")?.as_str()),
-    }
-}
 
 /// A value behind a space, or `none`.
-pub(crate) fn tell_any(
-    alloc: Global,
-    told: &mut String,
-    value: Option<Value>,
-) -> Result<(), AllocError> {
+pub(crate) fn tell_any(answers: &mut Answers, value: Option<Value>) {
     match value {
-        Some(value) => tell_value(alloc, told, value),
-        None => told.push_str(" none"),
+        Some(value) => answers.value(value),
+        None => answers.tell(" none"),
     }
-}
-
-/// Values, each behind a space.
-pub(crate) fn tell_values(
-    alloc: Global,
-    told: &mut String,
-    values: &[Value],
-) -> Result<(), AllocError> {
-    for value in values {
-        tell_value(alloc, told, *value)?;
-    }
-    Ok(())
 }
 
 /// The word of a kind.
@@ -46,43 +21,37 @@ pub(crate) fn word_of_kind(kind: Option<Kind>) -> &'static str {
     }
 }
 
-fn tell_status(alloc: Global, told: &mut String, status: Status) -> Result<(), AllocError> {
+fn tell_status(answers: &mut Answers, status: Status) {
     match status {
-        Status::Absent => told.push_str(" absent"),
-        Status::At(node) => told.push_str(format!(in alloc; " at:{node}")?.as_str()),
-        Status::Waiting(node) => told.push_str(format!(in alloc; " waits:{node}")?.as_str()),
-        Status::Paused(node) => told.push_str(format!(in alloc; " paused:{node}")?.as_str()),
-        Status::Ended => told.push_str(" ended"),
+        Status::Absent => answers.tell(" absent"),
+        Status::At(node) => answers.tell_with(" at:", node as usize),
+        Status::Waiting(node) => answers.tell_with(" waits:", node as usize),
+        Status::Paused(node) => answers.tell_with(" paused:", node as usize),
+        Status::Ended => answers.tell(" ended"),
     }
 }
 
 /// The values of a configuration, and where its threads stand.
-pub(crate) fn tell_control(
-    alloc: Global,
-    told: &mut String,
-    control: &Control,
-) -> Result<(), AllocError> {
-    told.push_str(" values")?;
-    tell_values(alloc, told, control.variables.as_slice())?;
-    told.push_str("; stand")?;
+pub(crate) fn tell_control(answers: &mut Answers, control: &Control) {
+    answers.tell(" values");
+    answers.values(control.variables.as_slice());
+    answers.tell("; stand");
     for status in control.statuses.as_slice() {
-        tell_status(alloc, told, *status)?;
+        tell_status(answers, *status);
     }
-    Ok(())
 }
 
 /// A place behind a space, or `none`.
-pub(crate) fn tell_place(
-    alloc: Global,
-    told: &mut String,
-    place: Option<Place>,
-) -> Result<(), AllocError> {
+pub(crate) fn tell_place(answers: &mut Answers, place: Option<Place>) {
     match place {
-        None => told.push_str(" none"),
-        Some(Place::Image) => told.push_str(" image"),
-        Some(Place::Variable(x)) => told.push_str(format!(in alloc; " variable {x}")?.as_str()),
-        Some(Place::Thread(t)) => told.push_str(format!(in alloc; " thread {t}")?.as_str()),
-        Some(Place::Node(n)) => told.push_str(format!(in alloc; " node {n}")?.as_str()),
-        Some(Place::Pair(n, m)) => told.push_str(format!(in alloc; " nodes {n} {m}")?.as_str()),
+        None => answers.tell(" none"),
+        Some(Place::Image) => answers.tell(" image"),
+        Some(Place::Variable(x)) => answers.tell_with(" variable ", x as usize),
+        Some(Place::Thread(t)) => answers.tell_with(" thread ", t as usize),
+        Some(Place::Node(n)) => answers.tell_with(" node ", n as usize),
+        Some(Place::Pair(n, m)) => {
+            answers.tell_with(" nodes ", n as usize);
+            answers.tell_with(" ", m as usize);
+        }
     }
 }

@@ -1,37 +1,32 @@
 //! Ticks by acts of workers, and judged runs.
 
 use crate::acts::act_all;
-use crate::reading::{halves, inputs, places};
+use crate::reading::{inputs, places};
 use crate::telling::tell_control;
-use std::alloc::{AllocError, Global};
-use std::io;
+use row_answers::{Answers, Unanswered, halves};
+use std::alloc::Global;
 use tick_core::{Control, Judged, Report, TickState, begin, judge};
 use verifier::Verified;
 
 // The steps of a tick: how many by each worker from 0 on, and in their order, each as THREAD/WORKER.
-fn tell_report(alloc: Global, report: &Report, told: &mut String) -> Result<(), AllocError> {
-    told.push_str("; by")?;
+fn tell_report(report: &Report, answers: &mut Answers) {
+    answers.tell("; by");
     for count in report.by {
-        told.push_str(format!(in alloc; " {count}")?.as_str())?;
+        answers.tell(" ");
+        answers.show(&count);
     }
-    told.push_str("; order")?;
+    answers.tell("; order");
     for entry in report.history.as_slice() {
-        let (thread, worker) = (entry.thread, entry.worker);
-        told.push_str(format!(in alloc; " {thread}/{worker}")?.as_str())?;
+        answers.tell_with(" ", entry.thread as usize);
+        answers.tell_with("/", entry.worker as usize);
     }
-    Ok(())
 }
 
-fn tell_end(
-    alloc: Global,
-    end: &Control,
-    report: &Report,
-    told: &mut String,
-) -> Result<(), AllocError> {
-    let steps = report.history.len();
-    told.push_str(format!(in alloc; " {steps} steps")?.as_str())?;
-    tell_control(alloc, told, end)?;
-    tell_report(alloc, report, told)
+fn tell_end(end: &Control, report: &Report, answers: &mut Answers) {
+    answers.tell_with(" ", report.history.len());
+    answers.tell(" steps");
+    tell_control(answers, end);
+    tell_report(report, answers);
 }
 
 // The end of a tick after these acts, behind which it goes on alone.
@@ -39,13 +34,13 @@ fn played(
     alloc: Global,
     state: TickState<'_>,
     acts: &str,
-    told: &mut String,
-) -> io::Result<Control> {
+    answers: &mut Answers,
+) -> Result<Control, Unanswered> {
     let mut state = state;
-    act_all(alloc, &mut state, acts, told)?;
+    act_all(alloc, &mut state, acts, answers)?;
     state.run_alone();
     let (end, report) = state.finish();
-    tell_end(alloc, &end, &report, told)?;
+    tell_end(&end, &report, answers);
     Ok(end)
 }
 
@@ -56,33 +51,40 @@ pub(crate) fn tick(
     image: &Verified,
     control: &Control,
     row: &str,
-    told: &mut String,
-) -> io::Result<Option<Control>> {
+    answers: &mut Answers,
+) -> Result<Option<Control>, Unanswered> {
     let (given, acts) = halves(row, ':');
     let inputs = inputs(alloc, given)?;
     if !control.fits(image.image().program()) {
-        told.push_str(" does not rest")?;
+        answers.tell(" does not rest");
         return Ok(None);
     }
     match begin(alloc, image, control, &inputs) {
-        Ok(state) => Ok(Some(played(alloc, state, acts, told)?)),
+        Ok(state) => Ok(Some(played(alloc, state, acts, answers)?)),
         Err(fault) => {
-            told.push_str(format!(in alloc; " {fault}")?.as_str())?;
+            answers.tell(" ");
+            answers.show(&fault);
             Ok(None)
         }
     }
 }
 
-fn tell_judged(alloc: Global, judged: &Judged, told: &mut String) -> Result<(), AllocError> {
+fn tell_judged(judged: &Judged, answers: &mut Answers) {
     match judged {
-        Judged::NotRun(at) => told.push_str(format!(in alloc; " no run at {at}")?.as_str()),
-        Judged::NotAdmissible(first, second) => {
-            told.push_str(format!(in alloc; " not admissible {first} {second}")?.as_str())
+        Judged::NotRun(at) => {
+            answers.tell(" no run at ");
+            answers.show(at);
         }
-        Judged::Incomplete => told.push_str(" incomplete"),
+        Judged::NotAdmissible(first, second) => {
+            answers.tell(" not admissible ");
+            answers.show(first);
+            answers.tell(" ");
+            answers.show(second);
+        }
+        Judged::Incomplete => answers.tell(" incomplete"),
         Judged::Ends(end) => {
-            told.push_str(" ends")?;
-            tell_control(alloc, told, end)
+            answers.tell(" ends");
+            tell_control(answers, end);
         }
     }
 }
@@ -93,17 +95,21 @@ pub(crate) fn tell_judgement(
     image: &Verified,
     control: &Control,
     row: &str,
-    told: &mut String,
-) -> io::Result<()> {
+    answers: &mut Answers,
+) -> Result<(), Unanswered> {
     let (given, threads) = halves(row, ':');
     let inputs = inputs(alloc, given)?;
     let run = places(alloc, threads)?;
     if !control.fits(image.image().program()) {
-        return Ok(told.push_str(" does not rest")?);
+        answers.tell(" does not rest");
+        return Ok(());
     }
     match judge(alloc, image, control, &inputs, run.as_slice()) {
-        Ok(judged) => tell_judged(alloc, &judged, told)?,
-        Err(fault) => told.push_str(format!(in alloc; " {fault}")?.as_str())?,
+        Ok(judged) => tell_judged(&judged, answers),
+        Err(fault) => {
+            answers.tell(" ");
+            answers.show(&fault);
+        }
     }
     Ok(())
 }

@@ -62,7 +62,8 @@ fn put_body(
     at: Numbers,
     origins: &mut Items<Element>,
 ) -> Result<Numbers, AllocError>
-    ensures origins { IfOk result (λ _. origins.new ≡ origins.old ++ body_of (map piece_of_state states.now) region at) }
+    ensures origins { IfOk result (λ _. origins.new
+        ≡ origins.old ++ body_of (map piece_of_state states.now) region at) }
     ensures behind { IfOk result (λ behind. behind ≡ behind_states (map piece_of_state states.now) at) }
 {
     put_texts(true, states, at, origins)?;
@@ -80,7 +81,8 @@ fn put_texts(
     at: Numbers,
     origins: &mut Items<Element>,
 ) -> Result<Numbers, AllocError>
-    ensures origins { IfOk result (λ _. origins.new ≡ origins.old ++ texts are_initial (map piece_of_state states.now) at) }
+    ensures origins { IfOk result (λ _. origins.new
+        ≡ origins.old ++ texts are_initial (map piece_of_state states.now) at) }
     ensures behind { IfOk result (λ behind. behind ≡ behind_states (map piece_of_state states.now) at) }
 {
     let mut here = at;

@@ -45,8 +45,8 @@ fn is_tested(surface: bool, transition: &Transition) -> bool
     !surface || transition.immediate
 }
 
-/// Puts those of the transitions of a state behind the others, on its surface or behind its pause: the answer is whether
-/// anything follows them.
+/// Puts those of the transitions of a state behind the others, on its surface or behind its pause: the answer is
+/// whether anything follows them.
 pub(crate) fn put_transitions(
     surface: bool,
     own: &[Transition],

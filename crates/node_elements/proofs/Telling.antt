@@ -35,7 +35,7 @@ pub record Item {A : Type 0} (xs : List A) (k : ℕ) : Type 0 where
   pub item : A
   pub there : slice_get xs k ≡ Some item
 
-item_below : {A : Type 0} (xs : List A) (k : ℕ) → k < length xs → Item xs k
+pub item_below : {A : Type 0} (xs : List A) (k : ℕ) → k < length xs → Item xs k
 item_below [] k small = absurd (omega (arith, small))
 item_below (x ∷ xs) zero small = record { item = x; there = refl }
 item_below (x ∷ xs) (suc k) small =
@@ -43,13 +43,13 @@ item_below (x ∷ xs) (suc k) small =
     let later : Item xs k = item_below xs k less in
     record { item = later.item; there = later.there }
 
-item_beside : {A B : Type 0} (xs : List A) (ys : List B) (k : ℕ) (y : B) → length xs ≡ length ys → slice_get ys k ≡ Some y → Item xs k
+pub item_beside : {A B : Type 0} (xs : List A) (ys : List B) (k : ℕ) (y : B) → length xs ≡ length ys → slice_get ys k ≡ Some y → Item xs k
 item_beside xs ys k y same there =
     let small : k < length ys = below ys k y there in
     let less : k < length xs = omega (arith, small, same) in
     item_below xs k less
 
-get_mapped : {A B : Type 0} (f : A → B) (xs : List A) (k : ℕ) (x : A) → slice_get xs k ≡ Some x → slice_get (map f xs) k ≡ Some (f x)
+pub get_mapped : {A B : Type 0} (f : A → B) (xs : List A) (k : ℕ) (x : A) → slice_get xs k ≡ Some x → slice_get (map f xs) k ≡ Some (f x)
 get_mapped f [] k x there = absurd cc
 get_mapped f (y ∷ xs) zero x there = let same : y ≡ x = cc in ap (λ z. Some (f z)) same
 get_mapped f (y ∷ xs) (suc k) x there = get_mapped f xs k x there

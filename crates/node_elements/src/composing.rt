@@ -1,6 +1,6 @@
 //! The elements of nodes, by those of points and of core charts.
 
-ghost use Rattle.std.specs.Prelude.{◌≡◌, IfOk, slice_get};
+ghost use Rattle.std.specs.Prelude.{◌≡◌, IfOk, map, slice_get};
 ghost use Rattle.graph_origins.specs.Origins.{node_origins};
 ghost use Rattle.lowering_origins.specs.Origins.{point_origins};
 ghost use Rattle.expansion_origins.specs.Origins.{expansion_origins};
@@ -30,6 +30,25 @@ pub fn node_elements(
     let points = point_origins(alloc, core)?;
     let expansion = expansion_origins(alloc, chart)?;
     composed(alloc, nodes.as_slice(), points.as_slice(), &expansion)
+}
+
+/// For each statement, or end of a thread, of the lowering of a chart's core chart the element of the chart from which
+/// it comes, where `core` is that core chart. Err: memory was refused.
+pub fn point_elements(
+    alloc: Global,
+    chart: &Chart,
+    core: &CoreChart,
+) -> Result<Items<Option<Element>>, AllocError>
+    ensures { IfOk result (λ elements. elements
+        ≡ map (through (expansion_origins chart.now)) (point_origins core.now)) }
+{
+    let points = point_origins(alloc, core)?;
+    let expansion = expansion_origins(alloc, chart)?;
+    let mut elements = Items::new(alloc);
+    for point in points.as_slice() {
+        elements.push(through(&expansion, *point))?;
+    }
+    Ok(elements)
 }
 
 fn composed(

@@ -4,5 +4,5 @@
 mod composing;
 mod laws;
 
-pub use composing::node_elements;
+pub use composing::{node_elements, point_elements};
 pub use laws::elements_tell_nodes;

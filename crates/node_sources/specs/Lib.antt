@@ -1,1 +1,7 @@
-pub mod Origins
+pub mod Parts
+pub mod ChartOrigins
+pub mod SclOrigins
+pub mod Sources
+pub mod Labels
+pub mod Laws
+pub mod Listing

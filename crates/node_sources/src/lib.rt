@@ -1,25 +1,23 @@
-//! From which part of a source text each node of its program comes. The row of origins is data of its own, beside the
-//! program: it is made by a walk over the text in the order in which nodes are numbered, and holds as many origins as
-//! the program has nodes, each of a part that does what its node does.
+//! From which part of a source text each node of its program comes: the rows of origins of the passes, one through the
+//! other, up to the places that the readers keep.
 #![tactic(auto)]
 
-mod around;
-mod chart_marks;
-mod chart_pieces;
+mod chart_origins;
+mod chart_sources;
+mod graphs;
 mod labels;
-mod layout;
+mod laws;
 mod listing;
-mod marks;
 mod origin;
-mod piece;
+mod parts;
 mod positions;
-mod row;
-mod scl_pieces;
+mod scl_sources;
 mod sources;
-mod superstate_marks;
+mod statements;
 mod words;
 
 pub use labels::label_origin;
+pub use laws::sources_tell_charts;
 pub use listing::image_text_with;
 pub use origin::{Origin, Part};
 pub use positions::{Position, Positions};

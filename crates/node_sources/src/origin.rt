@@ -1,5 +1,8 @@
 //! Where a node of a program comes from.
 
+ghost use Rattle.std.specs.Prelude.{◌≡◌};
+ghost use Rattle.node_sources.specs.SclOrigins.{statement_at};
+
 /// What stands at the place of an origin.
 #[derive(Clone, Copy, Debug, PartialEq, Eq)]
 pub enum Part {
@@ -17,7 +20,7 @@ pub enum Part {
     Abort,
     /// The name of a superstate, which is entered: its aborts are forgotten, and its regions are counted.
     Entry,
-    /// A part that counts how many regions of a superstate have still to end.
+    /// A transition, or an initial state, where the regions of a superstate that have still to end are counted.
     Count,
 }
 
@@ -36,76 +39,14 @@ pub struct Origin {
 
 impl Origin {
     /// That of a statement.
-    pub(crate) fn statement(at: usize) -> Origin {
+    pub(crate) fn statement(at: usize) -> Origin
+        ensures { result ≡ statement_at at }
+    {
         Origin {
             at,
             part: Part::Statement,
             region: None,
             state: None,
-        }
-    }
-
-    /// That of a whole chart.
-    pub(crate) fn chart(at: usize) -> Origin {
-        Origin {
-            at,
-            part: Part::Chart,
-            region: None,
-            state: None,
-        }
-    }
-
-    /// That of a region, whose name stands here.
-    pub(crate) fn region(at: usize) -> Origin {
-        Origin {
-            at,
-            part: Part::Region,
-            region: Some(at),
-            state: None,
-        }
-    }
-
-    /// The same, of another part.
-    pub(crate) fn as_part(self, part: Part) -> Origin {
-        Origin {
-            at: self.at,
-            part,
-            region: self.region,
-            state: self.state,
-        }
-    }
-
-    /// The same, at another place.
-    pub(crate) fn moved_to(self, at: usize) -> Origin {
-        Origin {
-            at,
-            part: self.part,
-            region: self.region,
-            state: self.state,
-        }
-    }
-}
-
-/// A state of a chart: where its name stands, and that of its region.
-#[derive(Clone, Copy, Debug)]
-pub(crate) struct Scene {
-    pub(crate) region: usize,
-    pub(crate) state: usize,
-}
-
-impl Scene {
-    /// The origin of a part at the name of the state.
-    pub(crate) fn origin(self, part: Part) -> Origin {
-        self.origin_at(part, self.state)
-    }
-
-    /// The origin of a part of the state at this place.
-    pub(crate) fn origin_at(self, part: Part, at: usize) -> Origin {
-        Origin {
-            at,
-            part,
-            region: Some(self.region),
-            state: Some(self.state),
         }
     }
 }

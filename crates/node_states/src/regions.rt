@@ -120,7 +120,8 @@ fn lay_below(
     number: u32,
     nodes: &mut Items<Option<u32>>,
 ) -> Result<(), AllocError>
-    ensures { IfOk result (λ _. nodes.new ≡ nodes.old ++ below_among are_initial (map piece_of_state states.now) number) }
+    ensures { IfOk result (λ _. nodes.new
+        ≡ nodes.old ++ below_among are_initial (map piece_of_state states.now) number) }
 {
     let mut next = number;
     for state in states {

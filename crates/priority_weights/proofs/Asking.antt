@@ -48,12 +48,14 @@ falls_part leads table m x lt attained = record {
 }
 
 -- the answer of a helper, said in other words
-pub answer_turned : {T : Type 0} (r : Option T) (P P' : Type 0) (Q Q' : T → Type 0) → (P → P') → ((t : T) → Q t → Q' t) → MatchOption r P Q → MatchOption r P' Q'
+pub answer_turned : {T : Type 0} (r : Option T) (P P' : Type 0) (Q Q' : T → Type 0) → (P → P') → ((t : T) → Q t → Q' t) → MatchOption r P Q
+    → MatchOption r P' Q'
 answer_turned None P P' Q Q' f g h = f h
 answer_turned (Some t) P P' Q Q' f g h = g t h
 
 -- two rules that say the same have one least table
-pub least_alike : (R S : (ℕ → ℕ) → ℕ → Type 0) (count : ℕ) (table : List ℕ) → ((q : ℕ → ℕ) (m : ℕ) → R q m ↔ S q m) → IsLeast R count table → IsLeast S count table
+pub least_alike : (R S : (ℕ → ℕ) → ℕ → Type 0) (count : ℕ) (table : List ℕ) → ((q : ℕ → ℕ) (m : ℕ) → R q m ↔ S q m) → IsLeast R count table
+    → IsLeast S count table
 least_alike R S count table same l = record {
   long = l.long;
   keeps = record { each = λ n lt. (same (slice_index table) n).0 (l.keeps.each n lt) };
@@ -92,19 +94,22 @@ asked_none P table w = record {
 }
 
 -- one more sort of edges
-pub asked_more : (P : ℕ → ℕ → Type 0) (table : List ℕ) (w i x y : ℕ) → IsAsked (Before P i) table w x → IsAsked (P i) table w y → IsAsked (Before P (i + 1)) table w (max x y)
+pub asked_more : (P : ℕ → ℕ → Type 0) (table : List ℕ) (w i x y : ℕ) → IsAsked (Before P i) table w x → IsAsked (P i) table w y
+    → IsAsked (Before P (i + 1)) table w (max x y)
 asked_more P table w i x y a b =
     asked_alike (λ n. Before P i n ⊎ P i n) (Before P (i + 1)) table w (max x y) (before_more P i) (asked_either (Before P i) (P i) table w x y a b)
 
 -- one that asks for no more
-pub asked_same : (P : ℕ → ℕ → Type 0) (table : List ℕ) (w i x : ℕ) → IsAsked (Before P i) table w x → ((n : ℕ) → P i n → w + slice_index table n ≤ x) → IsAsked (Before P (i + 1)) table w x
+pub asked_same : (P : ℕ → ℕ → Type 0) (table : List ℕ) (w i x : ℕ) → IsAsked (Before P i) table w x → ((n : ℕ) → P i n → w + slice_index table n ≤ x)
+    → IsAsked (Before P (i + 1)) table w x
 asked_same P table w i x a le = record {
   covers = λ n h. elim ((before_more P i n).1 h) [ inl b ↦ a.covers n b | inr here ↦ le n here ];
   attained = elim a.attained [ inl z ↦ inl z | inr h ↦ inr (h.0, (before_more P i h.0).0 (inl h.1), h.2) ];
 }
 
 -- one that asks for more
-pub asked_up : (P : ℕ → ℕ → Type 0) (table : List ℕ) (w i x m : ℕ) → IsAsked (Before P i) table w x → x ≤ w + slice_index table m → P i m → ((n : ℕ) → P i n → n ≡ m) → IsAsked (Before P (i + 1)) table w (w + slice_index table m)
+pub asked_up : (P : ℕ → ℕ → Type 0) (table : List ℕ) (w i x m : ℕ) → IsAsked (Before P i) table w x → x ≤ w + slice_index table m → P i m
+    → ((n : ℕ) → P i n → n ≡ m) → IsAsked (Before P (i + 1)) table w (w + slice_index table m)
 asked_up P table w i x m a le is only = record {
   covers = λ n h. elim ((before_more P i n).1 h) [
     | inl b ↦ (let c = a.covers n b in omega (arith, c, le))

@@ -1,5 +1,6 @@
 -- Tables of least parts are the least tables.
-use Rattle.std.proofs.Common.{ℕ, zero, suc, ◌≡◌, ◌<◌, ◌≤◌, ◌+◌, ◌⊎◌, inl, inr, max, Option, Some, None, List, [], ◌∷◌, length, map, slice_get, option_map, refl, sym, ◌∙◌, subst, ap, arith}
+use Rattle.std.proofs.Common.{ℕ, zero, suc, ◌≡◌, ◌<◌, ◌≤◌, ◌+◌, ◌⊎◌, inl, inr, max, Option, Some, None, List, [], ◌∷◌, length, map, slice_get, option_map, refl}
+use Rattle.std.proofs.Common.{sym, ◌∙◌, subst, ap, arith}
 use Rattle.std.specs.Prelude.{slice_index, nat_lt}
 use Rattle.std.proofs.lemmas.List.{length-map}
 use Rattle.std.proofs.lemmas.Option.{slice_get_cases, slice_get_within}
@@ -39,7 +40,8 @@ pub record AreOf (p : Program) (q : Tables) (ends priorities weights bounds : Li
   pub bounds_are : q.bounds ≡ bounds
   pub budget_is : q.budget ≡ max (slice_index bounds 0) (entry_number (slice_index weights) (entry_of p 0))
 
-order_kept : (p : Program) (priorities : List ℕ) → IsLeast (Falls (InOrder p)) (length p.nodes) priorities → (q : Tables) → ((n : ℕ) → priority q n ≡ slice_index priorities n) → (m n w : ℕ) → m < length p.nodes → InOrder p m n w → w + priority q n ≤ priority q m
+order_kept : (p : Program) (priorities : List ℕ) → IsLeast (Falls (InOrder p)) (length p.nodes) priorities → (q : Tables)
+    → ((n : ℕ) → priority q n ≡ slice_index priorities n) → (m n w : ℕ) → m < length p.nodes → InOrder p m n w → w + priority q n ≤ priority q m
 order_kept p priorities l q same m n w lt edge =
     let h = (l.keeps.each m lt).falls n w edge in
     let a = same m in
@@ -71,7 +73,8 @@ flow_at p q h (place.Variable x) = tt
 flow_at p q h (place.Thread t) = tt
 flow_at p q h (place.Node n) = tt
 
-protocol_at : (p : Program) (q : Tables) → ((m n w : ℕ) → m < length p.nodes → InOrder p m n w → w + priority q n ≤ priority q m) → (at : Place) → ProtocolAt p q at
+protocol_at : (p : Program) (q : Tables) → ((m n w : ℕ) → m < length p.nodes → InOrder p m n w → w + priority q n ≤ priority q m) → (at : Place)
+    → ProtocolAt p q at
 protocol_at p q h (place.Pair m n) = λ e. let a = h m n 1 (order_within p m n 1 (inr (e, refl))) (inr (e, refl)) in omega (arith, a)
 protocol_at p q h place.Image = tt
 protocol_at p q h (place.Variable x) = tt
@@ -79,7 +82,8 @@ protocol_at p q h (place.Thread t) = tt
 protocol_at p q h (place.Node n) = tt
 
 -- the priorities of tables that keep both rules
-order_keeps : (p : Program) (q : Tables) → ((at : Place) → FlowAt p q at) → ((at : Place) → ProtocolAt p q at) → Keeps (Falls (InOrder p)) (length p.nodes) (priority q)
+order_keeps : (p : Program) (q : Tables) → ((at : Place) → FlowAt p q at) → ((at : Place) → ProtocolAt p q at)
+    → Keeps (Falls (InOrder p)) (length p.nodes) (priority q)
 order_keeps p q flow protocol = record {
   each = λ m lt. record {
     falls = λ n w edge. elim edge [
@@ -89,7 +93,8 @@ order_keeps p q flow protocol = record {
   };
 }
 
-bound_at : (p : Program) → IsFormed p → (w b : ℕ → ℕ) (q : Tables) → AreCovering p w b → ((n : ℕ) → weight q n ≡ w n) → ((t : ℕ) → bound q t ≡ b t) → BudgetHolds p q → (at : Place) → BoundAt p q at
+bound_at : (p : Program) → IsFormed p → (w b : ℕ → ℕ) (q : Tables) → AreCovering p w b → ((n : ℕ) → weight q n ≡ w n) → ((t : ℕ) → bound q t ≡ b t)
+    → BudgetHolds p q → (at : Place) → BoundAt p q at
 bound_at p formed w b q covering weights bounds budget (place.Thread t) = λ a there. record {
   depths = λ d next owned at.
       let h = (covering.each d (step_within p d (step.Depth next) at)).covered t (step.Depth next) owned at in
@@ -117,7 +122,8 @@ thread_there : (p : Program) (t : ℕ) → t < length p.threads → (a : Thread)
 thread_there p t lt = elim ((slice_get_cases p.threads t).1) [ inl a ↦ (a.0, a.2) | inr none ↦ (let le = none.0 in absurd (omega (arith, lt, le))) ]
 
 -- the bounds of tables that keep the rules cover all nodes by smaller weights
-bounds_cover : (p : Program) → IsFormed p → (w : ℕ → ℕ) (q : Tables) → ((n : ℕ) → w n ≤ weight q n) → ((at : Place) → BoundAt p q at) → AreCovering p w (bound q)
+bounds_cover : (p : Program) → IsFormed p → (w : ℕ → ℕ) (q : Tables) → ((n : ℕ) → w n ≤ weight q n) → ((at : Place) → BoundAt p q at)
+    → AreCovering p w (bound q)
 bounds_cover p formed w q le holds = record {
   each = λ n lt. record {
     covered = λ t s owned at.
@@ -143,7 +149,8 @@ bounds_cover p formed w q le holds = record {
     by n t (step.Surf m) owned at stays h = omega arith
     by n t step.Exit owned at stays h = omega arith
 
-pub assembled_least : (p : Program) → IsFormed p → (q : Tables) (ends priorities weights bounds : List ℕ) → AreParts p ends priorities weights bounds → AreOf p q ends priorities weights bounds → AreLeast p q
+pub assembled_least : (p : Program) → IsFormed p → (q : Tables) (ends priorities weights bounds : List ℕ) → AreParts p ends priorities weights bounds
+    → AreOf p q ends priorities weights bounds → AreLeast p q
 assembled_least p formed q ends priorities weights bounds parts of = record {
   long = record {
     priorities = ap length of.priorities_are ∙ parts.order.long;
@@ -162,8 +169,10 @@ assembled_least p formed q ends priorities weights bounds parts of = record {
     });
   };
   least = λ r keeps.
-      let weights_le : (n : ℕ) → slice_index weights n ≤ weight r n = λ n. parts.weights_least.least (weight r) (weights_keep p ends parts.end_bits r keeps.end_bit keeps.weight) n in
-      let bounds_le : (t : ℕ) → slice_index bounds t ≤ bound r t = λ t. parts.covering.under.below (bound r) (bounds_cover p formed (slice_index weights) r weights_le keeps.bound) t in
+      let weights_le : (n : ℕ) → slice_index weights n ≤ weight r n = λ n. parts.weights_least.least (weight r)
+      (weights_keep p ends parts.end_bits r keeps.end_bit keeps.weight) n in
+      let bounds_le : (t : ℕ) → slice_index bounds t ≤ bound r t = λ t. parts.covering.under.below (bound r)
+      (bounds_cover p formed (slice_index weights) r weights_le keeps.bound) t in
       let budget = keeps.bound place.Image in
       record {
         end_bits = λ n set. bits_below p ends parts.end_bits r keeps.end_bit n (sym (end_bit_is q ends of.ends_are n) ∙ set);
@@ -199,7 +208,8 @@ past (x ∷ xs) zero le = absurd (omega (arith, le))
 past (x ∷ xs) (suc n) le = past xs n (omega (arith, le))
 
 -- numbers within the number of nodes fit 16 bits
-pub small_entries : (p : Program) → IsFormed p → (xs : List ℕ) → length xs ≡ length p.nodes → IsWithin (length p.nodes) (length p.nodes) (slice_index xs) → (n : ℕ) → slice_index xs n ≤ 65535
+pub small_entries : (p : Program) → IsFormed p → (xs : List ℕ) → length xs ≡ length p.nodes → IsWithin (length p.nodes) (length p.nodes) (slice_index xs)
+    → (n : ℕ) → slice_index xs n ≤ 65535
 small_entries p formed xs long within n = elim (less_or_not n (length p.nodes)) [
   | inl lt ↦ (let a = within.each n lt in let b = (formed.size place.Image).nodes in omega (arith, a, b))
   | inr le ↦ (let a = past xs n (omega (arith, le, long)) in omega (arith, a))

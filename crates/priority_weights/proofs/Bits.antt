@@ -22,7 +22,8 @@ entry_more : (e f : ℕ → Bool) → ((n : ℕ) → e n ≡ true → f n ≡ tr
 entry_more e f more None h = h
 entry_more e f more (Some n) h = more n h
 
-pub entries_more : (p : Program) (e f : ℕ → Bool) → ((n : ℕ) → e n ≡ true → f n ≡ true) → (children : List ℕ) → entry_bits p e children ≡ true → entry_bits p f children ≡ true
+pub entries_more : (p : Program) (e f : ℕ → Bool) → ((n : ℕ) → e n ≡ true → f n ≡ true) → (children : List ℕ) → entry_bits p e children ≡ true
+    → entry_bits p f children ≡ true
 entries_more p e f more [] h = refl
 entries_more p e f more (k ∷ children) h =
     and_more (entry_bit e (entry_of p k)) (entry_bits p e children) (entry_bit f (entry_of p k)) (entry_bits p f children)
@@ -49,7 +50,8 @@ pub bits_more : (q r : ℕ → ℕ) → ((n : ℕ) → q n ≤ r n) → (n : ℕ
 bits_more q r le n h = let a = positive (q n) h in let b = le n in positive_bit (r n) (omega (arith, a, b))
 
 -- a step that may end asks for 1
-pub bit_asked : (p : Program) (table : List ℕ) (n : ℕ) (s : Step) → n < length table → step_at p n ≡ Some s → step_bit p (bits (slice_index table)) s ≡ true → IsNeeded (BitKept p) table n 1
+pub bit_asked : (p : Program) (table : List ℕ) (n : ℕ) (s : Step) → n < length table → step_at p n ≡ Some s → step_bit p (bits (slice_index table)) s ≡ true
+    → IsNeeded (BitKept p) table n 1
 bit_asked p table n s lt at may = record {
   enough = λ le. record { kept = λ t is ends. omega (arith, le) };
   least = λ q keeps below. above q keeps below;

@@ -1,5 +1,6 @@
 -- Bounds that rise to the least ones that cover all nodes, and bounds within a number that do cover them.
-use Rattle.std.proofs.Common.{ℕ, ◌≡◌, ◌<◌, ◌≤◌, ◌+◌, ◌*◌, ◌-◌, inl, inr, Bool, true, false, cond, Some, List, [], ◌∷◌, length, get_or, sum, refl, sym, ◌∙◌, subst, ap, arith, get_or-set_other, get_or-set_same}
+use Rattle.std.proofs.Common.{ℕ, ◌≡◌, ◌<◌, ◌≤◌, ◌+◌, ◌*◌, ◌-◌, inl, inr, Bool, true, false, cond, Some, List, [], ◌∷◌, length, get_or, sum, refl, sym, ◌∙◌}
+use Rattle.std.proofs.Common.{subst, ap, arith, get_or-set_other, get_or-set_same}
 use Rattle.std.specs.Prelude.{slice_index, nat_lt, All}
 use Rattle.std.proofs.Math.ListN.{set}
 use Rattle.std.proofs.Math.Nat.{mul-le-mul_left, mul-add}
@@ -56,7 +57,8 @@ itself_small threads t some = chosen (nat_lt t threads) refl
 pub thread_tree : (p : Program) → IsFormed p → IsTree (itself (length p.threads)) (parent_of p) (length p.threads)
 thread_tree p formed = record {
   small = λ y. let some = (formed.size place.Image).some_thread in itself_small (length p.threads) y (omega (arith, some));
-  falls = λ k z lt up. let less = (falls_upwards p formed).falls k z up in let is = itself_is (length p.threads) z (omega (arith, less, lt)) in omega (arith, less, is);
+  falls = λ k z lt up. let less = (falls_upwards p formed).falls k z up in let is = itself_is (length p.threads) z (omega (arith, less, lt)) in
+      omega (arith, less, is);
 }
 
 -- how many threads are this one or below it
@@ -68,7 +70,8 @@ family_small p t = total_small (reach (itself (length p.threads)) (parent_of p) 
     (λ y. reach_small (itself (length p.threads)) (parent_of p) (length p.threads) t (λ z. true) y)
 
 -- the families of children are apart
-pub family_parts : (p : Program) → IsFormed p → (t : ℕ) (ks : List ℕ) → t < length p.threads → AllOf (λ k. parent_of p k ≡ Some t) ks → AreDistinct ks → sum_over (family p) ks + 1 ≤ family p t
+pub family_parts : (p : Program) → IsFormed p → (t : ℕ) (ks : List ℕ) → t < length p.threads → AllOf (λ k. parent_of p k ≡ Some t) ks → AreDistinct ks
+    → sum_over (family p) ks + 1 ≤ family p t
 family_parts p formed t ks lt parents distinct =
     let is = itself_is (length p.threads) t lt in
     let h = parts (itself (length p.threads)) (parent_of p) (length p.threads) (thread_tree p formed) t (λ y. false) (λ y. true) ks (record {
@@ -78,11 +81,14 @@ family_parts p formed t ks lt parents distinct =
       under = under is ks parents;
       apart = apart_of ks distinct;
     }) (λ k y. true) (length p.threads) lt in
-    let same : total (reach (itself (length p.threads)) (parent_of p) (length p.threads) (itself (length p.threads) t) (λ y. true)) (length p.threads) ≡ family p t = ap (family p) is in
+    let same : total (reach (itself (length p.threads)) (parent_of p) (length p.threads) (itself (length p.threads) t) (λ y. true)) (length p.threads)
+    ≡ family p t = ap (family p) is in
     omega (arith, h, same)
   where
-    under : itself (length p.threads) t ≡ t → (xs : List ℕ) → AllOf (λ k. parent_of p k ≡ Some t) xs → AllOf (λ k. (itself (length p.threads) t < k) × (parent_of p k ≡ Some t)) xs
-    under is xs h = all_map (λ k. parent_of p k ≡ Some t) (λ k. (itself (length p.threads) t < k) × (parent_of p k ≡ Some t)) (λ k up. let less = (falls_upwards p formed).falls k t up in (omega (arith, less, is), up)) xs h
+    under : itself (length p.threads) t ≡ t → (xs : List ℕ) → AllOf (λ k. parent_of p k ≡ Some t) xs
+        → AllOf (λ k. (itself (length p.threads) t < k) × (parent_of p k ≡ Some t)) xs
+    under is xs h = all_map (λ k. parent_of p k ≡ Some t) (λ k. (itself (length p.threads) t < k) × (parent_of p k ≡ Some t))
+        (λ k up. let less = (falls_upwards p formed).falls k t up in (omega (arith, less, is), up)) xs h
 
 -- so many nodes for each thread of the family
 abbrev pub ample : Program → ℕ → ℕ
@@ -98,7 +104,8 @@ ample_more p x y le =
     let b = mul-add (length p.nodes) x 1 in
     omega (arith, a, b)
 
-ample_step : (p : Program) → IsFormed p → (w : ℕ → ℕ) → IsWithin (length p.nodes) (length p.nodes) w → (n t : ℕ) (s : Step) → n < length p.nodes → t < length p.threads →
+ample_step : (p : Program) → IsFormed p → (w : ℕ → ℕ) → IsWithin (length p.nodes) (length p.nodes) w → (n t : ℕ) (s : Step) → n < length p.nodes
+    → t < length p.threads →
     owner_of p n ≡ Some t → step_at p n ≡ Some s → StepFits p s → step_cost w (ample p) n s ≤ ample p t
 ample_step p formed w within n t (step.Depth m) below lt owned at fits =
     let one = family_parts p formed t [] lt tt distinct_none in
@@ -137,14 +144,16 @@ ample_small p formed t =
     mul-le (length p.nodes) (family p t) 16384 1024 nodes (omega (arith, family_le, threads))
 
 -- what a step asks is no more than what bounds that cover all nodes have
-pub cost_least : (p : Program) (w : ℕ → ℕ) (bounds : List ℕ) → AreUnder p w bounds → (n t : ℕ) (s : Step) → n < length p.nodes → owner_of p n ≡ Some t → step_at p n ≡ Some s →
+pub cost_least : (p : Program) (w : ℕ → ℕ) (bounds : List ℕ) → AreUnder p w bounds → (n t : ℕ) (s : Step) → n < length p.nodes → owner_of p n ≡ Some t
+    → step_at p n ≡ Some s →
     (b : ℕ → ℕ) → AreCovering p w b → step_cost w (slice_index bounds) n s ≤ b t
 cost_least p w bounds under n t s lt owned at b covering =
     let more = cost_more w w (slice_index bounds) b (λ m. omega arith) (under.below b covering) n s in
     let h = (covering.each n lt).covered t s owned at in
     omega (arith, more, h)
 
-pub cost_small : (p : Program) → IsFormed p → (w : ℕ → ℕ) → IsWithin (length p.nodes) (length p.nodes) w → (bounds : List ℕ) → AreUnder p w bounds → (n t : ℕ) (s : Step) → n < length p.nodes → owner_of p n ≡ Some t → step_at p n ≡ Some s →
+pub cost_small : (p : Program) → IsFormed p → (w : ℕ → ℕ) → IsWithin (length p.nodes) (length p.nodes) w → (bounds : List ℕ) → AreUnder p w bounds
+    → (n t : ℕ) (s : Step) → n < length p.nodes → owner_of p n ≡ Some t → step_at p n ≡ Some s →
     step_cost w (slice_index bounds) n s ≤ 16777216
 cost_small p formed w within bounds under n t s lt owned at =
     let a = cost_least p w bounds under n t s lt owned at (ample p) (ample_covers p formed w within) in
@@ -157,7 +166,8 @@ sum-set_more xs i y lt more =
     omega (arith, h, more)
 
 -- a bound that is raised to what a node asks
-pub bound_raised : (p : Program) (w : ℕ → ℕ) (bounds : List ℕ) → AreUnder p w bounds → (n t : ℕ) (s : Step) → n < length p.nodes → t < length bounds → owner_of p n ≡ Some t → step_at p n ≡ Some s →
+pub bound_raised : (p : Program) (w : ℕ → ℕ) (bounds : List ℕ) → AreUnder p w bounds → (n t : ℕ) (s : Step) → n < length p.nodes → t < length bounds
+    → owner_of p n ≡ Some t → step_at p n ≡ Some s →
     (x : ℕ) → x ≡ step_cost w (slice_index bounds) n s → slice_index bounds t < x → IsRaised p w bounds (set bounds t x)
 bound_raised p w bounds under n t s lt within owned at x is less = record {
   under = record {
@@ -176,9 +186,11 @@ bound_raised p w bounds under n t s lt within owned at x is less = record {
 }
 
 -- a node that is covered
-pub covered_at : (p : Program) (w : ℕ → ℕ) (bounds : List ℕ) (m t : ℕ) (s : Step) → owner_of p m ≡ Some t → step_at p m ≡ Some s → (x : ℕ) → x ≡ step_cost w (slice_index bounds) m s → x ≤ slice_index bounds t →
+pub covered_at : (p : Program) (w : ℕ → ℕ) (bounds : List ℕ) (m t : ℕ) (s : Step) → owner_of p m ≡ Some t → step_at p m ≡ Some s → (x : ℕ)
+    → x ≡ step_cost w (slice_index bounds) m s → x ≤ slice_index bounds t →
     (n : ℕ) → n ≡ m → IsCovered p w (slice_index bounds) n
-covered_at p w bounds m t s owned at x is le n e = let P : ℕ → Type 0 = λ k. IsCovered p w (slice_index bounds) k in subst P (sym e) (record { covered = λ u r own there. same u r own there })
+covered_at p w bounds m t s owned at x is le n e = let P : ℕ → Type 0 = λ k. IsCovered p w (slice_index bounds) k in
+    subst P (sym e) (record { covered = λ u r own there. same u r own there })
   where
     same : (u : ℕ) (r : Step) → owner_of p m ≡ Some u → step_at p m ≡ Some r → step_cost w (slice_index bounds) m r ≤ slice_index bounds u
     same u r own there =
@@ -192,9 +204,11 @@ pub zeros_under : (p : Program) (w : ℕ → ℕ) (bounds : List ℕ) → length
 zeros_under p w bounds long zeros = record { long = long; below = λ b covering t. let z = zeros t in omega (arith, z) }
 
 -- what is left falls as the sum grows
-pub sum_left : (old new : List ℕ) (count : ℕ) → length new ≡ count → ((t : ℕ) → slice_index new t ≤ 4294967296) → sum old < sum new → count * 4294967296 - sum new < count * 4294967296 - sum old
+pub sum_left : (old new : List ℕ) (count : ℕ) → length new ≡ count → ((t : ℕ) → slice_index new t ≤ 4294967296) → sum old < sum new
+    → count * 4294967296 - sum new < count * 4294967296 - sum old
 sum_left old new count long small more =
-    let all : All (λ x. x ≤ 4294967296) new = λ n d lt. let same : get_or new n d ≡ get_or new n 0 = get_or_default_zero new n d lt in let w = small n in omega (arith, same, w) in
+    let all : All (λ x. x ≤ 4294967296) new = λ n d lt. let same : get_or new n d ≡ get_or new n 0 = get_or_default_zero new n d lt in let w = small n in
+    omega (arith, same, w) in
     let h : sum new ≤ length new * 4294967296 = sum_by-le (λ x. x) 4294967296 new all in
     let P : ℕ → Type 0 = λ c. sum new ≤ c * 4294967296 in
     let k : sum new ≤ count * 4294967296 = subst P long h in

@@ -1,5 +1,6 @@
 -- The rules of tables, said of one table at a time, and of all tables together.
-use Rattle.std.proofs.Common.{ℕ, zero, suc, ◌≡◌, ◌<◌, Bool, true, false, ◌&&◌, Option, Some, None, List, [], ◌∷◌, length, map, get_or, slice_get, refl, sym, ◌∙◌, ap, arith}
+use Rattle.std.proofs.Common.{ℕ, zero, suc, ◌≡◌, ◌<◌, Bool, true, false, ◌&&◌, Option, Some, None, List, [], ◌∷◌, length, map, get_or, slice_get, refl, sym}
+use Rattle.std.proofs.Common.{◌∙◌, ap, arith}
 use Rattle.std.specs.Prelude.{slice_index, nat_lt, unwrap_or, if◌then◌else◌}
 use Rattle.sc_graph.specs.declared.program.Step.{Step}
 use Rattle.sc_graph.specs.declared.program.Step.TheVariants as step
@@ -61,7 +62,8 @@ bits_keep p q h = record {
 }
 
 -- the least bits are set where those of all tables that keep the rule are
-pub bits_below : (p : Program) (ends : List ℕ) → IsLeast (BitKept p) (length p.nodes) ends → (q : Tables) → ((at : Place) → EndBitAt p q at) → (n : ℕ) → bits (slice_index ends) n ≡ true → end_bit q n ≡ true
+pub bits_below : (p : Program) (ends : List ℕ) → IsLeast (BitKept p) (length p.nodes) ends → (q : Tables) → ((at : Place) → EndBitAt p q at) → (n : ℕ)
+    → bits (slice_index ends) n ≡ true → end_bit q n ≡ true
 bits_below p ends l q h n set =
     let a = positive (slice_index ends n) set in
     let b = l.least (λ m. mark (end_bit q m)) (bits_keep p q h) n in
@@ -76,7 +78,8 @@ bit_stands (x ∷ xs) (suc n) = bit_stands xs n
 pub end_bit_is : (q : Tables) (ends : List ℕ) → q.end_bits ≡ map (nat_lt 0) ends → (n : ℕ) → end_bit q n ≡ bits (slice_index ends) n
 end_bit_is q ends is n = ap (λ (bs : List Bool). unwrap_or (slice_get bs n) false) is ∙ bit_stands ends n
 
-pub bits_kept : (p : Program) (ends : List ℕ) → IsLeast (BitKept p) (length p.nodes) ends → (q : Tables) → ((n : ℕ) → end_bit q n ≡ bits (slice_index ends) n) → (at : Place) → EndBitAt p q at
+pub bits_kept : (p : Program) (ends : List ℕ) → IsLeast (BitKept p) (length p.nodes) ends → (q : Tables) → ((n : ℕ) → end_bit q n ≡ bits (slice_index ends) n)
+    → (at : Place) → EndBitAt p q at
 bits_kept p ends l q is (place.Node n) = λ s at may.
     let e = step_more p (end_bit q) (bits (slice_index ends)) (λ m x. sym (is m) ∙ x) s (step_bit_is p q s ∙ may) in
     let h = (l.keeps.each n (step_within p n s at)).kept s at e in
@@ -111,7 +114,8 @@ step_weight_is p q (step.Depth m) = refl
 step_weight_is p q step.Exit = refl
 
 -- the weights of tables that keep both rules keep the rule by the least end bits
-pub weights_keep : (p : Program) (ends : List ℕ) → IsLeast (BitKept p) (length p.nodes) ends → (q : Tables) → ((at : Place) → EndBitAt p q at) → ((at : Place) → WeightAt p q at) →
+pub weights_keep : (p : Program) (ends : List ℕ) → IsLeast (BitKept p) (length p.nodes) ends → (q : Tables) → ((at : Place) → EndBitAt p q at)
+    → ((at : Place) → WeightAt p q at) →
     Keeps (WeightKept p (bits (slice_index ends))) (length p.nodes) (weight q)
 weights_keep p ends l q h w = record {
   each = λ n lt. record {
@@ -123,10 +127,12 @@ weights_keep p ends l q h w = record {
   };
 }
 
-pub weights_kept : (p : Program) (ends weights : List ℕ) → IsLeast (WeightKept p (bits (slice_index ends))) (length p.nodes) weights → (q : Tables) → ((n : ℕ) → end_bit q n ≡ bits (slice_index ends) n) →
+pub weights_kept : (p : Program) (ends weights : List ℕ) → IsLeast (WeightKept p (bits (slice_index ends))) (length p.nodes) weights → (q : Tables)
+    → ((n : ℕ) → end_bit q n ≡ bits (slice_index ends) n) →
     ((n : ℕ) → weight q n ≡ slice_index weights n) → (at : Place) → WeightAt p q at
 weights_kept p ends weights l q is same (place.Node n) = λ s at.
-    let a = weight_more p (end_bit q) (bits (slice_index ends)) (weight q) (slice_index weights) (λ m x. sym (is m) ∙ x) (λ m. let e = same m in omega (arith, e)) s in
+    let a = weight_more p (end_bit q) (bits (slice_index ends)) (weight q) (slice_index weights) (λ m x. sym (is m) ∙ x) (λ m. let e = same m in
+    omega (arith, e)) s in
     let b = step_weight_is p q s in
     let c = (l.keeps.each n (step_within p n s at)).kept s at in
     let e = same n in

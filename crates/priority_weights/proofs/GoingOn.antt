@@ -15,10 +15,12 @@ nothing_in : (n : ℕ) → ¬ Contains [] n
 nothing_in n c = let lt = c.1 in omega (arith, lt)
 
 -- where there is a join at once, the step is such a fork
-join_of : (p : Program) (e : ℕ → Bool) (s : Step) (j : ℕ) → join_at_once p e s ≡ Some j → (children : List ℕ) × (s ≡ step.Fork children j) × (entry_bits p e children ≡ true)
+join_of : (p : Program) (e : ℕ → Bool) (s : Step) (j : ℕ) → join_at_once p e s ≡ Some j → (children : List ℕ) × (s ≡ step.Fork children j)
+    × (entry_bits p e children ≡ true)
 join_of p e (step.Fork children join) j h = chosen (entry_bits p e children) refl h
   where
-    chosen : (b : Bool) → entry_bits p e children ≡ b → (if b then Some join else None) ≡ Some j → (ks : List ℕ) × (step.Fork children join ≡ step.Fork ks j) × (entry_bits p e ks ≡ true)
+    chosen : (b : Bool) → entry_bits p e children ≡ b → (if b then Some join else None) ≡ Some j → (ks : List ℕ) × (step.Fork children join ≡ step.Fork ks j)
+        × (entry_bits p e ks ≡ true)
     chosen true is k = (children, (let same : join ≡ j = cc in cc), is)
     chosen false is k = absurd (cc)
 join_of p e (step.Assign x code n) j h = absurd (cc)
@@ -52,7 +54,8 @@ on_over p q m j s at is n = (
         cc
 
 -- else to the successors
-pub on_plainly : (p : Program) (q : ℕ → ℕ) (m : ℕ) (s : Step) → step_at p m ≡ Some s → join_at_once p (bits q) s ≡ None → (n : ℕ) → Contains (successors s) n ↔ GoesOnBy p q m n
+pub on_plainly : (p : Program) (q : ℕ → ℕ) (m : ℕ) (s : Step) → step_at p m ≡ Some s → join_at_once p (bits q) s ≡ None → (n : ℕ) → Contains (successors s) n
+    ↔ GoesOnBy p q m n
 on_plainly p q m s at none n = (λ c. successor s at c, λ on. back on)
   where
     back : GoesOnBy p q m n → Contains (successors s) n
@@ -85,7 +88,8 @@ on_towards p q Nodes ranks m below r is h = answer_turned r _ _ _ _
     (λ n found. record { weight = 1; edge = ((is n).0 found.0, refl); ranked = found.1.ranked; falls = found.1.falls })
     h
 
-pub on_strictly : (p : Program) (q : ℕ → ℕ) (Nodes : ℕ → Type 0) (ranks : List ℕ) (m below : ℕ) (r : Option ℕ) → ((n : ℕ) → slice_index ranks n < below) → ((n : ℕ) → Nodes n ↔ GoesOnBy p q m n) →
+pub on_strictly : (p : Program) (q : ℕ → ℕ) (Nodes : ℕ → Type 0) (ranks : List ℕ) (m below : ℕ) (r : Option ℕ) → ((n : ℕ) → slice_index ranks n < below)
+    → ((n : ℕ) → Nodes n ↔ GoesOnBy p q m n) →
     MatchOption r ((n : ℕ) → Nodes n → ¬ IsRanked ranks below n) (λ n. Nodes n × IsRanked ranks below n) →
     MatchOption r ((n : ℕ) → ¬ LeadsStrictlyTo (LeadsOn p q) ranks m n) (LeadsStrictlyTo (LeadsOn p q) ranks m)
 on_strictly p q Nodes ranks m below r small is h = answer_turned r _ _ _ _
@@ -94,24 +98,28 @@ on_strictly p q Nodes ranks m below r small is h = answer_turned r _ _ _ _
     h
 
 -- the join of a fork is at once where its children may all end, and else not
-pub join_told : (p : Program) (e : ℕ → Bool) (s : Step) (children : List ℕ) (j : ℕ) → s ≡ step.Fork children j → entry_bits p e children ≡ true → Some j ≡ join_at_once p e s
+pub join_told : (p : Program) (e : ℕ → Bool) (s : Step) (children : List ℕ) (j : ℕ) → s ≡ step.Fork children j → entry_bits p e children ≡ true
+    → Some j ≡ join_at_once p e s
 join_told p e s children j is h =
     let P : Step → Type 0 = λ x. Some j ≡ join_at_once p e x in
     subst P (sym is) (sym (of_join p e children j h))
 
-pub no_join_told : (p : Program) (e : ℕ → Bool) (s : Step) (children : List ℕ) (j : ℕ) → s ≡ step.Fork children j → entry_bits p e children ≡ false → None ≡ join_at_once p e s
+pub no_join_told : (p : Program) (e : ℕ → Bool) (s : Step) (children : List ℕ) (j : ℕ) → s ≡ step.Fork children j → entry_bits p e children ≡ false
+    → None ≡ join_at_once p e s
 no_join_told p e s children j is h =
     let P : Step → Type 0 = λ x. None ≡ join_at_once p e x in
     let Q : Bool → Type 0 = λ b. None ≡ (if b then Some j else None) in
     subst P (sym is) (subst Q (sym h) refl)
 
 -- one node alone is next
-pub next_over : (p : Program) (q : ℕ → ℕ) (m j : ℕ) (s : Step) → step_at p m ≡ Some s → join_at_once p (bits q) s ≡ Some j → (n : ℕ) → ((Some j ≡ Some n) ⊎ (None ≡ Some n)) ↔ GoesOnBy p q m n
+pub next_over : (p : Program) (q : ℕ → ℕ) (m j : ℕ) (s : Step) → step_at p m ≡ Some s → join_at_once p (bits q) s ≡ Some j → (n : ℕ)
+    → ((Some j ≡ Some n) ⊎ (None ≡ Some n)) ↔ GoesOnBy p q m n
 next_over p q m j s at is n =
     let f = on_over p q m j s at is n in
     (λ next. elim next [ inl e ↦ f.0 (cc) | inr e ↦ absurd (cc) ], λ on. inl (let e = f.1 on in cc))
 
-pub next_on : (p : Program) (q : ℕ → ℕ) (m : ℕ) (s : Step) (Nodes : ℕ → Type 0) → step_at p m ≡ Some s → join_at_once p (bits q) s ≡ None → ((n : ℕ) → Nodes n ↔ Contains (successors s) n) → (n : ℕ) → Nodes n ↔ GoesOnBy p q m n
+pub next_on : (p : Program) (q : ℕ → ℕ) (m : ℕ) (s : Step) (Nodes : ℕ → Type 0) → step_at p m ≡ Some s → join_at_once p (bits q) s ≡ None
+    → ((n : ℕ) → Nodes n ↔ Contains (successors s) n) → (n : ℕ) → Nodes n ↔ GoesOnBy p q m n
 next_on p q m s Nodes at none is n =
     let f = on_plainly p q m s at none n in
     (λ next. f.0 ((is n).0 next), λ on. (is n).1 (f.1 on))

@@ -4,7 +4,7 @@ use Rattle.std.specs.Prelude.{slice_index, ◌↔◌}
 use Rattle.sc_graph.specs.Program.{Program}
 use Rattle.sc_graph.specs.Protocol.{Instant, ProtocolEdge}
 use Rattle.conflict_edges.specs.declared.edges.Followers.{Followers}
-use Rattle.conflict_edges.specs.Conflicts.{AreFollowers}
+use Rattle.conflict_edges.specs.Followers.{AreFollowers}
 use Rattle.least_or_cycle.specs.Least.{IsNeeded, IsPart, Keeps}
 use Rattle.least_or_cycle.specs.Walks.{Falls, LeadsTo, LeadsStrictlyTo}
 use Rattle.priority_weights.specs.Edges.{InOrder}
@@ -12,13 +12,15 @@ use Rattle.priority_weights.specs.Inside.Ordered.{IsFollower}
 use Rattle.priority_weights.specs.Inside.Next.{IsAsked, IsRanked, IsSomeAsked}
 use Rattle.priority_weights.proofs.Asking.{falls_needed, falls_part, answer_turned}
 
-pub protocol_edges : (p : Program) (m : ℕ) (f : Followers) → AreFollowers p m f → (n : ℕ) → (IsFollower p m f.updates.now n ⊎ IsFollower p m f.reads.now n) ↔ ProtocolEdge p m n
+pub protocol_edges : (p : Program) (m : ℕ) (f : Followers) → AreFollowers p m f → (n : ℕ) → (IsFollower p m f.updates.now n ⊎ IsFollower p m f.reads.now n)
+    ↔ ProtocolEdge p m n
 protocol_edges p m f are n = (
   λ h. elim h [ inl u ↦ are.edge n (inl u.0) u.1 | inr r ↦ are.edge n (inr r.0) r.1 ],
   λ e. elim (are.each n e) [ inl u ↦ inl (u, e.concurrent) | inr r ↦ inr (r, e.concurrent) ],
 )
 
-pub order_needed : (p : Program) (table : List ℕ) (m x y : ℕ) → m < length table → IsAsked (Instant p m) table 0 x → IsAsked (ProtocolEdge p m) table 1 y → IsNeeded (Falls (InOrder p)) table m (max x y)
+pub order_needed : (p : Program) (table : List ℕ) (m x y : ℕ) → m < length table → IsAsked (Instant p m) table 0 x → IsAsked (ProtocolEdge p m) table 1 y
+    → IsNeeded (Falls (InOrder p)) table m (max x y)
 order_needed p table m x y lt a b = falls_needed (InOrder p) table m (max x y) lt
     (λ n w edge. elim edge [
       | inl e ↦ (let c = a.covers n e.0 in let z = e.1 in omega (arith, c, z))

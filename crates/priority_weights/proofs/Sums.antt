@@ -1,5 +1,6 @@
 -- Sums over the numbers of a list, and over the numbers below a bound.
-use Rattle.std.proofs.Common.{ℕ, zero, suc, ◌≡◌, ◌≢◌, ◌<◌, ◌≤◌, ◌+◌, ◌⊎◌, inl, inr, Bool, true, false, Some, List, [], ◌∷◌, slice_get, refl, sym, ◌∙◌, ap, arith, nat_eq, eqb-true, eq-eqb}
+use Rattle.std.proofs.Common.{ℕ, zero, suc, ◌≡◌, ◌≢◌, ◌<◌, ◌≤◌, ◌+◌, ◌⊎◌, inl, inr, Bool, true, false, Some, List, [], ◌∷◌, slice_get, refl, sym, ◌∙◌, ap}
+use Rattle.std.proofs.Common.{arith, nat_eq, eqb-true, eq-eqb}
 use Rattle.std.specs.Prelude.{Contains}
 use Rattle.std.proofs.lemmas.Option.{slice_get-get_or}
 use Rattle.sc_graph.specs.Size.{AreDistinct}

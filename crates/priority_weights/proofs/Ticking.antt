@@ -20,10 +20,15 @@ use Rattle.priority_weights.proofs.Assembly.{order_within}
 use Rattle.priority_weights.proofs.Bits.{entries_more}
 use Rattle.priority_weights.proofs.Bridging.{bits_below, bits_kept, end_bit_is, entry_bits_are}
 
-may_all : (p : Program) (ends : List ℕ) → IsLeast (BitKept p) (length p.nodes) ends → (ks : List ℕ) → entry_bits p (bits (slice_index ends)) ks ≡ true → MayAllEnd p ks
-may_all p ends l ks e = record { said = λ q h. sym (entry_bits_are p q ks) ∙ entries_more p (bits (slice_index ends)) (end_bit q) (bits_below p ends l q h) ks e }
+may_all : (p : Program) (ends : List ℕ) → IsLeast (BitKept p) (length p.nodes) ends → (ks : List ℕ) → entry_bits p (bits (slice_index ends)) ks ≡ true
+    → MayAllEnd p ks
+may_all p ends l ks e = record {
+  said = λ q h. sym (entry_bits_are p q ks) ∙ entries_more p (bits (slice_index ends)) (end_bit q)
+      (bits_below p ends l q h) ks e;
+}
 
-all_may : (p : Program) (ends : List ℕ) → IsLeast (BitKept p) (length p.nodes) ends → (ks : List ℕ) → MayAllEnd p ks → entry_bits p (bits (slice_index ends)) ks ≡ true
+all_may : (p : Program) (ends : List ℕ) → IsLeast (BitKept p) (length p.nodes) ends → (ks : List ℕ) → MayAllEnd p ks → entry_bits p (bits (slice_index ends)) ks
+    ≡ true
 all_may p ends l ks may =
     let q : Tables = record { priorities = []; weights = []; end_bits = map (nat_lt 0) ends; bounds = []; budget = 0 } in
     let e = may.said q (bits_kept p ends l q (end_bit_is q ends refl)) in
@@ -40,16 +45,19 @@ on_is p ends l m n w = (λ h. (there h.0, h.1), λ h. (back h.0, h.1))
     back (to_successor s at c) = successor s at c
     back (over_fork ks at may) = over ks at (all_may p ends l ks may)
 
-walk_map : (leads others : ℕ → ℕ → ℕ → Type 0) → ((m n w : ℕ) → leads m n w → others m n w) → (m : ℕ) (way : List ℕ) (n w : ℕ) → Walk leads m way n w → Walk others m way n w
+walk_map : (leads others : ℕ → ℕ → ℕ → Type 0) → ((m n w : ℕ) → leads m n w → others m n w) → (m : ℕ) (way : List ℕ) (n w : ℕ) → Walk leads m way n w
+    → Walk others m way n w
 walk_map leads others f m [] n w a = f m n w a
 walk_map leads others f m (k ∷ way) n w a = (a.0, a.1, f m k a.0 a.2, walk_map leads others f k way n a.1 a.3, a.4)
 
-closes_map : (leads others : ℕ → ℕ → ℕ → Type 0) → ((m n w : ℕ) → leads m n w → others m n w) → (walk : List ℕ) (w : ℕ) → Closes leads walk w → Closes others walk w
+closes_map : (leads others : ℕ → ℕ → ℕ → Type 0) → ((m n w : ℕ) → leads m n w → others m n w) → (walk : List ℕ) (w : ℕ) → Closes leads walk w
+    → Closes others walk w
 closes_map leads others f [] w c = c
 closes_map leads others f (m ∷ way) w c = walk_map leads others f m way m w c
 
 -- a search along edges, said of the same edges in other words
-pub falling_alike : (leads others : ℕ → ℕ → ℕ → Type 0) → ((m n w : ℕ) → leads m n w ↔ others m n w) → (count : ℕ) (f : Falling) → IsFalling leads count f → IsFalling others count f
+pub falling_alike : (leads others : ℕ → ℕ → ℕ → Type 0) → ((m n w : ℕ) → leads m n w ↔ others m n w) → (count : ℕ) (f : Falling) → IsFalling leads count f
+    → IsFalling others count f
 falling_alike leads others same count (falling.Table table) h = (
   least_alike (Falls leads) (Falls others) count table.items
       (λ q m. (λ x. record { falls = λ n w e. x.falls n w ((same m n w).1 e) }, λ x. record { falls = λ n w e. x.falls n w ((same m n w).0 e) })) h.0,

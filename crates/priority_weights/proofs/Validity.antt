@@ -9,7 +9,7 @@ use Rattle.sc_graph.specs.Limits.{budget_limit}
 use Rattle.sc_graph.specs.Codes.{AssignmentAt, CodeAt}
 use Rattle.sc_graph.specs.Protocol.{NoConflictAt}
 use Rattle.sc_graph.specs.Valid.{IsFormed, IsValid}
-use Rattle.conflict_edges.specs.Conflicts.{HasNoConflict}
+use Rattle.program_edges.specs.Conflicts.{HasNoConflict}
 use Rattle.priority_weights.specs.LeastTables.{AreLeast}
 
 budget_fits : (q : Tables) → q.budget ≤ budget_limit → (at : Place) → BudgetFitsAt q at
@@ -26,7 +26,8 @@ none_at p h (place.Variable x) = tt
 none_at p h (place.Thread t) = tt
 none_at p h (place.Node n) = tt
 
-pub least_valid : (p : Program) (q : Tables) → IsFormed p → ((at : Place) → CodeAt p at) → ((at : Place) → AssignmentAt p at) → HasNoConflict p → AreLeast p q → q.budget ≤ budget_limit → IsValid p q
+pub least_valid : (p : Program) (q : Tables) → IsFormed p → ((at : Place) → CodeAt p at) → ((at : Place) → AssignmentAt p at) → HasNoConflict p → AreLeast p q
+    → q.budget ≤ budget_limit → IsValid p q
 least_valid p q formed code assignment none least le = record {
   size = λ at. (formed.size at, budget_fits q le at);
   structure = formed.structure;

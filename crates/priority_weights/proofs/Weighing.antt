@@ -21,7 +21,8 @@ chosen_more true true x y f le = le
 chosen_more true false x y f le = absurd (let e = f refl in cc)
 chosen_more false b x y f le = omega arith
 
-pub weight_more : (p : Program) (e f : ℕ → Bool) (v w : ℕ → ℕ) → ((n : ℕ) → e n ≡ true → f n ≡ true) → ((n : ℕ) → v n ≤ w n) → (s : Step) → step_weight p e v s ≤ step_weight p f w s
+pub weight_more : (p : Program) (e f : ℕ → Bool) (v w : ℕ → ℕ) → ((n : ℕ) → e n ≡ true → f n ≡ true) → ((n : ℕ) → v n ≤ w n) → (s : Step)
+    → step_weight p e v s ≤ step_weight p f w s
 weight_more p e f v w more le (step.Assign x code next) = let a = le next in omega (arith, a)
 weight_more p e f v w more le (step.Update x g code next) = let a = le next in omega (arith, a)
 weight_more p e f v w more le (step.Cond code m n) = let a = le m in let b = le n in omega (arith, a, b)
@@ -34,7 +35,8 @@ weight_more p e f v w more le (step.Surf depth) = omega arith
 weight_more p e f v w more le (step.Depth next) = let a = le next in omega (arith, a)
 weight_more p e f v w more le step.Exit = omega arith
 
-pub weight_needed : (p : Program) (e : ℕ → Bool) (table : List ℕ) (n x : ℕ) (s : Step) → n < length table → step_at p n ≡ Some s → x ≡ step_weight p e (slice_index table) s → IsNeeded (WeightKept p e) table n x
+pub weight_needed : (p : Program) (e : ℕ → Bool) (table : List ℕ) (n x : ℕ) (s : Step) → n < length table → step_at p n ≡ Some s
+    → x ≡ step_weight p e (slice_index table) s → IsNeeded (WeightKept p e) table n x
 weight_needed p e table n x s lt at is = record {
   enough = λ le. record { kept = λ t at'. same t at' le };
   least = λ q keeps below.

@@ -21,7 +21,8 @@ use std::alloc::{AllocError, Global};
 // Above each rank.
 const ANY: u64 = 4294967296;
 
-/// Ranks that fall as a thread goes on within one tick, by the least end bits of a program; or a cycle. Err: memory was refused.
+/// Ranks that fall as a thread goes on within one tick, by the least end bits of a program; or a cycle. Err: memory was
+/// refused.
 pub(crate) fn going_on_ranks(
     alloc: Global,
     program: &Program,

@@ -1,7 +1,7 @@
 //! The law of least tables.
 
 ghost use Rattle.std.specs.Prelude.{◌≤◌};
-ghost use Rattle.conflict_edges.specs.Conflicts.{HasNoConflict};
+ghost use Rattle.program_edges.specs.Conflicts.{HasNoConflict};
 ghost use Rattle.sc_graph.specs.Codes.{AssignmentAt, CodeAt};
 ghost use Rattle.sc_graph.specs.Limits.{budget_limit};
 ghost use Rattle.sc_graph.specs.Program.{Program};

@@ -1,5 +1,6 @@
 -- The exchange that adds a tick keeps the law of the history.
-use Rattle.std.proofs.Common.{◌≡◌, ℕ, zero, suc, ◌+◌, ◌<◌, ◌≤◌, ◌==◌, Bool, true, false, List, [], ◌∷◌, ◌++◌, length, refl, ap, sym, subst, arith, inl, length-append, None}
+use Rattle.std.proofs.Common.{◌≡◌, ℕ, zero, suc, ◌+◌, ◌<◌, ◌≤◌, ◌==◌, Bool, true, false, List, [], ◌∷◌, ◌++◌, length, refl, ap, sym, subst, arith, inl}
+use Rattle.std.proofs.Common.{length-append, None}
 use Rattle.std.proofs.lemmas.List.{append-nil}
 use Rattle.std.proofs.lemmas.Bool.Decides.{nat_tests}
 use mathlib.Core.List.{IsPrefix}
@@ -17,10 +18,12 @@ moved xs ys n = Unit {0}
 
 module _ (v : List Outputs) (e : Outputs) (held : ℕ) where
   abbrev pub After : ℕ → List Cell → List Outputs → Type 0
-  After key cells log = Goes IsCounted shown moved key (v, (no_nib, None)) (λ n. either (n == held) (held + 1) n) (Adds (step key held (held + 1) e) (v, (no_nib, None))) cells log
+  After key cells log = Goes IsCounted shown moved key (v, (no_nib, None)) (λ n. either (n == held) (held + 1) n)
+      (Adds (step key held (held + 1) e) (v, (no_nib, None))) cells log
 
   -- the word that was found as expected stood at the end of what had been seen
-  low_whole : (log : List Outputs) (high : ℕ) → Counts held 0 (length v) → held < greatest → IsPrefix v log → Counts held high (length log) → (high ≡ 0) × (v ≡ log)
+  low_whole : (log : List Outputs) (high : ℕ) → Counts held 0 (length v) → held < greatest → IsPrefix v log → Counts held high (length log)
+      → (high ≡ 0) × (v ≡ log)
   low_whole log zero known room pre now = (refl, prefix_whole v log pre (omega (arith, known.sum, now.sum)))
   low_whole log (suc high) known room pre now =
       let full : held ≡ greatest = now.full (omega arith) in absurd (omega (arith, full, room))
@@ -38,7 +41,11 @@ module _ (v : List Outputs) (e : Outputs) (held : ℕ) where
           low = held + 1;
           high = 0;
           cells_are = rw (is, whole.0) refl;
-          counts = record { sum = omega (arith, length-append log (e ∷ []), ap length whole.1, known.sum); fits = omega (arith, room); full = λ h. absurd (omega (arith, h)) };
+          counts = record {
+            sum = omega (arith, length-append log (e ∷ []), ap length whole.1, known.sum);
+            fits = omega (arith, room);
+            full = λ h. absurd (omega (arith, h));
+          };
         },
         inl (refl, refl),
         λ _. ap (λ w. w ++ e ∷ []) (sym whole.1),
@@ -98,4 +105,8 @@ module _ (v : List Outputs) (e : Outputs) (held : ℕ) where
       subst P (sym kept.cells_are) (omega arith, refl, low_goes log kept.low kept.high next room pre kept.counts (kept.low == held) refl)
   adds_moves (suc key) next room cs log kept pre away =
       let P : List Cell → Type 0 = λ c. (suc key < length c) × ((cell c (suc key)).1 ≡ true) × After (suc key) c log in
-      rw next.0 (subst (λ (c : List Cell). (1 < length c) × ((cell c 1).1 ≡ true) × After 1 c log) (sym kept.cells_are) (omega arith, refl, high_goes log kept.low kept.high next.1 room pre kept.counts (kept.high == held) refl))
+      rw next.0 (subst (λ (c : List Cell). (1 < length c) × ((cell c 1).1 ≡ true) × After 1 c log) (sym kept.cells_are) (
+        omega arith,
+        refl,
+        high_goes log kept.low kept.high next.1 room pre kept.counts (kept.high == held) refl,
+      ))

@@ -1,5 +1,6 @@
 -- A valid program has no more outputs than a row can hold.
-use Rattle.std.proofs.Common.{◌≡◌, cond, ℕ, zero, suc, ◌+◌, ◌≤◌, ◌<◌, ◌⊎◌, inl, inr, Bool, true, false, List, [], ◌∷◌, ◌++◌, length, take, slice_get, Some, refl, ap, sym, subst, ◌∙◌, arith, zero-le, le_refl, le_trans, get_or}
+use Rattle.std.proofs.Common.{◌≡◌, cond, ℕ, zero, suc, ◌+◌, ◌≤◌, ◌<◌, ◌⊎◌, inl, inr, Bool, true, false, List, [], ◌∷◌, ◌++◌, length, take, slice_get, Some}
+use Rattle.std.proofs.Common.{refl, ap, sym, subst, ◌∙◌, arith, zero-le, le_refl, le_trans, get_or}
 use Rattle.std.specs.List.{count_by}
 use Rattle.std.proofs.lemmas.List.{take_all, append-nil}
 use Rattle.std.proofs.lemmas.List.Sums.{count_by_more_no, sum_by-cons}
@@ -38,9 +39,11 @@ module _ (p : Program) (fits : (x : ℕ) (a : Variable) → slice_get p.variable
       ])
 
   few : count_by is_shown p.variables ≤ 64
-  few = subst (λ (l : List Variable). count_by is_shown l ≤ 64) (take_all (length p.variables) p.variables (le_refl _)) (few_to (length p.variables) (le_refl _))
+  few = subst (λ (l : List Variable). count_by is_shown l ≤ 64) (take_all (length p.variables) p.variables (le_refl _))
+      (few_to (length p.variables) (le_refl _))
 
-counted_next : (a : Variable) (v : Value) (variables : List Variable) (values : List Value) → length (outputs_among variables values) ≤ count_by is_shown variables
+counted_next : (a : Variable) (v : Value) (variables : List Variable) (values : List Value)
+    → length (outputs_among variables values) ≤ count_by is_shown variables
     → (b : Bool) → is_shown a ≡ b → length (outputs_among (a ∷ variables) (v ∷ values)) ≤ count_by is_shown (a ∷ variables)
 counted_next a v variables values before true shown = rw (sum_by-cons (λ (b : Variable). cond (is_shown b) 1 0) a variables, shown) (omega (arith, before))
 counted_next a v variables values before false other = rw other before

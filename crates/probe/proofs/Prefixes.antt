@@ -1,5 +1,6 @@
 -- Beginnings of one list.
-use Rattle.std.proofs.Common.{◌≡◌, ℕ, ◌≤◌, ◌<◌, take, drop, Bool, true, false, MatchBool, List, [], ◌∷◌, ◌++◌, length, refl, ap, sym, ◌∙◌, arith, append_assoc, length-append}
+use Rattle.std.proofs.Common.{◌≡◌, ℕ, ◌≤◌, ◌<◌, take, drop, Bool, true, false, MatchBool, List, [], ◌∷◌, ◌++◌, length, refl, ap, sym, ◌∙◌, arith, append_assoc}
+use Rattle.std.proofs.Common.{length-append}
 use Rattle.std.proofs.lemmas.List.{append-nil, take-append-drop}
 use Rattle.std.proofs.lemmas.Bool.Decides.{nat_tests}
 use lib.Dec.{leb}
@@ -35,8 +36,10 @@ prefix_length xs ys p = omega (arith, sym (ap length p.1) ∙ length-append xs p
 -- of two beginnings of one list that is a beginning of the other which is no longer
 pub shorter_first : {A : Type 0} (xs ys zs : List A) (m n : ℕ) → IsPrefix xs zs → IsPrefix ys zs → n ≡ length xs → m ≡ length ys
     → (b : Bool) → leb m n ≡ b → MatchBool b (IsPrefix ys xs) (IsPrefix xs ys)
-shorter_first xs ys zs m n p q long_x long_y true is = let le : m ≤ n = grind (arith, nat_tests) in prefix_shorter ys xs zs q p (omega (arith, le, long_x, long_y))
-shorter_first xs ys zs m n p q long_x long_y false is = let lt : n < m = grind (arith, nat_tests) in prefix_shorter xs ys zs p q (omega (arith, lt, long_x, long_y))
+shorter_first xs ys zs m n p q long_x long_y true is = let le : m ≤ n = grind (arith, nat_tests) in
+    prefix_shorter ys xs zs q p (omega (arith, le, long_x, long_y))
+shorter_first xs ys zs m n p q long_x long_y false is = let lt : n < m = grind (arith, nat_tests) in
+    prefix_shorter xs ys zs p q (omega (arith, lt, long_x, long_y))
 
 pub prefix_take : {A : Type 0} (n : ℕ) (xs : List A) → IsPrefix (take n xs) xs
 prefix_take n xs = (drop n xs, take-append-drop n xs)

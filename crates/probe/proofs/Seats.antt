@@ -46,9 +46,11 @@ origin_fits x (Some p) f = extends_trans (origin_of p) p x (record { publisher =
 pub forks : (seat : ℕ) (v : Option Progress) → Forks AllFit seat v v (option_map origin_of v)
 forks seat v x views h at j u e =
     let f : Fits x v = h seat v at in
-    ⊎_elim (all_fit_set x views seat v h f j u) (λ (same : option_map origin_of v ≡ u). subst (Fits x) same (origin_fits x v f)) (at_snoc (set views seat v) (option_map origin_of v) u j e)
+    ⊎_elim (all_fit_set x views seat v h f j u) (λ (same : option_map origin_of v ≡ u). subst (Fits x) same (origin_fits x v f))
+    (at_snoc (set views seat v) (option_map origin_of v) u j e)
 
 pub merges : (seat : ℕ) (v : Option Progress) (other : ℕ) (w : Option Progress) → Merges AllFit seat v other w w None
 merges seat v other w x views h at apart there =
-    let f : Fits x w = ⊎_elim (λ (t : (other ≡ seat) × (w ≡ w)). absurd (apart t.0)) (λ (t : (other ≢ seat) × (get_elem? views other ≡ some w)). h other w t.1) (at_set views seat other w w there) in
+    let f : Fits x w = ⊎_elim (λ (t : (other ≡ seat) × (w ≡ w)). absurd (apart t.0)) (λ (t : (other ≢ seat) × (get_elem? views other ≡ some w)). h other w t.1)
+    (at_set views seat other w w there) in
     all_fit_set x (set views seat w) other None (all_fit_set x views seat w h f) tt

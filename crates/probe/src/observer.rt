@@ -52,8 +52,8 @@ impl Observer {
 
     /// What is published by now, or what it knew where that is more: the count and the outputs after a list of
     /// published
-    /// ticks, that begins with all that it had seen or learnt, and is what it has seen from now on. What it sees was shown
-    /// at one moment of the call, when all that was known at any seat was a beginning of it. It takes no memory.
+    /// ticks, that begins with all that it had seen or learnt, and is what it has seen from now on. What it sees was
+    /// shown at one moment of the call, when all that was known at any seat was a beginning of it. It takes no memory.
     pub fn look(&mut self) -> Seen
         ensures longer { Extends self.old self.new }
         ensures shown { Looks self.old self.new }

@@ -1,5 +1,6 @@
 -- Lists of the nodes that use each variable, as they grow.
-use Rattle.std.proofs.Common.{ℕ, zero, suc, add-one, ◌≡◌, ◌≢◌, ◌∙◌, ◌<◌, ◌≤◌, ◌+◌, ◌⊎◌, inl, inr, Some, Result, Ok, Err, List, [], ◌∷◌, ◌++◌, length, map, get_or, drop, drop-cons, refl, sym, ◌∙◌, ap, subst, arith}
+use Rattle.std.proofs.Common.{ℕ, zero, suc, add-one, ◌≡◌, ◌≢◌, ◌∙◌, ◌<◌, ◌≤◌, ◌+◌, ◌⊎◌, inl, inr, Some, Result, Ok, Err, List, [], ◌∷◌, ◌++◌, length, map}
+use Rattle.std.proofs.Common.{get_or, drop, drop-cons, refl, sym, ◌∙◌, ap, subst, arith}
 use Rattle.std.specs.Prelude.{Contains, ◌↔◌}
 use Rattle.std.specs.Result.{OnOk}
 use Rattle.std.proofs.Math.ListN.{drop_of_length-le, set}
@@ -30,7 +31,8 @@ lists_start count Uses lists u = record {
   each = λ x lt. record { each = λ n below h. absurd (omega (arith, below)); only = λ n c. absurd (u.unused x n c) };
 }
 
-pub lists_gain : (count : ℕ) (Uses : ℕ → ℕ → Type 0) (old new : List (List ℕ)) (n : ℕ) → ListsUpTo count Uses old n → Gains old new n (λ x. Uses x n) → ListsUpTo count Uses new (n + 1)
+pub lists_gain : (count : ℕ) (Uses : ℕ → ℕ → Type 0) (old new : List (List ℕ)) (n : ℕ) → ListsUpTo count Uses old n → Gains old new n (λ x. Uses x n)
+    → ListsUpTo count Uses new (n + 1)
 lists_gain count Uses old new n l g = record {
   long = g.count ∙ l.long;
   each = λ x lt. record {
@@ -47,7 +49,8 @@ lists_gain count Uses old new n l g = record {
   };
 }
 
-pub lists_end : (count : ℕ) (Uses : ℕ → ℕ → Type 0) (lists : List (List ℕ)) (bound : ℕ) → ListsUpTo count Uses lists bound → ((x n : ℕ) → Uses x n → n < bound) → ListsEach count Uses lists
+pub lists_end : (count : ℕ) (Uses : ℕ → ℕ → Type 0) (lists : List (List ℕ)) (bound : ℕ) → ListsUpTo count Uses lists bound → ((x n : ℕ) → Uses x n → n < bound)
+    → ListsEach count Uses lists
 lists_end count Uses lists bound l h = record { each = λ x lt. lists_all (get_or lists x []) (Uses x) bound (l.each x lt) (h x) }
 
 pub gains_nothing : (lists : List (List ℕ)) (n : ℕ) (Uses : ℕ → Type 0) → ((x : ℕ) → ¬ Uses x) → Gains lists lists n Uses
@@ -69,7 +72,8 @@ gains_same old new n S T e g = record {
   ];
 }
 
-pub gains_more : (a b c : List (List ℕ)) (n : ℕ) (S T U : ℕ → Type 0) → ((x : ℕ) → U x → S x ⊎ T x) → ((x : ℕ) → S x → U x) → ((x : ℕ) → T x → U x) → Gains a b n S → Gains b c n T → Gains a c n U
+pub gains_more : (a b c : List (List ℕ)) (n : ℕ) (S T U : ℕ → Type 0) → ((x : ℕ) → U x → S x ⊎ T x) → ((x : ℕ) → S x → U x) → ((x : ℕ) → T x → U x)
+    → Gains a b n S → Gains b c n T → Gains a c n U
 gains_more a b c n S T U cases left right g h = record {
   count = h.count ∙ g.count;
   keeps = λ x m i. h.keeps x m (g.keeps x m i);
@@ -99,7 +103,8 @@ gains_init p old new n x next code e g =
     let same : (y : ℕ) → S y ↔ T y = λ y. (λ is. (literal_of code, ap (λ k. Init k (literal_of code)) (sym is)), λ i. let w = i.1 in cc) in
     subst P (access_there p n (step.Assign x code next) (sym e)) (gains_same old new n S T same g)
 
-pub gains_update : (p : Program) (old new : List (List ℕ)) (n x next : ℕ) (f : Combination) (code : List Operation) → step_at p n ≡ Some (step.Update x f code next) →
+pub gains_update : (p : Program) (old new : List (List ℕ)) (n x next : ℕ) (f : Combination) (code : List Operation)
+    → step_at p n ≡ Some (step.Update x f code next) →
     Gains old new n (λ y. y ≡ x) → Gains old new n (λ y. UpdatesAt p y n)
 gains_update p old new n x next f code e g =
     let P : Access → Type 0 = λ a. Gains old new n (λ y. (h : Combination) × Updates a y h) in
@@ -108,7 +113,8 @@ gains_update p old new n x next f code e g =
     let same : (y : ℕ) → S y ↔ T y = λ y. (λ is. (f, ap (λ k. Update k f) (sym is)), λ i. let w = i.1 in cc) in
     subst P (access_there p n (step.Update x f code next) (sym e)) (gains_same old new n S T same g)
 
-pub gains_reads : (p : Program) (old new : List (List ℕ)) (n : ℕ) (s : Step) → step_at p n ≡ Some s → Gains old new n (Reads (access_of s)) → Gains old new n (λ y. ReadsAt p y n)
+pub gains_reads : (p : Program) (old new : List (List ℕ)) (n : ℕ) (s : Step) → step_at p n ≡ Some s → Gains old new n (Reads (access_of s))
+    → Gains old new n (λ y. ReadsAt p y n)
 gains_reads p old new n s e g = let P : Access → Type 0 = λ a. Gains old new n (Reads a) in subst P (access_there p n s (sym e)) g
 
 -- a load of the first operation, or of another
@@ -136,7 +142,8 @@ gains_load a b c n code i o lt is_at g h =
     let rest : List Operation = drop (i + 1) code in
     let e : drop i code ≡ o ∷ rest = rw add-one (drop-cons code i o lt ∙ ap (λ x. x ∷ drop (suc i) code) (sym is_at)) in
     let P : List Operation → Type 0 = λ xs. Gains a c n (Contains (loads xs)) in
-    subst P (sym e) (gains_more a b c n (λ x. loaded o ≡ Some x) (Contains (loads rest)) (Contains (loads (o ∷ rest))) (first_or_later o rest) (first o rest) (later o rest) g h)
+    subst P (sym e) (gains_more a b c n (λ x. loaded o ≡ Some x) (Contains (loads rest)) (Contains (loads (o ∷ rest))) (first_or_later o rest) (first o rest)
+    (later o rest) g h)
 
 pub gains_no_load : (lists : List (List ℕ)) (n : ℕ) (code : List Operation) (i : ℕ) → length code ≤ i → Gains lists lists n (Contains (loads (drop i code)))
 gains_no_load lists n code i le =
@@ -144,7 +151,8 @@ gains_no_load lists n code i le =
     subst P (sym (drop_of_length-le code le)) (gains_nothing lists n (Contains []) (λ x c. let lt = c.1 in omega arith))
 
 -- one more empty list
-pub empty_more : {A : Type 0} (f : A → List ℕ) (xs : List A) (y : A) → f y ≡ [] → ((x : ℕ) → get_or (map f xs) x [] ≡ []) → (x : ℕ) → get_or (map f (xs ++ y ∷ [])) x [] ≡ []
+pub empty_more : {A : Type 0} (f : A → List ℕ) (xs : List A) (y : A) → f y ≡ [] → ((x : ℕ) → get_or (map f xs) x [] ≡ []) → (x : ℕ)
+    → get_or (map f (xs ++ y ∷ [])) x [] ≡ []
 empty_more f [] y e h zero = e
 empty_more f [] y e h (suc x) = refl
 empty_more f (z ∷ zs) y e h zero = h zero
@@ -180,7 +188,8 @@ gains_one f xs x n d new lt more =
     let keeps_here : (m : ℕ) → Contains (get_or old x []) m → Contains (get_or now x []) m =
     λ m c. let P : List ℕ → Type 0 = λ l. Contains l m in subst P (sym is) ((more m).1 (inl (subst P was c))) in
     let only_here : (m : ℕ) → Contains (get_or now x []) m → Contains (get_or old x []) m ⊎ ((m ≡ n) × (x ≡ x)) =
-    λ m c. let P : List ℕ → Type 0 = λ l. Contains l m in elim ((more m).0 (subst P is c)) [ inl before ↦ inl (subst P (sym was) before) | inr same ↦ inr (same, refl) ] in
+    λ m c. let P : List ℕ → Type 0 = λ l. Contains l m in
+    elim ((more m).0 (subst P is c)) [ inl before ↦ inl (subst P (sym was) before) | inr same ↦ inr (same, refl) ] in
     let gains_here : Contains (get_or now x []) n = let P : List ℕ → Type 0 = λ l. Contains l n in subst P (sym is) ((more n).1 (inr refl)) in
     record {
       count = length-map (set xs x new) f ∙ length-set xs x new ∙ sym (length-map xs f);
@@ -190,15 +199,18 @@ gains_one f xs x n d new lt more =
       ];
       gains = λ y within e. let P : ℕ → Type 0 = λ k. Contains (get_or now k []) n in subst P (sym e) gains_here;
       only = λ y m c. elim (same_or_not y x) [
-        | inl e ↦ (let P : ℕ → Type 0 = λ k. Contains (get_or now k []) m → Contains (get_or old k []) m ⊎ ((m ≡ n) × (k ≡ x)) in subst P (sym e) (only_here m) c)
+        | inl e ↦ (let P : ℕ → Type 0 = λ k. Contains (get_or now k []) m → Contains (get_or old k []) m ⊎ ((m ≡ n) × (k ≡ x)) in
+            subst P (sym e) (only_here m) c)
         | inr ne ↦ (let P : List ℕ → Type 0 = λ l. Contains l m in inl (subst P (elsewhere f xs x y new ne) c))
       ];
     }
 
-pub gains_same_load : (old new : List (List ℕ)) (n x : ℕ) (o : Operation) → o ≡ op.Load x → Gains old new n (λ y. y ≡ x) → Gains old new n (λ y. loaded o ≡ Some y)
+pub gains_same_load : (old new : List (List ℕ)) (n x : ℕ) (o : Operation) → o ≡ op.Load x → Gains old new n (λ y. y ≡ x)
+    → Gains old new n (λ y. loaded o ≡ Some y)
 gains_same_load old new n x o is g =
     let P : Operation → Type 0 = λ a. Gains old new n (λ y. loaded a ≡ Some y) in
     subst P (sym is) (gains_same old new n (λ y. y ≡ x) (λ y. loaded (op.Load x) ≡ Some y) (λ y. (λ e. ap Some (sym e), λ e. cc)) g)
 
-pub gains_of_code : (old new : List (List ℕ)) (n : ℕ) (s : Step) (code : List Operation) → (access_of s).reads ≡ loads code → Gains old new n (Contains (loads code)) → Gains old new n (Reads (access_of s))
+pub gains_of_code : (old new : List (List ℕ)) (n : ℕ) (s : Step) (code : List Operation) → (access_of s).reads ≡ loads code
+    → Gains old new n (Contains (loads code)) → Gains old new n (Reads (access_of s))
 gains_of_code old new n s code e g = let P : List ℕ → Type 0 = λ xs. Gains old new n (Contains xs) in subst P (sym e) g

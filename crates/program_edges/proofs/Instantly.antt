@@ -1,5 +1,6 @@
 -- The instantaneous edges from a node are those that its step makes.
-use Rattle.std.proofs.Common.{ℕ, ◌≡◌, ◌<◌, ◌⊎◌, inl, inr, true, false, Option, Some, None, List, [], length, slice_get, option_map, option_and_then, refl, sym, ◌∙◌, subst, ap, arith}
+use Rattle.std.proofs.Common.{ℕ, ◌≡◌, ◌<◌, ◌⊎◌, inl, inr, true, false, Option, Some, None, List, [], length, slice_get, option_map, option_and_then, refl, sym}
+use Rattle.std.proofs.Common.{◌∙◌, subst, ap, arith}
 use Rattle.std.specs.Prelude.{Contains, ◌↔◌, IsSome, IfSome}
 use Rattle.sc_graph.specs.declared.links.Links.{Links}
 use Rattle.sc_graph.specs.declared.program.Node.{Node}
@@ -49,7 +50,8 @@ fork_join_of (Some (step.Depth m)) n h = absurd (cc)
 fork_join_of (Some step.Exit) n h = absurd (cc)
 
 -- the fork that is linked to a child
-pub linked_fork : (p : Program) (l : Links) → IsFormed p → Tells p l → (f t j k : ℕ) (children : List ℕ) → IsFork p f t children j → Contains children k → only_at l.forks k ≡ Some f
+pub linked_fork : (p : Program) (l : Links) → IsFormed p → Tells p l → (f t j k : ℕ) (children : List ℕ) → IsFork p f t children j → Contains children k
+    → only_at l.forks k ≡ Some f
 linked_fork p l formed told f t j k children fork among =
     let up = parent_is_owner p formed f t j k children fork among in
     let one : ExactlyOne (ForksChild p k) = forked_once p formed k t up in
@@ -61,7 +63,8 @@ linked_fork p l formed told f t j k children fork among =
     child_within : parent_of p k ≡ Some t → k < length p.threads
     child_within up = within_threads p k t up
 
-    found : ExactlyOne (ForksChild p k) → ForksChild p k f → (o : Option ℕ) → only_at l.forks k ≡ o → IsSome o → IfSome o (ForksChild p k) → only_at l.forks k ≡ Some f
+    found : ExactlyOne (ForksChild p k) → ForksChild p k f → (o : Option ℕ) → only_at l.forks k ≡ o → IsSome o → IfSome o (ForksChild p k) → only_at l.forks k
+        ≡ Some f
     found one here None is some if_some = absurd (let s = some in cc)
     found one here (Some g) is some other =
         let e : g ≡ f = one.alone g other ∙ sym (one.alone f here) in
@@ -72,7 +75,8 @@ linked_fork p l formed told f t j k children fork among =
 pub behind_found : (p : Program) (l : Links) → IsFormed p → Tells p l → (m n : ℕ) → (join_behind p l m ≡ Some n) ↔ IsJoinBehind p m n
 behind_found p l formed told m n = (λ h. of_owner (owner_of p m) refl h, λ b. back b)
   where
-    of_step : (k f : ℕ) → owner_of p m ≡ Some k → only_at l.forks k ≡ Some f → (children : List ℕ) × (step_at p f ≡ Some (step.Fork children n)) → IsJoinBehind p m n
+    of_step : (k f : ℕ) → owner_of p m ≡ Some k → only_at l.forks k ≡ Some f → (children : List ℕ) × (step_at p f ≡ Some (step.Fork children n))
+        → IsJoinBehind p m n
     of_step k f owned at found =
         let x = fork_known p l k f told (owner_within p formed m k owned) at in
         let own = fork_owned p f n found.0 found.1 in
@@ -82,7 +86,8 @@ behind_found p l formed told m n = (λ h. of_owner (owner_of p m) refl h, λ b. 
         let P : List ℕ → Type 0 = λ ks. Contains ks k in
         record { fork = f; thread = own.0; children = found.0; child = k; is_fork = own.1; among = subst P same x.child; owner = owned }
 
-    of_link : (k : ℕ) (o : Option ℕ) → owner_of p m ≡ Some k → only_at l.forks k ≡ o → fork_join (option_and_then (λ f. step_at p f) o) ≡ Some n → IsJoinBehind p m n
+    of_link : (k : ℕ) (o : Option ℕ) → owner_of p m ≡ Some k → only_at l.forks k ≡ o → fork_join (option_and_then (λ f. step_at p f) o) ≡ Some n
+        → IsJoinBehind p m n
     of_link k None owned at h = absurd (cc)
     of_link k (Some f) owned at h = of_step k f owned at (fork_join_of (step_at p f) n h)
 
@@ -109,7 +114,8 @@ exit_is (step.Surf k) h = absurd (cc)
 exit_is (step.Depth k) h = absurd (cc)
 
 -- of an exit
-pub on_exit : (p : Program) (l : Links) → IsFormed p → Tells p l → (m : ℕ) (s : Step) → is_exit s ≡ true → (n : ℕ) → ((join_behind p l m ≡ Some n) ⊎ (None ≡ Some n)) ↔ IsOn p m s n
+pub on_exit : (p : Program) (l : Links) → IsFormed p → Tells p l → (m : ℕ) (s : Step) → is_exit s ≡ true → (n : ℕ)
+    → ((join_behind p l m ≡ Some n) ⊎ (None ≡ Some n)) ↔ IsOn p m s n
 on_exit p l formed told m s is n =
     let P : Step → Type 0 = λ x. ((join_behind p l m ≡ Some n) ⊎ (None ≡ Some n)) ↔ IsOn p m x n in
     let f = behind_found p l formed told m n in

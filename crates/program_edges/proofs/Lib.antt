@@ -5,3 +5,6 @@ pub mod Variables
 pub mod Instantly
 pub mod Answer
 mod Alone
+mod Finding
+mod Covered
+mod Agreeing

@@ -13,7 +13,8 @@ use Rattle.sc_graph.specs.Size.{StepFits, InVariables}
 use Rattle.sc_graph.specs.Valid.{IsFormed}
 use Rattle.sc_graph.specs.Accesses.{accesses, access_of}
 use Rattle.sc_graph.proofs.Nodes.{node_of_step}
-use Rattle.program_edges.specs.Users.{InitsAt, UpdatesAt, Lists, NoneConflict, NoConflictOn}
+use Rattle.program_edges.specs.Users.{InitsAt, UpdatesAt, Lists}
+use Rattle.program_edges.specs.Inside.NoConflicts.{NoneConflict, NoConflictOn}
 
 -- what holds at each index of a list of numbers holds of each number in it
 pub of_each : (xs : List ℕ) (P : ℕ → Type 0) → ((k : ℕ) → k < length xs → P (get_or xs k 0)) → (x : ℕ) → Contains xs x → P x
@@ -67,7 +68,8 @@ update_variable p formed n x f u = elim (step_or_none p n) [
   | inr e ↦ absurd (let w : (accesses p n).writes ≡ Nothing = ap (λ a. a.writes) e in cc)
 ]
 
-pub no_conflict_on : (p : Program) (x : ℕ) (inits updates : List ℕ) → Lists inits (InitsAt p x) → Lists updates (UpdatesAt p x) → NoneConflict p inits → NoneConflict p updates → NoConflictOn p x
+pub no_conflict_on : (p : Program) (x : ℕ) (inits updates : List ℕ) → Lists inits (InitsAt p x) → Lists updates (UpdatesAt p x) → NoneConflict p inits
+    → NoneConflict p updates → NoConflictOn p x
 no_conflict_on p x inits updates i u none_i none_u = record {
   inits = λ m n a b. none_i m n (i.each m a) (i.each n b);
   updates = λ m n a b. none_u m n (u.each m a) (u.each n b);

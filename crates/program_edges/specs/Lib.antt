@@ -1,3 +1,4 @@
 pub mod Users
 pub mod Sorts
+pub mod Conflicts
 pub mod Inside

@@ -4,7 +4,6 @@ use Rattle.sc_values.specs.declared.operator.Combination.{Combination}
 use Rattle.sc_values.specs.Access.{Inits, Updates, Reads}
 use Rattle.sc_graph.specs.Program.{Program}
 use Rattle.sc_graph.specs.Accesses.{accesses}
-use Rattle.sc_graph.specs.Protocol.{WriteConflict}
 use Rattle.program_edges.specs.declared.users.Use.{Use}
 use Rattle.program_edges.specs.declared.users.Users.{Users}
 use Rattle.program_edges.specs.declared.users.Use.TheVariants as way
@@ -50,12 +49,3 @@ pub record UsersOf (p : Program) (u : Users) : Type 0 where
   pub inits : ListsEach (length p.variables) (InitsAt p) u.inits
   pub updates : ListsEach (length p.variables) (UpdatesAt p) u.updates
   pub reads : ListsEach (length p.variables) (ReadsAt p) u.reads
-
--- no two of these nodes conflict
-abbrev pub NoneConflict : Program → List ℕ → Type 0
-NoneConflict p nodes = (m n : ℕ) → Contains nodes m → Contains nodes n → ¬ WriteConflict p m n
-
--- no two inits of variable x conflict, and no two updates
-pub record NoConflictOn (p : Program) (x : ℕ) : Type 0 where
-  pub inits : (m n : ℕ) → InitsAt p x m → InitsAt p x n → ¬ WriteConflict p m n
-  pub updates : (m n : ℕ) → UpdatesAt p x m → UpdatesAt p x n → ¬ WriteConflict p m n

@@ -1,5 +1,6 @@
 -- Each step at the queue keeps its rule.
-use Rattle.std.proofs.Common.{◌≡◌, ◌≢◌, ℕ, zero, suc, ◌+◌, ◌<◌, ◌≤◌, List, [], ◌∷◌, ◌++◌, length, length-append, set, refl, ap, sym, ◌∙◌, subst, ⊎_elim, ◌⊎◌, inl, inr, append_assoc, arith}
+use Rattle.std.proofs.Common.{◌≡◌, ◌≢◌, ℕ, zero, suc, ◌+◌, ◌<◌, ◌≤◌, List, [], ◌∷◌, ◌++◌, length, length-append, set, refl, ap, sym, ◌∙◌, subst, ⊎_elim, ◌⊎◌}
+use Rattle.std.proofs.Common.{inl, inr, append_assoc, arith}
 use Rattle.std.proofs.lemmas.List.{append-nil, map-append}
 use Rattle.std.specs.List.{sum_by}
 use Rattle.std.proofs.lemmas.List.Sums.{sum_by-append}
@@ -85,7 +86,8 @@ takes pass v x items hands h at =
           let kept = sum_set (λ (u : Hand). sum_by weight u.taken) hands pass v w at in
           let mine = sum_by-append weight v.taken (x ∷ []) in
           let theirs : sum_by weight (claims_of (h.gone ++ e ∷ [])) ≡ sum_by weight (claims_of h.gone) + sum_by weight (x ∷ []) =
-          ap (sum_by weight) (map-append (λ (d : ℕ × Claim). d.1) h.gone (e ∷ [])) ∙ (sum_by-append weight (claims_of h.gone) (e.1 ∷ []) ∙ ap (λ c. sum_by weight (claims_of h.gone) + sum_by weight (c ∷ [])) cut.3) in
+          ap (sum_by weight) (map-append (λ (d : ℕ × Claim). d.1) h.gone (e ∷ []))
+          ∙ (sum_by-append weight (claims_of h.gone) (e.1 ∷ []) ∙ ap (λ c. sum_by weight (claims_of h.gone) + sum_by weight (c ∷ [])) cut.3) in
           omega (arith, kept, mine, theirs, h.taken weight);
     } in (
       w,

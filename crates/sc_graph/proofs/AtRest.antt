@@ -1,5 +1,6 @@
 -- What stands before the first tick rests.
-use Rattle.std.proofs.Common.{◌≡◌, ◌≢◌, ◌↔◌, ℕ, ◌<◌, ◌+◌, List, [], ◌∷◌, ◌++◌, map, length, take, get_or, Option, Some, None, option_map, unwrap_or, slice_get, refl, ap, ◌∙◌, sym, subst}
+use Rattle.std.proofs.Common.{◌≡◌, ◌≢◌, ◌↔◌, ℕ, ◌<◌, ◌+◌, List, [], ◌∷◌, ◌++◌, map, length, take, get_or, Option, Some, None, option_map, unwrap_or, slice_get}
+use Rattle.std.proofs.Common.{refl, ap, ◌∙◌, sym, subst}
 use Rattle.std.specs.Prelude.{Contains, IsTrue, Bool as Truth}
 use Rattle.std.proofs.lemmas.Option.{slice_get-map}
 use Rattle.std.proofs.lemmas.List.{length-map, map-append, take_more}
@@ -88,7 +89,8 @@ child_stands p c n t children j k is_fork child (Some x) is stand =
     let owner : Some x.owner ≡ Some t = sym (ap (option_map (λ y. y.owner)) is) ∙ is_fork.owned in
     let forks : Some x.step ≡ Some (step.Fork children j) = sym (ap (option_map (λ y. y.step)) is) ∙ is_fork.forks in
     let owned : x.owner ≡ t = cc in
-    subst (λ u. (IsPresent (status_of c k)) ↔ (status_of c u ≡ status.Waiting j)) owned (let here : x.step ≡ step.Fork children j = cc in (stand.each n x is).each children j k here child)
+    subst (λ u. (IsPresent (status_of c k)) ↔ (status_of c u ≡ status.Waiting j)) owned (let here : x.step ≡ step.Fork children j = cc in
+    (stand.each n x is).each children j k here child)
 
 -- the parts together are what makes a configuration rest
 pub rests_by_parts : (p : Program) (c : Control) → HaveKinds p c.variables → RestInPlace p c → AllChildrenStand p c → Rests p c

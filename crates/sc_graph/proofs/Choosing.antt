@@ -1,5 +1,6 @@
 -- Tables choose among the runs of a program, and nothing else depends on them.
-use Rattle.std.proofs.Common.{ℕ, ◌≡◌, ◌<◌, ◌≤◌, inl, inr, length, Bool, true, false, Option, Some, None, List, [], ◌∷◌, option_map, option_and_then, refl, sym, ap, ◌∙◌, arith}
+use Rattle.std.proofs.Common.{ℕ, ◌≡◌, ◌<◌, ◌≤◌, inl, inr, length, Bool, true, false, Option, Some, None, List, [], ◌∷◌, option_map, option_and_then, refl, sym}
+use Rattle.std.proofs.Common.{ap, ◌∙◌, arith}
 use Rattle.std.proofs.lemmas.Option.{none-some, same_Some, option_and_then_some, slice_get_cases}
 use Rattle.std.proofs.lemmas.List.{get_or_past}
 use Rattle.sc_values.specs.Runs.{replay}
@@ -20,7 +21,8 @@ only_if_true : {A B : Type 0} (f : A → B) (b : Bool) (o : Option A) (y : B) �
 only_if_true f true o y h = refl
 only_if_true f false o y h = absurd (none-some y h)
 
-status_steps : (p : Program) (c : Control) (t : ℕ) (s : Status) (d : Control) → option_map (λ e. after e c) (status_effect p c t s) ≡ Some d → status_enabled p c s ≡ true
+status_steps : (p : Program) (c : Control) (t : ℕ) (s : Status) (d : Control) → option_map (λ e. after e c) (status_effect p c t s) ≡ Some d
+    → status_enabled p c s ≡ true
 status_steps p c t status.Absent d h = absurd (none-some d h)
 status_steps p c t (status.At n) d h = refl
 status_steps p c t (status.Waiting j) d h =
@@ -57,7 +59,8 @@ only_none true o is = is
 only_none false o is = refl
 
 -- a thread that steps has the priority of a node
-has_greatest : (p : Program) (q : Tables) → HaveOnePriority p q → (c : Control) (t : ℕ) (s : Status) (d : Control) → option_map (λ e. after e c) (status_effect p c t s) ≡ Some d → (m : ℕ) → priority q m ≤ priority_of q s
+has_greatest : (p : Program) (q : Tables) → HaveOnePriority p q → (c : Control) (t : ℕ) (s : Status) (d : Control)
+    → option_map (λ e. after e c) (status_effect p c t s) ≡ Some d → (m : ℕ) → priority q m ≤ priority_of q s
 has_greatest p q one c t status.Absent d h m = absurd (none-some d h)
 has_greatest p q one c t (status.At n) d h m = stands (step_at p n) refl h
   where
@@ -66,7 +69,8 @@ has_greatest p q one c t (status.At n) d h m = stands (step_at p n) refl h
     stands (Some s) is e = no_greater p q one m n (step_within p n s is)
 has_greatest p q one c t (status.Waiting j) d h m = waits (step_at p j) refl h
   where
-    waits : (o : Option Step) → step_at p j ≡ o → option_map (λ e. after e c) (only_if (all_ended c (joined_at p j)) (join_effect p t (joined_at p j) o)) ≡ Some d → priority q m ≤ priority q j
+    waits : (o : Option Step) → step_at p j ≡ o → option_map (λ e. after e c) (only_if (all_ended c (joined_at p j)) (join_effect p t (joined_at p j) o))
+        ≡ Some d → priority q m ≤ priority q j
     waits None is e =
         let none = only_none (all_ended c (joined_at p j)) (join_effect p t (joined_at p j) None) (joins_none p t (joined_at p j)) in
         absurd (none-some d (sym (ap (option_map (λ e. after e c)) none) ∙ e))
@@ -89,7 +93,8 @@ leads p q one c t d h = record {
 }
 
 -- where all nodes have one priority, each run is a priority run
-pub runs_by_priority : (p : Program) (q : Tables) → HaveOnePriority p q → (run : List ℕ) (c d : Control) → replay (machine p) run c ≡ Some d → PriorityRun p q run c d
+pub runs_by_priority : (p : Program) (q : Tables) → HaveOnePriority p q → (run : List ℕ) (c d : Control) → replay (machine p) run c ≡ Some d
+    → PriorityRun p q run c d
 runs_by_priority p q one [] c d h = same_Some c d h
 runs_by_priority p q one (t ∷ run) c d h =
     option_and_then_some (replay (machine p) run) (step p t c) d h (λ mid is rest.

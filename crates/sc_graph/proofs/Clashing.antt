@@ -41,7 +41,8 @@ clash_inits a b x y m n c d one ia ib same is = (
     unlike (two_inits z i j e) = e
     unlike (two_updates z f g u v ne) = let w : Init x (literal_of c) ≡ Update z f = sym (ap (λ s. (access_of s).writes) ia) ∙ u in absurd (cc)
 
-pub clash_updates : (a b : Step) (x y m n : ℕ) (f g : Combination) (c d : List Operation) (differ : Bool) → a ≡ step.Update x f c m → b ≡ step.Update y g d n → x ≡ y →
+pub clash_updates : (a b : Step) (x y m n : ℕ) (f g : Combination) (c d : List Operation) (differ : Bool) → a ≡ step.Update x f c m → b ≡ step.Update y g d n
+    → x ≡ y →
     (differ ≡ true → f ≢ g) → (f ≢ g → differ ≡ true) → IsTrue differ ↔ Clash (access_of a) (access_of b)
 clash_updates a b x y m n f g c d differ ia ib same to from = (
   λ e. two_updates x f g (update_same a x x m f c ia refl) (update_same b y x n g d ib (sym same)) (to e),

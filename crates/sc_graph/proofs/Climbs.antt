@@ -29,7 +29,8 @@ pub climbs_not : (p : Program) (g k t u : ℕ) → k < g → parent_of p t ≡ N
 climbs_not p g k t u lt root d =
     no_climb p (g - (k + 1)) t u root (subst (λ (n : ℕ). Descends p n t u) (one_less g k lt) d)
 
-pub ancestor_decides : (p : Program) (n t : ℕ) (found : Option ℕ) (r : Bool) → is_some found ≡ not r → MatchOption found (HasNoAncestor p n t) (λ u. Descends p n t u) → Decides r (HasNoAncestor p n t)
+pub ancestor_decides : (p : Program) (n t : ℕ) (found : Option ℕ) (r : Bool) → is_some found ≡ not r
+    → MatchOption found (HasNoAncestor p n t) (λ u. Descends p n t u) → Decides r (HasNoAncestor p n t)
 ancestor_decides p n t None true e none = (λ h. none, λ h. refl)
 ancestor_decides p n t None false e none = (λ h. none, λ h. cc e)
 ancestor_decides p n t (Some u) true e above = (λ h. cc e, λ h. refl)

@@ -1,5 +1,6 @@
 -- Lists in which no number stands twice.
-use Rattle.std.proofs.Common.{ℕ, ◌≡◌, ◌≢◌, ◌+◌, ◌<◌, ◌≤◌, Some, List, Contains, length, take, get_or, slice_get, refl, sym, subst, ◌∙◌, arith, below_more, length-take}
+use Rattle.std.proofs.Common.{ℕ, ◌≡◌, ◌≢◌, ◌+◌, ◌<◌, ◌≤◌, Some, List, Contains, length, take, get_or, slice_get, refl, sym, subst, ◌∙◌, arith, below_more}
+use Rattle.std.proofs.Common.{length-take}
 use Rattle.std.proofs.lemmas.List.{get_or-take}
 use Rattle.std.proofs.lemmas.Option.{slice_get_read, slice_get-get_or, slice_get_within, get_or_from_slice_get}
 use Rattle.sc_graph.specs.Size.{AreDistinct}

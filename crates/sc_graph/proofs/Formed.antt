@@ -1,5 +1,6 @@
 -- What formed programs have: a tree of threads, each forked by one fork of its parent.
-use Rattle.std.proofs.Common.{ℕ, zero, suc, ◌≡◌, ◌≢◌, ◌<◌, Bool, Option, Some, None, option_map, option_and_then, List, Contains, length, slice_get, inl, inr, refl, sym, subst, ap, arith, nat_eq, eqb-true, eq-eqb}
+use Rattle.std.proofs.Common.{ℕ, zero, suc, ◌≡◌, ◌≢◌, ◌<◌, Bool, Option, Some, None, option_map, option_and_then, List, Contains, length, slice_get, inl, inr}
+use Rattle.std.proofs.Common.{refl, sym, subst, ap, arith, nat_eq, eqb-true, eq-eqb}
 use Rattle.std.specs.Bool.{Decides}
 use Rattle.std.proofs.lemmas.List.Elements.{All-contains}
 use Rattle.std.proofs.lemmas.Option.{slice_get_within}
@@ -73,7 +74,8 @@ falls_upwards p formed = record {
 }
 
 -- a fork forks children of its own thread
-pub parent_is_owner : (p : Program) → IsFormed p → (n t join k : ℕ) (children : List ℕ) → IsFork p n t children join → Contains children k → parent_of p k ≡ Some t
+pub parent_is_owner : (p : Program) → IsFormed p → (n t join k : ℕ) (children : List ℕ) → IsFork p n t children join → Contains children k
+    → parent_of p k ≡ Some t
 parent_is_owner p formed n t join k children fork child =
     let at : NodeAt p n (step.Fork children join) = node_at p n (step.Fork children join) fork.forks in
     let owned : owner_of p n ≡ Some at.node.owner = owner_at p n at.node at.there in
@@ -148,7 +150,8 @@ one_fork_apart p formed t u l r a b x y =
     record {
       fork = x.fork;
       first = subst (λ (k : ℕ). ForksChild p k x.fork) same.0 (record { children = x.children; join = x.join; forks = x.is_fork.forks; child = x.left_child });
-      second = subst (λ (k : ℕ). ForksChild p k x.fork) same.1 (record { children = x.children; join = x.join; forks = x.is_fork.forks; child = x.right_child });
+      second = subst (λ (k : ℕ). ForksChild p k x.fork) same.1
+          (record { children = x.children; join = x.join; forks = x.is_fork.forks; child = x.right_child });
     }
 
 -- one fork, by the only forks of which the two are children
@@ -223,7 +226,8 @@ concurrent_within p formed t u x =
     ]
 
 -- threads that part just where two concurrent ones do are concurrent
-pub alike_concurrent : (p : Program) → IsFormed p → (t u v w : ℕ) → ((l r a : ℕ) → PartAt p t u l r a → PartAt p v w l r a) → AreConcurrent p t u → AreConcurrent p v w
+pub alike_concurrent : (p : Program) → IsFormed p → (t u v w : ℕ) → ((l r a : ℕ) → PartAt p t u l r a → PartAt p v w l r a) → AreConcurrent p t u
+    → AreConcurrent p v w
 alike_concurrent p formed t u v w same x =
     let y : PartAt p t u x.apart.left x.apart.right x.forking = parts p formed t u x.forking x.apart in
     let one : OneFork p x.apart.left x.apart.right = one_fork_apart p formed t u x.apart.left x.apart.right x.forking x.forking x.apart y in

@@ -1,5 +1,6 @@
 -- Links as a pass over the nodes finds them.
-use Rattle.std.proofs.Common.{ℕ, zero, suc, ◌≡◌, ◌≢◌, ◌<◌, ◌≤◌, ◌+◌, ◌⊎◌, inl, inr, Bool, true, false, nat_eq, Option, Some, None, List, [], ◌∷◌, length, get_or, refl, sym, ◌∙◌, ap, subst, arith, eqb-true, eq-eqb}
+use Rattle.std.proofs.Common.{ℕ, zero, suc, ◌≡◌, ◌≢◌, ◌<◌, ◌≤◌, ◌+◌, ◌⊎◌, inl, inr, Bool, true, false, nat_eq, Option, Some, None, List, [], ◌∷◌, length}
+use Rattle.std.proofs.Common.{get_or, refl, sym, ◌∙◌, ap, subst, arith, eqb-true, eq-eqb}
 use Rattle.std.specs.Prelude.{Contains, if◌then◌else◌, IfSome}
 use Rattle.std.proofs.lemmas.Grind.{common_steps}
 use Rattle.std.proofs.lemmas.Option.{gets}
@@ -134,7 +135,8 @@ single k j c = first c.0 c.1 c.2
 first_one : (k j : ℕ) (ks : List ℕ) → j ≡ k → Contains (k ∷ ks) j
 first_one k j ks e = (0, omega arith, sym e)
 
-one_noted : (k : ℕ) (ks : List ℕ) (n : ℕ) (slots : List Found) (j : ℕ) → j < length slots → (b : Bool) → nat_eq j k ≡ b → Noted ks n (noted_at slots k n) j → Noted (k ∷ ks) n slots j
+one_noted : (k : ℕ) (ks : List ℕ) (n : ℕ) (slots : List Found) (j : ℕ) → j < length slots → (b : Bool) → nat_eq j k ≡ b → Noted ks n (noted_at slots k n) j
+    → Noted (k ∷ ks) n slots j
 one_noted k ks n slots j lt true e (inl h) =
     let same : j ≡ k = eqb-true j k e in
     inl (first_one k j ks same, h.1 ∙ ap (λ f. noted f n) (found_same_place slots k j n same lt) ∙ noted_twice (found_at slots j) n)
@@ -159,11 +161,13 @@ all_long [] n slots = refl
 all_long (k ∷ ks) n slots = all_long ks n (noted_at slots k n) ∙ noted_long slots k n
 
 -- a node that is linked to number k alone
-place_noted : (P : ℕ → ℕ → Type 0) (slots : List Found) (k n j : ℕ) → j < length slots → IsFound (P j) n (found_at slots j) → P k n → (P j n → j ≡ k) → (b : Bool) → nat_eq j k ≡ b →
+place_noted : (P : ℕ → ℕ → Type 0) (slots : List Found) (k n j : ℕ) → j < length slots → IsFound (P j) n (found_at slots j) → P k n → (P j n → j ≡ k)
+    → (b : Bool) → nat_eq j k ≡ b →
     IsFound (P j) (n + 1) (found_at (noted_at slots k n) j)
 place_noted P slots k n j lt found here alone true e =
     let same : j ≡ k = eqb-true j k e in
-    subst (IsFound (P j) (n + 1)) (sym (found_same_place slots k j n same lt)) (found_more (P j) n (found_at slots j) found (subst (λ (x : ℕ). P x n) (sym same) here))
+    subst (IsFound (P j) (n + 1)) (sym (found_same_place slots k j n same lt))
+    (found_more (P j) n (found_at slots j) found (subst (λ (x : ℕ). P x n) (sym same) here))
 place_noted P slots k n j lt found here alone false e =
     let differ : j ≢ k = λ same. cc (e, eq-eqb j k same) in
     subst (IsFound (P j) (n + 1)) (sym (found_other_place slots k j n differ)) (found_same (P j) n (found_at slots j) found (λ holds. differ (alone holds)))
@@ -190,7 +194,8 @@ tells_none p l blank = record {
   pauses = λ d lt. subst (IsFound (PausesTo p d) 0) (sym (blank.no_pause d)) (λ m less. absurd (omega arith));
 }
 
-pub unlinked : (p : Program) (l : Links) (n : ℕ) → ((children : List ℕ) (join : ℕ) → step_at p n ≢ Some (step.Fork children join)) → ((d : ℕ) → step_at p n ≢ Some (step.Surf d)) → TellsBelow p l n → TellsBelow p l (n + 1)
+pub unlinked : (p : Program) (l : Links) (n : ℕ) → ((children : List ℕ) (join : ℕ) → step_at p n ≢ Some (step.Fork children join))
+    → ((d : ℕ) → step_at p n ≢ Some (step.Surf d)) → TellsBelow p l n → TellsBelow p l (n + 1)
 unlinked p l n no_fork no_pause told = record {
   forks_long = told.forks_long;
   joins_long = told.joins_long;
@@ -218,7 +223,8 @@ tells_more p l n (step.Fork children join) at told = record {
       ];
   joins = λ j lt.
       let long : length l.joins ≡ length p.nodes = told.joins_long in
-      place_noted (JoinsAt p) l.joins join n j (omega arith) (told.joins j lt) (record { children = children; forks = at }) (λ x. let f = x.forks in cc) (nat_eq j join) refl;
+      place_noted (JoinsAt p) l.joins join n j (omega arith) (told.joins j lt) (record { children = children; forks = at }) (λ x. let f = x.forks in cc)
+      (nat_eq j join) refl;
   pauses = λ d lt. found_same (PausesTo p d) n (found_at l.pauses d) (told.pauses d lt) (λ x. cc (x, at));
 }
 tells_more p l n (step.Surf depth) at told = record {
@@ -240,9 +246,12 @@ tells_more p l n step.Exit at told = unlinked p l n (λ ks j e. cc (e, at)) (λ 
 
 pub tells_all : (p : Program) (l : Links) (n : ℕ) → length p.nodes ≤ n → TellsBelow p l n → Tells p l
 tells_all p l n all told = record {
-  forks = λ t lt. sole_found (ForksChild p t) n (found_at l.forks t) (λ m x. let less : m < length p.nodes = step_within p m (step.Fork x.children x.join) x.forks in omega arith) (told.forks t lt);
-  joins = λ j lt. sole_found (JoinsAt p j) n (found_at l.joins j) (λ m x. let less : m < length p.nodes = step_within p m (step.Fork x.children j) x.forks in omega arith) (told.joins j lt);
-  pauses = λ d lt. sole_found (PausesTo p d) n (found_at l.pauses d) (λ m x. let less : m < length p.nodes = step_within p m (step.Surf d) x in omega arith) (told.pauses d lt);
+  forks = λ t lt. sole_found (ForksChild p t) n (found_at l.forks t)
+      (λ m x. let less : m < length p.nodes = step_within p m (step.Fork x.children x.join) x.forks in omega arith) (told.forks t lt);
+  joins = λ j lt. sole_found (JoinsAt p j) n (found_at l.joins j) (λ m x. let less : m < length p.nodes = step_within p m (step.Fork x.children j) x.forks in
+      omega arith) (told.joins j lt);
+  pauses = λ d lt. sole_found (PausesTo p d) n (found_at l.pauses d) (λ m x. let less : m < length p.nodes = step_within p m (step.Surf d) x in omega arith)
+      (told.pauses d lt);
 }
 
 -- the fork that is told of a thread

@@ -1,5 +1,6 @@
 -- A code loads a variable where one of its operations does.
-use Rattle.std.proofs.Common.{ℕ, ◌≡◌, ◌<◌, ◌⊎◌, inl, inr, Bool, true, false, ◌||◌, List, [], ◌∷◌, length, nat_eq, refl, get_or, arith, eqb-true, eq-eqb, zero, suc}
+use Rattle.std.proofs.Common.{ℕ, ◌≡◌, ◌<◌, ◌⊎◌, inl, inr, Bool, true, false, ◌||◌, List, [], ◌∷◌, length, nat_eq, refl, get_or, arith, eqb-true, eq-eqb, zero}
+use Rattle.std.proofs.Common.{suc}
 use Rattle.std.specs.Prelude.{Contains}
 use Rattle.std.specs.List.{list_any}
 use Rattle.std.proofs.lemmas.List.Elements.{Contains-append_right, Contains-append_cases}

@@ -30,11 +30,13 @@ other_loads_fit p (op.Binary f) code fits = fits
 at_item : (code : List Operation) (i : ℕ) (o : Operation) → i < length code → o ≡ get_or code i o → drop i code ≡ o ∷ drop (i + 1) code
 at_item code i o lt is_at = rw add-one (drop-cons code i o lt ∙ ap (λ x. x ∷ drop (suc i) code) (sym is_at))
 
-pub load_refused : (p : Program) (code : List Operation) (i : ℕ) (o : Operation) → i < length code → o ≡ get_or code i o → ¬ MatchOption (loaded o) ⊤ (InVariables p) → ¬ LoadsFit p (drop i code)
+pub load_refused : (p : Program) (code : List Operation) (i : ℕ) (o : Operation) → i < length code → o ≡ get_or code i o
+    → ¬ MatchOption (loaded o) ⊤ (InVariables p) → ¬ LoadsFit p (drop i code)
 load_refused p code i o lt is_at refused fits =
     refused (first_load_fits p o (drop (i + 1) code) (subst (λ (xs : List Operation). LoadsFit p xs) (at_item code i o lt is_at) fits))
 
-pub load_passed : (p : Program) (code : List Operation) (i : ℕ) (o : Operation) → i < length code → o ≡ get_or code i o → MatchOption (loaded o) ⊤ (InVariables p) → LoadsFit p (drop i code) ↔ LoadsFit p (drop (i + 1) code)
+pub load_passed : (p : Program) (code : List Operation) (i : ℕ) (o : Operation) → i < length code → o ≡ get_or code i o
+    → MatchOption (loaded o) ⊤ (InVariables p) → LoadsFit p (drop i code) ↔ LoadsFit p (drop (i + 1) code)
 load_passed p code i o lt is_at passed =
     let e = at_item code i o lt is_at in (
       λ fits. other_loads_fit p o (drop (i + 1) code) (subst (λ (xs : List Operation). LoadsFit p xs) e fits),

@@ -11,7 +11,8 @@ use Rattle.sc_graph.specs.Inside.Lookups.{name_at}
 named : (p : Program) (x : ℕ) (v : Variable) → slice_get p.variables x ≡ Some v → name_at p x ≡ Some v.name
 named p x v at = ap (λ o. option_map (λ w. w.name) o) at
 
-pub name_decides : (p : Program) (x : ℕ) (v : Variable) (name : List ℕ) (r : Bool) → slice_get p.variables x ≡ Some v → r ≡ pointwise nat_eq v.name name → Decides r (name_at p x ≡ Some name)
+pub name_decides : (p : Program) (x : ℕ) (v : Variable) (name : List ℕ) (r : Bool) → slice_get p.variables x ≡ Some v → r ≡ pointwise nat_eq v.name name
+    → Decides r (name_at p x ≡ Some name)
 name_decides p x v name r at is =
     let same : Decides r (v.name ≡ name) = slice_eq-Decides Decides-eqb v.name name r is in
     let here : name_at p x ≡ Some v.name = named p x v at in

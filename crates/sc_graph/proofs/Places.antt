@@ -6,7 +6,8 @@ use Rattle.sc_graph.specs.Program.{Program}
 use Rattle.sc_graph.specs.Size.{CountsFit, ProgramFitsAt}
 use Rattle.sc_graph.specs.Structure.{StructureAt}
 
-pub fits_everywhere : (p : Program) → CountsFit p → ((x : ℕ) → ProgramFitsAt p (place.Variable x)) → ((t : ℕ) → ProgramFitsAt p (place.Thread t)) → ((n : ℕ) → ProgramFitsAt p (place.Node n)) → (at : Place) → ProgramFitsAt p at
+pub fits_everywhere : (p : Program) → CountsFit p → ((x : ℕ) → ProgramFitsAt p (place.Variable x)) → ((t : ℕ) → ProgramFitsAt p (place.Thread t))
+    → ((n : ℕ) → ProgramFitsAt p (place.Node n)) → (at : Place) → ProgramFitsAt p at
 fits_everywhere p counts variables threads nodes place.Image = counts
 fits_everywhere p counts variables threads nodes (place.Variable x) = variables x
 fits_everywhere p counts variables threads nodes (place.Thread t) = threads t

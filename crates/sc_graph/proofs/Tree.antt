@@ -124,7 +124,8 @@ too_high p tree t u q s l r a up other less x here =
           omega arith
     ]
 
-pub part_up : (p : Program) → FallsUpwards p → (t u q s l r a : ℕ) → parent_of p t ≡ Some q → parent_of p u ≡ Some s → s < q → PartAt p t u l r a → PartAt p q u l r a
+pub part_up : (p : Program) → FallsUpwards p → (t u q s l r a : ℕ) → parent_of p t ≡ Some q → parent_of p u ≡ Some s → s < q → PartAt p t u l r a
+    → PartAt p q u l r a
 part_up p tree t u q s l r a up other less x =
     record {
       left_parent = x.left_parent;

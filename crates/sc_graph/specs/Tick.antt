@@ -1,5 +1,6 @@
 -- Resting configurations, and the start of a tick.
-use Rattle.std.specs.Prelude.{ℕ, zero, ◌≡◌, ◌≢◌, ◌↔◌, ◌<◌, true, false, Option, Some, None, List, [], ◌∷◌, map, length, slice_get, unwrap_or, Contains, if◌then◌else◌}
+use Rattle.std.specs.Prelude.{ℕ, zero, ◌≡◌, ◌≢◌, ◌↔◌, ◌<◌, true, false, Option, Some, None, List, [], ◌∷◌, map, length, slice_get, unwrap_or, Contains}
+use Rattle.std.specs.Prelude.{if◌then◌else◌}
 use Rattle.std.specs.Str.{bytes_eq}
 use Rattle.sc_values.specs.declared.value.Value.{Value}
 use Rattle.sc_values.specs.Operator.{kind_of, initial_value}

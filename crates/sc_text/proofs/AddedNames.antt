@@ -19,7 +19,8 @@ use Rattle.sc_text.specs.Parts.{IsNameIn}
 -- ---- the digits of a number
 
 digit_byte : (byte : ℕ) → digit_value byte < 10 → (is_letter byte || is_digit byte) ≡ true
-digit_byte byte small = let range : IsInRange 48 57 byte = digit_from_value byte small in let low : 48 ≤ byte = range.0 in let high : byte ≤ 57 = range.1 in grind (arith, nat_tests)
+digit_byte byte small = let range : IsInRange 48 57 byte = digit_from_value byte small in let low : 48 ≤ byte = range.0 in let high : byte ≤ 57 = range.1 in
+    grind (arith, nat_tests)
 
 digit_bytes : (bytes : List ℕ) → AllDigits 10 bytes → list_all (λ byte. is_letter byte || is_digit byte) bytes ≡ true
 digit_bytes [] h = refl

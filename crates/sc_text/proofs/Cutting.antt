@@ -1,5 +1,6 @@
 -- The longest piece at the front of a text, by its first bytes.
-use Rattle.std.proofs.Common.{◌≡◌, ◌≢◌, ℕ, suc, ◌+◌, ◌<◌, ◌≤◌, Bool, true, false, ◌||◌, cond, List, [], ◌∷◌, ◌++◌, length, take, drop, get_or, refl, sym, ◌∙◌, ap, subst, arith, length-append}
+use Rattle.std.proofs.Common.{◌≡◌, ◌≢◌, ℕ, suc, ◌+◌, ◌<◌, ◌≤◌, Bool, true, false, ◌||◌, cond, List, [], ◌∷◌, ◌++◌, length, take, drop, get_or, refl, sym, ◌∙◌}
+use Rattle.std.proofs.Common.{ap, subst, arith, length-append}
 use Rattle.std.proofs.Math.Seq.{take-append_seam, drop-append_seam}
 use Rattle.std.proofs.lemmas.List.{take-append-drop, length-take-le}
 use Rattle.std.specs.List.{prefix_len}
@@ -12,7 +13,8 @@ use Rattle.sc_text.specs.Words.{sign_text}
 use Rattle.sc_text.specs.Pieces as pieces
 use Rattle.sc_text.specs.Pieces.{is_blank, is_word_byte, stays_in_line, slash, IsPiece, IsLongest, BeginsNone}
 use Rattle.sc_text.specs.Inside.{is_of, IsMadeOf, a_word, digits, a_sign, blank, comment, IsPieceAt, BeginsComment, BeginsSign, BeginsNoSign}
-use Rattle.sc_text.proofs.Faces.{Face, word_face, digits_face, sign_face, blank_face, comment_face, face, no_empty, Signed, signed, letter_only, digit_only, blank_only, comment_only, no_slashes}
+use Rattle.sc_text.proofs.Faces.{Face, word_face, digits_face, sign_face, blank_face, comment_face, face, no_empty, Signed, signed, letter_only, digit_only}
+use Rattle.sc_text.proofs.Faces.{blank_only, comment_only, no_slashes}
 use Rattle.sc_text.proofs.Rows.{Parted, parted, no_longer}
 
 made_piece : (p : Piece) (bytes : List ℕ) → IsMadeOf p bytes → IsPiece bytes
@@ -59,7 +61,8 @@ row_length p first text h e =
     let one : suc (length h.front) ≡ 1 + prefix_len p text = omega arith in
     one ∙ ap (λ b. cond b (1 + prefix_len p text) 0) (sym e)
 
-pub word_piece : (text : List ℕ) (n : ℕ) → 0 < length text → is_letter (get_or text 0 0) ≡ true → n ≡ prefix_len (is_of row.Word) text → IsPieceAt text piece.Word n
+pub word_piece : (text : List ℕ) (n : ℕ) → 0 < length text → is_letter (get_or text 0 0) ≡ true → n ≡ prefix_len (is_of row.Word) text
+    → IsPieceAt text piece.Word n
 word_piece [] n some l e = absurd (omega arith)
 word_piece (first ∷ text) n some l e =
     let h = parted is_word_byte text in
@@ -69,7 +72,8 @@ word_piece (first ∷ text) n some l e =
     (λ more behind f some_more p. no_longer is_word_byte h.front h.rest more behind h.stops f some_more
     (letter_only first (h.front ++ more) l (face (first ∷ (h.front ++ more)) p first (h.front ++ more) refl)))
 
-pub digits_piece : (text : List ℕ) (n : ℕ) → 0 < length text → is_digit (get_or text 0 0) ≡ true → n ≡ prefix_len (is_of row.Digits) text → IsPieceAt text piece.Digits n
+pub digits_piece : (text : List ℕ) (n : ℕ) → 0 < length text → is_digit (get_or text 0 0) ≡ true → n ≡ prefix_len (is_of row.Digits) text
+    → IsPieceAt text piece.Digits n
 digits_piece [] n some l e = absurd (omega arith)
 digits_piece (first ∷ text) n some l e =
     let h = parted is_digit text in
@@ -89,7 +93,8 @@ comment_of : (text : List ℕ) (n : ℕ) → n ≡ prefix_len (is_of row.Line) (
 comment_of text n e =
     let h = parted stays_in_line text in
     let long = h.long in
-    let len : length (slash ∷ slash ∷ h.front) ≡ n = let two : suc (suc (length h.front)) ≡ 1 + (1 + prefix_len stays_in_line text) = omega arith in two ∙ sym e in
+    let len : length (slash ∷ slash ∷ h.front) ≡ n = let two : suc (suc (length h.front)) ≡ 1 + (1 + prefix_len stays_in_line text) = omega arith in
+    two ∙ sym e in
     cut_at (slash ∷ slash ∷ text) (slash ∷ slash ∷ h.front) h.rest piece.Comment n (ap (λ t. slash ∷ slash ∷ t) h.parts) len
     (comment h.front h.passes)
     (λ more behind f some_more p. no_longer stays_in_line h.front h.rest more behind h.stops f some_more
@@ -108,7 +113,8 @@ slash_alone (c ∷ d ∷ r) m tail l e = absurd (omega arith)
 
 -- a text that begins with a sign's two bytes, and no comment: no piece is longer
 pair_longest : (s : Sign) (rest : List ℕ) → length (sign_text s) ≡ 2 → NoLonger (sign_text s) rest
-pair_longest s rest len more behind f some_more p = absurd (go more some_more (face (sign_text s ++ more) p g.first (g.rest ++ more) (ap (λ b. b ++ more) g.parts)))
+pair_longest s rest len more behind f some_more p = absurd
+    (go more some_more (face (sign_text s ++ more) p g.first (g.rest ++ more) (ap (λ b. b ++ more) g.parts)))
   where
     g : Signed (sign_text s)
     g = signed s
@@ -139,7 +145,8 @@ no_bytes [] e = refl
 no_bytes (b ∷ r) e = absurd (omega arith)
 
 -- a sign's one byte, where no sign of two bytes and no comment begins
-one_longest : (text rest : List ℕ) (s : Sign) → text ≡ sign_text s ++ rest → length (sign_text s) ≡ 1 → ¬ BeginsComment text → BeginsNoSign text 2 → NoLonger (sign_text s) rest
+one_longest : (text rest : List ℕ) (s : Sign) → text ≡ sign_text s ++ rest → length (sign_text s) ≡ 1 → ¬ BeginsComment text → BeginsNoSign text 2
+    → NoLonger (sign_text s) rest
 one_longest text rest s parts len plain pairless more behind f some_more p =
     absurd (go more f some_more (face (sign_text s ++ more) p g.first more (ap (λ b. b ++ more) alone)))
   where
@@ -172,7 +179,8 @@ pub one_piece : (text : List ℕ) (s : Sign) → ¬ BeginsComment text → Begin
 one_piece text s plain pairless b =
     cut_at text (sign_text s) b.tail (piece.Sign s) 1 b.parts b.long (a_sign s) (one_longest text b.tail s b.parts b.long plain pairless)
 
-pub no_piece : (text : List ℕ) → is_letter (get_or text 0 0) ≡ false → is_digit (get_or text 0 0) ≡ false → is_blank (get_or text 0 0) ≡ false → ¬ BeginsComment text → BeginsNoSign text 2 → BeginsNoSign text 1 → BeginsNone text
+pub no_piece : (text : List ℕ) → is_letter (get_or text 0 0) ≡ false → is_digit (get_or text 0 0) ≡ false → is_blank (get_or text 0 0) ≡ false
+    → ¬ BeginsComment text → BeginsNoSign text 2 → BeginsNoSign text 1 → BeginsNone text
 no_piece text letter digit white plain pairless signless [] behind e p = no_empty [] p refl
 no_piece text letter digit white plain pairless signless (first ∷ more) behind e p = go more e (face (first ∷ more) p first more refl)
   where

@@ -1,10 +1,12 @@
 -- Where more parentheses and prefix operators may be open, only what was barred is open.
 use Rattle.std.proofs.Common.{ℕ, zero, suc, ◌+◌, List, subst, arith}
 use Rattle.grammar.specs.Grammar.{Grammar}
-use Rattle.grammar.specs.Deeper.{Deeper, IsLanguage, same_one, deeper_seq, deeper_either, deeper_maybe, deeper_many, deeper_made, opened, with_one, with_seq, with_either, with_made}
+use Rattle.grammar.specs.Deeper.{Deeper, IsLanguage, same_one, deeper_seq, deeper_either, deeper_maybe, deeper_many, deeper_made, opened, with_one, with_seq}
+use Rattle.grammar.specs.Deeper.{with_either, with_made}
 use Rattle.sc_text.specs.Classes.{Class}
 use Rattle.sc_text.specs.Phrases.{Phrase}
-use Rattle.sc_text.specs.Expression.{text_tokens, right, chain, Inner, NoMore, Nested, leaf, parenthesized, operands, call, atom, unary, divisor, quotient, factor, product, sum, comparison, negation, conjunction, disjunction, within, expression}
+use Rattle.sc_text.specs.Expression.{text_tokens, right, chain, Inner, NoMore, Nested, leaf, parenthesized, operands, call, atom, unary, divisor, quotient}
+use Rattle.sc_text.specs.Expression.{factor, product, sum, comparison, negation, conjunction, disjunction, within, expression}
 use Rattle.sc_text.proofs.Shapes.{expression_is}
 
 abbrev Wider : Grammar text_tokens Phrase → Grammar text_tokens Phrase → Type 1
@@ -44,7 +46,8 @@ call_wider w w' d = right_wider _ _ _ (operands_wider w w' d)
 atom_wider : (i j : Inner) → Opened i j → Wider (atom i) (atom j)
 unfolding atom parenthesized call
 atom_wider i j (from_none w n s) =
-    opened _ _ _ _ _ (with_either _ _ _ _ _ (with_made _ _ _ _ _ (with_seq _ _ _ _ _ (with_one _))) (with_made _ _ _ _ _ (with_seq _ _ _ _ _ (with_one _)))) leaf_same
+    opened _ _ _ _ _ (with_either _ _ _ _ _ (with_made _ _ _ _ _ (with_seq _ _ _ _ _ (with_one _))) (with_made _ _ _ _ _ (with_seq _ _ _ _ _ (with_one _))))
+    leaf_same
 atom_wider i j (in_each w n s w' n' s' d e f) =
     deeper_either _ _ _ _ _ (deeper_either _ _ _ _ _ (parenthesized_wider w w' d) (call_wider w w' d)) leaf_same
 
@@ -106,7 +109,8 @@ within_opened : (n m : ℕ) → Above n m → Opened (within n) (within m)
 unfolding within
 within_opened n m (above_none k) = from_none _ _ _
 within_opened n m (above_more k l a) =
-    in_each _ _ _ _ _ _ (disjunction_wider (within k) (within l) (within_opened k l a)) (negation_wider (within k) (within l) (within_opened k l a)) (unary_wider (within k) (within l) (within_opened k l a))
+    in_each _ _ _ _ _ _ (disjunction_wider (within k) (within l) (within_opened k l a)) (negation_wider (within k) (within l) (within_opened k l a))
+    (unary_wider (within k) (within l) (within_opened k l a))
 
 -- an expression within which more may be open
 pub expression_wider : (k : ℕ) → Wider (expression 0) (expression (suc k))

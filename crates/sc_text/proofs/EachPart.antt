@@ -17,8 +17,10 @@ module _ {Q : Token → Type 0} where
   pub each_kept : (classes : List Class) → Each {L = text_tokens} Q (One classes) Q
   each_kept classes = each_one classes Q (λ t q c. q)
 
-  pub each_after : {A : Type 0} (classes : List Class) (g : Grammar text_tokens A) (P : A → Type 0) → Each {L = text_tokens} Q g P → Each {L = text_tokens} Q (after classes g) P
+  pub each_after : {A : Type 0} (classes : List Class) (g : Grammar text_tokens A) (P : A → Type 0) → Each {L = text_tokens} Q g P
+      → Each {L = text_tokens} Q (after classes g) P
   each_after classes g P a = each_made _ _ _ _ _ P (each_seq _ _ _ _ _ _ (each_token classes) a) (λ x h. h.1)
 
-  pub each_before : {A : Type 0} (classes : List Class) (g : Grammar text_tokens A) (P : A → Type 0) → Each {L = text_tokens} Q g P → Each {L = text_tokens} Q (before g classes) P
+  pub each_before : {A : Type 0} (classes : List Class) (g : Grammar text_tokens A) (P : A → Type 0) → Each {L = text_tokens} Q g P
+      → Each {L = text_tokens} Q (before g classes) P
   each_before classes g P a = each_made _ _ _ _ _ P (each_seq _ _ _ _ _ _ a (each_token classes)) (λ x h. h.0)

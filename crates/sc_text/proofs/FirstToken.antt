@@ -1,5 +1,6 @@
 -- What stands at the front of a text, and whether its first token is a word.
-use Rattle.std.proofs.Common.{◌≡◌, ◌≢◌, ℕ, ◌+◌, ◌<◌, ◌≤◌, Bool, true, false, List, [], ◌∷◌, ◌++◌, length, take, drop, get_or, refl, sym, ◌∙◌, ap, subst, arith, codes, IsTrue, not, length-drop, ◌⊎◌, inl, inr, ◌&&◌}
+use Rattle.std.proofs.Common.{◌≡◌, ◌≢◌, ℕ, ◌+◌, ◌<◌, ◌≤◌, Bool, true, false, List, [], ◌∷◌, ◌++◌, length, take, drop, get_or, refl, sym, ◌∙◌, ap, subst, arith}
+use Rattle.std.proofs.Common.{codes, IsTrue, not, length-drop, ◌⊎◌, inl, inr, ◌&&◌}
 use Rattle.std.specs.Prelude.{◌↔◌}
 use Rattle.std.proofs.lemmas.List.{take-append-drop, drop-drop, drop_all}
 use Rattle.std.specs.List.{prefix_len}
@@ -152,13 +153,15 @@ tells : (text : List ℕ) (c : ℕ) (tail : List ℕ) (b : Bool) → text ≡ ch
 tells text c tail true e is = (λ t. absurd cc, λ h. absurd (goes_further text (c ∷ tail) c tail e refl (sym is) h))
 tells text c tail false e is = (λ t. stops_longest text (c ∷ tail) e (sym is), λ h. refl)
 
-pub word_goes_on : (text rest : List ℕ) (b : Bool) → text ≡ chart ++ rest → 1 ≤ length rest → b ≡ is_word_byte (get_or rest 0 0) → IsTrue (not b) ↔ IsNext word.Chart text
+pub word_goes_on : (text rest : List ℕ) (b : Bool) → text ≡ chart ++ rest → 1 ≤ length rest → b ≡ is_word_byte (get_or rest 0 0)
+    → IsTrue (not b) ↔ IsNext word.Chart text
 word_goes_on text [] b e some is = absurd (omega arith)
 word_goes_on text (c ∷ tail) b e some is = tells text c tail b e is
 
 -- ---- where the loop ends
 
-pub next_tells : (text rest : List ℕ) (b : Bool) → IsSame text rest → PassesNone rest → IsTrue b ↔ IsNext word.Chart rest → IsTrue b ↔ BeginsWith word.Chart text
+pub next_tells : (text rest : List ℕ) (b : Bool) → IsSame text rest → PassesNone rest → IsTrue b ↔ IsNext word.Chart rest
+    → IsTrue b ↔ BeginsWith word.Chart text
 next_tells text rest b same none is =
     (λ t. same.0 (next_begins word.Chart rest (is.0 t)), λ h. is.1 (begins_next word.Chart rest none (same.1 h)))
 

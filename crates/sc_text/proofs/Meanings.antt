@@ -1,5 +1,6 @@
 -- What the bytes of a piece are by the language: a token, or why they are none.
-use Rattle.std.proofs.Common.{◌≡◌, ◌≢◌, ℕ, suc, ◌+◌, ◌-◌, ◌*◌, ◌<◌, ◌&&◌, Bool, true, false, nat_le, List, ◌∷◌, length, drop, get_or, sym, ◌∙◌, ap, subst, arith, pos, ℤ, drop-cons}
+use Rattle.std.proofs.Common.{◌≡◌, ◌≢◌, ℕ, suc, ◌+◌, ◌-◌, ◌*◌, ◌<◌, ◌&&◌, Bool, true, false, nat_le, List, ◌∷◌, length, drop, get_or, sym, ◌∙◌, ap, subst}
+use Rattle.std.proofs.Common.{arith, pos, ℤ, drop-cons}
 use Rattle.std.proofs.Common.{to_z, of_z, w32}
 use Rattle.std.proofs.lemmas.Int.{to_z-of_z}
 use mir.Val.{SFits}
@@ -31,7 +32,8 @@ comment_passes bytes (comment r i) = scanned.a_comment r i
 pub word_spelled : (l : Language) (bytes : List ℕ) (w : Word) → bytes ≡ word_text w → Spells l bytes (kind.Word w)
 word_spelled l bytes w e = subst (λ b. Spells l b (kind.Word w)) (sym e) (scanned.a_word w)
 
-pub name_spelled : (l : Language) (bytes : List ℕ) → IsMadeOf piece.Word bytes → ((w : Word) → bytes ≢ word_text w) → allows l (get_or bytes 0 0) ≡ true → is_name bytes ≡ true → Spells l bytes (kind.Name bytes)
+pub name_spelled : (l : Language) (bytes : List ℕ) → IsMadeOf piece.Word bytes → ((w : Word) → bytes ≢ word_text w) → allows l (get_or bytes 0 0) ≡ true
+    → is_name bytes ≡ true → Spells l bytes (kind.Name bytes)
 name_spelled l bytes (a_word f r i j) free open_to n = scanned.a_name f r n open_to (λ h. free h.0 h.1)
 
 pub name_barred : (l : Language) (bytes : List ℕ) → IsMadeOf piece.Word bytes → allows l (get_or bytes 0 0) ≡ false → IsRefused l bytes broken.Token
@@ -42,7 +44,8 @@ too_long true true n e f h = grind (arith, nat_tests)
 too_long true false n e f h = cc
 too_long false b n e f h = cc
 
-pub name_long : (l : Language) (bytes : List ℕ) → IsMadeOf piece.Word bytes → allows l (get_or bytes 0 0) ≡ true → is_name bytes ≡ false → IsRefused l bytes broken.Limit
+pub name_long : (l : Language) (bytes : List ℕ) → IsMadeOf piece.Word bytes → allows l (get_or bytes 0 0) ≡ true → is_name bytes ≡ false
+    → IsRefused l bytes broken.Limit
 name_long l bytes (a_word f r i j) open_to n = scanned.long_name f r i open_to (too_long (is_letter f) (list_all is_word_byte r) (length (f ∷ r)) i j n)
 
 all_digits : (bytes : List ℕ) → IsMadeOf piece.Digits bytes → list_all is_digit bytes ≡ true
@@ -51,15 +54,18 @@ all_digits bytes (digits f r i j) = ap (λ b. b && list_all is_digit r) i ∙ j
 pub number_idle : (bytes : List ℕ) → IsMadeOf piece.Digits bytes → has_idle_zero bytes ≡ true → (l : Language) → IsRefused l bytes broken.Token
 number_idle bytes m h l = scanned.idle_zero bytes (all_digits bytes m) h
 
-pub number_spelled : (bytes : List ℕ) (n : ℤ) → IsMadeOf piece.Digits bytes → has_idle_zero bytes ≡ false → IsValue n bytes → (l : Language) → Spells l bytes (kind.Number n)
+pub number_spelled : (bytes : List ℕ) (n : ℤ) → IsMadeOf piece.Digits bytes → has_idle_zero bytes ≡ false → IsValue n bytes → (l : Language)
+    → Spells l bytes (kind.Number n)
 number_spelled bytes n m h v l =
     subst (λ k. Spells l bytes (kind.Number k)) (sym v.is) (scanned.a_number bytes (all_digits bytes m) h v.within)
 
-pub number_large : (bytes : List ℕ) → IsMadeOf piece.Digits bytes → has_idle_zero bytes ≡ false → number_limit < written bytes → (l : Language) → IsRefused l bytes broken.Limit
+pub number_large : (bytes : List ℕ) → IsMadeOf piece.Digits bytes → has_idle_zero bytes ≡ false → number_limit < written bytes → (l : Language)
+    → IsRefused l bytes broken.Limit
 number_large bytes m h large l = scanned.large_number bytes (all_digits bytes m) h large
 
 -- once the value is too large, the whole number is
-pub too_large : (value i d : ℕ) (bytes : List ℕ) → i < length bytes → d ≡ get_or bytes i 0 - 48 → written_behind value (drop i bytes) ≡ written bytes → number_limit < value * 10 + d → number_limit < written bytes
+pub too_large : (value i d : ℕ) (bytes : List ℕ) → i < length bytes → d ≡ get_or bytes i 0 - 48 → written_behind value (drop i bytes) ≡ written bytes
+    → number_limit < value * 10 + d → number_limit < written bytes
 too_large value i d bytes within is rest large =
     let parted : drop i bytes ≡ get_or bytes i 0 ∷ drop (suc i) bytes = drop-cons bytes i 0 within in
     let grows = written_grows (value * 10 + (get_or bytes i 0 - 48)) (drop (suc i) bytes) in

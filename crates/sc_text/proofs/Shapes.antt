@@ -7,7 +7,8 @@ use Rattle.sc_text.specs.declared.word.Word.TheVariants as word
 use Rattle.sc_text.specs.declared.sign.Sign.TheVariants as sign
 use Rattle.sc_text.specs.Classes.{Class, AName, Zero, Number, TheWord, TheSign}
 use Rattle.sc_text.specs.Phrases.{Phrase}
-use Rattle.sc_text.specs.Expression.{text_tokens, right, Inner, NoMore, Nested, leaf, parenthesized, operands, call, atom, unary, divisor, quotient, factor, product, sum, comparison, negation, conjunction, disjunction, within, expression}
+use Rattle.sc_text.specs.Expression.{text_tokens, right, Inner, NoMore, Nested, leaf, parenthesized, operands, call, atom, unary, divisor, quotient, factor}
+use Rattle.sc_text.specs.Expression.{product, sum, comparison, negation, conjunction, disjunction, within, expression}
 
 -- what begins an atom, an operand with its sign, and an expression
 abbrev leaf_first : List Class
@@ -45,9 +46,11 @@ Is g opens stops = Shaped g false opens stops
 
 pub data Fits : Inner → Type 1 where
   nothing : Fits NoMore
-  nested : (w n s : Grammar text_tokens Phrase) → Is w expression_first expression_tails → Is n expression_first comparison_tails → Is s unary_first [] → Fits (Nested w n s)
+  nested : (w n s : Grammar text_tokens Phrase) → Is w expression_first expression_tails → Is n expression_first comparison_tails → Is s unary_first []
+      → Fits (Nested w n s)
 
-right_is : (classes opens stops : List Class) (g : Grammar text_tokens Phrase) → is_filled classes ≡ true → disjoint text_tokens opens [] ≡ true → Is g opens stops → Shaped (right classes g) false classes stops
+right_is : (classes opens stops : List Class) (g : Grammar text_tokens Phrase) → is_filled classes ≡ true → disjoint text_tokens opens [] ≡ true
+    → Is g opens stops → Shaped (right classes g) false classes stops
 right_is classes opens stops g some d h = shaped_made _ _ _ _ _ _ _ (shaped_seq _ _ _ _ _ _ _ _ _ _ (shaped_one _ some) h d)
 
 leaf_is : Is leaf leaf_first []

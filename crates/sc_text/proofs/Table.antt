@@ -14,7 +14,8 @@ StandsIn x (y ∷ ys) = (x ≡ y) ⊎ StandsIn x ys
 abbrev pub Left : {X : Type 0} → (X → Type 0) → List X → ℕ → Type 0
 Left {X = X} P table i = (x : X) → P x → StandsIn x (drop i table)
 
-pub left_next : {X : Type 0} (P : X → Type 0) (table : List X) (i : ℕ) (x d : X) → i < length table → x ≡ get_or table i d → ¬ P x → Left P table i → Left P table (i + 1)
+pub left_next : {X : Type 0} (P : X → Type 0) (table : List X) (i : ℕ) (x d : X) → i < length table → x ≡ get_or table i d → ¬ P x → Left P table i
+    → Left P table (i + 1)
 left_next P table i x d within is unlike h y p =
     let parted : drop i table ≡ get_or table i d ∷ drop (suc i) table = drop-cons table i d within in
     ⊎_elim (λ same. absurd (unlike (subst P (same ∙ sym is) p))) (λ later. rw add-one later) (subst (StandsIn y) parted (h y p))

@@ -1,5 +1,6 @@
 -- What a text can write, it can write again: each operation of an expression of a text.
-use Rattle.std.proofs.Common.{◌≡◌, ℕ, zero, suc, ◌+◌, ◌≤◌, ℤ, pos, negsuc, Bool, true, false, not, ◌&&◌, IsTrue, List, [], ◌∷◌, ◌++◌, Option, Some, None, refl, sym, ◌∙◌, ap, subst, arith}
+use Rattle.std.proofs.Common.{◌≡◌, ℕ, zero, suc, ◌+◌, ◌≤◌, ℤ, pos, negsuc, Bool, true, false, not, ◌&&◌, IsTrue, List, [], ◌∷◌, ◌++◌, Option, Some, None, refl}
+use Rattle.std.proofs.Common.{sym, ◌∙◌, ap, subst, arith}
 use Rattle.std.specs.List.{list_all}
 use Rattle.std.specs.Ordering.{int_eq}
 use Rattle.std.proofs.lemmas.List.Folds.{list_all-append}
@@ -22,7 +23,8 @@ use Rattle.sc_text.specs.Tokens.{number_limit}
 use Rattle.sc_text.specs.Parts.{is_writable_unary}
 use Rattle.sc_text.specs.Writable.{is_writable_operation}
 use Rattle.sc_text.specs.Phrases.{Phrase, all_of, none_or_it, leaf_of, number_of, signed, division_of, divided, division, is_there}
-use Rattle.sc_text.specs.Expression.{text_tokens, right, chain, prefix, Inner, NoMore, Nested, leaf, parenthesized, operands, call, atom, unary, divisor, quotient, factor, product, sum, comparison, negation, conjunction, disjunction, within, expression}
+use Rattle.sc_text.specs.Expression.{text_tokens, right, chain, prefix, Inner, NoMore, Nested, leaf, parenthesized, operands, call, atom, unary, divisor}
+use Rattle.sc_text.specs.Expression.{quotient, factor, product, sum, comparison, negation, conjunction, disjunction, within, expression}
 use Rattle.sc_text.proofs.WellTokens.{IsWellKind, IsWell}
 use Rattle.sc_text.proofs.EachPart.{each_token, each_kept, each_after, each_before}
 

@@ -1,5 +1,6 @@
 -- Division by a number of 32 bits, wrapping.
-use Rattle.std.proofs.Common.{◌≡◌, ℕ, zero, suc, ◌≤◌, ◌<◌, ◌^◌, ◌%◌, ◌/◌, ℤ, pos, negsuc, neg_ℤ, refl, sym, ap, ◌∙◌, subst, Option, Some, unsigned_abs, FitsSigned, to_z, of_z, arith}
+use Rattle.std.proofs.Common.{◌≡◌, ℕ, zero, suc, ◌≤◌, ◌<◌, ◌^◌, ◌%◌, ◌/◌, ℤ, pos, negsuc, neg_ℤ, refl, sym, ap, ◌∙◌, subst, Option, Some, unsigned_abs}
+use Rattle.std.proofs.Common.{FitsSigned, to_z, of_z, arith}
 use Rattle.std.proofs.Math.Bridge.{le_prop}
 use Rattle.std.proofs.Math.Nat.{mod-eq_of_lt, div-le_self, zero-lt-suc}
 use Rattle.std.proofs.lemmas.Int.{ints, quot-rem, rem_below, fits_signed_from_abs, int_wrap_fits}

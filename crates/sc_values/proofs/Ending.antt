@@ -14,7 +14,8 @@ use Rattle.sc_values.specs.Operator.{unary_kind, binary_kind}
 use Rattle.sc_values.specs.Inside.Stack.{given_by_unary, given_by_binary, last_kind}
 use Rattle.sc_values.specs.Expr.{kind, postorder}
 use Rattle.sc_values.specs.Checked.{Checked, Checks, loaded_from}
-use Rattle.sc_values.proofs.Induction.{induct, postorder-literal, postorder-load, postorder-unary, postorder-binary, kind-literal, kind-load, kind-unary, kind-binary}
+use Rattle.sc_values.proofs.Induction.{induct, postorder-literal, postorder-load, postorder-unary, postorder-binary, kind-literal, kind-load, kind-unary}
+use Rattle.sc_values.proofs.Induction.{kind-binary}
 use Rattle.sc_values.proofs.Running.{given}
 
 unary_is : (f : UnaryOperator) (a k : Kind) → unary_kind f a ≡ Some k → given_by_unary f ≡ k
@@ -84,7 +85,12 @@ ends = induct EndsIn (record {
   of_binary = λ f a b left right kinds k is.
       let g = given (λ m. option_and_then (binary_kind f m) (kind b kinds)) (kind a kinds) k (sym (kind-binary f a b kinds) ∙ is) in
       let h = given (binary_kind f g.operand) (kind b kinds) k g.gives in
-      record { front = postorder a ++ postorder b; last = op.Binary f; is = postorder-binary f a b; gives = ap Some (binary_is f g.operand h.operand k h.gives) };
+      record {
+        front = postorder a ++ postorder b;
+        last = op.Binary f;
+        is = postorder-binary f a b;
+        gives = ap Some (binary_is f g.operand h.operand k h.gives);
+      };
 })
 
 at_end : (front : List Operation) (o : Operation) → slice_get (front ++ o ∷ []) (length (front ++ o ∷ []) - 1) ≡ Some o
@@ -97,7 +103,8 @@ at_end front o =
     behind (x ∷ xs) = behind xs
 
 -- the last operation of a checked code leaves the code's kind
-pub checked_ends : (kinds : List Kind) (checked : Checked) (checks : Checks kinds checked.operations checked) → option_and_then (last_kind (slice_get checked.loads 0)) (slice_get checked.operations (length checked.operations - 1)) ≡ Some checks.formed.gives
+pub checked_ends : (kinds : List Kind) (checked : Checked) (checks : Checks kinds checked.operations checked)
+    → option_and_then (last_kind (slice_get checked.loads 0)) (slice_get checked.operations (length checked.operations - 1)) ≡ Some checks.formed.gives
 checked_ends kinds checked checks =
     let code = checked.operations in
     let formed = checks.formed in

@@ -1,5 +1,6 @@
 -- A checked code has a value over operands of its loads' kinds, and the machine over a stack computes it.
-use Rattle.std.proofs.Common.{◌≡◌, ℕ, suc, ◌+◌, ◌<◌, ◌≤◌, Option, Some, None, List, [], ◌∷◌, map, option_and_then, option_map, filter_map, slice_get, length, drop, get_or, refl, sym, ap, ◌∙◌, subst, arith}
+use Rattle.std.proofs.Common.{◌≡◌, ℕ, suc, ◌+◌, ◌<◌, ◌≤◌, Option, Some, None, List, [], ◌∷◌, map, option_and_then, option_map, filter_map, slice_get, length}
+use Rattle.std.proofs.Common.{drop, get_or, refl, sym, ap, ◌∙◌, subst, arith}
 use Rattle.std.proofs.lemmas.List.{drop_more, length-map}
 use Rattle.std.proofs.lemmas.Option.{slice_get-map}
 use Rattle.std.specs.List.{cons_option}
@@ -28,7 +29,8 @@ loads_known kinds code formed = known_at kinds _ _ (ap loads formed.spells) (kin
 pub code_kind_is : (kinds : List Kind) (code : List Operation) (formed : IsWellFormed kinds code) → code_kind code kinds ≡ Some formed.gives
 code_kind_is kinds code formed = ap (option_and_then (λ e. kind e kinds)) (spells-tree_of code formed.spelt formed.spells) ∙ formed.kinded
 
-kind_at : (operands : List Value) (kinds : List Kind) (x : ℕ) (k : Kind) → map kind_of operands ≡ kinds → slice_get kinds x ≡ Some k → Gives (slice_get operands x) k
+kind_at : (operands : List Value) (kinds : List Kind) (x : ℕ) (k : Kind) → map kind_of operands ≡ kinds → slice_get kinds x ≡ Some k
+    → Gives (slice_get operands x) k
 kind_at operands kinds x k are is = go (slice_get operands x) refl
   where
     there : option_map kind_of (slice_get operands x) ≡ Some k
@@ -42,27 +44,34 @@ pub kinds_are : (operands : List Value) (kinds : List Kind) → map kind_of oper
 kinds_are operands kinds are = record { each = λ x k is. kind_at operands kinds x k are is }
 
 -- over operands of these kinds a checked code has a value, of the code's kind
-pub checked_value : (kinds : List Kind) (code : List Operation) (checked : Checked) (operands : List Value) → (checks : Checks kinds code checked) → map kind_of operands ≡ checked.loads → Gives (value_over operands code) checks.formed.gives
+pub checked_value : (kinds : List Kind) (code : List Operation) (checked : Checked) (operands : List Value) → (checks : Checks kinds code checked)
+    → map kind_of operands ≡ checked.loads → Gives (value_over operands code) checks.formed.gives
 checked_value kinds code checked operands checks are =
     let formed = checks.formed in
     let tree = (renumbered formed.spelt 0).tree in
     let stands : StandFor (loaded_from kinds code) kinds 0 (loads (postorder formed.spelt)) =
-    (let P : List Operation → Type 0 = λ c. StandFor (loaded_from kinds code) kinds 0 (loads c) in subst P (sym formed.spells) (loaded_stands kinds code (loads_known kinds code formed))) in
-    let kinded : kind tree (loaded_from kinds code) ≡ Some formed.gives = (renumbered formed.spelt 0).kinds (loaded_from kinds code) kinds stands ∙ formed.kinded in
+    (let P : List Operation → Type 0 = λ c. StandFor (loaded_from kinds code) kinds 0 (loads c) in
+    subst P (sym formed.spells) (loaded_stands kinds code (loads_known kinds code formed))) in
+    let kinded : kind tree (loaded_from kinds code) ≡ Some formed.gives = (renumbered formed.spelt 0).kinds (loaded_from kinds code) kinds stands
+    ∙ formed.kinded in
     let g = value_gives tree (loaded_from kinds code) operands formed.gives (kinds_are operands (loaded_from kinds code) (are ∙ checks.loads)) kinded in
-    gives_at _ _ formed.gives (ap (option_and_then (λ t. value t operands)) (spells-tree_of (numbered 0 code) tree (spells_numbered code formed.spelt formed.spells))) g
+    gives_at _ _ formed.gives
+    (ap (option_and_then (λ t. value t operands)) (spells-tree_of (numbered 0 code) tree (spells_numbered code formed.spelt formed.spells))) g
 
 -- where the operands are what the loads name, the value is the code's value over the variables
-pub present_value : (kinds : List Kind) (code : List Operation) (variables : List Value) → IsWellFormed kinds code → AreOf kinds variables → value_over (loaded_from variables code) code ≡ code_value code variables
+pub present_value : (kinds : List Kind) (code : List Operation) (variables : List Value) → IsWellFormed kinds code → AreOf kinds variables
+    → value_over (loaded_from variables code) code ≡ code_value code variables
 present_value kinds code variables formed are =
-    value_over_stands code formed.spelt (loaded_from variables code) variables formed.spells (loaded_stands variables code (known_of (loads code) (loads_known kinds code formed)))
+    value_over_stands code formed.spelt (loaded_from variables code) variables formed.spells
+    (loaded_stands variables code (known_of (loads code) (loads_known kinds code formed)))
   where
     known_of : (xs : List ℕ) → Known kinds xs → Known variables xs
     known_of [] known = tt
     known_of (x ∷ xs) known = let g = are.each x known.0.0 known.0.1 in ((g.value, g.is), known_of xs known.1)
 
 -- and the operands are of the loads' kinds
-pub present_kinds : (kinds : List Kind) (code : List Operation) (variables : List Value) → IsWellFormed kinds code → AreOf kinds variables → map kind_of (loaded_from variables code) ≡ loaded_from kinds code
+pub present_kinds : (kinds : List Kind) (code : List Operation) (variables : List Value) → IsWellFormed kinds code → AreOf kinds variables
+    → map kind_of (loaded_from variables code) ≡ loaded_from kinds code
 present_kinds kinds code variables formed are = go (loads code) (loads_known kinds code formed)
   where
     go : (xs : List ℕ) → Known kinds xs → map kind_of (filter_map (slice_get variables) xs) ≡ filter_map (slice_get kinds) xs
@@ -75,7 +84,8 @@ present_kinds kinds code variables formed are = go (loads code) (loads_known kin
         ∙ sym (ap (λ o. cons_option o (filter_map (slice_get kinds) xs)) known.0.1)
 
 -- so `eval` may be called with them
-pub present_fits : (kinds : List Kind) (code : List Operation) (checked : Checked) (variables : List Value) → Checks kinds code checked → AreOf kinds variables → map kind_of (loaded_from variables code) ≡ checked.loads
+pub present_fits : (kinds : List Kind) (code : List Operation) (checked : Checked) (variables : List Value) → Checks kinds code checked → AreOf kinds variables
+    → map kind_of (loaded_from variables code) ≡ checked.loads
 present_fits kinds code checked variables checks are = present_kinds kinds code variables checks.formed are ∙ sym checks.loads
 
 all_found : (all : List Value) (xs : List ℕ) → length (filter_map (slice_get all) xs) ≡ length xs → Known all xs
@@ -96,7 +106,8 @@ length-known all (x ∷ xs) known =
     ap (λ o. length (cons_option o (filter_map (slice_get all) xs))) known.0.1 ∙ ap suc (length-known all xs known.1)
 
 -- where the operands are what the loads name, a checked code's value over them is its value over the variables
-pub value_present : (checked : Checked) (operands variables : List Value) → IsChecked checked → map kind_of operands ≡ checked.loads → operands ≡ loaded_from variables checked.operations → value_over operands checked.operations ≡ code_value checked.operations variables
+pub value_present : (checked : Checked) (operands variables : List Value) → IsChecked checked → map kind_of operands ≡ checked.loads
+    → operands ≡ loaded_from variables checked.operations → value_over operands checked.operations ≡ code_value checked.operations variables
 value_present checked operands variables is are present =
     let code = checked.operations in
     let formed = is.checks.formed in
@@ -104,10 +115,12 @@ value_present checked operands variables is are present =
     let long : length (loaded_from variables code) ≡ length (loads code) =
     omega (arith, many, ap length present, ap length is.checks.loads, ap length are, length-map operands kind_of) in
     ap (λ o. value_over o code) present
-    ∙ value_over_stands code formed.spelt (loaded_from variables code) variables formed.spells (loaded_stands variables code (all_found variables (loads code) long))
+    ∙ value_over_stands code formed.spelt (loaded_from variables code) variables formed.spells
+    (loaded_stands variables code (all_found variables (loads code) long))
 
 -- the value is of the code's kind
-pub value_kind : (kinds : List Kind) (checked : Checked) (operands : List Value) (result : Value) → (checks : Checks kinds checked.operations checked) → map kind_of operands ≡ checked.loads → value_over operands checked.operations ≡ Some result → kind_of result ≡ checks.formed.gives
+pub value_kind : (kinds : List Kind) (checked : Checked) (operands : List Value) (result : Value) → (checks : Checks kinds checked.operations checked)
+    → map kind_of operands ≡ checked.loads → value_over operands checked.operations ≡ Some result → kind_of result ≡ checks.formed.gives
 value_kind kinds checked operands result checks are is =
     let g = checked_value kinds checked.operations checked operands checks are in
     let same : Some g.value ≡ Some result = sym g.is ∙ is in
@@ -126,7 +139,8 @@ pub record Going (operands : List Value) (code : List Operation) (i n : ℕ) (st
   pub fits : Fits (drop i code) (length stack)
   pub few : n ≤ i
 
-pub going_begins : (checked : Checked) (operands : List Value) → IsChecked checked → map kind_of operands ≡ checked.loads → Going operands checked.operations 0 0 []
+pub going_begins : (checked : Checked) (operands : List Value) → IsChecked checked → map kind_of operands ≡ checked.loads
+    → Going operands checked.operations 0 0 []
 going_begins checked operands is are =
     let g = checked_value is.kinds checked.operations checked operands is.checks are in
     record {
@@ -144,7 +158,8 @@ pub record Acts (operands : List Value) (code : List Operation) (i n : ℕ) (sta
   pub room : height o (length stack) ≤ operand_limit
   pub next : Going operands code (i + 1) (loads_after o n) after
 
-ran_numbered : (operands : List Value) (n : ℕ) (o : Operation) (rest : List Operation) (stack : List Value) → ran operands (numbered n (o ∷ rest)) stack ≡ option_and_then (ran operands (numbered (loads_after o n) rest)) (acted (taken operands n o) o stack)
+ran_numbered : (operands : List Value) (n : ℕ) (o : Operation) (rest : List Operation) (stack : List Value) → ran operands (numbered n (o ∷ rest)) stack
+    ≡ option_and_then (ran operands (numbered (loads_after o n) rest)) (acted (taken operands n o) o stack)
 ran_numbered operands n (op.Literal v) rest stack = refl
 ran_numbered operands n (op.Load x) rest stack = refl
 ran_numbered operands n (op.Unary f) rest [] = refl
@@ -172,12 +187,14 @@ few_after (op.Load x) n i h = omega arith
 few_after (op.Unary f) n i h = omega arith
 few_after (op.Binary f) n i h = omega arith
 
-pub going_acts : (operands : List Value) (code : List Operation) (i n : ℕ) (stack : List Value) (o : Operation) → i < length code → o ≡ get_or code i o → Going operands code i n stack → Acts operands code i n stack o
+pub going_acts : (operands : List Value) (code : List Operation) (i n : ℕ) (stack : List Value) (o : Operation) → i < length code → o ≡ get_or code i o
+    → Going operands code i n stack → Acts operands code i n stack o
 going_acts operands code i n stack o within is_at so =
     let rest = drop (i + 1) code in
     let here : drop i code ≡ o ∷ rest = drop_more code i o within ∙ ap (λ p. p ∷ rest) (sym is_at) in
     let run : ran operands (numbered n (o ∷ rest)) stack ≡ Some (so.end ∷ []) = ap (λ c. ran operands (numbered n c) stack) (sym here) ∙ so.runs in
-    let g = given (ran operands (numbered (loads_after o n) rest)) (acted (taken operands n o) o stack) (so.end ∷ []) (sym (ran_numbered operands n o rest stack) ∙ run) in
+    let g = given (ran operands (numbered (loads_after o n) rest)) (acted (taken operands n o) o stack) (so.end ∷ [])
+    (sym (ran_numbered operands n o rest stack) ∙ run) in
     let tall = height_acted (taken operands n o) o stack g.operand g.is in
     let P : List Operation → Type 0 = λ c. Fits c (length stack) in
     let fits : Fits (o ∷ rest) (length stack) = subst P here so.fits in
@@ -190,7 +207,8 @@ going_acts operands code i n stack o within is_at so =
     }
 
 -- at the end the value stands alone
-pub going_ends : (operands : List Value) (code : List Operation) (i n : ℕ) (stack : List Value) → length code ≤ i → (so : Going operands code i n stack) → stack ≡ so.end ∷ []
+pub going_ends : (operands : List Value) (code : List Operation) (i n : ℕ) (stack : List Value) → length code ≤ i → (so : Going operands code i n stack)
+    → stack ≡ so.end ∷ []
 going_ends operands code i n stack past so =
     let run : ran operands (numbered n []) stack ≡ Some (so.end ∷ []) = ap (λ c. ran operands (numbered n c) stack) (sym (drop_past code i past)) ∙ so.runs in
     cc

@@ -51,10 +51,12 @@ value-literal v variables = ap (λ (m : List Value → Option Value). m variable
 pub value-load : (x : ℕ) (variables : List Value) → value (roll-Expr (tree.Load x)) variables ≡ slice_get variables x
 value-load x variables = ap (λ (m : List Value → Option Value). m variables) (fold-roll-Expr (List Value → Option Value) value_step (tree.Load x))
 
-pub value-unary : (f : UnaryOperator) (a : Expr) (variables : List Value) → value (roll-Expr (tree.Unary f a)) variables ≡ option_and_then (unary_value f) (value a variables)
+pub value-unary : (f : UnaryOperator) (a : Expr) (variables : List Value) → value (roll-Expr (tree.Unary f a)) variables
+    ≡ option_and_then (unary_value f) (value a variables)
 value-unary f a variables = ap (λ (m : List Value → Option Value). m variables) (fold-roll-Expr (List Value → Option Value) value_step (tree.Unary f a))
 
-pub value-binary : (f : BinaryOperator) (a b : Expr) (variables : List Value) → value (roll-Expr (tree.Binary f a b)) variables ≡ option_and_then (λ m. option_and_then (binary_value f m) (value b variables)) (value a variables)
+pub value-binary : (f : BinaryOperator) (a b : Expr) (variables : List Value) → value (roll-Expr (tree.Binary f a b)) variables
+    ≡ option_and_then (λ m. option_and_then (binary_value f m) (value b variables)) (value a variables)
 value-binary f a b variables = ap (λ (m : List Value → Option Value). m variables) (fold-roll-Expr (List Value → Option Value) value_step (tree.Binary f a b))
 
 pub kind-literal : (v : Value) (kinds : List Kind) → kind (roll-Expr (tree.Literal v)) kinds ≡ Some (kind_of v)
@@ -66,5 +68,6 @@ kind-load x kinds = ap (λ (m : List Kind → Option Kind). m kinds) (fold-roll-
 pub kind-unary : (f : UnaryOperator) (a : Expr) (kinds : List Kind) → kind (roll-Expr (tree.Unary f a)) kinds ≡ option_and_then (unary_kind f) (kind a kinds)
 kind-unary f a kinds = ap (λ (m : List Kind → Option Kind). m kinds) (fold-roll-Expr (List Kind → Option Kind) kind_step (tree.Unary f a))
 
-pub kind-binary : (f : BinaryOperator) (a b : Expr) (kinds : List Kind) → kind (roll-Expr (tree.Binary f a b)) kinds ≡ option_and_then (λ m. option_and_then (binary_kind f m) (kind b kinds)) (kind a kinds)
+pub kind-binary : (f : BinaryOperator) (a b : Expr) (kinds : List Kind) → kind (roll-Expr (tree.Binary f a b)) kinds
+    ≡ option_and_then (λ m. option_and_then (binary_kind f m) (kind b kinds)) (kind a kinds)
 kind-binary f a b kinds = ap (λ (m : List Kind → Option Kind). m kinds) (fold-roll-Expr (List Kind → Option Kind) kind_step (tree.Binary f a b))

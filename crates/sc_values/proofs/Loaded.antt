@@ -1,5 +1,6 @@
 -- What a loop over a code's operations gathers of what its loads name.
-use Rattle.std.proofs.Common.{◌≡◌, ℕ, zero, suc, ◌+◌, ◌<◌, ◌≤◌, Option, Some, None, List, [], ◌∷◌, ◌++◌, option_and_then, filter_map, length, slice_get, drop, get_or, refl, sym, ap, ◌∙◌, append_assoc, arith, length-append}
+use Rattle.std.proofs.Common.{◌≡◌, ℕ, zero, suc, ◌+◌, ◌<◌, ◌≤◌, Option, Some, None, List, [], ◌∷◌, ◌++◌, option_and_then, filter_map, length, slice_get, drop}
+use Rattle.std.proofs.Common.{get_or, refl, sym, ap, ◌∙◌, append_assoc, arith, length-append}
 use Rattle.std.specs.Option.{option_to_list}
 use Rattle.std.specs.List.{cons_option}
 use Rattle.std.proofs.lemmas.List.{drop_more, append-nil}
@@ -16,7 +17,8 @@ cons_is : {A : Type 0} (o : Option A) (rest : List A) → cons_option o rest ≡
 cons_is None rest = refl
 cons_is (Some x) rest = refl
 
-pub loaded_from-cons : {A : Type 0} (all : List A) (o : Operation) (code : List Operation) → loaded_from all (o ∷ code) ≡ option_to_list (loaded_item all o) ++ loaded_from all code
+pub loaded_from-cons : {A : Type 0} (all : List A) (o : Operation) (code : List Operation) → loaded_from all (o ∷ code)
+    ≡ option_to_list (loaded_item all o) ++ loaded_from all code
 loaded_from-cons all (op.Literal v) code = refl
 loaded_from-cons all (op.Load x) code = cons_is (slice_get all x) (loaded_from all code)
 loaded_from-cons all (op.Unary f) code = refl
@@ -46,11 +48,13 @@ drop_past [] (suc n) h = refl
 drop_past (x ∷ xs) zero h = absurd (omega arith)
 drop_past (x ∷ xs) (suc n) h = drop_past xs n (omega arith)
 
-pub gathers_all : {A : Type 0} (all : List A) (code : List Operation) (i : ℕ) (done : List A) → length code ≤ i → Gathers all code i done → done ≡ loaded_from all code
+pub gathers_all : {A : Type 0} (all : List A) (code : List Operation) (i : ℕ) (done : List A) → length code ≤ i → Gathers all code i done
+    → done ≡ loaded_from all code
 gathers_all all code i done past so =
     sym (append-nil done) ∙ ap (λ t. done ++ loaded_from all t) (sym (drop_past code i past)) ∙ so.is
 
-module _ {A : Type 0} (all : List A) (code : List Operation) (i : ℕ) (o : Operation) (done : List A) (within : i < length code) (is_at : o ≡ get_or code i o) where
+module _ {A : Type 0} (all : List A) (code : List Operation) (i : ℕ) (o : Operation) (done : List A) (within : i < length code)
+    (is_at : o ≡ get_or code i o) where
   -- the operation at i, and what comes behind it
   next : (found : List A) → option_to_list (loaded_item all o) ≡ found → loaded_from all (drop i code) ≡ found ++ loaded_from all (drop (i + 1) code)
   next found is =

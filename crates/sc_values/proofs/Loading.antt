@@ -12,7 +12,8 @@ use Rattle.sc_values.specs.declared.expression.Expr.TheViews.{roll-Expr}
 use Rattle.sc_values.specs.Operator.{unary_value, binary_value}
 use Rattle.sc_values.specs.Expr.{value, postorder}
 use Rattle.sc_values.specs.Code.{Spells, tree_of, code_value, loads, loaded}
-use Rattle.sc_values.proofs.Induction.{induct, postorder-literal, postorder-load, postorder-unary, postorder-binary, value-literal, value-load, value-unary, value-binary}
+use Rattle.sc_values.proofs.Induction.{induct, postorder-literal, postorder-load, postorder-unary, postorder-binary, value-literal, value-load, value-unary}
+use Rattle.sc_values.proofs.Induction.{value-binary}
 use Rattle.sc_values.proofs.Spelling.{tree_of-spells}
 
 -- two lists of variables give the same at each of these
@@ -73,7 +74,8 @@ value_same = induct OnlyLoads (record {
       ∙ sym (value-binary f a b w);
 })
 
-pub code_value_same : (code : List Operation) (v w : List Value) → ((x : ℕ) → Contains (loads code) x → slice_get v x ≡ slice_get w x) → code_value code v ≡ code_value code w
+pub code_value_same : (code : List Operation) (v w : List Value) → ((x : ℕ) → Contains (loads code) x → slice_get v x ≡ slice_get w x) → code_value code v
+    ≡ code_value code w
 code_value_same code v w same = go (tree_of code) refl
   where
     go : (spelt : Option Expr) → tree_of code ≡ spelt → option_and_then (λ e. value e v) spelt ≡ option_and_then (λ e. value e w) spelt

@@ -1,5 +1,6 @@
 -- An update may change places with another one by the same function, whatever the values.
-use Rattle.std.proofs.Common.{◌≡◌, ◌≢◌, ℕ, zero, suc, ◌+◌, ◌*◌, ◌⊎◌, inl, inr, ⊎_elim, Some, Bool, true, false, ◌&&◌, ◌||◌, ℤ, ◌+ℤ◌, ◌*ℤ◌, refl, sym, ap, ◌∙◌, arith}
+use Rattle.std.proofs.Common.{◌≡◌, ◌≢◌, ℕ, zero, suc, ◌+◌, ◌*◌, ◌⊎◌, inl, inr, ⊎_elim, Some, Bool, true, false, ◌&&◌, ◌||◌, ℤ, ◌+ℤ◌, ◌*ℤ◌, refl, sym, ap, ◌∙◌}
+use Rattle.std.proofs.Common.{arith}
 use Rattle.std.proofs.lemmas.Bool.{cases_eq}
 use Rattle.std.specs.Int.{int_wrap, int_min, int_max, w32}
 use Rattle.std.proofs.lemmas.Int.{ints, int_wrap-add_left, int_wrap-mul_left}
@@ -44,7 +45,8 @@ times_assoc a b c =
     let left = product_is (a *ℤ b) c in
     let right = product_is a (b *ℤ c) in
     let ups : up ((a *ℤ b) *ℤ c) ≡ up (a *ℤ (b *ℤ c)) = omega (arith, by (up c) _ _ ab.0, by (down c) _ _ ab.1, by (up a) _ _ bc.0, by (down a) _ _ bc.1) in
-    let downs : down ((a *ℤ b) *ℤ c) ≡ down (a *ℤ (b *ℤ c)) = omega (arith, by (down c) _ _ ab.0, by (up c) _ _ ab.1, by (down a) _ _ bc.0, by (up a) _ _ bc.1) in
+    let downs : down ((a *ℤ b) *ℤ c) ≡ down (a *ℤ (b *ℤ c)) = omega (arith, by (down c) _ _ ab.0, by (up c) _ _ ab.1, by (down a) _ _ bc.0, by (up a) _ _ bc.1)
+    in
     same_in _ _ (λ i. ups i + sym downs i)
 
 mul_turn : (v a b : ℤ) → int_wrap w32 (int_wrap w32 (v *ℤ a) *ℤ b) ≡ int_wrap w32 (int_wrap w32 (v *ℤ b) *ℤ a)

@@ -1,5 +1,6 @@
 -- A code whose loads are numbered in their order has the same value over operands that stand for the variables.
-use Rattle.std.proofs.Common.{◌≡◌, ℕ, suc, ◌+◌, Option, Some, List, [], ◌∷◌, ◌++◌, option_and_then, filter_map, slice_get, length, refl, sym, ap, ◌∙◌, append_assoc, subst, arith, length-append}
+use Rattle.std.proofs.Common.{◌≡◌, ℕ, suc, ◌+◌, Option, Some, List, [], ◌∷◌, ◌++◌, option_and_then, filter_map, slice_get, length, refl, sym, ap, ◌∙◌}
+use Rattle.std.proofs.Common.{append_assoc, subst, arith, length-append}
 use Rattle.std.proofs.lemmas.List.{append-nil}
 use Rattle.std.specs.List.{cons_option}
 use Rattle.sc_values.specs.declared.value.Value.{Value}
@@ -15,7 +16,8 @@ use Rattle.sc_values.specs.Operator.{unary_value, binary_value, unary_kind, bina
 use Rattle.sc_values.specs.Expr.{value, kind, postorder}
 use Rattle.sc_values.specs.Code.{Spells, code_value, loads}
 use Rattle.sc_values.specs.Checked.{loaded_from, numbered, value_over}
-use Rattle.sc_values.proofs.Induction.{induct, postorder-literal, postorder-load, postorder-unary, postorder-binary, value-literal, value-load, value-unary, value-binary, kind-literal, kind-load, kind-unary, kind-binary}
+use Rattle.sc_values.proofs.Induction.{induct, postorder-literal, postorder-load, postorder-unary, postorder-binary, value-literal, value-load, value-unary}
+use Rattle.sc_values.proofs.Induction.{value-binary, kind-literal, kind-load, kind-unary, kind-binary}
 use Rattle.sc_values.proofs.Spelling.{spells-tree_of}
 use Rattle.sc_values.proofs.Loading.{loads-literal, loads-load, loads-unary, loads-binary}
 use Rattle.sc_values.proofs.Running.{given}
@@ -105,7 +107,11 @@ of_binary f a b left right n =
     let l = left n in
     let r = right (n + count a) in
     let whole = roll-Expr (tree.Binary f a b) in
-    let same : (n + count a) + count b ≡ n + count (roll-Expr (tree.Binary f a b)) = omega (arith, ap length (loads-binary f a b), length-append (loads (postorder a)) (loads (postorder b))) in
+    let same : (n + count a) + count b ≡ n + count (roll-Expr (tree.Binary f a b)) = omega (
+      arith,
+      ap length (loads-binary f a b),
+      length-append (loads (postorder a)) (loads (postorder b)),
+    ) in
     record {
       tree = roll-Expr (tree.Binary f l.tree r.tree);
       spells = λ rest.
@@ -120,14 +126,18 @@ of_binary f a b left right n =
       values = λ operands all h.
           let both = from_here operands all n _ _ (loads-binary f a b) h in
           value-binary f l.tree r.tree operands
-          ∙ ap (option_and_then (λ m. option_and_then (binary_value f m) (value r.tree operands))) (l.values operands all (stand_left operands all n (loads (postorder a)) (loads (postorder b)) both))
-          ∙ ap (λ (s : Option Value). option_and_then (λ m. option_and_then (binary_value f m) s) (value a all)) (r.values operands all (stand_right operands all n (loads (postorder a)) (loads (postorder b)) both))
+          ∙ ap (option_and_then (λ m. option_and_then (binary_value f m) (value r.tree operands)))
+          (l.values operands all (stand_left operands all n (loads (postorder a)) (loads (postorder b)) both))
+          ∙ ap (λ (s : Option Value). option_and_then (λ m. option_and_then (binary_value f m) s) (value a all))
+          (r.values operands all (stand_right operands all n (loads (postorder a)) (loads (postorder b)) both))
           ∙ sym (value-binary f a b all);
       kinds = λ operands all h.
           let both = from_here operands all n _ _ (loads-binary f a b) h in
           kind-binary f l.tree r.tree operands
-          ∙ ap (option_and_then (λ m. option_and_then (binary_kind f m) (kind r.tree operands))) (l.kinds operands all (stand_left operands all n (loads (postorder a)) (loads (postorder b)) both))
-          ∙ ap (λ (s : Option Kind). option_and_then (λ m. option_and_then (binary_kind f m) s) (kind a all)) (r.kinds operands all (stand_right operands all n (loads (postorder a)) (loads (postorder b)) both))
+          ∙ ap (option_and_then (λ m. option_and_then (binary_kind f m) (kind r.tree operands)))
+          (l.kinds operands all (stand_left operands all n (loads (postorder a)) (loads (postorder b)) both))
+          ∙ ap (λ (s : Option Kind). option_and_then (λ m. option_and_then (binary_kind f m) s) (kind a all))
+          (r.kinds operands all (stand_right operands all n (loads (postorder a)) (loads (postorder b)) both))
           ∙ sym (kind-binary f a b all);
     }
 
@@ -141,7 +151,8 @@ spells_numbered code e spells =
     ∙ ap (numbered 0) (append-nil (postorder e) ∙ spells)
 
 -- over operands that stand for the variables a code has the value that it has over the variables
-pub value_over_stands : (code : List Operation) (e : Expr) (operands all : List Value) → Spells code e → StandFor operands all 0 (loads code) → value_over operands code ≡ code_value code all
+pub value_over_stands : (code : List Operation) (e : Expr) (operands all : List Value) → Spells code e → StandFor operands all 0 (loads code)
+    → value_over operands code ≡ code_value code all
 value_over_stands code e operands all spells h =
     ap (option_and_then (λ t. value t operands)) (spells-tree_of (numbered 0 code) (renumbered e 0).tree (spells_numbered code e spells))
     ∙ (renumbered e 0).values operands all (from_here operands all 0 _ _ (ap loads (sym spells)) h)
@@ -173,7 +184,8 @@ kinded_known = induct LoadsKnown (record {
   of_binary = λ f a b left right kinds k is.
       let g = given (λ m. option_and_then (binary_kind f m) (kind b kinds)) (kind a kinds) k (sym (kind-binary f a b kinds) ∙ is) in
       let h = given (binary_kind f g.operand) (kind b kinds) k g.gives in
-      known_at kinds _ _ (sym (loads-binary f a b)) (known_append kinds (loads (postorder a)) (loads (postorder b)) (left kinds g.operand g.is) (right kinds h.operand h.is));
+      known_at kinds _ _ (sym (loads-binary f a b)) (known_append kinds (loads (postorder a)) (loads (postorder b)) (left kinds g.operand g.is)
+      (right kinds h.operand h.is));
 })
 
 get_behind : {A : Type 0} (done : List A) (v : A) (rest : List A) → slice_get (done ++ v ∷ rest) (length done) ≡ Some v

@@ -44,7 +44,8 @@ module _ (ForkedApart : ℕ → ℕ → ℕ → Type 0) where
 
   -- a clear step may precede the one at a place, where no step before it closes the forking thread
   clear_at : (m : Act) (IsOpen : ℕ → Type 0) (log : List Act) → Clear ForkedApart m IsOpen log → (j : ℕ) (x : Act) → slice_get log j ≡ Some x →
-      (a : ℕ) → ForkedApart m.thread x.thread a → IsOpen a → ((k : ℕ) (y : Act) → k < j → slice_get log k ≡ Some y → y.thread ≢ a) → MayPrecede m.access x.access
+      (a : ℕ) → ForkedApart m.thread x.thread a → IsOpen a → ((k : ℕ) (y : Act) → k < j → slice_get log k ≡ Some y → y.thread ≢ a)
+      → MayPrecede m.access x.access
   clear_at m IsOpen [] clear j x at a apart is_open between = absurd (none-some x at)
   clear_at m IsOpen (y ∷ log) clear zero x at a apart is_open between =
       let same : y ≡ x = same_Some y x at in
@@ -96,13 +97,15 @@ module _ (ForkedApart : ℕ → ℕ → ℕ → Type 0) where
   orderly_back [] back orderly = orderly
   orderly_back (x ∷ front) back orderly = orderly_back front back orderly.1
 
-  orderly_without : (m : Act) (front back : List Act) → PassesAll ForkedApart m front → Orderly ForkedApart (front ++ m ∷ back) → Orderly ForkedApart (front ++ back)
+  orderly_without : (m : Act) (front back : List Act) → PassesAll ForkedApart m front → Orderly ForkedApart (front ++ m ∷ back)
+      → Orderly ForkedApart (front ++ back)
   orderly_without m [] back passes orderly = orderly.1
   orderly_without m (x ∷ front) back passes orderly =
       (clear_without x m EachIsOpen front back passes.0.forks_none orderly.0, orderly_without m front back passes.1 orderly.1)
 
   -- a step that may pass all before it may come first
-  pub to_front : (m : Act) (front back : List Act) → PassesAll ForkedApart m front → Orderly ForkedApart (front ++ m ∷ back) → Orderly ForkedApart (m ∷ (front ++ back))
+  pub to_front : (m : Act) (front back : List Act) → PassesAll ForkedApart m front → Orderly ForkedApart (front ++ m ∷ back)
+      → Orderly ForkedApart (m ∷ (front ++ back))
   to_front m front back passes orderly =
       (clear_front m EachIsOpen front back passes (orderly_back front (m ∷ back) orderly).0, orderly_without m front back passes orderly)
 
@@ -159,6 +162,7 @@ module _ (ForkedApart : ℕ → ℕ → ℕ → Type 0) where
   orderly_from_admissible [] ordered = tt
   orderly_from_admissible (m ∷ log) ordered = (
     clear_from m EachIsOpen log (λ j x a at apart is_open between.
-        ordered zero (suc j) (omega arith) (record { first = m; second = x; is_first = refl; is_second = at; forking = a; apart = apart; between = from_first m log j a between })),
+        ordered zero (suc j) (omega arith)
+        (record { first = m; second = x; is_first = refl; is_second = at; forking = a; apart = apart; between = from_first m log j a between })),
     orderly_from_admissible log (λ i j lt two. ordered (suc i) (suc j) (omega arith) (longer m log i j two)),
   )

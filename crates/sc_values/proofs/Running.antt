@@ -1,5 +1,6 @@
 -- The machine over a stack of values, and how deep its stack grows.
-use Rattle.std.proofs.Common.{◌≡◌, ℕ, zero, suc, ◌≤◌, Option, Some, None, List, [], ◌∷◌, ◌++◌, option_and_then, slice_get, length, take, refl, sym, ap, ◌∙◌, append_assoc, subst, arith}
+use Rattle.std.proofs.Common.{◌≡◌, ℕ, zero, suc, ◌≤◌, Option, Some, None, List, [], ◌∷◌, ◌++◌, option_and_then, slice_get, length, take, refl, sym, ap, ◌∙◌}
+use Rattle.std.proofs.Common.{append_assoc, subst, arith}
 use Rattle.std.proofs.lemmas.List.{append-nil}
 use Rattle.sc_values.specs.declared.value.Value.{Value}
 use Rattle.sc_values.specs.declared.value.Kind.{Kind}
@@ -13,7 +14,8 @@ use Rattle.sc_values.specs.Operator.{unary_value, binary_value}
 use Rattle.sc_values.specs.Expr.{value, postorder}
 use Rattle.sc_values.specs.Code.{grown, trees, only, tree_of, code_value, IsWellFormed}
 use Rattle.sc_values.specs.Inside.Stack.{put_on, acted, height}
-use Rattle.sc_values.proofs.Induction.{induct, postorder-literal, postorder-load, postorder-unary, postorder-binary, value-literal, value-load, value-unary, value-binary}
+use Rattle.sc_values.proofs.Induction.{induct, postorder-literal, postorder-load, postorder-unary, postorder-binary, value-literal, value-load, value-unary}
+use Rattle.sc_values.proofs.Induction.{value-binary}
 use Rattle.sc_values.proofs.Loaded.{loaded_item}
 use Rattle.sc_values.proofs.Spelling.{spells-tree_of, tree_of-spells}
 
@@ -23,7 +25,8 @@ ran variables [] stack = Some stack
 ran variables (o ∷ code) stack = option_and_then (ran variables code) (acted (loaded_item variables o) o stack)
 
 abbrev RunsTo : Expr → Type 0
-RunsTo e = (variables : List Value) (v : Value) (rest : List Operation) (stack : List Value) → value e variables ≡ Some v → ran variables (postorder e ++ rest) stack ≡ ran variables rest (v ∷ stack)
+RunsTo e = (variables : List Value) (v : Value) (rest : List Operation) (stack : List Value) → value e variables ≡ Some v
+    → ran variables (postorder e ++ rest) stack ≡ ran variables rest (v ∷ stack)
 
 -- an operand that has a value is a value
 pub record Given {A B : Type 0} (f : A → Option B) (a : Option A) (r : B) : Type 0 where
@@ -55,7 +58,8 @@ ran-postorder = induct RunsTo (record {
       let g = given (λ m. option_and_then (binary_value f m) (value b variables)) (value a variables) v (sym (value-binary f a b variables) ∙ is) in
       let h = given (binary_value f g.operand) (value b variables) v g.gives in
       ap (λ c. ran variables (c ++ rest) stack) (postorder-binary f a b)
-      ∙ ap (λ c. ran variables c stack) (append_assoc (postorder a ++ postorder b) (op.Binary f ∷ []) rest ∙ append_assoc (postorder a) (postorder b) (op.Binary f ∷ rest))
+      ∙ ap (λ c. ran variables c stack) (append_assoc (postorder a ++ postorder b) (op.Binary f ∷ []) rest
+      ∙ append_assoc (postorder a) (postorder b) (op.Binary f ∷ rest))
       ∙ left variables g.operand (postorder b ++ op.Binary f ∷ rest) stack g.is
       ∙ right variables h.operand (op.Binary f ∷ rest) (g.operand ∷ stack) h.is
       ∙ ap (λ o. option_and_then (ran variables rest) (put_on stack o)) h.gives;
@@ -83,14 +87,16 @@ length-grown (op.Binary f) [] after is = absurd cc
 length-grown (op.Binary f) (b ∷ []) after is = absurd cc
 length-grown (op.Binary f) (b ∷ a ∷ stack) after is = let e : after ≡ roll-Expr (tree.Binary f a b) ∷ stack = cc in ap length e ∙ omega arith
 
-pub fits_from : (code : List Operation) (stack after : List Expr) → trees code stack ≡ Some after → ((n : ℕ) (s : List Expr) → trees (take n code) stack ≡ Some s → length s ≤ operand_limit) → Fits code (length stack)
+pub fits_from : (code : List Operation) (stack after : List Expr) → trees code stack ≡ Some after
+    → ((n : ℕ) (s : List Expr) → trees (take n code) stack ≡ Some s → length s ≤ operand_limit) → Fits code (length stack)
 fits_from [] stack after is limit = limit 0 stack refl
 fits_from (o ∷ code) stack after is limit =
     let g = given (trees code) (grown o stack) after is in
     let below = fits_from code g.operand after g.gives (λ n s h. limit (suc n) s (ap (option_and_then (trees (take n code))) g.is ∙ h)) in
     (limit 0 stack refl, let P : ℕ → Type 0 = λ n. Fits code n in subst P (length-grown o stack g.operand g.is) below)
 
-pub fits_limit : (code : List Operation) (stack : List Expr) → Fits code (length stack) → (n : ℕ) (s : List Expr) → trees (take n code) stack ≡ Some s → length s ≤ operand_limit
+pub fits_limit : (code : List Operation) (stack : List Expr) → Fits code (length stack) → (n : ℕ) (s : List Expr) → trees (take n code) stack ≡ Some s
+    → length s ≤ operand_limit
 fits_limit [] stack fits zero s is = let e : s ≡ stack = cc in subst (λ (t : List Expr). length t ≤ operand_limit) (sym e) fits
 fits_limit [] stack fits (suc n) s is = let e : s ≡ stack = cc in subst (λ (t : List Expr). length t ≤ operand_limit) (sym e) fits
 fits_limit (o ∷ code) stack fits zero s is = let e : s ≡ stack = cc in subst (λ (t : List Expr). length t ≤ operand_limit) (sym e) fits.0

@@ -24,7 +24,8 @@ trees-postorder = induct Leaves (record {
       ∙ left (op.Unary f ∷ rest) stack;
   of_binary = λ f a b left right rest stack.
       ap (λ c. trees (c ++ rest) stack) (postorder-binary f a b)
-      ∙ ap (λ c. trees c stack) (append_assoc (postorder a ++ postorder b) (op.Binary f ∷ []) rest ∙ append_assoc (postorder a) (postorder b) (op.Binary f ∷ rest))
+      ∙ ap (λ c. trees c stack) (append_assoc (postorder a ++ postorder b) (op.Binary f ∷ []) rest
+      ∙ append_assoc (postorder a) (postorder b) (op.Binary f ∷ rest))
       ∙ left (postorder b ++ op.Binary f ∷ rest) stack
       ∙ right (op.Binary f ∷ rest) (a ∷ stack);
 })
@@ -73,7 +74,8 @@ spelt-trees [] stack after is =
     ap spelt e ∙ sym (append-nil (spelt stack))
 spelt-trees (o ∷ code) stack after is = go (grown o stack) refl is (λ middle left. spelt-trees code middle after left)
   where
-    go : (between : Option (List Expr)) → grown o stack ≡ between → option_and_then (trees code) between ≡ Some after → ((middle : List Expr) → trees code middle ≡ Some after → spelt after ≡ spelt middle ++ code) → spelt after ≡ spelt stack ++ o ∷ code
+    go : (between : Option (List Expr)) → grown o stack ≡ between → option_and_then (trees code) between ≡ Some after
+        → ((middle : List Expr) → trees code middle ≡ Some after → spelt after ≡ spelt middle ++ code) → spelt after ≡ spelt stack ++ o ∷ code
     go None was left behind = cc
     go (Some middle) was left behind =
         behind middle left

@@ -1,5 +1,6 @@
 -- What a sink took in several turns.
-use Rattle.std.proofs.Common.{◌≡◌, ℕ, zero, suc, ◌+◌, ◌≤◌, Option, Some, None, Ok, List, [], ◌∷◌, ◌++◌, take, drop, length, refl, sym, ap, ◌∙◌, append_assoc, arith}
+use Rattle.std.proofs.Common.{◌≡◌, ℕ, zero, suc, ◌+◌, ◌≤◌, Option, Some, None, Ok, List, [], ◌∷◌, ◌++◌, take, drop, length, refl, sym, ap, ◌∙◌, append_assoc}
+use Rattle.std.proofs.Common.{arith}
 use Rattle.std.proofs.lemmas.List.{append-nil}
 use Rattle.std.specs.Io.KnownBytes.{Appends, Keeps}
 use Rattle.sc_values.specs.Streams.{failed_writes, GrowsInto}
@@ -20,7 +21,8 @@ pub appends_none : (a : Option (List ℕ)) (bytes : List ℕ) → Appends a a (t
 appends_none None bytes = tt
 appends_none (Some xs) bytes = sym (append-nil xs)
 
-pub appends_more : (a b c : Option (List ℕ)) (bytes : List ℕ) (i n : ℕ) → Appends a b (take i bytes) → Appends b c (take n (drop i bytes)) → Appends a c (take (i + n) bytes)
+pub appends_more : (a b c : Option (List ℕ)) (bytes : List ℕ) (i n : ℕ) → Appends a b (take i bytes) → Appends b c (take n (drop i bytes))
+    → Appends a c (take (i + n) bytes)
 appends_more None b c bytes i n h k = tt
 appends_more (Some xs) None c bytes i n h k = absurd h
 appends_more (Some xs) (Some ys) None bytes i n h k = absurd k

@@ -38,7 +38,8 @@ impl Model for Name {
 
     ghost view = { λ n. take n.len n.bytes };
 
-    ghost invariant = { λ n. (n.len ≤ name_limit) × (length n.bytes ≡ name_limit) × (n.bytes ≡ padded (take n.len n.bytes))
+    ghost invariant = { λ n. (n.len ≤ name_limit) × (length n.bytes ≡ name_limit)
+        × (n.bytes ≡ padded (take n.len n.bytes))
         × IsTrue (is_name (take n.len n.bytes)) };
 
     ghost inverse = { λ xs. record { bytes = padded xs; len = length xs } };

@@ -1,6 +1,7 @@
 -- What a program means. A thread is what it still has to do: a fork puts its branches under the thread, the join puts
 -- back the rest, and labels and gotos take no step.
-use Rattle.std.specs.Prelude.{ℕ, Bool, true, false, Option, Some, None, List, [], ◌∷◌, map, replicate, slice_get, slice_set, unwrap_or, option_map, option_and_then}
+use Rattle.std.specs.Prelude.{ℕ, Bool, true, false, Option, Some, None, List, [], ◌∷◌, map, replicate, slice_get, slice_set, unwrap_or, option_map}
+use Rattle.std.specs.Prelude.{option_and_then}
 use Rattle.std.specs.List.{list_all}
 use Rattle.sc_values.specs.declared.value.Value.{Value}
 use Rattle.sc_values.specs.declared.value.Value.TheVariants as value

@@ -19,7 +19,8 @@ use Rattle.scl_drafts.specs.declared.statement.TextStatement.TheVariants as open
 use Rattle.scl_drafts.specs.Statements.{Statements, none_or_them, if_statement}
 use Rattle.scl_drafts.specs.Program.{Grows, block, test, choice}
 use Rattle.scl_drafts.specs.Inside.{TakesValue, Adds, itself, alone}
-use Rattle.scl_drafts.proofs.Taking.{after_got, after_stops_before, after_stops, before_got, before_stops, before_stops_behind, pair_got, pair_stops_first, pair_stops_second}
+use Rattle.scl_drafts.proofs.Taking.{after_got, after_stops_before, after_stops, before_got, before_stops, before_stops_behind, pair_got, pair_stops_first}
+use Rattle.scl_drafts.proofs.Taking.{pair_stops_second}
 
 abbrev opening : List Class
 opening = TheSign sign.OpenBrace ∷ []
@@ -73,15 +74,18 @@ module _ (text : List Token) where
   abbrev tested : Grows (Token × Phrase)
   tested = before (headed (expression 0)) (TheSign sign.CloseParenthesis ∷ [])
 
-  pub parenthesis_stops : (end : ℕ) (f : ReadFault) → Stops end (read (one {L = text_tokens} parenthesis) text) f → Stops end (read (test (expression 0)) text) f
+  pub parenthesis_stops : (end : ℕ) (f : ReadFault) → Stops end (read (one {L = text_tokens} parenthesis) text) f
+      → Stops end (read (test (expression 0)) text) f
   unfolding test
   parenthesis_stops end f h = after_stops_before parenthesis tested end text f h
 
-  pub tested_stops : (mid : List Token) (end : ℕ) (f : ReadFault) → Takes (read (one {L = text_tokens} parenthesis) text) mid → Stops end (read tested mid) f → Stops end (read (test (expression 0)) text) f
+  pub tested_stops : (mid : List Token) (end : ℕ) (f : ReadFault) → Takes (read (one {L = text_tokens} parenthesis) text) mid → Stops end (read tested mid) f
+      → Stops end (read (test (expression 0)) text) f
   unfolding test
   tested_stops mid end f t h = after_stops parenthesis tested end text mid f t h
 
-  pub tested_taken : (mid rest : List Token) (value : TextExpression) → Takes (read (one {L = text_tokens} parenthesis) text) mid → TakesValue (read tested mid) value rest → TakesValue (read (test (expression 0)) text) value rest
+  pub tested_taken : (mid rest : List Token) (value : TextExpression) → Takes (read (one {L = text_tokens} parenthesis) text) mid
+      → TakesValue (read tested mid) value rest → TakesValue (read (test (expression 0)) text) value rest
   unfolding test
   tested_taken mid rest value t v =
       record { head = v.head; phrase = v.phrase; is = after_got parenthesis tested text mid rest (v.head, v.phrase) t v.is; means = v.means }
@@ -103,15 +107,18 @@ module _ (s : Grows TextStatement) (text : List Token) where
   else_read : starts text_tokens else_word text ≡ true → read (maybe second) text ≡ next (read second text) (λ a rest. Got (Some a) rest)
   else_read e = ap (λ b. choose b (next (read second text) (λ a rest. Got (Some a) rest)) (Got None text)) e
 
-  pub else_stops : (more : List Token) (end : ℕ) (f : ReadFault) → starts text_tokens else_word text ≡ true → more ≡ drop 1 text → Stops end (read (block s) more) f → Stops end (read (maybe second) text) f
+  pub else_stops : (more : List Token) (end : ℕ) (f : ReadFault) → starts text_tokens else_word text ≡ true → more ≡ drop 1 text
+      → Stops end (read (block s) more) f → Stops end (read (maybe second) text) f
   else_stops more end f e d h =
       stops_as end _ _ f (else_read e) (next_stops end _ _ f (after_stops else_word (block s) end text more f (one_taken else_word text more e d) h))
 
-  pub else_reads : (more rest : List Token) (old new : Statements) → starts text_tokens else_word text ≡ true → more ≡ drop 1 text → Adds itself (read (block s) more) old new rest → Adds none_or_them (read (maybe second) text) old new rest
+  pub else_reads : (more rest : List Token) (old new : Statements) → starts text_tokens else_word text ≡ true → more ≡ drop 1 text
+      → Adds itself (read (block s) more) old new rest → Adds none_or_them (read (maybe second) text) old new rest
   else_reads more rest old new e d a =
       record {
         meaning = Some a.meaning;
-        is = else_read e ∙ ap (λ o. next o (λ a rest. Got (Some a) rest)) (after_got else_word (block s) text more rest a.meaning (one_taken else_word text more e d) a.is);
+        is = else_read e ∙ ap (λ o. next o (λ a rest. Got (Some a) rest))
+            (after_got else_word (block s) text more rest a.meaning (one_taken else_word text more e d) a.is);
         behind = a.behind;
       }
 
@@ -145,14 +152,17 @@ module _ (s : Grows TextStatement) (text : List Token) where
           (pair_stops_first (block s) (maybe (after else_word (block s))) end listed f h))
 
       module _ (old_first first : Statements) (rest : List Token) (c : Adds itself (read (block s) listed) old_first first rest) where
-        pub second_stops : (end : ℕ) (f : ReadFault) → Stops end (read (maybe (after else_word (block s))) rest) f → Stops end (read (choice (expression 0) s) text) f
+        pub second_stops : (end : ℕ) (f : ReadFault) → Stops end (read (maybe (after else_word (block s))) rest) f
+            → Stops end (read (choice (expression 0) s) text) f
         unfolding choice
         second_stops end f h =
             after_stops if_word behind_word end text mid f t
             (seq_stops_second if_of (test (expression 0)) lists end mid listed (v.head, v.phrase) f v.is
             (pair_stops_second (block s) (maybe (after else_word (block s))) end listed rest c.meaning f c.is h))
 
-        pub choice_reads : (old_second others old new : Statements) (end : List Token) → Adds none_or_them (read (maybe (after else_word (block s))) rest) old_second others end → old_first ≡ [] → old_second ≡ [] → new ≡ old ++ open_text.If value first others ∷ [] → Adds alone (read (choice (expression 0) s) text) old new end
+        pub choice_reads : (old_second others old new : Statements) (end : List Token)
+            → Adds none_or_them (read (maybe (after else_word (block s))) rest) old_second others end → old_first ≡ [] → old_second ≡ []
+            → new ≡ old ++ open_text.If value first others ∷ [] → Adds alone (read (choice (expression 0) s) text) old new end
         unfolding choice
         choice_reads old_second others old new end d e g b =
             let tests = v.means in

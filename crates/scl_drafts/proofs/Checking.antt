@@ -13,7 +13,10 @@ use Rattle.scl_drafts.specs.Flaws.{Part, names, root, repeated, scl_flaws}
 use Rattle.scl_drafts.specs.Survey.{found_behind}
 use Rattle.scl_drafts.specs.Checked.{IsFlawless, IsTextFault}
 
-pub all_noted : (d : Draft) (noted told : Option Flaw) (after : Found) → noted ≡ first_behind None (variable_flaws (variable_names d.declarations) 0 0 d.declarations) → after ≡ found_behind (record { labels = []; first = noted }) (root d.declarations d.statements) → told ≡ first_behind after.first (repeated (names after.labels) 0 after.labels) → told ≡ first_behind None (scl_flaws d)
+pub all_noted : (d : Draft) (noted told : Option Flaw) (after : Found)
+    → noted ≡ first_behind None (variable_flaws (variable_names d.declarations) 0 0 d.declarations)
+    → after ≡ found_behind (record { labels = []; first = noted }) (root d.declarations d.statements)
+    → told ≡ first_behind after.first (repeated (names after.labels) 0 after.labels) → told ≡ first_behind None (scl_flaws d)
 all_noted d noted told after e f g =
     let variables : List Flaw = variable_flaws (variable_names d.declarations) 0 0 d.declarations in
     let p : Part = root d.declarations d.statements in
@@ -27,7 +30,8 @@ module _ (text : List ℕ) where
   pub flawless : (d : Draft) (first : Option Flaw) → IsDraft text d → first ≡ first_behind None (scl_flaws d) → first ≡ None → IsFlawless text d
   flawless d first is e none = record { drafted = is; flawless = none_found (scl_flaws d) (sym e ∙ none) }
 
-  pub flawed : (d : Draft) (first : Option Flaw) (flaw : Flaw) → IsDraft text d → first ≡ first_behind None (scl_flaws d) → first ≡ Some flaw → IsTextFault text (fault.Text flaw.broken flaw.at)
+  pub flawed : (d : Draft) (first : Option Flaw) (flaw : Flaw) → IsDraft text d → first ≡ first_behind None (scl_flaws d) → first ≡ Some flaw
+      → IsTextFault text (fault.Text flaw.broken flaw.at)
   flawed d first flaw is e some =
       inr (record { draft = d; drafted = is; first = first_found (scl_flaws d) flaw (sym e ∙ some) })
 

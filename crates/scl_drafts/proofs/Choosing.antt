@@ -40,24 +40,30 @@ module _ (forks : ℕ) (text : List Token) where
   unfolding within no_if inner_ifs ifs_within statement choice
   inner_if_read n e = ap (λ b. choose b (read (choice (expression 0) (within forks n)) text) (read (no_if forks) text)) e
 
-  if_read : (ifs : ℕ) → (ifs ≡ 0 → ⊥) → starts text_tokens if_word text ≡ true → read (within forks ifs) text ≡ read (choice (expression 0) (within forks (ifs - 1))) text
+  if_read : (ifs : ℕ) → (ifs ≡ 0 → ⊥) → starts text_tokens if_word text ≡ true → read (within forks ifs) text
+      ≡ read (choice (expression 0) (within forks (ifs - 1))) text
   if_read ifs z e = ap (λ n. read (within forks n) text) (one_less ifs z) ∙ inner_if_read (ifs - 1) e
 
   module _ (ifs : ℕ) where
-    pub no_if_stops : (end : ℕ) (f : ReadFault) → starts text_tokens if_word text ≡ false → Stops end (read (no_if forks) text) f → Stops end (read (within forks ifs) text) f
+    pub no_if_stops : (end : ℕ) (f : ReadFault) → starts text_tokens if_word text ≡ false → Stops end (read (no_if forks) text) f
+        → Stops end (read (within forks ifs) text) f
     no_if_stops end f e s = stops_as end _ _ f (no_if_read ifs e) s
 
-    pub no_if_reads : (rest : List Token) (old new : Statements) → starts text_tokens if_word text ≡ false → Adds alone (read (no_if forks) text) old new rest → Adds alone (read (within forks ifs) text) old new rest
+    pub no_if_reads : (rest : List Token) (old new : Statements) → starts text_tokens if_word text ≡ false → Adds alone (read (no_if forks) text) old new rest
+        → Adds alone (read (within forks ifs) text) old new rest
     no_if_reads rest old new e a = adds_as alone _ _ old new rest (no_if_read ifs e) a
 
-    pub if_deep : (end : ℕ) (f : ReadFault) → ifs ≡ 0 → starts text_tokens if_word text ≡ true → f ≡ deep_at end text → Stops end (read (within forks ifs) text) f
+    pub if_deep : (end : ℕ) (f : ReadFault) → ifs ≡ 0 → starts text_tokens if_word text ≡ true → f ≡ deep_at end text
+        → Stops end (read (within forks ifs) text) f
     if_deep end f z e w =
         deep_stops end _ text f (subst (λ n. read (within forks n) text ≡ Failed Deep text) (sym z) (deep_if_read e)) w
 
-    pub if_stops : (end : ℕ) (f : ReadFault) → (ifs ≡ 0 → ⊥) → starts text_tokens if_word text ≡ true → Stops end (read (choice (expression 0) (within forks (ifs - 1))) text) f → Stops end (read (within forks ifs) text) f
+    pub if_stops : (end : ℕ) (f : ReadFault) → (ifs ≡ 0 → ⊥) → starts text_tokens if_word text ≡ true
+        → Stops end (read (choice (expression 0) (within forks (ifs - 1))) text) f → Stops end (read (within forks ifs) text) f
     if_stops end f z e s = stops_as end _ _ f (if_read ifs z e) s
 
-    pub if_reads : (rest : List Token) (old new : Statements) → (ifs ≡ 0 → ⊥) → starts text_tokens if_word text ≡ true → Adds alone (read (choice (expression 0) (within forks (ifs - 1))) text) old new rest → Adds alone (read (within forks ifs) text) old new rest
+    pub if_reads : (rest : List Token) (old new : Statements) → (ifs ≡ 0 → ⊥) → starts text_tokens if_word text ≡ true
+        → Adds alone (read (choice (expression 0) (within forks (ifs - 1))) text) old new rest → Adds alone (read (within forks ifs) text) old new rest
     if_reads rest old new z e a = adds_as alone _ _ old new rest (if_read ifs z e) a
 
 -- ---- forks
@@ -80,18 +86,23 @@ module _ (text : List Token) where
   fork_read forks z e = ap (λ n. read (no_if n) text) (one_less forks z) ∙ inner_fork_read (forks - 1) e
 
   module _ (forks : ℕ) where
-    pub simple_stops : (end : ℕ) (f : ReadFault) → starts text_tokens fork_word text ≡ false → Stops end (read (simple (expression 0)) text) f → Stops end (read (no_if forks) text) f
+    pub simple_stops : (end : ℕ) (f : ReadFault) → starts text_tokens fork_word text ≡ false → Stops end (read (simple (expression 0)) text) f
+        → Stops end (read (no_if forks) text) f
     simple_stops end f e s = stops_as end _ _ f (no_fork_read forks e) s
 
-    pub simple_reads : (rest : List Token) (old new : Statements) → starts text_tokens fork_word text ≡ false → Adds alone (read (simple (expression 0)) text) old new rest → Adds alone (read (no_if forks) text) old new rest
+    pub simple_reads : (rest : List Token) (old new : Statements) → starts text_tokens fork_word text ≡ false
+        → Adds alone (read (simple (expression 0)) text) old new rest → Adds alone (read (no_if forks) text) old new rest
     simple_reads rest old new e a = adds_as alone _ _ old new rest (no_fork_read forks e) a
 
-    pub fork_deep : (end : ℕ) (f : ReadFault) → forks ≡ 0 → starts text_tokens fork_word text ≡ true → f ≡ deep_at end text → Stops end (read (no_if forks) text) f
+    pub fork_deep : (end : ℕ) (f : ReadFault) → forks ≡ 0 → starts text_tokens fork_word text ≡ true → f ≡ deep_at end text
+        → Stops end (read (no_if forks) text) f
     fork_deep end f z e w =
         deep_stops end _ text f (subst (λ n. read (no_if n) text ≡ Failed Deep text) (sym z) (deep_fork_read e)) w
 
-    pub fork_stops : (end : ℕ) (f : ReadFault) → (forks ≡ 0 → ⊥) → starts text_tokens fork_word text ≡ true → Stops end (read (fork (within (forks - 1) 32)) text) f → Stops end (read (no_if forks) text) f
+    pub fork_stops : (end : ℕ) (f : ReadFault) → (forks ≡ 0 → ⊥) → starts text_tokens fork_word text ≡ true
+        → Stops end (read (fork (within (forks - 1) 32)) text) f → Stops end (read (no_if forks) text) f
     fork_stops end f z e s = stops_as end _ _ f (fork_read forks z e) s
 
-    pub fork_reads : (rest : List Token) (old new : Statements) → (forks ≡ 0 → ⊥) → starts text_tokens fork_word text ≡ true → Adds alone (read (fork (within (forks - 1) 32)) text) old new rest → Adds alone (read (no_if forks) text) old new rest
+    pub fork_reads : (rest : List Token) (old new : Statements) → (forks ≡ 0 → ⊥) → starts text_tokens fork_word text ≡ true
+        → Adds alone (read (fork (within (forks - 1) 32)) text) old new rest → Adds alone (read (no_if forks) text) old new rest
     fork_reads rest old new z e a = adds_as alone _ _ old new rest (fork_read forks z e) a

@@ -57,7 +57,8 @@ module _ (text : List Token) where
             typed_stops end f
             (pair_stops_second (one kinds) ending end behind_role named u.token f u.is (before_stops_behind semicolon name end named rest n.token f got s))
 
-        pub declaration_reads : (after : List Token) (old new : List Declaration) (d : Declaration) → Takes (read (one {L = text_tokens} semicolon) rest) after → d ≡ record { role = r; kind = k; named = called } → new ≡ old ++ d ∷ [] → Adds one_declared (read declaration text) old new after
+        pub declaration_reads : (after : List Token) (old new : List Declaration) (d : Declaration) → Takes (read (one {L = text_tokens} semicolon) rest) after
+            → d ≡ record { role = r; kind = k; named = called } → new ≡ old ++ d ∷ [] → Adds one_declared (read declaration text) old new after
         unfolding declaration
         declaration_reads after old new d c e b =
             let w = t.writes in
@@ -76,20 +77,26 @@ module _ (text : List Token) where
 -- ---- all of them
 
 module _ (o : Outcome Token (List (Token × (Token × Token)))) (old mid : List Declaration) where
-  pub declarations_end : (left : ℕ) (rest : List Token) → IsGoing declaration one_declared o old mid left rest → starts text_tokens roles rest ≡ false → Adds (flat_map one_declared) o old mid rest
+  pub declarations_end : (left : ℕ) (rest : List Token) → IsGoing declaration one_declared o old mid left rest → starts text_tokens roles rest ≡ false
+      → Adds (flat_map one_declared) o old mid rest
   unfolding declaration
   declarations_end left rest h e = going_ends declaration one_declared o old mid left rest h e
 
-  pub declarations_over : (left : ℕ) (rest : List Token) → left ≡ 0 → IsGoing declaration one_declared o old mid left rest → Adds (flat_map one_declared) o old mid rest
+  pub declarations_over : (left : ℕ) (rest : List Token) → left ≡ 0 → IsGoing declaration one_declared o old mid left rest
+      → Adds (flat_map one_declared) o old mid rest
   declarations_over left rest z h = going_over declaration one_declared o old mid left rest z h
 
-  pub declarations_stop : (left : ℕ) (rest : List Token) (end : ℕ) (f : ReadFault) → 0 < left → IsGoing declaration one_declared o old mid left rest → starts text_tokens roles rest ≡ true → Stops end (read declaration rest) f → Stops end o f
+  pub declarations_stop : (left : ℕ) (rest : List Token) (end : ℕ) (f : ReadFault) → 0 < left → IsGoing declaration one_declared o old mid left rest
+      → starts text_tokens roles rest ≡ true → Stops end (read declaration rest) f → Stops end o f
   unfolding declaration
   declarations_stop left rest end f m h e s = going_stops declaration one_declared o old mid left rest end f m h e s
 
-  pub declarations_go_on : (left less : ℕ) (rest after : List Token) (new : List Declaration) → left ≡ suc less → IsGoing declaration one_declared o old mid left rest → starts text_tokens roles rest ≡ true → Adds one_declared (read declaration rest) mid new after → IsGoing declaration one_declared o old new less after
+  pub declarations_go_on : (left less : ℕ) (rest after : List Token) (new : List Declaration) → left ≡ suc less
+      → IsGoing declaration one_declared o old mid left rest → starts text_tokens roles rest ≡ true → Adds one_declared (read declaration rest) mid new after
+      → IsGoing declaration one_declared o old new less after
   unfolding declaration
   declarations_go_on left less rest after new m h e a = going_on declaration one_declared o old mid left less rest after new m h e a
 
-pub declarations_begin : (text : List Token) (left : ℕ) (items : List Declaration) → left ≡ length text → IsGoing declaration one_declared (read (many declaration) text) items items left text
+pub declarations_begin : (text : List Token) (left : ℕ) (items : List Declaration) → left ≡ length text
+    → IsGoing declaration one_declared (read (many declaration) text) items items left text
 declarations_begin text left items e = going_first declaration one_declared text left items e

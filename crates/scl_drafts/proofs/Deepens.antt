@@ -1,6 +1,7 @@
 -- Where more parentheses, forks and ifs may stand in one another, only what was barred is open.
 use Rattle.std.proofs.Common.{ℕ, suc, ◌+◌}
-use Rattle.grammar.specs.Deeper.{Deeper, IsLanguage, same_one, deeper_seq, deeper_either, deeper_maybe, deeper_many, deeper_made, deeper_headed, opened, with_one, with_seq, with_made}
+use Rattle.grammar.specs.Deeper.{Deeper, IsLanguage, same_one, deeper_seq, deeper_either, deeper_maybe, deeper_many, deeper_made, deeper_headed, opened}
+use Rattle.grammar.specs.Deeper.{with_one, with_seq, with_made}
 use Rattle.sc_text.specs.Phrases.{Phrase}
 use Rattle.sc_text.specs.Expression.{expression}
 use Rattle.sc_text.proofs.Deepens.{Above, above_none, above_more, above_by, expression_wider}
@@ -9,7 +10,8 @@ use Rattle.sc_text.specs.declared.word.Word.{Word}
 use Rattle.sc_text.specs.declared.word.Word.TheVariants as word
 use Rattle.scl_drafts.specs.declared.statement.TextStatement.{TextStatement}
 use Rattle.scl_drafts.specs.Statements.{Statements}
-use Rattle.scl_drafts.specs.Program.{Grows, Text, assigned, labelled, named, goto, pause, simple, block, test, choice, branch, fork, Inner, NoMore, Nested, forking, statement, ifs_within, forks_within, thread, declaration, program, scl}
+use Rattle.scl_drafts.specs.Program.{Grows, Text, assigned, labelled, named, goto, pause, simple, block, test, choice, branch, fork, Inner, NoMore, Nested}
+use Rattle.scl_drafts.specs.Program.{forking, statement, ifs_within, forks_within, thread, declaration, program, scl}
 use Rattle.scl_drafts.proofs.Shapes.{scl_is}
 
 abbrev Wider : Grows TextStatement → Grows TextStatement → Type 1
@@ -100,12 +102,14 @@ module _ (e e' : Grows Phrase) (w : Deeper Phrase e e') where
   forks_opened p q b n m (above_none k) = from_none _
   forks_opened p q b n m (above_more k l a) =
       in_each _ _
-      (statement_wider (forks_within e p k) (forks_within e' q l) (ifs_within e (forks_within e p k) p) (ifs_within e' (forks_within e' q l) q) (forks_opened p q b k l a) (ifs_opened (forks_within e p k) (forks_within e' q l) (forks_opened p q b k l a) p q b))
+      (statement_wider (forks_within e p k) (forks_within e' q l) (ifs_within e (forks_within e p k) p) (ifs_within e' (forks_within e' q l) q)
+      (forks_opened p q b k l a) (ifs_opened (forks_within e p k) (forks_within e' q l) (forks_opened p q b k l a) p q b))
 
   thread_wider : (p q : ℕ) → Above p q → Wider (thread e p p) (thread e' q q)
   unfolding thread
   thread_wider p q b =
-      statement_wider (forks_within e p p) (forks_within e' q q) (ifs_within e (forks_within e p p) p) (ifs_within e' (forks_within e' q q) q) (forks_opened p q b p q b) (ifs_opened (forks_within e p p) (forks_within e' q q) (forks_opened p q b p q b) p q b)
+      statement_wider (forks_within e p p) (forks_within e' q q) (ifs_within e (forks_within e p p) p) (ifs_within e' (forks_within e' q q) q)
+      (forks_opened p q b p q b) (ifs_opened (forks_within e p p) (forks_within e' q q) (forks_opened p q b p q b) p q b)
 
 program_wider : (s s' : Grows TextStatement) → Wider s s' → Deeper Text (program s) (program s')
 unfolding program declaration

@@ -37,7 +37,9 @@ module _ (w : Word) (s : Grows TextStatement) (text : List Token) where
     unfolding branch
     branch_body_stops end f h = pair_stops_second (one (TheWord w ∷ [])) (block s) end text body t.token f t.is h
 
-    pub branch_reads : (rest : List Token) (end at : ℕ) (none statements : Statements) (old new : List (ℕ × Statements)) → at ≡ place_of end text → Adds itself (read (block s) body) none statements rest → none ≡ [] → new ≡ old ++ (at, statements) ∷ [] → Adds one_branch (read (branch w s) text) old new rest
+    pub branch_reads : (rest : List Token) (end at : ℕ) (none statements : Statements) (old new : List (ℕ × Statements)) → at ≡ place_of end text
+        → Adds itself (read (block s) body) none statements rest → none ≡ [] → new ≡ old ++ (at, statements) ∷ []
+        → Adds one_branch (read (branch w s) text) old new rest
     unfolding branch
     branch_reads rest end at none statements old new p a e b =
         let placed : at ≡ t.token.at = p ∙ taken_place (TheWord w ∷ []) end text body t.token t.is in
@@ -68,25 +70,30 @@ module _ (s : Grows TextStatement) (text : List Token) where
 
     pub branches_stop : (end : ℕ) (f : ReadFault) → Stops end (read (many (branch word.Par s)) more) f → Stops end (read (fork s) text) f
     branches_stop end f h =
-        further_stops end f (before_stops semicolon (before (many (branch word.Par s)) join_word) end more f (before_stops join_word (many (branch word.Par s)) end more f h))
+        further_stops end f (before_stops semicolon (before (many (branch word.Par s)) join_word) end more f
+        (before_stops join_word (many (branch word.Par s)) end more f h))
 
     module _ (all : List (ℕ × Statements)) (rest : List Token) (c : Adds (flat_map one_branch) (read (many (branch word.Par s)) more) one_there all rest) where
       pub join_stops : (end : ℕ) (f : ReadFault) → Stops end (read (one {L = text_tokens} join_word) rest) f → Stops end (read (fork s) text) f
       join_stops end f h =
           further_stops end f
-          (before_stops semicolon (before (many (branch word.Par s)) join_word) end more f (before_stops_behind join_word (many (branch word.Par s)) end more rest c.meaning f c.is h))
+          (before_stops semicolon (before (many (branch word.Par s)) join_word) end more f
+          (before_stops_behind join_word (many (branch word.Par s)) end more rest c.meaning f c.is h))
 
       module _ (join : List Token) (j : Takes (read (one {L = text_tokens} join_word) rest) join) where
         pub join_end_stops : (end : ℕ) (f : ReadFault) → Stops end (read (one {L = text_tokens} semicolon) join) f → Stops end (read (fork s) text) f
         join_end_stops end f h =
             further_stops end f
-            (before_stops_behind semicolon (before (many (branch word.Par s)) join_word) end more join c.meaning f (before_got join_word (many (branch word.Par s)) more rest join c.meaning c.is j) h)
+            (before_stops_behind semicolon (before (many (branch word.Par s)) join_word) end more join c.meaning f
+            (before_got join_word (many (branch word.Par s)) more rest join c.meaning c.is j) h)
 
-        pub fork_reads : (after : List Token) (old new : Statements) → Takes (read (one {L = text_tokens} semicolon) join) after → none ≡ [] → new ≡ old ++ open_text.Fork all ∷ [] → Adds alone (read (fork s) text) old new after
+        pub fork_reads : (after : List Token) (old new : Statements) → Takes (read (one {L = text_tokens} semicolon) join) after → none ≡ []
+            → new ≡ old ++ open_text.Fork all ∷ [] → Adds alone (read (fork s) text) old new after
         unfolding fork
         fork_reads after old new e z b =
             let first : one_there ≡ branch_of a.meaning ∷ [] = a.behind ∙ ap (λ o. o ++ branch_of a.meaning ∷ []) z in
-            let whole : all ≡ branch_of a.meaning ∷ map branch_of c.meaning = c.behind ∙ ap (λ o. o ++ flat_map one_branch c.meaning) first ∙ ap (λ l. branch_of a.meaning ∷ l) (each_branch c.meaning) in
+            let whole : all ≡ branch_of a.meaning ∷ map branch_of c.meaning = c.behind ∙ ap (λ o. o ++ flat_map one_branch c.meaning) first
+            ∙ ap (λ l. branch_of a.meaning ∷ l) (each_branch c.meaning) in
             record {
               meaning = fork_statement a.meaning c.meaning;
               is =

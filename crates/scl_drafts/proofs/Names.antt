@@ -18,10 +18,12 @@ number_is_no_name (pos zero) = refl
 number_is_no_name (pos (suc n)) = refl
 number_is_no_name (negsuc n) = refl
 
-pub no_name : (text : List Token) (end : ℕ) (f : ReadFault) → starts text_tokens (AName ∷ []) text ≡ false → f ≡ wrong_at end text → Stops end (read name text) f
+pub no_name : (text : List Token) (end : ℕ) (f : ReadFault) → starts text_tokens (AName ∷ []) text ≡ false → f ≡ wrong_at end text
+    → Stops end (read name text) f
 no_name text end f e w = one_fails (AName ∷ []) text end f e w
 
-pub name_taken : (text : List Token) (t d : Token) (called : List ℕ) → starts text_tokens (AName ∷ []) text ≡ true → t ≡ get_or text 0 d → called ≡ name_of t.kind → TakesName text (record { name = called; at = t.at })
+pub name_taken : (text : List Token) (t d : Token) (called : List ℕ) → starts text_tokens (AName ∷ []) text ≡ true → t ≡ get_or text 0 d
+    → called ≡ name_of t.kind → TakesName text (record { name = called; at = t.at })
 name_taken [] t d called e g n = absurd cc
 name_taken (u ∷ text) t d called e g n =
     record { token = t; is = one_got (AName ∷ []) u text e ∙ ap (λ v. Got v text) (sym g); means = ap (λ c. record { name = c; at = t.at }) n }

@@ -21,7 +21,8 @@ use Rattle.scl_drafts.specs.Inside.{TakesName, Adds, AddsBody, Drafts, in_braces
 use Rattle.scl_drafts.proofs.Blocks.{each_alone}
 use Rattle.scl_drafts.proofs.Declaring.{each_declared}
 use Rattle.scl_drafts.proofs.Names.{name_got}
-use Rattle.scl_drafts.proofs.Taking.{after_got, after_stops_before, after_stops, before_got, before_stops, before_stops_behind, pair_got, pair_stops_first, pair_stops_second}
+use Rattle.scl_drafts.proofs.Taking.{after_got, after_stops_before, after_stops, before_got, before_stops, before_stops_behind, pair_got, pair_stops_first}
+use Rattle.scl_drafts.proofs.Taking.{pair_stops_second}
 
 abbrev opening : List Class
 opening = TheSign sign.OpenBrace ∷ []
@@ -49,14 +50,16 @@ module _ (text : List Token) where
     declarations_stop end f s =
         in_body end f (before_stops closing inner end inside f (pair_stops_first (many declaration) (many (within 32 32)) end inside f s))
 
-    module _ (old_variables variables : List Declaration) (start : List Token) (a : Adds (flat_map one_declared) (read (many declaration) inside) old_variables variables start) where
+    module _ (old_variables variables : List Declaration) (start : List Token)
+        (a : Adds (flat_map one_declared) (read (many declaration) inside) old_variables variables start) where
       pub statements_stop : (end : ℕ) (f : ReadFault) → Stops end (read (many (within 32 32)) start) f → Stops end (read in_braces text) f
       statements_stop end f s =
           in_body end f
           (before_stops closing inner end inside f
           (pair_stops_second (many declaration) (many (within 32 32)) end inside start a.meaning f a.is s))
 
-      module _ (old_statements statements : Statements) (rest : List Token) (c : Adds (flat_map alone) (read (many (within 32 32)) start) old_statements statements rest) where
+      module _ (old_statements statements : Statements) (rest : List Token)
+          (c : Adds (flat_map alone) (read (many (within 32 32)) start) old_statements statements rest) where
         inner_got : read inner inside ≡ Got (a.meaning, c.meaning) rest
         inner_got =
             pair_got (many declaration) (many (within 32 32)) inside start rest a.meaning c.meaning a.is c.is
@@ -64,12 +67,14 @@ module _ (text : List Token) where
         pub close_stops : (end : ℕ) (f : ReadFault) → Stops end (read (one {L = text_tokens} closing) rest) f → Stops end (read in_braces text) f
         close_stops end f s = in_body end f (before_stops_behind closing inner end inside rest (a.meaning, c.meaning) f inner_got s)
 
-        pub body_reads : (end : List Token) → Takes (read (one {L = text_tokens} closing) rest) end → AddsBody (read in_braces text) old_variables variables old_statements statements end
+        pub body_reads : (end : List Token) → Takes (read (one {L = text_tokens} closing) rest) end
+            → AddsBody (read in_braces text) old_variables variables old_statements statements end
         body_reads end t =
             record {
               variables_read = a.meaning;
               statements_read = c.meaning;
-              is = after_got opening (before inner closing) text inside end (a.meaning, c.meaning) o (before_got closing inner inside rest end (a.meaning, c.meaning) inner_got t);
+              is = after_got opening (before inner closing) text inside end (a.meaning, c.meaning) o
+                  (before_got closing inner inside rest end (a.meaning, c.meaning) inner_got t);
               variables_behind = a.behind ∙ ap (λ l. old_variables ++ l) (each_declared a.meaning);
               statements_behind = c.behind ∙ ap (λ l. old_statements ++ l) (each_alone c.meaning);
             }
@@ -101,7 +106,8 @@ module _ (text : List Token) where
       pub body_stops : (end : ℕ) (f : ReadFault) → Stops end (read in_braces opened) f → Stops end (read_all (scl 0) text) f
       body_stops end f s = behind_word end f (pair_stops_second name in_braces end named opened n.token f got s)
 
-      module _ (old_variables variables : List Declaration) (old_statements statements : Statements) (rest : List Token) (b : AddsBody (read in_braces opened) old_variables variables old_statements statements rest) where
+      module _ (old_variables variables : List Declaration) (old_statements statements : Statements) (rest : List Token)
+          (b : AddsBody (read in_braces opened) old_variables variables old_statements statements rest) where
         abbrev spelled : Text
         spelled = (n.token, (b.variables_read, b.statements_read))
 
@@ -119,7 +125,8 @@ module _ (text : List Token) where
         more_stops end f n w =
             subst (Stops end (read_all (scl 0) text)) (sym w) (record { flaw = Wrong; rest = rest; is = more_wrong rest refl n; breaks = refl; place = refl })
 
-        pub whole_drafts : (draft : Draft) → old_variables ≡ [] → old_statements ≡ [] → rest ≡ [] → draft ≡ record { name = called.name; declarations = variables; statements = statements } → Drafts (read_all (scl 0) text) draft
+        pub whole_drafts : (draft : Draft) → old_variables ≡ [] → old_statements ≡ [] → rest ≡ []
+            → draft ≡ record { name = called.name; declarations = variables; statements = statements } → Drafts (read_all (scl 0) text) draft
         whole_drafts draft no_variables no_statements e d =
             let named_so = n.means in
             let vs : variables ≡ map declared b.variables_read = b.variables_behind ∙ ap (λ o. o ++ map declared b.variables_read) no_variables in

@@ -1,6 +1,7 @@
 -- What the grammar of SCL gives of each draft.
 use Rattle.std.proofs.Common.{ℕ, zero, suc, List, Option, Some, None, map, sym, subst}
-use Rattle.grammar.proofs.Each.{Every, OfIt, Each, every_at, every_map, each_seq, each_either, each_maybe, each_many, each_made, each_headed, each_barred, each_as}
+use Rattle.grammar.proofs.Each.{Every, OfIt, Each, every_at, every_map, each_seq, each_either, each_maybe, each_many, each_made, each_headed, each_barred}
+use Rattle.grammar.proofs.Each.{each_as}
 use Rattle.sc_text.specs.declared.language.Language.TheVariants as language
 use Rattle.sc_text.specs.declared.token.Token.{Token}
 use Rattle.sc_text.specs.declared.word.Word.{Word}
@@ -16,7 +17,8 @@ use Rattle.drafts.proofs.EachName.{each_name}
 use Rattle.scl_drafts.specs.declared.statement.TextStatement.{TextStatement}
 use Rattle.scl_drafts.specs.declared.draft.Draft.{Draft}
 use Rattle.scl_drafts.specs.Statements.{Statements, AfterName, Becomes, IsLabel, named_statement, none_or_them, branch_of}
-use Rattle.scl_drafts.specs.Program.{Grows, Text, assigned, labelled, named as named_part, goto, pause, simple, block, test, choice, branch, fork, Inner, NoMore, Nested, forking, statement, ifs_within, forks_within, thread, declaration, program, scl}
+use Rattle.scl_drafts.specs.Program.{Grows, Text, assigned, labelled, named as named_part, goto, pause, simple, block, test, choice, branch, fork, Inner}
+use Rattle.scl_drafts.specs.Program.{NoMore, Nested, forking, statement, ifs_within, forks_within, thread, declaration, program, scl}
 use Rattle.scl_drafts.specs.Draft.{IsDraft, declared, draft_of}
 use Rattle.scl_drafts.specs.Shape.{shape_of, IsShaped}
 use Rattle.scl_drafts.proofs.Shaping.{Fits, row_fits, thread_fits, assign_fits, label_fits, goto_fits, pause_fits, if_fits, fork_fits}
@@ -46,7 +48,8 @@ module _ (e : Grows Phrase) (w : EachScl e CanWrite) (limit : ℕ) where
   unfolding labelled
   labelled_fits = each_made _ _ _ _ _ AfterFits (each_token _) (λ t h. tt)
 
-  named_fits : (forks ifs : ℕ) (t : Token) (a : AfterName) → IsNameIn language.Scl (name_of t.kind) → AfterFits a → StatementFits forks ifs (named_statement t a)
+  named_fits : (forks ifs : ℕ) (t : Token) (a : AfterName) → IsNameIn language.Scl (name_of t.kind) → AfterFits a
+      → StatementFits forks ifs (named_statement t a)
   named_fits forks ifs t (Becomes first value) n h = assign_fits limit forks ifs (named t) (expressed (first, value)) h
   named_fits forks ifs t IsLabel n h = label_fits limit forks ifs (named t) n
 
@@ -120,12 +123,14 @@ module _ (e : Grows Phrase) (w : EachScl e CanWrite) (limit : ℕ) where
   forks_fit zero = no_forks
   forks_fit (suc n) =
       some_forks n _
-      (statement_fits n limit (forks_within e limit n) (ifs_within e (forks_within e limit n) limit) (forks_fit n) (ifs_fit n (forks_within e limit n) (forks_fit n) limit))
+      (statement_fits n limit (forks_within e limit n) (ifs_within e (forks_within e limit n) limit) (forks_fit n)
+      (ifs_fit n (forks_within e limit n) (forks_fit n) limit))
 
   each_thread_fits : (forks : ℕ) → Grown forks limit (thread e limit forks)
   unfolding thread
   each_thread_fits forks =
-      statement_fits forks limit (forks_within e limit forks) (ifs_within e (forks_within e limit forks) limit) (forks_fit forks) (ifs_fit forks (forks_within e limit forks) (forks_fit forks) limit)
+      statement_fits forks limit (forks_within e limit forks) (ifs_within e (forks_within e limit forks) limit) (forks_fit forks)
+      (ifs_fit forks (forks_within e limit forks) (forks_fit forks) limit)
 
 -- ---- whole programs
 

@@ -9,7 +9,8 @@ use Rattle.sc_text.specs.Phrases.{Phrase}
 use Rattle.sc_text.specs.Expression.{expression}
 use Rattle.sc_text.proofs.Shapes.{Is, expression_first, expression_tails, expression_is}
 use Rattle.scl_drafts.specs.declared.statement.TextStatement.{TextStatement}
-use Rattle.scl_drafts.specs.Program.{Grows, assigned, labelled, named, goto, pause, simple, block, test, choice, branch, fork, Inner, NoMore, Nested, forking, statement, ifs_within, forks_within, thread, declaration, program, scl}
+use Rattle.scl_drafts.specs.Program.{Grows, assigned, labelled, named, goto, pause, simple, block, test, choice, branch, fork, Inner, NoMore, Nested, forking}
+use Rattle.scl_drafts.specs.Program.{statement, ifs_within, forks_within, thread, declaration, program, scl}
 
 abbrev IsExpression : Grows Phrase → Type 0
 IsExpression e = Is e expression_first expression_tails
@@ -93,7 +94,8 @@ test_is e h =
     (shaped_made _ _ _ _ _ _ _ (shaped_seq _ _ _ _ _ _ _ _ _ _ (shaped_headed _ _ _ _ h) (shaped_one _ refl) refl))
     refl)
 
-choice_is : (e : Grows Phrase) (s : Grows TextStatement) → IsExpression e → IsStatement s → Shaped (choice e s) false (TheWord word.If ∷ []) (TheWord word.Else ∷ [])
+choice_is : (e : Grows Phrase) (s : Grows TextStatement) → IsExpression e → IsStatement s
+    → Shaped (choice e s) false (TheWord word.If ∷ []) (TheWord word.Else ∷ [])
 unfolding choice
 choice_is e s h i =
     shaped_made _ _ _ _ _ _ _
@@ -148,12 +150,14 @@ module _ (e : Grows Phrase) (h : IsExpression e) where
   forks_fit ifs zero = nothing
   forks_fit ifs (suc n) =
       nested _
-      (statement_is e (forks_within e ifs n) (ifs_within e (forks_within e ifs n) ifs) h (forks_fit ifs n) (ifs_fit (forks_within e ifs n) (forks_fit ifs n) ifs))
+      (statement_is e (forks_within e ifs n) (ifs_within e (forks_within e ifs n) ifs) h (forks_fit ifs n)
+      (ifs_fit (forks_within e ifs n) (forks_fit ifs n) ifs))
 
   thread_is : (ifs forks : ℕ) → IsStatement (thread e ifs forks)
   unfolding thread
   thread_is ifs forks =
-      statement_is e (forks_within e ifs forks) (ifs_within e (forks_within e ifs forks) ifs) h (forks_fit ifs forks) (ifs_fit (forks_within e ifs forks) (forks_fit ifs forks) ifs)
+      statement_is e (forks_within e ifs forks) (ifs_within e (forks_within e ifs forks) ifs) h (forks_fit ifs forks)
+      (ifs_fit (forks_within e ifs forks) (forks_fit ifs forks) ifs)
 
 abbrev roles : List Class
 roles = TheWord word.Input ∷ TheWord word.Output ∷ TheWord word.Local ∷ []

@@ -32,7 +32,8 @@ shape_of_goto label = ap shape_of (sym (rolls-Goto label)) ∙ fold-roll-TextSta
 shape_of_pause : shape_of variant.Pause ≡ shape text.Pause
 shape_of_pause = ap shape_of (sym rolls-Pause) ∙ fold-roll-TextStatement Shape shape text.Pause
 
-shape_of_if : (test : TextExpression) (first second : List TextStatement) → shape_of (variant.If test first second) ≡ shape (text.If test (shapes first) (shapes second))
+shape_of_if : (test : TextExpression) (first second : List TextStatement) → shape_of (variant.If test first second)
+    ≡ shape (text.If test (shapes first) (shapes second))
 shape_of_if test first second =
     ap shape_of (sym (rolls-If test first second)) ∙ fold-roll-TextStatement Shape shape (text.If test first second)
 
@@ -78,7 +79,8 @@ module _ (limit : ℕ) where
         low_depth = omega (arith, a.low_depth, b.low_depth);
       }
 
-  pub row_fits : (forks ifs : ℕ) (statements : List TextStatement) → Every (λ s. Fits forks ifs (shape_of s)) statements → Fits forks ifs (in_row (shapes statements))
+  pub row_fits : (forks ifs : ℕ) (statements : List TextStatement) → Every (λ s. Fits forks ifs (shape_of s)) statements
+      → Fits forks ifs (in_row (shapes statements))
   row_fits forks ifs [] e = nothing_fits forks ifs
   row_fits forks ifs (s ∷ statements) e =
       both_fit forks ifs (shape_of s) (in_row (shapes statements)) e.0 (row_fits forks ifs statements e.1)
@@ -95,7 +97,8 @@ module _ (limit : ℕ) where
         low_depth = a.low_depth;
       }
 
-  pub assign_fits : (forks ifs : ℕ) (target : Named) (value : TextExpression) → IsTrue (is_writable_expression value) → Fits forks ifs (shape_of (variant.Assign target value))
+  pub assign_fits : (forks ifs : ℕ) (target : Named) (value : TextExpression) → IsTrue (is_writable_expression value)
+      → Fits forks ifs (shape_of (variant.Assign target value))
   assign_fits forks ifs target value h =
       let n = nothing_fits forks ifs in
       subst (Fits forks ifs) (sym (shape_of_assign target value))
@@ -129,7 +132,9 @@ module _ (limit : ℕ) where
   pub pause_fits : (forks ifs : ℕ) → Fits forks ifs (shape_of variant.Pause)
   pause_fits forks ifs = subst (Fits forks ifs) (sym shape_of_pause) (nothing_fits forks ifs)
 
-  pub if_fits : (forks ifs : ℕ) (test : TextExpression) (first second : List TextStatement) → IsTrue (is_writable_expression test) → Every (λ s. Fits forks ifs (shape_of s)) first → Every (λ s. Fits forks ifs (shape_of s)) second → Fits forks (suc ifs) (shape_of (variant.If test first second))
+  pub if_fits : (forks ifs : ℕ) (test : TextExpression) (first second : List TextStatement) → IsTrue (is_writable_expression test)
+      → Every (λ s. Fits forks ifs (shape_of s)) first → Every (λ s. Fits forks ifs (shape_of s)) second
+      → Fits forks (suc ifs) (shape_of (variant.If test first second))
   if_fits forks ifs test first second h a b =
       let p = both (in_row (shapes first)) (in_row (shapes second)) in
       let f : Fits forks ifs p = both_fit forks ifs _ _ (row_fits forks ifs first a) (row_fits forks ifs second b) in
@@ -144,12 +149,15 @@ module _ (limit : ℕ) where
         low_depth = f.low_depth;
       })
 
-  branches_fit : (forks ifs : ℕ) (branches : List (ℕ × List TextStatement)) → Every (λ b. Every (λ s. Fits forks limit (shape_of s)) b.1) branches → Fits forks ifs (side_by_side (map of_branch branches))
+  branches_fit : (forks ifs : ℕ) (branches : List (ℕ × List TextStatement)) → Every (λ b. Every (λ s. Fits forks limit (shape_of s)) b.1) branches
+      → Fits forks ifs (side_by_side (map of_branch branches))
   branches_fit forks ifs [] e = nothing_fits forks ifs
   branches_fit forks ifs (b ∷ branches) e =
-      both_fit forks ifs (thread (in_row (shapes b.1))) (side_by_side (map of_branch branches)) (thread_fits forks ifs (in_row (shapes b.1)) (row_fits forks limit b.1 e.0)) (branches_fit forks ifs branches e.1)
+      both_fit forks ifs (thread (in_row (shapes b.1))) (side_by_side (map of_branch branches))
+      (thread_fits forks ifs (in_row (shapes b.1)) (row_fits forks limit b.1 e.0)) (branches_fit forks ifs branches e.1)
 
-  pub fork_fits : (forks ifs : ℕ) (first : ℕ × List TextStatement) (more : List (ℕ × List TextStatement)) → Every (λ b. Every (λ s. Fits forks limit (shape_of s)) b.1) (first ∷ more) → Fits (suc forks) ifs (shape_of (variant.Fork (first ∷ more)))
+  pub fork_fits : (forks ifs : ℕ) (first : ℕ × List TextStatement) (more : List (ℕ × List TextStatement))
+      → Every (λ b. Every (λ s. Fits forks limit (shape_of s)) b.1) (first ∷ more) → Fits (suc forks) ifs (shape_of (variant.Fork (first ∷ more)))
   fork_fits forks ifs first more e =
       let f = branches_fit forks ifs (first ∷ more) e in
       subst (Fits (suc forks) ifs) (sym (shape_of_fork (first ∷ more)))

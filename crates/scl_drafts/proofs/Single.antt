@@ -25,7 +25,8 @@ becomes = TheSign sign.Becomes ∷ []
 
 -- ---- assignments and labels
 
-assigned_read : (text : List Token) → starts text_tokens becomes text ≡ true → read (either (assigned (expression 0)) labelled) text ≡ read (assigned (expression 0)) text
+assigned_read : (text : List Token) → starts text_tokens becomes text ≡ true → read (either (assigned (expression 0)) labelled) text
+    ≡ read (assigned (expression 0)) text
 unfolding assigned
 assigned_read text e = ap (λ b. choose b (read (assigned (expression 0)) text) (read labelled text)) e
 
@@ -42,14 +43,17 @@ module _ (text : List Token) where
     got : read name text ≡ Got t.token rest
     got = name_got text rest called t g
 
-    pub assigned_stops : (more : List Token) (end : ℕ) (f : ReadFault) → starts text_tokens becomes rest ≡ true → more ≡ drop 1 rest → Stops end (read (before (headed (expression 0)) semicolon) more) f → Stops end (read (named (expression 0)) text) f
+    pub assigned_stops : (more : List Token) (end : ℕ) (f : ReadFault) → starts text_tokens becomes rest ≡ true → more ≡ drop 1 rest
+        → Stops end (read (before (headed (expression 0)) semicolon) more) f → Stops end (read (named (expression 0)) text) f
     unfolding named assigned
     assigned_stops more end f e d s =
         seq_stops_second _ name (either (assigned (expression 0)) labelled) end text rest t.token f got
         (stops_as end _ _ f (assigned_read rest e)
         (next_stops end _ _ f (after_stops becomes (before (headed (expression 0)) semicolon) end rest more f (one_taken becomes rest more e d) s)))
 
-    pub assigned_reads : (more end : List Token) (value : TextExpression) (old new : Statements) → starts text_tokens becomes rest ≡ true → more ≡ drop 1 rest → TakesValue (read (before (headed (expression 0)) semicolon) more) value end → new ≡ old ++ open_text.Assign called value ∷ [] → Adds alone (read (named (expression 0)) text) old new end
+    pub assigned_reads : (more end : List Token) (value : TextExpression) (old new : Statements) → starts text_tokens becomes rest ≡ true → more ≡ drop 1 rest
+        → TakesValue (read (before (headed (expression 0)) semicolon) more) value end → new ≡ old ++ open_text.Assign called value ∷ []
+        → Adds alone (read (named (expression 0)) text) old new end
     unfolding named assigned
     assigned_reads more end value old new e d v b =
         let n = t.means in
@@ -59,17 +63,21 @@ module _ (text : List Token) where
           meaning = named_statement t.token (Becomes v.head v.phrase);
           is =
               seq_got _ name (either (assigned (expression 0)) labelled) text rest end t.token (Becomes v.head v.phrase) got
-              (assigned_read rest e ∙ ap (λ o. next o (λ x r. Got (Becomes x.0 x.1) r)) (after_got becomes (before (headed (expression 0)) semicolon) rest more end (v.head, v.phrase) (one_taken becomes rest more e d) v.is));
+              (assigned_read rest e ∙ ap (λ o. next o (λ x r. Got (Becomes x.0 x.1) r))
+              (after_got becomes (before (headed (expression 0)) semicolon) rest more end (v.head, v.phrase) (one_taken becomes rest more e d) v.is));
           behind = b ∙ ap (λ l. old ++ l ∷ []) same;
         }
 
-    pub colon_stops : (end : ℕ) (f : ReadFault) → starts text_tokens becomes rest ≡ false → Stops end (read (one {L = text_tokens} (TheSign sign.Colon ∷ [])) rest) f → Stops end (read (named (expression 0)) text) f
+    pub colon_stops : (end : ℕ) (f : ReadFault) → starts text_tokens becomes rest ≡ false
+        → Stops end (read (one {L = text_tokens} (TheSign sign.Colon ∷ [])) rest) f → Stops end (read (named (expression 0)) text) f
     unfolding named labelled
     colon_stops end f e s =
         seq_stops_second _ name (either (assigned (expression 0)) labelled) end text rest t.token f got
         (stops_as end _ _ f (labelled_read rest e) (next_stops end _ _ f s))
 
-    pub labelled_reads : (end : List Token) (old new : Statements) → starts text_tokens becomes rest ≡ false → Takes (read (one {L = text_tokens} (TheSign sign.Colon ∷ [])) rest) end → new ≡ old ++ open_text.Label called ∷ [] → Adds alone (read (named (expression 0)) text) old new end
+    pub labelled_reads : (end : List Token) (old new : Statements) → starts text_tokens becomes rest ≡ false
+        → Takes (read (one {L = text_tokens} (TheSign sign.Colon ∷ [])) rest) end → new ≡ old ++ open_text.Label called ∷ []
+        → Adds alone (read (named (expression 0)) text) old new end
     unfolding named labelled
     labelled_reads end old new e c b =
         let n = t.means in
@@ -105,16 +113,19 @@ module _ (text : List Token) where
       pub goto_end_stops : (end : ℕ) (f : ReadFault) → Stops end (read (one {L = text_tokens} semicolon) rest) f → Stops end (read goto text) f
       unfolding goto
       goto_end_stops end f s =
-          next_stops end _ _ f (after_stops goto_word (before name semicolon) end text target f w (before_stops_behind semicolon name end target rest t.token f got_target s))
+          next_stops end _ _ f (after_stops goto_word (before name semicolon) end text target f w
+          (before_stops_behind semicolon name end target rest t.token f got_target s))
 
-      pub goto_reads : (end : List Token) (old new : Statements) → Takes (read (one {L = text_tokens} semicolon) rest) end → new ≡ old ++ open_text.Goto called ∷ [] → Adds alone (read goto text) old new end
+      pub goto_reads : (end : List Token) (old new : Statements) → Takes (read (one {L = text_tokens} semicolon) rest) end
+          → new ≡ old ++ open_text.Goto called ∷ [] → Adds alone (read goto text) old new end
       unfolding goto
       goto_reads end old new c b =
           let n = t.means in
           let same : open_text.Goto called ≡ open_text.Goto (named_token t.token) = cc in
           record {
             meaning = goto_statement t.token;
-            is = ap (λ o. next o (λ x r. Got (goto_statement x) r)) (after_got goto_word (before name semicolon) text target end t.token w (before_got semicolon name target rest end t.token got_target c));
+            is = ap (λ o. next o (λ x r. Got (goto_statement x) r))
+                (after_got goto_word (before name semicolon) text target end t.token w (before_got semicolon name target rest end t.token got_target c));
             behind = b ∙ ap (λ l. old ++ l ∷ []) same;
           }
 
@@ -128,11 +139,13 @@ module _ (text : List Token) where
   unfolding pause
   pause_stops end f s = next_stops end _ _ f (before_stops semicolon (one pause_word) end text f s)
 
-  pub pause_end_stops : (rest : List Token) (end : ℕ) (f : ReadFault) → Takes (read (one {L = text_tokens} pause_word) text) rest → Stops end (read (one {L = text_tokens} semicolon) rest) f → Stops end (read pause text) f
+  pub pause_end_stops : (rest : List Token) (end : ℕ) (f : ReadFault) → Takes (read (one {L = text_tokens} pause_word) text) rest
+      → Stops end (read (one {L = text_tokens} semicolon) rest) f → Stops end (read pause text) f
   unfolding pause
   pause_end_stops rest end f t s = next_stops end _ _ f (before_stops_behind semicolon (one pause_word) end text rest t.token f t.is s)
 
-  pub pause_reads : (rest end : List Token) (old new : Statements) → Takes (read (one {L = text_tokens} pause_word) text) rest → Takes (read (one {L = text_tokens} semicolon) rest) end → new ≡ old ++ pause_statement ∷ [] → Adds alone (read pause text) old new end
+  pub pause_reads : (rest end : List Token) (old new : Statements) → Takes (read (one {L = text_tokens} pause_word) text) rest
+      → Takes (read (one {L = text_tokens} semicolon) rest) end → new ≡ old ++ pause_statement ∷ [] → Adds alone (read pause text) old new end
   unfolding pause
   pause_reads rest end old new t c b =
       record {
@@ -160,20 +173,26 @@ module _ (text : List Token) where
   unfolding goto
   pause_read e g = unnamed_read e ∙ ap (λ b. choose b (read goto text) (read pause text)) g
 
-  pub simple_named_stops : (end : ℕ) (f : ReadFault) → starts text_tokens (AName ∷ []) text ≡ true → Stops end (read (named (expression 0)) text) f → Stops end (read (simple (expression 0)) text) f
+  pub simple_named_stops : (end : ℕ) (f : ReadFault) → starts text_tokens (AName ∷ []) text ≡ true → Stops end (read (named (expression 0)) text) f
+      → Stops end (read (simple (expression 0)) text) f
   simple_named_stops end f e s = stops_as end _ _ f (named_read e) s
 
-  pub simple_named_reads : (rest : List Token) (old new : Statements) → starts text_tokens (AName ∷ []) text ≡ true → Adds alone (read (named (expression 0)) text) old new rest → Adds alone (read (simple (expression 0)) text) old new rest
+  pub simple_named_reads : (rest : List Token) (old new : Statements) → starts text_tokens (AName ∷ []) text ≡ true
+      → Adds alone (read (named (expression 0)) text) old new rest → Adds alone (read (simple (expression 0)) text) old new rest
   simple_named_reads rest old new e a = adds_as alone _ _ old new rest (named_read e) a
 
-  pub simple_goto_stops : (end : ℕ) (f : ReadFault) → starts text_tokens (AName ∷ []) text ≡ false → starts text_tokens goto_word text ≡ true → Stops end (read goto text) f → Stops end (read (simple (expression 0)) text) f
+  pub simple_goto_stops : (end : ℕ) (f : ReadFault) → starts text_tokens (AName ∷ []) text ≡ false → starts text_tokens goto_word text ≡ true
+      → Stops end (read goto text) f → Stops end (read (simple (expression 0)) text) f
   simple_goto_stops end f e g s = stops_as end _ _ f (goto_read e g) s
 
-  pub simple_goto_reads : (rest : List Token) (old new : Statements) → starts text_tokens (AName ∷ []) text ≡ false → starts text_tokens goto_word text ≡ true → Adds alone (read goto text) old new rest → Adds alone (read (simple (expression 0)) text) old new rest
+  pub simple_goto_reads : (rest : List Token) (old new : Statements) → starts text_tokens (AName ∷ []) text ≡ false → starts text_tokens goto_word text ≡ true
+      → Adds alone (read goto text) old new rest → Adds alone (read (simple (expression 0)) text) old new rest
   simple_goto_reads rest old new e g a = adds_as alone _ _ old new rest (goto_read e g) a
 
-  pub simple_pause_stops : (end : ℕ) (f : ReadFault) → starts text_tokens (AName ∷ []) text ≡ false → starts text_tokens goto_word text ≡ false → Stops end (read pause text) f → Stops end (read (simple (expression 0)) text) f
+  pub simple_pause_stops : (end : ℕ) (f : ReadFault) → starts text_tokens (AName ∷ []) text ≡ false → starts text_tokens goto_word text ≡ false
+      → Stops end (read pause text) f → Stops end (read (simple (expression 0)) text) f
   simple_pause_stops end f e g s = stops_as end _ _ f (pause_read e g) s
 
-  pub simple_pause_reads : (rest : List Token) (old new : Statements) → starts text_tokens (AName ∷ []) text ≡ false → starts text_tokens goto_word text ≡ false → Adds alone (read pause text) old new rest → Adds alone (read (simple (expression 0)) text) old new rest
+  pub simple_pause_reads : (rest : List Token) (old new : Statements) → starts text_tokens (AName ∷ []) text ≡ false → starts text_tokens goto_word text ≡ false
+      → Adds alone (read pause text) old new rest → Adds alone (read (simple (expression 0)) text) old new rest
   simple_pause_reads rest old new e g a = adds_as alone _ _ old new rest (pause_read e g) a

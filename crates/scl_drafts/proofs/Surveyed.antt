@@ -11,7 +11,7 @@ use Rattle.drafts.specs.declared.parts.Declaration.{Declaration}
 use Rattle.drafts.specs.Flaws.{flaw_if, is_full, variable_named, expression_flaws, assigned_flaws}
 use Rattle.drafts.specs.Inside.{first_behind}
 use Rattle.drafts.proofs.Firsts.{behind_both}
-use Rattle.drafts.proofs.Flawed.{drop_is, drop_past}
+use Rattle.drafts.proofs.PartsInOrder.{drop_is, drop_past}
 use Rattle.scl_drafts.specs.declared.statement.TextStatement.{TextStatement}
 use Rattle.scl_drafts.specs.declared.statement.TextStatement.TheOpen as text
 use Rattle.scl_drafts.specs.declared.statement.TextStatement.TheVariants as statement
@@ -54,7 +54,8 @@ only_first s flaws = λ i.
       first = first_behind s.first flaws;
     }
 
-pub branch_noted : (f : Found) (flaws : List Flaw) (first : Option Flaw) → first ≡ first_behind f.first flaws → record { labels = f.labels; first = first } ≡ found_behind f (only_flaws flaws)
+pub branch_noted : (f : Found) (flaws : List Flaw) (first : Option Flaw) → first ≡ first_behind f.first flaws → record { labels = f.labels; first = first }
+    ≡ found_behind f (only_flaws flaws)
 branch_noted f flaws first e = λ i. record { labels = sym (append-nil f.labels) i; first = e i }
 
 -- ---- what each statement is as a piece of the text
@@ -73,7 +74,8 @@ module _ (V : List Declaration) where
   part_of_pause : part_of V statement.Pause ≡ part V text.Pause
   part_of_pause = ap (part_of V) (sym rolls-Pause) ∙ fold-roll-TextStatement Part (part V) text.Pause
 
-  part_of_if : (test : TextExpression) (first second : Statements) → part_of V (statement.If test first second) ≡ part V (text.If test (parts_of V first) (parts_of V second))
+  part_of_if : (test : TextExpression) (first second : Statements) → part_of V (statement.If test first second)
+      ≡ part V (text.If test (parts_of V first) (parts_of V second))
   part_of_if test first second =
       ap (part_of V) (sym (rolls-If test first second)) ∙ fold-roll-TextStatement Part (part V) (text.If test first second)
 
@@ -83,7 +85,9 @@ module _ (V : List Declaration) where
 
 -- ---- going over a statement
 
-pub label_noted : (own : Thread) (found : Found) (label : Named) (labels all : List Named) → labels ≡ own.labels ++ label ∷ [] → all ≡ found.labels ++ label ∷ [] → survey (record { labels = labels; gotos = own.gotos }) (record { labels = all; first = found.first }) ≡ behind (survey own found) (label_part label)
+pub label_noted : (own : Thread) (found : Found) (label : Named) (labels all : List Named) → labels ≡ own.labels ++ label ∷ []
+    → all ≡ found.labels ++ label ∷ [] → survey (record { labels = labels; gotos = own.gotos }) (record { labels = all; first = found.first })
+    ≡ behind (survey own found) (label_part label)
 label_noted own found label labels all e g = λ i.
     record { labels = e i; gotos = sym (append-nil own.gotos) i; all = g i; first = found.first }
 
@@ -96,7 +100,8 @@ side_gotos at [] = refl
 side_gotos at (b ∷ branches) = side_gotos (at + 1) branches
 
 -- whole threads hold no label of the thread that forks them
-side_surveyed : (own : Thread) (found after : Found) (at : ℕ) (branches : List (ℕ × List Part)) → after ≡ found_behind found (side_by_side at branches) → survey own after ≡ behind (survey own found) (side_by_side at branches)
+side_surveyed : (own : Thread) (found after : Found) (at : ℕ) (branches : List (ℕ × List Part)) → after ≡ found_behind found (side_by_side at branches)
+    → survey own after ≡ behind (survey own found) (side_by_side at branches)
 side_surveyed own found after at branches e =
     ap (survey own) e
     ∙ (λ i.
@@ -111,13 +116,16 @@ module _ (V : List Declaration) (own : Thread) (found : Found) (s : TextStatemen
   behind_it : (p : Part) → part_of V s ≡ p → behind (survey own found) p ≡ behind (survey own found) (part_of V s)
   behind_it p e = ap (behind (survey own found)) (sym e)
 
-  pub assign_surveyed : (target : Named) (value : TextExpression) (first : Option Flaw) → s ≡ statement.Assign target value → first ≡ first_behind found.first (assigned_flaws V (variable_named V target.name) target value) → survey own (record { labels = found.labels; first = first }) ≡ behind (survey own found) (part_of V s)
+  pub assign_surveyed : (target : Named) (value : TextExpression) (first : Option Flaw) → s ≡ statement.Assign target value
+      → first ≡ first_behind found.first (assigned_flaws V (variable_named V target.name) target value)
+      → survey own (record { labels = found.labels; first = first }) ≡ behind (survey own found) (part_of V s)
   assign_surveyed target value first is e =
       ap (λ f. survey own (record { labels = found.labels; first = f })) e
       ∙ sym (only_first (survey own found) (assigned_flaws V (variable_named V target.name) target value))
       ∙ behind_it (part V (text.Assign target value)) (ap (part_of V) is ∙ part_of_assign V target value)
 
-  pub goto_surveyed : (label : Named) (gotos : List Named) → s ≡ statement.Goto label → gotos ≡ own.gotos ++ label ∷ [] → survey (record { labels = own.labels; gotos = gotos }) found ≡ behind (survey own found) (part_of V s)
+  pub goto_surveyed : (label : Named) (gotos : List Named) → s ≡ statement.Goto label → gotos ≡ own.gotos ++ label ∷ []
+      → survey (record { labels = own.labels; gotos = gotos }) found ≡ behind (survey own found) (part_of V s)
   goto_surveyed label gotos is e =
       (λ i.
       record {
@@ -128,18 +136,22 @@ module _ (V : List Declaration) (own : Thread) (found : Found) (s : TextStatemen
       })
       ∙ behind_it (part V (text.Goto label)) (ap (part_of V) is ∙ part_of_goto V label)
 
-  pub label_surveyed : (label : Named) (after : Survey) → s ≡ statement.Label label → after ≡ behind (survey own found) (label_part label) → after ≡ behind (survey own found) (part_of V s)
+  pub label_surveyed : (label : Named) (after : Survey) → s ≡ statement.Label label → after ≡ behind (survey own found) (label_part label)
+      → after ≡ behind (survey own found) (part_of V s)
   label_surveyed label after is e = e ∙ behind_it (label_part label) (ap (part_of V) is ∙ part_of_label V label)
 
   pub pause_surveyed : s ≡ statement.Pause → survey own found ≡ behind (survey own found) (part_of V s)
   pause_surveyed is = sym (survey_nothing (survey own found)) ∙ behind_it nothing (ap (part_of V) is ∙ part_of_pause V)
 
-  pub fork_surveyed : (branches : List (ℕ × Statements)) (after : Found) → s ≡ statement.Fork branches → after ≡ found_behind found (side_by_side 0 (branch_parts V branches)) → survey own after ≡ behind (survey own found) (part_of V s)
+  pub fork_surveyed : (branches : List (ℕ × Statements)) (after : Found) → s ≡ statement.Fork branches
+      → after ≡ found_behind found (side_by_side 0 (branch_parts V branches)) → survey own after ≡ behind (survey own found) (part_of V s)
   fork_surveyed branches after is e =
       side_surveyed own found after 0 (branch_parts V branches) e
       ∙ behind_it (side_by_side 0 (branch_parts V branches)) (ap (part_of V) is ∙ part_of_fork V branches)
 
-  pub if_surveyed : (test : TextExpression) (first second : Statements) (noted : Option Flaw) (b c : Survey) → s ≡ statement.If test first second → noted ≡ first_behind found.first (expression_flaws V (Some kind.Bool) test) → b ≡ behind (survey own (record { labels = found.labels; first = noted })) (in_row (parts_of V first)) → c ≡ behind b (in_row (parts_of V second)) → c ≡ behind (survey own found) (part_of V s)
+  pub if_surveyed : (test : TextExpression) (first second : Statements) (noted : Option Flaw) (b c : Survey) → s ≡ statement.If test first second
+      → noted ≡ first_behind found.first (expression_flaws V (Some kind.Bool) test) → b ≡ behind (survey own (record { labels = found.labels; first = noted }))
+      (in_row (parts_of V first)) → c ≡ behind b (in_row (parts_of V second)) → c ≡ behind (survey own found) (part_of V s)
   if_surveyed test first second noted b c is e f g =
       let flaws : List Flaw = expression_flaws V (Some kind.Bool) test in
       let p : Part = in_row (parts_of V first) in
@@ -155,7 +167,8 @@ module _ (V : List Declaration) (own : Thread) (found : Found) (s : TextStatemen
 -- ---- going over statements, branches and threads
 
 module _ (V : List Declaration) where
-  pub row_step : (statements : Statements) (at : ℕ) (s : TextStatement) (a b : Survey) → slice_get statements at ≡ Some s → b ≡ behind a (part_of V s) → behind b (in_row (parts_of V (drop (at + 1) statements))) ≡ behind a (in_row (parts_of V (drop at statements)))
+  pub row_step : (statements : Statements) (at : ℕ) (s : TextStatement) (a b : Survey) → slice_get statements at ≡ Some s → b ≡ behind a (part_of V s)
+      → behind b (in_row (parts_of V (drop (at + 1) statements))) ≡ behind a (in_row (parts_of V (drop at statements)))
   row_step statements at s a b e f =
       ap (λ x. behind x (in_row (parts_of V (drop (at + 1) statements)))) f
       ∙ sym (survey_both a (part_of V s) (in_row (parts_of V (drop (at + 1) statements))))
@@ -165,7 +178,9 @@ module _ (V : List Declaration) where
   row_over statements at a le =
       ap (λ l. behind a (in_row (parts_of V l))) (drop_past statements at le) ∙ survey_nothing a
 
-  pub branch_step : (branches : List (ℕ × Statements)) (at : ℕ) (b : ℕ × Statements) (f g h : Found) → slice_get branches at ≡ Some b → g ≡ found_behind f (only_flaws (flaw_if (is_full child_limit at) broken.Limit b.0)) → h ≡ found_behind g (thread (in_row (parts_of V b.1))) → found_behind h (side_by_side (at + 1) (branch_parts V (drop (at + 1) branches))) ≡ found_behind f (side_by_side at (branch_parts V (drop at branches)))
+  pub branch_step : (branches : List (ℕ × Statements)) (at : ℕ) (b : ℕ × Statements) (f g h : Found) → slice_get branches at ≡ Some b
+      → g ≡ found_behind f (only_flaws (flaw_if (is_full child_limit at) broken.Limit b.0)) → h ≡ found_behind g (thread (in_row (parts_of V b.1)))
+      → found_behind h (side_by_side (at + 1) (branch_parts V (drop (at + 1) branches))) ≡ found_behind f (side_by_side at (branch_parts V (drop at branches)))
   branch_step branches at b f g h e noted gone =
       let word : Part = only_flaws (flaw_if (is_full child_limit at) broken.Limit b.0) in
       let inner : Part = thread (in_row (parts_of V b.1)) in
@@ -175,12 +190,16 @@ module _ (V : List Declaration) where
       ∙ sym (found_both f word (both inner rest))
       ∙ ap (λ l. found_behind f (side_by_side at (branch_parts V l))) (sym (drop_is branches at b e))
 
-  pub branches_over : (branches : List (ℕ × Statements)) (at : ℕ) (f : Found) → length branches ≤ at → found_behind f (side_by_side at (branch_parts V (drop at branches))) ≡ f
+  pub branches_over : (branches : List (ℕ × Statements)) (at : ℕ) (f : Found) → length branches ≤ at
+      → found_behind f (side_by_side at (branch_parts V (drop at branches))) ≡ f
   branches_over branches at f le =
       ap (λ l. found_behind f (side_by_side at (branch_parts V l))) (drop_past branches at le) ∙ found_nothing f
 
   -- a thread's own labels and gotos, and then its gotos to none of them
-  pub thread_found : (body : Statements) (own : Thread) (found after : Found) (first : Option Flaw) → survey own after ≡ behind (survey (record { labels = []; gotos = [] }) found) (in_row (parts_of V body)) → first ≡ first_behind after.first (lost (names own.labels) own.gotos) → record { labels = after.labels; first = first } ≡ found_behind found (thread (in_row (parts_of V body)))
+  pub thread_found : (body : Statements) (own : Thread) (found after : Found) (first : Option Flaw) → survey own after
+      ≡ behind (survey (record { labels = []; gotos = [] }) found) (in_row (parts_of V body))
+      → first ≡ first_behind after.first (lost (names own.labels) own.gotos) → record { labels = after.labels; first = first }
+      ≡ found_behind found (thread (in_row (parts_of V body)))
   thread_found body own found after first e n =
       let p : Part = in_row (parts_of V body) in
       let labels : own.labels ≡ p.labels = ap (λ s. s.labels) e in

@@ -34,7 +34,8 @@ module _ {A : Type 0} (g : Grows A) (p : Predictive g) (v : empties g ≡ false)
   some_read x rest r = none_read x rest ((reads g p).verdict []) r
 
 -- an expression that was read has a first token
-headed_got : (end : ℕ) (text rest : List Token) (x : Phrase) → read (expression 0) text ≡ Got x rest → (t : Token) × (place_of end text ≡ t.at) × (read (headed (expression 0)) text ≡ Got (t, x) rest)
+headed_got : (end : ℕ) (text rest : List Token) (x : Phrase) → read (expression 0) text ≡ Got x rest → (t : Token) × (place_of end text ≡ t.at)
+    × (read (headed (expression 0)) text ≡ Got (t, x) rest)
 headed_got end [] rest x e = absurd (some_read (expression 0) (expression_is 0).predictive (expression_is 0).voids x rest e)
 headed_got end (t ∷ text) rest x e = (t, refl, ap (λ o. next o (with_head (t ∷ text))) e)
 
@@ -42,12 +43,15 @@ module _ (closing : Sign) (text : List Token) (end : ℕ) where
   pub value_stops : (f : ReadFault) → Stops end (read (expression 0) text) f → Stops end (read (before (headed (expression 0)) (TheSign closing ∷ [])) text) f
   value_stops f s = before_stops (TheSign closing ∷ []) (headed (expression 0)) end text f (next_stops end (read (expression 0) text) (with_head text) f s)
 
-  pub closing_stops : (rest : List Token) (code : Phrase) (f : ReadFault) → Reads (read (expression 0) text) [] code rest → Stops end (read (one {L = text_tokens} (TheSign closing ∷ [])) rest) f → Stops end (read (before (headed (expression 0)) (TheSign closing ∷ [])) text) f
+  pub closing_stops : (rest : List Token) (code : Phrase) (f : ReadFault) → Reads (read (expression 0) text) [] code rest
+      → Stops end (read (one {L = text_tokens} (TheSign closing ∷ [])) rest) f → Stops end (read (before (headed (expression 0)) (TheSign closing ∷ [])) text) f
   closing_stops rest code f r s =
       let h = headed_got end text rest r.phrase r.is in
       before_stops_behind (TheSign closing ∷ []) (headed (expression 0)) end text rest (h.0, r.phrase) f h.2 s
 
-  pub value_taken : (rest more : List Token) (code : Phrase) (value : TextExpression) → value ≡ record { start = place_of end text; operations = code } → Reads (read (expression 0) text) [] code rest → Takes (read (one {L = text_tokens} (TheSign closing ∷ [])) rest) more → TakesValue (read (before (headed (expression 0)) (TheSign closing ∷ [])) text) value more
+  pub value_taken : (rest more : List Token) (code : Phrase) (value : TextExpression) → value ≡ record { start = place_of end text; operations = code }
+      → Reads (read (expression 0) text) [] code rest → Takes (read (one {L = text_tokens} (TheSign closing ∷ [])) rest) more
+      → TakesValue (read (before (headed (expression 0)) (TheSign closing ∷ [])) text) value more
   value_taken rest more code value v r t =
       let h = headed_got end text rest r.phrase r.is in
       let begins = h.1 in

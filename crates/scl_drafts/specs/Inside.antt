@@ -42,7 +42,8 @@ pub record Adds {A X : Type 0} (gives : A → List X) (o : Outcome Token A) (old
   pub behind : new ≡ old ++ gives meaning
 
 -- some of many phrases were read, and what they give stands behind the old items; so many more may follow
-pub record IsGoing {A X : Type 0} (g : Grows A) (gives : A → List X) (o : Outcome Token (List A)) (old new : List X) (left : ℕ) (rest : List Token) : Type 0 where
+pub record IsGoing {A X : Type 0} (g : Grows A) (gives : A → List X) (o : Outcome Token (List A)) (old new : List X) (left : ℕ)
+    (rest : List Token) : Type 0 where
   pub done : List A
   pub is : o ≡ next (read_each (starts text_tokens (first g)) (read g) left rest) (λ xs end. Got (done ++ xs) end)
   pub behind : new ≡ old ++ flat_map gives done
@@ -103,7 +104,8 @@ in_braces =
     (before (seq (many declaration) (many (within 32 32))) (TheSign sign.CloseBrace ∷ []))
 
 -- it was read
-pub record AddsBody (o : Outcome Token (List (Token × (Token × Token)) × Statements)) (old_variables variables : List Declaration) (old_statements statements : Statements) (rest : List Token) : Type 0 where
+pub record AddsBody (o : Outcome Token (List (Token × (Token × Token)) × Statements)) (old_variables variables : List Declaration)
+    (old_statements statements : Statements) (rest : List Token) : Type 0 where
   pub variables_read : List (Token × (Token × Token))
   pub statements_read : Statements
   pub is : o ≡ Got (variables_read, statements_read) rest

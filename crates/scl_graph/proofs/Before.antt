@@ -23,7 +23,8 @@ way_before (Pause n rest) k behind = refl
 way_before (If n e first second rest) k behind = refl
 way_before (Fork n branches rest) k behind = refl
 
-pub own_before : (target : Way → ℕ) (t : ℕ) (b k : Block) (behind : Way) → own target t (before b k) behind ≡ own target t b (way k behind) ++ own target t k behind
+pub own_before : (target : Way → ℕ) (t : ℕ) (b k : Block) (behind : Way) → own target t (before b k) behind
+    ≡ own target t b (way k behind) ++ own target t k behind
 own_before target t (End n) k behind = refl
 own_before target t (Assign n x e rest) k behind =
     ap (λ w. own target t (Assign n x e (End 0)) w ++ own target t (before rest k) behind) (way_before rest k behind)
@@ -38,12 +39,14 @@ own_before target t (If n e first second rest) k behind =
     let inside : Way = way rest (way k behind) in
     ap (λ w. test w ∷ ((own target t first w ++ own target t second w) ++ own target t (before rest k) behind)) (way_before rest k behind)
     ∙ ap (λ r. test inside ∷ ((own target t first inside ++ own target t second inside) ++ r)) (own_before target t rest k behind)
-    ∙ ap (λ r. test inside ∷ r) (sym (append_assoc (own target t first inside ++ own target t second inside) (own target t rest (way k behind)) (own target t k behind)))
+    ∙ ap (λ r. test inside ∷ r)
+    (sym (append_assoc (own target t first inside ++ own target t second inside) (own target t rest (way k behind)) (own target t k behind)))
 own_before target t (Fork n branches rest) k behind =
     ap (λ w. own target t (Fork n branches (End 0)) w ++ own target t (before rest k) behind) (way_before rest k behind)
     ∙ ap (λ r. own target t (Fork n branches (End 0)) (way rest (way k behind)) ++ r) (own_before target t rest k behind)
 
-made_at : (y : Statement-F Statement) (at : Numbers) (k : Block) → (piece (map-Statement Statement Piece piece_of y)).made at k ≡ before ((piece (map-Statement Statement Piece piece_of y)).made at (End 0)) k
+made_at : (y : Statement-F Statement) (at : Numbers) (k : Block) → (piece (map-Statement Statement Piece piece_of y)).made at k
+    ≡ before ((piece (map-Statement Statement Piece piece_of y)).made at (End 0)) k
 made_at (text.Assign x e) at k = refl
 made_at (text.Label name) at k = refl
 made_at (text.Goto name) at k = refl
@@ -53,4 +56,5 @@ made_at (text.Fork branches) at k = refl
 
 -- a statement stands before what follows it
 pub made_before : (s : Statement) (at : Numbers) (k : Block) → (piece_of s).made at k ≡ before ((piece_of s).made at (End 0)) k
-made_before s at k = let P : Piece → Type 0 = λ p. p.made at k ≡ before (p.made at (End 0)) k in subst P (sym (fold_out-Statement Piece piece s)) (made_at (out-Statement s) at k)
+made_before s at k = let P : Piece → Type 0 = λ p. p.made at k ≡ before (p.made at (End 0)) k in
+    subst P (sym (fold_out-Statement Piece piece s)) (made_at (out-Statement s) at k)

@@ -34,7 +34,8 @@ before_before (If n e first second rest) k l = ap (If n e first second) (before_
 before_before (Fork n branches rest) k l = ap (Fork n branches) (before_before rest k l)
 
 -- statements stand before what follows them
-pub all_before : (statements : List Statement) (at : numbering.Numbers) (k : Block) → (in_row (map piece_of statements)).made at k ≡ before ((in_row (map piece_of statements)).made at (End 0)) k
+pub all_before : (statements : List Statement) (at : numbering.Numbers) (k : Block) → (in_row (map piece_of statements)).made at k
+    ≡ before ((in_row (map piece_of statements)).made at (End 0)) k
 all_before [] at k = refl
 all_before (s ∷ rest) at k =
     let next : numbering.Numbers = beyond at (piece_of s).counts in
@@ -81,23 +82,27 @@ forked_before target t (Fork n branches rest) k =
     ∙ sym (append_assoc (forked_among target t branches) (forked target t rest) (forked target t k))
 
 -- a thread's text, and then its end
-body_is : (statements : List Statement) (at : Numbers) (g : ℕ) → body statements at g ≡ before (text statements at g) (End (at.node + (counts_of_all statements).nodes))
+body_is : (statements : List Statement) (at : Numbers) (g : ℕ) → body statements at g
+    ≡ before (text statements at g) (End (at.node + (counts_of_all statements).nodes))
 body_is statements at g = all_before statements (with_goto at g) (End (at.node + (counts_of_all statements).nodes))
 
-pub below_body : (target : Way → ℕ) (statements : List Statement) (at : Numbers) (g : ℕ) → below target (body statements at g) ≡ below target (text statements at g)
+pub below_body : (target : Way → ℕ) (statements : List Statement) (at : Numbers) (g : ℕ) → below target (body statements at g)
+    ≡ below target (text statements at g)
 below_body target statements at g =
     ap (below target) (body_is statements at g)
     ∙ below_before target (text statements at g) (End (at.node + (counts_of_all statements).nodes))
     ∙ append-nil (below target (text statements at g))
 
-pub forked_body : (target : Way → ℕ) (t : ℕ) (statements : List Statement) (at : Numbers) (g : ℕ) → forked target t (body statements at g) ≡ forked target t (text statements at g)
+pub forked_body : (target : Way → ℕ) (t : ℕ) (statements : List Statement) (at : Numbers) (g : ℕ) → forked target t (body statements at g)
+    ≡ forked target t (text statements at g)
 forked_body target t statements at g =
     ap (forked target t) (body_is statements at g)
     ∙ forked_before target t (text statements at g) (End (at.node + (counts_of_all statements).nodes))
     ∙ append-nil (forked target t (text statements at g))
 
 -- a thread is laid: its entry, its nodes, and its end
-pub thread_laid : (target : Way → ℕ) (parent : Option ℕ) (t : ℕ) (statements : List Statement) (at : Numbers) (olds news : List Thread) (old middle new : List Node)
+pub thread_laid : (target : Way → ℕ) (parent : Option ℕ) (t : ℕ) (statements : List Statement) (at : Numbers) (olds news : List Thread)
+    (old middle new : List Node)
     → news ≡ olds ++ record { parent = parent; entry = target (way_in statements at.node (leads.At (at.node + (counts_of_all statements).nodes))) } ∷ []
     → IsLaid target t statements at (leads.At (at.node + (counts_of_all statements).nodes)) old middle
     → new ≡ middle ++ node t step.Exit ∷ []
@@ -125,7 +130,8 @@ thread_laid target parent t statements at olds news old middle new entered laid 
           ∙ ap (λ b. old ++ of_thread target t b) (sym (body_is statements at g));
     }
 
-pub forked_none : (target : Way → ℕ) (t : ℕ) (at : Numbers) (threads : List Thread) (nodes : List Node) → AreForkedLaid target t [] at threads threads nodes nodes
+pub forked_none : (target : Way → ℕ) (t : ℕ) (at : Numbers) (threads : List Thread) (nodes : List Node)
+    → AreForkedLaid target t [] at threads threads nodes nodes
 forked_none target t at threads nodes = record { threads = λ g. sym (append-nil threads); nodes = λ g. sym (append-nil nodes) }
 
 pub forked_more : (target : Way → ℕ) (t : ℕ) (s : Statement) (rest : List Statement) (at : Numbers) (x y z : List Thread) (a b c : List Node)
@@ -157,29 +163,42 @@ by_piece target t s at olds news old new p is h k =
       nodes = λ g. k g ∙ ap (λ q. old ++ below target (q.made (with_goto at g) (End 0))) (sym is);
     }
 
-pub forked_assign : (target : Way → ℕ) (t : ℕ) (s : Statement) (at : Numbers) (threads : List Thread) (nodes : List Node) (x : ℕ) (e : Expr) → s ≡ variant.Assign x e → AreForkedLaid target t (s ∷ []) at threads threads nodes nodes
-forked_assign target t s at threads nodes x e is = by_piece target t s at threads threads nodes nodes (piece (tree.Assign x e)) (ap piece_of is ∙ piece_of_assign x e) (λ g. sym (append-nil threads)) (λ g. sym (append-nil nodes))
+pub forked_assign : (target : Way → ℕ) (t : ℕ) (s : Statement) (at : Numbers) (threads : List Thread) (nodes : List Node) (x : ℕ) (e : Expr)
+    → s ≡ variant.Assign x e → AreForkedLaid target t (s ∷ []) at threads threads nodes nodes
+forked_assign target t s at threads nodes x e is = by_piece target t s at threads threads nodes nodes (piece (tree.Assign x e))
+    (ap piece_of is ∙ piece_of_assign x e) (λ g. sym (append-nil threads)) (λ g. sym (append-nil nodes))
 
-pub forked_label : (target : Way → ℕ) (t : ℕ) (s : Statement) (at : Numbers) (threads : List Thread) (nodes : List Node) (name : List ℕ) → s ≡ variant.Label name → AreForkedLaid target t (s ∷ []) at threads threads nodes nodes
-forked_label target t s at threads nodes name is = by_piece target t s at threads threads nodes nodes (piece (tree.Label name)) (ap piece_of is ∙ piece_of_label name) (λ g. sym (append-nil threads)) (λ g. sym (append-nil nodes))
+pub forked_label : (target : Way → ℕ) (t : ℕ) (s : Statement) (at : Numbers) (threads : List Thread) (nodes : List Node) (name : List ℕ)
+    → s ≡ variant.Label name → AreForkedLaid target t (s ∷ []) at threads threads nodes nodes
+forked_label target t s at threads nodes name is = by_piece target t s at threads threads nodes nodes (piece (tree.Label name))
+    (ap piece_of is ∙ piece_of_label name) (λ g. sym (append-nil threads)) (λ g. sym (append-nil nodes))
 
-pub forked_goto : (target : Way → ℕ) (t : ℕ) (s : Statement) (at : Numbers) (threads : List Thread) (nodes : List Node) (name : List ℕ) → s ≡ variant.Goto name → AreForkedLaid target t (s ∷ []) at threads threads nodes nodes
-forked_goto target t s at threads nodes name is = by_piece target t s at threads threads nodes nodes (piece (tree.Goto name)) (ap piece_of is ∙ piece_of_goto name) (λ g. sym (append-nil threads)) (λ g. sym (append-nil nodes))
+pub forked_goto : (target : Way → ℕ) (t : ℕ) (s : Statement) (at : Numbers) (threads : List Thread) (nodes : List Node) (name : List ℕ) → s ≡ variant.Goto name
+    → AreForkedLaid target t (s ∷ []) at threads threads nodes nodes
+forked_goto target t s at threads nodes name is = by_piece target t s at threads threads nodes nodes (piece (tree.Goto name))
+    (ap piece_of is ∙ piece_of_goto name) (λ g. sym (append-nil threads)) (λ g. sym (append-nil nodes))
 
-pub forked_pause : (target : Way → ℕ) (t : ℕ) (s : Statement) (at : Numbers) (threads : List Thread) (nodes : List Node) → s ≡ variant.Pause → AreForkedLaid target t (s ∷ []) at threads threads nodes nodes
-forked_pause target t s at threads nodes is = by_piece target t s at threads threads nodes nodes (piece tree.Pause) (ap piece_of is ∙ piece_of_pause) (λ g. sym (append-nil threads)) (λ g. sym (append-nil nodes))
+pub forked_pause : (target : Way → ℕ) (t : ℕ) (s : Statement) (at : Numbers) (threads : List Thread) (nodes : List Node) → s ≡ variant.Pause
+    → AreForkedLaid target t (s ∷ []) at threads threads nodes nodes
+forked_pause target t s at threads nodes is = by_piece target t s at threads threads nodes nodes (piece tree.Pause) (ap piece_of is ∙ piece_of_pause)
+    (λ g. sym (append-nil threads)) (λ g. sym (append-nil nodes))
 
-pub forked_if : (target : Way → ℕ) (t : ℕ) (s : Statement) (at : Numbers) (x y z : List Thread) (l m n : List Node) (e : Expr) (a b : List Statement) → s ≡ variant.If e a b
-    → AreForkedLaid target t a (after 1 at) x y l m → AreForkedLaid target t b (past (after 1 at) (counts_of_all a)) y z m n → AreForkedLaid target t (s ∷ []) at x z l n
+pub forked_if : (target : Way → ℕ) (t : ℕ) (s : Statement) (at : Numbers) (x y z : List Thread) (l m n : List Node) (e : Expr) (a b : List Statement)
+    → s ≡ variant.If e a b
+    → AreForkedLaid target t a (after 1 at) x y l m → AreForkedLaid target t b (past (after 1 at) (counts_of_all a)) y z m n
+    → AreForkedLaid target t (s ∷ []) at x z l n
 forked_if target t s at x y z l m n e a b is first second =
     let p : ℕ → Block = text a (after 1 at) in
     let h : ℕ → ℕ = λ g. g + (in_row (map piece_of a)).counts.gotos in
     let q : ℕ → Block = λ g. text b (past (after 1 at) (counts_of_all a)) (h g) in
     by_piece target t s at x z l n (piece (tree.If e (map piece_of a) (map piece_of b))) (ap piece_of is ∙ piece_of_if e a b)
-    (λ g. second.threads (h g) ∙ ap (λ r. r ++ forked target t (q g)) (first.threads g) ∙ append_assoc x (forked target t (p g)) (forked target t (q g)) ∙ ap (λ r. x ++ r) (sym (append-nil (forked target t (p g) ++ forked target t (q g)))))
-    (λ g. second.nodes (h g) ∙ ap (λ r. r ++ below target (q g)) (first.nodes g) ∙ append_assoc l (below target (p g)) (below target (q g)) ∙ ap (λ r. l ++ r) (sym (append-nil (below target (p g) ++ below target (q g)))))
+    (λ g. second.threads (h g) ∙ ap (λ r. r ++ forked target t (q g)) (first.threads g) ∙ append_assoc x (forked target t (p g)) (forked target t (q g))
+    ∙ ap (λ r. x ++ r) (sym (append-nil (forked target t (p g) ++ forked target t (q g)))))
+    (λ g. second.nodes (h g) ∙ ap (λ r. r ++ below target (q g)) (first.nodes g) ∙ append_assoc l (below target (p g)) (below target (q g))
+    ∙ ap (λ r. l ++ r) (sym (append-nil (below target (p g) ++ below target (q g)))))
 
-pub forked_fork : (target : Way → ℕ) (t : ℕ) (s : Statement) (at : Numbers) (olds news : List Thread) (old new : List Node) (branches : List (List Statement)) → s ≡ variant.Fork branches
+pub forked_fork : (target : Way → ℕ) (t : ℕ) (s : Statement) (at : Numbers) (olds news : List Thread) (old new : List Node) (branches : List (List Statement))
+    → s ≡ variant.Fork branches
     → AreBranchesLaid target t branches at olds news old new → AreForkedLaid target t (s ∷ []) at olds news old new
 forked_fork target t s at olds news old new branches is laid =
     let made : ℕ → Branches = λ g. branches_from (map (map piece_of) branches) (with_goto at g) in
@@ -187,10 +206,12 @@ forked_fork target t s at olds news old new branches is laid =
     (λ g. laid.threads g ∙ ap (λ r. olds ++ r) (sym (append-nil (forked_among target t (made g)))))
     (λ g. laid.nodes g ∙ ap (λ r. old ++ r) (sym (append-nil (among target (made g)))))
 
-pub branches_none : (target : Way → ℕ) (t : ℕ) (at : Numbers) (threads : List Thread) (nodes : List Node) → AreBranchesLaid target t [] at threads threads nodes nodes
+pub branches_none : (target : Way → ℕ) (t : ℕ) (at : Numbers) (threads : List Thread) (nodes : List Node)
+    → AreBranchesLaid target t [] at threads threads nodes nodes
 branches_none target t at threads nodes = record { threads = λ g. sym (append-nil threads); nodes = λ g. sym (append-nil nodes) }
 
-pub branches_more : (target : Way → ℕ) (t : ℕ) (b : List Statement) (branches : List (List Statement)) (at : Numbers) (w x y z : List Thread) (k l m n : List Node)
+pub branches_more : (target : Way → ℕ) (t : ℕ) (b : List Statement) (branches : List (List Statement)) (at : Numbers) (w x y z : List Thread)
+    (k l m n : List Node)
     → IsThreadLaid target (Some t) at.thread b (inside at (counts_of_all b)) w x k l
     → AreForkedLaid target at.thread b (inside at (counts_of_all b)) x y l m
     → AreBranchesLaid target t branches (past_branch at (counts_of_all b)) y z m n
@@ -205,7 +226,8 @@ branches_more target t b branches at w x y z k l m n one nested others =
           let below_it : List Thread = forked target at.thread (made g) in
           let rest : List Thread = forked_among target t (more g) in
           others.threads (g + c.gotos)
-          ∙ ap (λ r. r ++ rest) (nested.threads g ∙ ap (λ r. x ++ r) (sym (forked_body target at.thread b (inside at (counts_of_all b)) g)) ∙ ap (λ r. r ++ below_it) (one.threads g))
+          ∙ ap (λ r. r ++ rest) (nested.threads g ∙ ap (λ r. x ++ r) (sym (forked_body target at.thread b (inside at (counts_of_all b)) g))
+          ∙ ap (λ r. r ++ below_it) (one.threads g))
           ∙ ap (λ r. r ++ rest) (append_assoc w (entry ∷ []) below_it)
           ∙ append_assoc w (entry ∷ below_it) rest;
       nodes = λ g.
@@ -213,16 +235,19 @@ branches_more target t b branches at w x y z k l m n one nested others =
           let below_it : List Node = below target (made g) in
           let rest : List Node = among target (more g) in
           others.nodes (g + c.gotos)
-          ∙ ap (λ r. r ++ rest) (nested.nodes g ∙ ap (λ r. l ++ r) (sym (below_body target b (inside at (counts_of_all b)) g)) ∙ ap (λ r. r ++ below_it) (one.nodes g))
+          ∙ ap (λ r. r ++ rest) (nested.nodes g ∙ ap (λ r. l ++ r) (sym (below_body target b (inside at (counts_of_all b)) g))
+          ∙ ap (λ r. r ++ below_it) (one.nodes g))
           ∙ ap (λ r. r ++ rest) (append_assoc k own_nodes below_it)
           ∙ append_assoc k (own_nodes ++ below_it) rest;
     }
 
 -- a branch and what follows it have room where all have
-pub branch_room : (at : Numbers) (b : List Statement) (branches : List (List Statement)) → HasBranchesRoom at (b ∷ branches) → HasBranchRoom at (counts_of_all b)
+pub branch_room : (at : Numbers) (b : List Statement) (branches : List (List Statement)) → HasBranchesRoom at (b ∷ branches)
+    → HasBranchRoom at (counts_of_all b)
 branch_room at b branches h = record { thread = omega (arith, h.thread); base = omega (arith, h.base) }
 
-pub inner_room : (at : Numbers) (b : List Statement) (branches : List (List Statement)) → HasBranchesRoom at (b ∷ branches) → HasRoom (inside at (counts_of_all b)) (counts_of_all b)
+pub inner_room : (at : Numbers) (b : List Statement) (branches : List (List Statement)) → HasBranchesRoom at (b ∷ branches)
+    → HasRoom (inside at (counts_of_all b)) (counts_of_all b)
 inner_room at b branches h =
     record {
       small = record { nodes = omega (arith, h.small.lower); threads = omega (arith, h.small.threads); lower = omega (arith, h.small.lower) };
@@ -231,7 +256,8 @@ inner_room at b branches h =
       base = omega (arith, h.base);
     }
 
-pub further_room : (at : Numbers) (b : List Statement) (branches : List (List Statement)) → HasBranchesRoom at (b ∷ branches) → HasBranchesRoom (past_branch at (counts_of_all b)) branches
+pub further_room : (at : Numbers) (b : List Statement) (branches : List (List Statement)) → HasBranchesRoom at (b ∷ branches)
+    → HasBranchesRoom (past_branch at (counts_of_all b)) branches
 further_room at b branches h =
     record {
       small = record { nodes = omega (arith, h.small.nodes); threads = omega (arith, h.small.threads); lower = omega (arith, h.small.lower) };
@@ -240,10 +266,12 @@ further_room at b branches h =
     }
 
 -- the branches of a fork have room where the fork has
-pub fork_room : (at : Numbers) (s : Statement) (branches : List (List Statement)) → s ≡ variant.Fork branches → HasRoom at (counts_of s) → HasBranchesRoom at branches
+pub fork_room : (at : Numbers) (s : Statement) (branches : List (List Statement)) → s ≡ variant.Fork branches → HasRoom at (counts_of s)
+    → HasBranchesRoom at branches
 fork_room at s branches is room =
     let Fits : Counts → Type 0 = λ c. HasRoom at c in
-    let h : HasRoom at (sizes (piece (tree.Fork (map (map piece_of) branches))).counts) = subst Fits (ap counts_of is ∙ ap (λ p. sizes p.counts) (piece_of_fork branches)) room in
+    let h : HasRoom at (sizes (piece (tree.Fork (map (map piece_of) branches))).counts) = subst Fits
+    (ap counts_of is ∙ ap (λ p. sizes p.counts) (piece_of_fork branches)) room in
     record {
       small = record { nodes = omega (arith, h.small.nodes); threads = omega (arith, h.small.threads); lower = omega (arith, h.small.lower) };
       thread = omega (arith, h.thread);

@@ -1,5 +1,6 @@
 -- Many gotos in a row: tables of them, and that as many as there are places come to one place twice.
-use Rattle.std.proofs.Common.{◌≡◌, ℕ, zero, suc, ◌+◌, ◌*◌, ◌≤◌, ◌<◌, Bool, true, false, true≢false, ◌||◌, eqb, List, [], ◌∷◌, map, length, get_or, refl, ap, sym, subst, ◌∙◌, arith}
+use Rattle.std.proofs.Common.{◌≡◌, ℕ, zero, suc, ◌+◌, ◌*◌, ◌≤◌, ◌<◌, Bool, true, false, true≢false, ◌||◌, eqb, List, [], ◌∷◌, map, length, get_or, refl, ap}
+use Rattle.std.proofs.Common.{sym, subst, ◌∙◌, arith}
 use Rattle.std.proofs.Math.ListN.{get_or-map}
 use Rattle.std.specs.List.{IsDistinct, AllByRecursion, list_any}
 use Rattle.std.proofs.lemmas.Bool.{eqb-true}
@@ -59,7 +60,8 @@ after_doubled hops table next m n h is le =
       each =
           is
           ∙ ap (λ u. map (further u) u) h.each
-          ∙ map_map (further t) (onward hops k) (onward hops (k + suc k)) hops (λ x. onward_further hops k (onward hops k x) ∙ sym (onward_sum hops k (suc k) x));
+          ∙ map_map (further t) (onward hops k) (onward hops (k + suc k)) hops (λ x. onward_further hops k (onward hops k x)
+          ∙ sym (onward_sum hops k (suc k) x));
     }
 
 -- the places to which so many gotos lead
@@ -96,10 +98,12 @@ comes_to hops zero p h e = cc
 comes_to hops (suc m) p (hop.Node n) e = cc
 comes_to hops (suc m) p (hop.Goto g q) e = by (comes_to hops m p (at_place hops q)) (eqb p q) refl
   where
-    by : (list_any (eqb p) (places hops m (at_place hops q)) ≡ true → (j : ℕ) × (onward hops (suc j) (at_place hops q) ≡ at_place hops p)) → (b : Bool) → eqb p q ≡ b → (j : ℕ) × (onward hops (suc j) (hop.Goto g q) ≡ at_place hops p)
+    by : (list_any (eqb p) (places hops m (at_place hops q)) ≡ true → (j : ℕ) × (onward hops (suc j) (at_place hops q) ≡ at_place hops p)) → (b : Bool)
+        → eqb p q ≡ b → (j : ℕ) × (onward hops (suc j) (hop.Goto g q) ≡ at_place hops p)
     by further true same = let equal : p ≡ q = eqb-true p q same in (0, ap (at_place hops) (sym equal))
     by further false apart =
-        let rest : list_any (eqb p) (places hops m (at_place hops q)) ≡ true = sym (ap (λ b. b || list_any (eqb p) (places hops m (at_place hops q))) apart) ∙ e in
+        let rest : list_any (eqb p) (places hops m (at_place hops q)) ≡ true = sym (ap (λ b. b || list_any (eqb p) (places hops m (at_place hops q))) apart)
+        ∙ e in
         let found : (j : ℕ) × (onward hops (suc j) (at_place hops q) ≡ at_place hops p) = further rest in
         (suc found.0, found.1)
 
@@ -129,13 +133,15 @@ apart_from p (x ∷ xs) e = by (apart_from p xs) (eqb p x) refl
     by others false apart = (apart, others (sym (ap (λ b. b || list_any (eqb p) xs) apart) ∙ e))
 
 -- a goto behind gotos whose places are not distinct stands behind itself
-repeats : (hops : List Hop) (m : ℕ) (h : Hop) (g q : ℕ) → onward hops m h ≡ hop.Goto g q → ¬ IsDistinct eqb (places hops (suc m) h) → Circles hops (hop.Goto g q)
+repeats : (hops : List Hop) (m : ℕ) (h : Hop) (g q : ℕ) → onward hops m h ≡ hop.Goto g q → ¬ IsDistinct eqb (places hops (suc m) h)
+    → Circles hops (hop.Goto g q)
 repeats hops zero (hop.Node n) g q is twice = absurd (no_goto g q n is)
 repeats hops zero (hop.Goto f p) g q is twice = absurd (twice (IsDistinct-cons eqb p [] tt nothing_distinct))
 repeats hops (suc m) (hop.Node n) g q is twice = absurd (no_goto g q n is)
 repeats hops (suc m) (hop.Goto f p) g q is twice = by (repeats hops m (at_place hops p) g q is) (list_any (eqb p) (places hops (suc m) (at_place hops p))) refl
   where
-    by : (¬ IsDistinct eqb (places hops (suc m) (at_place hops p)) → Circles hops (hop.Goto g q)) → (b : Bool) → list_any (eqb p) (places hops (suc m) (at_place hops p)) ≡ b → Circles hops (hop.Goto g q)
+    by : (¬ IsDistinct eqb (places hops (suc m) (at_place hops p)) → Circles hops (hop.Goto g q)) → (b : Bool)
+        → list_any (eqb p) (places hops (suc m) (at_place hops p)) ≡ b → Circles hops (hop.Goto g q)
     by others true e =
         let found : _ = comes_to hops (suc m) p (at_place hops p) e in
         (found.0, back hops m found.0 (at_place hops p) (hop.Goto g q) found.1 is)
@@ -148,7 +154,8 @@ length_places hops zero (hop.Goto f p) g q is = refl
 length_places hops (suc m) (hop.Node n) g q is = absurd (no_goto g q n is)
 length_places hops (suc m) (hop.Goto f p) g q is = ap suc (length_places hops m (at_place hops p) g q is)
 
-places_below : (hops : List Hop) → AreBelow hops → (m : ℕ) (h : Hop) → ((g q : ℕ) → h ≡ hop.Goto g q → q < length hops) → (p : ℕ) → list_any (eqb p) (places hops m h) ≡ true → p < length hops
+places_below : (hops : List Hop) → AreBelow hops → (m : ℕ) (h : Hop) → ((g q : ℕ) → h ≡ hop.Goto g q → q < length hops) → (p : ℕ)
+    → list_any (eqb p) (places hops m h) ≡ true → p < length hops
 places_below hops below zero h first p e = cc
 places_below hops below (suc m) (hop.Node n) first p e = cc
 places_below hops below (suc m) (hop.Goto g q) first p e = by (places_below hops below m (at_place hops q) (below q) p) (eqb p q) refl
@@ -158,7 +165,8 @@ places_below hops below (suc m) (hop.Goto g q) first p e = by (places_below hops
     by others false apart = others (sym (ap (λ b. b || list_any (eqb p) (places hops m (at_place hops q))) apart) ∙ e)
 
 -- a goto that stands behind as many gotos as there are places stands behind itself
-pub circles : (hops : List Hop) → AreBelow hops → (m : ℕ) (h : Hop) (g q : ℕ) → ((f p : ℕ) → h ≡ hop.Goto f p → p < length hops) → length hops ≤ m → onward hops m h ≡ hop.Goto g q → Circles hops (hop.Goto g q)
+pub circles : (hops : List Hop) → AreBelow hops → (m : ℕ) (h : Hop) (g q : ℕ) → ((f p : ℕ) → h ≡ hop.Goto f p → p < length hops) → length hops ≤ m
+    → onward hops m h ≡ hop.Goto g q → Circles hops (hop.Goto g q)
 circles hops below m h g q first enough is =
     repeats hops m h g q is (λ d.
     let few : _ = length-le_from_distinct_below (places hops (suc m) h) (length hops) d (places_below hops below (suc m) h first) in
@@ -196,7 +204,8 @@ circle_reached hops m g q c =
     ∙ rounds hops d h c.1 (suc m) in
     by x refl whole
   where
-    by : (x : Hop) → onward hops (suc (c.0 + extra m c.0)) (hop.Goto g q) ≡ x → onward hops m x ≡ hop.Goto g q → (p : ℕ) × (onward hops m (at_place hops p) ≡ hop.Goto g q)
+    by : (x : Hop) → onward hops (suc (c.0 + extra m c.0)) (hop.Goto g q) ≡ x → onward hops m x ≡ hop.Goto g q
+        → (p : ℕ) × (onward hops m (at_place hops p) ≡ hop.Goto g q)
     by (hop.Node n) is e = absurd (no_goto g q n (sym (onward_node hops m n) ∙ e))
     by (hop.Goto f r) is e =
         let place : _ = at_some_place hops (c.0 + extra m c.0) (hop.Goto g q) f r is in

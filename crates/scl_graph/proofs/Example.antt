@@ -23,10 +23,13 @@ example e =
     ∷ []))
 
 -- the join leads back to the fork
-example_nodes : (e : Expr) → (program_of (example e)).nodes ≡ node 0 (assigns 0 (assignment_of 0 e) 1) ∷ node 0 (step.Fork (1 ∷ 2 ∷ []) 2) ∷ node 0 (step.Join 1) ∷ node 0 step.Exit ∷ node 1 (step.Surf 5) ∷ node 1 (step.Depth 6) ∷ node 1 step.Exit ∷ node 2 (step.Cond (postorder e) 8 9) ∷ node 2 (assigns 1 (assignment_of 1 e) 9) ∷ node 2 step.Exit ∷ []
+example_nodes : (e : Expr) → (program_of (example e)).nodes ≡ node 0 (assigns 0 (assignment_of 0 e) 1) ∷ node 0 (step.Fork (1 ∷ 2 ∷ []) 2) ∷ node 0
+    (step.Join 1) ∷ node 0 step.Exit ∷ node 1 (step.Surf 5) ∷ node 1 (step.Depth 6) ∷ node 1 step.Exit ∷ node 2 (step.Cond (postorder e) 8 9) ∷ node 2
+    (assigns 1 (assignment_of 1 e) 9) ∷ node 2 step.Exit ∷ []
 example_nodes e = refl
 
-example_threads : (e : Expr) → (program_of (example e)).threads ≡ record { parent = None; entry = 0 } ∷ record { parent = Some 0; entry = 4 } ∷ record { parent = Some 0; entry = 7 } ∷ []
+example_threads : (e : Expr) → (program_of (example e)).threads ≡ record { parent = None; entry = 0 } ∷ record { parent = Some 0; entry = 4 } ∷ record
+    { parent = Some 0; entry = 7 } ∷ []
 example_threads e = refl
 
 -- the program of no statement is the end of its root
@@ -45,7 +48,8 @@ fork_in_an_if e =
     ∷ piece (text.Assign 0 e)
     ∷ []))
 
-fork_in_an_if_nodes : (e : Expr) → (program_of (fork_in_an_if e)).nodes ≡ node 0 (step.Cond (postorder e) 1 3) ∷ node 0 (step.Fork (1 ∷ []) 2) ∷ node 0 (step.Join 3) ∷ node 0 (assigns 0 (assignment_of 0 e) 4) ∷ node 0 step.Exit ∷ node 1 step.Exit ∷ []
+fork_in_an_if_nodes : (e : Expr) → (program_of (fork_in_an_if e)).nodes ≡ node 0 (step.Cond (postorder e) 1 3) ∷ node 0 (step.Fork (1 ∷ []) 2) ∷ node 0
+    (step.Join 3) ∷ node 0 (assigns 0 (assignment_of 0 e) 4) ∷ node 0 step.Exit ∷ node 1 step.Exit ∷ []
 fork_in_an_if_nodes e = refl
 
 fork_in_an_if_threads : (e : Expr) → (program_of (fork_in_an_if e)).threads ≡ record { parent = None; entry = 0 } ∷ record { parent = Some 0; entry = 5 } ∷ []
@@ -57,5 +61,6 @@ passed_over e =
     numbered_body []
     (in_row (piece text.Pause ∷ piece (text.Goto name_l) ∷ piece (text.Assign 0 e) ∷ piece (text.Label name_l) ∷ piece text.Pause ∷ []))
 
-passed_over_nodes : (e : Expr) → (program_of (passed_over e)).nodes ≡ node 0 (step.Surf 1) ∷ node 0 (step.Depth 3) ∷ node 0 (assigns 0 (assignment_of 0 e) 3) ∷ node 0 (step.Surf 4) ∷ node 0 (step.Depth 5) ∷ node 0 step.Exit ∷ []
+passed_over_nodes : (e : Expr) → (program_of (passed_over e)).nodes ≡ node 0 (step.Surf 1) ∷ node 0 (step.Depth 3) ∷ node 0
+    (assigns 0 (assignment_of 0 e) 3) ∷ node 0 (step.Surf 4) ∷ node 0 (step.Depth 5) ∷ node 0 step.Exit ∷ []
 passed_over_nodes e = refl

@@ -5,7 +5,8 @@ use Rattle.std.specs.Option.{option_or}
 use Rattle.std.specs.Str.{bytes_eq}
 use Rattle.std.proofs.lemmas.Option.{none-some}
 use Rattle.scl.specs.Block.{Block, End, Assign, Label, Goto, Pause, If, Fork, Branches, NoMore, Branch}
-use Rattle.scl.specs.Labels.{Front, Begins, Jumps, before, behind_label, behind_label_among, behind_lower_label, behind_own_label, front, label_count, label_count_among, or_else}
+use Rattle.scl.specs.Labels.{Front, Begins, Jumps, before, behind_label, behind_label_among, behind_lower_label, behind_own_label, front, label_count}
+use Rattle.scl.specs.Labels.{label_count_among, or_else}
 use Rattle.scl_graph.specs.Graph.{end, number}
 use Rattle.scl_graph.specs.declared.landing.Landing.{Landing}
 use Rattle.scl_graph.specs.declared.landing.Landing.TheVariants as lands
@@ -50,14 +51,16 @@ own_end (End n) name k is = absurd (none-some k is)
 own_end (Assign n x e rest) name k is = own_end rest name k is
 own_end (Label l rest) name k is = by (own_end rest name k) (bytes_eq l name) is
   where
-    by : (behind_own_label rest name ≡ Some k → end k ≡ end rest) → (test : Bool) → (if test then Some rest else behind_own_label rest name) ≡ Some k → end k ≡ end rest
+    by : (behind_own_label rest name ≡ Some k → end k ≡ end rest) → (test : Bool) → (if test then Some rest else behind_own_label rest name) ≡ Some k
+        → end k ≡ end rest
     by others true found = ap end (sym (same_block rest k found))
     by others false found = others found
 own_end (Goto g l rest) name k is = own_end rest name k is
 own_end (Pause n rest) name k is = own_end rest name k is
 own_end (If n e first second rest) name k is = by (own_end rest name k) (behind_own_label first name) (behind_own_label second name) is
   where
-    by : (behind_own_label rest name ≡ Some k → end k ≡ end rest) → (a b : Option Block) → or_else (option_map (λ l. before l rest) a) (or_else (option_map (λ l. before l rest) b) (behind_own_label rest name)) ≡ Some k → end k ≡ end rest
+    by : (behind_own_label rest name ≡ Some k → end k ≡ end rest) → (a b : Option Block)
+        → or_else (option_map (λ l. before l rest) a) (or_else (option_map (λ l. before l rest) b) (behind_own_label rest name)) ≡ Some k → end k ≡ end rest
     by others (Some l) b found = ap end (sym (same_block (before l rest) k found)) ∙ end_of_before l rest
     by others None (Some l) found = ap end (sym (same_block (before l rest) k found)) ∙ end_of_before l rest
     by others None None found = others found
@@ -67,7 +70,8 @@ map_or : {T : Type 0} (f : Block → T) (a b : Option Block) → option_map f (o
 map_or f None b = refl
 map_or f (Some k) b = refl
 
-in_list : (a : Option Block) (rest : Block) (behind : Landing) → option_map (λ k. landing k behind) (option_map (λ k. before k rest) a) ≡ option_map (λ k. landing k (landing rest behind)) a
+in_list : (a : Option Block) (rest : Block) (behind : Landing) → option_map (λ k. landing k behind) (option_map (λ k. before k rest) a)
+    ≡ option_map (λ k. landing k (landing rest behind)) a
 in_list None rest behind = refl
 in_list (Some k) rest behind = ap Some (landing_before k rest behind)
 
@@ -76,7 +80,9 @@ own_is (End n) behind name = refl
 own_is (Assign n x e rest) behind name = own_is rest behind name
 own_is (Label l rest) behind name = by (own_is rest behind name) (bytes_eq l name)
   where
-    by : own_label rest behind name ≡ option_map (λ k. landing k behind) (behind_own_label rest name) → (test : Bool) → (if test then Some (landing rest behind) else own_label rest behind name) ≡ option_map (λ k. landing k behind) (if test then Some rest else behind_own_label rest name)
+    by : own_label rest behind name ≡ option_map (λ k. landing k behind) (behind_own_label rest name) → (test : Bool)
+        → (if test then Some (landing rest behind) else own_label rest behind name)
+        ≡ option_map (λ k. landing k behind) (if test then Some rest else behind_own_label rest name)
     by others true = refl
     by others false = others
 own_is (Goto g l rest) behind name = own_is rest behind name
@@ -102,7 +108,8 @@ alike (Some k) f g same = ap Some (same k refl)
 own_stands : (b : Block) (name : List ℕ) → own_label b (lands.Node (end b)) name ≡ option_map stands (behind_own_label b name)
 own_stands b name =
     own_is b (lands.Node (end b)) name
-    ∙ alike (behind_own_label b name) (λ k. landing k (lands.Node (end b))) stands (λ k found. ap (λ n. landing k (lands.Node n)) (sym (own_end b name k found)))
+    ∙ alike (behind_own_label b name) (λ k. landing k (lands.Node (end b))) stands
+    (λ k found. ap (λ n. landing k (lands.Node n)) (sym (own_end b name k found)))
 
 mutual
   lower_stands : (b : Block) (name : List ℕ) → lower_label b name ≡ option_map stands (behind_lower_label b name)
@@ -114,7 +121,8 @@ mutual
   lower_stands (If n e first second rest) name =
       ap (λ r. option_or r (option_or (lower_label second name) (lower_label rest name))) (lower_stands first name)
       ∙ ap (λ r. option_or (option_map stands (behind_lower_label first name)) (option_or r (lower_label rest name))) (lower_stands second name)
-      ∙ ap (λ r. option_or (option_map stands (behind_lower_label first name)) (option_or (option_map stands (behind_lower_label second name)) r)) (lower_stands rest name)
+      ∙ ap (λ r. option_or (option_map stands (behind_lower_label first name)) (option_or (option_map stands (behind_lower_label second name)) r))
+      (lower_stands rest name)
       ∙ ap (option_or (option_map stands (behind_lower_label first name))) (sym (map_or stands (behind_lower_label second name) (behind_lower_label rest name)))
       ∙ sym (map_or stands (behind_lower_label first name) (or_else (behind_lower_label second name) (behind_lower_label rest name)))
   lower_stands (Fork n branches rest) name =

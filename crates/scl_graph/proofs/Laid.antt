@@ -1,5 +1,6 @@
 -- The nodes of a thread are laid statement by statement.
-use Rattle.std.proofs.Common.{◌≡◌, ℕ, suc, ◌+◌, ◌<◌, add-one, drop, drop-cons, get_or, length, Result, Ok, Err, List, [], ◌∷◌, ◌++◌, map, refl, ap, sym, subst, ◌∙◌, append_assoc, arith}
+use Rattle.std.proofs.Common.{◌≡◌, ℕ, suc, ◌+◌, ◌<◌, add-one, drop, drop-cons, get_or, length, Result, Ok, Err, List, [], ◌∷◌, ◌++◌, map, refl, ap, sym, subst}
+use Rattle.std.proofs.Common.{◌∙◌, append_assoc, arith}
 use Rattle.std.specs.Result.{IfOk}
 use Rattle.std.proofs.lemmas.List.{append-nil}
 use Rattle.sc_values.specs.declared.expression.Expr.{Expr}
@@ -27,7 +28,8 @@ use Rattle.scl_graph.proofs.Before.{own_before, made_before}
 -- where a text leads
 leads_at : (y : Statement-F Statement) (rest : List Statement) (at : Numbers) (g : ℕ) (behind : Way)
     → ((m : Numbers) (h : ℕ) → m.node ≡ at.node → way (text rest m h) behind ≡ way_in rest at.node behind)
-    → way (let p : Piece = piece (map-Statement Statement Piece piece_of y) in p.made (with_goto at g) ((in_row (map piece_of rest)).made (beyond (with_goto at g) p.counts) (End 0))) behind
+    → way (let p : Piece = piece (map-Statement Statement Piece piece_of y) in
+    p.made (with_goto at g) ((in_row (map piece_of rest)).made (beyond (with_goto at g) p.counts) (End 0))) behind
     ≡ way_at y at.node (way_in rest at.node behind)
 leads_at (tree.Assign x e) rest at g behind h = refl
 leads_at (tree.Label name) rest at g behind h = h (record { node = at.node + 0; thread = at.thread + 0; base = at.base + 0 }) (g + 0) (omega arith)
@@ -36,15 +38,18 @@ leads_at tree.Pause rest at g behind h = refl
 leads_at (tree.If e a b) rest at g behind h = refl
 leads_at (tree.Fork branches) rest at g behind h = refl
 
-pub leads_in : (statements : List Statement) (at : Numbers) (g : ℕ) (behind : Way) (n : ℕ) → at.node ≡ n → way (text statements at g) behind ≡ way_in statements n behind
+pub leads_in : (statements : List Statement) (at : Numbers) (g : ℕ) (behind : Way) (n : ℕ) → at.node ≡ n → way (text statements at g) behind
+    ≡ way_in statements n behind
 leads_in [] at g behind n e = refl
 leads_in (s ∷ rest) at g behind n e =
-    let Leads : Piece → Type 0 = λ p. way (p.made (with_goto at g) ((in_row (map piece_of rest)).made (beyond (with_goto at g) p.counts) (End 0))) behind ≡ way_at (out-Statement s) at.node (way_in rest at.node behind) in
+    let Leads : Piece → Type 0 = λ p. way (p.made (with_goto at g) ((in_row (map piece_of rest)).made (beyond (with_goto at g) p.counts) (End 0))) behind
+    ≡ way_at (out-Statement s) at.node (way_in rest at.node behind) in
     subst Leads (sym (fold_out-Statement Piece piece s)) (leads_at (out-Statement s) rest at g behind (λ m h. leads_in rest m h behind at.node))
     ∙ ap (λ m. way_at (out-Statement s) m (way_in rest m behind)) e
 
 -- where a thread goes on behind a statement
-behind_at : (y : Statement-F Statement) (rest : List Statement) (here : Numbers) (ahead behind : Way) → ahead ≡ way_at y here.node (way_in rest here.node behind)
+behind_at : (y : Statement-F Statement) (rest : List Statement) (here : Numbers) (ahead behind : Way)
+    → ahead ≡ way_at y here.node (way_in rest here.node behind)
     → way_behind y rest (here.node + (piece (map-Statement Statement Piece piece_of y)).counts.nodes) ahead behind
     ≡ way_in rest (here.node + (piece (map-Statement Statement Piece piece_of y)).counts.nodes) behind
 behind_at (tree.Assign x e) rest here ahead behind is = refl
@@ -59,11 +64,13 @@ behind_at (tree.Fork branches) rest here ahead behind is = refl
 pub leads_behind : (s : Statement) (rest : List Statement) (here : Numbers) (ahead behind : Way) → ahead ≡ way_in (s ∷ rest) here.node behind
     → way_behind (out-Statement s) rest (past here (counts_of s)).node ahead behind ≡ way_in rest (past here (counts_of s)).node behind
 leads_behind s rest here ahead behind is =
-    let Leads : Piece → Type 0 = λ p. way_behind (out-Statement s) rest (here.node + p.counts.nodes) ahead behind ≡ way_in rest (here.node + p.counts.nodes) behind in
+    let Leads : Piece → Type 0 = λ p. way_behind (out-Statement s) rest (here.node + p.counts.nodes) ahead behind
+    ≡ way_in rest (here.node + p.counts.nodes) behind in
     subst Leads (sym (fold_out-Statement Piece piece s)) (behind_at (out-Statement s) rest here ahead behind is)
 
 -- what has room for statements has room behind the first of them
-pub room_more : (at : Numbers) (s : Statement) (rest : List Statement) → HasRoom at (counts_of_all (s ∷ rest)) → HasRoom (past at (counts_of s)) (counts_of_all rest)
+pub room_more : (at : Numbers) (s : Statement) (rest : List Statement) → HasRoom at (counts_of_all (s ∷ rest))
+    → HasRoom (past at (counts_of s)) (counts_of_all rest)
 room_more at s rest h =
     let nodes : _ = h.node in
     let threads : _ = h.thread in
@@ -131,11 +138,13 @@ pub laid_pause : (target : Way → ℕ) (t : ℕ) (s : Statement) (at : Numbers)
 laid_pause target t s at behind old new is h =
     by_piece target t s at behind old new (piece tree.Pause) (ap piece_of is ∙ piece_of_pause) (λ g. h)
 
-threads_are : (branches : List (List Statement)) (at : Numbers) (g : ℕ) → threads_of (branches_from (map (map piece_of) branches) (with_goto at g)) ≡ children branches at.thread
+threads_are : (branches : List (List Statement)) (at : Numbers) (g : ℕ) → threads_of (branches_from (map (map piece_of) branches) (with_goto at g))
+    ≡ children branches at.thread
 threads_are [] at g = refl
 threads_are (b ∷ branches) at g =
     let c : _ = (in_row (map piece_of b)).counts in
-    ap (λ r. at.thread ∷ r) (threads_are branches (record { node = at.node + 0; thread = at.thread + suc c.threads; base = at.base + (suc c.nodes + c.lower) }) (g + c.gotos))
+    ap (λ r. at.thread ∷ r) (threads_are branches (record { node = at.node + 0; thread = at.thread + suc c.threads; base = at.base + (suc c.nodes + c.lower) })
+    (g + c.gotos))
 
 pub laid_fork : (target : Way → ℕ) (t : ℕ) (s : Statement) (at : Numbers) (behind : Way) (old new : List Node) (branches : List (List Statement))
     → s ≡ variant.Fork branches
@@ -147,7 +156,8 @@ laid_fork target t s at behind old new branches is h =
 
 pub laid_if : (target : Way → ℕ) (t : ℕ) (s : Statement) (at : Numbers) (behind : Way) (old tested middle new : List Node) (e : Expr) (a b : List Statement)
     → s ≡ variant.If e a b
-    → tested ≡ old ++ node t (step.Cond (postorder e) (target (way_in a (1 + at.node) behind)) (target (way_in b (1 + at.node + (counts_of_all a).nodes) behind))) ∷ []
+    → tested ≡ old ++ node t
+    (step.Cond (postorder e) (target (way_in a (1 + at.node) behind)) (target (way_in b (1 + at.node + (counts_of_all a).nodes) behind))) ∷ []
     → IsLaid target t a (after 1 at) behind tested middle
     → IsLaid target t b (past (after 1 at) (counts_of_all a)) behind middle new
     → IsLaid target t (s ∷ []) at behind old new
@@ -167,5 +177,6 @@ laid_if target t s at behind old tested middle new e a b is h first second =
     ∙ ap (λ r. r ++ rest) (append_assoc old (test v w ∷ []) laid)
     ∙ append_assoc old (test v w ∷ laid) rest
     ∙ ap (λ u. old ++ (test u w ∷ (laid ++ rest))) (sym (leads_in a inner g behind (1 + at.node) refl))
-    ∙ ap (λ u. old ++ (test (way p behind) u ∷ (laid ++ rest))) (sym (leads_in b (past inner (counts_of_all a)) (g + c.gotos) behind (1 + at.node + (counts_of_all a).nodes) refl))
+    ∙ ap (λ u. old ++ (test (way p behind) u ∷ (laid ++ rest)))
+    (sym (leads_in b (past inner (counts_of_all a)) (g + c.gotos) behind (1 + at.node + (counts_of_all a).nodes) refl))
     ∙ ap (λ r. old ++ (test (way p behind) (way q behind) ∷ r)) (sym (append-nil (laid ++ rest))))

@@ -1,5 +1,6 @@
 -- Where a program's gotos lead is what the table of its labels says: a goto in it is one that leads back to itself.
-use Rattle.std.proofs.Common.{◌≡◌, ℕ, zero, suc, ◌+◌, ◌≤◌, ◌<◌, Bool, true, false, Option, Some, None, List, [], ◌∷◌, map, length, get_or, slice_get, unwrap_or, drop, drop-cons, add-one, append_assoc, ◌++◌, ◌⊎◌, inl, inr, refl, ap, sym, subst, ◌∙◌, arith}
+use Rattle.std.proofs.Common.{◌≡◌, ℕ, zero, suc, ◌+◌, ◌≤◌, ◌<◌, Bool, true, false, Option, Some, None, List, [], ◌∷◌, map, length, get_or, slice_get, unwrap_or}
+use Rattle.std.proofs.Common.{drop, drop-cons, add-one, append_assoc, ◌++◌, ◌⊎◌, inl, inr, refl, ap, sym, subst, ◌∙◌, arith}
 use Rattle.std.specs.Prelude.{option_map, option_and_then}
 use Rattle.std.specs.Map.{keys_of, values_of}
 use Rattle.std.specs.Str.{bytes_eq}
@@ -20,7 +21,8 @@ use Rattle.scl_graph.specs.declared.way.Way.TheVariants as leads
 use Rattle.scl_graph.specs.declared.hops.Hop.{Hop}
 use Rattle.scl_graph.specs.declared.hops.Hop.TheVariants as hop
 use Rattle.scl_graph.specs.Inside.Gathering.{Noted, find, place_of}
-use Rattle.scl_graph.specs.Inside.Settling.{Best, IsSettled, at_place, further, hop_of, hop_to, hops_of, least, least_name, name_at, node_at, node_behind, onward}
+use Rattle.scl_graph.specs.Inside.Settling.{Best, IsSettled, at_place, further, hop_of, hop_to, hops_of, least, least_name, name_at, node_at, node_behind}
+use Rattle.scl_graph.specs.Inside.Settling.{onward}
 use Rattle.scl_graph.proofs.Circling.{AreBelow, Circles, at_some_place, circle_reached, circles, one_node, onward_further, onward_node, table_at}
 use Rattle.scl_graph.proofs.Fronts.{lands_of, stands, stands_front}
 use Rattle.scl_graph.proofs.LeastGoto.{least_new, least_stands, nobody, pair_of}
@@ -50,7 +52,8 @@ hop_at_some labels p name w is = ap (λ o. hop_of labels (unwrap_or {T = List �
 pub hop_at_none : (labels : Noted) (p : ℕ) → None ≡ slice_get labels p → hop.Node 0 ≡ at_place (hops_of labels) p
 hop_at_none labels p is = ap (λ o. hop_of labels (unwrap_or {T = List ℕ × Landing} o ([], lands.Node 0)).1) is ∙ sym (hop_there labels p)
 
-pub hops_more : (xs hops next : List Hop) (p : ℕ) (h : Hop) → h ≡ at_place xs p → p < length xs → next ≡ hops ++ h ∷ [] → hops ++ drop p xs ≡ xs → next ++ drop (p + 1) xs ≡ xs
+pub hops_more : (xs hops next : List Hop) (p : ℕ) (h : Hop) → h ≡ at_place xs p → p < length xs → next ≡ hops ++ h ∷ [] → hops ++ drop p xs ≡ xs
+    → next ++ drop (p + 1) xs ≡ xs
 hops_more xs hops next p h is lt pushed whole =
     let split : drop p xs ≡ h ∷ drop (p + 1) xs = rw add-one (drop-cons xs p (hop.Node 0) lt ∙ ap (λ y. y ∷ drop (suc p) xs) (sym is)) in
     ap (λ r. r ++ drop (p + 1) xs) pushed
@@ -115,7 +118,8 @@ hop_goto labels (lands.Goto f last) g q is = by (place_of labels last) refl is
     by None e same = absurd (no_goto g q 0 same)
     by (Some p) e same = record { last = last; goto = ap (λ n. lands.Goto n last) (ap number_in same); place = e ∙ ap Some (ap place_in same) }
 
-at_entry : (labels es : Noted) (p g q : ℕ) → get_or (map (λ e. hop_of labels e.1) es) p (hop.Node 0) ≡ hop.Goto g q → (w : Landing) × (hop_of labels w ≡ hop.Goto g q)
+at_entry : (labels es : Noted) (p g q : ℕ) → get_or (map (λ e. hop_of labels e.1) es) p (hop.Node 0) ≡ hop.Goto g q
+    → (w : Landing) × (hop_of labels w ≡ hop.Goto g q)
 at_entry labels [] p g q is = absurd (no_goto g q 0 is)
 at_entry labels (e ∷ es) zero g q is = (e.1, is)
 at_entry labels (e ∷ es) (suc p) g q is = at_entry labels es p g q is
@@ -188,7 +192,8 @@ module _ (root : Block) (labels : Noted) (same : (name : List ℕ) → find labe
       let b : _ = stands_behind name w found in
       record { last = c.last; place = c.place; comes = through name b.rest h l.last g c.last b.behind (front_jumps b.rest h l.last (b.there ∙ l.goto)) c.comes }
 
-  leads_back : (m p : ℕ) (name : List ℕ) (g q : ℕ) → place_of labels name ≡ Some p → onward (hops_of labels) m (at_place (hops_of labels) p) ≡ hop.Goto g q → ComesBack name g q
+  leads_back : (m p : ℕ) (name : List ℕ) (g q : ℕ) → place_of labels name ≡ Some p → onward (hops_of labels) m (at_place (hops_of labels) p) ≡ hop.Goto g q
+      → ComesBack name g q
   leads_back zero p name g q place is =
       let s : _ = place_stands labels name p place in
       at_end name s.landing g q s.found (hop_goto labels s.landing g q (sym s.hop ∙ is))
@@ -196,7 +201,8 @@ module _ (root : Block) (labels : Noted) (same : (name : List ℕ) → find labe
       let s : _ = place_stands labels name p place in
       by s (λ r middle. leads_back m r middle g q) (hop_of labels s.landing) refl (ap (onward (hops_of labels) (suc m)) (sym s.hop) ∙ is)
     where
-      by : (s : StandsAt labels name p) → ((r : ℕ) (middle : List ℕ) → place_of labels middle ≡ Some r → onward (hops_of labels) m (at_place (hops_of labels) r) ≡ hop.Goto g q → ComesBack middle g q)
+      by : (s : StandsAt labels name p) → ((r : ℕ) (middle : List ℕ) → place_of labels middle ≡ Some r → onward (hops_of labels) m (at_place (hops_of labels) r)
+          ≡ hop.Goto g q → ComesBack middle g q)
           → (k : Hop) → hop_of labels s.landing ≡ k → onward (hops_of labels) (suc m) k ≡ hop.Goto g q → ComesBack name g q
       by s others (hop.Node n) e found = absurd (no_goto g q n found)
       by s others (hop.Goto h r) e found =
@@ -223,7 +229,8 @@ module _ (root : Block) (labels : Noted) (same : (name : List ℕ) → find labe
       let is : s.landing ≡ w = ap (landing_in w) (sym s.found ∙ found) in
       record { place = p.0; is = p.1; hop = s.hop ∙ ap (hop_of labels) is }
 
-  goto_here : (name : List ℕ) (k : Block) (g : ℕ) (last : List ℕ) → behind_label root name ≡ Some k → front k ≡ Jumps g last → StandsHere name (lands.Goto g last)
+  goto_here : (name : List ℕ) (k : Block) (g : ℕ) (last : List ℕ) → behind_label root name ≡ Some k → front k ≡ Jumps g last
+      → StandsHere name (lands.Goto g last)
   goto_here name k g last behind is =
       here_stands name (lands.Goto g last) (same name ∙ ap (option_map stands) behind ∙ ap Some (stands_front k ∙ ap lands_of is))
 
@@ -255,7 +262,8 @@ module _ (root : Block) (labels : Noted) (same : (name : List ℕ) → find labe
       (s.place, s.is, (s.gotos, s.onward_is ∙ ap (hop_to g) s.is))
 
   -- a goto of the settled table stands behind itself
-  table_circles : (table : List Hop) → (t : IsSettled (hops_of labels) table) → (p g q : ℕ) → at_place table p ≡ hop.Goto g q → (last : List ℕ) × (place_of labels last ≡ Some q) × IsEmptyLoop root g last
+  table_circles : (table : List Hop) → (t : IsSettled (hops_of labels) table) → (p g q : ℕ) → at_place table p ≡ hop.Goto g q → (last : List ℕ)
+      × (place_of labels last ≡ Some q) × IsEmptyLoop root g last
   table_circles table t p g q is =
       let m : ℕ = t.gotos in
       let reached : onward (hops_of labels) m (at_place (hops_of labels) p) ≡ hop.Goto g q =
@@ -267,7 +275,8 @@ module _ (root : Block) (labels : Noted) (same : (name : List ℕ) → find labe
       (l.0, l.1, circle_loops l.0 g q l.1 c)
 
   -- each empty loop stands in the settled table
-  loop_in_table : (table : List Hop) → (t : IsSettled (hops_of labels) table) → (name : List ℕ) (g : ℕ) → IsEmptyLoop root g name → (p q : ℕ) × (at_place table p ≡ hop.Goto g q)
+  loop_in_table : (table : List Hop) → (t : IsSettled (hops_of labels) table) → (name : List ℕ) (g : ℕ) → IsEmptyLoop root g name
+      → (p q : ℕ) × (at_place table p ≡ hop.Goto g q)
   loop_in_table table t name g loops =
       let c : _ = loop_circles name g loops in
       let r : _ = circle_reached (hops_of labels) t.gotos g c.0 c.2 in
@@ -277,7 +286,8 @@ module _ (root : Block) (labels : Noted) (same : (name : List ℕ) → find labe
   pub first_loop : (table : List Hop) → IsSettled (hops_of labels) table → (name : List ℕ) → least_name labels table ≡ Some name → IsFirstEmptyLoop root name
   first_loop table t name is = by (least None table) refl is
     where
-      at_one : (c : ℕ × ℕ) → least None table ≡ Some c → name_at labels c.1 ≡ Some name → (nobody ≡ Some c) ⊎ ((p : ℕ) × (at_place table p ≡ hop.Goto c.0 c.1)) → IsFirstEmptyLoop root name
+      at_one : (c : ℕ × ℕ) → least None table ≡ Some c → name_at labels c.1 ≡ Some name → (nobody ≡ Some c) ⊎ ((p : ℕ) × (at_place table p ≡ hop.Goto c.0 c.1))
+          → IsFirstEmptyLoop root name
       at_one c best named (inl e) = absurd (none-some c e)
       at_one c best named (inr at) =
           let l : _ = table_circles table t at.0 c.0 c.1 at.1 in
@@ -332,7 +342,8 @@ module _ (root : Block) (labels : Noted) (same : (name : List ℕ) → find labe
     where
       by : ((k : Block) → node_at (onward (hops_of labels) m (hop_of labels (lands_of (front k)))) ≡ number (reached_by root m (front k)))
           → (o : Option Block) → behind_label root name ≡ o
-          → node_at (onward (hops_of labels) (suc m) (hop_to g (place_of labels name))) ≡ number (option_and_then (λ k. reached_by root m (front k)) (behind_label root name))
+          → node_at (onward (hops_of labels) (suc m) (hop_to g (place_of labels name)))
+          ≡ number (option_and_then (λ k. reached_by root m (front k)) (behind_label root name))
       by others None e =
           let gone : place_of labels name ≡ None = missing_place labels name (same name ∙ ap (option_map stands) e) in
           ap (λ o. node_at (onward (hops_of labels) (suc m) (hop_to g o))) gone
@@ -367,12 +378,14 @@ module _ (root : Block) (labels : Noted) (same : (name : List ℕ) → find labe
 
       never : (m g q : ℕ) → length (hops_of labels) ≤ m → onward (hops_of labels) m (hop_to 0 (place_of labels name)) ≡ hop.Goto g q → ⊥
       never m g q enough is =
-          let c : Circles (hops_of labels) (hop.Goto g q) = circles (hops_of labels) (hops_below labels) m (hop_to 0 (place_of labels name)) g q first enough is in
+          let c : Circles (hops_of labels) (hop.Goto g q) = circles (hops_of labels) (hops_below labels) m (hop_to 0 (place_of labels name)) g q first enough is
+          in
           let r : _ = circle_reached (hops_of labels) 0 g q c in
           let l : _ = led_to labels r.0 g q r.1 in
           none.none g l.0 (circle_loops l.0 g q l.1 c)
 
-      equal : (a b : Hop) → onward (hops_of labels) (label_count root) (hop_to 0 (place_of labels name)) ≡ a → onward (hops_of labels) (suc t.gotos) (hop_to 0 (place_of labels name)) ≡ b
+      equal : (a b : Hop) → onward (hops_of labels) (label_count root) (hop_to 0 (place_of labels name)) ≡ a
+          → onward (hops_of labels) (suc t.gotos) (hop_to 0 (place_of labels name)) ≡ b
           → length (hops_of labels) ≤ label_count root → length (hops_of labels) ≤ suc t.gotos → node_at b ≡ node_at a
       equal (hop.Node x) (hop.Node y) first_is second_is enough more =
           sym (one_node (hops_of labels) (label_count root) (suc t.gotos) (hop_to 0 (place_of labels name)) x y first_is second_is)

@@ -1,5 +1,6 @@
 -- The goto with the least number of a table stands in it, and none in it has a lesser one.
-use Rattle.std.proofs.Common.{◌≡◌, ℕ, zero, suc, ◌+◌, ◌≤◌, ◌<◌, Bool, true, false, Some, None, List, [], ◌∷◌, if◌then◌else◌, ◌⊎◌, inl, inr, refl, ap, sym, subst, arith}
+use Rattle.std.proofs.Common.{◌≡◌, ℕ, zero, suc, ◌+◌, ◌≤◌, ◌<◌, Bool, true, false, Some, None, List, [], ◌∷◌, if◌then◌else◌, ◌⊎◌, inl, inr, refl, ap, sym}
+use Rattle.std.proofs.Common.{subst, arith}
 use Rattle.std.specs.Prelude.{nat_lt}
 use Rattle.std.proofs.lemmas.Bool.Decides.{nat_tests}
 use Rattle.std.proofs.lemmas.Option.{none-some}
@@ -35,11 +36,13 @@ better_of_stands : (best : Best) (h : Hop) (c : ℕ × ℕ) → better_of best h
 better_of_stands best (hop.Node n) c e = inl e
 better_of_stands best (hop.Goto f r) c e = better_stands best f r c e
 
-at_first : (best : Best) (h : Hop) (hops : List Hop) (c : ℕ × ℕ) → (best ≡ Some c) ⊎ (h ≡ hop.Goto c.0 c.1) → (best ≡ Some c) ⊎ ((p : ℕ) × (at_place (h ∷ hops) p ≡ hop.Goto c.0 c.1))
+at_first : (best : Best) (h : Hop) (hops : List Hop) (c : ℕ × ℕ) → (best ≡ Some c) ⊎ (h ≡ hop.Goto c.0 c.1) → (best ≡ Some c)
+    ⊎ ((p : ℕ) × (at_place (h ∷ hops) p ≡ hop.Goto c.0 c.1))
 at_first best h hops c (inl e) = inl e
 at_first best h hops c (inr e) = inr (0, e)
 
-further_on : (best : Best) (h : Hop) (hops : List Hop) (c : ℕ × ℕ) → (better_of best h ≡ Some c) ⊎ ((p : ℕ) × (at_place hops p ≡ hop.Goto c.0 c.1)) → (best ≡ Some c) ⊎ ((p : ℕ) × (at_place (h ∷ hops) p ≡ hop.Goto c.0 c.1))
+further_on : (best : Best) (h : Hop) (hops : List Hop) (c : ℕ × ℕ) → (better_of best h ≡ Some c) ⊎ ((p : ℕ) × (at_place hops p ≡ hop.Goto c.0 c.1))
+    → (best ≡ Some c) ⊎ ((p : ℕ) × (at_place (h ∷ hops) p ≡ hop.Goto c.0 c.1))
 further_on best h hops c (inl e) = at_first best h hops c (better_of_stands best h c e)
 further_on best h hops c (inr e) = inr (suc e.0, e.1)
 

@@ -4,6 +4,7 @@ mod Before
 mod Laid
 mod Branching
 mod Gathered
+mod GatheredBelow
 mod SpotRooms
 mod Circling
 mod Fronts

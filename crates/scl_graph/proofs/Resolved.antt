@@ -1,5 +1,6 @@
 -- The labels of a program are resolved, and with them its graph is laid.
-use Rattle.std.proofs.Common.{◌≡◌, ℕ, zero, suc, ◌+◌, ◌≤◌, Bool, true, false, Option, Some, None, List, [], ◌∷◌, ◌++◌, map, length, if◌then◌else◌, refl, ap, sym, subst, ◌∙◌, append_assoc, arith}
+use Rattle.std.proofs.Common.{◌≡◌, ℕ, zero, suc, ◌+◌, ◌≤◌, Bool, true, false, Option, Some, None, List, [], ◌∷◌, ◌++◌, map, length, if◌then◌else◌, refl, ap}
+use Rattle.std.proofs.Common.{sym, subst, ◌∙◌, append_assoc, arith}
 use Rattle.std.specs.Prelude.{option_map, nat_le}
 use Rattle.std.proofs.lemmas.Bool.Decides.{nat_tests}
 use Rattle.std.proofs.lemmas.Option.{none-some}
@@ -55,7 +56,8 @@ labels_stand : (statements : List Statement) (labels : Noted) → IsThreadGather
 labels_stand statements labels h name = h.each name ∙ thread_stands (root_of statements) name
 
 -- the node behind a label has a number of the program
-within_onward : (labels : Noted) (most : ℕ) → AreWithin most labels → (m p : ℕ) (name : List ℕ) → place_of labels name ≡ Some p → node_at (onward (hops_of labels) m (at_place (hops_of labels) p)) ≤ most
+within_onward : (labels : Noted) (most : ℕ) → AreWithin most labels → (m p : ℕ) (name : List ℕ) → place_of labels name ≡ Some p
+    → node_at (onward (hops_of labels) m (at_place (hops_of labels) p)) ≤ most
 within_onward labels most all zero p name place =
     let s : _ = place_stands labels name p place in
     subst (λ h. node_at h ≤ most) (sym s.hop) (by s s.landing refl)
@@ -81,13 +83,15 @@ within_onward labels most all (suc m) p name place =
     by others s (lands.Node n) is = all name s.landing s.found n is
     by others s (lands.Goto g last) is = through others g last (place_of labels last) refl
 
-node_small : (labels : Noted) (table : List Hop) (most : ℕ) → AreWithin most labels → IsSettled (hops_of labels) table → (name : List ℕ) → node_behind labels table name ≤ most
+node_small : (labels : Noted) (table : List Hop) (most : ℕ) → AreWithin most labels → IsSettled (hops_of labels) table → (name : List ℕ)
+    → node_behind labels table name ≤ most
 node_small labels table most all t name = by (place_of labels name) refl
   where
     by : (o : Option ℕ) → place_of labels name ≡ o → node_at (further table (hop_to 0 o)) ≤ most
     by None e = omega arith
     by (Some p) e =
-        subst (λ h. node_at h ≤ most) (sym (ap (λ u. at_place u p) t.each ∙ table_at (hops_of labels) t.gotos p)) (within_onward labels most all t.gotos p name e)
+        subst (λ h. node_at h ≤ most) (sym (ap (λ u. at_place u p) t.each ∙ table_at (hops_of labels) t.gotos p))
+        (within_onward labels most all t.gotos p name e)
 
 small_is : (n : ℕ) → n ≤ count_limit → small n ≡ n
 small_is n le = by (nat_le n count_limit) refl
@@ -119,7 +123,8 @@ resolved_ok statements labels table h t none =
       leads = λ le w. by same free count le w;
     }
   where
-    by : ((name : List ℕ) → find labels name ≡ option_map stands (behind_label (root_of statements) name)) → HasNoEmptyLoop (root_of statements) → length labels ≤ label_count (root_of statements)
+    by : ((name : List ℕ) → find labels name ≡ option_map stands (behind_label (root_of statements) name)) → HasNoEmptyLoop (root_of statements)
+        → length labels ≤ label_count (root_of statements)
         → last_node (totals_of_all statements) ≤ count_limit → (w : Way) → leads_by labels table w ≡ target (root_of statements) w
     by same free count le (leads.At n) = refl
     by same free count le (leads.Jumps name) =
@@ -127,12 +132,14 @@ resolved_ok statements labels table h t none =
         small_is (node_behind labels table name) (node_small labels table count_limit within t name)
         ∙ node_reached (root_of statements) labels same table t free count name
 
-pub unresolved : (statements : List Statement) (labels : Noted) (table : List Hop) (name : List ℕ) → IsThreadGathered statements (start (totals_of_all statements)) [] labels
+pub unresolved : (statements : List Statement) (labels : Noted) (table : List Hop) (name : List ℕ)
+    → IsThreadGathered statements (start (totals_of_all statements)) [] labels
     → IsSettled (hops_of labels) table → least_name labels table ≡ Some name → IsFirstEmptyLoop (root_of statements) name
 unresolved statements labels table name h t found = first_loop (root_of statements) labels (labels_stand statements labels h) table t name found
 
 -- the threads and nodes that were laid are those of the program
-pub program_laid : (f : Way → ℕ) (variables : List Variable) (statements : List Statement) (at : Numbers) (ts us : List Thread) (ns ms : List Node) → at ≡ small_start (counts_of_all statements)
+pub program_laid : (f : Way → ℕ) (variables : List Variable) (statements : List Statement) (at : Numbers) (ts us : List Thread) (ns ms : List Node)
+    → at ≡ small_start (counts_of_all statements)
     → IsThreadLaid f None 0 statements at [] ts [] ns → AreForkedLaid f 0 statements at ts us ns ms
     → record { variables = variables; threads = us; nodes = ms } ≡ program_by f (numbered_of variables statements)
 program_laid f variables statements at ts us ns ms is own lower =
@@ -143,14 +150,16 @@ program_laid f variables statements at ts us ns ms is own lower =
     let others : AreForkedLaid f 0 statements m ts us ns ms = subst Lower is lower in
     let root : Block = body statements m 0 in
     let threads : us ≡ thread f None root ∷ forked f 0 root =
-    others.threads 0 ∙ ap (λ r. r ++ forked f 0 (text statements m 0)) (first.threads 0) ∙ ap (λ r. thread f None root ∷ r) (sym (forked_body f 0 statements m 0)) in
+    others.threads 0 ∙ ap (λ r. r ++ forked f 0 (text statements m 0)) (first.threads 0)
+    ∙ ap (λ r. thread f None root ∷ r) (sym (forked_body f 0 statements m 0)) in
     let nodes : ms ≡ of_thread f 0 root ++ below f root =
     others.nodes 0 ∙ ap (λ r. r ++ below f (text statements m 0)) (first.nodes 0) ∙ ap (λ r. of_thread f 0 root ++ r) (sym (below_body f statements m 0)) in
     ap (λ r. record { variables = variables; threads = r; nodes = ms }) threads
     ∙ ap (λ r. record { variables = variables; threads = thread f None root ∷ forked f 0 root; nodes = r }) nodes
 
 -- what fits an image has numbers for its nodes and threads
-pub image_room : (statements : List Statement) → FitsTotals (totals_of_all statements) → HasRoom (small_start (counts_of_all statements)) (counts_of_all statements)
+pub image_room : (statements : List Statement) → FitsTotals (totals_of_all statements)
+    → HasRoom (small_start (counts_of_all statements)) (counts_of_all statements)
 image_room statements h =
     let nodes : _ = h.nodes in
     let threads : _ = h.threads in
@@ -161,7 +170,8 @@ image_room statements h =
       base = omega (arith, nodes);
     }
 
-pub graph_is : (p : Scl) (labels : Noted) (table : List Hop) (q : Program) → IsResolved p.body (last_node (totals_of_all p.body)) labels table → FitsTotals (totals_of_all p.body)
+pub graph_is : (p : Scl) (labels : Noted) (table : List Hop) (q : Program) → IsResolved p.body (last_node (totals_of_all p.body)) labels table
+    → FitsTotals (totals_of_all p.body)
     → q ≡ program_by (leads_by labels table) (numbered_of p.variables p.body) → IsGraph p q
 graph_is p labels table q r fits laid =
     let n : Numbered = numbered_of p.variables p.body in
@@ -179,5 +189,6 @@ empty_loop_is p name h = subst (λ root. IsFirstEmptyLoop root name) (sym (root_
 pub limit_is : (p : Scl) → HasNoEmptyLoop (root_of p.body) → ¬ FitsTotals (totals_of_all p.body) → HasNoEmptyLoop (numbered p).root × ¬ FitsImage (counts_in p)
 limit_is p free too_many = (
   subst HasNoEmptyLoop (sym (root_is p)) free,
-  λ fits. let h : FitsImage (in_row (map piece_of p.body)).counts = subst FitsImage (counts_are p) fits in too_many (record { nodes = h.nodes; threads = h.threads }),
+  λ fits. let h : FitsImage (in_row (map piece_of p.body)).counts = subst FitsImage (counts_are p) fits in
+      too_many (record { nodes = h.nodes; threads = h.threads }),
 )

@@ -15,20 +15,27 @@ pub spot_room_first : (at : Spot) (s : Statement) (rest : List Statement) → Ha
 spot_room_first at s rest h =
     let small : _ = h.counted in
     record {
-      counted = record { nodes = omega (arith, small.nodes); threads = omega (arith, small.threads); lower = omega (arith, small.lower); gotos = omega (arith, small.gotos) };
+      counted = record {
+        nodes = omega (arith, small.nodes);
+        threads = omega (arith, small.threads);
+        lower = omega (arith, small.lower);
+        gotos = omega (arith, small.gotos);
+      };
       node = omega (arith, h.node);
       thread = omega (arith, h.thread);
       base = omega (arith, h.base);
       goto = omega (arith, h.goto);
     }
 
-pub spot_room_at : (at : Spot) (xs : List Statement) (i : ℕ) (s : Statement) → HasRoom at (totals_of_all (drop i xs)) → i < length xs → s ≡ get_or xs i s → HasRoom at (totals_of s)
+pub spot_room_at : (at : Spot) (xs : List Statement) (i : ℕ) (s : Statement) → HasRoom at (totals_of_all (drop i xs)) → i < length xs → s ≡ get_or xs i s
+    → HasRoom at (totals_of s)
 spot_room_at at xs i s room lt is =
     let Fits : List Statement → Type 0 = λ zs. HasRoom at (totals_of_all zs) in
     spot_room_first at s (drop (i + 1) xs) (subst Fits (split_at xs i s lt is) room)
 
 -- and behind it
-pub spot_room_more : (at : Spot) (s : Statement) (rest : List Statement) → HasRoom at (totals_of_all (s ∷ rest)) → HasRoom (past at (totals_of s)) (totals_of_all rest)
+pub spot_room_more : (at : Spot) (s : Statement) (rest : List Statement) → HasRoom at (totals_of_all (s ∷ rest))
+    → HasRoom (past at (totals_of s)) (totals_of_all rest)
 spot_room_more at s rest h =
     let nodes : _ = h.node in
     let threads : _ = h.thread in
@@ -36,7 +43,12 @@ spot_room_more at s rest h =
     let gotos : _ = h.goto in
     let small : _ = h.counted in
     record {
-      counted = record { nodes = omega (arith, small.nodes); threads = omega (arith, small.threads); lower = omega (arith, small.lower); gotos = omega (arith, small.gotos) };
+      counted = record {
+        nodes = omega (arith, small.nodes);
+        threads = omega (arith, small.threads);
+        lower = omega (arith, small.lower);
+        gotos = omega (arith, small.gotos);
+      };
       node = omega (arith, nodes);
       thread = omega (arith, threads);
       base = omega (arith, base);
@@ -47,32 +59,51 @@ spot_room_more at s rest h =
 pub spot_branch_room : (at : Spot) (b : List Statement) (bodies : List (List Statement)) → HasBranchesRoom at (b ∷ bodies) → HasBranchRoom at (totals_of_all b)
 spot_branch_room at b bodies h = record { thread = omega (arith, h.thread); base = omega (arith, h.base); goto = omega (arith, h.goto) }
 
-pub spot_inner_room : (at : Spot) (b : List Statement) (bodies : List (List Statement)) → HasBranchesRoom at (b ∷ bodies) → HasRoom (inside at (totals_of_all b)) (totals_of_all b)
+pub spot_inner_room : (at : Spot) (b : List Statement) (bodies : List (List Statement)) → HasBranchesRoom at (b ∷ bodies)
+    → HasRoom (inside at (totals_of_all b)) (totals_of_all b)
 spot_inner_room at b bodies h =
     record {
-      counted = record { nodes = omega (arith, h.counted.lower); threads = omega (arith, h.counted.threads); lower = omega (arith, h.counted.lower); gotos = omega (arith, h.counted.gotos) };
+      counted = record {
+        nodes = omega (arith, h.counted.lower);
+        threads = omega (arith, h.counted.threads);
+        lower = omega (arith, h.counted.lower);
+        gotos = omega (arith, h.counted.gotos);
+      };
       node = omega (arith, h.base);
       thread = omega (arith, h.thread);
       base = omega (arith, h.base);
       goto = omega (arith, h.goto);
     }
 
-pub spot_further_room : (at : Spot) (b : List Statement) (bodies : List (List Statement)) → HasBranchesRoom at (b ∷ bodies) → HasBranchesRoom (past_branch at (totals_of_all b)) bodies
+pub spot_further_room : (at : Spot) (b : List Statement) (bodies : List (List Statement)) → HasBranchesRoom at (b ∷ bodies)
+    → HasBranchesRoom (past_branch at (totals_of_all b)) bodies
 spot_further_room at b bodies h =
     record {
-      counted = record { nodes = omega (arith, h.counted.nodes); threads = omega (arith, h.counted.threads); lower = omega (arith, h.counted.lower); gotos = omega (arith, h.counted.gotos) };
+      counted = record {
+        nodes = omega (arith, h.counted.nodes);
+        threads = omega (arith, h.counted.threads);
+        lower = omega (arith, h.counted.lower);
+        gotos = omega (arith, h.counted.gotos);
+      };
       thread = omega (arith, h.thread);
       base = omega (arith, h.base);
       goto = omega (arith, h.goto);
     }
 
 -- the branches of a fork have room where the fork has
-pub spot_fork_room : (at : Spot) (s : Statement) (bodies : List (List Statement)) → s ≡ variant.Fork bodies → HasRoom at (totals_of s) → HasBranchesRoom at bodies
+pub spot_fork_room : (at : Spot) (s : Statement) (bodies : List (List Statement)) → s ≡ variant.Fork bodies → HasRoom at (totals_of s)
+    → HasBranchesRoom at bodies
 spot_fork_room at s bodies is room =
     let Fits : Totals → Type 0 = λ c. HasRoom at c in
-    let h : HasRoom at (totals (piece (tree.Fork (map (map piece_of) bodies))).counts) = subst Fits (ap totals_of is ∙ ap (λ p. totals p.counts) (piece_of_fork bodies)) room in
+    let h : HasRoom at (totals (piece (tree.Fork (map (map piece_of) bodies))).counts) = subst Fits
+    (ap totals_of is ∙ ap (λ p. totals p.counts) (piece_of_fork bodies)) room in
     record {
-      counted = record { nodes = omega (arith, h.counted.nodes); threads = omega (arith, h.counted.threads); lower = omega (arith, h.counted.lower); gotos = omega (arith, h.counted.gotos) };
+      counted = record {
+        nodes = omega (arith, h.counted.nodes);
+        threads = omega (arith, h.counted.threads);
+        lower = omega (arith, h.counted.lower);
+        gotos = omega (arith, h.counted.gotos);
+      };
       thread = omega (arith, h.thread);
       base = omega (arith, h.base);
       goto = omega (arith, h.goto);

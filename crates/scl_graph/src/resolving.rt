@@ -98,7 +98,7 @@ pub(crate) fn resolve(
 }
 
 // The labels of a program of these statements, which count this.
-#[tactic(auto, using(crate::proofs::Gathered::thread_gathered))]
+#[tactic(auto, using(crate::proofs::GatheredBelow::thread_gathered))]
 fn labels_of(
     alloc: Global,
     body: &[Statement],

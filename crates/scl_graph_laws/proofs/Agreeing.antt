@@ -29,7 +29,8 @@ abbrev pub Agree : Block → List Value → Option Deed → Option Effect → Ty
 Agree root variables d e = Both (SameDeed root variables) d e
 
 -- each is asked for the same
-pub agree_if : (root : Block) (variables : List Value) (a b : Bool) → a ≡ b → (d : Option Deed) (e : Option Effect) → (a ≡ true → Agree root variables d e) → Agree root variables (only_if a d) (only_if b e)
+pub agree_if : (root : Block) (variables : List Value) (a b : Bool) → a ≡ b → (d : Option Deed) (e : Option Effect) → (a ≡ true → Agree root variables d e)
+    → Agree root variables (only_if a d) (only_if b e)
 agree_if root variables true true is d e h = h refl
 agree_if root variables false false is d e h = tt
 agree_if root variables true false is d e h = absurd (cc)
@@ -41,10 +42,12 @@ pub record GoesTo (q : Program) (root : Block) (t : ℕ) (todo : Block) : Type 0
   pub target : is_target q t (number (Some to.first)) ≡ true
 
 -- the thread goes on with this, and changes the variables alike
-pub agree_onward : (q : Program) (root : Block) (t : ℕ) (todo : Block) (variables : List Value) → GoesTo q root t todo → (c d : Change) → changed d variables ≡ changed c variables → KeepsKinds variables c →
+pub agree_onward : (q : Program) (root : Block) (t : ℕ) (todo : Block) (variables : List Value) → GoesTo q root t todo → (c d : Change) → changed d variables
+    ≡ changed c variables → KeepsKinds variables c →
     Agree root variables (goes_on root t c todo) (goes q t d (number (settled root todo)))
 agree_onward q root t todo variables onward c d same kinds =
     let to : Settled root t todo = onward.to in
     subst (λ o. Agree root variables (option_map (λ k. record { change = c; moves = (t, Todo k) ∷ [] }) o) (goes q t d (number o))) (sym to.is)
-    (subst (λ b. Agree root variables (Some (record { change = c; moves = (t, Todo to.first) ∷ [] })) (only_if b (Some (record { change = d; moves = (t, status.At (number (Some to.first))) ∷ [] })))) (sym onward.target)
+    (subst (λ b. Agree root variables (Some (record { change = c; moves = (t, Todo to.first) ∷ [] }))
+    (only_if b (Some (record { change = d; moves = (t, status.At (number (Some to.first))) ∷ [] })))) (sym onward.target)
     (record { change = same; moves = refl; kinds = kinds; within = ((to.place, to.is_step), tt) }))

@@ -45,7 +45,8 @@ kind_initial kind.Int = refl
 
 kinds_initial : (variables : List Variable) → map kind_of (map (λ x. initial_value x.kind) variables) ≡ map (λ x. x.kind) variables
 kinds_initial [] = refl
-kinds_initial (x ∷ variables) = ap (λ k. k ∷ map kind_of (map (λ x. initial_value x.kind) variables)) (kind_initial x.kind) ∙ ap (λ r. x.kind ∷ r) (kinds_initial variables)
+kinds_initial (x ∷ variables) = ap (λ k. k ∷ map kind_of (map (λ x. initial_value x.kind) variables)) (kind_initial x.kind)
+    ∙ ap (λ r. x.kind ∷ r) (kinds_initial variables)
 
 pub begins : (p : Numbered) (q : Program) → Mirrors p q → Corresponds p (initial p) (initial_of_nodes q)
 begins p q graph = record {
@@ -68,7 +69,8 @@ woken_alike Finished = refl
 
 all_woken_alike : (threads : List Doing) → map woken_status (map standing threads) ≡ map standing (map woken threads)
 all_woken_alike [] = refl
-all_woken_alike (d ∷ threads) = ap (λ s. s ∷ map woken_status (map standing threads)) (woken_alike d) ∙ ap (λ r. standing (woken d) ∷ r) (all_woken_alike threads)
+all_woken_alike (d ∷ threads) = ap (λ s. s ∷ map woken_status (map standing threads)) (woken_alike d)
+    ∙ ap (λ r. standing (woken d) ∷ r) (all_woken_alike threads)
 
 root_alike : (first : Block) (d : Doing) → root_status (Some (number (Some first))) (standing d) ≡ standing (root_started (Some first) d)
 root_alike first Away = refl
@@ -103,7 +105,8 @@ module _ (p : Numbered) (to : Settled p.root 0 p.root) where
   started_within : (threads : List Doing) → AreOfText p.root threads → AreOfText p.root (threads_at_start p.root threads)
   started_within [] all t = all t
   started_within (d ∷ threads) all zero = subst (λ o. IsOfText p.root 0 (root_started o d)) (sym to.is) (root_within d (all zero))
-  started_within (d ∷ threads) all (suc t) = subst (λ d. IsOfText p.root (suc t) d) (woken_in threads t) (woken_within p.root (suc t) (doing_in threads t) (all (suc t)))
+  started_within (d ∷ threads) all (suc t) = subst (λ d. IsOfText p.root (suc t) d) (woken_in threads t)
+      (woken_within p.root (suc t) (doing_in threads t) (all (suc t)))
 
   started_length : (threads : List Doing) → length (threads_at_start p.root threads) ≡ length threads
   started_length [] = refl
@@ -113,7 +116,8 @@ module _ (p : Numbered) (to : Settled p.root 0 p.root) where
       woken_length [] = refl
       woken_length (d ∷ threads) = ap suc (woken_length threads)
 
-  started_alike : (q : Program) → entry_of q 0 ≡ Some (number (settled p.root p.root)) → (threads : List Doing) → statuses_at_start q (map standing threads) ≡ map standing (threads_at_start p.root threads)
+  started_alike : (q : Program) → entry_of q 0 ≡ Some (number (settled p.root p.root)) → (threads : List Doing) → statuses_at_start q (map standing threads)
+      ≡ map standing (threads_at_start p.root threads)
   started_alike q entry [] = refl
   started_alike q entry (d ∷ threads) =
       ap (λ o. root_status o (standing d) ∷ map woken_status (map standing threads)) entry
@@ -122,11 +126,13 @@ module _ (p : Numbered) (to : Settled p.root 0 p.root) where
       ∙ ap (λ r. standing (root_started (Some to.first) d) ∷ r) (all_woken_alike threads)
       ∙ ap (λ o. standing (root_started o d) ∷ map standing (map woken threads)) (sym to.is)
 
-value_fits : (inputs : Inputs) (x : Variable) (o : Option Value) → given inputs x.name ≡ o → ((v : Value) → given inputs x.name ≡ Some v → kind_of v ≡ x.kind) → kind_of (unwrap_or o (initial_value x.kind)) ≡ x.kind
+value_fits : (inputs : Inputs) (x : Variable) (o : Option Value) → given inputs x.name ≡ o → ((v : Value) → given inputs x.name ≡ Some v → kind_of v ≡ x.kind)
+    → kind_of (unwrap_or o (initial_value x.kind)) ≡ x.kind
 value_fits inputs x None is fit = kind_initial x.kind
 value_fits inputs x (Some v) is fit = fit v is
 
-kind_at_start : (inputs : Inputs) (x : Variable) (r : Role) (w : Value) → ((v : Value) → given inputs x.name ≡ Some v → kind_of v ≡ x.kind) → kind_of w ≡ x.kind → kind_of (value_at_start inputs x r w) ≡ x.kind
+kind_at_start : (inputs : Inputs) (x : Variable) (r : Role) (w : Value) → ((v : Value) → given inputs x.name ≡ Some v → kind_of v ≡ x.kind) → kind_of w ≡ x.kind
+    → kind_of (value_at_start inputs x r w) ≡ x.kind
 kind_at_start inputs x role.Input w fit is = value_fits inputs x (given inputs x.name) refl fit
 kind_at_start inputs x role.Output w fit is = is
 kind_at_start inputs x role.Local w fit is = is
@@ -137,14 +143,16 @@ head_is k l ks ls h = cc
 tail_is : (k l : Kind) (ks ls : List Kind) → k ∷ ks ≡ l ∷ ls → ks ≡ ls
 tail_is k l ks ls h = cc
 
-kinds_at_start : (inputs : Inputs) (variables : List Variable) (values : List Value) → Fit inputs variables → map kind_of values ≡ map (λ x. x.kind) variables → map kind_of (values_at_start inputs variables values) ≡ map (λ x. x.kind) variables
+kinds_at_start : (inputs : Inputs) (variables : List Variable) (values : List Value) → Fit inputs variables → map kind_of values ≡ map (λ x. x.kind) variables
+    → map kind_of (values_at_start inputs variables values) ≡ map (λ x. x.kind) variables
 kinds_at_start inputs [] values fit h = refl
 kinds_at_start inputs (x ∷ variables) [] fit h = h
 kinds_at_start inputs (x ∷ variables) (w ∷ values) fit h =
     ap (λ k. k ∷ map kind_of (values_at_start inputs variables values)) (kind_at_start inputs x x.role w (λ v e. fit 0 x v refl e) (head_is _ _ _ _ h))
     ∙ ap (λ r. x.kind ∷ r) (kinds_at_start inputs variables values (λ i y v e. fit (suc i) y v e) (tail_is _ _ _ _ h))
 
-pub starts : (p : Numbered) (q : Program) → Mirrors p q → Settling p.root → (inputs : Inputs) (s : State) (c : Control) → Fit inputs p.variables → Corresponds p s c → Corresponds p (start p inputs s) (start_of_nodes q inputs c)
+pub starts : (p : Numbered) (q : Program) → Mirrors p q → Settling p.root → (inputs : Inputs) (s : State) (c : Control) → Fit inputs p.variables
+    → Corresponds p s c → Corresponds p (start p inputs s) (start_of_nodes q inputs c)
 starts p q graph settling inputs s c fit h =
     let to : Settled p.root 0 p.root = settling 0 p.root whole in
     subst (λ c. Corresponds p (start p inputs s) (start_of_nodes q inputs c)) (corresponds_is p s c h)

@@ -34,7 +34,8 @@ assigns_no_fork : (x : ℕ) (a : Assignment) (next : ℕ) (children : List ℕ) 
 assigns_no_fork x (Inits e) next children join h = cc
 assigns_no_fork x (Combines f e) next children join h = cc
 
-fork_comes : (root : Block) (t n : ℕ) (branches : Branches) (rest : Block) → Place root t (Fork n branches rest) → Comes root n (node t (step.Fork (threads_of branches) (suc n)))
+fork_comes : (root : Block) (t n : ℕ) (branches : Branches) (rest : Block) → Place root t (Fork n branches rest)
+    → Comes root n (node t (step.Fork (threads_of branches) (suc n)))
 fork_comes root t n branches rest place children join h = record {
   next = sym (ap join_of h);
   place = record { fork = n; branches = branches; rest = rest; place = place; children_are = ap children_of h };
@@ -68,5 +69,8 @@ pub threads_come : (root : Block) → OfThreads root (HasParent root)
 threads_come root = record {
   child = λ t n u branches body rest entry place at lt s h.
       subst (λ s. ComesFromParent root u s) (same_Some t s h)
-      (record { child = record { node = n; branches = branches; is_fork = record { rest = rest; place = place }; branch = branch_thread branches u body at }; less = lt });
+      (record {
+        child = record { node = n; branches = branches; is_fork = record { rest = rest; place = place }; branch = branch_thread branches u body at };
+        less = lt;
+      });
 }

@@ -4,7 +4,8 @@ use Rattle.std.proofs.lemmas.List.Elements.{Contains-append_left, Contains-appen
 use Rattle.sc_values.specs.declared.expression.Expr.{Expr}
 use Rattle.scl.specs.Block.{Block, End, Assign, Label, Goto, Pause, If, Fork, Branches, NoMore, Branch}
 use Rattle.scl.specs.Labels.{before}
-use Rattle.scl.specs.Places.{Place, whole, after_assign, after_label, after_goto, after_pause, in_first, in_second, after_if, after_fork, in_branch, IsBranch, here, later, threads_of}
+use Rattle.scl.specs.Places.{Place, whole, after_assign, after_label, after_goto, after_pause, in_first, in_second, after_if, after_fork, in_branch, IsBranch}
+use Rattle.scl.specs.Places.{here, later, threads_of}
 
 -- what is gathered of assignments, tests and forks
 pub record Gathered (X : Type 0) : Type 0 where
@@ -29,7 +30,8 @@ module _ {X : Type 0} (g : Gathered X) where
 
   content_before : (b k : Block) → content (before b k) ≡ content b ++ content k
   content_before (End n) k = refl
-  content_before (Assign n x e rest) k = ap (λ r. g.of_assign x e ++ r) (content_before rest k) ∙ sym (append_assoc (g.of_assign x e) (content rest) (content k))
+  content_before (Assign n x e rest) k = ap (λ r. g.of_assign x e ++ r) (content_before rest k)
+      ∙ sym (append_assoc (g.of_assign x e) (content rest) (content k))
   content_before (Label name rest) k = content_before rest k
   content_before (Goto l name rest) k = content_before rest k
   content_before (Pause n rest) k = content_before rest k
@@ -40,37 +42,45 @@ module _ {X : Type 0} (g : Gathered X) where
       ap (λ r. (g.of_fork branches ++ content_among branches) ++ r) (content_before rest k)
       ∙ sym (append_assoc (g.of_fork branches ++ content_among branches) (content rest) (content k))
 
-  branch_content : (branches : Branches) (u : ℕ) (body : Block) → IsBranch branches u body → (y : X) → Contains (content body) y → Contains (content_among branches) y
+  branch_content : (branches : Branches) (u : ℕ) (body : Block) → IsBranch branches u body → (y : X) → Contains (content body) y
+      → Contains (content_among branches) y
   branch_content branches u body (here t first more) y h = Contains-append_left (content first) (content_among more) y h
-  branch_content branches u body (later t other more v last at) y h = Contains-append_right (content other) (content_among more) y (branch_content more v last at y h)
+  branch_content branches u body (later t other more v last at) y h = Contains-append_right (content other) (content_among more) y
+      (branch_content more v last at y h)
 
   -- what an if holds in one of its lists and behind it
   in_if : (e : Expr) (a b rest : Block) (y : X) → Contains (content a) y → Contains ((g.of_test e ++ (content a ++ content b)) ++ content rest) y
-  in_if e a b rest y h = Contains-append_left (g.of_test e ++ (content a ++ content b)) (content rest) y (Contains-append_right (g.of_test e) (content a ++ content b) y (Contains-append_left (content a) (content b) y h))
+  in_if e a b rest y h = Contains-append_left (g.of_test e ++ (content a ++ content b)) (content rest) y
+      (Contains-append_right (g.of_test e) (content a ++ content b) y (Contains-append_left (content a) (content b) y h))
 
   in_else : (e : Expr) (a b rest : Block) (y : X) → Contains (content b) y → Contains ((g.of_test e ++ (content a ++ content b)) ++ content rest) y
-  in_else e a b rest y h = Contains-append_left (g.of_test e ++ (content a ++ content b)) (content rest) y (Contains-append_right (g.of_test e) (content a ++ content b) y (Contains-append_right (content a) (content b) y h))
+  in_else e a b rest y h = Contains-append_left (g.of_test e ++ (content a ++ content b)) (content rest) y
+      (Contains-append_right (g.of_test e) (content a ++ content b) y (Contains-append_right (content a) (content b) y h))
 
   -- what is gathered at a place is gathered in the text
   pub content_at : (root : Block) (t : ℕ) (todo : Block) → Place root t todo → (y : X) → Contains (content todo) y → Contains (content root) y
   content_at root t todo whole y h = h
-  content_at root t todo (after_assign s n x e rest place) y h = content_at root s (Assign n x e rest) place y (Contains-append_right (g.of_assign x e) (content rest) y h)
+  content_at root t todo (after_assign s n x e rest place) y h = content_at root s (Assign n x e rest) place y
+      (Contains-append_right (g.of_assign x e) (content rest) y h)
   content_at root t todo (after_label s name rest place) y h = content_at root s (Label name rest) place y h
   content_at root t todo (after_goto s l name rest place) y h = content_at root s (Goto l name rest) place y h
   content_at root t todo (after_pause s n rest place) y h = content_at root s (Pause n rest) place y h
   content_at root t todo (in_first s n e a b rest place) y h =
       content_at root s (If n e a b rest) place y
-      (⊎_elim (in_if e a b rest y) (Contains-append_right (g.of_test e ++ (content a ++ content b)) (content rest) y) (Contains-append_cases (content a) (content rest) y (subst (λ xs. Contains xs y) (content_before a rest) h)))
+      (⊎_elim (in_if e a b rest y) (Contains-append_right (g.of_test e ++ (content a ++ content b)) (content rest) y)
+      (Contains-append_cases (content a) (content rest) y (subst (λ xs. Contains xs y) (content_before a rest) h)))
   content_at root t todo (in_second s n e a b rest place) y h =
       content_at root s (If n e a b rest) place y
-      (⊎_elim (in_else e a b rest y) (Contains-append_right (g.of_test e ++ (content a ++ content b)) (content rest) y) (Contains-append_cases (content b) (content rest) y (subst (λ xs. Contains xs y) (content_before b rest) h)))
+      (⊎_elim (in_else e a b rest y) (Contains-append_right (g.of_test e ++ (content a ++ content b)) (content rest) y)
+      (Contains-append_cases (content b) (content rest) y (subst (λ xs. Contains xs y) (content_before b rest) h)))
   content_at root t todo (after_if s n e a b rest place) y h =
       content_at root s (If n e a b rest) place y (Contains-append_right (g.of_test e ++ (content a ++ content b)) (content rest) y h)
   content_at root t todo (after_fork s n branches rest place) y h =
       content_at root s (Fork n branches rest) place y (Contains-append_right (g.of_fork branches ++ content_among branches) (content rest) y h)
   content_at root t todo (in_branch s n u branches body rest place at) y h =
       content_at root s (Fork n branches rest) place y
-      (Contains-append_left (g.of_fork branches ++ content_among branches) (content rest) y (Contains-append_right (g.of_fork branches) (content_among branches) y (branch_content branches u body at y h)))
+      (Contains-append_left (g.of_fork branches ++ content_among branches) (content rest) y
+      (Contains-append_right (g.of_fork branches) (content_among branches) y (branch_content branches u body at y h)))
 
 -- the assignments, the tests, and how many branches each fork has
 abbrev pub assigned_in : Gathered (ℕ × Expr)

@@ -1,5 +1,6 @@
 -- What the size and structure rules ask, in general: of names, of targets, of where threads come from.
-use Rattle.std.proofs.Common.{◌≡◌, ◌≢◌, ℕ, zero, suc, ◌+◌, ◌<◌, ◌≤◌, Bool, true, cond, Option, Some, None, List, [], ◌∷◌, map, length, take, slice_get, option_map, count_by, Contains, refl, sym, ap, subst, ◌∙◌, eqb-true, arith}
+use Rattle.std.proofs.Common.{◌≡◌, ◌≢◌, ℕ, zero, suc, ◌+◌, ◌<◌, ◌≤◌, Bool, true, cond, Option, Some, None, List, [], ◌∷◌, map, length, take, slice_get}
+use Rattle.std.proofs.Common.{option_map, count_by, Contains, refl, sym, ap, subst, ◌∙◌, eqb-true, arith}
 use Rattle.std.proofs.lemmas.Bool.{and_parts}
 use Rattle.std.proofs.lemmas.List.Sums.{sum_by-cons}
 use Rattle.std.proofs.lemmas.Option.{none-some, same_Some, slice_get_within, slice_get-get_or}
@@ -25,7 +26,8 @@ pub stands_at : {X : Type 0} (xs : List X) (x : X) → Contains xs x → (k : �
 stands_at xs x h = (h.0, slice_get-get_or xs h.0 x h.1 ∙ ap Some h.2)
 
 -- a name stands once
-pub differs_before : (variables : List Variable) → Distinct (map (λ x. x.name) variables) → (y x : ℕ) (a b : Variable) → y < x → slice_get variables x ≡ Some a → slice_get variables y ≡ Some b → b.name ≢ a.name
+pub differs_before : (variables : List Variable) → Distinct (map (λ x. x.name) variables) → (y x : ℕ) (a b : Variable) → y < x → slice_get variables x ≡ Some a
+    → slice_get variables y ≡ Some b → b.name ≢ a.name
 differs_before [] distinct y x a b lt h k same = absurd (none-some a h)
 differs_before (v ∷ variables) distinct y zero a b lt h k same = absurd (omega (arith, lt))
 differs_before (v ∷ variables) distinct zero (suc x) a b lt h k same =
@@ -57,7 +59,8 @@ target_within q t n h = owned_within q t n (and_parts (owns q t n) (is_ordinary_
 pub node_within : (q : Program) (n t : ℕ) (s : Step) → HasNode q n t s → n < length q.nodes
 node_within q n t s h = slice_get_within q.nodes n (node t s) h.is
 
-pub assigns_fit : (q : Program) (x : ℕ) (a : Assignment) (next : ℕ) → InVariables q x → LoadsFit q (postorder (operand a)) → InNodes q next → StepFits q (assigns x a next)
+pub assigns_fit : (q : Program) (x : ℕ) (a : Assignment) (next : ℕ) → InVariables q x → LoadsFit q (postorder (operand a)) → InNodes q next
+    → StepFits q (assigns x a next)
 assigns_fit q x (Inits e) next h i j = (h, i, j)
 assigns_fit q x (Combines f e) next h i j = (h, i, j)
 

@@ -31,7 +31,8 @@ pub record Entered (q : Program) (root : Block) (branches : Branches) : Type 0 w
 both_true : (a b : Bool) → a ≡ true → b ≡ true → (a && b) ≡ true
 both_true a b h k = cc
 
-pub branches_enter : (q : Program) (root : Block) (branches : Branches) → ((u : ℕ) (body : Block) → IsBranch branches u body → Enters q root u body) → Entered q root branches
+pub branches_enter : (q : Program) (root : Block) (branches : Branches) → ((u : ℕ) (body : Block) → IsBranch branches u body → Enters q root u body)
+    → Entered q root branches
 branches_enter q root NoMore each = record { moves = []; is = refl; alike = refl; all = refl; within = tt }
 branches_enter q root (Branch t body more) each =
     let first : Enters q root t body = each t body (here t body more) in
@@ -66,7 +67,8 @@ ended_alike (Resuming n rest) = refl
 ended_alike Finished = refl
 
 -- all of them have ended where they have finished
-pub all_ended_alike : (c : Control) (s : State) → ((t : ℕ) → status_of c t ≡ standing (doing s t)) → (threads : List ℕ) → list_all (λ k. has_ended (status_of c k)) threads ≡ list_all (λ t. has_finished (doing s t)) threads
+pub all_ended_alike : (c : Control) (s : State) → ((t : ℕ) → status_of c t ≡ standing (doing s t)) → (threads : List ℕ)
+    → list_all (λ k. has_ended (status_of c k)) threads ≡ list_all (λ t. has_finished (doing s t)) threads
 all_ended_alike c s at [] = refl
 all_ended_alike c s at (t ∷ threads) =
     ap (λ b. b && list_all (λ k. has_ended (status_of c k)) threads) (ap has_ended (at t) ∙ ended_alike (doing s t))

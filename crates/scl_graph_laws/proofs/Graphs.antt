@@ -17,9 +17,11 @@ use Rattle.scl_graph_laws.proofs.Inputs.{Fit, accepted_fit}
 use Rattle.scl_graph_laws.proofs.Beginning.{begins, starts}
 use Rattle.scl_graph_laws.proofs.StepsAlike.{goes_on}
 
-module _ (p : Numbered) (q : Program) (begin : (inputs : Inputs) (s : State) (c : Control) → AreAccepted q inputs → Corresponds p s c → Corresponds p (start p inputs s) (start_of_nodes q inputs c))
+module _ (p : Numbered) (q : Program) (begin : (inputs : Inputs) (s : State) (c : Control) → AreAccepted q inputs → Corresponds p s c
+    → Corresponds p (start p inputs s) (start_of_nodes q inputs c))
     (runs : RunsAlike (machine p) (machine_of_nodes q) (Corresponds p)) where
-  ticks_alike : (ticks : List (Inputs × List ℕ)) → ((i : ℕ) (inputs : Inputs) (run : List ℕ) → slice_get ticks i ≡ Some (inputs, run) → AreAccepted q inputs) → (s : State) (c : Control) → Corresponds p s c →
+  ticks_alike : (ticks : List (Inputs × List ℕ)) → ((i : ℕ) (inputs : Inputs) (run : List ℕ) → slice_get ticks i ≡ Some (inputs, run) → AreAccepted q inputs)
+      → (s : State) (c : Control) → Corresponds p s c →
       Both (Corresponds p) (after_ticks (machine p) (start p) ticks s) (after_ticks (machine_of_nodes q) (start_of_nodes q) ticks c)
   ticks_alike [] accepted s c h = h
   ticks_alike (tick ∷ ticks) accepted s c h =
@@ -36,7 +38,8 @@ graph_keeps p q graph settling own = record {
   over_ticks = λ ticks accepted. ticks_alike p q begin (goes_on p q graph settling) ticks accepted (initial p) (initial_of_nodes q) (begins p q graph);
 }
   where
-    begin : (inputs : Inputs) (s : State) (c : Control) → AreAccepted q inputs → Corresponds p s c → Corresponds p (start p inputs s) (start_of_nodes q inputs c)
+    begin : (inputs : Inputs) (s : State) (c : Control) → AreAccepted q inputs → Corresponds p s c
+        → Corresponds p (start p inputs s) (start_of_nodes q inputs c)
     begin inputs s c accepted h =
         starts p q graph settling inputs s c
         (subst (λ xs. Fit inputs xs) graph.variables (accepted_fit q inputs (subst (λ xs. HaveOwnNames xs) (sym graph.variables) own) accepted)) h

@@ -23,7 +23,8 @@ given_at : (inputs : Inputs) (name : List ℕ) (v : Value) → given inputs name
 given_at [] name v h = absurd (none-some v h)
 given_at (i ∷ inputs) name v h = at (bytes_eq i.0 name) (bytes_eq-Decides i.0 name).0 h (given_at inputs name v)
   where
-    at : (b : Bool) → (b ≡ true → i.0 ≡ name) → (if b then Some i.1 else given inputs name) ≡ Some v → (given inputs name ≡ Some v → GivenAt inputs name v) → GivenAt (i ∷ inputs) name v
+    at : (b : Bool) → (b ≡ true → i.0 ≡ name) → (if b then Some i.1 else given inputs name) ≡ Some v → (given inputs name ≡ Some v → GivenAt inputs name v)
+        → GivenAt (i ∷ inputs) name v
     at true same h rest = record { place = zero; is = ap Some (λ j. (same refl j, same_Some i.1 v h j)) }
     at false same h rest = let r : GivenAt inputs name v = rest h in record { place = suc r.place; is = r.is }
 

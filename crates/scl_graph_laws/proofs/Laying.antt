@@ -37,7 +37,8 @@ module _ (to : Way → ℕ) where
 
   pub thread_length : (t : ℕ) (b : Block) → length (of_thread to t b) ≡ suc (own_count b)
   thread_length t b =
-      let i : length (own to t b (goes.At (end b)) ++ node t step.Exit ∷ []) ≡ length (own to t b (goes.At (end b))) + 1 = length-append (own to t b (goes.At (end b))) (node t step.Exit ∷ []) in
+      let i : length (own to t b (goes.At (end b)) ++ node t step.Exit ∷ []) ≡ length (own to t b (goes.At (end b))) + 1 = length-append
+      (own to t b (goes.At (end b))) (node t step.Exit ∷ []) in
       omega (arith, i, own_length t b (goes.At (end b)))
 
   of_three : (a b c : List Node) (l m n : ℕ) → length a ≡ l → length b ≡ m → length c ≡ n → length ((a ++ b) ++ c) ≡ l + (m + n)
@@ -53,9 +54,11 @@ module _ (to : Way → ℕ) where
     below_length (Label name rest) = below_length rest
     below_length (Goto g name rest) = below_length rest
     below_length (Pause n rest) = below_length rest
-    below_length (If n e first second rest) = of_three (below to first) (below to second) (below to rest) (lower_count first) (lower_count second) (lower_count rest) (below_length first) (below_length second) (below_length rest)
+    below_length (If n e first second rest) = of_three (below to first) (below to second) (below to rest) (lower_count first) (lower_count second)
+        (lower_count rest) (below_length first) (below_length second) (below_length rest)
     below_length (Fork n branches rest) =
-        let i : length (among to branches ++ below to rest) ≡ length (among to branches) + length (below to rest) = length-append (among to branches) (below to rest) in
+        let i : length (among to branches ++ below to rest) ≡ length (among to branches) + length (below to rest) = length-append (among to branches)
+        (below to rest) in
         let j : length (among to branches) ≡ lower_among branches = among_length branches in
         let k : length (below to rest) ≡ lower_count rest = below_length rest in
         omega (arith, i, j, k)
@@ -64,7 +67,8 @@ module _ (to : Way → ℕ) where
     among_length NoMore = refl
     among_length (Branch t body more) =
         let i : length ((of_thread to t body ++ below to body) ++ among to more) ≡ suc (own_count body) + (lower_count body + lower_among more) =
-        of_three (of_thread to t body) (below to body) (among to more) (suc (own_count body)) (lower_count body) (lower_among more) (thread_length t body) (below_length body) (among_length more) in
+        of_three (of_thread to t body) (below to body) (among to more) (suc (own_count body)) (lower_count body) (lower_among more) (thread_length t body)
+        (below_length body) (among_length more) in
         omega (arith, i)
 
   of_three_threads : (a b c : List Thread) (l m n : ℕ) → length a ≡ l → length b ≡ m → length c ≡ n → length ((a ++ b) ++ c) ≡ l + (m + n)
@@ -80,9 +84,11 @@ module _ (to : Way → ℕ) where
     forked_length t (Label name rest) = forked_length t rest
     forked_length t (Goto g name rest) = forked_length t rest
     forked_length t (Pause n rest) = forked_length t rest
-    forked_length t (If n e first second rest) = of_three_threads (forked to t first) (forked to t second) (forked to t rest) (thread_count first) (thread_count second) (thread_count rest) (forked_length t first) (forked_length t second) (forked_length t rest)
+    forked_length t (If n e first second rest) = of_three_threads (forked to t first) (forked to t second) (forked to t rest) (thread_count first)
+        (thread_count second) (thread_count rest) (forked_length t first) (forked_length t second) (forked_length t rest)
     forked_length t (Fork n branches rest) =
-        let i : length (forked_among to t branches ++ forked to t rest) ≡ length (forked_among to t branches) + length (forked to t rest) = length-append (forked_among to t branches) (forked to t rest) in
+        let i : length (forked_among to t branches ++ forked to t rest) ≡ length (forked_among to t branches) + length (forked to t rest) = length-append
+        (forked_among to t branches) (forked to t rest) in
         let j : length (forked_among to t branches) ≡ threads_among branches = forked_among_length t branches in
         let k : length (forked to t rest) ≡ thread_count rest = forked_length t rest in
         omega (arith, i, j, k)
@@ -90,7 +96,8 @@ module _ (to : Way → ℕ) where
     pub forked_among_length : (t : ℕ) (branches : Branches) → length (forked_among to t branches) ≡ threads_among branches
     forked_among_length t NoMore = refl
     forked_among_length t (Branch u body more) =
-        let i : length (forked to u body ++ forked_among to t more) ≡ length (forked to u body) + length (forked_among to t more) = length-append (forked to u body) (forked_among to t more) in
+        let i : length (forked to u body ++ forked_among to t more) ≡ length (forked to u body) + length (forked_among to t more) = length-append
+        (forked to u body) (forked_among to t more) in
         let j : length (forked to u body) ≡ thread_count body = forked_length u body in
         let k : length (forked_among to t more) ≡ threads_among more = forked_among_length t more in
         ap suc (omega (arith, i, j, k))
@@ -133,7 +140,8 @@ module _ (q : Program) (root : Block) where
   part_second : {X : Type 0} (all : List X) (n l : ℕ) (a b c : List X) → length a ≡ l → StandAt all n ((a ++ b) ++ c) → StandAt all (n + l) b
   part_second all n l a b c e h = subst (λ l. StandAt all (n + l) b) e (stand_second all n a b (stand_first all n (a ++ b) c h))
 
-  part_third : {X : Type 0} (all : List X) (n l m : ℕ) (a b c : List X) → length a ≡ l → length b ≡ m → StandAt all n ((a ++ b) ++ c) → StandAt all (n + (l + m)) c
+  part_third : {X : Type 0} (all : List X) (n l m : ℕ) (a b c : List X) → length a ≡ l → length b ≡ m → StandAt all n ((a ++ b) ++ c)
+      → StandAt all (n + (l + m)) c
   part_third all n l m a b c e f h =
       let both : length (a ++ b) ≡ length a + length b = length-append a b in
       subst (λ l. StandAt all (n + l) c) (sum both) (stand_second all n (a ++ b) c h)
@@ -157,7 +165,10 @@ module _ (q : Program) (root : Block) where
     laid_in t (Pause m rest) k behind n th base w num own_at threads_at below_at = (
       record {
         first = record { is = ap (slice_get q.nodes) num.0 ∙ own_at.0 };
-        second = record { is = ap (λ m. slice_get q.nodes (suc m)) num.0 ∙ own_at.1.0 ∙ ap (λ r. Some (node t (step.Depth r))) (way_leads root rest k behind w) };
+        second = record {
+          is = ap (λ m. slice_get q.nodes (suc m)) num.0 ∙ own_at.1.0
+              ∙ ap (λ r. Some (node t (step.Depth r))) (way_leads root rest k behind w);
+        };
       },
       laid_in t rest k behind (suc (suc n)) th base w num.1 own_at.1.1 threads_at below_at,
     )
@@ -170,7 +181,8 @@ module _ (q : Program) (root : Block) where
           record {
             is = ap (slice_get q.nodes) num.0 ∙ own_at.0
                 ∙ ap (λ r. Some (node t (step.Cond (postorder e) r (target root (way second inside))))) (way_leads root first (before rest k) inside v)
-                ∙ ap (λ r. Some (node t (step.Cond (postorder e) (leads root (before first (before rest k))) r))) (way_leads root second (before rest k) inside v);
+                ∙ ap (λ r. Some (node t (step.Cond (postorder e) (leads root (before first (before rest k))) r)))
+                (way_leads root second (before rest k) inside v);
           },
           laid_in t first (before rest k) inside (suc n) th base v num.1
               (part_first q.nodes (suc n) a b c own_at.1)
@@ -180,15 +192,21 @@ module _ (q : Program) (root : Block) where
               (part_second q.nodes (suc n) (own_count first) a b c (own_length to t first inside) own_at.1)
               (part_second q.threads th (thread_count first) (forked to t first) (forked to t second) (forked to t rest) (forked_length to t first) threads_at)
               (part_second q.nodes base (lower_count first) (below to first) (below to second) (below to rest) (below_length to first) below_at),
-          laid_in t rest k behind (suc n + (own_count first + own_count second)) (th + (thread_count first + thread_count second)) (base + (lower_count first + lower_count second)) w num.3
+          laid_in t rest k behind (suc n + (own_count first + own_count second)) (th + (thread_count first + thread_count second))
+              (base + (lower_count first + lower_count second)) w num.3
               (part_third q.nodes (suc n) (own_count first) (own_count second) a b c (own_length to t first inside) (own_length to t second inside) own_at.1)
-              (part_third q.threads th (thread_count first) (thread_count second) (forked to t first) (forked to t second) (forked to t rest) (forked_length to t first) (forked_length to t second) threads_at)
-              (part_third q.nodes base (lower_count first) (lower_count second) (below to first) (below to second) (below to rest) (below_length to first) (below_length to second) below_at),
+              (part_third q.threads th (thread_count first) (thread_count second) (forked to t first) (forked to t second) (forked to t rest)
+              (forked_length to t first) (forked_length to t second) threads_at)
+              (part_third q.nodes base (lower_count first) (lower_count second) (below to first) (below to second) (below to rest) (below_length to first)
+              (below_length to second) below_at),
         )
     laid_in t (Fork m branches rest) k behind n th base w num own_at threads_at below_at = (
       record {
         first = record { is = ap (slice_get q.nodes) num.0 ∙ own_at.0 };
-        second = record { is = ap (λ m. slice_get q.nodes (suc m)) num.0 ∙ own_at.1.0 ∙ ap (λ r. Some (node t (step.Join r))) (way_leads root rest k behind w) };
+        second = record {
+          is = ap (λ m. slice_get q.nodes (suc m)) num.0 ∙ own_at.1.0
+              ∙ ap (λ r. Some (node t (step.Join r))) (way_leads root rest k behind w);
+        };
       },
       laid_among t branches th base num.1
           (stand_first q.threads th (forked_among to t branches) (forked to t rest) threads_at)
@@ -205,7 +223,8 @@ module _ (q : Program) (root : Block) where
         let a : List Node = of_thread to u body in
         let mine : List Node = own to u body (goes.At (end body)) in
         let whole : StandAt q.nodes base a = part_first q.nodes base a (below to body) (among to more) nodes_at in
-        let exit : StandAt q.nodes (base + own_count body) (node u step.Exit ∷ []) = part_after q.nodes base (own_count body) mine (node u step.Exit ∷ []) (own_length to u body (goes.At (end body))) whole in (
+        let exit : StandAt q.nodes (base + own_count body) (node u step.Exit ∷ []) = part_after q.nodes base (own_count body) mine (node u step.Exit ∷ [])
+        (own_length to u body (goes.At (end body))) whole in (
           ap (slice_get q.threads) num.0 ∙ threads_at.0 ∙ ap (λ r. Some (record { parent = Some t; entry = r })) (body_leads root body),
           record { is = ap (slice_get q.nodes) num.1 ∙ exit.0 },
           laid_in u body (End (end body)) (goes.At (end body)) base (suc th) (base + suc (own_count body)) refl num.2
@@ -215,6 +234,8 @@ module _ (q : Program) (root : Block) where
           laid_among t more (th + suc (thread_count body)) (base + suc (own_count body + lower_count body)) num.3
               (stand_from q.threads (suc th + thread_count body) (th + suc (thread_count body)) (forked_among to t more) (omega arith)
               (part_after q.threads (suc th) (thread_count body) (forked to u body) (forked_among to t more) (forked_length to u body) threads_at.1))
-              (stand_from q.nodes (base + (suc (own_count body) + lower_count body)) (base + suc (own_count body + lower_count body)) (among to more) (omega arith)
-              (part_third q.nodes base (suc (own_count body)) (lower_count body) a (below to body) (among to more) (thread_length to u body) (below_length to body) nodes_at)),
+              (stand_from q.nodes (base + (suc (own_count body) + lower_count body)) (base + suc (own_count body + lower_count body)) (among to more)
+              (omega arith)
+              (part_third q.nodes base (suc (own_count body)) (lower_count body) a (below to body) (among to more) (thread_length to u body)
+              (below_length to body) nodes_at)),
         )

@@ -32,6 +32,7 @@ mod Operands
 mod Levels
 pub mod Fitting
 pub mod Coding
+pub mod NodesFormed
 pub mod Forming
 pub mod StepRules
 mod Rows

@@ -1,6 +1,7 @@
 -- Where no goto leads back to itself through labels and gotos alone, each place leads to a statement: a way through more
 -- gotos than there are labels comes to one of them twice.
-use Rattle.std.proofs.Common.{◌≡◌, ℕ, zero, suc, ◌+◌, ◌≤◌, Option, Some, None, List, [], ◌∷◌, ◌++◌, length, Contains, ⊎_elim, refl, sym, ap, subst, ◌∙◌, option_and_then, length-append, arith}
+use Rattle.std.proofs.Common.{◌≡◌, ℕ, zero, suc, ◌+◌, ◌≤◌, Option, Some, None, List, [], ◌∷◌, ◌++◌, length, Contains, ⊎_elim, refl, sym, ap, subst, ◌∙◌}
+use Rattle.std.proofs.Common.{option_and_then, length-append, arith}
 use Rattle.scl.specs.Block.{Block, End, Assign, Label, Goto, Pause, If, Fork, Branches, NoMore, Branch}
 use Rattle.scl.specs.Labels.{Front, Jumps, Begins, front, behind_label, label_count, label_count_among, reached_by, settled}
 use Rattle.scl.specs.Places.{Place, after_label}
@@ -28,7 +29,8 @@ without (z ∷ xs) x h =
     record {
       others = z ∷ less.others;
       count = ap suc less.count;
-      rest = λ y i differ. ⊎_elim (λ j. subst (Contains (z ∷ less.others)) j (contains_head z less.others)) (λ k. contains_tail z y less.others (less.rest y k differ)) (contains_cons z y xs i);
+      rest = λ y i differ. ⊎_elim (λ j. subst (Contains (z ∷ less.others)) j (contains_head z less.others))
+          (λ k. contains_tail z y less.others (less.rest y k differ)) (contains_cons z y xs i);
     })
     (contains_cons z x xs h)
 
@@ -36,7 +38,8 @@ few : (xs ys : List (List ℕ)) → Distinct xs → ((x : List ℕ) → Contains
 few [] ys distinct among = omega arith
 few (x ∷ xs) ys distinct among =
     let less : Without ys x = without ys x (among x (contains_head x xs)) in
-    let rest : length xs ≤ length less.others = few xs less.others distinct.1 (λ y h. less.rest y (among y (contains_tail x y xs h)) (λ same. distinct.0 (subst (Contains xs) (sym same) h))) in
+    let rest : length xs ≤ length less.others = few xs less.others distinct.1
+    (λ y h. less.rest y (among y (contains_tail x y xs h)) (λ same. distinct.0 (subst (Contains xs) (sym same) h))) in
     omega (arith, rest, less.count)
 
 -- ---- as many labels as are counted
@@ -52,15 +55,20 @@ mutual
       let a : length (own_labels first) + length (lower_labels first) ≡ label_count first = lower_count_is first in
       let b : length (own_labels second) + length (lower_labels second) ≡ label_count second = lower_count_is second in
       let c : length (own_labels rest) + length (lower_labels rest) ≡ label_count rest = lower_count_is rest in
-      let o : length ((own_labels first ++ own_labels second) ++ own_labels rest) ≡ length (own_labels first ++ own_labels second) + length (own_labels rest) = length-append (own_labels first ++ own_labels second) (own_labels rest) in
-      let p : length (own_labels first ++ own_labels second) ≡ length (own_labels first) + length (own_labels second) = length-append (own_labels first) (own_labels second) in
-      let l : length ((lower_labels first ++ lower_labels second) ++ lower_labels rest) ≡ length (lower_labels first ++ lower_labels second) + length (lower_labels rest) = length-append (lower_labels first ++ lower_labels second) (lower_labels rest) in
-      let m : length (lower_labels first ++ lower_labels second) ≡ length (lower_labels first) + length (lower_labels second) = length-append (lower_labels first) (lower_labels second) in
+      let o : length ((own_labels first ++ own_labels second) ++ own_labels rest) ≡ length (own_labels first ++ own_labels second) + length (own_labels rest) =
+      length-append (own_labels first ++ own_labels second) (own_labels rest) in
+      let p : length (own_labels first ++ own_labels second) ≡ length (own_labels first) + length (own_labels second) = length-append (own_labels first)
+      (own_labels second) in
+      let l : length ((lower_labels first ++ lower_labels second) ++ lower_labels rest) ≡ length (lower_labels first ++ lower_labels second) + length
+      (lower_labels rest) = length-append (lower_labels first ++ lower_labels second) (lower_labels rest) in
+      let m : length (lower_labels first ++ lower_labels second) ≡ length (lower_labels first) + length (lower_labels second) = length-append
+      (lower_labels first) (lower_labels second) in
       omega (arith, a, b, c, o, p, l, m)
   lower_count_is (Fork n branches rest) =
       let a : length (labels_among branches) ≡ label_count_among branches = among_count_is branches in
       let b : length (own_labels rest) + length (lower_labels rest) ≡ label_count rest = lower_count_is rest in
-      let l : length (labels_among branches ++ lower_labels rest) ≡ length (labels_among branches) + length (lower_labels rest) = length-append (labels_among branches) (lower_labels rest) in
+      let l : length (labels_among branches ++ lower_labels rest) ≡ length (labels_among branches) + length (lower_labels rest) = length-append
+      (labels_among branches) (lower_labels rest) in
       omega (arith, a, b, l)
 
   among_count_is : (branches : Branches) → length (labels_among branches) ≡ label_count_among branches
@@ -68,8 +76,10 @@ mutual
   among_count_is (Branch t body more) =
       let a : length (own_labels body) + length (lower_labels body) ≡ label_count body = lower_count_is body in
       let b : length (labels_among more) ≡ label_count_among more = among_count_is more in
-      let l : length ((own_labels body ++ lower_labels body) ++ labels_among more) ≡ length (own_labels body ++ lower_labels body) + length (labels_among more) = length-append (own_labels body ++ lower_labels body) (labels_among more) in
-      let m : length (own_labels body ++ lower_labels body) ≡ length (own_labels body) + length (lower_labels body) = length-append (own_labels body) (lower_labels body) in
+      let l : length ((own_labels body ++ lower_labels body) ++ labels_among more) ≡ length (own_labels body ++ lower_labels body) + length
+      (labels_among more) = length-append (own_labels body ++ lower_labels body) (labels_among more) in
+      let m : length (own_labels body ++ lower_labels body) ≡ length (own_labels body) + length (lower_labels body) = length-append (own_labels body)
+      (lower_labels body) in
       omega (arith, a, b, l, m)
 
 -- ---- the labels on a way through gotos
@@ -110,7 +120,8 @@ module _ (root : Block) (keeps : KeepsScopes root) where
       ends (Some k) = refl
   trail_length (suc m) (Jumps g name) at h =
       let k : Block = at.0 in
-      let rest : length (trail root (suc m) (front k)) ≡ suc m = trail_length m (front k) (of_place at.2.0 k at.2.1) (sym (ap (option_and_then (λ k. reached_by root m (front k))) at.1) ∙ h) in
+      let rest : length (trail root (suc m) (front k)) ≡ suc m = trail_length m (front k) (of_place at.2.0 k at.2.1)
+      (sym (ap (option_and_then (λ k. reached_by root m (front k))) at.1) ∙ h) in
       ap suc (ap (λ o. length (follow (trail root (suc m)) o)) at.1 ∙ rest)
 
   -- each of them is a label of the text
@@ -124,7 +135,8 @@ module _ (root : Block) (keeps : KeepsScopes root) where
       (contains_cons l name (follow (trail root m) (behind_label root l)) h)
 
 -- a label on the way behind a label is come to from there
-come : (root : Block) (m : ℕ) (name : List ℕ) (k : Block) (f : Front) → behind_label root name ≡ Some k → front k ≡ f → (last : List ℕ) → Contains (trail root m f) last → (g : ℕ) × ComesTo root name g last
+come : (root : Block) (m : ℕ) (name : List ℕ) (k : Block) (f : Front) → behind_label root name ≡ Some k → front k ≡ f → (last : List ℕ)
+    → Contains (trail root m f) last → (g : ℕ) × ComesTo root name g last
 come root zero name k f is at last h = absurd (contains_none last h)
 come root (suc m) name k (Begins todo) is at last h = absurd (contains_none last h)
 come root (suc m) name k (Jumps g middle) is at last h =
@@ -134,7 +146,8 @@ come root (suc m) name k (Jumps g middle) is at last h =
     (contains_cons middle last (follow (trail root m) (behind_label root middle)) h)
   where
     further : (o : Option Block) → behind_label root middle ≡ o → Contains (follow (trail root m) o) last →
-        ((j : Block) (f : Front) → behind_label root middle ≡ Some j → front j ≡ f → (last : List ℕ) → Contains (trail root m f) last → (g : ℕ) × ComesTo root middle g last) → (g : ℕ) × ComesTo root name g last
+        ((j : Block) (f : Front) → behind_label root middle ≡ Some j → front j ≡ f → (last : List ℕ) → Contains (trail root m f) last
+        → (g : ℕ) × ComesTo root middle g last) → (g : ℕ) × ComesTo root name g last
     further None there tail more = absurd (contains_none last tail)
     further (Some j) there tail more =
         let rest : (g : ℕ) × ComesTo root middle g last = more j (front j) there refl last tail in
@@ -148,7 +161,10 @@ trail_distinct root no_loop (suc m) (Jumps g name) = behind (behind_label root n
   where
     behind : (o : Option Block) → behind_label root name ≡ o → ((f : Front) → Distinct (trail root m f)) → Distinct (name ∷ follow (trail root m) o)
     behind None is more = (λ h. contains_none name h, tt)
-    behind (Some k) is more = (λ h. let c : (g : ℕ) × ComesTo root name g name = come root m name k (front k) is refl name h in no_loop.none c.0 name c.1, more (front k))
+    behind (Some k) is more = (
+      λ h. let c : (g : ℕ) × ComesTo root name g name = come root m name k (front k) is refl name h in no_loop.none c.0 name c.1,
+      more (front k),
+    )
 
 pub no_loop_settles : (root : Block) → KeepsScopes root → HasNoEmptyLoop root → EachSettles root
 no_loop_settles root keeps no_loop t todo place = by (settled root todo) refl
@@ -160,7 +176,9 @@ no_loop_settles root keeps no_loop t todo place = by (settled root todo) refl
         let at : OfPlace root keeps (front todo) = of_place root keeps t todo place in
         let long : length (trail root (suc m) (front todo)) ≡ suc m = trail_length root keeps m (front todo) at is in
         let short : length (trail root (suc m) (front todo)) ≤ length (own_labels root ++ lower_labels root) =
-        few (trail root (suc m) (front todo)) (own_labels root ++ lower_labels root) (trail_distinct root no_loop (suc m) (front todo)) (trail_labels root keeps (suc m) (front todo) at) in
-        let both : length (own_labels root ++ lower_labels root) ≡ length (own_labels root) + length (lower_labels root) = length-append (own_labels root) (lower_labels root) in
+        few (trail root (suc m) (front todo)) (own_labels root ++ lower_labels root) (trail_distinct root no_loop (suc m) (front todo))
+        (trail_labels root keeps (suc m) (front todo) at) in
+        let both : length (own_labels root ++ lower_labels root) ≡ length (own_labels root) + length (lower_labels root) = length-append (own_labels root)
+        (lower_labels root) in
         let count : length (own_labels root) + length (lower_labels root) ≡ label_count root = lower_count_is root in
         absurd (omega (arith, long, short, both, count))

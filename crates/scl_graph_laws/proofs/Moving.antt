@@ -51,6 +51,7 @@ set_within root threads i d h all t =
     (λ other. subst (λ d. IsOfText root t d) other (all t))
     (set_cases threads i t d)
 
-pub moved_within : (root : Block) (moves : List (ℕ × Doing)) (threads : List Doing) → MoveWithin root moves → AreOfText root threads → AreOfText root (moved moves threads)
+pub moved_within : (root : Block) (moves : List (ℕ × Doing)) (threads : List Doing) → MoveWithin root moves → AreOfText root threads
+    → AreOfText root (moved moves threads)
 moved_within root [] threads h all = all
 moved_within root (m ∷ moves) threads h all = moved_within root moves (set threads m.0 m.1) h.1 (set_within root threads m.0 m.1 h.0 all)

@@ -60,8 +60,10 @@ abbrev mutual
   IsNumbered (If m e first second rest) n t b =
       (m ≡ n) × IsNumbered first (suc n) t b
       × IsNumbered second (suc n + own_count first) (t + thread_count first) (b + lower_count first)
-      × IsNumbered rest (suc n + (own_count first + own_count second)) (t + (thread_count first + thread_count second)) (b + (lower_count first + lower_count second))
-  IsNumbered (Fork m branches rest) n t b = (m ≡ n) × AreNumbered branches t b × IsNumbered rest (suc (suc n)) (t + threads_among branches) (b + lower_among branches)
+      × IsNumbered rest (suc n + (own_count first + own_count second)) (t + (thread_count first + thread_count second))
+      (b + (lower_count first + lower_count second))
+  IsNumbered (Fork m branches rest) n t b = (m ≡ n) × AreNumbered branches t b × IsNumbered rest (suc (suc n)) (t + threads_among branches)
+      (b + lower_among branches)
 
   pub AreNumbered : Branches → ℕ → ℕ → Type 0
   AreNumbered NoMore t b = Unit {0}
@@ -81,7 +83,8 @@ pub record RunsOn (p : Piece) : Type 0 where
   pub threads : (at : Numbers) (k : Block) → thread_count (p.made at k) ≡ p.counts.threads + thread_count k
   pub lower : (at : Numbers) (k : Block) → lower_count (p.made at k) ≡ p.counts.lower + lower_count k
   pub ends : (at : Numbers) (k : Block) → end (p.made at k) ≡ end k
-  pub numbered : (at : Numbers) (k : Block) → IsNumbered k (at.node + p.counts.nodes) (at.thread + p.counts.threads) (at.base + p.counts.lower) → IsNumbered (p.made at k) at.node at.thread at.base
+  pub numbered : (at : Numbers) (k : Block) → IsNumbered k (at.node + p.counts.nodes) (at.thread + p.counts.threads) (at.base + p.counts.lower)
+      → IsNumbered (p.made at k) at.node at.thread at.base
 
 abbrev pub AllRunOn : List Piece → Type 0
 AllRunOn [] = Unit {0}
@@ -119,7 +122,11 @@ assign_runs_on x e = record {
   threads = λ at k. omega arith;
   lower = λ at k. omega arith;
   ends = λ at k. refl;
-  numbered = λ at k h. (refl, numbered_at k (at.node + 1) (at.thread + 0) (at.base + 0) (suc at.node) at.thread at.base (omega arith) (omega arith) (omega arith) h);
+  numbered = λ at k h. (
+    refl,
+    numbered_at k (at.node + 1) (at.thread + 0) (at.base + 0) (suc at.node) at.thread at.base (omega arith) (omega arith)
+        (omega arith) h,
+  );
 }
 
 label_runs_on : (name : List ℕ) → RunsOn (piece (text.Label name))
@@ -146,7 +153,11 @@ pause_runs_on = record {
   threads = λ at k. omega arith;
   lower = λ at k. omega arith;
   ends = λ at k. refl;
-  numbered = λ at k h. (refl, numbered_at k (at.node + 2) (at.thread + 0) (at.base + 0) (suc (suc at.node)) at.thread at.base (omega arith) (omega arith) (omega arith) h);
+  numbered = λ at k h. (
+    refl,
+    numbered_at k (at.node + 2) (at.thread + 0) (at.base + 0) (suc (suc at.node)) at.thread at.base (omega arith) (omega arith)
+        (omega arith) h,
+  );
 }
 
 -- a list that stands by itself
@@ -160,7 +171,9 @@ module _ (e : Expr) (a b : List Piece) (first : RunsOn (in_row a)) (second : Run
   abbrev at_second : Numbers → Numbers
   at_second at = beyond (at_first at) (in_row a).counts
 
-  if_numbered : (at : Numbers) (k : Block) → IsNumbered k (at.node + (1 + ((in_row a).counts.nodes + (in_row b).counts.nodes))) (at.thread + (0 + ((in_row a).counts.threads + (in_row b).counts.threads))) (at.base + (0 + ((in_row a).counts.lower + (in_row b).counts.lower))) → IsNumbered ((piece (text.If e a b)).made at k) at.node at.thread at.base
+  if_numbered : (at : Numbers) (k : Block) → IsNumbered k (at.node + (1 + ((in_row a).counts.nodes + (in_row b).counts.nodes)))
+      (at.thread + (0 + ((in_row a).counts.threads + (in_row b).counts.threads))) (at.base + (0 + ((in_row a).counts.lower + (in_row b).counts.lower)))
+      → IsNumbered ((piece (text.If e a b)).made at k) at.node at.thread at.base
   if_numbered at k h =
       let f : Block = (in_row a).made (at_first at) (End 0) in
       let s : Block = (in_row b).made (at_second at) (End 0) in
@@ -172,9 +185,13 @@ module _ (e : Expr) (a b : List Piece) (first : RunsOn (in_row a)) (second : Run
       let sl : lower_count s ≡ (in_row b).counts.lower + 0 = second.lower (at_second at) (End 0) in (
         refl,
         numbered_at f (1 + at.node) at.thread at.base (suc at.node) at.thread at.base (omega arith) refl refl (inner (in_row a) first (at_first at)),
-        numbered_at s (1 + at.node + (in_row a).counts.nodes) (at.thread + (in_row a).counts.threads) (at.base + (in_row a).counts.lower) (suc at.node + own_count f) (at.thread + thread_count f) (at.base + lower_count f) (omega (arith, fo)) (omega (arith, ft)) (omega (arith, fl)) (inner (in_row b) second (at_second at)),
-        numbered_at k (at.node + (1 + ((in_row a).counts.nodes + (in_row b).counts.nodes))) (at.thread + (0 + ((in_row a).counts.threads + (in_row b).counts.threads))) (at.base + (0 + ((in_row a).counts.lower + (in_row b).counts.lower)))
-            (suc at.node + (own_count f + own_count s)) (at.thread + (thread_count f + thread_count s)) (at.base + (lower_count f + lower_count s)) (omega (arith, fo, so)) (omega (arith, ft, st)) (omega (arith, fl, sl)) h,
+        numbered_at s (1 + at.node + (in_row a).counts.nodes) (at.thread + (in_row a).counts.threads) (at.base + (in_row a).counts.lower)
+            (suc at.node + own_count f) (at.thread + thread_count f) (at.base + lower_count f) (omega (arith, fo)) (omega (arith, ft)) (omega (arith, fl))
+            (inner (in_row b) second (at_second at)),
+        numbered_at k (at.node + (1 + ((in_row a).counts.nodes + (in_row b).counts.nodes)))
+            (at.thread + (0 + ((in_row a).counts.threads + (in_row b).counts.threads))) (at.base + (0 + ((in_row a).counts.lower + (in_row b).counts.lower)))
+            (suc at.node + (own_count f + own_count s)) (at.thread + (thread_count f + thread_count s)) (at.base + (lower_count f + lower_count s))
+            (omega (arith, fo, so)) (omega (arith, ft, st)) (omega (arith, fl, sl)) h,
       )
 
   if_runs_on : RunsOn (piece (text.If e a b))
@@ -200,7 +217,8 @@ threads_of_branch b h n at = let o : _ = h.threads (record at { node = n }) (End
 lower_of_branch : (b : List Piece) → RunsOn (in_row b) → (n : ℕ) (at : Numbers) → lower_count (thread_body (in_row b) n at) ≡ (in_row b).counts.lower
 lower_of_branch b h n at = let o : _ = h.lower (record at { node = n }) (End (n + (in_row b).counts.nodes)) in omega (arith, o)
 
-among_threads : (branches : List (List Piece)) → AllRows branches → (at : Numbers) → threads_among (branches_from branches at) ≡ (all_branch_counts branches).threads
+among_threads : (branches : List (List Piece)) → AllRows branches → (at : Numbers) → threads_among (branches_from branches at)
+    ≡ (all_branch_counts branches).threads
 among_threads [] h at = refl
 among_threads (b ∷ branches) h at =
     let c : Counts = (in_row b).counts in
@@ -210,7 +228,12 @@ among_lower : (branches : List (List Piece)) → AllRows branches → (at : Numb
 among_lower [] h at = refl
 among_lower (b ∷ branches) h at =
     let c : Counts = (in_row b).counts in
-    omega (arith, own_of_branch b h.0 at.base (inside at c), lower_of_branch b h.0 at.base (inside at c), among_lower branches h.1 (beyond at (branch_counts c)))
+    omega (
+      arith,
+      own_of_branch b h.0 at.base (inside at c),
+      lower_of_branch b h.0 at.base (inside at c),
+      among_lower branches h.1 (beyond at (branch_counts c)),
+    )
 
 no_nodes : (branches : List (List Piece)) → (all_branch_counts branches).nodes ≡ 0
 no_nodes [] = refl
@@ -228,7 +251,8 @@ branches_numbered (b ∷ branches) h at =
       h.0.ends (record (inside at c) { node = at.base }) (End (at.base + c.nodes)) ∙ ap (λ m. at.base + m) (sym o),
       numbered_at body at.base (suc at.thread) (at.base + suc c.nodes) at.base (suc at.thread) (at.base + suc (own_count body)) refl refl (omega (arith, o))
           (h.0.numbered (record (inside at c) { node = at.base }) (End (at.base + c.nodes)) tt),
-      branches_at (branches_from branches (beyond at (branch_counts c))) (at.thread + suc c.threads) (at.base + (suc c.nodes + c.lower)) (at.thread + suc (thread_count body)) (at.base + suc (own_count body + lower_count body)) (omega (arith, t)) (omega (arith, o, l))
+      branches_at (branches_from branches (beyond at (branch_counts c))) (at.thread + suc c.threads) (at.base + (suc c.nodes + c.lower))
+          (at.thread + suc (thread_count body)) (at.base + suc (own_count body + lower_count body)) (omega (arith, t)) (omega (arith, o, l))
           (branches_numbered branches h.1 (beyond at (branch_counts c))),
     )
 
@@ -241,7 +265,8 @@ fork_runs_on branches h = record {
   numbered = λ at k from. (
     refl,
     branches_numbered branches h at,
-    numbered_at k (at.node + (2 + (all_branch_counts branches).nodes)) (at.thread + (0 + (all_branch_counts branches).threads)) (at.base + (0 + (all_branch_counts branches).lower))
+    numbered_at k (at.node + (2 + (all_branch_counts branches).nodes)) (at.thread + (0 + (all_branch_counts branches).threads))
+        (at.base + (0 + (all_branch_counts branches).lower))
         (suc (suc at.node)) (at.thread + threads_among (branches_from branches at)) (at.base + lower_among (branches_from branches at))
         (omega (arith, no_nodes branches)) (omega (arith, among_threads branches h at)) (omega (arith, among_lower branches h at)) from,
   );
@@ -265,8 +290,10 @@ at_layer (text.Assign x e) = assign_runs_on x e
 at_layer (text.Label name) = label_runs_on name
 at_layer (text.Goto name) = goto_runs_on name
 at_layer text.Pause = pause_runs_on
-at_layer (text.If e a b) = if_runs_on e (map piece_of (map (λ x. x.0) a)) (map piece_of (map (λ x. x.0) b)) (row_runs_on _ (known_row a)) (row_runs_on _ (known_row b))
+at_layer (text.If e a b) = if_runs_on e (map piece_of (map (λ x. x.0) a)) (map piece_of (map (λ x. x.0) b)) (row_runs_on _ (known_row a))
+    (row_runs_on _ (known_row b))
 at_layer (text.Fork branches) = fork_runs_on (map (map piece_of) (map (map (λ x. x.0)) branches)) (known_rows branches)
 
 pub statement_runs_on : (s : Statement) → RunsOn (piece_of s)
-statement_runs_on = ind-Statement (λ s. RunsOn (piece_of s)) (λ x y is. subst RunsOn (sym (fold-roll-Statement Piece piece x)) (subst (λ z. RunsOn (piece (map-Statement Statement Piece piece_of z))) is (at_layer y)))
+statement_runs_on = ind-Statement (λ s. RunsOn (piece_of s))
+    (λ x y is. subst RunsOn (sym (fold-roll-Statement Piece piece x)) (subst (λ z. RunsOn (piece (map-Statement Statement Piece piece_of z))) is (at_layer y)))

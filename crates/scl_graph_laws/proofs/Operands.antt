@@ -1,5 +1,6 @@
 -- What the node of an assignment loads are variables that there are, where its expression has a kind.
-use Rattle.std.proofs.Common.{◌≡◌, ℕ, zero, suc, ◌<◌, ◌&&◌, Bool, true, false, not, Option, Some, None, List, [], ◌∷◌, length, map, option_and_then, unwrap_or, if◌then◌else◌, All, refl, sym, ap, subst, ◌∙◌, arith}
+use Rattle.std.proofs.Common.{◌≡◌, ℕ, zero, suc, ◌<◌, ◌&&◌, Bool, true, false, not, Option, Some, None, List, [], ◌∷◌, length, map, option_and_then, unwrap_or}
+use Rattle.std.proofs.Common.{if◌then◌else◌, All, refl, sym, ap, subst, ◌∙◌, arith}
 use Rattle.std.proofs.lemmas.Option.{none-some, slice_get_within}
 use Rattle.std.proofs.lemmas.List.{length-map}
 use Rattle.sc_values.specs.declared.value.Kind.{Kind}
@@ -44,7 +45,8 @@ subtracts kind_is.Bool kind_is.Int k h = absurd (none-some k h)
 subtracts kind_is.Int kind_is.Bool k h = absurd (none-some k h)
 
 module _ (kinds : List Kind) where
-  with_operator : (f : BinaryOperator) (a b e : Expr) → (h : HasKind kinds e) → Operands f (kind a kinds) (kind b kinds) h.0 → HasKind kinds (operand (unwrap_or (combination_of f b) (Inits e)))
+  with_operator : (f : BinaryOperator) (a b e : Expr) → (h : HasKind kinds e) → Operands f (kind a kinds) (kind b kinds) h.0
+      → HasKind kinds (operand (unwrap_or (combination_of f b) (Inits e)))
   with_operator binary.Add a b e h ops = (ops.right, ops.is_right)
   with_operator binary.Subtract a b e h ops =
       let r : (r : Kind) × (unary_kind unary.Negate ops.right ≡ Some r) = subtracts ops.left ops.right h.0 ops.gives in
@@ -61,7 +63,8 @@ module _ (kinds : List Kind) where
   with_operator binary.Greater a b e h ops = h
   with_operator binary.GreaterOrEqual a b e h ops = h
 
-  pub kind_of_binary : (e : Expr) (f : BinaryOperator) (a b : Expr) → out-Expr e ≡ tree.Binary f a b → kind e kinds ≡ option_and_then (λ m. option_and_then (binary_kind f m) (kind b kinds)) (kind a kinds)
+  pub kind_of_binary : (e : Expr) (f : BinaryOperator) (a b : Expr) → out-Expr e ≡ tree.Binary f a b
+      → kind e kinds ≡ option_and_then (λ m. option_and_then (binary_kind f m) (kind b kinds)) (kind a kinds)
   kind_of_binary e f a b is =
       ap (λ (m : List Kind → Option Kind). m kinds) (fold_out-Expr (List Kind → Option Kind) kind_step e)
       ∙ ap (λ y. kind_step (map-Expr Expr (List Kind → Option Kind) kind y) kinds) is

@@ -6,7 +6,8 @@ use Rattle.sc_graph.specs.declared.program.Step.TheVariants as step
 use Rattle.sc_graph.specs.Program.{Program}
 use Rattle.scl.specs.Block.{Block, End, Assign, Label, Goto, Pause, If, Fork, Branches}
 use Rattle.scl.specs.Labels.{before}
-use Rattle.scl.specs.Places.{Place, whole, after_assign, after_label, after_goto, after_pause, in_first, in_second, after_if, after_fork, in_branch, IsBranch, here, later, threads_of}
+use Rattle.scl.specs.Places.{Place, whole, after_assign, after_label, after_goto, after_pause, in_first, in_second, after_if, after_fork, in_branch, IsBranch}
+use Rattle.scl.specs.Places.{here, later, threads_of}
 use Rattle.scl_graph.specs.Graph.{assigns, end}
 use Rattle.scl_graph_laws.specs.Mirrors.{leads, HasNode, HasNodes}
 use Rattle.scl_graph_laws.proofs.Laying.{HasThread, LaidIn, LaidAmong}
@@ -47,7 +48,8 @@ module _ (q : Program) (root : Block) where
   pub laid_first : (t : ℕ) (todo : Block) → Goes q root t todo → Laid q root t todo
   laid_first t todo (ends s n exit) = exit
   laid_first t todo (within s (End m) k now is laid more) = subst (Laid q root s) (sym is) (laid_first s k more)
-  laid_first t todo (within s (Assign n x e rest) k now is laid more) = subst (Laid q root s) (sym is) (laid.0, within s rest k (before rest k) refl laid.1 more)
+  laid_first t todo (within s (Assign n x e rest) k now is laid more) = subst (Laid q root s) (sym is)
+      (laid.0, within s rest k (before rest k) refl laid.1 more)
   laid_first t todo (within s (Label name rest) k now is laid more) = subst (Laid q root s) (sym is) (within s rest k (before rest k) refl laid more)
   laid_first t todo (within s (Goto g name rest) k now is laid more) = subst (Laid q root s) (sym is) (within s rest k (before rest k) refl laid more)
   laid_first t todo (within s (Pause n rest) k now is laid more) = subst (Laid q root s) (sym is) (laid.0, within s rest k (before rest k) refl laid.1 more)
@@ -73,7 +75,8 @@ module _ (q : Program) (root : Block) where
     place_goes t todo (in_second s n e a b rest place) = (laid_first s (If n e a b rest) (place_goes s (If n e a b rest) place)).2
     place_goes t todo (after_if s n e a b rest place) = (laid_first s (If n e a b rest) (place_goes s (If n e a b rest) place)).3
     place_goes t todo (after_fork s n branches rest place) = (laid_first s (Fork n branches rest) (place_goes s (Fork n branches rest) place)).2
-    place_goes t todo (in_branch s n u branches body rest place at) = ((laid_first s (Fork n branches rest) (place_goes s (Fork n branches rest) place)).1 u body at).goes
+    place_goes t todo (in_branch s n u branches body rest place at) =
+        ((laid_first s (Fork n branches rest) (place_goes s (Fork n branches rest) place)).1 u body at).goes
 
     pub laid_at : (t : ℕ) (todo : Block) → Place root t todo → Laid q root t todo
     laid_at t todo place = laid_first t todo (place_goes t todo place)

@@ -24,7 +24,8 @@ abbrev branches : Expr → Branches
 branches e = Branch 1 (Pause 4 (End 6)) (Branch 2 (If 7 e (Assign 8 1 e (End 0)) (End 0) (End 9)) NoMore)
 
 -- the root waits at the join, one branch rests at its depth, the other is at its test
-stand : (e : Expr) → map standing (Forked 1 (branches e) (End 3) ∷ Resting 4 (End 6) ∷ Todo (If 7 e (Assign 8 1 e (End 0)) (End 0) (End 9)) ∷ []) ≡ status.Waiting 2 ∷ status.Paused 5 ∷ status.At 7 ∷ []
+stand : (e : Expr) → map standing (Forked 1 (branches e) (End 3) ∷ Resting 4 (End 6) ∷ Todo (If 7 e (Assign 8 1 e (End 0)) (End 0) (End 9)) ∷ [])
+    ≡ status.Waiting 2 ∷ status.Paused 5 ∷ status.At 7 ∷ []
 stand e = refl
 
 -- who resumes stands at the depth too, and who is away or has finished at no node

@@ -23,7 +23,8 @@ use Rattle.scl_graph_laws.proofs.Gathering.{Gathers, text_gathers, thread_finds,
 -- variables whose names differ
 pub name_stands : (variables : List Variable) (i : ℕ) (a : Variable) → slice_get variables i ≡ Some a → Contains (map (λ x. x.name) variables) a.name
 name_stands [] i a h = absurd (none-some a h)
-name_stands (x ∷ variables) zero a h = subst (λ n. Contains (x.name ∷ map (λ x. x.name) variables) n) (ap (λ x. x.name) (same_Some x a h)) (contains_head x.name (map (λ x. x.name) variables))
+name_stands (x ∷ variables) zero a h = subst (λ n. Contains (x.name ∷ map (λ x. x.name) variables) n) (ap (λ x. x.name) (same_Some x a h))
+    (contains_head x.name (map (λ x. x.name) variables))
 name_stands (x ∷ variables) (suc i) a h = contains_tail x.name a.name (map (λ x. x.name) variables) (name_stands variables i a h)
 
 own_names : (variables : List Variable) → Distinct (map (λ x. x.name) variables) → HaveOwnNames variables

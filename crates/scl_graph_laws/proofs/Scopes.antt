@@ -5,10 +5,12 @@ use Rattle.std.proofs.lemmas.List.Elements.{Contains-append_left, Contains-appen
 use Rattle.sc_values.specs.declared.expression.Expr.{Expr}
 use Rattle.scl.specs.Block.{Block, End, Assign, Label, Goto, Pause, If, Fork, Branches, NoMore, Branch}
 use Rattle.scl.specs.Labels.{before, or_else, behind_own_label, behind_lower_label, behind_label_among, behind_label}
-use Rattle.scl.specs.Places.{Place, whole, after_assign, after_label, after_goto, after_pause, in_first, in_second, after_if, after_fork, in_branch, IsBranch, here, later}
+use Rattle.scl.specs.Places.{Place, whole, after_assign, after_label, after_goto, after_pause, in_first, in_second, after_if, after_fork, in_branch, IsBranch}
+use Rattle.scl.specs.Places.{here, later}
 use Rattle.scl_graph_laws.specs.Settling.{StayWithin}
 use Rattle.scl_graph_laws.proofs.Members.{contains_head, contains_tail, contains_none, contains_cons}
-use Rattle.scl_graph_laws.proofs.Searching.{own_labels, own_gotos, lower_labels, labels_among, Found, found_first, found_second, or_else_assoc, own_found, own_none, lower_found, lower_none, among_found, among_none, label_place}
+use Rattle.scl_graph_laws.proofs.Searching.{own_labels, own_gotos, lower_labels, labels_among, Found, found_first, found_second, or_else_assoc, own_found}
+use Rattle.scl_graph_laws.proofs.Searching.{own_none, lower_found, lower_none, among_found, among_none, label_place}
 
 -- ---- lists in which nothing stands twice
 
@@ -28,21 +30,26 @@ distinct_second (x ∷ xs) ys h = distinct_second xs ys h.1
 pub distinct_apart : (xs ys : List (List ℕ)) (x : List ℕ) → Distinct (xs ++ ys) → Contains xs x → Contains ys x → ⊥
 distinct_apart [] ys x h i j = contains_none x i
 distinct_apart (z ∷ xs) ys x h i j =
-    ⊎_elim (λ same. h.0 (subst (Contains (xs ++ ys)) (sym same) (Contains-append_right xs ys x j))) (λ tail. distinct_apart xs ys x h.1 tail j) (contains_cons z x xs i)
+    ⊎_elim (λ same. h.0 (subst (Contains (xs ++ ys)) (sym same) (Contains-append_right xs ys x j))) (λ tail. distinct_apart xs ys x h.1 tail j)
+    (contains_cons z x xs i)
 
 distinct_both : (xs ys : List (List ℕ)) → Distinct xs → Distinct ys → ((x : List ℕ) → Contains xs x → Contains ys x → ⊥) → Distinct (xs ++ ys)
 distinct_both [] ys h k apart = k
-distinct_both (x ∷ xs) ys h k apart =
-    (λ i. ⊎_elim (λ j. h.0 j) (λ j. apart x (contains_head x xs) j) (Contains-append_cases xs ys x i), distinct_both xs ys h.1 k (λ y i j. apart y (contains_tail x y xs i) j))
+distinct_both (x ∷ xs) ys h k apart = (
+  λ i. ⊎_elim (λ j. h.0 j) (λ j. apart x (contains_head x xs) j) (Contains-append_cases xs ys x i),
+  distinct_both xs ys h.1 k (λ y i j. apart y (contains_tail x y xs i) j),
+)
 
 -- of three lists in a row, the first and the third, and the second and the third
 outer_distinct : (a b c : List (List ℕ)) → Distinct ((a ++ b) ++ c) → Distinct (a ++ c)
 outer_distinct a b c h =
-    distinct_both a c (distinct_first a b (distinct_first (a ++ b) c h)) (distinct_second (a ++ b) c h) (λ x i j. distinct_apart (a ++ b) c x h (Contains-append_left a b x i) j)
+    distinct_both a c (distinct_first a b (distinct_first (a ++ b) c h)) (distinct_second (a ++ b) c h)
+    (λ x i j. distinct_apart (a ++ b) c x h (Contains-append_left a b x i) j)
 
 inner_distinct : (a b c : List (List ℕ)) → Distinct ((a ++ b) ++ c) → Distinct (b ++ c)
 inner_distinct a b c h =
-    distinct_both b c (distinct_second a b (distinct_first (a ++ b) c h)) (distinct_second (a ++ b) c h) (λ x i j. distinct_apart (a ++ b) c x h (Contains-append_right a b x i) j)
+    distinct_both b c (distinct_second a b (distinct_first (a ++ b) c h)) (distinct_second (a ++ b) c h)
+    (λ x i j. distinct_apart (a ++ b) c x h (Contains-append_right a b x i) j)
 
 -- ---- what a text has to keep
 
@@ -78,8 +85,10 @@ lower_before (Assign n x e rest) k = lower_before rest k
 lower_before (Label name rest) k = lower_before rest k
 lower_before (Goto g name rest) k = lower_before rest k
 lower_before (Pause n rest) k = lower_before rest k
-lower_before (If n e first second rest) k = ap (λ r. (lower_labels first ++ lower_labels second) ++ r) (lower_before rest k) ∙ sym (append_assoc (lower_labels first ++ lower_labels second) (lower_labels rest) (lower_labels k))
-lower_before (Fork n branches rest) k = ap (λ r. labels_among branches ++ r) (lower_before rest k) ∙ sym (append_assoc (labels_among branches) (lower_labels rest) (lower_labels k))
+lower_before (If n e first second rest) k = ap (λ r. (lower_labels first ++ lower_labels second) ++ r) (lower_before rest k)
+    ∙ sym (append_assoc (lower_labels first ++ lower_labels second) (lower_labels rest) (lower_labels k))
+lower_before (Fork n branches rest) k = ap (λ r. labels_among branches ++ r) (lower_before rest k)
+    ∙ sym (append_assoc (labels_among branches) (lower_labels rest) (lower_labels k))
 
 gotos_before : (b k : Block) → own_gotos (before b k) ≡ own_gotos b ++ own_gotos k
 gotos_before (End n) k = refl
@@ -87,7 +96,8 @@ gotos_before (Assign n x e rest) k = gotos_before rest k
 gotos_before (Label name rest) k = gotos_before rest k
 gotos_before (Goto g name rest) k = ap (λ r. name ∷ r) (gotos_before rest k)
 gotos_before (Pause n rest) k = gotos_before rest k
-gotos_before (If n e first second rest) k = ap (λ r. (own_gotos first ++ own_gotos second) ++ r) (gotos_before rest k) ∙ sym (append_assoc (own_gotos first ++ own_gotos second) (own_gotos rest) (own_gotos k))
+gotos_before (If n e first second rest) k = ap (λ r. (own_gotos first ++ own_gotos second) ++ r) (gotos_before rest k)
+    ∙ sym (append_assoc (own_gotos first ++ own_gotos second) (own_gotos rest) (own_gotos k))
 gotos_before (Fork n branches rest) k = gotos_before rest k
 
 none_lost_before : (b k : Block) → NoneLost b → NoneLost k → NoneLost (before b k)
@@ -137,7 +147,8 @@ module _ (root : Block) where
   whole_scope t body place distinct found none_lost finds = record {
     body = body;
     place = place;
-    finds = λ name h. finds name (Contains-append_left (own_labels body) (lower_labels body) name h) ∙ found_first (behind_own_label body name) (behind_lower_label body name) (own_found body name h);
+    finds = λ name h. finds name (Contains-append_left (own_labels body) (lower_labels body) name h)
+        ∙ found_first (behind_own_label body name) (behind_lower_label body name) (own_found body name h);
     gotos = found;
     none_lost = none_lost;
     distinct = distinct_second (own_labels body) (lower_labels body) distinct;
@@ -160,26 +171,34 @@ module _ (root : Block) where
 
   all_none : (b : Block) (name : List ℕ) → ¬ Contains (own_labels b ++ lower_labels b) name → behind_label b name ≡ None
   all_none b name without =
-      found_second (behind_own_label b name) (behind_lower_label b name) (own_none b name (λ i. without (Contains-append_left (own_labels b) (lower_labels b) name i)))
+      found_second (behind_own_label b name) (behind_lower_label b name)
+      (own_none b name (λ i. without (Contains-append_left (own_labels b) (lower_labels b) name i)))
       ∙ lower_none b name (λ i. without (Contains-append_right (own_labels b) (lower_labels b) name i))
 
-  pub among_branch : (branches : Branches) (u : ℕ) (body : Block) → IsBranch branches u body → (name : List ℕ) → Contains (own_labels body ++ lower_labels body) name → Contains (labels_among branches) name
+  pub among_branch : (branches : Branches) (u : ℕ) (body : Block) → IsBranch branches u body → (name : List ℕ)
+      → Contains (own_labels body ++ lower_labels body) name → Contains (labels_among branches) name
   among_branch branches u body (here t first more) name h = Contains-append_left (own_labels first ++ lower_labels first) (labels_among more) name h
-  among_branch branches u body (later t other more v last at) name h = Contains-append_right (own_labels other ++ lower_labels other) (labels_among more) name (among_branch more v last at name h)
+  among_branch branches u body (later t other more v last at) name h = Contains-append_right (own_labels other ++ lower_labels other) (labels_among more) name
+      (among_branch more v last at name h)
 
-  pub distinct_branch : (branches : Branches) (u : ℕ) (body : Block) → IsBranch branches u body → Distinct (labels_among branches) → Distinct (own_labels body ++ lower_labels body)
+  pub distinct_branch : (branches : Branches) (u : ℕ) (body : Block) → IsBranch branches u body → Distinct (labels_among branches)
+      → Distinct (own_labels body ++ lower_labels body)
   distinct_branch branches u body (here t first more) h = distinct_first (own_labels first ++ lower_labels first) (labels_among more) h
-  distinct_branch branches u body (later t other more v last at) h = distinct_branch more v last at (distinct_second (own_labels other ++ lower_labels other) (labels_among more) h)
+  distinct_branch branches u body (later t other more v last at) h = distinct_branch more v last at
+      (distinct_second (own_labels other ++ lower_labels other) (labels_among more) h)
 
   branch_finds : (branches : Branches) (u : ℕ) (body : Block) → IsBranch branches u body → NoneLostAmong branches → FindsLabels body × NoneLost body
   branch_finds branches u body (here t first more) h = (h.0, h.1)
   branch_finds branches u body (later t other more v last at) h = branch_finds more v last at h.2
 
   -- a label of a branch is found in the branch
-  pub found_in_branch : (branches : Branches) (u : ℕ) (body : Block) → IsBranch branches u body → Distinct (labels_among branches) → (name : List ℕ) → Contains (own_labels body ++ lower_labels body) name → behind_label_among branches name ≡ behind_label body name
-  found_in_branch branches u body (here t first more) distinct name h = found_first (behind_label first name) (behind_label_among more name) (all_found first name h)
+  pub found_in_branch : (branches : Branches) (u : ℕ) (body : Block) → IsBranch branches u body → Distinct (labels_among branches) → (name : List ℕ)
+      → Contains (own_labels body ++ lower_labels body) name → behind_label_among branches name ≡ behind_label body name
+  found_in_branch branches u body (here t first more) distinct name h = found_first (behind_label first name) (behind_label_among more name)
+      (all_found first name h)
   found_in_branch branches u body (later t other more v last at) distinct name h =
-      let elsewhere : ¬ Contains (own_labels other ++ lower_labels other) name = λ i. distinct_apart (own_labels other ++ lower_labels other) (labels_among more) name distinct i (among_branch more v last at name h) in
+      let elsewhere : ¬ Contains (own_labels other ++ lower_labels other) name = λ i. distinct_apart (own_labels other ++ lower_labels other)
+      (labels_among more) name distinct i (among_branch more v last at name h) in
       found_second (behind_label other name) (behind_label_among more name) (all_none other name elsewhere)
       ∙ found_in_branch more v last at (distinct_second (own_labels other ++ lower_labels other) (labels_among more) distinct) name h
 
@@ -187,8 +206,10 @@ module _ (root : Block) where
 
   -- a part of the same thread, whose gotos and threads are among those of the place
   module _ (t : ℕ) (todo : Block) (s : Scope root t todo) where
-    part_scope : (part : Block) → ((name : List ℕ) → Contains (own_gotos part) name → Contains (own_gotos todo) name) → NoneLost part → Distinct (lower_labels part) →
-        ((name : List ℕ) → Contains (lower_labels part) name → Contains (lower_labels todo) name × (behind_lower_label todo name ≡ behind_lower_label part name)) → Scope root t part
+    part_scope : (part : Block) → ((name : List ℕ) → Contains (own_gotos part) name → Contains (own_gotos todo) name) → NoneLost part
+        → Distinct (lower_labels part) →
+        ((name : List ℕ) → Contains (lower_labels part) name → Contains (lower_labels todo) name
+        × (behind_lower_label todo name ≡ behind_lower_label part name)) → Scope root t part
     part_scope part gotos none_lost distinct lower = record {
       body = s.body;
       place = s.place;
@@ -228,7 +249,9 @@ module _ (root : Block) where
             ))
             (λ i. (
               Contains-append_right (lower_labels a ++ lower_labels b) (lower_labels rest) name i,
-              ap (or_else x) (found_second y z (lower_none b name (λ j. distinct_apart (lower_labels a ++ lower_labels b) (lower_labels rest) name s.distinct (Contains-append_right (lower_labels a) (lower_labels b) name j) i)))
+              ap (or_else x) (found_second y z
+                  (lower_none b name (λ j. distinct_apart (lower_labels a ++ lower_labels b) (lower_labels rest) name s.distinct
+                  (Contains-append_right (lower_labels a) (lower_labels b) name j) i)))
                   ∙ sym (search_before a rest name),
             ))
             (Contains-append_cases (lower_labels a) (lower_labels rest) name h)
@@ -252,13 +275,15 @@ module _ (root : Block) where
         apart name h j =
             ⊎_elim
             (λ i. distinct_apart (lower_labels a) (lower_labels b) name (distinct_first (lower_labels a ++ lower_labels b) (lower_labels rest) s.distinct) j i)
-            (λ i. distinct_apart (lower_labels a ++ lower_labels b) (lower_labels rest) name s.distinct (Contains-append_left (lower_labels a) (lower_labels b) name j) i)
+            (λ i. distinct_apart (lower_labels a ++ lower_labels b) (lower_labels rest) name s.distinct
+            (Contains-append_left (lower_labels a) (lower_labels b) name j) i)
             (Contains-append_cases (lower_labels b) (lower_labels rest) name h)
 
         stands : (name : List ℕ) → Contains (lower_labels b ++ lower_labels rest) name → Contains ((lower_labels a ++ lower_labels b) ++ lower_labels rest) name
         stands name h =
             ⊎_elim
-            (λ i. Contains-append_left (lower_labels a ++ lower_labels b) (lower_labels rest) name (Contains-append_right (lower_labels a) (lower_labels b) name i))
+            (λ i. Contains-append_left (lower_labels a ++ lower_labels b) (lower_labels rest) name
+            (Contains-append_right (lower_labels a) (lower_labels b) name i))
             (λ i. Contains-append_right (lower_labels a ++ lower_labels b) (lower_labels rest) name i)
             (Contains-append_cases (lower_labels b) (lower_labels rest) name h)
 
@@ -266,7 +291,8 @@ module _ (root : Block) where
             Contains (lower_labels (If n e a b rest)) name × (behind_lower_label (If n e a b rest) name ≡ behind_lower_label (before b rest) name)
         lower_of name h = (
           stands name h,
-          found_second (behind_lower_label a name) (or_else (behind_lower_label b name) (behind_lower_label rest name)) (lower_none a name (apart name h)) ∙ sym (search_before b rest name),
+          found_second (behind_lower_label a name) (or_else (behind_lower_label b name) (behind_lower_label rest name)) (lower_none a name (apart name h))
+              ∙ sym (search_before b rest name),
         )
 
     behind_scope : Scope root t rest
@@ -277,8 +303,12 @@ module _ (root : Block) where
         (distinct_second (lower_labels a ++ lower_labels b) (lower_labels rest) s.distinct)
         (λ name h. (
           Contains-append_right (lower_labels a ++ lower_labels b) (lower_labels rest) name h,
-          found_second (behind_lower_label a name) (or_else (behind_lower_label b name) (behind_lower_label rest name)) (lower_none a name (λ j. distinct_apart (lower_labels a ++ lower_labels b) (lower_labels rest) name s.distinct (Contains-append_left (lower_labels a) (lower_labels b) name j) h))
-              ∙ found_second (behind_lower_label b name) (behind_lower_label rest name) (lower_none b name (λ j. distinct_apart (lower_labels a ++ lower_labels b) (lower_labels rest) name s.distinct (Contains-append_right (lower_labels a) (lower_labels b) name j) h)),
+          found_second (behind_lower_label a name) (or_else (behind_lower_label b name) (behind_lower_label rest name))
+              (lower_none a name (λ j. distinct_apart (lower_labels a ++ lower_labels b) (lower_labels rest) name s.distinct
+              (Contains-append_left (lower_labels a) (lower_labels b) name j) h))
+              ∙ found_second (behind_lower_label b name) (behind_lower_label rest name)
+              (lower_none b name (λ j. distinct_apart (lower_labels a ++ lower_labels b) (lower_labels rest) name s.distinct
+              (Contains-append_right (lower_labels a) (lower_labels b) name j) h)),
         ))
 
   module _ (t n : ℕ) (branches : Branches) (rest : Block) (s : Scope root t (Fork n branches rest)) where
@@ -290,7 +320,8 @@ module _ (root : Block) where
         (distinct_second (labels_among branches) (lower_labels rest) s.distinct)
         (λ name h. (
           Contains-append_right (labels_among branches) (lower_labels rest) name h,
-          found_second (behind_label_among branches name) (behind_lower_label rest name) (among_none branches name (λ j. distinct_apart (labels_among branches) (lower_labels rest) name s.distinct j h)),
+          found_second (behind_label_among branches name) (behind_lower_label rest name)
+              (among_none branches name (λ j. distinct_apart (labels_among branches) (lower_labels rest) name s.distinct j h)),
         ))
 
     branch_scope : (u : ℕ) (body : Block) → Place root u body → IsBranch branches u body → Scope root u body
@@ -304,7 +335,9 @@ module _ (root : Block) where
         ∙ found_first (behind_label_among branches name) (behind_lower_label rest name) (among_found branches name i)
         ∙ found_in_branch branches u body at among name h)
 
-  same_part : (t : ℕ) (todo rest : Block) → Scope root t todo → ((name : List ℕ) → Contains (own_gotos rest) name → Contains (own_gotos todo) name) → NoneLost rest → lower_labels todo ≡ lower_labels rest → ((name : List ℕ) → behind_lower_label todo name ≡ behind_lower_label rest name) → Scope root t rest
+  same_part : (t : ℕ) (todo rest : Block) → Scope root t todo → ((name : List ℕ) → Contains (own_gotos rest) name → Contains (own_gotos todo) name)
+      → NoneLost rest → lower_labels todo ≡ lower_labels rest → ((name : List ℕ) → behind_lower_label todo name ≡ behind_lower_label rest name)
+      → Scope root t rest
   same_part t todo rest s gotos none_lost same found =
       part_scope t todo s rest gotos none_lost (subst Distinct same s.distinct) (λ name h. (subst (λ xs. Contains xs name) (sym same) h, found name))
 
@@ -327,7 +360,8 @@ module _ (root : Block) where
     scope_at t todo (in_second v n e a b rest place) = second_scope v n e a b rest (scope_at v (If n e a b rest) place)
     scope_at t todo (after_if v n e a b rest place) = behind_scope v n e a b rest (scope_at v (If n e a b rest) place)
     scope_at t todo (after_fork v n branches rest place) = joined_scope v n branches rest (scope_at v (Fork n branches rest) place)
-    scope_at t todo (in_branch v n u branches body rest place at) = branch_scope v n branches rest (scope_at v (Fork n branches rest) place) u body (in_branch v n u branches body rest place at) at
+    scope_at t todo (in_branch v n u branches body rest place at) = branch_scope v n branches rest (scope_at v (Fork n branches rest) place) u body
+        (in_branch v n u branches body rest place at) at
 
     pub stay_within : StayWithin root
     stay_within t g name rest k place h =

@@ -1,5 +1,6 @@
 -- What the search for a label finds: the labels of a text, and where they stand.
-use Rattle.std.proofs.Common.{◌≡◌, ℕ, ◌⊎◌, Bool, true, false, Option, Some, None, List, [], ◌∷◌, ◌++◌, Contains, if◌then◌else◌, inl, inr, ⊎_elim, refl, sym, ap, subst, ◌∙◌, option_map}
+use Rattle.std.proofs.Common.{◌≡◌, ℕ, ◌⊎◌, Bool, true, false, Option, Some, None, List, [], ◌∷◌, ◌++◌, Contains, if◌then◌else◌, inl, inr, ⊎_elim, refl, sym, ap}
+use Rattle.std.proofs.Common.{subst, ◌∙◌, option_map}
 use Rattle.std.proofs.lemmas.List.Elements.{Contains-append_left, Contains-append_right, Contains-append_cases}
 use Rattle.std.specs.Str.{bytes_eq}
 use Rattle.std.proofs.lemmas.Slice.Eq.{bytes_eq-Decides}
@@ -94,7 +95,8 @@ own_found (End n) name h = absurd (contains_none name h)
 own_found (Assign n x e rest) name h = own_found rest name h
 own_found (Label l rest) name h = at (bytes_eq l name) refl (own_found rest name)
   where
-    at : (b : Bool) → bytes_eq l name ≡ b → (Contains (own_labels rest) name → Found (behind_own_label rest name)) → Found (if b then Some rest else behind_own_label rest name)
+    at : (b : Bool) → bytes_eq l name ≡ b → (Contains (own_labels rest) name → Found (behind_own_label rest name))
+        → Found (if b then Some rest else behind_own_label rest name)
     at true is more = (rest, refl)
     at false is more = ⊎_elim (λ same. absurd (unlike (bytes_eq l name) ((bytes_eq-Decides l name).1 same) is)) more (contains_cons l name (own_labels rest) h)
 own_found (Goto g l rest) name h = own_found rest name h
@@ -117,7 +119,8 @@ own_stands (End n) name k h = absurd (none-some k h)
 own_stands (Assign n x e rest) name k h = own_stands rest name k h
 own_stands (Label l rest) name k h = at (bytes_eq l name) refl h (own_stands rest name)
   where
-    at : (b : Bool) → bytes_eq l name ≡ b → (if b then Some rest else behind_own_label rest name) ≡ Some k → ((k : Block) → behind_own_label rest name ≡ Some k → Contains (own_labels rest) name) → Contains (l ∷ own_labels rest) name
+    at : (b : Bool) → bytes_eq l name ≡ b → (if b then Some rest else behind_own_label rest name) ≡ Some k
+        → ((k : Block) → behind_own_label rest name ≡ Some k → Contains (own_labels rest) name) → Contains (l ∷ own_labels rest) name
     at true is h more = subst (λ l. Contains (l ∷ own_labels rest) name) (sym ((bytes_eq-Decides l name).0 is)) (contains_head name (own_labels rest))
     at false is h more = contains_tail l name (own_labels rest) (more k h)
 own_stands (Goto g l rest) name k h = own_stands rest name k h
@@ -129,11 +132,14 @@ own_stands (If n e first second rest) name k h =
     ⊎_elim
     (λ i.
     let j : (j : Block) × (behind_own_label first name ≡ Some j) × (before j rest ≡ k) = before_mapped (λ k. before k rest) (behind_own_label first name) k i in
-    Contains-append_left (own_labels first ++ own_labels second) (own_labels rest) name (Contains-append_left (own_labels first) (own_labels second) name (own_stands first name j.0 j.1)))
+    Contains-append_left (own_labels first ++ own_labels second) (own_labels rest) name
+    (Contains-append_left (own_labels first) (own_labels second) name (own_stands first name j.0 j.1)))
     (λ i. ⊎_elim
     (λ i.
-    let j : (j : Block) × (behind_own_label second name ≡ Some j) × (before j rest ≡ k) = before_mapped (λ k. before k rest) (behind_own_label second name) k i in
-    Contains-append_left (own_labels first ++ own_labels second) (own_labels rest) name (Contains-append_right (own_labels first) (own_labels second) name (own_stands second name j.0 j.1)))
+    let j : (j : Block) × (behind_own_label second name ≡ Some j) × (before j rest ≡ k) = before_mapped (λ k. before k rest) (behind_own_label second name) k i
+    in
+    Contains-append_left (own_labels first ++ own_labels second) (own_labels rest) name
+    (Contains-append_right (own_labels first) (own_labels second) name (own_stands second name j.0 j.1)))
     (λ i. Contains-append_right (own_labels first ++ own_labels second) (own_labels rest) name (own_stands rest name k i))
     (found_cases b c k i))
     (found_cases a (or_else b c) k h)
@@ -156,7 +162,8 @@ mutual
       let b : Option Block = behind_lower_label second name in
       let c : Option Block = behind_lower_label rest name in
       ⊎_elim
-      (λ i. ⊎_elim (λ j. found_here a (or_else b c) (lower_found first name j)) (λ j. found_there a (or_else b c) (found_here b c (lower_found second name j))) (Contains-append_cases (lower_labels first) (lower_labels second) name i))
+      (λ i. ⊎_elim (λ j. found_here a (or_else b c) (lower_found first name j)) (λ j. found_there a (or_else b c) (found_here b c (lower_found second name j)))
+      (Contains-append_cases (lower_labels first) (lower_labels second) name i))
       (λ i. found_there a (or_else b c) (found_there b c (lower_found rest name i)))
       (Contains-append_cases (lower_labels first ++ lower_labels second) (lower_labels rest) name h)
   lower_found (Fork n branches rest) name h =
@@ -172,7 +179,8 @@ mutual
       let b : Option Block = behind_lower_label body name in
       let c : Option Block = behind_label_among more name in
       ⊎_elim
-      (λ i. found_here (or_else a b) c (⊎_elim (λ j. found_here a b (own_found body name j)) (λ j. found_there a b (lower_found body name j)) (Contains-append_cases (own_labels body) (lower_labels body) name i)))
+      (λ i. found_here (or_else a b) c (⊎_elim (λ j. found_here a b (own_found body name j)) (λ j. found_there a b (lower_found body name j))
+      (Contains-append_cases (own_labels body) (lower_labels body) name i)))
       (λ i. found_there (or_else a b) c (among_found more name i))
       (Contains-append_cases (own_labels body ++ lower_labels body) (labels_among more) name h)
 
@@ -188,9 +196,11 @@ mutual
       let b : Option Block = behind_lower_label second name in
       let c : Option Block = behind_lower_label rest name in
       ⊎_elim
-      (λ i. Contains-append_left (lower_labels first ++ lower_labels second) (lower_labels rest) name (Contains-append_left (lower_labels first) (lower_labels second) name (lower_stands first name k i)))
+      (λ i. Contains-append_left (lower_labels first ++ lower_labels second) (lower_labels rest) name
+      (Contains-append_left (lower_labels first) (lower_labels second) name (lower_stands first name k i)))
       (λ i. ⊎_elim
-      (λ i. Contains-append_left (lower_labels first ++ lower_labels second) (lower_labels rest) name (Contains-append_right (lower_labels first) (lower_labels second) name (lower_stands second name k i)))
+      (λ i. Contains-append_left (lower_labels first ++ lower_labels second) (lower_labels rest) name
+      (Contains-append_right (lower_labels first) (lower_labels second) name (lower_stands second name k i)))
       (λ i. Contains-append_right (lower_labels first ++ lower_labels second) (lower_labels rest) name (lower_stands rest name k i))
       (found_cases b c k i))
       (found_cases a (or_else b c) k h)
@@ -208,7 +218,8 @@ mutual
       let c : Option Block = behind_label_among more name in
       ⊎_elim
       (λ i. Contains-append_left (own_labels body ++ lower_labels body) (labels_among more) name
-      (⊎_elim (λ j. Contains-append_left (own_labels body) (lower_labels body) name (own_stands body name k j)) (λ j. Contains-append_right (own_labels body) (lower_labels body) name (lower_stands body name k j)) (found_cases a b k i)))
+      (⊎_elim (λ j. Contains-append_left (own_labels body) (lower_labels body) name (own_stands body name k j))
+      (λ j. Contains-append_right (own_labels body) (lower_labels body) name (lower_stands body name k j)) (found_cases a b k i)))
       (λ i. Contains-append_right (own_labels body ++ lower_labels body) (labels_among more) name (among_stands more name k i))
       (found_cases (or_else a b) c k h)
 
@@ -243,7 +254,8 @@ own_end (End n) name k h = absurd (none-some k h)
 own_end (Assign n x e rest) name k h = own_end rest name k h
 own_end (Label l rest) name k h = at (bytes_eq l name) h (own_end rest name)
   where
-    at : (b : Bool) → (if b then Some rest else behind_own_label rest name) ≡ Some k → ((k : Block) → behind_own_label rest name ≡ Some k → end k ≡ end rest) → end k ≡ end rest
+    at : (b : Bool) → (if b then Some rest else behind_own_label rest name) ≡ Some k → ((k : Block) → behind_own_label rest name ≡ Some k → end k ≡ end rest)
+        → end k ≡ end rest
     at true h more = ap end (sym (same_Some rest k h))
     at false h more = more k h
 own_end (Goto g l rest) name k h = own_end rest name k h
@@ -255,15 +267,18 @@ own_end (If n e first second rest) name k h =
     let from : (o : Option Block) → option_map (λ k. before k rest) o ≡ Some k → end k ≡ end rest = λ o i.
     let j : (j : Block) × (o ≡ Some j) × (before j rest ≡ k) = before_mapped (λ k. before k rest) o k i in
     ap end (sym j.2) ∙ end_before j.0 rest in
-    ⊎_elim (from (behind_own_label first name)) (λ i. ⊎_elim (from (behind_own_label second name)) (own_end rest name k) (found_cases b c k i)) (found_cases a (or_else b c) k h)
+    ⊎_elim (from (behind_own_label first name)) (λ i. ⊎_elim (from (behind_own_label second name)) (own_end rest name k) (found_cases b c k i))
+    (found_cases a (or_else b c) k h)
 own_end (Fork n branches rest) name k h = own_end rest name k h
 
-own_place : (root : Block) (t : ℕ) (b r : Block) (name : List ℕ) (k : Block) → Place root t (before b r) → behind_own_label b name ≡ Some k → Place root t (before k r)
+own_place : (root : Block) (t : ℕ) (b r : Block) (name : List ℕ) (k : Block) → Place root t (before b r) → behind_own_label b name ≡ Some k
+    → Place root t (before k r)
 own_place root t (End n) r name k place h = absurd (none-some k h)
 own_place root t (Assign n x e rest) r name k place h = own_place root t rest r name k (after_assign t n x e (before rest r) place) h
 own_place root t (Label l rest) r name k place h = at (bytes_eq l name) h (after_label t l (before rest r) place) (own_place root t rest r name k)
   where
-    at : (b : Bool) → (if b then Some rest else behind_own_label rest name) ≡ Some k → Place root t (before rest r) → (Place root t (before rest r) → behind_own_label rest name ≡ Some k → Place root t (before k r)) → Place root t (before k r)
+    at : (b : Bool) → (if b then Some rest else behind_own_label rest name) ≡ Some k → Place root t (before rest r)
+        → (Place root t (before rest r) → behind_own_label rest name ≡ Some k → Place root t (before k r)) → Place root t (before k r)
     at true h here more = subst (λ k. Place root t (before k r)) (same_Some rest k h) here
     at false h here more = more here h
 own_place root t (Goto g l rest) r name k place h = own_place root t rest r name k (after_goto t g l (before rest r) place) h
@@ -275,11 +290,16 @@ own_place root t (If n e first second rest) r name k place h =
     ⊎_elim
     (λ i.
     let j : (j : Block) × (behind_own_label first name ≡ Some j) × (before j rest ≡ k) = before_mapped (λ k. before k rest) (behind_own_label first name) k i in
-    subst (λ k. Place root t (before k r)) j.2 (subst (Place root t) (sym (before_before j.0 rest r)) (own_place root t first (before rest r) name j.0 (in_first t n e first second (before rest r) place) j.1)))
+    subst (λ k. Place root t (before k r)) j.2
+    (subst (Place root t) (sym (before_before j.0 rest r))
+    (own_place root t first (before rest r) name j.0 (in_first t n e first second (before rest r) place) j.1)))
     (λ i. ⊎_elim
     (λ i.
-    let j : (j : Block) × (behind_own_label second name ≡ Some j) × (before j rest ≡ k) = before_mapped (λ k. before k rest) (behind_own_label second name) k i in
-    subst (λ k. Place root t (before k r)) j.2 (subst (Place root t) (sym (before_before j.0 rest r)) (own_place root t second (before rest r) name j.0 (in_second t n e first second (before rest r) place) j.1)))
+    let j : (j : Block) × (behind_own_label second name ≡ Some j) × (before j rest ≡ k) = before_mapped (λ k. before k rest) (behind_own_label second name) k i
+    in
+    subst (λ k. Place root t (before k r)) j.2
+    (subst (Place root t) (sym (before_before j.0 rest r))
+    (own_place root t second (before rest r) name j.0 (in_second t n e first second (before rest r) place) j.1)))
     (λ i. own_place root t rest r name k (after_if t n e first second (before rest r) place) i)
     (found_cases b c k i))
     (found_cases a (or_else b c) k h)
@@ -288,7 +308,8 @@ own_place root t (Fork n branches rest) r name k place h = own_place root t rest
 -- what is behind a label of a thread's whole text is a place of the thread
 pub label_place : (root : Block) (t : ℕ) (body : Block) (name : List ℕ) (k : Block) → Place root t body → behind_own_label body name ≡ Some k → Place root t k
 label_place root t body name k place h =
-    let found : Place root t (before k (End (end body))) = own_place root t body (End (end body)) name k (subst (Place root t) (sym (before_end body)) place) h in
+    let found : Place root t (before k (End (end body))) = own_place root t body (End (end body)) name k (subst (Place root t) (sym (before_end body)) place) h
+    in
     subst (Place root t) (before_end k) (subst (λ n. Place root t (before k (End n))) (sym (own_end body name k h)) found)
 
 -- what is found stands in the text

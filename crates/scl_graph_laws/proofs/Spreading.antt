@@ -9,7 +9,8 @@ use Rattle.sc_graph.specs.declared.program.Thread.{Thread}
 use Rattle.sc_graph.specs.declared.program.Step.TheVariants as step
 use Rattle.scl.specs.Block.{Block, End, Assign, Label, Goto, Pause, If, Fork, Branches, NoMore, Branch}
 use Rattle.scl.specs.Labels.{before}
-use Rattle.scl.specs.Places.{Place, after_assign, after_label, after_goto, after_pause, in_first, in_second, after_if, after_fork, in_branch, IsBranch, here, later, threads_of}
+use Rattle.scl.specs.Places.{Place, after_assign, after_label, after_goto, after_pause, in_first, in_second, after_if, after_fork, in_branch, IsBranch, here}
+use Rattle.scl.specs.Places.{later, threads_of}
 use Rattle.scl_graph.specs.declared.way.Way.{Way}
 use Rattle.scl_graph.specs.declared.way.Way.TheVariants as goes
 use Rattle.scl_graph.specs.Graph.{way, node, assigns, own, end, of_thread, below, among, forked, forked_among}
@@ -30,7 +31,8 @@ pub record OfNodes (root : Block) (P : ℕ → Node → Type 0) : Type 0 where
 
 -- what holds of the thread of a branch of a fork, wherever it begins
 pub record OfThreads (root : Block) (Q : ℕ → Thread → Type 0) : Type 0 where
-  pub child : (t n u : ℕ) (branches : Branches) (body rest : Block) (entry : ℕ) → Place root t (Fork n branches rest) → IsBranch branches u body → t < u → Q u (record { parent = Some t; entry = entry })
+  pub child : (t n u : ℕ) (branches : Branches) (body rest : Block) (entry : ℕ) → Place root t (Fork n branches rest) → IsBranch branches u body → t < u
+      → Q u (record { parent = Some t; entry = entry })
 
 -- the end of a thread's text is a place of it
 pub end_place : (root : Block) (t : ℕ) (b : Block) → Place root t b → Place root t (End (end b))
@@ -43,7 +45,8 @@ end_place root t (If n e a b rest) place = end_place root t rest (after_if t n e
 end_place root t (Fork n branches rest) place = end_place root t rest (after_fork t n branches rest place)
 
 -- of parts in a row
-three : {X : Type 0} (P : ℕ → X → Type 0) (n l m : ℕ) (a b c : List X) → length a ≡ l → length b ≡ m → EachAt P n a → EachAt P (n + l) b → EachAt P (n + (l + m)) c → EachAt P n ((a ++ b) ++ c)
+three : {X : Type 0} (P : ℕ → X → Type 0) (n l m : ℕ) (a b c : List X) → length a ≡ l → length b ≡ m → EachAt P n a → EachAt P (n + l) b
+    → EachAt P (n + (l + m)) c → EachAt P n ((a ++ b) ++ c)
 three P n l m a b c i j h k r =
     let f : EachAt P n (a ++ b) = each_append P n a b h (subst (λ l. EachAt P (n + l) b) (sym i) k) in
     each_append P n (a ++ b) c f (each_from P (n + (l + m)) (n + length (a ++ b)) c (sum (length-append a b)) r)
@@ -79,22 +82,28 @@ module _ (to : Way → ℕ) (root : Block) where
     )
     own_each t (If m e first second rest) k behind n th base num place =
         let inside : Way = way rest behind in (
-          at n m (node t (step.Cond (postorder e) (to (way first inside)) (to (way second inside)))) num.0 (of.test t m e first second (before rest k) (to (way first inside)) (to (way second inside)) place),
-          three P (suc n) (own_count first) (own_count second) (own to t first inside) (own to t second inside) (own to t rest behind) (own_length to t first inside) (own_length to t second inside)
+          at n m (node t (step.Cond (postorder e) (to (way first inside)) (to (way second inside)))) num.0
+              (of.test t m e first second (before rest k) (to (way first inside)) (to (way second inside)) place),
+          three P (suc n) (own_count first) (own_count second) (own to t first inside) (own to t second inside) (own to t rest behind)
+              (own_length to t first inside) (own_length to t second inside)
               (own_each t first (before rest k) inside (suc n) th base num.1 (in_first t m e first second (before rest k) place))
-              (own_each t second (before rest k) inside (suc n + own_count first) (th + thread_count first) (base + lower_count first) num.2 (in_second t m e first second (before rest k) place))
-              (own_each t rest k behind (suc n + (own_count first + own_count second)) (th + (thread_count first + thread_count second)) (base + (lower_count first + lower_count second)) num.3 (after_if t m e first second (before rest k) place)),
+              (own_each t second (before rest k) inside (suc n + own_count first) (th + thread_count first) (base + lower_count first) num.2
+              (in_second t m e first second (before rest k) place))
+              (own_each t rest k behind (suc n + (own_count first + own_count second)) (th + (thread_count first + thread_count second))
+              (base + (lower_count first + lower_count second)) num.3 (after_if t m e first second (before rest k) place)),
         )
     own_each t (Fork m branches rest) k behind n th base num place = (
       at n m (node t (step.Fork (threads_of branches) (suc m))) num.0 (of.fork t m branches (before rest k) place),
       (
         at_next n m (node t (step.Join (to (way rest behind)))) num.0 (of.join t m branches (before rest k) (to (way rest behind)) place),
-        own_each t rest k behind (suc (suc n)) (th + threads_among branches) (base + lower_among branches) num.2 (after_fork t m branches (before rest k) place),
+        own_each t rest k behind (suc (suc n)) (th + threads_among branches) (base + lower_among branches) num.2
+            (after_fork t m branches (before rest k) place),
       ),
     )
 
     -- a whole thread
-    pub thread_each : (t : ℕ) (body : Block) (n th base : ℕ) → end body ≡ n + own_count body → IsNumbered body n th base → Place root t body → EachAt P n (of_thread to t body)
+    pub thread_each : (t : ℕ) (body : Block) (n th base : ℕ) → end body ≡ n + own_count body → IsNumbered body n th base → Place root t body
+        → EachAt P n (of_thread to t body)
     thread_each t body n th base is num place =
         two P n (own_count body) (own to t body (goes.At (end body))) (node t step.Exit ∷ []) (own_length to t body (goes.At (end body)))
         (own_each t body (End (end body)) (goes.At (end body)) n th base num (subst (Place root t) (sym (before_end body)) place))
@@ -108,24 +117,30 @@ module _ (to : Way → ℕ) (root : Block) where
       below_each t (Goto g name rest) k n th base num place = below_each t rest k n th base num (after_goto t g name (before rest k) place)
       below_each t (Pause m rest) k n th base num place = below_each t rest k (suc (suc n)) th base num.1 (after_pause t m (before rest k) place)
       below_each t (If m e first second rest) k n th base num place =
-          three P base (lower_count first) (lower_count second) (below to first) (below to second) (below to rest) (below_length to first) (below_length to second)
+          three P base (lower_count first) (lower_count second) (below to first) (below to second) (below to rest) (below_length to first)
+          (below_length to second)
           (below_each t first (before rest k) (suc n) th base num.1 (in_first t m e first second (before rest k) place))
-          (below_each t second (before rest k) (suc n + own_count first) (th + thread_count first) (base + lower_count first) num.2 (in_second t m e first second (before rest k) place))
-          (below_each t rest k (suc n + (own_count first + own_count second)) (th + (thread_count first + thread_count second)) (base + (lower_count first + lower_count second)) num.3 (after_if t m e first second (before rest k) place))
+          (below_each t second (before rest k) (suc n + own_count first) (th + thread_count first) (base + lower_count first) num.2
+          (in_second t m e first second (before rest k) place))
+          (below_each t rest k (suc n + (own_count first + own_count second)) (th + (thread_count first + thread_count second))
+          (base + (lower_count first + lower_count second)) num.3 (after_if t m e first second (before rest k) place))
       below_each t (Fork m branches rest) k n th base num place =
           two P base (lower_among branches) (among to branches) (below to rest) (among_length to branches)
           (among_each branches th base num.1 (λ u body at. in_branch t m u branches body (before rest k) place at))
           (below_each t rest k (suc (suc n)) (th + threads_among branches) (base + lower_among branches) num.2 (after_fork t m branches (before rest k) place))
 
-      among_each : (branches : Branches) (th base : ℕ) → AreNumbered branches th base → ((u : ℕ) (body : Block) → IsBranch branches u body → Place root u body) → EachAt P base (among to branches)
+      among_each : (branches : Branches) (th base : ℕ) → AreNumbered branches th base → ((u : ℕ) (body : Block) → IsBranch branches u body → Place root u body)
+          → EachAt P base (among to branches)
       among_each NoMore th base num each = tt
       among_each (Branch u body more) th base num each =
           let place : Place root u body = each u body (here u body more) in
-          three P base (suc (own_count body)) (lower_count body) (of_thread to u body) (below to body) (among to more) (thread_length to u body) (below_length to body)
+          three P base (suc (own_count body)) (lower_count body) (of_thread to u body) (below to body) (among to more) (thread_length to u body)
+          (below_length to body)
           (thread_each u body base (suc th) (base + suc (own_count body)) num.1 num.2 place)
           (below_each u body (End (end body)) base (suc th) (base + suc (own_count body)) num.2 (subst (Place root u) (sym (before_end body)) place))
           (each_from P (base + suc (own_count body + lower_count body)) (base + (suc (own_count body) + lower_count body)) (among to more) (omega arith)
-          (among_each more (th + suc (thread_count body)) (base + suc (own_count body + lower_count body)) num.3 (λ v b at. each v b (later u body more v b at))))
+          (among_each more (th + suc (thread_count body)) (base + suc (own_count body + lower_count body)) num.3
+          (λ v b at. each v b (later u body more v b at))))
 
   module _ (Q : ℕ → Thread → Type 0) (of : OfThreads root Q) where
     mutual
@@ -136,24 +151,31 @@ module _ (to : Way → ℕ) (root : Block) where
       forked_each t (Goto g name rest) k n th base lt num place = forked_each t rest k n th base lt num (after_goto t g name (before rest k) place)
       forked_each t (Pause m rest) k n th base lt num place = forked_each t rest k (suc (suc n)) th base lt num.1 (after_pause t m (before rest k) place)
       forked_each t (If m e first second rest) k n th base lt num place =
-          three Q th (thread_count first) (thread_count second) (forked to t first) (forked to t second) (forked to t rest) (forked_length to t first) (forked_length to t second)
+          three Q th (thread_count first) (thread_count second) (forked to t first) (forked to t second) (forked to t rest) (forked_length to t first)
+          (forked_length to t second)
           (forked_each t first (before rest k) (suc n) th base lt num.1 (in_first t m e first second (before rest k) place))
-          (forked_each t second (before rest k) (suc n + own_count first) (th + thread_count first) (base + lower_count first) (omega (arith, lt)) num.2 (in_second t m e first second (before rest k) place))
-          (forked_each t rest k (suc n + (own_count first + own_count second)) (th + (thread_count first + thread_count second)) (base + (lower_count first + lower_count second)) (omega (arith, lt)) num.3 (after_if t m e first second (before rest k) place))
+          (forked_each t second (before rest k) (suc n + own_count first) (th + thread_count first) (base + lower_count first) (omega (arith, lt)) num.2
+          (in_second t m e first second (before rest k) place))
+          (forked_each t rest k (suc n + (own_count first + own_count second)) (th + (thread_count first + thread_count second))
+          (base + (lower_count first + lower_count second)) (omega (arith, lt)) num.3 (after_if t m e first second (before rest k) place))
       forked_each t (Fork m branches rest) k n th base lt num place =
           two Q th (threads_among branches) (forked_among to t branches) (forked to t rest) (forked_among_length to t branches)
           (children_each t m branches (before rest k) place branches th base lt num.1 (λ u body at. at))
-          (forked_each t rest k (suc (suc n)) (th + threads_among branches) (base + lower_among branches) (omega (arith, lt)) num.2 (after_fork t m branches (before rest k) place))
+          (forked_each t rest k (suc (suc n)) (th + threads_among branches) (base + lower_among branches) (omega (arith, lt)) num.2
+          (after_fork t m branches (before rest k) place))
 
       -- some of the branches of a fork
-      children_each : (t m : ℕ) (all : Branches) (rest : Block) → Place root t (Fork m all rest) → (branches : Branches) (th base : ℕ) → t < th → AreNumbered branches th base → ((u : ℕ) (body : Block) → IsBranch branches u body → IsBranch all u body) → EachAt Q th (forked_among to t branches)
+      children_each : (t m : ℕ) (all : Branches) (rest : Block) → Place root t (Fork m all rest) → (branches : Branches) (th base : ℕ) → t < th
+          → AreNumbered branches th base → ((u : ℕ) (body : Block) → IsBranch branches u body → IsBranch all u body) → EachAt Q th (forked_among to t branches)
       children_each t m all rest place NoMore th base lt num each = tt
       children_each t m all rest place (Branch u body more) th base lt num each =
           let at : IsBranch all u body = each u body (here u body more) in
           let inner : Place root u (before body (End (end body))) = subst (Place root u) (sym (before_end body)) (in_branch t m u all body rest place at) in (
-            subst (λ v. Q v (record { parent = Some t; entry = to (way body (goes.At (end body))) })) num.0 (of.child t m u all body rest (to (way body (goes.At (end body)))) place at (subst (λ v. t < v) (sym num.0) lt)),
+            subst (λ v. Q v (record { parent = Some t; entry = to (way body (goes.At (end body))) })) num.0
+                (of.child t m u all body rest (to (way body (goes.At (end body)))) place at (subst (λ v. t < v) (sym num.0) lt)),
             two Q (suc th) (thread_count body) (forked to u body) (forked_among to t more) (forked_length to u body)
                 (forked_each u body (End (end body)) base (suc th) (base + suc (own_count body)) (subst (λ v. u < suc v) num.0 (omega arith)) num.2 inner)
                 (each_from Q (th + suc (thread_count body)) (suc th + thread_count body) (forked_among to t more) (omega arith)
-                (children_each t m all rest place more (th + suc (thread_count body)) (base + suc (own_count body + lower_count body)) (omega (arith, lt)) num.3 (λ v b i. each v b (later u body more v b i)))),
+                (children_each t m all rest place more (th + suc (thread_count body)) (base + suc (own_count body + lower_count body)) (omega (arith, lt)) num.3
+                (λ v b i. each v b (later u body more v b i)))),
           )

@@ -1,5 +1,6 @@
 -- From configurations that correspond each step of SCL is one of the graph, and leads to some that correspond again.
-use Rattle.std.proofs.Common.{◌≡◌, ◌&&◌, ℕ, suc, Bool, true, false, Option, Some, None, List, [], ◌∷◌, map, option_map, option_and_then, refl, sym, ap, subst, ◌∙◌}
+use Rattle.std.proofs.Common.{◌≡◌, ◌&&◌, ℕ, suc, Bool, true, false, Option, Some, None, List, [], ◌∷◌, map, option_map, option_and_then, refl, sym, ap, subst}
+use Rattle.std.proofs.Common.{◌∙◌}
 use Rattle.std.specs.List.{list_all}
 use Rattle.sc_values.specs.declared.value.Value.{Value}
 use Rattle.sc_values.specs.declared.value.Value.TheVariants as value
@@ -22,7 +23,8 @@ use Rattle.scl.specs.Block.{Block, End, Assign, Label, Goto, Pause, If, Fork, Br
 use Rattle.scl.specs.Labels.{before, settled}
 use Rattle.scl.specs.Places.{Place, threads_of, after_assign, after_pause, in_first, in_second, after_fork, in_branch}
 use Rattle.scl.specs.Numbering.{Numbered}
-use Rattle.scl.specs.Meaning.{Doing, State, Deed, Away, Todo, Forked, Resting, Resuming, Finished, doing, all_finished, after, chosen, forked, joined, first_step, deed_of, step, is_ready}
+use Rattle.scl.specs.Meaning.{Doing, State, Deed, Away, Todo, Forked, Resting, Resuming, Finished, doing, all_finished, after, chosen, forked, joined}
+use Rattle.scl.specs.Meaning.{first_step, deed_of, step, is_ready}
 use Rattle.scl_graph.specs.Graph.{assigns, number}
 use Rattle.scl_graph_laws.specs.Alike.{Both}
 use Rattle.scl_graph_laws.specs.Standing.{standing, IsStep, IsOfText}
@@ -47,56 +49,72 @@ module _ (p : Numbered) (q : Program) (graph : Mirrors p q) (settling : Settling
   abbrev Alike : Option Deed → Option Effect → Type 0
   Alike d e = Agree p.root s.variables d e
 
-  at_node : (n : ℕ) (r : Step) (d : Option Deed) → HasNode q n t r → Alike d (node_effect q (control_of s) t r) → Alike d (status_effect q (control_of s) t (status.At n))
+  at_node : (n : ℕ) (r : Step) (d : Option Deed) → HasNode q n t r → Alike d (node_effect q (control_of s) t r)
+      → Alike d (status_effect q (control_of s) t (status.At n))
   at_node n r d h same = subst (λ o. Alike d (option_and_then (node_effect q (control_of s) t) o)) (sym (step_is q n t r h)) same
 
   onward : (todo : Block) → Place p.root t todo → GoesTo q p.root t todo
   onward todo place = goes_to p q graph settling t todo place
 
   end : (n : ℕ) → Place p.root t (End n) → Alike (first_step p s.variables t (End n)) (status_effect q (control_of s) t (status.At n))
-  end n place = at_node n node_step.Exit (first_step p s.variables t (End n)) (graph.nodes t (End n) place) (record { change = refl; moves = refl; kinds = refl; within = (tt, tt) })
+  end n place = at_node n node_step.Exit (first_step p s.variables t (End n)) (graph.nodes t (End n) place)
+      (record { change = refl; moves = refl; kinds = refl; within = (tt, tt) })
 
-  assign : (n x : ℕ) (e : Expr) (rest : Block) → Place p.root t (Assign n x e rest) → Alike (first_step p s.variables t (Assign n x e rest)) (status_effect q (control_of s) t (status.At n))
+  assign : (n x : ℕ) (e : Expr) (rest : Block) → Place p.root t (Assign n x e rest)
+      → Alike (first_step p s.variables t (Assign n x e rest)) (status_effect q (control_of s) t (status.At n))
   assign n x e rest place =
       at_node n (assigns x (assignment_of x e) (leads p.root rest)) (first_step p s.variables t (Assign n x e rest)) (graph.nodes t (Assign n x e rest) place)
       (agree_assign p q (control_of s) t x e rest (onward rest (after_assign t n x e rest place)) kinds graph.variables)
 
-  pause : (n : ℕ) (rest : Block) → Place p.root t (Pause n rest) → Alike (first_step p s.variables t (Pause n rest)) (status_effect q (control_of s) t (status.At n))
+  pause : (n : ℕ) (rest : Block) → Place p.root t (Pause n rest)
+      → Alike (first_step p s.variables t (Pause n rest)) (status_effect q (control_of s) t (status.At n))
   pause n rest place =
       let nodes : HasNodes q n t (node_step.Surf (suc n)) (node_step.Depth (leads p.root rest)) = graph.nodes t (Pause n rest) place in
       at_node n (node_step.Surf (suc n)) (first_step p s.variables t (Pause n rest)) nodes.first
-      (subst (λ b. Alike (first_step p s.variables t (Pause n rest)) (only_if b (Some (record { change = Keep; moves = (t, status.Paused (suc n)) ∷ [] })))) (sym (is_a_depth q (suc n) t (leads p.root rest) nodes.second))
+      (subst (λ b. Alike (first_step p s.variables t (Pause n rest)) (only_if b (Some (record { change = Keep; moves = (t, status.Paused (suc n)) ∷ [] }))))
+      (sym (is_a_depth q (suc n) t (leads p.root rest) nodes.second))
       (record { change = refl; moves = refl; kinds = refl; within = (place, tt) }))
 
-  choose : (a b : Block) → GoesTo q p.root t a → GoesTo q p.root t b → (v : Option Value) → Alike (option_and_then (chosen p t a b) v) (option_and_then (branched q t (leads p.root a) (leads p.root b)) v)
+  choose : (a b : Block) → GoesTo q p.root t a → GoesTo q p.root t b → (v : Option Value)
+      → Alike (option_and_then (chosen p t a b) v) (option_and_then (branched q t (leads p.root a) (leads p.root b)) v)
   choose a b first second None = tt
   choose a b first second (Some (value.Bool true)) = agree_onward q p.root t a s.variables first Keep Keep refl refl
   choose a b first second (Some (value.Bool false)) = agree_onward q p.root t b s.variables second Keep Keep refl refl
   choose a b first second (Some (value.Int i)) = tt
 
-  test : (n : ℕ) (e : Expr) (a b rest : Block) → Place p.root t (If n e a b rest) → Alike (first_step p s.variables t (If n e a b rest)) (status_effect q (control_of s) t (status.At n))
+  test : (n : ℕ) (e : Expr) (a b rest : Block) → Place p.root t (If n e a b rest)
+      → Alike (first_step p s.variables t (If n e a b rest)) (status_effect q (control_of s) t (status.At n))
   test n e a b rest place =
       let first : Block = before a rest in
       let second : Block = before b rest in
-      at_node n (node_step.Cond (postorder e) (leads p.root first) (leads p.root second)) (first_step p s.variables t (If n e a b rest)) (graph.nodes t (If n e a b rest) place)
-      (subst (λ v. Alike (first_step p s.variables t (If n e a b rest)) (option_and_then (branched q t (leads p.root first) (leads p.root second)) v)) (tree_value (postorder e) e s.variables refl)
+      at_node n (node_step.Cond (postorder e) (leads p.root first) (leads p.root second)) (first_step p s.variables t (If n e a b rest))
+      (graph.nodes t (If n e a b rest) place)
+      (subst (λ v. Alike (first_step p s.variables t (If n e a b rest)) (option_and_then (branched q t (leads p.root first) (leads p.root second)) v))
+      (tree_value (postorder e) e s.variables refl)
       (choose first second (onward first (in_first t n e a b rest place)) (onward second (in_second t n e a b rest place)) (value_of e s.variables)))
 
   and_true : (a b : Bool) → a ≡ true → b ≡ true → (a && b) ≡ true
   and_true a b h k = cc
 
-  fork : (n : ℕ) (branches : Branches) (rest : Block) → Place p.root t (Fork n branches rest) → Alike (first_step p s.variables t (Fork n branches rest)) (status_effect q (control_of s) t (status.At n))
+  fork : (n : ℕ) (branches : Branches) (rest : Block) → Place p.root t (Fork n branches rest)
+      → Alike (first_step p s.variables t (Fork n branches rest)) (status_effect q (control_of s) t (status.At n))
   fork n branches rest place =
       let has : HasFork q n t (threads_of branches) (leads p.root rest) = graph.nodes t (Fork n branches rest) place in
-      let into : Entered q p.root branches = branches_enter q p.root branches (λ u body h. record { entry = graph.entries t n u branches body rest place h; goes = goes_to p q graph settling u body (in_branch t n u branches body rest place h) }) in
+      let into : Entered q p.root branches = branches_enter q p.root branches
+      (λ u body h. record {
+        entry = graph.entries t n u branches body rest place h;
+        goes = goes_to p q graph settling u body (in_branch t n u branches body rest place h);
+      }) in
       let moves : List (ℕ × Status) = (t, status.Waiting (suc n)) ∷ map (λ k. enters k (entry_of q k)) (threads_of branches) in
       at_node n (node_step.Fork (threads_of branches) (suc n)) (first_step p s.variables t (Fork n branches rest)) has.nodes.first
       (subst (λ o. Alike (option_map (forked t (Forked n branches rest)) o) (forked_by_node q t (threads_of branches) (suc n))) (sym into.is)
       (subst (λ b. Alike (Some (forked t (Forked n branches rest) into.moves)) (only_if b (Some (record { change = Keep; moves = moves }))))
-      (sym (and_true (is_join q t (suc n)) (list_all (λ k. is_entered q k (entry_of q k)) (threads_of branches)) (is_a_join q (suc n) t (leads p.root rest) has.nodes.second) into.all))
+      (sym (and_true (is_join q t (suc n)) (list_all (λ k. is_entered q k (entry_of q k)) (threads_of branches))
+      (is_a_join q (suc n) t (leads p.root rest) has.nodes.second) into.all))
       (record { change = refl; moves = ap (λ r. (t, status.Waiting (suc n)) ∷ r) into.alike; kinds = refl; within = (place, into.within) })))
 
-  first : (todo : Block) → Place p.root t todo → IsStep todo → Alike (first_step p s.variables t todo) (status_effect q (control_of s) t (status.At (number (Some todo))))
+  first : (todo : Block) → Place p.root t todo → IsStep todo
+      → Alike (first_step p s.variables t todo) (status_effect q (control_of s) t (status.At (number (Some todo))))
   first (End n) place is = end n place
   first (Assign n x e rest) place is = assign n x e rest place
   first (Label name rest) place is = absurd is
@@ -105,28 +123,39 @@ module _ (p : Numbered) (q : Program) (graph : Mirrors p q) (settling : Settling
   first (If n e a b rest) place is = test n e a b rest place
   first (Fork n branches rest) place is = fork n branches rest place
 
-  resume : (n : ℕ) (rest : Block) → Place p.root t (Pause n rest) → Alike (deed_of p s t (Resuming n rest)) (status_effect q (control_of s) t (status.At (suc n)))
+  resume : (n : ℕ) (rest : Block) → Place p.root t (Pause n rest)
+      → Alike (deed_of p s t (Resuming n rest)) (status_effect q (control_of s) t (status.At (suc n)))
   resume n rest place =
       let nodes : HasNodes q n t (node_step.Surf (suc n)) (node_step.Depth (leads p.root rest)) = graph.nodes t (Pause n rest) place in
       at_node (suc n) (node_step.Depth (leads p.root rest)) (deed_of p s t (Resuming n rest)) nodes.second
       (agree_onward q p.root t rest s.variables (onward rest (after_pause t n rest place)) Keep Keep refl refl)
 
-  leave : (threads : List ℕ) (rest : Block) → GoesTo q p.root t rest → Alike (option_map (joined t threads) (settled p.root rest)) (leaves q t (leads p.root rest) threads)
+  leave : (threads : List ℕ) (rest : Block) → GoesTo q p.root t rest
+      → Alike (option_map (joined t threads) (settled p.root rest)) (leaves q t (leads p.root rest) threads)
   leave threads rest to =
       let k : Block = to.to.first in
       let moves : List (ℕ × Status) = (t, status.At (number (Some k))) ∷ map (λ u. (u, status.Absent)) threads in
       subst (λ o. Alike (option_map (joined t threads) o) (leaves q t (number o) threads)) (sym to.to.is)
       (subst (λ b. Alike (Some (joined t threads k)) (only_if b (Some (record { change = Keep; moves = moves })))) (sym to.target)
-      (record { change = refl; moves = ap (λ r. (t, status.At (number (Some k))) ∷ r) (leave_alike threads); kinds = refl; within = ((to.to.place, to.to.is_step), leave_within p.root threads) }))
+      (record {
+        change = refl;
+        moves = ap (λ r. (t, status.At (number (Some k))) ∷ r) (leave_alike threads);
+        kinds = refl;
+        within = ((to.to.place, to.to.is_step), leave_within p.root threads);
+      }))
 
-  join : (n : ℕ) (branches : Branches) (rest : Block) → Place p.root t (Fork n branches rest) → Alike (deed_of p s t (Forked n branches rest)) (status_effect q (control_of s) t (status.Waiting (suc n)))
+  join : (n : ℕ) (branches : Branches) (rest : Block) → Place p.root t (Fork n branches rest)
+      → Alike (deed_of p s t (Forked n branches rest)) (status_effect q (control_of s) t (status.Waiting (suc n)))
   join n branches rest place =
       let has : HasFork q n t (threads_of branches) (leads p.root rest) = graph.nodes t (Fork n branches rest) place in
       let threads : List ℕ = threads_of branches in
       let deed : Option Deed = option_map (joined t threads) (settled p.root rest) in
-      subst (λ o. Alike (deed_of p s t (Forked n branches rest)) (only_if (all_ended (control_of s) o) (join_effect q t o (step_at q (suc n))))) (sym has.joined)
-      (subst (λ o. Alike (deed_of p s t (Forked n branches rest)) (only_if (all_ended (control_of s) (Some threads)) (join_effect q t (Some threads) o))) (sym (step_is q (suc n) t (node_step.Join (leads p.root rest)) has.nodes.second))
-      (agree_if p.root s.variables (all_finished s threads) (all_ended (control_of s) (Some threads)) (sym (all_ended_alike (control_of s) s (status_is s) threads)) deed (leaves q t (leads p.root rest) threads)
+      subst (λ o. Alike (deed_of p s t (Forked n branches rest)) (only_if (all_ended (control_of s) o) (join_effect q t o (step_at q (suc n)))))
+      (sym has.joined)
+      (subst (λ o. Alike (deed_of p s t (Forked n branches rest)) (only_if (all_ended (control_of s) (Some threads)) (join_effect q t (Some threads) o)))
+      (sym (step_is q (suc n) t (node_step.Join (leads p.root rest)) has.nodes.second))
+      (agree_if p.root s.variables (all_finished s threads) (all_ended (control_of s) (Some threads))
+      (sym (all_ended_alike (control_of s) s (status_is s) threads)) deed (leaves q t (leads p.root rest) threads)
       (λ h. leave threads rest (onward rest (after_fork t n branches rest place)))))
 
   deed : (d : Doing) → IsOfText p.root t d → Alike (deed_of p s t d) (status_effect q (control_of s) t (standing d))
@@ -172,13 +201,15 @@ module _ (p : Numbered) (s : State) (h : Corresponds p s (control_of s)) where
     places = moved_within p.root d.moves s.threads same.within h.places;
   }
 
-  pub after_both : (d : Option Deed) (e : Option Effect) → Agree p.root s.variables d e → Both (Corresponds p) (option_map (λ d. after d s) d) (option_map (λ e. after_nodes e (control_of s)) e)
+  pub after_both : (d : Option Deed) (e : Option Effect) → Agree p.root s.variables d e
+      → Both (Corresponds p) (option_map (λ d. after d s) d) (option_map (λ e. after_nodes e (control_of s)) e)
   after_both None None same = tt
   after_both (Some d) (Some e) same = after_alike d e same
   after_both None (Some e) same = absurd same
   after_both (Some d) None same = absurd same
 
-pub steps_alike : (p : Numbered) (q : Program) → Mirrors p q → Settling p.root → (s : State) (c : Control) (t : ℕ) → Corresponds p s c → Both (Corresponds p) (step p t s) (step_of_nodes q t c)
+pub steps_alike : (p : Numbered) (q : Program) → Mirrors p q → Settling p.root → (s : State) (c : Control) (t : ℕ) → Corresponds p s c
+    → Both (Corresponds p) (step p t s) (step_of_nodes q t c)
 steps_alike p q graph settling s c t h =
     let is : control_of s ≡ c = corresponds_is p s c h in
     let here : Corresponds p s (control_of s) = subst (λ c. Corresponds p s c) (sym is) h in

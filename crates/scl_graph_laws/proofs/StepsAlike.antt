@@ -38,13 +38,15 @@ module _ (p : Numbered) (q : Program) (graph : Mirrors p q) where
   first_access : (t : ℕ) (todo : Block) → Place p.root t todo → IsStep todo → access_of (Todo todo) ≡ accesses q (number (Some todo))
   first_access t (End n) place is = node_access n t node_step.Exit (graph.nodes t (End n) place)
   first_access t (Assign n x e rest) place is =
-      access_of_assigns x (assignment_of x e) (leads p.root rest) ∙ node_access n t (assigns x (assignment_of x e) (leads p.root rest)) (graph.nodes t (Assign n x e rest) place)
+      access_of_assigns x (assignment_of x e) (leads p.root rest) ∙ node_access n t (assigns x (assignment_of x e) (leads p.root rest))
+      (graph.nodes t (Assign n x e rest) place)
   first_access t (Label name rest) place is = absurd is
   first_access t (Goto g name rest) place is = absurd is
   first_access t (Pause n rest) place is =
       let nodes : HasNodes q n t (node_step.Surf (suc n)) (node_step.Depth (leads p.root rest)) = graph.nodes t (Pause n rest) place in
       node_access n t (node_step.Surf (suc n)) nodes.first
-  first_access t (If n e a b rest) place is = node_access n t (node_step.Cond (postorder e) (leads p.root (before a rest)) (leads p.root (before b rest))) (graph.nodes t (If n e a b rest) place)
+  first_access t (If n e a b rest) place is = node_access n t (node_step.Cond (postorder e) (leads p.root (before a rest)) (leads p.root (before b rest)))
+      (graph.nodes t (If n e a b rest) place)
   first_access t (Fork n branches rest) place is =
       let has : HasFork q n t (threads_of branches) (leads p.root rest) = graph.nodes t (Fork n branches rest) place in
       node_access n t (node_step.Fork (threads_of branches) (suc n)) has.nodes.first
@@ -79,12 +81,16 @@ module _ (p : Numbered) (q : Program) (graph : Mirrors p q) where
 
   apart : (t u a : ℕ) → ForkedApart p.root t u a → NodesApart q t u a
   apart t u a h =
-      let has : HasFork q h.fork a (threads_of h.branches) (leads p.root h.is_fork.rest) = graph.nodes a (Fork h.fork h.branches h.is_fork.rest) h.is_fork.place in
+      let has : HasFork q h.fork a (threads_of h.branches) (leads p.root h.is_fork.rest) = graph.nodes a (Fork h.fork h.branches h.is_fork.rest) h.is_fork.place
+      in
       record {
         fork = h.fork;
         children = threads_of h.branches;
         join = suc h.fork;
-        is_fork = record { owned = ap (option_map (λ x. x.owner)) has.nodes.first.is; forks = step_is q h.fork a (node_step.Fork (threads_of h.branches) (suc h.fork)) has.nodes.first };
+        is_fork = record {
+          owned = ap (option_map (λ x. x.owner)) has.nodes.first.is;
+          forks = step_is q h.fork a (node_step.Fork (threads_of h.branches) (suc h.fork)) has.nodes.first;
+        };
         left = h.left;
         right = h.right;
         left_child = h.left_branch;
@@ -112,7 +118,8 @@ module _ (p : Numbered) (q : Program) (graph : Mirrors p q) where
 
   module _ (settling : Settling p.root) where
     enabled : (s : State) (c : Control) (t : ℕ) → Corresponds p s c → is_ready s (doing s t) ≡ is_enabled q c t
-    enabled s c t h = subst (λ c. is_ready s (doing s t) ≡ is_enabled q c t) (corresponds_is p s c h) (enabled_alike p q graph settling s h.kinds t (h.places t))
+    enabled s c t h = subst (λ c. is_ready s (doing s t) ≡ is_enabled q c t) (corresponds_is p s c h)
+        (enabled_alike p q graph settling s h.kinds t (h.places t))
 
     access : (s : State) (c : Control) (t : ℕ) → Corresponds p s c → access_of (doing s t) ≡ access_at q (status_of c t)
     access s c t h =

@@ -38,7 +38,8 @@ module _ (q : Program) (n t : ℕ) where
   is_a_join next h = and_both (owns q t n) (is_join_step (step_at q n)) (owned q n t (step.Join next) h) (ap is_join_step (has_step q n t (step.Join next) h))
 
   pub is_a_depth : (next : ℕ) → HasNode q n t (step.Depth next) → is_depth q t n ≡ true
-  is_a_depth next h = and_both (owns q t n) (is_depth_step (step_at q n)) (owned q n t (step.Depth next) h) (ap is_depth_step (has_step q n t (step.Depth next) h))
+  is_a_depth next h = and_both (owns q t n) (is_depth_step (step_at q n)) (owned q n t (step.Depth next) h)
+      (ap is_depth_step (has_step q n t (step.Depth next) h))
 
 ordinary : (x : ℕ) (a : Assignment) (next : ℕ) → is_ordinary_step (Some (assigns x a next)) ≡ true
 ordinary x (Inits e) next = refl
@@ -47,7 +48,8 @@ ordinary x (Combines f e) next = refl
 -- the node of a statement is one to which a step may go
 pub target_at : (q : Program) (root : Block) (t : ℕ) (todo : Block) → IsStep todo → HasFirst q root t todo → is_target q t (number (Some todo)) ≡ true
 target_at q root t (End n) is h = is_a_target q n t step.Exit h refl
-target_at q root t (Assign n x e rest) is h = is_a_target q n t (assigns x (assignment_of x e) (leads root rest)) h (ordinary x (assignment_of x e) (leads root rest))
+target_at q root t (Assign n x e rest) is h = is_a_target q n t (assigns x (assignment_of x e) (leads root rest)) h
+    (ordinary x (assignment_of x e) (leads root rest))
 target_at q root t (Label name rest) is h = absurd is
 target_at q root t (Goto g name rest) is h = absurd is
 target_at q root t (Pause n rest) is h = is_a_target q n t (step.Surf (suc n)) h.first refl

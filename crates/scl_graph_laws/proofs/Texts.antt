@@ -22,7 +22,8 @@ text_is_whole variables p h =
     record {
       threads = omega (arith, below);
       end = h.ends (at_first p) last ∙ omega (arith, own);
-      numbers = numbered_at (p.made (at_first p) last) 0 1 (suc p.counts.nodes) 0 1 (suc (own_count (p.made (at_first p) last))) refl refl (omega (arith, own)) (h.numbered (at_first p) last tt);
+      numbers = numbered_at (p.made (at_first p) last) 0 1 (suc p.counts.nodes) 0 1 (suc (own_count (p.made (at_first p) last))) refl refl (omega (arith, own))
+          (h.numbered (at_first p) last tt);
     }
 
 pub all_run_on : (statements : List Statement) → AllRunOn (pieces_of statements)

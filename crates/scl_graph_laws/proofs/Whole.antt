@@ -1,5 +1,6 @@
 -- The program of a numbered text is its graph.
-use Rattle.std.proofs.Common.{◌≡◌, ℕ, zero, suc, ◌+◌, Bool, true, false, nat_eq, eq-eqb, eqb-true, Option, Some, None, List, [], ◌∷◌, length, slice_get, option_map, option_and_then, Contains, ⊎_elim, if◌then◌else◌, refl, sym, ap, subst, ◌∙◌, arith}
+use Rattle.std.proofs.Common.{◌≡◌, ℕ, zero, suc, ◌+◌, Bool, true, false, nat_eq, eq-eqb, eqb-true, Option, Some, None, List, [], ◌∷◌, length, slice_get}
+use Rattle.std.proofs.Common.{option_map, option_and_then, Contains, ⊎_elim, if◌then◌else◌, refl, sym, ap, subst, ◌∙◌, arith}
 use Rattle.std.proofs.lemmas.Option.{none-some, same_Some}
 use Rattle.sc_graph.specs.declared.program.Node.{Node}
 use Rattle.sc_graph.specs.declared.program.Thread.{Thread}
@@ -51,7 +52,8 @@ other_join root n j x comes differ = by x.step refl
 own_join : (t j : ℕ) (children : List ℕ) (x : Node) → x ≡ node t (step.Fork children j) → joined_by j x.step ≡ Some children
 own_join t j children x is = ap (λ x. joined_by j x.step) is ∙ ap (λ b. if b then Some children else None) (eq-eqb j j refl)
 
-find_join : (root : Block) (nodes : List Node) (n i j t : ℕ) (children : List ℕ) → EachAt (Comes root) n nodes → j ≡ suc (n + i) → slice_get nodes i ≡ Some (node t (step.Fork children j)) → joined_among j nodes ≡ Some children
+find_join : (root : Block) (nodes : List Node) (n i j t : ℕ) (children : List ℕ) → EachAt (Comes root) n nodes → j ≡ suc (n + i) → slice_get nodes i
+    ≡ Some (node t (step.Fork children j)) → joined_among j nodes ≡ Some children
 find_join root [] n i j t children each is there = absurd (none-some _ there)
 find_join root (x ∷ nodes) n zero j t children each is there = ap (λ o. first_of o (joined_among j nodes)) (own_join t j children x (same_Some x _ there))
 find_join root (x ∷ nodes) n (suc i) j t children each is there =
@@ -102,7 +104,8 @@ module _ (p : Numbered) (is_whole : IsWhole p) where
 
   exit : HasNode q (end root) 0 step.Exit
   exit =
-      let stands : StandAt q.nodes (0 + length (own to 0 root (goes.At (end root)))) (node 0 step.Exit ∷ []) = stand_second q.nodes 0 (own to 0 root (goes.At (end root))) (node 0 step.Exit ∷ []) root_stands in
+      let stands : StandAt q.nodes (0 + length (own to 0 root (goes.At (end root)))) (node 0 step.Exit ∷ []) = stand_second q.nodes 0
+      (own to 0 root (goes.At (end root))) (node 0 step.Exit ∷ []) root_stands in
       record { is = ap (slice_get q.nodes) (plus (own_length to 0 root (goes.At (end root)))) ∙ stands.0 }
     where
       plus : length (own to 0 root (goes.At (end root))) ≡ own_count root → end root ≡ 0 + length (own to 0 root (goes.At (end root)))
@@ -133,8 +136,11 @@ module _ (p : Numbered) (is_whole : IsWhole p) where
       plus e = omega (arith, e)
 
   pub each_thread : (Q : ℕ → Thread → Type 0) → OfThreads root Q → Q 0 (thread to None root) → EachAt Q 0 q.threads
-  each_thread Q of first =
-      (first, forked_each to root Q of 0 root (End (end root)) 0 1 (suc (own_count root)) (omega arith) is_whole.numbers (subst (Place root 0) (sym (before_end root)) whole))
+  each_thread Q of first = (
+    first,
+    forked_each to root Q of 0 root (End (end root)) 0 1 (suc (own_count root)) (omega arith) is_whole.numbers
+        (subst (Place root 0) (sym (before_end root)) whole),
+  )
 
   forks_come : EachAt (Comes root) 0 q.nodes
   forks_come = each_node (Comes root) (nodes_come root)
@@ -172,10 +178,12 @@ module _ (p : Numbered) (is_whole : IsWhole p) where
       plus : (u : ℕ) → 0 + u ≡ u
       plus u = omega arith
 
-  fork_at : (n t : ℕ) (children : List ℕ) (join : ℕ) (o : Option Node) → slice_get q.nodes n ≡ o → option_map (λ x. x.owner) o ≡ Some t → option_map (λ x. x.step) o ≡ Some (step.Fork children join) → ForkPlace root t children
+  fork_at : (n t : ℕ) (children : List ℕ) (join : ℕ) (o : Option Node) → slice_get q.nodes n ≡ o → option_map (λ x. x.owner) o ≡ Some t
+      → option_map (λ x. x.step) o ≡ Some (step.Fork children join) → ForkPlace root t children
   fork_at n t children join None there owner forks = absurd (none-some t owner)
   fork_at n t children join (Some x) there owner forks =
-      let from : ComesFromFork root (0 + n) x children join = each_at (Comes root) 0 q.nodes n x forks_come there children join (same_Some x.step (step.Fork children join) forks) in
+      let from : ComesFromFork root (0 + n) x children join = each_at (Comes root) 0 q.nodes n x forks_come there children join
+      (same_Some x.step (step.Fork children join) forks) in
       subst (λ t. ForkPlace root t children) (same_Some x.owner t owner) from.place
 
   pub mirrors : Mirrors p q

@@ -30,9 +30,11 @@ pub record Keeps (p : Numbered) (q : Program) : Type 0 where
   -- before the first tick
   pub begins : Corresponds p (initial p) (initial_of_nodes q)
   -- as a tick starts
-  pub starts : (inputs : Inputs) (s : State) (c : Control) → AreAccepted q inputs → Corresponds p s c → Corresponds p (start p inputs s) (start_of_nodes q inputs c)
+  pub starts : (inputs : Inputs) (s : State) (c : Control) → AreAccepted q inputs → Corresponds p s c
+      → Corresponds p (start p inputs s) (start_of_nodes q inputs c)
   -- within a tick
   pub goes_on : RunsAlike (machine p) (machine_of_nodes q) (Corresponds p)
   -- over every list of ticks by accepted inputs
-  pub over_ticks : (ticks : List (Inputs × List ℕ)) → ((i : ℕ) (inputs : Inputs) (run : List ℕ) → slice_get ticks i ≡ Some (inputs, run) → AreAccepted q inputs) →
-      Both (Corresponds p) (after_ticks (machine p) (start p) ticks (initial p)) (after_ticks (machine_of_nodes q) (start_of_nodes q) ticks (initial_of_nodes q))
+  pub over_ticks : (ticks : List (Inputs × List ℕ)) → ((i : ℕ) (inputs : Inputs) (run : List ℕ) → slice_get ticks i ≡ Some (inputs, run) → AreAccepted q inputs)
+      → Both (Corresponds p) (after_ticks (machine p) (start p) ticks (initial p))
+      (after_ticks (machine_of_nodes q) (start_of_nodes q) ticks (initial_of_nodes q))

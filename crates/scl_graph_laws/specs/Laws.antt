@@ -26,7 +26,8 @@ pub record ProgramsKeepRuns : Type 0 where
 -- it is formed, where it has no more nodes and threads than an image may: it keeps the size rule, the budget aside, and
 -- the structure rule
 abbrev pub ProgramsAreFormed : Type 0
-ProgramsAreFormed = (p : Scl) → KeepsRules p.name p.variables p.body → HasNoEmptyLoop (numbered p).root → FitsImage (counts_in p) → IsFormed (program_of (numbered p))
+ProgramsAreFormed = (p : Scl) → KeepsRules p.name p.variables p.body → HasNoEmptyLoop (numbered p).root → FitsImage (counts_in p)
+    → IsFormed (program_of (numbered p))
 
 -- the rules about the codes and the assignments of steps are kept at each place
 pub record KeepsStepRules (q : Program) : Type 0 where

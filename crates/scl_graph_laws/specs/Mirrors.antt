@@ -54,7 +54,8 @@ pub record Mirrors (p : Numbered) (q : Program) : Type 0 where
   pub threads : length q.threads ≡ p.threads
   pub root : entry_of q 0 ≡ Some (leads p.root p.root)
   pub nodes : (t : ℕ) (todo : Block) → Place p.root t todo → HasFirst q p.root t todo
-  pub entries : (t n u : ℕ) (branches : Branches) (body rest : Block) → Place p.root t (Fork n branches rest) → IsBranch branches u body → entry_of q u ≡ Some (leads p.root body)
+  pub entries : (t n u : ℕ) (branches : Branches) (body rest : Block) → Place p.root t (Fork n branches rest) → IsBranch branches u body
+      → entry_of q u ≡ Some (leads p.root body)
   -- the tree of threads, there and back
   pub parents : (u t : ℕ) → IsChild p.root u t → parent_of q u ≡ Some t
   pub children : (u t : ℕ) → parent_of q u ≡ Some t → IsChild p.root u t

@@ -12,7 +12,8 @@ pub second_levels : (level : ℕ) (p q : Part) → HasLevels level (both p q) �
 second_levels level p q h = record { own = omega (arith, h.own); lower = omega (arith, h.lower) }
 
 -- of the branches behind the first
-pub later_branches : (level count : ℕ) (b : List Part) (branches : List (List Part)) → HasLevels level (forked count (side_by_side (b ∷ branches))) → HasLevels level (forked count (side_by_side branches))
+pub later_branches : (level count : ℕ) (b : List Part) (branches : List (List Part)) → HasLevels level (forked count (side_by_side (b ∷ branches)))
+    → HasLevels level (forked count (side_by_side branches))
 later_branches level count b branches h = record { own = omega (arith, h.own); lower = omega (arith, h.lower) }
 
 -- ---- within a program
@@ -27,7 +28,8 @@ levels_are p forks ifs = record { own = omega (arith, forks, ifs); lower = omega
 levels_prop : (level : ℕ) (p : Part) → IsProp (HasLevels level p)
 levels_prop level p a b = λ i. record { own = le_prop a.own b.own i; lower = le_prop a.lower b.lower i }
 
-pub program_levels : (name : List ℕ) (variables : List Variable) (body : List Statement) → ∥ KeepsRules name variables body ∥₁ → HasLevels 1 (in_row (map part_of body))
+pub program_levels : (name : List ℕ) (variables : List Variable) (body : List Statement) → ∥ KeepsRules name variables body ∥₁
+    → HasLevels 1 (in_row (map part_of body))
 program_levels name variables body kept =
     let At : List Part → Type 0 = λ ps. HasLevels 1 (in_row ps) in
     ∥∥₁_elim kept (levels_prop 1 (in_row (map part_of body)))

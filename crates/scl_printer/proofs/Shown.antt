@@ -22,7 +22,8 @@ enclosed_written false a b c d text p q r =
     subst At (append-nil text) (follows a b d [] (text ++ []) p (follows b c d text [] q r))
 
 -- an operand, in parentheses where it stands in some
-pub operand_written : (parentheses : Parentheses) (takes_not : Bool) (s : Shown) (inner : Bool) (a b c d : Page) → inner ≡ is_enclosed parentheses takes_not s.form
+pub operand_written : (parentheses : Parentheses) (takes_not : Bool) (s : Shown) (inner : Bool) (a b c d : Page)
+    → inner ≡ is_enclosed parentheses takes_not s.form
     → Writes a b (when inner (codes "(")) → Writes b c s.text → Writes c d (when inner (codes ")")) → Writes a d (operand parentheses takes_not s)
 operand_written parentheses takes_not s inner a b c d is p q r =
     let At : Bool → Type 0 = λ i. Writes a d (enclosed_if i s.text) in
@@ -38,7 +39,8 @@ deeper n = deeper_suc n ∙ ap indentation (let e : suc n ≡ n + 1 = omega arit
 
 -- ---- statements
 
-pub text_of_assign : (variables : List Variable) (x : ℕ) (e : Expr) → statement_text variables (statement.Assign x e) ≡ statement_step variables (text.Assign x e)
+pub text_of_assign : (variables : List Variable) (x : ℕ) (e : Expr) → statement_text variables (statement.Assign x e)
+    ≡ statement_step variables (text.Assign x e)
 text_of_assign variables x e =
     ap (statement_text variables) (sym (rolls-Assign x e)) ∙ fold-roll-Statement Piece (statement_step variables) (text.Assign x e)
 
@@ -56,7 +58,8 @@ text_of_fork variables branches =
     ap (statement_text variables) (sym (rolls-Fork branches)) ∙ fold-roll-Statement Piece (statement_step variables) (text.Fork branches)
 
 -- statements on the next level
-row_is : (variables : List Variable) (statements : List Statement) (level : ℕ) → statements_text variables statements level ≡ in_row (map (statement_text variables) statements) level
+row_is : (variables : List Variable) (statements : List Statement) (level : ℕ) → statements_text variables statements level
+    ≡ in_row (map (statement_text variables) statements) level
 row_is variables [] level = refl
 row_is variables (s ∷ statements) level = ap (λ xs. statement_text variables s level ++ xs) (row_is variables statements level)
 
@@ -68,6 +71,7 @@ inner_row variables statements others level same =
     ∙ ap (in_row (map (statement_text variables) statements)) (let e : level + 1 ≡ suc level = omega arith in e)
 
 pub else_is : (variables : List Variable) (statements : List Statement) (level : ℕ)
-    → when (has_any statements) (line (codes "} else {") level) ++ in_row (map (statement_text variables) statements) (suc level) ≡ else_text (map (statement_text variables) statements) level
+    → when (has_any statements) (line (codes "} else {") level) ++ in_row (map (statement_text variables) statements) (suc level)
+    ≡ else_text (map (statement_text variables) statements) level
 else_is variables [] level = refl
 else_is variables (s ∷ statements) level = refl

@@ -1,5 +1,6 @@
 -- A text that is written piece by piece.
-use Rattle.std.proofs.Common.{◌≡◌, ℕ, zero, suc, ◌+◌, ◌<◌, true, false, if◌then◌else◌, Option, None, Some, Result, Ok, Err, OnOk, OnErr, List, [], ◌∷◌, ◌++◌, take, drop, length, get_or, refl, sym, subst, ap, ◌∙◌, append_assoc, arith, add-one, drop-cons}
+use Rattle.std.proofs.Common.{◌≡◌, ℕ, zero, suc, ◌+◌, ◌<◌, true, false, if◌then◌else◌, Option, None, Some, Result, Ok, Err, OnOk, OnErr, List, [], ◌∷◌, ◌++◌}
+use Rattle.std.proofs.Common.{take, drop, length, get_or, refl, sym, subst, ap, ◌∙◌, append_assoc, arith, add-one, drop-cons}
 use Rattle.std.proofs.lemmas.List.{append-nil}
 use Rattle.std.proofs.Math.Seq.{take-append_seam}
 use Rattle.std.proofs.KnownBytes.{Appends-nil}
@@ -100,7 +101,8 @@ blank p none fine = record {
 }
 
 -- a whole text was written, and then nothing but what was held
-pub printed : (old between new : Page) (text : List ℕ) → old.held ≡ [] → old.failed ≡ false → Writes old between text → Writes between new [] → Bears old.taken old.failures text new
+pub printed : (old between new : Page) (text : List ℕ) → old.held ≡ [] → old.failed ≡ false → Writes old between text → Writes between new []
+    → Bears old.taken old.failures text new
 printed old between new text none fine written passed =
     written_as old new (text ++ []) text (append-nil text) (follows old between new text [] written passed) old.taken old.failures [] (blank old none fine)
 

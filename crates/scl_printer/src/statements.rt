@@ -25,7 +25,8 @@ pub(crate) fn write_statements<W: Sink>(
 )
     requires { HasLevels level (in_row (map part_of statements.now)) }
     ensures { Writes (page (W.taken sink.old) (W.failures sink.old) buffered.old)
-        (page (W.taken sink.new) (W.failures sink.new) buffered.new) (statements_text variables.now statements.now level) }
+        (page (W.taken sink.new) (W.failures sink.new) buffered.new)
+        (statements_text variables.now statements.now level) }
 {
     for statement in statements {
         write_statement(buffered, sink, variables, statement, level);
@@ -43,7 +44,8 @@ fn write_statement<W: Sink>(
 )
     requires { HasLevels level (part_of statement.now) }
     ensures { Writes (page (W.taken sink.old) (W.failures sink.old) buffered.old)
-        (page (W.taken sink.new) (W.failures sink.new) buffered.new) (statement_text variables.now statement.now level) }
+        (page (W.taken sink.new) (W.failures sink.new) buffered.new)
+        (statement_text variables.now statement.now level) }
 {
     match statement {
         Statement::Assign { variable, value } => {

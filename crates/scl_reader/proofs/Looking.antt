@@ -1,7 +1,7 @@
 -- What each statement of a draft is, its names looked up.
 use Rattle.std.proofs.Common.{◌≡◌, ◌≤◌, ℕ, List, [], ◌∷◌, ◌++◌, drop, length, map, refl, sym, ap, ◌∙◌}
 use Rattle.std.proofs.lemmas.List.{append-nil}
-use Rattle.drafts.proofs.Flawed.{drop_past}
+use Rattle.drafts.proofs.PartsInOrder.{drop_past}
 use Rattle.drafts.specs.declared.parts.Named.{Named}
 use Rattle.drafts.specs.declared.parts.TextExpression.{TextExpression}
 use Rattle.drafts.specs.Resolved.{number_of, expression_of}
@@ -15,7 +15,8 @@ use Rattle.scl_drafts.specs.declared.statement.TextStatement.TheFolds.{fold-roll
 use Rattle.scl_reader.specs.Resolved.{resolved, statement_of, statements_of, branches_of}
 
 module _ (names : List (List ℕ)) where
-  pub of_assign : (target : Named) (e : TextExpression) → statement_of names (written.Assign target e) ≡ statement.Assign (number_of names target.name) (expression_of names e.operations)
+  pub of_assign : (target : Named) (e : TextExpression) → statement_of names (written.Assign target e)
+      ≡ statement.Assign (number_of names target.name) (expression_of names e.operations)
   of_assign target e = ap (statement_of names) (sym (rolls-Assign target e)) ∙ fold-roll-TextStatement Statement (resolved names) (text.Assign target e)
 
   pub of_label : (label : Named) → statement_of names (written.Label label) ≡ statement.Label label.name
@@ -27,10 +28,12 @@ module _ (names : List (List ℕ)) where
   pub of_pause : statement_of names written.Pause ≡ statement.Pause
   of_pause = ap (statement_of names) (sym rolls-Pause) ∙ fold-roll-TextStatement Statement (resolved names) text.Pause
 
-  pub of_if : (e : TextExpression) (first second : List TextStatement) → statement_of names (written.If e first second) ≡ statement.If (expression_of names e.operations) (statements_of names first) (statements_of names second)
+  pub of_if : (e : TextExpression) (first second : List TextStatement) → statement_of names (written.If e first second)
+      ≡ statement.If (expression_of names e.operations) (statements_of names first) (statements_of names second)
   of_if e first second = ap (statement_of names) (sym (rolls-If e first second)) ∙ fold-roll-TextStatement Statement (resolved names) (text.If e first second)
 
-  rows : (branches : List (ℕ × List TextStatement)) → map (λ (b : ℕ × List Statement). b.1) (map (λ (b : ℕ × List TextStatement). (b.0, map (statement_of names) b.1)) branches) ≡ branches_of names branches
+  rows : (branches : List (ℕ × List TextStatement))
+      → map (λ (b : ℕ × List Statement). b.1) (map (λ (b : ℕ × List TextStatement). (b.0, map (statement_of names) b.1)) branches) ≡ branches_of names branches
   rows [] = refl
   rows (b ∷ branches) = ap (λ more. statements_of names b.1 ∷ more) (rows branches)
 
@@ -41,7 +44,8 @@ module _ (names : List (List ℕ)) where
 
   -- all branches were looked up, of a statement that forks them
   pub fork_looked : (items branches : List (ℕ × List TextStatement)) (i : ℕ) (all : List (List Statement)) (s : TextStatement) → length items ≤ i
-      → all ++ branches_of names (drop i items) ≡ branches_of names items → items ≡ branches → s ≡ written.Fork branches → statement.Fork all ≡ statement_of names s
+      → all ++ branches_of names (drop i items) ≡ branches_of names items → items ≡ branches → s ≡ written.Fork branches → statement.Fork all
+      ≡ statement_of names s
   fork_looked items branches i all s past done same is =
       ap statement.Fork
       (sym (append-nil all) ∙ sym (ap (λ rest. all ++ branches_of names rest) (drop_past items i past)) ∙ done ∙ ap (branches_of names) same)

@@ -1,5 +1,6 @@
 -- What is known of a piece of a thread's text, its names looked up, and how pieces come together.
-use Rattle.std.proofs.Common.{◌≡◌, ℕ, suc, ◌+◌, ◌≤◌, max, Bool, true, false, not, Option, Some, None, List, [], ◌∷◌, ◌++◌, slice_get, refl, ap, sym, ◌∙◌, arith, if◌then◌else◌}
+use Rattle.std.proofs.Common.{◌≡◌, ℕ, suc, ◌+◌, ◌≤◌, max, Bool, true, false, not, Option, Some, None, List, [], ◌∷◌, ◌++◌, slice_get, refl, ap, sym, ◌∙◌, arith}
+use Rattle.std.proofs.Common.{if◌then◌else◌}
 use Rattle.std.specs.Prelude.{◌||◌}
 use Rattle.std.specs.Option.{is_some}
 use Rattle.std.specs.List.{filter}
@@ -118,10 +119,21 @@ pub ruled_nothing : (V : List Declaration) → Ruled V rules.nothing
 ruled_nothing V = record { lost = refl; assigned = tt; tests = tt; forks = tt }
 
 pub keeps_nothing : (V : List Declaration) → Keeps V flaws.nothing shapes.nothing rules.nothing
-keeps_nothing V = record { labels = refl; gotos = refl; counted = λ n. refl; named = refl; lower = refl; ifs = refl; lower_ifs = refl; depth = refl; ruled = λ sound. ruled_nothing V }
+keeps_nothing V = record {
+  labels = refl;
+  gotos = refl;
+  counted = λ n. refl;
+  named = refl;
+  lower = refl;
+  ifs = refl;
+  lower_ifs = refl;
+  depth = refl;
+  ruled = λ sound. ruled_nothing V;
+}
 
 -- further flaws of a piece
-pub keeps_flaws : (V : List Declaration) (fs : List Flaw) (q : flaws.Part) (h : shapes.Shape) (p : rules.Part) → Keeps V q h p → Keeps V (flaws.both (flaws.only_flaws fs) q) h p
+pub keeps_flaws : (V : List Declaration) (fs : List Flaw) (q : flaws.Part) (h : shapes.Shape) (p : rules.Part) → Keeps V q h p
+    → Keeps V (flaws.both (flaws.only_flaws fs) q) h p
 keeps_flaws V fs q h p a = record {
   labels = a.labels;
   gotos = a.gotos;
@@ -152,7 +164,9 @@ none_lost : (labels : List (List ℕ)) (gotos : List Named) → lost labels goto
 none_lost labels [] e = refl
 none_lost labels (g ∷ gotos) e =
     let here : is_among labels g.name ≡ true =
-    not_false (is_among labels g.name) (no_flaw (not (is_among labels g.name)) broken.Unknown g.at (none_first (flaw_if (not (is_among labels g.name)) broken.Unknown g.at) (lost labels gotos) e)) in
+    not_false (is_among labels g.name)
+    (no_flaw (not (is_among labels g.name)) broken.Unknown g.at
+    (none_first (flaw_if (not (is_among labels g.name)) broken.Unknown g.at) (lost labels gotos) e)) in
     let found : is_in labels g.name ≡ true = sym (among_in labels g.name) ∙ here in
     ap (λ b. if not b then g.name ∷ filter (is_lost labels) (names gotos) else filter (is_lost labels) (names gotos)) found
     ∙ none_lost labels gotos (none_second (flaw_if (not (is_among labels g.name)) broken.Unknown g.at) (lost labels gotos) e)
@@ -160,10 +174,16 @@ none_lost labels (g ∷ gotos) e =
 module _ (V : List Declaration) (q : flaws.Part) (h : shapes.Shape) (p : rules.Part) (a : Keeps V q h p) where
   thread_ruled : Sound (flaws.thread q) (shapes.thread h) → Ruled V (rules.thread p)
   thread_ruled sound =
-      let inner : Sound q h = record { flawless = none_first q.flaws (lost (names q.labels) q.gotos) sound.flawless; writable = sound.writable; branches = sound.branches } in
+      let inner : Sound q h = record {
+        flawless = none_first q.flaws (lost (names q.labels) q.gotos) sound.flawless;
+        writable = sound.writable;
+        branches = sound.branches;
+      } in
       let r : Ruled V p = a.ruled inner in
-      let found : filter (is_lost (names q.labels)) (names q.gotos) ≡ [] = none_lost (names q.labels) q.gotos (none_second q.flaws (lost (names q.labels) q.gotos) sound.flawless) in
-      let same : filter (is_lost p.labels) p.gotos ≡ [] = ap (λ ls. filter (is_lost ls) p.gotos) a.labels ∙ ap (filter (is_lost (names q.labels))) a.gotos ∙ found in
+      let found : filter (is_lost (names q.labels)) (names q.gotos)
+      ≡ [] = none_lost (names q.labels) q.gotos (none_second q.flaws (lost (names q.labels) q.gotos) sound.flawless) in
+      let same : filter (is_lost p.labels) p.gotos ≡ [] = ap (λ ls. filter (is_lost ls) p.gotos) a.labels ∙ ap (filter (is_lost (names q.labels))) a.gotos
+      ∙ found in
       record {
         lost = no_more (filter (is_lost p.labels) p.gotos) p.lost same r.lost;
         assigned = r.assigned;

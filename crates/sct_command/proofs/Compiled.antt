@@ -37,6 +37,7 @@ refuses files middle after from to old new image (fault.Play f cause) same is ke
 refuses files middle after from to old new image fault.Tests same is keeps = absurd keeps
 
 pub refuses_compile : {T : Type 0} (files middle after : Option Contents) (from to : List ℕ) (old new : Option (List ℕ)) (image : Image) (r : Result T Fault)
-    → middle ≡ files → IsCompiledFrom files from image → IfErr r (RefusesKeeping image middle after to old new) → IfErr r (RefusesCompile files after from to old new)
+    → middle ≡ files → IsCompiledFrom files from image → IfErr r (RefusesKeeping image middle after to old new)
+    → IfErr r (RefusesCompile files after from to old new)
 refuses_compile files middle after from to old new image (Ok done) same is keeps = tt
 refuses_compile files middle after from to old new image (Err f) same is keeps = refuses files middle after from to old new image f same is keeps

@@ -1,9 +1,8 @@
 pub mod Compiled
-pub mod Cores
-pub mod Drawn
 pub mod Simulated
 pub mod States
 pub mod Taken
 pub mod Tests
 pub mod Told
 pub mod Wanted
+pub mod Written

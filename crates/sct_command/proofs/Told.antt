@@ -11,7 +11,8 @@ use Rattle.command_files.specs.Files.{Contents, HasBytes}
 use Rattle.command_files.specs.Sources.{FileLacksCompiled, FileLacksProgram, SpellsImage, BytesLackCompiled}
 use Rattle.sct_command.specs.Explaining.{FindsImage, IsTold, RefusesExplaining, RefusesFound, WritesFound}
 
-told : (files : Option Contents) (name : List ℕ) (old new : Option (List ℕ)) (f : LoadFault) (r : Fault) → FileLacksCompiled files name f → IsTold name f old new r → RefusesExplaining files name old new r
+told : (files : Option Contents) (name : List ℕ) (old new : Option (List ℕ)) (f : LoadFault) (r : Fault) → FileLacksCompiled files name f
+    → IsTold name f old new r → RefusesExplaining files name old new r
 told files name old new f (fault.Files load.Memory) why is = is
 told files name old new f fault.Write why is = inr (record { fault = f; none = why; told = is })
 told files name old new f (fault.Files (load.Image g)) why (same, some) = (subst (FileLacksCompiled files name) (sym same) why, some)
@@ -24,7 +25,8 @@ told files name old new f (fault.Play g cause) why is = absurd is
 told files name old new f fault.Tests why is = absurd is
 
 -- a file that is no source
-pub told_source : (files : Option Contents) (name : List ℕ) (old new : Option (List ℕ)) (f : LoadFault) (r : Fault) → FileLacksProgram files name f → IsTold name f old new r → RefusesExplaining files name old new r
+pub told_source : (files : Option Contents) (name : List ℕ) (old new : Option (List ℕ)) (f : LoadFault) (r : Fault) → FileLacksProgram files name f
+    → IsTold name f old new r → RefusesExplaining files name old new r
 told_source files name old new f r why is = told files name old new f r (inl why) is
 
 -- bytes that spell no image
@@ -38,7 +40,8 @@ quiet_bytes bytes (load.Text g) why = refl
 quiet_bytes bytes (load.Program g) why = refl
 quiet_bytes bytes (load.Source g) why = refl
 
-pub told_bytes : (files : Option Contents) (name bytes : List ℕ) (old new : Option (List ℕ)) (f : LoadFault) (r : Fault) → HasBytes files name bytes → BytesLackCompiled bytes f → IsTold name f old new r → RefusesExplaining files name old new r
+pub told_bytes : (files : Option Contents) (name bytes : List ℕ) (old new : Option (List ℕ)) (f : LoadFault) (r : Fault) → HasBytes files name bytes
+    → BytesLackCompiled bytes f → IsTold name f old new r → RefusesExplaining files name old new r
 told_bytes files name bytes old new f r held why is = told files name old new f r (no_compiled files name bytes f held why) is
 
 -- bytes that spell one

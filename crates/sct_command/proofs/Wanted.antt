@@ -30,7 +30,8 @@ pub is_refused : (files files' : Option Contents) (request asked : Option Reques
     → request ≡ asked → given ≡ wanted → Refuses files files' asked input old new f → CountsFiles asked f missed missed'
     → reads' ≡ reads + reads_failed f → writes' ≡ writes + writes_failed f → TellsFault f given told told' failures failures'
     → IsRefused files files' request input old new wanted missed missed' reads reads' writes writes' told told' failures failures'
-is_refused files files' request asked input old new wanted given missed missed' reads reads' writes writes' told told' failures failures' f same is why counts read write tells =
+is_refused files files' request asked input old new wanted given missed missed' reads reads' writes writes' told told' failures failures' f same is why counts
+    read write tells =
     record {
       fault = f;
       why = subst (λ r. Refuses files files' r input old new f) (sym same) why;

@@ -10,32 +10,23 @@ use Rattle.line_causes.specs.declared.cause.Cause.{Cause}
 use Rattle.trace_player.specs.declared.player.PlayFault.{PlayFault}
 use Rattle.command_files.specs.Files.{Contents, Stores}
 use Rattle.command_files.specs.Images.{IsLoaded, FileLacksImage}
-use Rattle.command_words.specs.Request.{Request, Check, Run, RunWithStates, Compile, CompileToOutput, Print, PrintCore, Migrate, MigrateToOutput, ListNodes, ListPlaces, Explain, Draw, Test, Simulate}
+use Rattle.command_texts.specs.Wanted.{IsMadeFor, LacksWanted}
+use Rattle.command_words.specs.Request.{Request, Write, Run, RunWithStates, Compile, Print, Migrate, Explain, Test, Simulate}
 use Rattle.sct_command.specs.Sources.{Compiles, PrintsText, RefusesCompile, RefusesPrinting}
 use Rattle.command_files.specs.Storing.{IsNotStored}
-use Rattle.sct_command.specs.Drawing.{Draws, RefusesDrawing}
-use Rattle.sct_command.specs.Emitting.{CompilesToOutput, MigratesToOutput, RefusesCompileToOutput, RefusesMigrationToOutput}
 use Rattle.sct_command.specs.Explaining.{FindsImage, RefusesExplaining}
 use Rattle.sct_command.specs.Failing.{files_failed, reads_failed, writes_failed}
-use Rattle.sct_command.specs.Listing.{ListsNodes, ListsPlaces, RefusesListing, RefusesPlaces}
-use Rattle.sct_command.specs.PrintingCore.{PrintsCore, RefusesCore}
 use Rattle.sct_command.specs.Simulating.{RefusesSimulation, Simulates}
-use Rattle.sct_command.specs.Summary.{summary_of}
+use Rattle.command_texts.specs.Summary.{summary_of}
 use Rattle.sct_command.specs.TellingStates.{PlaysStates, RefusesStates}
 use Rattle.sct_command.specs.Testing.{RefusesTests, TestsPass}
-use Rattle.sct_command.specs.Writing.{WritesPart, WritesText}
+use Rattle.sct_command.specs.Writing.{RefusesToWrite, Writes, WritesPart, WritesText}
 use Rattle.sct_command.specs.Words.{IsMet, TellsLines, fault_line}
 use Rattle.trace_player.specs.Trace.{Plays, Good, Leaves}
 use Rattle.sct_command.specs.declared.fault.Fault.{Fault}
 use Rattle.sct_command.specs.declared.fault.Fault.TheVariants as fault
 
 -- ---- what was done
-
--- the summary of the image in this file was written
-pub record SumsUp (files : Option Contents) (name : List ℕ) (old new : Option (List ℕ)) : Type 0 where
-  pub image : Image
-  pub loaded : IsLoaded files name image
-  pub written : Appends old new (summary_of image)
 
 -- the whole trace of the input by the image in this file was written
 pub record PlaysWhole (files : Option Contents) (name : List ℕ) (input old new : Option (List ℕ)) : Type 0 where
@@ -53,35 +44,23 @@ pub record Migrates (files files' : Option Contents) (from to : List ℕ) (old n
   pub stored : Stores files files' to bytes
   pub written : Appends old new (summary_of image)
 
--- what was done for a request: a summary, a whole trace, without active states or with them, an image in a file or on
--- the output, a text, that of a core chart, an image in version 2, a listing, a summary of what compiles, a drawing,
--- tests that pass, a controller that was stepped, or for none the help
+-- what was done for a request: a text or the bytes of an image, a whole trace, without active states or with them, an
+-- image in a file, a text of SCL, an image in version 2, a summary of what compiles, tests that pass, a controller that
+-- was stepped, or for none the help
 abbrev pub Does : Option Contents → Option Contents → Option Request → Option (List ℕ) → Option (List ℕ)
     → Option (List ℕ) → Type 0
-Does files files' (Some (Check name)) input old new = SumsUp files name old new
+Does files files' (Some (Write wanted)) input old new = Writes (IsMadeFor files wanted) old new
 Does files files' (Some (Run name workers)) input old new = PlaysWhole files name input old new
 Does files files' (Some (RunWithStates name chart)) input old new = PlaysStates files name chart input old new
 Does files files' (Some (Compile from to)) input old new = Compiles files files' from to old new
-Does files files' (Some (CompileToOutput from)) input old new = CompilesToOutput files from old new
 Does files files' (Some (Print name)) input old new = PrintsText files name old new
-Does files files' (Some (PrintCore name)) input old new = PrintsCore files name old new
 Does files files' (Some (Migrate from to)) input old new = Migrates files files' from to old new
-Does files files' (Some (MigrateToOutput from)) input old new = MigratesToOutput files from old new
-Does files files' (Some (ListNodes name)) input old new = ListsNodes files name old new
-Does files files' (Some (ListPlaces name source)) input old new = ListsPlaces files name source old new
 Does files files' (Some (Explain name)) input old new = FindsImage files name old new
-Does files files' (Some (Draw name)) input old new = Draws files name old new
 Does files files' (Some (Test names)) input old new = TestsPass files names old new
 Does files files' (Some (Simulate name)) input old new = Simulates files name
 Does files files' None input old new = WritesText old new
 
 -- ---- what was refused
-
--- a beginning of the summary of the image in this file was written
-pub record SumsUpPart (files : Option Contents) (name : List ℕ) (old new : Option (List ℕ)) : Type 0 where
-  pub image : Image
-  pub loaded : IsLoaded files name image
-  pub in_part : GrowsInto old new (summary_of image)
 
 -- what the player leaves that refuses the input of the image in this file, and the cause that is known of it
 pub record StopsPlaying (files : Option Contents) (name : List ℕ) (input old new : Option (List ℕ))
@@ -90,12 +69,6 @@ pub record StopsPlaying (files : Option Contents) (name : List ℕ) (input old n
   pub loaded : IsLoaded files name image
   pub leaves : Leaves image input old new f
   pub met : IsMet image.program.variables input f cause
-
--- what a check leaves that is refused: nothing was written, but where the output failed
-abbrev pub RefusesCheck : Option Contents → List ℕ → Option (List ℕ) → Option (List ℕ) → Fault → Type 0
-RefusesCheck files name old new fault.Write = SumsUpPart files name old new
-RefusesCheck files name old new (fault.Files f) = FileLacksImage files name f × (new ≡ old)
-RefusesCheck files name old new other = ⊥
 
 -- what a run leaves that is refused: nothing was written, but what the player left
 abbrev pub RefusesRun : Option Contents → List ℕ → Option (List ℕ) → Option (List ℕ) → Option (List ℕ) → Fault → Type 0
@@ -137,19 +110,13 @@ RefusesPlaying image input old new other = ⊥
 -- what a request leaves that is refused for this fault
 abbrev pub Refuses : Option Contents → Option Contents → Option Request → Option (List ℕ) → Option (List ℕ)
     → Option (List ℕ) → Fault → Type 0
-Refuses files files' (Some (Check name)) input old new f = RefusesCheck files name old new f
+Refuses files files' (Some (Write wanted)) input old new f = RefusesToWrite (IsMadeFor files wanted) (LacksWanted files wanted) old new f
 Refuses files files' (Some (Run name workers)) input old new f = RefusesRun files name input old new f
 Refuses files files' (Some (RunWithStates name chart)) input old new f = RefusesStates files name chart input old new f
 Refuses files files' (Some (Compile from to)) input old new f = RefusesCompile files files' from to old new f
-Refuses files files' (Some (CompileToOutput from)) input old new f = RefusesCompileToOutput files from old new f
 Refuses files files' (Some (Print name)) input old new f = RefusesPrinting files name old new f
-Refuses files files' (Some (PrintCore name)) input old new f = RefusesCore files name old new f
 Refuses files files' (Some (Migrate from to)) input old new f = RefusesMigration files files' from to old new f
-Refuses files files' (Some (MigrateToOutput from)) input old new f = RefusesMigrationToOutput files from old new f
-Refuses files files' (Some (ListNodes name)) input old new f = RefusesListing files name old new f
-Refuses files files' (Some (ListPlaces name source)) input old new f = RefusesPlaces files name source old new f
 Refuses files files' (Some (Explain name)) input old new f = RefusesExplaining files name old new f
-Refuses files files' (Some (Draw name)) input old new f = RefusesDrawing files name old new f
 Refuses files files' (Some (Test names)) input old new f = RefusesTests files names old new f
 Refuses files files' (Some (Simulate name)) input old new f = RefusesSimulation files name old new f
 Refuses files files' None input old new f = RefusesHelp old new f

@@ -11,7 +11,7 @@ use Rattle.command_files.specs.Sources.{IsCompiledFrom, FileLacksCompiled}
 use Rattle.compiler.specs.FaultText.{fault_text}
 use Rattle.diagnostics.specs.Reports.{Tells, text_fault}
 use Rattle.warning_texts.specs.Reports as warned
-use Rattle.sct_command.specs.Summary.{summary_of}
+use Rattle.command_texts.specs.Summary.{summary_of}
 use Rattle.sct_command.specs.Writing.{WritesPart, WritesSome}
 use Rattle.sct_command.specs.declared.fault.Fault.{Fault}
 use Rattle.sct_command.specs.declared.fault.Fault.TheVariants as fault

@@ -1,15 +1,10 @@
 pub mod Answer
-pub mod Drawing
-pub mod Emitting
 pub mod Explaining
 pub mod Failing
 pub mod FaultText
 pub mod Keeping
-pub mod Listing
-pub mod PrintingCore
 pub mod Simulating
 pub mod Sources
-pub mod Summary
 pub mod TellingStates
 pub mod Testing
 pub mod Words

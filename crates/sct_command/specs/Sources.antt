@@ -9,7 +9,7 @@ use Rattle.bytecode.specs.Spells.{Spells}
 use Rattle.command_files.specs.Files.{Contents, Stores}
 use Rattle.command_files.specs.Sources.{IsCompiledFrom, FileLacksCompiled, FileLacksProgram, IsSource}
 use Rattle.command_files.specs.Storing.{IsNotStored}
-use Rattle.sct_command.specs.Summary.{summary_of}
+use Rattle.command_texts.specs.Summary.{summary_of}
 use Rattle.sct_command.specs.declared.fault.Fault.{Fault}
 use Rattle.sct_command.specs.declared.fault.Fault.TheVariants as fault
 

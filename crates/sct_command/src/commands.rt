@@ -10,21 +10,17 @@ ghost use Rattle.sct_command.specs.FaultText.{fault_text};
 ghost use Rattle.sct_command.specs.Words.{TellsLines, fault_line};
 ghost use Rattle.sct_command.specs.Writing.{WritesText, WritesPart};
 
-use crate::check::check;
-use crate::compile::{compile, compile_to_output};
-use crate::draw::draw;
+use crate::compile::compile;
 use crate::explain::explain;
 use crate::fault::Fault;
-use crate::list::list;
-use crate::list_places::list_places;
-use crate::migrate::{migrate, migrate_to_output};
+use crate::migrate::migrate;
 use crate::print::print_text;
-use crate::print_core::print_core;
 use crate::run::run;
 use crate::run_with_states::run_with_states;
 use crate::simulate::simulate_file;
 use crate::test::test_files;
 use crate::words::behind_line;
+use crate::writing::write_wanted;
 use command_files::{Files, LoadFault};
 use command_words::{Request, Unread, read_words};
 use sc_values::{Sink, Source, write_all};
@@ -135,21 +131,15 @@ fn perform<T: Threads + Wait + Sync, F: Files, R: Source, W: Sink>(
         (F.failures files.old) (F.failures files.new)) }
 {
     match request {
-        Request::Check(name) => check(alloc, name, files, output),
+        Request::Write(asked) => write_wanted(alloc, asked, files, output),
         Request::Run(name, workers) => run(rt, alloc, name, workers, wanted, files, input, output),
         Request::RunWithStates(name, chart) => {
             run_with_states(alloc, name, chart, wanted, files, input, output)
         }
         Request::Compile(from, to) => compile(alloc, from, to, files, output),
-        Request::CompileToOutput(from) => compile_to_output(alloc, from, files, output),
         Request::Print(name) => print_text(alloc, name, files, output),
-        Request::PrintCore(name) => print_core(alloc, name, files, output),
         Request::Migrate(from, to) => migrate(alloc, from, to, files, output),
-        Request::MigrateToOutput(from) => migrate_to_output(alloc, from, files, output),
-        Request::ListNodes(name) => list(alloc, name, files, output),
-        Request::ListPlaces(name, source) => list_places(alloc, name, source, files, output),
         Request::Explain(name) => explain(alloc, name, files, output),
-        Request::Draw(name) => draw(alloc, name, files, output),
         Request::Test(names) => test_files(alloc, names, files, output),
         Request::Simulate(name) => simulate_file(alloc, name, files, input, output),
     }

@@ -9,12 +9,13 @@ ghost use Rattle.sct_command.specs.Explaining.{IsFound, RefusesFound, WritesFoun
 ghost use Rattle.sct_command.specs.Failing.{files_failed, reads_failed, writes_failed};
 
 use crate::fault::Fault;
-use crate::summary::summary_of;
 use bytecode::Image;
 use command_files::{Files, LoadFault, bytes_of, compile_bytes, shown_name, text_of};
+use command_texts::summary_of;
 use diagnostics::{program_fault_explained, text_fault_explained, told_nowhere};
 use sc_text::ReadFault;
 use sc_values::{Sink, write_all};
+use sqlite_items::Boxed;
 use std::alloc::{AllocError, Global};
 use std::str;
 use warning_texts::warnings_told;
@@ -180,7 +181,10 @@ pub(crate) fn explain<F: Files, W: Sink>(
         Err(fault) => return Err(refused(alloc, name, b"", fault, output)),
     };
     match compile_bytes(alloc, &bytes) {
-        Ok(image) => tell_found(alloc, name, &bytes, image.image(), output),
+        Ok(image) => {
+            let image = Boxed::new(alloc, image)?;
+            tell_found(alloc, name, &bytes, image.get().image(), output)
+        }
         Err(fault) => Err(refused(alloc, name, &bytes, fault, output)),
     }
 }

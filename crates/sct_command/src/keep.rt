@@ -5,9 +5,9 @@ ghost use Rattle.sct_command.specs.Failing.{files_failed, reads_failed, writes_f
 ghost use Rattle.sct_command.specs.Keeping.{KeepsImage, RefusesKeeping};
 
 use crate::fault::Fault;
-use crate::summary::summary_of;
 use bytecode::encode;
 use command_files::{Files, store};
+use command_texts::summary_of;
 use sc_values::{Sink, write_all};
 use std::alloc::Global;
 use verifier::Verified;

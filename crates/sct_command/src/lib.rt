@@ -3,26 +3,20 @@
 //! anew.
 #![tactic(auto)]
 
-mod check;
 mod commands;
 mod compile;
-mod draw;
-mod emit;
 mod explain;
 mod fault;
 mod fault_text;
 mod keep;
-mod list;
-mod list_places;
 mod migrate;
 mod print;
-mod print_core;
 mod run;
 mod run_with_states;
 mod simulate;
-mod summary;
 mod test;
 mod words;
+mod writing;
 
 pub use command_files::{FileFault, Files, HostFiles, LoadFault, load_verified, one_line};
 pub use commands::{DONE, MISUSED, REFUSED, command};

@@ -2,10 +2,8 @@
 
 ghost use Rattle.std.specs.Prelude.{◌≡◌, ◌+◌, IfErr, OnOk};
 ghost use Rattle.sct_command.specs.Answer.{Migrates, RefusesMigration};
-ghost use Rattle.sct_command.specs.Emitting.{MigratesToOutput, RefusesMigrationToOutput};
 ghost use Rattle.sct_command.specs.Failing.{files_failed, reads_failed, writes_failed};
 
-use crate::emit::emit_image;
 use crate::fault::Fault;
 use crate::keep::keep_image;
 use command_files::{Files, load_verified};
@@ -33,28 +31,5 @@ pub(crate) fn migrate<F: Files, W: Sink>(
     ensures missed { IfErr result (λ fault. F.failures files.new ≡ F.failures files.old + files_failed fault) }
 {
     let image = load_verified(alloc, files, from)?;
-    keep_image(alloc, &image, to, files, output)
-}
-
-/// Writes the image in a file to the output, in version 2 of the layout, once it is verified. Err: there is no valid
-/// image in the file; or the output failed.
-pub(crate) fn migrate_to_output<F: Files, W: Sink>(
-    alloc: Global,
-    from: &str,
-    files: &mut F,
-    output: &mut W,
-) -> Result<(), Fault>
-    ensures done { OnOk result
-        (MigratesToOutput (F.contents files.old) from.now (W.taken output.old) (W.taken output.new)) }
-    ensures refused { IfErr result
-        (RefusesMigrationToOutput (F.contents files.old) from.now (W.taken output.old) (W.taken output.new)) }
-    ensures none_failed { OnOk result (W.failures output.new ≡ W.failures output.old) }
-    ensures failed { IfErr result (λ fault. W.failures output.new ≡ W.failures output.old + writes_failed fault) }
-    ensures files { F.contents files.new ≡ F.contents files.old }
-    ensures unread { IfErr result (λ fault. reads_failed fault ≡ 0) }
-    ensures none_missed { OnOk result (F.failures files.new ≡ F.failures files.old) }
-    ensures missed { IfErr result (λ fault. F.failures files.new ≡ F.failures files.old + files_failed fault) }
-{
-    let image = load_verified(alloc, files, from)?;
-    emit_image(alloc, &image, output)
+    keep_image(alloc, image.get(), to, files, output)
 }

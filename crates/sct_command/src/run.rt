@@ -109,7 +109,13 @@ pub(crate) fn run<T: Threads + Wait + Sync, F: Files, R: Source, W: Sink>(
 {
     let image = load_verified(alloc, files, name)?;
     let (played, _given_back) = play_told::<T, R, W, Brand>(
-        rt, alloc, &image, workers, wanted, input, output,
+        rt,
+        alloc,
+        image.get(),
+        workers,
+        wanted,
+        input,
+        output,
     );
     played
 }

@@ -2,7 +2,7 @@
 
 ghost use Rattle.std.specs.Prelude.{◌≡◌, ◌+◌, ℕ, List, IfErr, IfOk, OnOk};
 ghost use Rattle.command_files.specs.Counting as files_count;
-ghost use Rattle.image_charts.specs.Charts.{state_words};
+ghost use Rattle.image_charts.specs.Charts.{IsChartOf, IsNotChartOf, state_words};
 ghost use Rattle.sc_values.specs.Streams.{IsNotReadBehind};
 ghost use Rattle.sct_command.specs.Failing.{files_failed, reads_failed, writes_failed};
 ghost use Rattle.sct_command.specs.TellingStates.{FilesLackStates, HasStates, PlaysStates, RefusesStates, RefusesWords};
@@ -15,6 +15,7 @@ use command_files::{Files, LoadFault, bytes_of, load_verified};
 use image_charts::{ChartStates, chart_of};
 use line_causes::{Lent, OfInput, Recent};
 use sc_values::{Sink, Source};
+use sqlite_items::Boxed;
 use state_traces::play_with;
 use std::alloc::Global;
 use std::marker::Brand;
@@ -55,6 +56,20 @@ fn play_states<'a, R: Source, W: Sink, N: OfInput>(
     (played, source)
 }
 
+/// The states of the chart that the bytes of the file of this name spell, in a box, where this is its image.
+pub(crate) fn boxed_states(
+    alloc: Global,
+    name: &str,
+    bytes: &[u8],
+    image: &Verified,
+) -> Result<Boxed<ChartStates>, LoadFault>
+    ensures found { IfOk result (IsChartOf bytes.now image.now) }
+    ensures lacks { IfErr result (IsNotChartOf name.now bytes.now image.now) }
+{
+    let states = chart_of(alloc, name, bytes, image)?;
+    Ok(Boxed::new(alloc, states)?)
+}
+
 // The image in one file, and in the other the chart from which it was compiled, with its states. Err: there is no valid
 // image in the first file, or the second has not its chart.
 #[tactic(auto, using(crate::proofs::States::no_image, crate::proofs::States::unread, crate::proofs::States::quiet, crate::proofs::States::another_behind, crate::proofs::States::has))]
@@ -63,7 +78,7 @@ fn load_states<F: Files>(
     name: &str,
     chart: &str,
     files: &mut F,
-) -> Result<(Verified, ChartStates), LoadFault>
+) -> Result<(Boxed<Verified>, Boxed<ChartStates>), LoadFault>
     ensures loaded { IfOk result (λ r. HasStates (F.contents files.old) name.now chart.now r.0 r.1) }
     ensures lacks { IfErr result (FilesLackStates (F.contents files.old) name.now chart.now) }
     ensures same { F.contents files.new ≡ F.contents files.old }
@@ -73,7 +88,7 @@ fn load_states<F: Files>(
 {
     let image = load_verified(alloc, files, name)?;
     let bytes = bytes_of(alloc, files, chart)?;
-    let states = chart_of(alloc, chart, &bytes, &image)?;
+    let states = boxed_states(alloc, chart, &bytes, image.get())?;
     Ok((image, states))
 }
 
@@ -130,5 +145,5 @@ pub(crate) fn run_with_states<F: Files, R: Source, W: Sink>(
     ensures missed { IfErr result (λ fault. F.failures files.new ≡ F.failures files.old + files_failed fault) }
 {
     let (image, states) = load_states(alloc, name, chart, files)?;
-    play_beside(alloc, &image, &states, wanted, input, output)
+    play_beside(alloc, image.get(), states.get(), wanted, input, output)
 }

@@ -9,11 +9,13 @@ ghost use Rattle.sct_command.specs.Failing.{files_failed, reads_failed, writes_f
 ghost use Rattle.sct_command.specs.Simulating.{LacksModel, RefusesSimulation, Simulates};
 
 use crate::fault::Fault;
+use crate::run_with_states::boxed_states;
 use command_files::{Files, LoadFault, bytes_of, compile_bytes};
-use image_charts::{ChartStates, chart_of};
+use image_charts::ChartStates;
 use sc_text::{Language, language_of};
 use sc_values::{Sink, Source};
 use simulation::simulate;
+use sqlite_items::Boxed;
 use std::alloc::Global;
 use std::str;
 use verifier::Verified;
@@ -25,7 +27,7 @@ fn states_in(
     name: &str,
     bytes: &[u8],
     image: &Verified,
-) -> Result<Option<ChartStates>, LoadFault>
+) -> Result<Option<Boxed<ChartStates>>, LoadFault>
     ensures lacks { IfErr result (IsNotChartOf name.now bytes.now image.now) }
     ensures missed { IfErr result (λ fault. files_count.files_failed fault ≡ 0) }
 {
@@ -33,7 +35,7 @@ fn states_in(
         return Ok(None);
     };
     match language_of(text) {
-        Language::Chart => Ok(Some(chart_of(alloc, name, bytes, image)?)),
+        Language::Chart => Ok(Some(boxed_states(alloc, name, bytes, image)?)),
         Language::Scl => Ok(None),
     }
 }
@@ -45,7 +47,7 @@ fn load_model<F: Files>(
     alloc: Global,
     name: &str,
     files: &mut F,
-) -> Result<(Verified, Option<ChartStates>), LoadFault>
+) -> Result<(Boxed<Verified>, Option<Boxed<ChartStates>>), LoadFault>
     ensures loaded { IfOk result (λ r. IsCompiledFrom (F.contents files.old) name.now r.0) }
     ensures lacks { IfErr result (LacksModel (F.contents files.old) name.now) }
     ensures same { F.contents files.new ≡ F.contents files.old }
@@ -54,9 +56,18 @@ fn load_model<F: Files>(
         ≡ F.failures files.old + files_count.files_failed fault) }
 {
     let bytes = bytes_of(alloc, files, name)?;
-    let image = compile_bytes(alloc, &bytes)?;
-    let states = states_in(alloc, name, &bytes, &image)?;
+    let compiled = compile_bytes(alloc, &bytes)?;
+    let image = Boxed::new(alloc, compiled)?;
+    let states = states_in(alloc, name, &bytes, image.get())?;
     Ok((image, states))
+}
+
+// The states that a box holds, where there is one.
+fn held(states: &Option<Boxed<ChartStates>>) -> Option<&ChartStates> {
+    match states {
+        Some(states) => Some(states.get()),
+        None => None,
+    }
 }
 
 /// Steps the controller in this file by hand, and answers each line of the input before the next one is read. Err:
@@ -81,7 +92,7 @@ pub(crate) fn simulate_file<F: Files, R: Source, W: Sink>(
     ensures missed { IfErr result (λ fault. F.failures files.new ≡ F.failures files.old + files_failed fault) }
 {
     let (image, states) = load_model(alloc, name, files)?;
-    match simulate(alloc, &image, states.as_ref(), input, output) {
+    match simulate(alloc, image.get(), held(&states), input, output) {
         Ok(()) => Ok(()),
         Err(fault) => Err(Fault::Play(fault, None)),
     }

@@ -2,6 +2,9 @@
 
 ghost use Rattle.std.specs.Prelude.{◌≡◌, ◌+◌, ◌≤◌, IfErr, IfNone, IfOk, IfSome, MatchBool, OnOk, false};
 ghost use Rattle.std.specs.Prelude.{length, map, string_bytes};
+ghost use Rattle.command_files.specs.Files.{HasBytes};
+ghost use Rattle.command_files.specs.Images.{FileLacksImage};
+ghost use Rattle.controller_tests.specs.Names.{beside};
 ghost use Rattle.controller_tests.specs.Outcome.{Passes};
 ghost use Rattle.sct_command.specs.Failing.{files_failed, reads_failed, writes_failed};
 ghost use Rattle.sct_command.specs.Testing.{FailsTest, IsFailed, IsTest, LacksTest, PassesTest};
@@ -11,6 +14,7 @@ use crate::fault::Fault;
 use command_files::{Files, LoadFault, bytes_of, load_compiled, shown_name};
 use controller_tests::{Difference, Outcome, beside, difference_told, test_controller};
 use sc_values::{Sink, write_all};
+use sqlite_items::Boxed;
 use std::alloc::{AllocError, Global};
 use trace_player::PlayFault;
 use verifier::Verified;
@@ -18,9 +22,26 @@ use verifier::Verified;
 // The image of a controller, its ticks, and the trace that is wanted of them.
 #[derive(Drop)]
 struct Test {
-    image: Verified,
+    image: Boxed<Verified>,
     ticks: Vec<u8>,
     wanted: Vec<u8>,
+}
+
+// The bytes of the file beside this one whose name ends so. Err: it could not be read; or memory was refused.
+fn bytes_beside<F: Files>(
+    alloc: Global,
+    name: &str,
+    ending: &str,
+    files: &mut F,
+) -> Result<Vec<u8>, LoadFault>
+    ensures bytes { IfOk result (λ bytes. HasBytes (F.contents files.old) (beside name.now ending.now) bytes.items) }
+    ensures fault { IfErr result (FileLacksImage (F.contents files.old) (beside name.now ending.now)) }
+    ensures same { F.contents files.new ≡ F.contents files.old }
+    ensures none_missed { OnOk result (F.failures files.new ≡ F.failures files.old) }
+    ensures missed { F.failures files.old ≤ F.failures files.new }
+{
+    let other = beside(alloc, name, ending)?;
+    bytes_of(alloc, files, other.as_str())
 }
 
 // The test of the controller in the file of this name. Err: there is no image of it, or no file beside it.
@@ -33,10 +54,8 @@ fn load_test<F: Files>(alloc: Global, name: &str, files: &mut F) -> Result<Test,
     ensures missed { F.failures files.old ≤ F.failures files.new }
 {
     let image = load_compiled(alloc, files, name)?;
-    let ticks_name = beside(alloc, name, ".ticks")?;
-    let ticks = bytes_of(alloc, files, ticks_name.as_str())?;
-    let trace_name = beside(alloc, name, ".trace")?;
-    let wanted = bytes_of(alloc, files, trace_name.as_str())?;
+    let ticks = bytes_beside(alloc, name, ".ticks", files)?;
+    let wanted = bytes_beside(alloc, name, ".trace", files)?;
     Ok(Test {
         image,
         ticks,
@@ -81,7 +100,7 @@ fn tried(alloc: Global, name: &str, test: &Test) -> Result<Option<String>, Alloc
     ensures fails { IfOk result (λ said. IfSome said
         (λ _. IsFailed test.now.image test.now.ticks.items test.now.wanted.items)) }
 {
-    match test_controller(alloc, &test.image, &test.ticks, &test.wanted)? {
+    match test_controller(alloc, test.image.get(), &test.ticks, &test.wanted)? {
         Outcome::Passed => Ok(None),
         Outcome::Differs(difference) => Ok(Some(difference_said(alloc, name, &difference)?)),
         Outcome::Stops(fault) => Ok(Some(fault_said(alloc, name, fault)?)),

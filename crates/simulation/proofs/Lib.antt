@@ -1,3 +1,6 @@
 mod Doing
 mod Histories
 mod Reading
+mod Shown
+mod Split
+mod Turns

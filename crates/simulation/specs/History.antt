@@ -42,9 +42,18 @@ pub record Plays (old new : History) (line : List ℕ) : Type 0 where
   pub leads : Leads old.image (present old) line control
   pub is : new ≡ record old { ticks = old.ticks ++ record { line = line; control = control } ∷ [] }
 
+-- the lines of ticks, as a run reads them
+abbrev pub lines_text : List Played → List ℕ
+lines_text [] = []
+lines_text (tick ∷ ticks) = tick.line ++ (10 ∷ lines_text ticks)
+
 -- one tick back, where there is one
 abbrev pub undone : History → History
 undone h = record h { ticks = take (length h.ticks - 1) h.ticks }
+
+-- before the first tick of an image
+abbrev pub begun : Image → History
+begun image = record { image = image; ticks = [] }
 
 -- back to the beginning
 abbrev pub begun_anew : History → History

@@ -1,7 +1,7 @@
 //! The ticks that were played.
 
-ghost use Rattle.std.specs.Prelude.{◌≡◌, ◌++◌, ◌∷◌, [], OnOk, OnErr};
-ghost use Rattle.simulation.specs.History.{behind};
+ghost use Rattle.std.specs.Prelude.{◌≡◌, ◌++◌, ◌∷◌, [], IfOk, OnOk, OnErr};
+ghost use Rattle.simulation.specs.History.{behind, lines_text};
 
 use sc_graph::Control;
 use sqlite_items::Items;
@@ -38,4 +38,16 @@ pub(crate) fn push(
     let line = Items::from_slice(alloc, line)?;
     ticks.push(Played { line, control })?;
     Ok(())
+}
+
+/// The lines of ticks, as a run reads them.
+pub(crate) fn lines_of(alloc: Global, ticks: &[Played]) -> Result<Vec<u8>, AllocError>
+    ensures { IfOk result (λ text. text.items ≡ lines_text ticks.now) }
+{
+    let mut text = Vec::new(alloc);
+    for tick in ticks {
+        text.extend_from_slice(tick.line.as_slice())?;
+        text.push(b'\n')?;
+    }
+    Ok(text)
 }

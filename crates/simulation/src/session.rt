@@ -1,9 +1,9 @@
 //! A session: an image that is stepped by hand.
 
-ghost use Rattle.std.specs.Prelude.{◌≡◌, [], IfOk, OnOk, OnErr};
+ghost use Rattle.std.specs.Prelude.{◌≡◌, IfOk, OnOk, OnErr};
 ghost use Rattle.std.specs.Result.{IsErrOf};
 ghost use Rattle.trace_player.specs.Trace.{GivesNoInputs, IsNoObject};
-ghost use Rattle.simulation.specs.History.{Plays, begun_anew, present, undone};
+ghost use Rattle.simulation.specs.History.{IsHistory, Plays, begun, begun_anew, present, undone};
 
 use crate::history::{Played, behind, push};
 use crate::reacting::react;
@@ -39,7 +39,7 @@ impl<'x> Model for Session<'x> {
 impl<'x> Session<'x> {
     /// Before the first tick.
     pub fn new(alloc: Global, verified: &'x Verified) -> Result<Session<'x>, AllocError>
-        ensures { IfOk result (λ s. s ≡ record { image = verified.now; ticks = [] }) }
+        ensures { IfOk result (λ s. s ≡ begun verified.now) }
     {
         let program = verified.image().program();
         let first = Control::initial(alloc, program)?;
@@ -54,7 +54,8 @@ impl<'x> Session<'x> {
 
     /// The present configuration.
     pub fn control(&self) -> &Control
-        ensures { result.now ≡ present self.now }
+        ensures here { result.now ≡ present self.now }
+        ensures history { IsHistory self.now.image self.now.ticks }
     {
         behind(&self.first, &self.ticks)
     }

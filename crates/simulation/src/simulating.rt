@@ -1,12 +1,17 @@
 //! A session from line to line.
 
-ghost use Rattle.std.specs.Prelude.{◌≡◌, ◌≢◌, ◌+◌, ◌↔◌, true, false, IsTrue, IfOk, IsErrOf};
+ghost use Rattle.std.specs.Prelude.{◌≡◌, ◌≢◌, ◌+◌, ◌↔◌, true, false, IsTrue, IfErr, IfOk, IsErrOf, OnOk};
+ghost use Rattle.std.specs.Io.KnownBytes.{Appends};
 ghost use Rattle.sc_values.specs.Streams.{StaysOpen, IsNotReadBehind};
+ghost use Rattle.trace_lines.specs.Lines.{ahead};
+ghost use Rattle.trace_player.specs.Trace.{next_number};
+ghost use Rattle.simulation.specs.Lines.{AnswersAll, Simulates, Stops};
+ghost use Rattle.simulation.specs.Inside.Turns.{IsUnanswered, Leaves, TurnsTo};
 
 use crate::answering::answer;
 use crate::session::Session;
+use crate::states::States;
 use sc_values::{Sink, Source, write_all};
-use state_traces::Words;
 use std::alloc::Global;
 use trace_lines::{LineEnd, Lines, LinesFault};
 use trace_player::PlayFault;
@@ -20,26 +25,38 @@ fn goes_on(end: LineEnd) -> bool
 }
 
 // Writes an answer. Whether the sink took it whole.
-fn write<K: Sink>(sink: &mut K, text: &str) -> bool
+fn write<K: Sink>(sink: &mut K, text: &[u8]) -> bool
+    ensures whole { result ≡ true → Appends (K.taken sink.old) (K.taken sink.new) text.now }
     ensures none_failed { result ≡ true → K.failures sink.new ≡ K.failures sink.old }
     ensures failed { result ≡ false → K.failures sink.new ≡ K.failures sink.old + 1 }
 {
-    match write_all(sink, text.as_bytes()) {
+    match write_all(sink, text) {
         Ok(()) => true,
         Err(_) => false,
     }
 }
 
+const GREETING: &str = "type help to be told what can be said\n";
+
+// The number of the line behind the one of this number, which counts up to the greatest.
+fn next_number(number: u64) -> u64
+    ensures { result ≡ next_number number }
+{
+    number.saturating_add(1)
+}
+
 /// Steps an image by hand: does what each line of the input says, and answers it before the next one is read, until
 /// one says that this is the end, or behind the last. `NotJson`: the line of this number is too long.
 #[tactic(auto, using(crate::proofs::Reading::not_read))]
-pub fn simulate<S: Source, K: Sink, W: Words>(
+pub fn simulate<S: Source, K: Sink, W: States>(
     alloc: Global,
     image: &Verified,
     states: Option<&W>,
     source: &mut S,
     sink: &mut K,
 ) -> Result<(), PlayFault>
+    ensures done { OnOk result (Simulates image.now (S.to_come source.old) (K.taken sink.old) (K.taken sink.new)) }
+    ensures left { IfErr result (Stops image.now (S.to_come source.old) (K.taken sink.old) (K.taken sink.new)) }
     ensures read { IsErrOf result PlayFault.Read
         → S.failures source.new ≡ S.failures source.old + 1 }
     ensures not_read { result ≢ Err PlayFault.Read
@@ -52,15 +69,15 @@ pub fn simulate<S: Source, K: Sink, W: Words>(
 {
     let mut session = Session::new(alloc, image)?;
     let mut lines = Lines::new(alloc)?;
-    if !write(sink, "type help to be told what can be said\n") {
+    if !write(sink, GREETING.as_bytes()) {
         return Err(PlayFault::Write);
     }
     go_on(alloc, &mut session, states, &mut lines, source, sink)
 }
 
 // Answers the lines of an input, none of which was read.
-#[tactic(auto, using(crate::proofs::Reading::behind_on, crate::proofs::Reading::open_on))]
-fn go_on<S: Source, K: Sink, W: Words>(
+#[tactic(auto, using(crate::proofs::Reading::behind_on, crate::proofs::Reading::open_on, crate::proofs::Turns::at_start, crate::proofs::Turns::one_more, crate::proofs::Turns::has_ended, crate::proofs::Turns::has_stopped))]
+fn go_on<S: Source, K: Sink, W: States>(
     alloc: Global,
     session: &mut Session<'_>,
     states: Option<&W>,
@@ -68,6 +85,10 @@ fn go_on<S: Source, K: Sink, W: Words>(
     source: &mut S,
     sink: &mut K,
 ) -> Result<(), PlayFault>
+    ensures done { OnOk result (AnswersAll session.old (ahead lines.old (S.to_come source.old))
+        (K.taken sink.old) (K.taken sink.new)) }
+    ensures left { IfErr result (Leaves session.old (ahead lines.old (S.to_come source.old))
+        (K.taken sink.old) (K.taken sink.new)) }
     ensures read { IsErrOf result PlayFault.Read
         → S.failures source.new ≡ S.failures source.old + 1 }
     ensures not_read { result ≢ Err PlayFault.Read
@@ -81,7 +102,7 @@ fn go_on<S: Source, K: Sink, W: Words>(
     let mut line = Vec::new(alloc);
     let mut number: u64 = 0;
     for _turn in 0..u128::MAX {
-        number = number.saturating_add(1);
+        number = next_number(number);
         match turn(
             alloc, session, states, lines, &mut line, number, source, sink,
         ) {
@@ -94,7 +115,8 @@ fn go_on<S: Source, K: Sink, W: Words>(
 }
 
 // Reads the line of this number, and answers it. Whether more is to be read.
-fn turn<S: Source, K: Sink, W: Words>(
+#[tactic(auto, using(crate::proofs::Turns::nothing_ahead, crate::proofs::Turns::says_end, crate::proofs::Turns::is_answered))]
+fn turn<S: Source, K: Sink, W: States>(
     alloc: Global,
     session: &mut Session<'_>,
     states: Option<&W>,
@@ -104,6 +126,11 @@ fn turn<S: Source, K: Sink, W: Words>(
     source: &mut S,
     sink: &mut K,
 ) -> Result<bool, PlayFault>
+    ensures done { IfOk result (λ more. TurnsTo more session.old session.new
+        (ahead lines.old (S.to_come source.old)) (ahead lines.new (S.to_come source.new))
+        (K.taken sink.old) (K.taken sink.new)) }
+    ensures left { IfErr result (IsUnanswered number (ahead lines.old (S.to_come source.old))
+        (K.taken sink.old) (K.taken sink.new)) }
     ensures read { IsErrOf result PlayFault.Read
         → S.failures source.new ≡ S.failures source.old + 1 }
     ensures not_read { result ≢ Err PlayFault.Read
@@ -127,7 +154,7 @@ fn turn<S: Source, K: Sink, W: Words>(
         Ok(None) => return Ok(false),
         Err(_) => return Err(PlayFault::Memory),
     };
-    if !write(sink, told.as_str()) {
+    if !write(sink, &told) {
         return Err(PlayFault::Write);
     }
     Ok(goes_on(end))

@@ -1,23 +1,52 @@
-//! What is told of where a session stands. Words for people: contracts do not speak of them.
+//! What is told of where a session stands: the number of its last tick, and words for people, of which contracts do not
+//! speak.
 
-use crate::history::Played;
+ghost use Rattle.std.specs.Prelude.{◌≡◌, IfOk, string_bytes};
+ghost use Rattle.simulation.specs.Commands.{TellsStand, stand_line};
+ghost use Rattle.simulation.specs.Tree.{active_text};
+
 use crate::session::Session;
+use crate::states::States;
+use crate::tree::{put_active, put_tree};
 use sc_graph::{Role, Variable};
 use sc_values::Value;
-use serde_json::Value as Json;
-use state_traces::Words;
 use std::alloc::{AllocError, Global};
-use std::str;
 use tick_core::Control;
 
-/// The number of the last tick, the variables that it changed, and the active states.
-pub(crate) fn told<W: Words>(
+// The line of the number of the last tick.
+fn stand_line(alloc: Global, ticks: usize) -> Result<String, AllocError>
+    ensures { IfOk result (λ text. string_bytes text ≡ stand_line ticks) }
+{
+    match ticks {
+        0 => String::from_str(alloc, "start\n"),
+        _ => format!(in alloc; "tick {ticks}\n"),
+    }
+}
+
+/// The number of the last tick, the variables that it changed, and the states.
+#[tactic(auto, using(crate::proofs::Doing::stands))]
+pub(crate) fn told<W: States>(
+    alloc: Global,
+    session: &Session<'_>,
+    states: Option<&W>,
+) -> Result<Vec<u8>, AllocError>
+    ensures { IfOk result (λ told. TellsStand session.now told.items) }
+{
+    let line = stand_line(alloc, session.ticks().len())?;
+    let more = changes_told(alloc, session, states)?;
+    let mut told = Vec::from_slice(alloc, line.as_bytes())?;
+    told.extend_from_slice(more.as_bytes())?;
+    Ok(told)
+}
+
+// The variables that the last tick changed, and the states.
+fn changes_told<W: States>(
     alloc: Global,
     session: &Session<'_>,
     states: Option<&W>,
 ) -> Result<String, AllocError> {
     let control = session.control();
-    let mut text = head(alloc, session.ticks().len())?;
+    let mut text = String::new(alloc);
     put_changes(
         alloc,
         &mut text,
@@ -27,14 +56,6 @@ pub(crate) fn told<W: Words>(
     )?;
     put_states(alloc, &mut text, states, control)?;
     Ok(text)
-}
-
-fn head(alloc: Global, ticks: usize) -> Result<String, AllocError> {
-    if ticks == 0 {
-        String::from_str(alloc, "start\n")
-    } else {
-        format!(in alloc; "tick {ticks}\n")
-    }
 }
 
 // Puts a line for each variable that is no input and has another value now.
@@ -76,49 +97,33 @@ fn put_value(
     text.push_str(line.as_str())
 }
 
-// Puts a line for each state that the words for a configuration name.
-fn put_states<W: Words>(
+// Puts a line for each state behind a text, with a mark where it is active.
+fn put_states<W: States>(
     alloc: Global,
     text: &mut String,
     states: Option<&W>,
     control: &Control,
 ) -> Result<(), AllocError> {
-    let states = match states {
-        Some(states) => states,
-        None => return Ok(()),
-    };
-    let mut object = Vec::from_slice(alloc, b"{\"tick\":0")?;
-    states.put(alloc, &mut object, control)?;
-    match Json::from_slice(alloc, &object) {
-        Ok(words) => put_paths(text, words.get("states")),
-        Err(error) if error.is_memory() => Err(AllocError),
-        Err(_) => Ok(()),
+    match states {
+        Some(states) => {
+            let active = states.active(alloc, control)?;
+            put_tree(text, states.paths(), active.as_slice())
+        }
+        None => Ok(()),
     }
 }
 
-fn put_paths(text: &mut String, paths: Option<&Json>) -> Result<(), AllocError> {
-    let paths = match paths {
-        Some(Json::Array(paths)) => paths,
-        _ => return Ok(()),
-    };
-    for path in paths {
-        put_path(text, path.as_str().unwrap_or(""))?;
-    }
-    Ok(())
-}
-
-fn put_path(text: &mut String, path: &str) -> Result<(), AllocError> {
-    text.push_str("  in ")?;
-    text.push_str(path)?;
-    text.push_str("\n")
-}
-
-/// The lines of all ticks, as a trace reads them.
-pub(crate) fn lines_of(alloc: Global, ticks: &[Played]) -> Result<String, AllocError> {
+/// A line for each state that is active in a configuration, with its path.
+pub fn active_states_told<W: States>(
+    alloc: Global,
+    states: &W,
+    control: &Control,
+) -> Result<String, AllocError>
+    ensures { IfOk result (λ text. string_bytes text
+        ≡ active_text (W.paths states.now) (W.active states.now control.now)) }
+{
+    let active = states.active(alloc, control)?;
     let mut text = String::new(alloc);
-    for tick in ticks {
-        text.push_str(str::from_utf8(tick.line.as_slice()).unwrap_or(""))?;
-        text.push_str("\n")?;
-    }
+    put_active(&mut text, states.paths(), active.as_slice())?;
     Ok(text)
 }

@@ -1,8 +1,11 @@
 //! What a line says.
 
-ghost use Rattle.std.specs.Prelude.{◌≡◌};
+ghost use Rattle.std.specs.Prelude.{◌≡◌, ◌++◌, ◌∷◌, ℕ, List, IfOk, OnOk, false, string_bytes};
+ghost use Rattle.json.specs.Print.{quoted};
 ghost use Rattle.simulation.specs.Commands.{is_object, said, word_said};
+ghost use Rattle.simulation.specs.Words.{members_of, member_text, name_in, object_of, value_in, words_in};
 
+use crate::cutting::cut;
 use serde_json::Value as Json;
 use std::alloc::{AllocError, Global};
 
@@ -67,26 +70,78 @@ fn word_said(text: &str) -> Command
     }
 }
 
-/// The JSON object of words, each of which is the name of an input, which is true then, or has a value behind `=`.
-pub(crate) fn object_of(alloc: Global, words: &str) -> Result<String, AllocError> {
-    let mut object = String::from_str(alloc, "{")?;
-    for word in words.split_whitespace() {
-        if object.len() > 1 {
-            object.push_str(",")?;
-        }
-        put_member(alloc, &mut object, word)?;
-    }
-    object.push_str("}")?;
-    Ok(object)
+// The JSON text of a name.
+fn quoted(alloc: Global, text: &str) -> Result<String, AllocError>
+    ensures { IfOk result (λ shown. string_bytes shown ≡ quoted text.now) }
+{
+    Json::String(String::from_str(alloc, text)?).to_string(alloc)
 }
 
-fn put_member(alloc: Global, object: &mut String, word: &str) -> Result<(), AllocError> {
-    let (name, value) = match word.split_once('=') {
+// The name of the input that a word gives, and its value.
+#[tactic(auto, using(crate::proofs::Split::parts_split, crate::proofs::Split::parts_whole))]
+fn parts(word: &str) -> (&str, &str)
+    ensures { (result.0.now ≡ name_in word.now) × (result.1.now ≡ value_in word.now) }
+{
+    match cut(word, '=') {
         Some(parts) => parts,
         None => (word, "true"),
-    };
-    let name = Json::String(String::from_str(alloc, name)?).to_string(alloc)?;
+    }
+}
+
+// Puts the member that a word makes behind an object.
+fn put_member(alloc: Global, object: &mut String, word: &str) -> Result<(), AllocError>
+    ensures { OnOk result (string_bytes object.new ≡ string_bytes object.old ++ member_text word.now) }
+{
+    let (name, value) = parts(word);
+    let name = quoted(alloc, name)?;
     object.push_str(name.as_str())?;
     object.push_str(":")?;
     object.push_str(value)
+}
+
+// Puts what a word makes behind an object, and tells whether there is a member now.
+#[tactic(auto, using(crate::proofs::Split::one_word, crate::proofs::Split::no_word))]
+fn put_word(alloc: Global, object: &mut String, word: &str, later: bool) -> Result<bool, AllocError>
+    ensures { IfOk result (λ more. (rest : List (List ℕ)) → string_bytes object.new ++ members_of more rest
+        ≡ string_bytes object.old ++ members_of later (word.now ∷ rest)) }
+{
+    if word.is_empty() {
+        return Ok(later);
+    }
+    if later {
+        object.push_str(",")?;
+    }
+    put_member(alloc, object, word)?;
+    Ok(true)
+}
+
+// Puts what words make behind an object.
+#[tactic(auto, using(crate::proofs::Split::word_put, crate::proofs::Split::last_put, crate::proofs::Split::shorter))]
+fn put_words(alloc: Global, object: &mut String, words: &str) -> Result<(), AllocError>
+    ensures { OnOk result (string_bytes object.new ≡ string_bytes object.old ++ members_of false (words_in words.now)) }
+{
+    let mut rest = words;
+    let mut later = false;
+    loop {
+        match cut(rest, ' ') {
+            Some((word, behind)) => {
+                later = put_word(alloc, object, word, later)?;
+                rest = behind;
+            }
+            None => {
+                let _ = put_word(alloc, object, rest, later)?;
+                return Ok(());
+            }
+        }
+    }
+}
+
+/// The JSON object of words, each of which is the name of an input, which is true then, or has a value behind `=`.
+pub(crate) fn object_of(alloc: Global, words: &str) -> Result<String, AllocError>
+    ensures { IfOk result (λ object. string_bytes object ≡ object_of words.now) }
+{
+    let mut object = String::from_str(alloc, "{")?;
+    put_words(alloc, &mut object, words)?;
+    object.push_str("}")?;
+    Ok(object)
 }

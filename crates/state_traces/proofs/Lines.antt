@@ -19,7 +19,8 @@ regroup a m b s c t e f = simp append_assoc
 told_head : (tick steps : ℕ) (shown more : Members) → told_line tick steps shown more ≡ head tick steps shown ++ (members_text true more ++ 10 ∷ [])
 unfolding serde_json_on_literals
 told_head tick steps shown more =
-    regroup (codes "{\"out\":{") (members_text false shown) (codes ",\"steps\":") (decimal steps) (codes ",\"tick\":") (decimal tick) (members_text true more) (10 ∷ [])
+    regroup (codes "{\"out\":{") (members_text false shown) (codes ",\"steps\":") (decimal steps) (codes ",\"tick\":") (decimal tick) (members_text true more)
+    (10 ∷ [])
 
 plain_head : (tick steps : ℕ) (shown : Members) → tick_line tick steps shown ≡ head tick steps shown ++ 125 ∷ 10 ∷ []
 plain_head tick steps shown = told_head tick steps shown no_members

@@ -58,6 +58,7 @@ states_put line begun listed ended shown ns is_begun is_listed is_ended =
     ∙ regroup line (codes ",\"states\":[") (list_text false shown ns)
 
 pub ended : {A E : Type 0} (r : Result A E) (line begun listed end : List ℕ) (shown : List (List ℕ)) (ns : List ℕ) → begun ≡ line ++ codes ",\"states\":["
-    → listed ++ 93 ∷ [] ≡ begun ++ list_text false shown ns → end ≡ (if is_ok r then listed ++ codes "]}" else listed) → OnOk r (end ≡ line ++ states_text shown ns)
+    → listed ++ 93 ∷ [] ≡ begun ++ list_text false shown ns → end ≡ (if is_ok r then listed ++ codes "]}" else listed)
+    → OnOk r (end ≡ line ++ states_text shown ns)
 ended (Ok a) line begun listed end shown ns is_begun is_listed is_ended = states_put line begun listed end shown ns is_begun is_listed is_ended
 ended (Err e) line begun listed end shown ns is_begun is_listed is_ended = tt

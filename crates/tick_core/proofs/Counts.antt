@@ -39,7 +39,8 @@ module _ (p : Program) (q : Tables) (c : Control) (claims : List (Option Claim))
 
   -- the same of a program, tables and claims that are given twice
   pub sorted_with_at : (rows after_rows : Rows) → AreSorted p q c claims rows → t < length p.threads →
-      (p' : Program) (q' : Tables) (claims' after_claims : List (Option Claim)) → p' ≡ p → q' ≡ q → claims' ≡ after_claims → after_claims ≡ slice_set claims t o →
+      (p' : Program) (q' : Tables) (claims' after_claims : List (Option Claim)) → p' ≡ p → q' ≡ q → claims' ≡ after_claims
+      → after_claims ≡ slice_set claims t o →
       after_rows ≡ sorted_one (ready_row p' q' c claims') rows t → OwnRows p' q' after_rows → AreSorted p q c after_claims after_rows
   sorted_with_at rows after_rows h below p' q' claims' after_claims p_is q_is shown are is own =
       subst (λ xs. AreSorted p q c xs after_rows) (sym are)
@@ -64,7 +65,8 @@ pub claimed_row : (p : Program) (q : Tables) (c : Control) (claims : List (Optio
 claimed_row p q c claims t a below = ap (λ x. unless_claimed x (step_priority p q c t)) (get_set_same claims t (Some a) below)
 
 module _ (s : InTick) (h : Holds s) (count level : ℕ) (at : OpenAt s count level) where
-  pub open_closed : (t less : ℕ) (claims : List (Option Claim)) → claims ≡ slice_set s.claims t None → less ≡ count_by is_some claims → OpenAt (record s { claims = claims }) less level
+  pub open_closed : (t less : ℕ) (claims : List (Option Claim)) → claims ≡ slice_set s.claims t None → less ≡ count_by is_some claims
+      → OpenAt (record s { claims = claims }) less level
   open_closed t less claims are is =
       record { counted = is; level_is = λ u a opened. at.level_is u a (still_open s.claims t u a (sym (ap (λ xs. slice_get xs u) are) ∙ opened)).1 }
 
@@ -105,7 +107,8 @@ module _ (s : InTick) (h : Holds s) (count level : ℕ) (at : OpenAt s count lev
           ∙ (ap (priority_of s.image.tables) (stays u a opened.0 opened.1) ∙ at.level_is u a opened.1)
 
   -- the same of a claim, its thread, rows and a priority that are given twice
-  pub open_opened_at : (t t' : ℕ) (a b : Claim) (more prior : ℕ) → Leads s.image.program s.image.tables s.present t → slice_get s.claims t ≡ Some None → more ≡ count + 1 →
+  pub open_opened_at : (t t' : ℕ) (a b : Claim) (more prior : ℕ) → Leads s.image.program s.image.tables s.present t → slice_get s.claims t ≡ Some None
+      → more ≡ count + 1 →
       t' ≡ t → b ≡ a → prior ≡ priority_of s.image.tables (status_of s.present t') → OpenAt (record s { claims = slice_set s.claims t' (Some b) }) more prior
   open_opened_at t t' a b more prior leads free is t_is b_is prior_is =
       subst (λ n. OpenAt (record s { claims = slice_set s.claims t' (Some b) }) more n) (sym prior_is)
@@ -113,8 +116,10 @@ module _ (s : InTick) (h : Holds s) (count level : ℕ) (at : OpenAt s count lev
       (open_opened t b more leads free is))
 
 -- with a claim opened, its thread stands in no row
-pub sorted_opened : (p : Program) (q : Tables) (c : Control) (claims : List (Option Claim)) (t : ℕ) (a : Claim) (rows after_rows : Rows) → AreSorted p q c claims rows →
-    t < length p.threads → t < length claims → after_rows ≡ record rows { classes = slice_set rows.classes t None } → AreSorted p q c (slice_set claims t (Some a)) after_rows
+pub sorted_opened : (p : Program) (q : Tables) (c : Control) (claims : List (Option Claim)) (t : ℕ) (a : Claim) (rows after_rows : Rows)
+    → AreSorted p q c claims rows →
+    t < length p.threads → t < length claims → after_rows ≡ record rows { classes = slice_set rows.classes t None }
+    → AreSorted p q c (slice_set claims t (Some a)) after_rows
 sorted_opened p q c claims t a rows after_rows h below place is =
     let row_is : ready_row p q c (slice_set claims t (Some a)) t ≡ None = claimed_row p q c claims t a place in
     sorted_with p q c claims t (Some a) rows after_rows h below

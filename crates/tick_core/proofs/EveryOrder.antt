@@ -95,7 +95,8 @@ replays image c s h image_is begun_is =
       within = subst (λ i. length s.history ≤ i.tables.budget) image_is so_far.within;
       defined = subst (λ i. (t : ℕ) → IsEnabled i.program s.present t → IsSome (step i.program t s.present)) image_is (enabled_defined s h);
       leads = λ t a is. subst (λ i. Leads i.program i.tables s.present t) image_is (h.fresh t a is).leads;
-      operands = λ t a is. subst (λ i. a.operands ≡ present_operands s.present.variables (code_at i.program (status_of s.present t))) image_is (h.fresh t a is).operands;
+      operands = λ t a is. subst (λ i. a.operands ≡ present_operands s.present.variables (code_at i.program (status_of s.present t))) image_is
+          (h.fresh t a is).operands;
     }
   where
     so_far : SoFar s s.history

@@ -1,5 +1,6 @@
 -- Pairs of steps that stand in a forbidden order.
-use Rattle.std.proofs.Common.{◌≡◌, ℕ, ◌+◌, ◌<◌, ◌≤◌, ◌⊎◌, inl, inr, Bool, true, false, List, Some, option_map, slice_get, get_or, length, refl, sym, ap, subst, subst₂, ◌∙◌, arith}
+use Rattle.std.proofs.Common.{◌≡◌, ℕ, ◌+◌, ◌<◌, ◌≤◌, ◌⊎◌, inl, inr, Bool, true, false, List, Some, option_map, slice_get, get_or, length, refl, sym, ap, subst}
+use Rattle.std.proofs.Common.{subst₂, ◌∙◌, arith}
 use Rattle.std.specs.Prelude.{◌↔◌, IsTrue, not}
 use Rattle.std.proofs.lemmas.List.{length-map}
 use Rattle.std.proofs.lemmas.Option.{same_Some, slice_get-get_or, slice_get-map, slice_get_within}
@@ -33,7 +34,8 @@ none_more P n none here h below there =
 pub act_here : (p : Program) (steps : List Taken) (i : ℕ) (s : Taken) → slice_get steps i ≡ Some s → slice_get (acts_at p steps) i ≡ Some (act_at p s)
 act_here p steps i s is = slice_get-map (act_at p) steps i ∙ ap (option_map (act_at p)) is
 
-step_here : (p : Program) (steps : List Taken) (i : ℕ) (x : Act) → slice_get (acts_at p steps) i ≡ Some x → (s : Taken) × (slice_get steps i ≡ Some s) × (act_at p s ≡ x)
+step_here : (p : Program) (steps : List Taken) (i : ℕ) (x : Act) → slice_get (acts_at p steps) i ≡ Some x → (s : Taken) × (slice_get steps i ≡ Some s)
+    × (act_at p s ≡ x)
 step_here p steps i x is = map_some (act_at p) (slice_get steps i) x (sym (slice_get-map (act_at p) steps i) ∙ is)
 
 pub not_true : (b : Bool) → IsTrue (not b) → IsTrue b → ⊥
@@ -85,16 +87,19 @@ module _ (p : Program) (steps : List Taken) (i j : ℕ) (s t : Taken) (two : Two
   pub concurrent_threads : ConcurrentSteps (ForkedApart p) (acts_at p steps) i j → AreConcurrent p s.thread t.thread
   concurrent_threads both = record { forking = both.forking; apart = apart_here both }
 
-  pub none_between : IsFormed p → (a : ℕ) → ForkedApart p s.thread t.thread a → ConcurrentSteps (ForkedApart p) (acts_at p steps) i j → ¬ TakesBetween steps i j a
+  pub none_between : IsFormed p → (a : ℕ) → ForkedApart p s.thread t.thread a → ConcurrentSteps (ForkedApart p) (acts_at p steps) i j
+      → ¬ TakesBetween steps i j a
   none_between formed a apart both takes =
       let same : both.forking ≡ a = apart_once p formed s.thread t.thread both.forking a (apart_here both) apart in
       both.between takes.at (act_at p takes.taken) takes.after takes.before (act_here p steps takes.at takes.taken takes.is) (takes.thread ∙ sym same)
 
-  may_here : (both : ConcurrentSteps (ForkedApart p) (acts_at p steps) i j) → MayPrecede (accesses p s.node) (accesses p t.node) → MayPrecede both.first.access both.second.access
+  may_here : (both : ConcurrentSteps (ForkedApart p) (acts_at p steps) i j) → MayPrecede (accesses p s.node) (accesses p t.node)
+      → MayPrecede both.first.access both.second.access
   may_here both may =
       subst₂ (λ (x y : Act). MayPrecede x.access y.access) (first_is both.first both.is_first) (second_is both.second both.is_second) may
 
-  may_there : (both : ConcurrentSteps (ForkedApart p) (acts_at p steps) i j) → MayPrecede both.first.access both.second.access → MayPrecede (accesses p s.node) (accesses p t.node)
+  may_there : (both : ConcurrentSteps (ForkedApart p) (acts_at p steps) i j) → MayPrecede both.first.access both.second.access
+      → MayPrecede (accesses p s.node) (accesses p t.node)
   may_there both may =
       subst₂ (λ (x y : Act). MayPrecede x.access y.access) (sym (first_is both.first both.is_first)) (sym (second_is both.second both.is_second)) may
 

@@ -1,5 +1,6 @@
 -- A claim stays fresh while other leaders step, and its value is the one over the present variables.
-use Rattle.std.proofs.Common.{◌≡◌, ◌≢◌, ℕ, ◌+◌, ◌<◌, List, [], ◌∷◌, length, filter_map, Option, Some, None, option_map, option_and_then, slice_get, unwrap_or, Contains, refl, sym, ap, subst, ◌∙◌, arith}
+use Rattle.std.proofs.Common.{◌≡◌, ◌≢◌, ℕ, ◌+◌, ◌<◌, List, [], ◌∷◌, length, filter_map, Option, Some, None, option_map, option_and_then, slice_get, unwrap_or}
+use Rattle.std.proofs.Common.{Contains, refl, sym, ap, subst, ◌∙◌, arith}
 use Rattle.std.specs.List.{cons_option}
 use Rattle.std.proofs.lemmas.List.{length-map}
 use Rattle.std.proofs.lemmas.Option.{slice_get-map, slice_get_within}
@@ -39,7 +40,8 @@ use Rattle.tick_core.specs.Stepping.{code_of, node_of, code_at}
 use Rattle.tick_core.specs.Inside.Work.{value_at}
 use Rattle.tick_core.specs.State.{IsFresh}
 
-loads_same : (code : List Operation) (v w : List Value) → ((x : ℕ) → Contains (loads code) x → slice_get v x ≡ slice_get w x) → loaded_from v code ≡ loaded_from w code
+loads_same : (code : List Operation) (v w : List Value) → ((x : ℕ) → Contains (loads code) x → slice_get v x ≡ slice_get w x) → loaded_from v code
+    ≡ loaded_from w code
 loads_same code v w same = go (loads code) same
   where
     go : (xs : List ℕ) → ((x : ℕ) → Contains xs x → slice_get v x ≡ slice_get w x) → filter_map (slice_get v) xs ≡ filter_map (slice_get w) xs
@@ -58,7 +60,8 @@ step_reads (step_is.Surf depth) code is = absurd cc
 step_reads (step_is.Depth onward) code is = absurd cc
 step_reads step_is.Exit code is = absurd cc
 
-node_reads : (o : Option Step) (code : List Operation) → option_and_then code_of o ≡ Some code → (unwrap_or (option_map access_of o) no_access).reads ≡ loads code
+node_reads : (o : Option Step) (code : List Operation) → option_and_then code_of o ≡ Some code → (unwrap_or (option_map access_of o) no_access).reads
+    ≡ loads code
 node_reads None code is = absurd cc
 node_reads (Some s) code is = step_reads s code is
 
@@ -81,7 +84,8 @@ operands_same p st v w same = go (code_at p st) refl
 module _ (p : Program) (q : Tables) (valid : IsValid p q) (c : Control) (ok : IsConfiguration p c) where
   fresh_after : (t u n : ℕ) (a : Claim) (e : Effect) → u ≢ t → Leads p q c t → effect p c t ≡ Some e → IsFresh p q c n u a → IsFresh p q (after e c) (n + 1) u a
   fresh_after t u n a e other leads is fresh =
-      let stands : status_of (after e c) u ≡ status_of c u = keeps_self p (valid_formed p q valid) c ok u t other (enabled_view p c u fresh.leads.enabled) e (does p c t e is) in
+      let stands : status_of (after e c) u ≡ status_of c u = keeps_self p (valid_formed p q valid) c ok u t other (enabled_view p c u fresh.leads.enabled) e
+      (does p c t e is) in
       let same : present_operands (after e c).variables (code_at p (status_of c u)) ≡ present_operands c.variables (code_at p (status_of c u)) =
       operands_same p (status_of c u) (after e c).variables c.variables (λ x reads. operands_kept p q valid c ok u t other fresh.leads leads e is x reads) in
       record {
@@ -111,7 +115,8 @@ step_formed p (step_is.Surf depth) code well is = absurd cc
 step_formed p (step_is.Depth onward) code well is = absurd cc
 step_formed p step_is.Exit code well is = absurd cc
 
-node_formed : (p : Program) (q : Tables) → IsValid p q → (n : ℕ) (code : List Operation) → option_and_then code_of (step_at p n) ≡ Some code → IsWellFormed (kinds p) code
+node_formed : (p : Program) (q : Tables) → IsValid p q → (n : ℕ) (code : List Operation) → option_and_then code_of (step_at p n) ≡ Some code
+    → IsWellFormed (kinds p) code
 node_formed p q valid n code is =
     let found = and_then_some code_of (step_at p n) code is in
     step_formed p found.0 code (valid.code (place.Node n) found.0 found.1) found.2
@@ -136,7 +141,8 @@ values_are p c ok = record { each = each }
         record { value = v.0; is = v.1; kind = cc }
 
 -- the value of a fresh claim is what the step takes
-pub fresh_value : (p : Program) (q : Tables) (c : Control) (n t : ℕ) (a : Claim) → IsConfiguration p c → IsFresh p q c n t a → value_by a.code a.operands ≡ value_at p c (status_of c t)
+pub fresh_value : (p : Program) (q : Tables) (c : Control) (n t : ℕ) (a : Claim) → IsConfiguration p c → IsFresh p q c n t a → value_by a.code a.operands
+    ≡ value_at p c (status_of c t)
 fresh_value p q c n t a ok fresh = go a.code refl
   where
     over : Option (List Operation) → Option Value
@@ -156,8 +162,10 @@ pub record CodeStands (p : Program) (c : Control) (t : ℕ) (kinds : List Kind) 
   pub formed : IsWellFormed kinds code
   pub of_kinds : AreOf kinds c.variables
 
-pub code_stands : (p p' : Program) (q : Tables) (c : Control) (t : ℕ) (variable_kinds : List Kind) (st : Status) (o : Option (List Operation)) (code : List Operation) →
-    IsValid p q → IsConfiguration p c → variable_kinds ≡ kinds p → p' ≡ p → st ≡ status_of c t → o ≡ Some code → o ≡ code_at p' st → CodeStands p c t variable_kinds code
+pub code_stands : (p p' : Program) (q : Tables) (c : Control) (t : ℕ) (variable_kinds : List Kind) (st : Status) (o : Option (List Operation))
+    (code : List Operation) →
+    IsValid p q → IsConfiguration p c → variable_kinds ≡ kinds p → p' ≡ p → st ≡ status_of c t → o ≡ Some code → o ≡ code_at p' st
+    → CodeStands p c t variable_kinds code
 code_stands p p' q c t variable_kinds st o code valid ok kinds_is p_is st_is is at =
     let here : Some code ≡ code_at p (status_of c t) = sym is ∙ (at ∙ (ap (λ x. code_at x st) p_is ∙ ap (code_at p) st_is)) in
     record {

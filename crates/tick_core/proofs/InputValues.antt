@@ -1,5 +1,6 @@
 -- What inputs give to each variable, input by input.
-use Rattle.std.proofs.Common.{◌≡◌, ◌≢◌, ℕ, zero, suc, ◌+◌, ◌<◌, ◌≤◌, ◌⊎◌, Bool, true, false, List, [], ◌∷◌, ◌++◌, length, length-set, take, Option, Some, None, slice_get, slice_set, refl, sym, ap, subst, ◌∙◌, inl, inr, arith, if◌then◌else◌}
+use Rattle.std.proofs.Common.{◌≡◌, ◌≢◌, ℕ, zero, suc, ◌+◌, ◌<◌, ◌≤◌, ◌⊎◌, Bool, true, false, List, [], ◌∷◌, ◌++◌, length, length-set, take, Option, Some, None}
+use Rattle.std.proofs.Common.{slice_get, slice_set, refl, sym, ap, subst, ◌∙◌, inl, inr, arith, if◌then◌else◌}
 use Rattle.std.specs.Str.{bytes_eq}
 use Rattle.std.proofs.lemmas.List.{take_more, take_all}
 use Rattle.std.proofs.lemmas.Bool.{cases_eq, cases_order}
@@ -25,7 +26,8 @@ Input = List ℕ × Value
 pub own_names : (p : Program) (q : Tables) → IsValid p q → HasOwnNames p.variables
 own_names p q valid = record { each = λ x y a b i j same. at x y a b i j same (cases_order x y) }
   where
-    at : (x y : ℕ) (a b : Variable) → slice_get p.variables x ≡ Some a → slice_get p.variables y ≡ Some b → a.name ≡ b.name → (x ≡ y) ⊎ ((x < y) ⊎ (y < x)) → x ≡ y
+    at : (x y : ℕ) (a b : Variable) → slice_get p.variables x ≡ Some a → slice_get p.variables y ≡ Some b → a.name ≡ b.name → (x ≡ y) ⊎ ((x < y) ⊎ (y < x))
+        → x ≡ y
     at x y a b i j same (inl equal) = equal
     at x y a b i j same (inr (inl less)) = absurd (((valid_formed p q valid).size (place.Variable y) b j).new_name x a less i same)
     at x y a b i j same (inr (inr more)) = absurd (((valid_formed p q valid).size (place.Variable x) a i).new_name y b more j (sym same))
@@ -53,7 +55,8 @@ pub given_some : (inputs : Inputs) (name : List ℕ) (v : Value) → given input
 given_some [] name v some = absurd (none-some v some)
 given_some (b ∷ inputs) name v some = at (bytes_eq b.0 name) (bytes_eq-Decides b.0 name).0 some (given_some inputs name v)
   where
-    at : (t : Bool) → (t ≡ true → b.0 ≡ name) → (if t then Some b.1 else given inputs name) ≡ Some v → (given inputs name ≡ Some v → GivenAt inputs name) → GivenAt (b ∷ inputs) name
+    at : (t : Bool) → (t ≡ true → b.0 ≡ name) → (if t then Some b.1 else given inputs name) ≡ Some v → (given inputs name ≡ Some v → GivenAt inputs name)
+        → GivenAt (b ∷ inputs) name
     at true same some rest = record { place = zero; input = b; is = refl; named = same refl }
     at false same some rest = let r : GivenAt inputs name = rest some in record { place = suc r.place; input = r.input; is = r.is; named = r.named }
 
@@ -75,7 +78,8 @@ given_here [] input none = at (bytes_eq input.0 input.0) ((bytes_eq-Decides inpu
     at false said = absurd cc
 given_here (b ∷ inputs) input none = at (bytes_eq b.0 input.0) none (given_here inputs input)
   where
-    at : (t : Bool) → (if t then Some b.1 else given inputs input.0) ≡ None → (given inputs input.0 ≡ None → given (inputs ++ input ∷ []) input.0 ≡ Some input.1)
+    at : (t : Bool) → (if t then Some b.1 else given inputs input.0) ≡ None
+        → (given inputs input.0 ≡ None → given (inputs ++ input ∷ []) input.0 ≡ Some input.1)
         → (if t then Some b.1 else given (inputs ++ input ∷ []) input.0) ≡ Some input.1
     at true none rest = absurd (none-some b.1 (sym none))
     at false none rest = rest none
@@ -93,7 +97,8 @@ module _ (variables : List Variable) (own : HasOwnNames variables) (inputs : Inp
 
   pub something_before : (v : Value) → slice_get values x ≡ Some (Some v) → GivenAt inputs input.0
   something_before v some =
-      given_some inputs input.0 v (ap (given inputs) (sym it.fits.name) ∙ same_Some (given inputs it.variable.name) (Some v) (sym (gives.each x it.variable it.is) ∙ some))
+      given_some inputs input.0 v (ap (given inputs) (sym it.fits.name) ∙ same_Some (given inputs it.variable.name) (Some v)
+      (sym (gives.each x it.variable it.is) ∙ some))
 
   -- with one more input, whose value is put at its variable
   pub gives_more : slice_get values x ≡ Some None → Gives variables (inputs ++ input ∷ []) (slice_set values x (Some input.1))
@@ -105,14 +110,16 @@ module _ (variables : List Variable) (own : HasOwnNames variables) (inputs : Inp
       here : (y : ℕ) (b : Variable) → slice_get variables y ≡ Some b → y ≡ x → b.name ≡ input.0
       here y b is same = ap (λ (v : Variable). v.name) (same_Some b it.variable (sym is ∙ (ap (slice_get variables) same ∙ it.is))) ∙ it.fits.name
 
-      at : (y : ℕ) (b : Variable) → slice_get variables y ≡ Some b → (y ≡ x) ⊎ (y ≢ x) → slice_get (slice_set values x (Some input.1)) y ≡ Some (given (inputs ++ input ∷ []) b.name)
+      at : (y : ℕ) (b : Variable) → slice_get variables y ≡ Some b → (y ≡ x) ⊎ (y ≢ x) → slice_get (slice_set values x (Some input.1)) y
+          ≡ Some (given (inputs ++ input ∷ []) b.name)
       at y b is (inl same) =
           ap (slice_get (slice_set values x (Some input.1))) same
           ∙ (get_set_same values x (Some input.1) within
           ∙ ap Some (sym (given_here inputs input (nothing_before none)) ∙ ap (given (inputs ++ input ∷ [])) (sym (here y b is same))))
       at y b is (inr other) =
           get_set_other values x y (Some input.1) other
-          ∙ (gives.each y b is ∙ ap Some (sym (given_other inputs input b.name (λ named. other (own.each y x b it.variable is it.is (sym named ∙ sym it.fits.name))))))
+          ∙ (gives.each y b is ∙ ap Some
+          (sym (given_other inputs input b.name (λ named. other (own.each y x b it.variable is it.is (sym named ∙ sym it.fits.name))))))
 
 -- where no value is given, nothing stands at a place
 pub not_given : (values : List (Option Value)) (x : ℕ) → x < length values → ¬ IsGiven values x → slice_get values x ≡ Some None
@@ -123,7 +130,8 @@ not_given values x below none = let there : (o : Option Value) × (slice_get val
     go (Some v) is = absurd (none (record { value = v; is = is }))
 
 -- an input's variable has a place among the values
-pub place_within : (variables : List Variable) (inputs : Inputs) (values : List (Option Value)) (x : ℕ) (input : Input) → Gives variables inputs values → IsForAt variables input x → x < length values
+pub place_within : (variables : List Variable) (inputs : Inputs) (values : List (Option Value)) (x : ℕ) (input : Input) → Gives variables inputs values
+    → IsForAt variables input x → x < length values
 place_within variables inputs values x input gives it = omega (arith, gives.long, slice_get_within variables x it.variable it.is)
 
 -- the inputs up to the next one
@@ -132,34 +140,43 @@ take_one_more inputs n input is =
     take_more inputs n input (slice_get_within inputs n input is) ∙ ap (λ a. take n inputs ++ a ∷ []) (get_or_from_slice_get inputs n input input is)
 
 -- the next input is given to its variable
-pub gives_next : (variables : List Variable) → HasOwnNames variables → (inputs : Inputs) (values : List (Option Value)) (n x : ℕ) (input : Input) → Gives variables (take n inputs) values
-    → slice_get inputs n ≡ Some input → IsForAt variables input x → slice_get values x ≡ Some None → Gives variables (take (n + 1) inputs) (slice_set values x (Some input.1))
+pub gives_next : (variables : List Variable) → HasOwnNames variables → (inputs : Inputs) (values : List (Option Value)) (n x : ℕ) (input : Input)
+    → Gives variables (take n inputs) values
+    → slice_get inputs n ≡ Some input → IsForAt variables input x → slice_get values x ≡ Some None
+    → Gives variables (take (n + 1) inputs) (slice_set values x (Some input.1))
 gives_next variables own inputs values n x input gives is it none =
     subst (λ xs. Gives variables xs (slice_set values x (Some input.1))) (sym (take_one_more inputs n input is))
     (gives_more variables own (take n inputs) values gives input x it none)
 
 -- the next input is accepted at its place
-pub accepted_next : (variables : List Variable) → HasOwnNames variables → (inputs : Inputs) (values : List (Option Value)) (n x : ℕ) (input : Input) → Gives variables (take n inputs) values
+pub accepted_next : (variables : List Variable) → HasOwnNames variables → (inputs : Inputs) (values : List (Option Value)) (n x : ℕ) (input : Input)
+    → Gives variables (take n inputs) values
     → slice_get inputs n ≡ Some input → IsForAt variables input x → slice_get values x ≡ Some None
     → (a : Input) → slice_get inputs n ≡ Some a → IsAcceptedAt variables inputs n a
 accepted_next variables own inputs values n x input gives is it none a at =
     subst (IsAcceptedAt variables inputs n) (same_Some input a (sym is ∙ at))
     (record {
       named = record { number = x; variable = it.variable; is = it.is; fits = it.fits };
-      new = record { each = λ i b before. given_none (take n inputs) input.0 (nothing_before variables own (take n inputs) values gives input x it none) i b before };
+      new = record {
+        each = λ i b before. given_none (take n inputs) input.0 (nothing_before variables own (take n inputs) values gives input x it none) i b
+            before;
+      };
     })
 
 -- an input whose variable was given a value before is not accepted
-pub given_twice : (p : Program) → HasOwnNames p.variables → (inputs : Inputs) (values : List (Option Value)) (n x : ℕ) (input : Input) (v : Value) → Gives p.variables (take n inputs) values
+pub given_twice : (p : Program) → HasOwnNames p.variables → (inputs : Inputs) (values : List (Option Value)) (n x : ℕ) (input : Input) (v : Value)
+    → Gives p.variables (take n inputs) values
     → slice_get inputs n ≡ Some input → IsForAt p.variables input x → slice_get values x ≡ Some (Some v) → ¬ AreAccepted p inputs
 given_twice p own inputs values n x input v gives is it some accepted =
     let before = something_before p.variables own (take n inputs) values gives input x it v some in
     (accepted_at p inputs accepted n input is).new.each before.place before.input before.is before.named
 
 -- an input that is for no variable is not accepted
-pub given_nowhere : (p : Program) (inputs : Inputs) (n : ℕ) (input : Input) → slice_get inputs n ≡ Some input → ¬ NamesInput p.variables input → ¬ AreAccepted p inputs
+pub given_nowhere : (p : Program) (inputs : Inputs) (n : ℕ) (input : Input) → slice_get inputs n ≡ Some input → ¬ NamesInput p.variables input
+    → ¬ AreAccepted p inputs
 given_nowhere p inputs n input is nowhere accepted = nowhere (accepted_at p inputs accepted n input is).named
 
 -- all inputs are given to their variables
-pub gives_all : (variables : List Variable) (inputs : Inputs) (values : List (Option Value)) (n : ℕ) → length inputs ≤ n → Gives variables (take n inputs) values → Gives variables inputs values
+pub gives_all : (variables : List Variable) (inputs : Inputs) (values : List (Option Value)) (n : ℕ) → length inputs ≤ n
+    → Gives variables (take n inputs) values → Gives variables inputs values
 gives_all variables inputs values n past gives = subst (λ xs. Gives variables xs values) (take_all n inputs past) gives

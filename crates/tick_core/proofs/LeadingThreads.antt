@@ -1,5 +1,6 @@
 -- Who leads, and whether anybody does, by the rows.
-use Rattle.std.proofs.Common.{◌≡◌, ◌≢◌, ℕ, zero, suc, ◌<◌, ◌≤◌, ◌⊎◌, Bool, true, false, List, length, get_or, Option, Some, None, slice_get, refl, sym, ap, ◌∙◌, inl, inr, ⊎_elim, arith}
+use Rattle.std.proofs.Common.{◌≡◌, ◌≢◌, ℕ, zero, suc, ◌<◌, ◌≤◌, ◌⊎◌, Bool, true, false, List, length, get_or, Option, Some, None, slice_get, refl, sym, ap, ◌∙◌}
+use Rattle.std.proofs.Common.{inl, inr, ⊎_elim, arith}
 use Rattle.std.specs.Prelude.{◌↔◌, IsTrue, replicate}
 use Rattle.std.proofs.lemmas.Option.{slice_get_within, same_Some, get_or_from_slice_get}
 use Rattle.std.proofs.lemmas.List.{length-replicate, get_or-replicate}
@@ -60,17 +61,20 @@ module _ (s : InTick) (h : Holds s) (rows : Rows) (sorted : AreSorted s.image.pr
 
   module _ (count level : ℕ) (at : OpenAt s count level) where
     -- an enabled thread without an open claim stands in the row of its priority
-    free_in : (t : ℕ) → IsEnabled s.image.program s.present t → claim_of s t ≡ Some None → IsIn rows.classes t (priority_of s.image.tables (status_of s.present t))
+    free_in : (t : ℕ) → IsEnabled s.image.program s.present t → claim_of s t ≡ Some None
+        → IsIn rows.classes t (priority_of s.image.tables (status_of s.present t))
     free_in t enabled free = ready_in t (priority_of s.image.tables (status_of s.present t)) (record { enabled = enabled; unclaimed = free; has = refl })
 
     enabled_place : (t : ℕ) → IsEnabled s.image.program s.present t → t < length s.claims
     enabled_place t enabled = omega (arith, enabled_within s.image.program s.present t enabled, (configuration s h).threads, h.places)
 
     -- an enabled thread has an open claim or stands in a row
-    claimed_or_in : (t : ℕ) → IsEnabled s.image.program s.present t → ((a : Claim) × (claim_of s t ≡ Some (Some a))) ⊎ IsIn rows.classes t (priority_of s.image.tables (status_of s.present t))
+    claimed_or_in : (t : ℕ) → IsEnabled s.image.program s.present t → ((a : Claim) × (claim_of s t ≡ Some (Some a)))
+        ⊎ IsIn rows.classes t (priority_of s.image.tables (status_of s.present t))
     claimed_or_in t enabled = go (open_or_not s.claims t (enabled_place t enabled))
       where
-        go : (slice_get s.claims t ≡ Some None) ⊎ ((a : Claim) × (slice_get s.claims t ≡ Some (Some a))) → ((a : Claim) × (claim_of s t ≡ Some (Some a))) ⊎ IsIn rows.classes t (priority_of s.image.tables (status_of s.present t))
+        go : (slice_get s.claims t ≡ Some None) ⊎ ((a : Claim) × (slice_get s.claims t ≡ Some (Some a))) → ((a : Claim) × (claim_of s t ≡ Some (Some a)))
+            ⊎ IsIn rows.classes t (priority_of s.image.tables (status_of s.present t))
         go (inl free) = inr (free_in t enabled free)
         go (inr opened) = inl opened
 
@@ -101,7 +105,8 @@ module _ (s : InTick) (h : Holds s) (rows : Rows) (sorted : AreSorted s.image.pr
 
         idle : (count ≡ 0) × AreEmpty rows → (t : ℕ) (b : Bool) → is_enabled s.image.program s.present t ≡ b → is_enabled s.image.program s.present t ≡ false
         idle both t true enabled =
-            absurd (⊎_elim (λ opened. nobody_open both.0 t opened.0 opened.1) (λ is. both.1.each t (priority_of s.image.tables (status_of s.present t)) is) (claimed_or_in t enabled))
+            absurd (⊎_elim (λ opened. nobody_open both.0 t opened.0 opened.1) (λ is. both.1.each t (priority_of s.image.tables (status_of s.present t)) is)
+            (claimed_or_in t enabled))
         idle both t false asleep = asleep
 
     -- where nobody stands in a row there is nothing to claim
@@ -118,7 +123,8 @@ module _ (s : InTick) (h : Holds s) (rows : Rows) (sorted : AreSorted s.image.pr
               each = λ t leads. claimed t (claimed_or_in t leads.enabled);
             })
           where
-            claimed : (t : ℕ) → ((a : Claim) × (claim_of s t ≡ Some (Some a))) ⊎ IsIn rows.classes t (priority_of s.image.tables (status_of s.present t)) → (a : Claim) × (claim_of s t ≡ Some (Some a))
+            claimed : (t : ℕ) → ((a : Claim) × (claim_of s t ≡ Some (Some a))) ⊎ IsIn rows.classes t (priority_of s.image.tables (status_of s.present t))
+                → (a : Claim) × (claim_of s t ≡ Some (Some a))
             claimed t (inl opened) = opened
             claimed t (inr is) = absurd (empty.each t (priority_of s.image.tables (status_of s.present t)) is)
 
@@ -131,7 +137,8 @@ module _ (s : InTick) (h : Holds s) (rows : Rows) (sorted : AreSorted s.image.pr
           unclaimed = ready.unclaimed;
         }
       where
-        below : (u : ℕ) → IsEnabled s.image.program s.present u → IsReady s first.class t → (count ≡ 0) ⊎ (priority_of s.image.tables (status_of s.present t) ≡ level) →
+        below : (u : ℕ) → IsEnabled s.image.program s.present u → IsReady s first.class t
+            → (count ≡ 0) ⊎ (priority_of s.image.tables (status_of s.present t) ≡ level) →
             ((a : Claim) × (claim_of s u ≡ Some (Some a))) ⊎ IsIn rows.classes u (priority_of s.image.tables (status_of s.present u)) →
             priority_of s.image.tables (status_of s.present u) ≤ priority_of s.image.tables (status_of s.present t)
         below u enabled ready either (inr is) = omega (arith, first.greatest u (priority_of s.image.tables (status_of s.present u)) is, ready.has)
@@ -150,14 +157,23 @@ module _ (s : InTick) (h : Holds s) (rows : Rows) (sorted : AreSorted s.image.pr
 
         claimed : (v : ℕ) → Leads s.image.program s.image.tables s.present v → priority_of s.image.tables (status_of s.present v) ≡ level →
             (u : ℕ) → Leads s.image.program s.image.tables s.present u →
-            ((a : Claim) × (claim_of s u ≡ Some (Some a))) ⊎ IsIn rows.classes u (priority_of s.image.tables (status_of s.present u)) → (a : Claim) × (claim_of s u ≡ Some (Some a))
+            ((a : Claim) × (claim_of s u ≡ Some (Some a))) ⊎ IsIn rows.classes u (priority_of s.image.tables (status_of s.present u))
+            → (a : Claim) × (claim_of s u ≡ Some (Some a))
         claimed v leader level_is u leads (inl opened) = opened
         claimed v leader level_is u leads (inr is) =
             let ready = stands t first.class first.is_in in
-            absurd (other (omega (arith, level_is, ready.has, first.greatest u (priority_of s.image.tables (status_of s.present u)) is, leader.greatest t ready.enabled, leads.greatest v leader.enabled)))
+            absurd (other (omega (
+              arith,
+              level_is,
+              ready.has,
+              first.greatest u (priority_of s.image.tables (status_of s.present u)) is,
+              leader.greatest t ready.enabled,
+              leads.greatest v leader.enabled,
+            )))
 
 -- rows as they are made for an image
-pub own_none : (p : Program) (q : Tables) (rows : Rows) (priorities : List ℕ) → NodePriorities p q priorities → HasRooms rows.rooms priorities → rows.classes ≡ replicate (length p.threads) None → OwnRows p q rows
+pub own_none : (p : Program) (q : Tables) (rows : Rows) (priorities : List ℕ) → NodePriorities p q priorities → HasRooms rows.rooms priorities
+    → rows.classes ≡ replicate (length p.threads) None → OwnRows p q rows
 own_none p q rows priorities are rooms empty =
     record {
       long = ap length empty ∙ length-replicate (length p.threads) None;
@@ -167,7 +183,12 @@ own_none p q rows priorities are rooms empty =
   where
     nobody : (t prior : ℕ) → IsIn rows.classes t prior → ⊥
     nobody t prior is =
-        let below : t < length p.threads = omega (arith, slice_get_within rows.classes t (Some prior) is, ap length empty, length-replicate {A = Option ℕ} (length p.threads) None) in
+        let below : t < length p.threads = omega (
+          arith,
+          slice_get_within rows.classes t (Some prior) is,
+          ap length empty,
+          length-replicate {A = Option ℕ} (length p.threads) None,
+        ) in
         let none : get_or rows.classes t None ≡ None = ap (λ xs. get_or xs t None) empty ∙ get_or-replicate (length p.threads) t None None below in
         let some : get_or rows.classes t None ≡ Some prior = get_or_from_slice_get rows.classes t (Some prior) None is in
         let never : None ≡ Some prior = sym none ∙ some in

@@ -1,5 +1,6 @@
 -- The counts of living children tell who is enabled, and a step keeps them with one change.
-use Rattle.std.proofs.Common.{◌≡◌, ◌≢◌, ℕ, suc, ◌+◌, ◌<◌, ◌⊎◌, ◌&&◌, Bool, true, false, nat_eq, List, [], ◌∷◌, length, length-set, Option, Some, None, slice_index, slice_set, Contains, refl, sym, ap, subst, ◌∙◌, inl, inr, ⊎_elim, arith, eqb-true}
+use Rattle.std.proofs.Common.{◌≡◌, ◌≢◌, ℕ, suc, ◌+◌, ◌<◌, ◌⊎◌, ◌&&◌, Bool, true, false, nat_eq, List, [], ◌∷◌, length, length-set, Option, Some, None}
+use Rattle.std.proofs.Common.{slice_index, slice_set, Contains, refl, sym, ap, subst, ◌∙◌, inl, inr, ⊎_elim, arith, eqb-true}
 use Rattle.std.specs.Prelude.{count_by, not}
 use Rattle.std.specs.List.{list_all}
 use Rattle.std.proofs.lemmas.List.Sums.{sum_by-cons}
@@ -57,7 +58,8 @@ ended_is c None = refl
 ended_is c (Some children) = none_living (λ k. has_ended (status_of c k)) children
 
 -- at which priority a waiting thread can step, by its count
-pub waiting_row : (p : Program) (q : Tables) (c : Control) (t j : ℕ) (counts : List ℕ) → CountsLiving p c counts → status_of c t ≡ status.Waiting j → (n : ℕ) → n ≡ slice_index counts t →
+pub waiting_row : (p : Program) (q : Tables) (c : Control) (t j : ℕ) (counts : List ℕ) → CountsLiving p c counts → status_of c t ≡ status.Waiting j → (n : ℕ)
+    → n ≡ slice_index counts t →
     step_priority p q c t ≡ row_at (nat_eq n 0) (priority q j)
 waiting_row p q c t j counts h waits n is =
     ap (λ st. row_at (status_enabled p c st) (priority_of q st)) waits
@@ -84,7 +86,8 @@ not_again k ks distinct within =
     let at = get_contains ks k within in
     distinct 0 (suc at.0) k k (omega arith) refl at.1 refl
 
-one_ended_more : (f g : ℕ → Bool) (k : ℕ) (ks : List ℕ) (t : ℕ) → AreDistinct (k ∷ ks) → Contains (k ∷ ks) t → f t ≡ true → g t ≡ false → ((i : ℕ) → Contains (k ∷ ks) i → i ≢ t → f i ≡ g i) →
+one_ended_more : (f g : ℕ → Bool) (k : ℕ) (ks : List ℕ) (t : ℕ) → AreDistinct (k ∷ ks) → Contains (k ∷ ks) t → f t ≡ true → g t ≡ false
+    → ((i : ℕ) → Contains (k ∷ ks) i → i ≢ t → f i ≡ g i) →
     (Contains ks t → count_by g ks + 1 ≡ count_by f ks) → (k ≡ t) ⊎ (k ≢ t) → count_by g (k ∷ ks) + 1 ≡ count_by f (k ∷ ks)
 one_ended_more f g k ks t distinct within was is each rest (inl same) =
     let others : count_by f ks ≡ count_by g ks =
@@ -105,7 +108,8 @@ one_ended f g (k ∷ ks) t distinct within was is each =
 abbrev lives_at : Status → Bool
 lives_at st = not (has_ended st)
 
-module _ (p : Program) (q : Tables) (valid : IsValid p q) (c : Control) (ok : IsConfiguration p c) (t : ℕ) (enabled : Enabled p c t) (e : Effect) (does : Does p c t e) where
+module _ (p : Program) (q : Tables) (valid : IsValid p q) (c : Control) (ok : IsConfiguration p c) (t : ℕ) (enabled : Enabled p c t) (e : Effect)
+    (does : Does p c t e) where
   -- who steps has not ended
   lives_before : Enabled p c t → lives c t ≡ true
   lives_before (stands n at) = ap lives_at at
@@ -132,12 +136,14 @@ module _ (p : Program) (q : Tables) (valid : IsValid p q) (c : Control) (ok : Is
   -- the children of another thread stand as before, but for the thread of the step
   same_child : (u k : ℕ) → u ≢ t → parent_of p k ≡ Some u → k ≢ t → lives c k ≡ lives (after e c) k
   same_child u k other parent differ =
-      ap lives_at (sym (moved_other e.moves c.statuses k (λ moves. ⊎_elim differ (λ (idle : IsIdleChild p c t k). other (same_Some u t (sym parent ∙ idle.parent)))
+      ap lives_at (sym (moved_other e.moves c.statuses k
+      (λ moves. ⊎_elim differ (λ (idle : IsIdleChild p c t k). other (same_Some u t (sym parent ∙ idle.parent)))
       (whom p (valid_formed p q valid) c ok t e does k moves))))
 
   module _ (counts : List ℕ) (h : CountsLiving p c counts) (below : t < length p.threads) where
     -- who waits and is neither the thread of the step nor its parent
-    others : (u j : ℕ) → u ≢ t → parent_of p t ≢ Some u → status_of c u ≡ status.Waiting j → (o : Option (List ℕ)) → joined_at p j ≡ o → living c o ≡ living (after e c) o
+    others : (u j : ℕ) → u ≢ t → parent_of p t ≢ Some u → status_of c u ≡ status.Waiting j → (o : Option (List ℕ)) → joined_at p j ≡ o
+        → living c o ≡ living (after e c) o
     others u j other no_parent waits None joined = refl
     others u j other no_parent waits (Some children) joined =
         let of : JoinOf p j children = join_of p j children joined in
@@ -181,14 +187,16 @@ module _ (p : Program) (q : Tables) (valid : IsValid p q) (c : Control) (ok : Is
       of_parent : (st : Status) → status_of (after e c) t ≡ st → slice_index (counted_at p (after e c) counts t st) u ≡ count_by (lives (after e c)) of.children
       of_parent (status.Waiting j) is = index_other counts t u _ other ∙ unchanged (ap lives_at is)
       of_parent status.Ended is =
-          let one = one_ended (lives c) (lives (after e c)) of.children t (distinct_children p (valid_formed p q valid) of.fork u of.children of.join of.is) of.child
+          let one = one_ended (lives c) (lives (after e c)) of.children t (distinct_children p (valid_formed p q valid) of.fork u of.children of.join of.is)
+          of.child
           (lives_before enabled) (ap lives_at is) sibling in
           ap (λ o. slice_index (one_less counts o) u) parent ∙ (index_same counts u _ within ∙ omega (arith, was, one))
       of_parent status.Absent is = unchanged (ap lives_at is)
       of_parent (status.At n) is = unchanged (ap lives_at is)
       of_parent (status.Paused n) is = unchanged (ap lives_at is)
 
-      parent_counted : (j : ℕ) → status_of c u ≡ status.Waiting j → slice_index (counted_at p (after e c) counts t (status_of (after e c) t)) u ≡ living (after e c) (joined_at p j)
+      parent_counted : (j : ℕ) → status_of c u ≡ status.Waiting j → slice_index (counted_at p (after e c) counts t (status_of (after e c) t)) u
+          ≡ living (after e c) (joined_at p j)
       parent_counted j waits =
           let same : of.join ≡ j = same_join (sym waits_there ∙ waits) in
           of_parent (status_of (after e c) t) refl
@@ -247,8 +255,10 @@ module _ (p : Program) (q : Tables) (valid : IsValid p q) (c : Control) (ok : Is
                 go (inr differ) = no_more (λ some. differ (same_Some u w (sym some ∙ parent))) before
 
 -- the counts after a step of an enabled thread
-pub counts_after : (p : Program) (q : Tables) → IsValid p q → (c d : Control) → IsConfiguration p c → (t : ℕ) → t < length p.threads → step p t c ≡ Some d → IsEnabled p c t →
-    (counts after_counts : List ℕ) → CountsLiving p c counts → (p' : Program) (st : Status) → p' ≡ p → st ≡ status_of d t → after_counts ≡ counted_at p' d counts t st → CountsLiving p d after_counts
+pub counts_after : (p : Program) (q : Tables) → IsValid p q → (c d : Control) → IsConfiguration p c → (t : ℕ) → t < length p.threads → step p t c ≡ Some d
+    → IsEnabled p c t →
+    (counts after_counts : List ℕ) → CountsLiving p c counts → (p' : Program) (st : Status) → p' ≡ p → st ≡ status_of d t
+    → after_counts ≡ counted_at p' d counts t st → CountsLiving p d after_counts
 counts_after p q valid c d ok t below stepped enabled counts after_counts h p' st p_is st_is is =
     let found : (e : Effect) × (effect p c t ≡ Some e) × (after e c ≡ d) = map_some (λ (e : Effect). after e c) (effect p c t) d stepped in
     subst (CountsLiving p d) (sym (is ∙ (ap (λ x. counted_at x d counts t st) p_is ∙ ap (counted_at p d counts t) st_is)))
@@ -256,7 +266,8 @@ counts_after p q valid c d ok t below stepped enabled counts after_counts h p' s
     (counted_after p q valid c ok t (enabled_view p c t enabled) found.0 (what_does p c t found.0 found.1) counts h below))
 
 -- one more thread is counted
-pub counts_more : (p : Program) (c : Control) (counts : List ℕ) (n : ℕ) → n < length counts → (v : ℕ) → ((j : ℕ) → status_of c n ≡ status.Waiting j → v ≡ living c (joined_at p j)) →
+pub counts_more : (p : Program) (c : Control) (counts : List ℕ) (n : ℕ) → n < length counts → (v : ℕ)
+    → ((j : ℕ) → status_of c n ≡ status.Waiting j → v ≡ living c (joined_at p j)) →
     ((t j : ℕ) → t < n → status_of c t ≡ status.Waiting j → slice_index counts t ≡ living c (joined_at p j)) →
     (t j : ℕ) → t < n + 1 → status_of c t ≡ status.Waiting j → slice_index (slice_set counts n v) t ≡ living c (joined_at p j)
 counts_more p c counts n below v is each t j less waits = go (same_or_not t n)

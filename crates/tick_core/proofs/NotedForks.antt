@@ -1,5 +1,6 @@
 -- The forks that are noted in one pass are those of the joins.
-use Rattle.std.proofs.Common.{◌≡◌, ◌≢◌, ℕ, ◌+◌, ◌<◌, ◌≤◌, ◌⊎◌, Bool, true, false, nat_eq, List, [], ◌∷◌, ◌++◌, length, length-set, take, set, Option, Some, None, option_map, option_and_then, slice_get, refl, sym, ap, subst, ◌∙◌, inl, inr, arith}
+use Rattle.std.proofs.Common.{◌≡◌, ◌≢◌, ℕ, ◌+◌, ◌<◌, ◌≤◌, ◌⊎◌, Bool, true, false, nat_eq, List, [], ◌∷◌, ◌++◌, length, length-set, take, set, Option, Some}
+use Rattle.std.proofs.Common.{None, option_map, option_and_then, slice_get, refl, sym, ap, subst, ◌∙◌, inl, inr, arith}
 use Rattle.std.specs.Prelude.{replicate, IsSome, is_some, if◌then◌else◌}
 use Rattle.std.proofs.lemmas.List.{take_more, take_all, length-replicate, get_or-replicate}
 use Rattle.std.proofs.lemmas.Bool.{cases_lt, eqb-true, eq-eqb}
@@ -22,7 +23,8 @@ first_none (Some children) = refl
 -- the last node is the last one that is searched
 joined_last : (j : ℕ) (nodes : List Node) (x : Node) → joined_among j (nodes ++ x ∷ []) ≡ first_of (joined_among j nodes) (joined_by j x.step)
 joined_last j [] x = first_none (joined_by j x.step)
-joined_last j (y ∷ nodes) x = ap (first_of (joined_by j y.step)) (joined_last j nodes x) ∙ again (joined_by j y.step) (joined_among j nodes) (joined_by j x.step)
+joined_last j (y ∷ nodes) x = ap (first_of (joined_by j y.step)) (joined_last j nodes x) ∙ again (joined_by j y.step) (joined_among j nodes)
+    (joined_by j x.step)
   where
     again : (a b c : Option (List ℕ)) → first_of a (first_of b c) ≡ first_of (first_of a b) c
     again None b c = refl
@@ -49,7 +51,8 @@ noted_none p forks is =
   where
     none_at : (j : ℕ) → j < length p.nodes → slice_get forks j ≡ Some None
     none_at j below =
-        ap (λ xs. slice_get xs j) is ∙ (slice_get-get_or (replicate (length p.nodes) None) j None (omega (arith, length-replicate {A = Option ℕ} (length p.nodes) None))
+        ap (λ xs. slice_get xs j) is
+        ∙ (slice_get-get_or (replicate (length p.nodes) None) j None (omega (arith, length-replicate {A = Option ℕ} (length p.nodes) None))
         ∙ ap Some (get_or-replicate (length p.nodes) j None None below))
 
     other : (j m : ℕ) → slice_get forks j ≡ Some (Some m) → ⊥
@@ -59,15 +62,19 @@ noted_none p forks is =
 
 module _ (p : Program) (forks : List (Option ℕ)) (n : ℕ) (h : FindsBelow p forks n) where
   -- a node that is no fork changes nothing
-  no_fork : (s : Step) → ((j : ℕ) → joined_by j s ≡ None) → (x : Node) → x.step ≡ s → take (n + 1) p.nodes ≡ take n p.nodes ++ x ∷ [] → FindsBelow p forks (n + 1)
+  no_fork : (s : Step) → ((j : ℕ) → joined_by j s ≡ None) → (x : Node) → x.step ≡ s → take (n + 1) p.nodes ≡ take n p.nodes ++ x ∷ []
+      → FindsBelow p forks (n + 1)
   no_fork s none x is more =
       record {
         long = h.long;
-        each = λ j below. h.each j below ∙ sym (ap (joined_among j) more ∙ (joined_last j (take n p.nodes) x ∙ (ap (first_of (joined_among j (take n p.nodes))) (ap (joined_by j) is ∙ none j) ∙ first_none _)));
+        each = λ j below. h.each j below
+            ∙ sym (ap (joined_among j) more
+            ∙ (joined_last j (take n p.nodes) x ∙ (ap (first_of (joined_among j (take n p.nodes))) (ap (joined_by j) is ∙ none j) ∙ first_none _)));
         forking = h.forking;
       }
 
-  module _ (children : List ℕ) (join : ℕ) (x : Node) (is : x.step ≡ step.Fork children join) (there : slice_get p.nodes n ≡ Some x) (more : take (n + 1) p.nodes ≡ take n p.nodes ++ x ∷ []) where
+  module _ (children : List ℕ) (join : ℕ) (x : Node) (is : x.step ≡ step.Fork children join) (there : slice_get p.nodes n ≡ Some x)
+      (more : take (n + 1) p.nodes ≡ take n p.nodes ++ x ∷ []) where
     after : (j : ℕ) → joined_among j (take (n + 1) p.nodes) ≡ first_of (joined_among j (take n p.nodes)) (joined_by j (step.Fork children join))
     after j = ap (joined_among j) more ∙ (joined_last j (take n p.nodes) x ∙ ap (λ s. first_of (joined_among j (take n p.nodes)) (joined_by j s)) is)
 
@@ -125,12 +132,14 @@ module _ (p : Program) (forks : List (Option ℕ)) (n : ℕ) (h : FindsBelow p f
         now : slice_get (set forks join (Some n)) join ≡ Some (Some n)
         now = get_set_same forks join (Some n) join_below
 
-        each : (j : ℕ) → j < length p.nodes → (j ≡ join) ⊎ (j ≢ join) → noted_children p j (slice_get (set forks join (Some n)) j) ≡ joined_among j (take (n + 1) p.nodes)
+        each : (j : ℕ) → j < length p.nodes → (j ≡ join) ⊎ (j ≢ join) → noted_children p j (slice_get (set forks join (Some n)) j)
+            ≡ joined_among j (take (n + 1) p.nodes)
         each j below (inr other) = ap (noted_children p j) (get_set_other forks join j (Some n) other) ∙ others j below other
         each j below (inl same) =
             let none : joined_among join (take n p.nodes) ≡ None = sym (h.each join (omega (arith, join_below, h.long))) ∙ ap (noted_children p join) at in
             subst (λ j. noted_children p j (slice_get (set forks join (Some n)) j) ≡ joined_among j (take (n + 1) p.nodes)) (sym same)
-            (ap (noted_children p join) now ∙ (own_children ∙ sym (after join ∙ (ap (λ o. first_of o (joined_by join (step.Fork children join))) none ∙ by_own join children))))
+            (ap (noted_children p join) now
+            ∙ (own_children ∙ sym (after join ∙ (ap (λ o. first_of o (joined_by join (step.Fork children join))) none ∙ by_own join children))))
 
         forking : (j m : ℕ) → slice_get (set forks join (Some n)) j ≡ Some (Some m) → (j ≡ join) ⊎ (j ≢ join) → IsSome (noted_children p j (Some (Some m)))
         forking j m found (inr other) = h.forking j m (sym (get_set_other forks join j (Some n) other) ∙ found)
@@ -142,13 +151,17 @@ module _ (p : Program) (forks : List (Option ℕ)) (n : ℕ) (h : FindsBelow p f
             (subst (λ m. IsSome (noted_children p join (Some (Some m)))) e (ap is_some own_children))
 
 -- one more node
-pub noted_more : (p : Program) (forks : List (Option ℕ)) (n : ℕ) → n < length p.nodes → FindsBelow p forks n → FindsBelow p (noted_step forks n (step_at p n)) (n + 1)
+pub noted_more : (p : Program) (forks : List (Option ℕ)) (n : ℕ) → n < length p.nodes → FindsBelow p forks n
+    → FindsBelow p (noted_step forks n (step_at p n)) (n + 1)
 noted_more p forks n below h =
     let found = slice_get_there p.nodes n below in
-    let more : take (n + 1) p.nodes ≡ take n p.nodes ++ found.0 ∷ [] = take_more p.nodes n found.0 below ∙ ap (λ x. take n p.nodes ++ x ∷ []) (get_or_from_slice_get p.nodes n found.0 found.0 found.1) in
-    subst (λ o. FindsBelow p (noted_step forks n o) (n + 1)) (sym (ap (option_map (λ (y : Node). y.step)) found.1)) (by_step found.0 found.1 more found.0.step refl)
+    let more : take (n + 1) p.nodes ≡ take n p.nodes ++ found.0 ∷ [] = take_more p.nodes n found.0 below
+    ∙ ap (λ x. take n p.nodes ++ x ∷ []) (get_or_from_slice_get p.nodes n found.0 found.0 found.1) in
+    subst (λ o. FindsBelow p (noted_step forks n o) (n + 1)) (sym (ap (option_map (λ (y : Node). y.step)) found.1))
+    (by_step found.0 found.1 more found.0.step refl)
   where
-    by_step : (x : Node) → slice_get p.nodes n ≡ Some x → take (n + 1) p.nodes ≡ take n p.nodes ++ x ∷ [] → (s : Step) → x.step ≡ s → FindsBelow p (noted_step forks n (Some s)) (n + 1)
+    by_step : (x : Node) → slice_get p.nodes n ≡ Some x → take (n + 1) p.nodes ≡ take n p.nodes ++ x ∷ [] → (s : Step) → x.step ≡ s
+        → FindsBelow p (noted_step forks n (Some s)) (n + 1)
     by_step x there more (step.Fork children join) is = fork_noted p forks n h children join x is there more (slice_get forks join) refl
     by_step x there more (step.Assign y code next) is = no_fork p forks n h (step.Assign y code next) (λ j. refl) x is more
     by_step x there more (step.Update y f code next) is = no_fork p forks n h (step.Update y f code next) (λ j. refl) x is more

@@ -74,7 +74,8 @@ module _ (p : Program) (begun : Control) (run : List ℕ) where
   first_pair_once : (i j h k : ℕ) → IsNotAdmissible p begun run i j → IsNotAdmissible p begun run h k → judged.NotAdmissible i j ≡ judged.NotAdmissible h k
   first_pair_once i j h k a b =
       let second : j ≡ k = le_antisymm (a.first.least_second h k b.first.is) (b.first.least_second i j a.first.is) in
-      let of_b : IsFirstForbidden (ForkedApart p) (acts (machine p) run begun) h j = subst (IsFirstForbidden (ForkedApart p) (acts (machine p) run begun) h) (sym second) b.first in
+      let of_b : IsFirstForbidden (ForkedApart p) (acts (machine p) run begun) h j = subst (IsFirstForbidden (ForkedApart p) (acts (machine p) run begun) h)
+      (sym second) b.first in
       let first : i ≡ h = le_antisymm (a.first.least_first h of_b.is) (of_b.least_first i a.first.is) in
       ap (λ x. judged.NotAdmissible x j) first ∙ ap (judged.NotAdmissible h) second
 

@@ -1,5 +1,6 @@
 -- How many claims are open, counted.
-use Rattle.std.proofs.Common.{◌≡◌, ◌≢◌, ℕ, zero, suc, ◌+◌, ◌<◌, ◌⊎◌, List, [], ◌∷◌, length, Option, Some, None, slice_get, slice_set, refl, inl, inr, arith}
+use Rattle.std.proofs.Common.{◌≡◌, ◌≢◌, ℕ, zero, suc, ◌+◌, ◌<◌, ◌⊎◌, List, [], ◌∷◌, length, Option, Some, None, slice_get, slice_set}
+use Rattle.std.proofs.Common.{refl, sym, ap, inl, inr, arith}
 use Rattle.std.specs.Prelude.{count_by, is_some}
 use Rattle.std.proofs.lemmas.List.Sums.{sum_by-cons}
 use Rattle.buckets.proofs.Lists.{count_set, counts_one}
@@ -31,7 +32,8 @@ some_open (None ∷ claims) some =
     (suc found.0, found.1, found.2)
 
 -- a place holds a claim or none
-pub open_or_not : (claims : List (Option Claim)) (t : ℕ) → t < length claims → (slice_get claims t ≡ Some None) ⊎ ((a : Claim) × (slice_get claims t ≡ Some (Some a)))
+pub open_or_not : (claims : List (Option Claim)) (t : ℕ) → t < length claims → (slice_get claims t ≡ Some None)
+    ⊎ ((a : Claim) × (slice_get claims t ≡ Some (Some a)))
 open_or_not claims t below = let there : (x : Option Claim) × (slice_get claims t ≡ Some x) = slice_get_there claims t below in go there.0 there.1
   where
     go : (x : Option Claim) → slice_get claims t ≡ Some x → (slice_get claims t ≡ Some None) ⊎ ((a : Claim) × (slice_get claims t ≡ Some (Some a)))
@@ -39,12 +41,20 @@ open_or_not claims t below = let there : (x : Option Claim) × (slice_get claims
     go (Some a) is = inr (a, is)
 
 -- one more is open
-pub count_opened : (claims : List (Option Claim)) (t : ℕ) (a : Claim) → slice_get claims t ≡ Some None → count_by is_some (slice_set claims t (Some a)) ≡ count_by is_some claims + 1
+pub count_opened : (claims : List (Option Claim)) (t : ℕ) (a : Claim) → slice_get claims t ≡ Some None → count_by is_some (slice_set claims t (Some a))
+    ≡ count_by is_some claims + 1
 count_opened claims t a is = omega (arith, count_set is_some claims t (Some a) None is)
 
 -- one less is open
-pub count_closed : (claims : List (Option Claim)) (t : ℕ) (a : Claim) → slice_get claims t ≡ Some (Some a) → count_by is_some (slice_set claims t None) + 1 ≡ count_by is_some claims
+pub count_closed : (claims : List (Option Claim)) (t : ℕ) (a : Claim) → slice_get claims t ≡ Some (Some a) → count_by is_some (slice_set claims t None) + 1
+    ≡ count_by is_some claims
 count_closed claims t a is = omega (arith, count_set is_some claims t None (Some a) is)
 
 pub count_same : (claims : List (Option Claim)) (t : ℕ) → slice_get claims t ≡ Some None → count_by is_some (slice_set claims t None) ≡ count_by is_some claims
 count_same claims t is = omega (arith, count_set is_some claims t None None is)
+
+-- to close what is not open changes nothing
+pub none_there : (claims : List (Option Claim)) (t : ℕ) → slice_get claims t ≡ Some None → slice_set claims t None ≡ claims
+none_there [] t is = absurd cc
+none_there (x ∷ claims) zero is = let same : x ≡ None = cc in ap (λ y. y ∷ claims) (sym same)
+none_there (x ∷ claims) (suc t) is = ap (λ ys. x ∷ ys) (none_there claims t is)

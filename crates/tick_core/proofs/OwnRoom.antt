@@ -1,5 +1,6 @@
 -- A row has room for each enabled thread, since each stands at a node of its own.
-use Rattle.std.proofs.Common.{◌≡◌, ◌≢◌, ℕ, ◌<◌, ◌≤◌, ◌⊎◌, Bool, true, false, List, length, length-set, set, Option, Some, None, slice_get, slice_set, refl, sym, subst, ◌∙◌, inl, inr, arith}
+use Rattle.std.proofs.Common.{◌≡◌, ◌≢◌, ℕ, ◌<◌, ◌≤◌, ◌⊎◌, Bool, true, false, List, length, length-set, set, Option, Some, None, slice_get, slice_set, refl, sym}
+use Rattle.std.proofs.Common.{subst, ◌∙◌, inl, inr, arith}
 use Rattle.std.proofs.lemmas.Option.{slice_get_within, same_Some}
 use Rattle.buckets.specs.Rows.{Rows, IsIn, HasRoom, members}
 use Rattle.buckets.proofs.Fitting.{Owns, fits_in}
@@ -49,7 +50,11 @@ module _ (p : Program) (q : Tables) (rows : Rows) (h : OwnRows p q rows) (t : �
 
   pub kept_in : (prior : ℕ) → OwnsNode p q t prior → OwnRows p q (record rows { classes = slice_set rows.classes t (Some prior) })
   kept_in prior it =
-      record { long = length-set rows.classes t (Some prior) ∙ h.long; fits = h.fits; own = λ u other stands. each u other (entered rows.classes t prior u other in_rows stands) }
+      record {
+        long = length-set rows.classes t (Some prior) ∙ h.long;
+        fits = h.fits;
+        own = λ u other stands. each u other (entered rows.classes t prior u other in_rows stands);
+      }
     where
       each : (u other : ℕ) → ((u ≡ t) × (other ≡ prior)) ⊎ ((u ≢ t) × IsIn rows.classes u other) → OwnsNode p q u other
       each u other (inl same) = subst (λ v. OwnsNode p q v other) (sym same.0) (subst (OwnsNode p q t) (sym same.1) it)
@@ -57,7 +62,11 @@ module _ (p : Program) (q : Tables) (rows : Rows) (h : OwnRows p q rows) (t : �
 
   pub kept_out : OwnRows p q (record rows { classes = slice_set rows.classes t None })
   kept_out =
-      record { long = length-set rows.classes t None ∙ h.long; fits = h.fits; own = λ u other stands. h.own u other (left rows.classes t u other in_rows stands).1 }
+      record {
+        long = length-set rows.classes t None ∙ h.long;
+        fits = h.fits;
+        own = λ u other stands. h.own u other (left rows.classes t u other in_rows stands).1;
+      }
 
   module _ (c : Control) (valid : IsValid p q) (ok : IsConfiguration p c) where
     owns_node : is_enabled p c t ≡ true → OwnsNode p q t (priority_of q (status_of c t))
@@ -65,12 +74,14 @@ module _ (p : Program) (q : Tables) (rows : Rows) (h : OwnRows p q rows) (t : �
         let from : StepsFrom p q c t = steps_from p q valid c ok t (enabled_view p c t enabled) in
         record { node = from.node; owned = from.owned; has = sym from.priority }
 
-    at_row : (b : Bool) → is_enabled p c t ≡ b → HasRoom rows t (row_at b (priority_of q (status_of c t))) × OwnRows p q (record rows { classes = slice_set rows.classes t (row_at b (priority_of q (status_of c t))) })
+    at_row : (b : Bool) → is_enabled p c t ≡ b → HasRoom rows t (row_at b (priority_of q (status_of c t)))
+        × OwnRows p q (record rows { classes = slice_set rows.classes t (row_at b (priority_of q (status_of c t))) })
     at_row true enabled = (room_own (priority_of q (status_of c t)) (owns_node enabled), kept_in (priority_of q (status_of c t)) (owns_node enabled))
     at_row false idle = (in_rows, kept_out)
 
     module _ (claims : List (Option Claim)) where
-      at_claim : (o : Option (Option Claim)) → HasRoom rows t (unless_claimed o (step_priority p q c t)) × OwnRows p q (record rows { classes = slice_set rows.classes t (unless_claimed o (step_priority p q c t)) })
+      at_claim : (o : Option (Option Claim)) → HasRoom rows t (unless_claimed o (step_priority p q c t))
+          × OwnRows p q (record rows { classes = slice_set rows.classes t (unless_claimed o (step_priority p q c t)) })
       at_claim (Some None) = at_row (is_enabled p c t) refl
       at_claim (Some (Some a)) = (in_rows, kept_out)
       at_claim None = (in_rows, kept_out)

@@ -61,7 +61,8 @@ pub some_step : {c : Option Control} → ((e : Control) × (c ≡ Some e)) → I
 some_step found = subst IsSome (sym found.1) refl
 
 -- the run goes on by its next thread
-pub runs_more : (p : Program) (begun c d : Control) (run : List ℕ) (at n : ℕ) (steps more : List Taken) → at < length run → RunsBy p begun (take at run) c steps →
+pub runs_more : (p : Program) (begun c d : Control) (run : List ℕ) (at n : ℕ) (steps more : List Taken) → at < length run
+    → RunsBy p begun (take at run) c steps →
     StepsAt p c (get_or run at 0) n d → more ≡ steps ++ record { thread = get_or run at 0; node = n } ∷ [] → RunsBy p begun (take (at + 1) run) d more
 runs_more p begun c d run at n steps more within by stepped is =
     subst₂ (λ (l : List ℕ) (s : List Taken). RunsBy p begun l d s) (sym (take_more run at 0 within)) (sym is)

@@ -19,7 +19,8 @@ value_put inputs (b ∷ vs) (u ∷ ws) zero a w i j =
 value_put inputs (b ∷ vs) (u ∷ ws) (suc x) a w i j = ap (λ rest. u ∷ rest) (value_put inputs vs ws x a w i j)
 
 -- one more value of the start
-pub value_more : (inputs : Inputs) (vs : List Variable) (ws : List Value) (x : ℕ) (a : Variable) (w v : Value) → slice_get vs x ≡ Some a → slice_get ws x ≡ Some w
+pub value_more : (inputs : Inputs) (vs : List Variable) (ws : List Value) (x : ℕ) (a : Variable) (w v : Value) → slice_get vs x ≡ Some a
+    → slice_get ws x ≡ Some w
     → v ≡ value_at_start inputs a a.role w → values_from inputs vs (set ws x v) (x + 1) ≡ values_from inputs vs ws x
 value_more inputs vs ws x a w v i j is =
     ap (values_from inputs vs (set ws x v)) (add-one x) ∙ (ap (λ u. values_from inputs vs (set ws x u) (suc x)) is ∙ value_put inputs vs ws x a w i j)

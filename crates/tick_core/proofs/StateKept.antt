@@ -1,5 +1,6 @@
 -- What the state of a tick keeps, from its beginning through every event.
-use Rattle.std.proofs.Common.{◌≡◌, ◌≢◌, ℕ, ◌+◌, ◌<◌, ◌≤◌, List, [], ◌∷◌, ◌++◌, map, length, length-append, length-set, take, get_or, Option, Some, None, option_map, slice_get, slice_set, refl, sym, ap, subst, ◌∙◌, ◌⊎◌, inl, inr, arith}
+use Rattle.std.proofs.Common.{◌≡◌, ◌≢◌, ℕ, ◌+◌, ◌<◌, ◌≤◌, List, [], ◌∷◌, ◌++◌, map, length, length-append, length-set, take, get_or, Option, Some, None}
+use Rattle.std.proofs.Common.{option_map, slice_get, slice_set, refl, sym, ap, subst, ◌∙◌, ◌⊎◌, inl, inr, arith}
 use Rattle.std.specs.Prelude.{IsSome, is_some, is_none, IsTrue, ◌↔◌, MatchOption, unwrap_or, zero, suc, true, false}
 use Rattle.std.proofs.lemmas.List.{length-map, map-append, append-nil, append_assoc, take_more}
 use Rattle.std.proofs.lemmas.Option.{slice_get-map, slice_get_within}
@@ -64,13 +65,15 @@ holds_begun image c inputs s valid rests begins =
       valid = subst (λ i. IsValid i.program i.tables) (sym p_is) valid;
       begins = subst (λ i. BeginsTick i.program s.begun) (sym p_is)
           (record { resting = c; inputs = inputs; rests = rests; accepted = begins.accepted; is = begins.begun_is });
-      run = subst (λ h. PriorityRun s.image.program s.image.tables (threads_of h) s.begun s.present) (sym begins.no_step) (begins.begun_is ∙ sym begins.present_is);
+      run = subst (λ h. PriorityRun s.image.program s.image.tables (threads_of h) s.begun s.present) (sym begins.no_step)
+          (begins.begun_is ∙ sym begins.present_is);
       places = ap length begins.claims_are ∙ (length-map image.program.threads (λ _. None) ∙ ap (λ i. length i.program.threads) (sym p_is));
       fresh = λ t a is. absurd (no_claims_at image.program.threads s.claims begins.claims_are t a is);
     }
 
 -- where a tick begins is a configuration
-pub begun_configuration : (image : Image) (c : Control) (inputs : Inputs) → IsValid image.program image.tables → Rests image.program c → AreAccepted image.program inputs → IsConfiguration image.program (start image.program inputs c)
+pub begun_configuration : (image : Image) (c : Control) (inputs : Inputs) → IsValid image.program image.tables → Rests image.program c
+    → AreAccepted image.program inputs → IsConfiguration image.program (start image.program inputs c)
 begun_configuration image c inputs valid rests accepted = start_config image.program (valid_formed image.program image.tables valid) inputs accepted c rests
 
 no_thread : Thread
@@ -85,7 +88,8 @@ none_more threads n below =
     ap (map unclaimed) (take_more threads n no_thread below) ∙ map-append unclaimed (take n threads) (get_or threads n no_thread ∷ [])
 
 -- what is open besides the claim that was closed
-pub still_open : (claims : List (Option Claim)) (t u : ℕ) (a : Claim) → slice_get (slice_set claims t None) u ≡ Some (Some a) → (u ≢ t) × (slice_get claims u ≡ Some (Some a))
+pub still_open : (claims : List (Option Claim)) (t u : ℕ) (a : Claim) → slice_get (slice_set claims t None) u ≡ Some (Some a)
+    → (u ≢ t) × (slice_get claims u ≡ Some (Some a))
 still_open claims t u a is = go (same_or_not u t)
   where
     go : (u ≡ t) ⊎ (u ≢ t) → (u ≢ t) × (slice_get claims u ≡ Some (Some a))
@@ -108,12 +112,20 @@ same_tick image image' begun begun' present present' history history' claims cla
     ∙ (ap (λ x. tick image' begun' x history claims) p ∙ (ap (λ x. tick image' begun' present' x claims) h ∙ ap (tick image' begun' present' history') c)))
 
 drops_is : (s s' : InTick) → DropsClaims s s' → s' ≡ record s { claims = s'.claims }
-drops_is s s' drops = same_tick s'.image s.image s'.begun s.begun s'.present s.present s'.history s.history s'.claims s'.claims drops.image_is drops.begun_is drops.present_is drops.history_is refl
+drops_is s s' drops = same_tick s'.image s.image s'.begun s.begun s'.present s.present s'.history s.history s'.claims s'.claims drops.image_is drops.begun_is
+    drops.present_is drops.history_is refl
 
 advances_is : (s s' : InTick) (t worker : ℕ) → Advances s s' t worker →
-    s' ≡ record { image = s.image; begun = s.begun; present = s'.present; history = s.history ++ record { thread = t; worker = worker } ∷ []; claims = slice_set s.claims t None }
+    s' ≡ record {
+      image = s.image;
+      begun = s.begun;
+      present = s'.present;
+      history = s.history ++ record { thread = t; worker = worker } ∷ [];
+      claims = slice_set s.claims t None;
+    }
 advances_is s s' t worker advances =
-    same_tick s'.image s.image s'.begun s.begun s'.present s'.present s'.history _ s'.claims _ advances.image_is advances.begun_is refl advances.history_is advances.claims_are
+    same_tick s'.image s.image s'.begun s.begun s'.present s'.present s'.history _ s'.claims _ advances.image_is advances.begun_is refl advances.history_is
+    advances.claims_are
 
 pub leads_at : (s s' : InTick) (t : ℕ) → s ≡ s' → Leads s'.image.program s'.image.tables s'.present t → Leads s.image.program s.image.tables s.present t
 leads_at s s' t same leads = subst (λ s. Leads s.image.program s.image.tables s.present t) (sym same) leads
@@ -126,7 +138,8 @@ enabled_within p c t enabled = go (slice_get c.statuses t) refl
     go (Some st) is = slice_get_within c.statuses t st is
 
 -- a search for a leader tells whether the tick is over
-pub over_or_led : (p : Program) (q : Tables) (c : Control) (o : Option ℕ) → MatchOption o (IsOver (machine p) c) (Leads p q c) → IsTrue (is_none o) ↔ (IsOver (machine p) c)
+pub over_or_led : (p : Program) (q : Tables) (c : Control) (o : Option ℕ) → MatchOption o (IsOver (machine p) c) (Leads p q c) → IsTrue (is_none o)
+    ↔ (IsOver (machine p) c)
 over_or_led p q c None over = (λ h. over, λ h. refl)
 over_or_led p q c (Some t) leads = (λ h. absurd cc, λ over. let enabled = leads.enabled in let no = over t in absurd cc)
 
@@ -159,7 +172,8 @@ alone_goes_on s s' s'' t alone advances =
     one : Entry
     one = record { thread = t; worker = 0 }
 
-    in_more : (more : List Entry) (i : ℕ) (e : Entry) → ((k : ℕ) (x : Entry) → slice_get more k ≡ Some x → x.worker ≡ 0) → slice_get (more ++ one ∷ []) i ≡ Some e → e.worker ≡ 0
+    in_more : (more : List Entry) (i : ℕ) (e : Entry) → ((k : ℕ) (x : Entry) → slice_get more k ≡ Some x → x.worker ≡ 0) → slice_get (more ++ one ∷ []) i
+        ≡ Some e → e.worker ≡ 0
     in_more [] zero e each is = let same : one ≡ e = cc in ap (λ x. x.worker) (sym same)
     in_more [] (suc i) e each is = absurd (omega (arith, slice_get_within [] i e is))
     in_more (x ∷ more) zero e each is = each zero e is
@@ -197,7 +211,11 @@ module _ (s : InTick) (h : Holds s) where
 
   pub has_room : (t : ℕ) → Leads s.image.program s.image.tables s.present t → length s.history < s.image.tables.budget
   has_room t leads =
-      omega (arith, length-map s.history (λ (e : Entry). e.thread), room s.image.program s.image.tables s.begun one_end (threads_of s.history) s.present h.run t leads)
+      omega (
+        arith,
+        length-map s.history (λ (e : Entry). e.thread),
+        room s.image.program s.image.tables s.begun one_end (threads_of s.history) s.present h.run t leads,
+      )
 
   -- who leads has a place among the claims
   pub has_place : (t : ℕ) → Leads s.image.program s.image.tables s.present t → t < length s.claims
@@ -207,7 +225,8 @@ module _ (s : InTick) (h : Holds s) where
   budget_fits = (h.valid.size place.Image).1
 
   -- the value of an open claim is what the step of its thread takes
-  pub open_value : (t : ℕ) (a : Claim) → slice_get s.claims t ≡ Some (Some a) → value_by a.code a.operands ≡ value_at s.image.program s.present (status_of s.present t)
+  pub open_value : (t : ℕ) (a : Claim) → slice_get s.claims t ≡ Some (Some a) → value_by a.code a.operands
+      ≡ value_at s.image.program s.present (status_of s.present t)
   open_value t a is = fresh_value s.image.program s.image.tables s.present (length s.history) t a configuration (h.fresh t a is)
 
   kept_with : (claims : List (Option Claim)) → length claims ≡ length s.claims →
@@ -255,7 +274,8 @@ module _ (s : InTick) (h : Holds s) where
       (record {
         valid = h.valid;
         begins = h.begins;
-        run = subst (λ run. PriorityRun s.image.program s.image.tables run s.begun s'.present) (sym (map-append (λ (e : Entry). e.thread) s.history (entry ∷ [])))
+        run = subst (λ run. PriorityRun s.image.program s.image.tables run s.begun s'.present)
+            (sym (map-append (λ (e : Entry). e.thread) s.history (entry ∷ [])))
             (priority_push s.image.program s.image.tables (threads_of s.history) t s.begun s.present s'.present h.run leads advances.stepped);
         places = length-set s.claims t None ∙ h.places;
         fresh = λ u a is. other_fresh u a (still_open s.claims t u a is);
@@ -268,7 +288,8 @@ module _ (s : InTick) (h : Holds s) where
           IsFresh s.image.program s.image.tables s'.present (length (s.history ++ entry ∷ [])) u a
       other_fresh u a opened =
           subst (λ n. IsFresh s.image.program s.image.tables s'.present n u a) (sym (length-append s.history (entry ∷ [])))
-          (fresh_kept s.image.program s.image.tables h.valid s.present configuration t u (length s.history) a s'.present opened.0 leads advances.stepped (h.fresh u a opened.1))
+          (fresh_kept s.image.program s.image.tables h.valid s.present configuration t u (length s.history) a s'.present opened.0 leads advances.stepped
+          (h.fresh u a opened.1))
 
 -- what holds of a finished tick: its last configuration, and its steps
 pub record Finished (s : InTick) (end : Control) (history : List Entry) : Type 0 where
@@ -288,7 +309,8 @@ finished_at s h over =
       };
     }
 
-pub finished : (was s : InTick) (end : Control) (history : List Entry) → was ≡ s → Holds was → IsOver (machine s.image.program) s.present → end ≡ s.present → history ≡ s.history → Finished s end history
+pub finished : (was s : InTick) (end : Control) (history : List Entry) → was ≡ s → Holds was → IsOver (machine s.image.program) s.present → end ≡ s.present
+    → history ≡ s.history → Finished s end history
 finished was s end history same h over end_is history_is =
     subst (λ x. Finished s x history) (sym end_is) (subst (Finished s s.present) (sym history_is) (finished_at s (subst Holds same h) over))
 
@@ -296,7 +318,8 @@ pub few_entries : (s : InTick) → Holds s → (history : List Entry) → histor
 few_entries s h history same = omega (arith, within_budget s h, budget_fits s h, ap length same)
 
 -- a leader's step leaves the history within the budget
-pub room_left : (was s s' : InTick) (t worker : ℕ) → was ≡ s → Holds was → Leads s.image.program s.image.tables s.present t → Advances s s' t worker → length s'.history ≤ s'.image.tables.budget
+pub room_left : (was s s' : InTick) (t worker : ℕ) → was ≡ s → Holds was → Leads s.image.program s.image.tables s.present t → Advances s s' t worker
+    → length s'.history ≤ s'.image.tables.budget
 room_left was s s' t worker same h leads advances =
     omega (
       arith,
@@ -326,7 +349,8 @@ pub fresh_shown : (was s : InTick) (claims : List (Option Claim)) → was ≡ s 
 fresh_shown was s claims same h is t a at = (subst Holds same h).fresh t a (sym (ap (λ xs. slice_get xs t) is) ∙ at)
 
 -- where no claim is open, each place of a claim is bare
-all_bare : (claims : List (Option Claim)) (threads : List Thread) → length claims ≡ length threads → ((t : ℕ) (a : Claim) → slice_get claims t ≢ Some (Some a)) → claims ≡ map (λ _. None) threads
+all_bare : (claims : List (Option Claim)) (threads : List Thread) → length claims ≡ length threads → ((t : ℕ) (a : Claim) → slice_get claims t ≢ Some (Some a))
+    → claims ≡ map (λ _. None) threads
 all_bare [] [] long none = refl
 all_bare [] (x ∷ threads) long none = absurd (omega arith)
 all_bare (c ∷ claims) [] long none = absurd (omega arith)

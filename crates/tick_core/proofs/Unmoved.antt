@@ -1,5 +1,6 @@
 -- Whom a step leaves as enabled as they were: all but its thread, the parent, and the children that it forks or leaves.
-use Rattle.std.proofs.Common.{◌≡◌, ◌≢◌, ℕ, ◌+◌, ◌<◌, ◌⊎◌, ◌&&◌, Bool, List, [], ◌∷◌, length, length-set, All, Option, Some, None, slice_get, slice_set, Contains, refl, sym, ap, subst, ◌∙◌, inl, inr, ⊎_elim, arith}
+use Rattle.std.proofs.Common.{◌≡◌, ◌≢◌, ℕ, ◌+◌, ◌<◌, ◌⊎◌, ◌&&◌, Bool, List, [], ◌∷◌, length, length-set, All, Option, Some, None, slice_get, slice_set}
+use Rattle.std.proofs.Common.{Contains, refl, sym, ap, subst, ◌∙◌, inl, inr, ⊎_elim, arith}
 use Rattle.std.specs.List.{list_all}
 use Rattle.buckets.specs.Rows.{Rows}
 use Rattle.sc_graph.specs.declared.program.Step.{Step}
@@ -22,7 +23,8 @@ use Rattle.tick_laws.proofs.ConfigurationKept.{configuration_kept}
 use Rattle.tick_laws.proofs.Moves.{IsMoved, moved_other, entering_movers, leaving_movers}
 use Rattle.tick_laws.proofs.Sound.{whom, IsIdleChild, fork_of_join}
 use Rattle.tick_core.specs.Claims.{Claim}
-use Rattle.tick_core.specs.Inside.Sorting.{row_at, step_priority, unless_claimed, ready_row, OwnRows, AreSorted, sorted_one, sorted_parent, sorted_all, children_at, or_none, children_at_step}
+use Rattle.tick_core.specs.Inside.Sorting.{row_at, step_priority, unless_claimed, ready_row, OwnRows, AreSorted, sorted_one, sorted_parent, sorted_all}
+use Rattle.tick_core.specs.Inside.Sorting.{children_at, or_none, children_at_step}
 
 same_tests : (f g : ℕ → Bool) (ks : List ℕ) → ((k : ℕ) → Contains ks k → f k ≡ g k) → list_all f ks ≡ list_all g ks
 same_tests f g [] each = refl
@@ -62,7 +64,8 @@ module _ (p : Program) (q : Tables) (valid : IsValid p q) (c : Control) (ok : Is
       one : (a b : ℕ) → Some a ≡ Some b → a ≡ b
       one a b same = cc
 
-  ended_alike : (u j : ℕ) → u ≢ t → parent_of p t ≢ Some u → status_of c u ≡ status.Waiting j → (o : Option (List ℕ)) → joined_at p j ≡ o → all_ended (after e c) o ≡ all_ended c o
+  ended_alike : (u j : ℕ) → u ≢ t → parent_of p t ≢ Some u → status_of c u ≡ status.Waiting j → (o : Option (List ℕ)) → joined_at p j ≡ o
+      → all_ended (after e c) o ≡ all_ended c o
   ended_alike u j other no_parent waits None joined = refl
   ended_alike u j other no_parent waits (Some children) joined =
       let of : JoinOf p j children = join_of p j children joined in
@@ -95,14 +98,16 @@ module _ (row : ℕ → Option ℕ) where
   one_other rows t u other = get_set_other rows.classes t u (row t) other
 
   -- a place that is right stays right
-  one_right : (rows : Rows) (t u : ℕ) → u < length rows.classes → slice_get rows.classes u ≡ Some (row u) → slice_get (sorted_one row rows t).classes u ≡ Some (row u)
+  one_right : (rows : Rows) (t u : ℕ) → u < length rows.classes → slice_get rows.classes u ≡ Some (row u) → slice_get (sorted_one row rows t).classes u
+      ≡ Some (row u)
   one_right rows t u below right = go (same_or_not u t)
     where
       go : (u ≡ t) ⊎ (u ≢ t) → slice_get (sorted_one row rows t).classes u ≡ Some (row u)
       go (inl same) = one_at rows t u (omega (arith, below)) same
       go (inr other) = one_other rows t u other ∙ right
 
-  all_right : (ks : List ℕ) (rows : Rows) (u : ℕ) → u < length rows.classes → slice_get rows.classes u ≡ Some (row u) → slice_get (sorted_all row ks rows).classes u ≡ Some (row u)
+  all_right : (ks : List ℕ) (rows : Rows) (u : ℕ) → u < length rows.classes → slice_get rows.classes u ≡ Some (row u)
+      → slice_get (sorted_all row ks rows).classes u ≡ Some (row u)
   all_right [] rows u below right = right
   all_right (k ∷ ks) rows u below right =
       all_right ks (sorted_one row rows k) u (omega (arith, below, length-set rows.classes k (row k))) (one_right rows k u below right)
@@ -112,7 +117,8 @@ module _ (row : ℕ → Option ℕ) where
   all_in [] rows u below within = absurd (contains_none u within)
   all_in (k ∷ ks) rows u below within =
       ⊎_elim
-      (λ same. all_right ks (sorted_one row rows k) u (omega (arith, below, length-set rows.classes k (row k))) (one_at rows k u (omega (arith, below, same)) (sym same)))
+      (λ same. all_right ks (sorted_one row rows k) u (omega (arith, below, length-set rows.classes k (row k)))
+      (one_at rows k u (omega (arith, below, same)) (sym same)))
       (λ tail. all_in ks (sorted_one row rows k) u (omega (arith, below, length-set rows.classes k (row k))) tail)
       (contains_cons k u ks within)
 
@@ -123,11 +129,18 @@ module _ (row : ℕ → Option ℕ) where
       ∙ one_other rows k u (λ same. out (subst (λ i. Contains (k ∷ ks) i) (sym same) (contains_head k ks)))
 
 -- after a step, who was sorted anew and who was left stand in the rows of their priorities
-pub sorted_after : (p : Program) (q : Tables) → IsValid p q → (c d : Control) → IsConfiguration p c → (t : ℕ) → t < length p.threads → step p t c ≡ Some d → (claims : List (Option Claim)) (rows after_rows : Rows) → AreSorted p q c claims rows →
-    after_rows ≡ sorted_all (ready_row p q d (slice_set claims t None)) (children_at p (status_of c t)) (sorted_parent (ready_row p q d (slice_set claims t None)) (sorted_one (ready_row p q d (slice_set claims t None)) rows t) (parent_of p t)) → OwnRows p q after_rows → AreSorted p q d (slice_set claims t None) after_rows
+pub sorted_after : (p : Program) (q : Tables) → IsValid p q → (c d : Control) → IsConfiguration p c → (t : ℕ) → t < length p.threads → step p t c ≡ Some d
+    → (claims : List (Option Claim)) (rows after_rows : Rows) → AreSorted p q c claims rows →
+    after_rows ≡ sorted_all (ready_row p q d (slice_set claims t None)) (children_at p (status_of c t))
+    (sorted_parent (ready_row p q d (slice_set claims t None)) (sorted_one (ready_row p q d (slice_set claims t None)) rows t) (parent_of p t))
+    → OwnRows p q after_rows → AreSorted p q d (slice_set claims t None) after_rows
 sorted_after p q valid c d ok t t_below stepped claims rows after_rows h is own =
     let found : (e : Effect) × (effect p c t ≡ Some e) × (after e c ≡ d) = map_some (λ (e : Effect). after e c) (effect p c t) d stepped in
-    record { own_rows = own; each = λ u below. ap (λ (r : Rows). slice_get r.classes u) is ∙ each found.0 (what_does p c t found.0 found.1) found.2 u below (contained (children_at p (status_of c t)) u) }
+    record {
+      own_rows = own;
+      each = λ u below. ap (λ (r : Rows). slice_get r.classes u) is ∙ each found.0 (what_does p c t found.0 found.1) found.2 u below
+          (contained (children_at p (status_of c t)) u);
+    }
   where
     row : ℕ → Option ℕ
     row = ready_row p q d (slice_set claims t None)
@@ -136,14 +149,17 @@ sorted_after p q valid c d ok t t_below stepped claims rows after_rows h is own 
     parent_long None = length-set rows.classes t (row t) ∙ h.own_rows.long
     parent_long (Some w) = length-set (sorted_one row rows t).classes w (row w) ∙ (length-set rows.classes t (row t) ∙ h.own_rows.long)
 
-    own_at : (e : Effect) → Does p c t e → after e c ≡ d → (u : ℕ) → u < length p.threads → parent_of p t ≢ Some u → ¬ Contains (children_at p (status_of c t)) u → (u ≡ t) ⊎ (u ≢ t) →
+    own_at : (e : Effect) → Does p c t e → after e c ≡ d → (u : ℕ) → u < length p.threads → parent_of p t ≢ Some u
+        → ¬ Contains (children_at p (status_of c t)) u → (u ≡ t) ⊎ (u ≢ t) →
         slice_get (sorted_one row rows t).classes u ≡ Some (row u)
     own_at e does same u below no_parent no_child (inl here) = one_at row rows t u (omega (arith, h.own_rows.long)) here
     own_at e does same u below no_parent no_child (inr other) =
         one_other row rows t u other ∙ (h.each u below ∙ ap Some (ap (λ o. unless_claimed o (step_priority p q c u)) (sym (get_set_other claims t u None other))
-        ∙ ap (unless_claimed (slice_get (slice_set claims t None) u)) (sym (alike p q valid c ok t e does u other no_parent no_child) ∙ ap (λ x. step_priority p q x u) same)))
+        ∙ ap (unless_claimed (slice_get (slice_set claims t None) u)) (sym (alike p q valid c ok t e does u other no_parent no_child)
+        ∙ ap (λ x. step_priority p q x u) same)))
 
-    at_parent : (e : Effect) → Does p c t e → after e c ≡ d → (u : ℕ) → u < length p.threads → ¬ Contains (children_at p (status_of c t)) u → (o : Option ℕ) → parent_of p t ≡ o →
+    at_parent : (e : Effect) → Does p c t e → after e c ≡ d → (u : ℕ) → u < length p.threads → ¬ Contains (children_at p (status_of c t)) u → (o : Option ℕ)
+        → parent_of p t ≡ o →
         slice_get (sorted_parent row (sorted_one row rows t) o).classes u ≡ Some (row u)
     at_parent e does same u below no_child None parent = own_at e does same u below (λ some. none_some u (sym parent ∙ some)) no_child (same_or_not u t)
       where
@@ -160,10 +176,12 @@ sorted_after p q valid c d ok t t_below stepped claims rows after_rows h is own 
             same_number : (a b : ℕ) → Some a ≡ Some b → a ≡ b
             same_number a b e = cc
 
-    each : (e : Effect) → Does p c t e → after e c ≡ d → (u : ℕ) → u < length p.threads → Contains (children_at p (status_of c t)) u ⊎ ¬ Contains (children_at p (status_of c t)) u →
+    each : (e : Effect) → Does p c t e → after e c ≡ d → (u : ℕ) → u < length p.threads → Contains (children_at p (status_of c t)) u
+        ⊎ ¬ Contains (children_at p (status_of c t)) u →
         slice_get (sorted_all row (children_at p (status_of c t)) (sorted_parent row (sorted_one row rows t) (parent_of p t))).classes u ≡ Some (row u)
     each e does same u below (inl child) =
-        all_in row (children_at p (status_of c t)) (sorted_parent row (sorted_one row rows t) (parent_of p t)) u (omega (arith, parent_long (parent_of p t))) child
+        all_in row (children_at p (status_of c t)) (sorted_parent row (sorted_one row rows t) (parent_of p t)) u (omega (arith, parent_long (parent_of p t)))
+        child
     each e does same u below (inr no_child) =
         all_out row (children_at p (status_of c t)) (sorted_parent row (sorted_one row rows t) (parent_of p t)) u no_child
         ∙ at_parent e does same u below no_child (parent_of p t) refl
@@ -186,25 +204,35 @@ children_in p formed (status.Waiting j) = at_join (joined_at p j) refl
   where
     at_join : (o : Option (List ℕ)) → joined_at p j ≡ o → All (λ k. k < length p.threads) (or_none o)
     at_join None is = λ k d lt. absurd (omega arith)
-    at_join (Some children) is = let of : JoinOf p j children = join_of p j children is in (step_fits p formed of.fork (steps.Fork children j) of.is.forks).0.threads
+    at_join (Some children) is = let of : JoinOf p j children = join_of p j children is in
+        (step_fits p formed of.fork (steps.Fork children j) of.is.forks).0.threads
 children_in p formed status.Absent = λ k d lt. absurd (omega arith)
 children_in p formed (status.Paused n) = λ k d lt. absurd (omega arith)
 children_in p formed status.Ended = λ k d lt. absurd (omega arith)
 
-pub children_in_at : (p p' : Program) (q : Tables) → IsValid p q → p' ≡ p → (st : Status) (children : List ℕ) → children ≡ children_at p' st → All (λ k. k < length p'.threads) children
+pub children_in_at : (p p' : Program) (q : Tables) → IsValid p q → p' ≡ p → (st : Status) (children : List ℕ) → children ≡ children_at p' st
+    → All (λ k. k < length p'.threads) children
 children_in_at p p' q valid p_is st children are =
-    subst (All (λ k. k < length p'.threads)) (sym are) (subst (λ x. All (λ k. k < length x.threads) (children_at x st)) (sym p_is) (children_in p (valid_formed p q valid) st))
+    subst (All (λ k. k < length p'.threads)) (sym are)
+    (subst (λ x. All (λ k. k < length x.threads) (children_at x st)) (sym p_is) (children_in p (valid_formed p q valid) st))
 
 -- the same, of a program, tables and status that are given twice
-pub sorted_after_at : (p : Program) (q : Tables) → IsValid p q → (c d : Control) → IsConfiguration p c → (t : ℕ) → t < length p.threads → step p t c ≡ Some d → (claims : List (Option Claim)) (rows after_rows : Rows) → AreSorted p q c claims rows →
-    (p' : Program) (q' : Tables) (st : Status) (children : List ℕ) → p' ≡ p → q' ≡ q → st ≡ status_of c t → children ≡ children_at p' st → (after_claims : List (Option Claim)) → after_claims ≡ slice_set claims t None →
-    after_rows ≡ sorted_all (ready_row p' q' d after_claims) children (sorted_parent (ready_row p' q' d after_claims) (sorted_one (ready_row p' q' d after_claims) rows t) (parent_of p' t)) → OwnRows p' q' after_rows → AreSorted p q d after_claims after_rows
+pub sorted_after_at : (p : Program) (q : Tables) → IsValid p q → (c d : Control) → IsConfiguration p c → (t : ℕ) → t < length p.threads → step p t c ≡ Some d
+    → (claims : List (Option Claim)) (rows after_rows : Rows) → AreSorted p q c claims rows →
+    (p' : Program) (q' : Tables) (st : Status) (children : List ℕ) → p' ≡ p → q' ≡ q → st ≡ status_of c t → children ≡ children_at p' st
+    → (after_claims : List (Option Claim)) → after_claims ≡ slice_set claims t None →
+    after_rows ≡ sorted_all (ready_row p' q' d after_claims) children
+    (sorted_parent (ready_row p' q' d after_claims) (sorted_one (ready_row p' q' d after_claims) rows t) (parent_of p' t)) → OwnRows p' q' after_rows
+    → AreSorted p q d after_claims after_rows
 sorted_after_at p q valid c d ok t below stepped claims rows after_rows h p' q' st children p_is q_is st_is children_are after_claims claims_are is own =
-    let F : Program → Tables → List ℕ → List (Option Claim) → Rows = λ x y ks o. sorted_all (ready_row x y d o) ks (sorted_parent (ready_row x y d o) (sorted_one (ready_row x y d o) rows t) (parent_of x t)) in
+    let F : Program → Tables → List ℕ → List (Option Claim)
+    → Rows = λ x y ks o. sorted_all (ready_row x y d o) ks (sorted_parent (ready_row x y d o) (sorted_one (ready_row x y d o) rows t) (parent_of x t)) in
     let own_children : children ≡ children_at p (status_of c t) = children_are ∙ (ap (λ x. children_at x st) p_is ∙ ap (children_at p) st_is) in
     subst (λ o. AreSorted p q d o after_rows) (sym claims_are)
     (sorted_after p q valid c d ok t below stepped claims rows after_rows h
-    (is ∙ (ap (λ x. F x q' children after_claims) p_is ∙ (ap (λ y. F p y children after_claims) q_is ∙ (ap (λ ks. F p q ks after_claims) own_children ∙ ap (F p q (children_at p (status_of c t))) claims_are))))
+    (is ∙ (ap (λ x. F x q' children after_claims) p_is
+    ∙ (ap (λ y. F p y children after_claims) q_is
+    ∙ (ap (λ ks. F p q ks after_claims) own_children ∙ ap (F p q (children_at p (status_of c t))) claims_are))))
     (subst (λ y. OwnRows p y after_rows) q_is (subst (λ x. OwnRows x q' after_rows) p_is own)))
 
 -- a step keeps what a configuration is
@@ -214,7 +242,8 @@ stays_configuration p q valid c d ok t stepped =
     subst (IsConfiguration p) found.2 (configuration_kept p (valid_formed p q valid) c t found.0 ok found.1)
 
 -- one more thread is sorted
-pub sorted_more : (p : Program) (q : Tables) (row : ℕ → Option ℕ) (n : ℕ) (rows after_rows : Rows) → OwnRows p q rows → n < length p.threads → ((t : ℕ) → t < n → slice_get rows.classes t ≡ Some (row t)) →
+pub sorted_more : (p : Program) (q : Tables) (row : ℕ → Option ℕ) (n : ℕ) (rows after_rows : Rows) → OwnRows p q rows → n < length p.threads
+    → ((t : ℕ) → t < n → slice_get rows.classes t ≡ Some (row t)) →
     after_rows ≡ sorted_one row rows n → (t : ℕ) → t < n + 1 → slice_get after_rows.classes t ≡ Some (row t)
 sorted_more p q row n rows after_rows own below each is t t_below = ap (λ (r : Rows). slice_get r.classes t) is ∙ go (same_or_not t n)
   where

@@ -33,6 +33,10 @@ HasOperands (Some code) operands = map kind_of operands ≡ code.loads
 abbrev pub operations_of : Option Checked → Option (List Operation)
 operations_of code = option_map (λ k. k.operations) code
 
+-- the checked code of these operations whose loads take these operands
+abbrev pub checked_by : Option (List Operation) → List Value → Option Checked
+checked_by code operands = option_map (λ o. record { operations = o; loads = map kind_of operands }) code
+
 -- the present values of what a code loads
 abbrev pub present_operands : List Value → Option (List Operation) → List Value
 present_operands variables None = []

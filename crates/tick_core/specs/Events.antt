@@ -54,7 +54,8 @@ pub record Replays (image : Image) (c : Control) (s : InTick) : Type 0 where
   pub within : length s.history ≤ image.tables.budget
   pub defined : (t : ℕ) → IsEnabled image.program s.present t → IsSome (step image.program t s.present)
   pub leads : (t : ℕ) (a : Claim) → claim_of s t ≡ Some (Some a) → Leads image.program image.tables s.present t
-  pub operands : (t : ℕ) (a : Claim) → claim_of s t ≡ Some (Some a) → a.operands ≡ present_operands s.present.variables (code_at image.program (status_of s.present t))
+  pub operands : (t : ℕ) (a : Claim) → claim_of s t ≡ Some (Some a)
+      → a.operands ≡ present_operands s.present.variables (code_at image.program (status_of s.present t))
 
 -- whatever the workers do, in whatever order
 abbrev pub EveryOrderReplays : Type 0
@@ -85,7 +86,8 @@ PlayAll image inputs c played = ⊥
 -- each of these ticks is whole, and rests at its end
 abbrev pub AreWhole : Image → List Inputs → Control → List Played → Type 0
 AreWhole image (inputs ∷ rest) c (played ∷ others) =
-    WholeTick image (start image.program inputs c) (threads_of played.history) played.end × Rests image.program played.end × AreWhole image rest played.end others
+    WholeTick image (start image.program inputs c) (threads_of played.history) played.end × Rests image.program played.end
+    × AreWhole image rest played.end others
 AreWhole image inputs c played = Unit {0}
 
 -- all ticks of a list of inputs, played from a resting configuration, are whole, and whoever plays them in whatever

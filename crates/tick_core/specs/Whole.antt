@@ -12,4 +12,5 @@ pub record WholeTick (image : Image) (c : Control) (run : List ℕ) (d : Control
   pub admissible : IsAdmissible (machine image.program) run c
   pub within : length run ≤ image.tables.budget
   pub one_end : (other : Control) → Ends (machine image.program) c other → other ≡ d
-  pub reordered : (other : List ℕ) (end : Control) → Completes (machine image.program) other c end → IsAdmissible (machine image.program) other c → IsPermutation other run
+  pub reordered : (other : List ℕ) (end : Control) → Completes (machine image.program) other c end → IsAdmissible (machine image.program) other c
+      → IsPermutation other run

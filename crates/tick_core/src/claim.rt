@@ -1,12 +1,12 @@
 //! Claims: steps that workers are to evaluate.
 
-ghost use Rattle.std.specs.Prelude.{◌≡◌, ◌↔◌, IsTrue};
+ghost use Rattle.std.specs.Prelude.{◌≡◌};
 ghost use Rattle.std.specs.Option.{option_copied};
-ghost use Rattle.tick_core.specs.Claims.{value_by, HasOperands};
-ghost use Rattle.tick_core.specs.Inside.Work.{IsAlike, DoesSame};
+ghost use Rattle.tick_core.specs.Claims.{value_by, HasOperands, operations_of};
 
+use crate::kept_claim::KeptClaim;
 use sc_graph::{NodeId, ThreadId};
-use sc_values::{CheckedCode, Operands, Value, eval};
+use sc_values::{CheckedCode, Code, Operands, Value, eval};
 use std::marker::Model;
 
 /// A step that a worker is to evaluate: whose it is, at which node, by which code over which
@@ -68,54 +68,26 @@ impl<'a> Claim<'a> {
         }
     }
 
-    /// The same claim again.
-    pub(crate) fn copied(&self) -> Claim<'a>
+    /// The same claim, as the tick keeps it while it is open.
+    pub(crate) fn kept(&self) -> KeptClaim
         ensures { result ≡ self.now }
     {
-        Claim {
-            worker: self.worker,
-            thread: self.thread,
-            node: self.node,
-            code: copied_code(&self.code),
-            operands: self.operands.copied(),
-            commits: self.commits,
-        }
-    }
-
-    /// Whether the other is the same claim, in every field.
-    pub(crate) fn is_same(&self, other: &Claim<'_>) -> bool
-        ensures { IsTrue result ↔ (self.now ≡ other.now) }
-    {
-        self.is_alike(other) && self.does_same(other)
-    }
-
-    // Whether the other is of the same worker, thread, node and moment.
-    fn is_alike(&self, other: &Claim<'_>) -> bool
-        ensures { IsTrue result ↔ IsAlike self.now other.now }
-    {
-        other.worker() == self.worker()
-            && self.thread() == other.thread()
-            && self.node() == other.node()
-            && self.commits() == other.commits()
-    }
-
-    // Whether the other has the same code and operands.
-    fn does_same(&self, other: &Claim<'_>) -> bool
-        ensures { IsTrue result ↔ DoesSame self.now other.now }
-    {
-        self.has_same_code(other) && self.has_same_operands(other)
-    }
-
-    fn has_same_code(&self, other: &Claim<'_>) -> bool
-        ensures { IsTrue result ↔ (self.now.code ≡ other.now.code) }
-    {
-        same_code(self.code(), other.code())
-    }
-
-    fn has_same_operands(&self, other: &Claim<'_>) -> bool
-        ensures { IsTrue result ↔ (self.now.operands ≡ other.now.operands) }
-    {
-        self.operands() == other.operands()
+        let Claim {
+            worker,
+            thread,
+            node,
+            code,
+            operands,
+            commits,
+        } = self;
+        KeptClaim::of(
+            *worker,
+            *thread,
+            *node,
+            copied_code(code),
+            operands.copied(),
+            *commits,
+        )
     }
 
     /// The worker that made it.
@@ -162,22 +134,13 @@ impl<'a> Claim<'a> {
     }
 }
 
-fn copied_code<'a>(code: &Option<CheckedCode<'a>>) -> Option<CheckedCode<'a>>
-    ensures { result ≡ code.now }
+// A copy of the operations of a checked code.
+fn copied_code(code: &Option<CheckedCode<'_>>) -> Option<Code>
+    ensures { result ≡ operations_of code.now }
 {
     match code {
-        Some(code) => Some(code.copied()),
+        Some(code) => Some(code.code().clone().unwrap()),
         None => None,
-    }
-}
-
-fn same_code(a: Option<&CheckedCode<'_>>, b: Option<&CheckedCode<'_>>) -> bool
-    ensures { IsTrue result ↔ (option_copied a.entry ≡ option_copied b.entry) }
-{
-    match (a, b) {
-        (Some(a), Some(b)) => a == b,
-        (None, None) => true,
-        _ => false,
     }
 }
 

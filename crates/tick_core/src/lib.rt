@@ -12,6 +12,7 @@ mod history;
 mod inputs;
 mod joins;
 mod judging;
+mod kept_claim;
 mod leading;
 mod living;
 mod sorting;
@@ -25,5 +26,8 @@ pub use events::{all_ticks_end_alike, every_order_replays};
 pub use history::{Entry, Report};
 pub use inputs::Inputs;
 pub use judging::{Judged, judge};
+pub use kept_claim::KeptClaim;
 pub use sc_graph::{Control, Status};
-pub use state::{BeginFault, NextStep, Receipt, StaleClaim, TickSpace, TickState, Turn, begin};
+pub use state::{
+    BeginFault, NextStep, ParkedSpace, Receipt, StaleClaim, TickSpace, TickState, Turn, begin,
+};

@@ -10,8 +10,8 @@ ghost use Rattle.tick_core.specs.Inside.Living.{CountsLiving};
 ghost use Rattle.tick_core.specs.Inside.Sorting.{OwnRows, AreSorted, step_priority, ready_row, sorted_one};
 ghost use Rattle.tick_core.specs.Inside.Sorting.{sorted_parent, sorted_all, children_at, NodePriorities};
 
-use crate::claim::Claim;
 use crate::joins::Joins;
+use crate::kept_claim::KeptClaim;
 use crate::living::left;
 use buckets::Rows;
 use sc_graph::{Control, Program, Status, Step, Tables, ThreadId};
@@ -25,7 +25,7 @@ pub(crate) fn sort_after(
     tables: &Tables,
     control: &Control,
     living: &[usize],
-    claims: &[Option<Claim<'_>>],
+    claims: &[Option<KeptClaim>],
     rows: &mut Rows,
     thread: ThreadId,
     children: &[ThreadId],
@@ -73,7 +73,7 @@ fn sort_all(
     tables: &Tables,
     control: &Control,
     living: &[usize],
-    claims: &[Option<Claim<'_>>],
+    claims: &[Option<KeptClaim>],
     rows: &mut Rows,
     threads: &[ThreadId],
 )
@@ -98,7 +98,7 @@ pub(crate) fn sort(
     tables: &Tables,
     control: &Control,
     living: &[usize],
-    claims: &[Option<Claim<'_>>],
+    claims: &[Option<KeptClaim>],
     rows: &mut Rows,
     thread: ThreadId,
 )
@@ -119,7 +119,7 @@ fn ready_row(
     tables: &Tables,
     control: &Control,
     living: &[usize],
-    claims: &[Option<Claim<'_>>],
+    claims: &[Option<KeptClaim>],
     thread: ThreadId,
 ) -> Option<u16>
     ensures { (p : Program) → CountsLiving p control.now living.now
@@ -160,7 +160,7 @@ pub(crate) fn sort_every(
     tables: &Tables,
     control: &Control,
     living: &[usize],
-    claims: &[Option<Claim<'_>>],
+    claims: &[Option<KeptClaim>],
     rows: &mut Rows,
 )
     requires counts { CountsLiving program.now control.now living.now }

@@ -18,6 +18,7 @@ ghost use Rattle.tick_core.specs.Again.{begun_again};
 mod claiming;
 mod ending;
 mod first_rows;
+mod parking;
 mod taking;
 
 use crate::claim::Claim;
@@ -26,6 +27,7 @@ use crate::given::Given;
 use crate::history::Entry;
 use crate::inputs::{Inputs, are_accepted};
 use crate::joins::Joins;
+use crate::kept_claim::KeptClaim;
 use crate::living::count_every;
 use crate::sorting::{rows_of, sort_every};
 use crate::starting::start;
@@ -34,6 +36,7 @@ use bytecode::Image;
 pub(crate) use ending::present_value;
 pub(crate) use first_rows::kinds_of;
 use first_rows::no_claims;
+pub use parking::ParkedSpace;
 use sc_graph::{Control, Program, ThreadId};
 use sc_values::{Kind, Name, Value};
 use sqlite_items::Items;
@@ -85,7 +88,7 @@ pub struct TickState<'a> {
     // with room for the budget
     history: Vec<Entry>,
     // the open ones, by thread; how many they are, and the priority of their threads
-    claims: Vec<Option<Claim<'a>>>,
+    claims: Vec<Option<KeptClaim>>,
     claimed: usize,
     level: u16,
     // by thread that waits: how many of the children for whom it waits have not ended
@@ -132,44 +135,23 @@ impl<'a> Model for TickState<'a> {
         × (length s.given ≡ length s.verified.now.program.variables) };
 }
 
-/// What the ticks of one verified image take over from one another: the table of its joins, the kinds
-/// of its variables and where its inputs stand, and room for the history, for claims and for a
-/// configuration. Contracts see the image.
+/// What the ticks of one verified image take over from one another: the image, and the room that they
+/// have. Contracts see the image.
 #[derive(Drop)]
 pub struct TickSpace<'a> {
     verified: &'a Verified,
-    joins: Joins,
-    rows: Rows,
-    variable_kinds: Vec<Kind>,
-    // with room for the budget
-    history: Vec<Entry>,
-    // by thread, none of them open
-    claims: Vec<Option<Claim<'a>>>,
-    // with a place for each thread
-    living: Vec<usize>,
-    given: Given,
-    // a configuration of the program, or like one, in which nothing is read
-    spare: Control,
+    room: ParkedSpace,
 }
 
 impl<'a> Model for TickSpace<'a> {
-    ghost use Rattle.std.specs.Prelude.{◌≡◌, ◌≤◌, length, map, None, vec_capacity};
-    ghost use Rattle.sc_graph.specs.Program.{kinds};
     ghost use Rattle.bytecode.specs.Image.{Image};
-    ghost use Rattle.tick_core.specs.Inside.Joins.{FindsForks};
-    ghost use Rattle.tick_core.specs.Inside.Sorting.{OwnRows};
-    ghost use Rattle.tick_core.specs.Inside.Given.{HasPlaces};
+    ghost use Rattle.tick_core.specs.Parked.{IsSpaceOf};
 
     ghost Value = { Image };
 
     ghost view = { λ r. r.verified.now };
 
-    ghost invariant = { λ r. (r.variable_kinds.items ≡ kinds r.verified.now.program)
-        × (r.claims.items ≡ map (λ _. None) r.verified.now.program.threads) × FindsForks r.verified.now.program r.joins
-        × OwnRows r.verified.now.program r.verified.now.tables r.rows
-        × (r.verified.now.tables.budget ≤ vec_capacity r.history)
-        × (length r.living.items ≡ length r.verified.now.program.threads)
-        × (length r.given ≡ length r.verified.now.program.variables) × HasPlaces r.verified.now.program r.spare };
+    ghost invariant = { λ r. IsSpaceOf r.verified.now r.room };
 }
 
 /// What `claim` answers.
@@ -238,8 +220,7 @@ impl<'a> TickSpace<'a> {
         let living = vec![in alloc; 0; program.threads().len()]?;
         let given = Given::of(alloc, program)?;
         let spare = Control::initial(alloc, program)?;
-        Ok(TickSpace {
-            verified,
+        let room = ParkedSpace {
             joins,
             rows,
             variable_kinds,
@@ -248,7 +229,8 @@ impl<'a> TickSpace<'a> {
             living,
             given,
             spare,
-        })
+        };
+        Ok(TickSpace { verified, room })
     }
 
     /// Begins a tick of the image as the function `begin` does, in the room that an earlier one left.
@@ -278,14 +260,14 @@ impl<'a> TickSpace<'a> {
         ensures refused { OnErr result (¬ (AreAccepted self.entry.program inputs.now)) }
         ensures why { result ≢ Err BeginFault.Memory }
     {
-        let mut room = self;
-        let program = room.verified.image().program();
-        if !room.given.take(program, inputs.as_slice()) {
+        let mut space = self;
+        let program = space.verified.image().program();
+        if !space.room.given.take(program, inputs.as_slice()) {
             return Err(BeginFault::Input);
         }
         let mut begun = control;
-        start(program, room.given.values(), &mut begun);
-        Ok(room.begin_again(begun))
+        start(program, space.room.given.values(), &mut begun);
+        Ok(space.begin_again(begun))
     }
 
     /// Begins a tick of the image again, from the configuration in which one began, which is given up. It takes no
@@ -294,8 +276,8 @@ impl<'a> TickSpace<'a> {
         requires { BeginsTick self.program begun }
         ensures { result ≡ begun_again self.entry begun }
     {
-        let TickSpace {
-            verified,
+        let TickSpace { verified, room } = self;
+        let ParkedSpace {
             joins,
             mut rows,
             variable_kinds,
@@ -304,7 +286,7 @@ impl<'a> TickSpace<'a> {
             mut living,
             given,
             spare: mut present,
-        } = self;
+        } = room;
         let image = verified.image();
         let program = image.program();
         copy_into(&begun, &mut present);
@@ -375,7 +357,7 @@ impl<'a> TickState<'a> {
 
     /// The open claims, by thread. Each could be committed now: its thread is enabled and of the greatest
     /// priority, and its node, code and operands are the present ones.
-    pub fn open_claims(&self) -> &[Option<Claim<'a>>]
+    pub fn open_claims(&self) -> &[Option<KeptClaim>]
         ensures value { result.now ≡ self.now.claims }
         ensures places { length result.now ≡ length self.now.image.program.threads }
         ensures fresh { (t : ℕ) (a : OpenClaim) → slice_get result.now t ≡ Some (Some a)

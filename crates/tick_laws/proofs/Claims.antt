@@ -25,7 +25,8 @@ module _ (p : Program) (q : Tables) (valid : IsValid p q) (c : Control) (ok : Is
   -- no leader must come before another
   pub no_edge : (t u : ℕ) → t ≢ u → Leads p q c t → Leads p q c u → ¬ Precedes (access_at p (status_of c t)) (access_at p (status_of c u))
   no_edge t u ne t_leads u_leads precedes =
-      let falls : priority_of q (status_of c u) < priority_of q (status_of c t) = enabled_edge_falls p q valid c ok t u ne (enabled_view p c t t_leads.enabled) (enabled_view p c u u_leads.enabled) precedes in
+      let falls : priority_of q (status_of c u) < priority_of q (status_of c t) = enabled_edge_falls p q valid c ok t u ne (enabled_view p c t t_leads.enabled)
+      (enabled_view p c u u_leads.enabled) precedes in
       let least : priority_of q (status_of c t) ≤ priority_of q (status_of c u) = u_leads.greatest t t_leads.enabled in
       absurd (omega arith)
 
@@ -39,15 +40,18 @@ module _ (p : Program) (q : Tables) (valid : IsValid p q) (c : Control) (ok : Is
       }
 
   -- a leader's step stays what it was after another leader's
-  pub claim_kept : (t u : ℕ) → t ≢ u → Leads p q c t → Leads p q c u → (e f : Effect) → effect p c t ≡ Some e → effect p c u ≡ Some f → effect p (after f c) t ≡ Some e
+  pub claim_kept : (t u : ℕ) → t ≢ u → Leads p q c t → Leads p q c u → (e f : Effect) → effect p c t ≡ Some e → effect p c u ≡ Some f → effect p (after f c) t
+      ≡ Some e
   claim_kept t u ne t_leads u_leads e f by_t by_u =
       effect_kept p (valid_formed p q valid) c ok t u ne e f by_t by_u (leaders_free t u ne t_leads u_leads)
 
   -- and finds what it reads as it was
-  pub operands_kept : (t u : ℕ) → t ≢ u → Leads p q c t → Leads p q c u → (f : Effect) → effect p c u ≡ Some f → (x : ℕ) → Reads (access_at p (status_of c t)) x →
+  pub operands_kept : (t u : ℕ) → t ≢ u → Leads p q c t → Leads p q c u → (f : Effect) → effect p c u ≡ Some f → (x : ℕ)
+      → Reads (access_at p (status_of c t)) x →
       slice_get (after f c).variables x ≡ slice_get c.variables x
   operands_kept t u ne t_leads u_leads f by_u x reads =
-      reads_kept (access_at p (status_of c t)) (access_at p (status_of c u)) (leaders_free t u ne t_leads u_leads) c.variables f.change (writes p c u f (does p c u f by_u)) x reads
+      reads_kept (access_at p (status_of c t)) (access_at p (status_of c u)) (leaders_free t u ne t_leads u_leads) c.variables f.change
+      (writes p c u f (does p c u f by_u)) x reads
 
   -- a leader leads on after another thread's step
   pub leads_kept : (t u : ℕ) → t ≢ u → Leads p q c t → (f : Effect) → effect p c u ≡ Some f → Leads p q (after f c) t
@@ -76,7 +80,8 @@ module _ (p : Program) (q : Tables) (valid : IsValid p q) (c : Control) (ok : Is
       low = low_kept p q valid (priority_of q (status_of c t)) c ok u f by_u leads.greatest
 
 -- while somebody leads, a priority run is below the budget
-pub room : (p : Program) (q : Tables) (c : Control) → OneEnd p q c → (run : List ℕ) (d : Control) → PriorityRun p q run c d → (t : ℕ) → Leads p q d t → length run < q.budget
+pub room : (p : Program) (q : Tables) (c : Control) → OneEnd p q c → (run : List ℕ) (d : Control) → PriorityRun p q run c d → (t : ℕ) → Leads p q d t
+    → length run < q.budget
 room p q c one run d by_priority t leads =
     let runs = (one.of_priority run d by_priority).runs in
     let next : (e : Control) × (step p t d ≡ Some e) = (one.of_each run d runs).defined t leads.enabled in

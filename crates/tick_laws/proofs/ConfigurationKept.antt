@@ -34,7 +34,8 @@ module _ (p : Program) (formed : IsFormed p) (c : Control) (t : ℕ) (e : Effect
       ∙ standing_same c.statuses t m.to (known c.statuses t (absent_not_present (status_of c t) m.was_present)))
 
   pub after_child : (k : ℕ) → Contains m.children k → status_of (after e c) k ≡ (m.f k).1
-  after_child k h = stands_by k ∙ moved_all m.f m.own m.children (set c.statuses t m.to) k h (subst (λ n. k < n) (sym (length-set c.statuses t m.to)) (m.within k h))
+  after_child k h = stands_by k ∙ moved_all m.f m.own m.children (set c.statuses t m.to) k h
+      (subst (λ n. k < n) (sym (length-set c.statuses t m.to)) (m.within k h))
 
   pub after_other : (k : ℕ) → k ≢ t → ¬ Contains m.children k → status_of (after e c) k ≡ status_of c k
   after_other k ne out =
@@ -93,7 +94,8 @@ module _ (p : Program) (formed : IsFormed p) (c : Control) (t : ℕ) (e : Effect
         of_child ne in_children =
             let upper : t < u = parent_below p formed u t (m.parent u in_children) in
             both_false u j k
-            (λ h. m.was_idle u j in_children ((ok.present n u ls j k f child).0 (subst IsPresent (after_other k (λ e. absurd (omega (arith, less, upper, e))) (no_step_child ne)) h)))
+            (λ h. m.was_idle u j in_children
+            ((ok.present n u ls j k f child).0 (subst IsPresent (after_other k (λ e. absurd (omega (arith, less, upper, e))) (no_step_child ne)) h)))
             (λ h. m.is_idle u j in_children (sym (after_child u in_children) ∙ h))
 
         of_other : u ≢ t → ¬ Contains m.children u → Agree u j k
@@ -117,7 +119,8 @@ module _ (p : Program) (formed : IsFormed p) (c : Control) (t : ℕ) (e : Effect
                 (λ h. same_u ∙ old.0 (subst IsPresent same_k h), λ h. subst IsPresent (sym same_k) (old.1 (sym same_u ∙ h)))
 
 -- a step keeps what a configuration is
-pub configuration_kept : (p : Program) → IsFormed p → (c : Control) (t : ℕ) (e : Effect) → IsConfiguration p c → effect p c t ≡ Some e → IsConfiguration p (after e c)
+pub configuration_kept : (p : Program) → IsFormed p → (c : Control) (t : ℕ) (e : Effect) → IsConfiguration p c → effect p c t ≡ Some e
+    → IsConfiguration p (after e c)
 configuration_kept p formed c t e ok h =
     let d : Does p c t e = does p c t e h in
     let m : StepMoves p c t e = step_moves p formed c ok t e d in

@@ -105,11 +105,13 @@ module _ (p : Program) (q : Tables) (valid : IsValid p q) where
   taker_enabled : (c : Control) (m : Act) (e : Effect) → Takes p m c e → Enabled p c m.thread
   taker_enabled c m e takes = enabled_from_effect p c m.thread e takes.effect
 
-  still_there : (c : Control) → IsConfiguration p c → (m : Act) (e : Effect) → Takes p m c e → (t : ℕ) → m.thread ≢ t → Enabled p c t → status_of (after e c) t ≡ status_of c t
+  still_there : (c : Control) → IsConfiguration p c → (m : Act) (e : Effect) → Takes p m c e → (t : ℕ) → m.thread ≢ t → Enabled p c t → status_of (after e c) t
+      ≡ status_of c t
   still_there c ok m e takes t other enabled_t =
       keeps_self p formed c ok t m.thread (λ same. other (sym same)) enabled_t e (does p c m.thread e takes.effect)
 
-  still_enabled : (c : Control) → IsConfiguration p c → (m : Act) (e : Effect) → Takes p m c e → (t : ℕ) → m.thread ≢ t → Enabled p c t → Enabled p (after e c) t
+  still_enabled : (c : Control) → IsConfiguration p c → (m : Act) (e : Effect) → Takes p m c e → (t : ℕ) → m.thread ≢ t → Enabled p c t
+      → Enabled p (after e c) t
   still_enabled c ok m e takes t other enabled_t =
       stays_enabled p formed c ok t m.thread (λ same. other (sym same)) enabled_t (taker_enabled c m e takes) e (does p c m.thread e takes.effect)
 
@@ -117,7 +119,8 @@ module _ (p : Program) (q : Tables) (valid : IsValid p q) where
   first_here m log c top t e takes same =
       record { front = []; found = m; back = log; split = refl; thread = same; access = takes.access ∙ ap (λ u. access_at p (status_of c u)) same; around = tt }
 
-  first_later : (m : Act) (log : List Act) (c : Control) → IsConfiguration p c → (top t : ℕ) (e : Effect) → Takes p m c e → Enabled p c t → Tops p q top c → m.thread ≢ t →
+  first_later : (m : Act) (log : List Act) (c : Control) → IsConfiguration p c → (top t : ℕ) (e : Effect) → Takes p m c e → Enabled p c t → Tops p q top c
+      → m.thread ≢ t →
       First p q top t (after e c) log → First p q top t c (m ∷ log)
   first_later m log c ok top t e takes enabled_t low other rest =
       record {
@@ -131,7 +134,8 @@ module _ (p : Program) (q : Tables) (valid : IsValid p q) where
       }
 
   -- a enabled thread steps in each complete run
-  find : (log : List Act) (c d : Control) (top t : ℕ) → IsConfiguration p c → Follows p log c d → IsDone p d → Enabled p c t → Tops p q top c → First p q top t c log
+  find : (log : List Act) (c d : Control) (top t : ℕ) → IsConfiguration p c → Follows p log c d → IsDone p d → Enabled p c t → Tops p q top c
+      → First p q top t c log
   find [] c d top t ok follows done enabled_t low =
       absurd (done_not_enabled p d t done (subst (λ b. Enabled p b t) follows enabled_t))
   find (m ∷ log) c d top t ok follows done enabled_t low =
@@ -139,7 +143,8 @@ module _ (p : Program) (q : Tables) (valid : IsValid p q) where
       let takes = follows.1 in
       ⊎_elim (first_here m log c top t e takes)
       (λ other. first_later m log c ok top t e takes enabled_t low other
-      (find log (after e c) d top t (after_ok c ok m e takes) follows.2 done (still_enabled c ok m e takes t other enabled_t) (low_kept p q valid top c ok m.thread e takes.effect low)))
+      (find log (after e c) d top t (after_ok c ok m e takes) follows.2 done (still_enabled c ok m e takes t other enabled_t)
+      (low_kept p q valid top c ok m.thread e takes.effect low)))
       (same_or_not m.thread t)
 
   -- a thread forked apart from t by another forks none of the steps around t
@@ -188,7 +193,8 @@ module _ (p : Program) (q : Tables) (valid : IsValid p q) where
   )
 
   -- what thread t did after a free step it did before it
-  module _ (c : Control) (ok : IsConfiguration p c) (t : ℕ) (e : Effect) (by : effect p c t ≡ Some e) (m x : Act) (f : Effect) (takes : Takes p x c f) (other : x.thread ≢ t)
+  module _ (c : Control) (ok : IsConfiguration p c) (t : ℕ) (e : Effect) (by : effect p c t ≡ Some e) (m x : Act) (f : Effect) (takes : Takes p x c f)
+      (other : x.thread ≢ t)
       (access : m.access ≡ access_at p (status_of c t)) (free : Free x.access m.access) where
     free_here : Free (access_at p (status_of c x.thread)) (access_at p (status_of c t))
     free_here = subst₂ Free takes.access access free
@@ -197,7 +203,8 @@ module _ (p : Program) (q : Tables) (valid : IsValid p q) where
     t_enabled = enabled_from_effect p c t e by
 
     t_later : effect p (after f c) t ≡ Some e
-    t_later = effect_kept p formed c ok t x.thread (λ same. other (sym same)) e f by takes.effect (free_turned (access_at p (status_of c x.thread)) (access_at p (status_of c t)) free_here)
+    t_later = effect_kept p formed c ok t x.thread (λ same. other (sym same)) e f by takes.effect
+        (free_turned (access_at p (status_of c x.thread)) (access_at p (status_of c t)) free_here)
 
     access_later : m.access ≡ access_at p (status_of (after f c) t)
     access_later = access ∙ ap (access_at p) (sym (still_there c ok x f takes t other t_enabled))
@@ -214,7 +221,8 @@ module _ (p : Program) (q : Tables) (valid : IsValid p q) where
 
   -- the step of thread t, taken first, leaves the rest of the run
   pull : (t : ℕ) (e : Effect) (m : Act) → m.thread ≡ t → (front back : List Act) (top : ℕ) (c d : Control) → IsConfiguration p c → effect p c t ≡ Some e →
-      m.access ≡ access_at p (status_of c t) → AllAround p q top t front → AllFree m front → Follows p (front ++ m ∷ back) c d → Follows p (front ++ back) (after e c) d
+      m.access ≡ access_at p (status_of c t) → AllAround p q top t front → AllFree m front → Follows p (front ++ m ∷ back) c d
+      → Follows p (front ++ back) (after e c) d
   pull t e m thread [] back top c d ok by access around free follows =
       let same : follows.0 ≡ e = same_Some follows.0 e (sym follows.1.effect ∙ (ap (effect p c) thread ∙ by)) in
       subst (λ f. Follows p back (after f c) d) same follows.2
@@ -248,15 +256,20 @@ module _ (p : Program) (q : Tables) (valid : IsValid p q) where
       let top = priority_of q (status_of c t) in
       let ordered : Orderly (ForkedApart p) (first.front ++ first.found ∷ first.back) = subst (Orderly (ForkedApart p)) first.split orderly in
       let free : AllFree first.found first.front =
-      all_free top t from.node first.found first.thread from.owned (first.access ∙ from.access) (sym from.priority) first.front first.back first.around ordered in
+      all_free top t from.node first.found first.thread from.owned (first.access ∙ from.access) (sym from.priority) first.front first.back first.around ordered
+      in
       record {
         rest = first.front ++ first.back;
-        follows = pull t e first.found first.thread first.front first.back top c d ok by first.access first.around free (subst (λ l. Follows p l c d) first.split follows);
-        orderly = (to_front (ForkedApart p) first.found first.front first.back (passes_all top t first.found first.thread first.front first.around free) ordered).1;
-        reordered = subst (λ l. IsPermutation (threads_of l) (t ∷ threads_of (first.front ++ first.back))) (sym first.split) (threads_middle first.front first.back first.found t first.thread);
+        follows = pull t e first.found first.thread first.front first.back top c d ok by first.access first.around free
+            (subst (λ l. Follows p l c d) first.split follows);
+        orderly = (to_front (ForkedApart p) first.found first.front first.back (passes_all top t first.found first.thread first.front first.around free)
+            ordered).1;
+        reordered = subst (λ l. IsPermutation (threads_of l) (t ∷ threads_of (first.front ++ first.back))) (sym first.split)
+            (threads_middle first.front first.back first.found t first.thread);
       }
 
-  pulled : (t : ℕ) (e : Effect) (log : List Act) (c d : Control) → IsConfiguration p c → Leads p q c t → effect p c t ≡ Some e → Follows p log c d → IsDone p d → Orderly (ForkedApart p) log →
+  pulled : (t : ℕ) (e : Effect) (log : List Act) (c d : Control) → IsConfiguration p c → Leads p q c t → effect p c t ≡ Some e → Follows p log c d → IsDone p d
+      → Orderly (ForkedApart p) log →
       Pulled t e c d log
   pulled t e log c d ok leads by follows done orderly =
       let here : Enabled p c t = enabled_from_effect p c t e by in
@@ -265,7 +278,8 @@ module _ (p : Program) (q : Tables) (valid : IsValid p q) where
       (find log c d (priority_of q (status_of c t)) t ok follows done here leads.greatest)
 
   -- each complete run in order is a reordering of a priority run, and ends where it ends
-  pub same_end : (run : List ℕ) (log : List Act) (c end d : Control) → IsConfiguration p c → PriorityRun p q run c end → IsDone p end → Follows p log c d → IsDone p d → Orderly (ForkedApart p) log →
+  pub same_end : (run : List ℕ) (log : List Act) (c end d : Control) → IsConfiguration p c → PriorityRun p q run c end → IsDone p end → Follows p log c d
+      → IsDone p d → Orderly (ForkedApart p) log →
       (d ≡ end) × IsPermutation (threads_of log) run
   same_end [] [] c end d ok by_priority over follows done orderly = (sym follows ∙ by_priority, IsPermutation-refl [])
   same_end [] (m ∷ log) c end d ok by_priority over follows done orderly =
@@ -274,5 +288,9 @@ module _ (p : Program) (q : Tables) (valid : IsValid p q) where
       let stepped = map_some (λ e. after e c) (effect p c t) by_priority.1.0 by_priority.1.1 in
       let e = stepped.0 in
       let one : Pulled t e c d log = pulled t e log c d ok by_priority.0 stepped.1 follows done orderly in
-      let others = same_end run one.rest (after e c) end d (configuration_kept p formed c t e ok stepped.1) (subst (λ b. PriorityRun p q run b end) (sym stepped.2) by_priority.1.2) over one.follows done one.orderly in
-      (others.0, IsPermutation-trans (threads_of log) (t ∷ threads_of one.rest) (t ∷ run) one.reordered (IsPermutation-cons t (threads_of one.rest) run others.1))
+      let others = same_end run one.rest (after e c) end d (configuration_kept p formed c t e ok stepped.1)
+      (subst (λ b. PriorityRun p q run b end) (sym stepped.2) by_priority.1.2) over one.follows done one.orderly in (
+        others.0,
+        IsPermutation-trans (threads_of log) (t ∷ threads_of one.rest) (t ∷ run) one.reordered
+            (IsPermutation-cons t (threads_of one.rest) run others.1),
+      )

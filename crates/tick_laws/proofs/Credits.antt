@@ -1,5 +1,6 @@
 -- Each step is paid for from the credit of its thread.
-use Rattle.std.proofs.Common.{◌≡◌, ◌≢◌, ℕ, suc, ◌+◌, ◌≤◌, ◌<◌, Bool, true, Some, List, [], length, Contains, if◌then◌else◌, refl, ap, subst, subst₂, sym, ◌∙◌, ⊎_elim, arith}
+use Rattle.std.proofs.Common.{◌≡◌, ◌≢◌, ℕ, suc, ◌+◌, ◌≤◌, ◌<◌, Bool, true, Some, List, [], length, Contains, if◌then◌else◌, refl, ap, subst, subst₂, sym, ◌∙◌}
+use Rattle.std.proofs.Common.{⊎_elim, arith}
 use Rattle.sc_graph.specs.declared.program.Step.{Step}
 use Rattle.sc_graph.specs.declared.program.Step.TheVariants as step
 use Rattle.sc_graph.specs.declared.tables.Tables.{Tables}
@@ -23,7 +24,8 @@ use Rattle.tick_laws.proofs.Moves.{known}
 use Rattle.tick_laws.proofs.Sound.{forks_is, fork_of_join}
 use Rattle.tick_laws.proofs.StepMoves.{StepMoves, simple_moves, forks_moves, joins_moves}
 use Rattle.tick_laws.proofs.ConfigurationKept.{after_self, after_child, after_other}
-use Rattle.tick_laws.proofs.Ledger.{replaced, handed, replaced_same, replaced_other, handed_among, handed_apart, total-replaced, total-handed_le, entry_weights_total}
+use Rattle.tick_laws.proofs.Ledger.{replaced, handed, replaced_same, replaced_other, handed_among, handed_apart, total-replaced, total-handed_le}
+use Rattle.tick_laws.proofs.Ledger.{entry_weights_total}
 
 -- what a thread keeps where its step alone leads
 abbrev left : Tables → Status → ℕ
@@ -31,26 +33,31 @@ left q (status.At m) = weight q m
 left q other = 0
 
 -- the credit of a thread that doesn't move covers what it did
-same_cover : (p : Program) (q : Tables) (before now : ℕ → Bool) (t credit : ℕ) (s : Status) → now t ≡ before t → ((n : ℕ) (ks : List ℕ) (j : ℕ) → IsFork p n t ks j → AllEnd now ks → AllEnd before ks) → Covers p q before t credit s → Covers p q now t credit s
+same_cover : (p : Program) (q : Tables) (before now : ℕ → Bool) (t credit : ℕ) (s : Status) → now t ≡ before t
+    → ((n : ℕ) (ks : List ℕ) (j : ℕ) → IsFork p n t ks j → AllEnd now ks → AllEnd before ks) → Covers p q before t credit s → Covers p q now t credit s
 same_cover p q before now t credit status.Absent same children h = tt
 same_cover p q before now t credit (status.At n) same children h = record { steps = h.steps; ends = λ e. same ∙ h.ends e }
-same_cover p q before now t credit (status.Waiting j) same children h = λ n ks fork ends. let a = h n ks fork (children n ks j fork ends) in record { steps = a.steps; ends = λ e. same ∙ a.ends e }
+same_cover p q before now t credit (status.Waiting j) same children h = λ n ks fork ends. let a = h n ks fork (children n ks j fork ends) in
+    record { steps = a.steps; ends = λ e. same ∙ a.ends e }
 same_cover p q before now t credit (status.Paused d) same children h = tt
 same_cover p q before now t credit status.Ended same children h = same ∙ h
 
-module _ (p : Program) (q : Tables) (valid : IsValid p q) (c : Control) (ok : IsConfiguration p c) (t : ℕ) (e : Effect) (bound spent : ℕ) (paid : Paid p q bound c spent) where
+module _ (p : Program) (q : Tables) (valid : IsValid p q) (c : Control) (ok : IsConfiguration p c) (t : ℕ) (e : Effect) (bound spent : ℕ)
+    (paid : Paid p q bound c spent) where
   formed : IsFormed p
   formed = valid_formed p q valid
 
   -- a cover at the credit and the status that a thread has after the step
-  covers_at : (may : ℕ → Bool) (k : ℕ) (credit : ℕ → ℕ) (x : ℕ) (s : Status) → credit k ≡ x → status_of (after e c) k ≡ s → Covers p q may k x s → Covers p q may k (credit k) (status_of (after e c) k)
+  covers_at : (may : ℕ → Bool) (k : ℕ) (credit : ℕ → ℕ) (x : ℕ) (s : Status) → credit k ≡ x → status_of (after e c) k ≡ s → Covers p q may k x s
+      → Covers p q may k (credit k) (status_of (after e c) k)
   covers_at may k credit x s same_credit same_status h = subst₂ (Covers p q may k) (sym same_credit) (sym same_status) h
 
   standing_there : status_of c t ≢ status.Absent → t < length p.threads
   standing_there here = subst (λ n. t < n) ok.threads (known c.statuses t here)
 
   -- what a thread keeps covers where a step of its own alone leads
-  goes_covered : (n : ℕ) (s : Step) (to : Status) → step_at p n ≡ Some s → GoesTo p t s to → Affords q (paid.may t) (paid.credit t) n → Covers p q paid.may t (left q to) to
+  goes_covered : (n : ℕ) (s : Step) (to : Status) → step_at p n ≡ Some s → GoesTo p t s to → Affords q (paid.may t) (paid.credit t) n
+      → Covers p q paid.may t (left q to) to
   goes_covered n s status.Absent found goes had = absurd goes
   goes_covered n s (status.At m) found goes had = record { steps = omega arith; ends = λ h. had.ends ((end_bits p q valid).successor n m s found goes.0 h) }
   goes_covered n s (status.Waiting j) found goes had = absurd goes
@@ -70,7 +77,13 @@ module _ (p : Program) (q : Tables) (valid : IsValid p q) (c : Control) (ok : Is
         credit = credit;
         may = paid.may;
         each = λ k. ⊎_elim (own k) (other k) (same_or_not k t);
-        within = omega (arith, total-replaced paid.credit t (left q d.to) (length p.threads) (standing_there here), goes_less d.node d.taken d.to d.found d.goes, had.steps, paid.within);
+        within = omega (
+          arith,
+          total-replaced paid.credit t (left q d.to) (length p.threads) (standing_there here),
+          goes_less d.node d.taken d.to d.found d.goes,
+          had.steps,
+          paid.within,
+        );
       }
     where
       m : StepMoves p c t e
@@ -88,10 +101,12 @@ module _ (p : Program) (q : Tables) (valid : IsValid p q) (c : Control) (ok : Is
       own : (k : ℕ) → k ≡ t → Covers p q paid.may k (credit k) (status_of (after e c) k)
       own k same =
           subst (λ k. Covers p q paid.may k (credit k) (status_of (after e c) k)) (sym same)
-          (covers_at paid.may t credit (left q d.to) d.to (replaced_same paid.credit t t (left q d.to) refl) (after_self p formed c t e m) (goes_covered d.node d.taken d.to d.found d.goes had))
+          (covers_at paid.may t credit (left q d.to) d.to (replaced_same paid.credit t t (left q d.to) refl) (after_self p formed c t e m)
+          (goes_covered d.node d.taken d.to d.found d.goes had))
 
       other : (k : ℕ) → k ≢ t → Covers p q paid.may k (credit k) (status_of (after e c) k)
-      other k ne = covers_at paid.may k credit (paid.credit k) (status_of c k) (replaced_other paid.credit t k (left q d.to) ne) (after_other p formed c t e m k ne (contains_none k)) (paid.each k)
+      other k ne = covers_at paid.may k credit (paid.credit k) (status_of c k) (replaced_other paid.credit t k (left q d.to) ne)
+          (after_other p formed c t e m k ne (contains_none k)) (paid.each k)
 
   pay_forks : Forks p c t e → Paid p q bound (after e c) (suc spent)
   pay_forks d =
@@ -100,7 +115,16 @@ module _ (p : Program) (q : Tables) (valid : IsValid p q) (c : Control) (ok : Is
         may = may;
         each = λ k. ⊎_elim (own k) (λ ne. ⊎_elim (child k ne) (other k ne) (contained d.children k)) (same_or_not k t);
         within =
-            omega (arith, total-replaced out t stays (length p.threads) (standing_there here), total-handed_le entering d.children paid.credit (length p.threads), handed_apart entering d.children paid.credit t no_child, entry_weights_total p q d.children, (weights p q valid).fork d.node d.join d.children d.found, had.steps, paid.within);
+            omega (
+              arith,
+              total-replaced out t stays (length p.threads) (standing_there here),
+              total-handed_le entering d.children paid.credit (length p.threads),
+              handed_apart entering d.children paid.credit t no_child,
+              entry_weights_total p q d.children,
+              (weights p q valid).fork d.node d.join d.children d.found,
+              had.steps,
+              paid.within,
+            );
       }
     where
       m : StepMoves p c t e
@@ -140,7 +164,8 @@ module _ (p : Program) (q : Tables) (valid : IsValid p q) (c : Control) (ok : Is
       joined n ks f ends =
           let same : n ≡ d.node = one_fork_joins p formed n d.node t t ks d.children d.join f fork in
           let children : ks ≡ d.children = fork_children p d.node t t ks d.children d.join d.join (subst (λ n. IsFork p n t ks d.join) same f) fork in
-          let all : entries_end p q d.children ≡ true = list_all_from ending d.children (λ k h. sym (handed_among ending d.children paid.may k h) ∙ ends k (subst (λ ks. Contains ks k) (sym children) h)) in
+          let all : entries_end p q d.children ≡ true = list_all_from ending d.children (λ k h. sym (handed_among ending d.children paid.may k h)
+          ∙ ends k (subst (λ ks. Contains ks k) (sym children) h)) in
           record {
             steps = omega (arith, ap (λ b. if b then weight q d.join else 0) all);
             ends = λ h. handed_apart ending d.children paid.may t no_child ∙ had.ends ((end_bits p q valid).fork d.node d.join d.children d.found all h);
@@ -161,7 +186,8 @@ module _ (p : Program) (q : Tables) (valid : IsValid p q) (c : Control) (ok : Is
 
       other : (k : ℕ) → k ≢ t → ¬ Contains d.children k → Covers p q may k (credit k) (status_of (after e c) k)
       other k ne none =
-          covers_at may k credit (paid.credit k) (status_of c k) (replaced_other out t k stays ne ∙ handed_apart entering d.children paid.credit k none) (after_other p formed c t e m k ne none)
+          covers_at may k credit (paid.credit k) (status_of c k) (replaced_other out t k stays ne ∙ handed_apart entering d.children paid.credit k none)
+          (after_other p formed c t e m k ne none)
           (same_cover p q paid.may may k (paid.credit k) (status_of c k) (handed_apart ending d.children paid.may k none) others (paid.each k))
         where
           same_parent : (l : ℕ) → parent_of p l ≡ Some k → parent_of p l ≡ Some t → k ≡ t
@@ -170,7 +196,8 @@ module _ (p : Program) (q : Tables) (valid : IsValid p q) (c : Control) (ok : Is
           others : (n : ℕ) (ks : List ℕ) (j : ℕ) → IsFork p n k ks j → AllEnd may ks → AllEnd paid.may ks
           others n ks j f ends l in_ks =
               let parent : parent_of p l ≡ Some k = child_parent p formed n k ks j l f in_ks in
-              sym (handed_apart ending d.children paid.may l (λ h. ne (same_parent l parent (child_parent p formed d.node t d.children d.join l fork h)))) ∙ ends l in_ks
+              sym (handed_apart ending d.children paid.may l (λ h. ne (same_parent l parent (child_parent p formed d.node t d.children d.join l fork h))))
+              ∙ ends l in_ks
 
   pay_joins : Joins p c t e → Paid p q bound (after e c) (suc spent)
   pay_joins d =
@@ -178,7 +205,13 @@ module _ (p : Program) (q : Tables) (valid : IsValid p q) (c : Control) (ok : Is
         credit = credit;
         may = paid.may;
         each = λ k. ⊎_elim (own k) (λ ne. ⊎_elim (child k ne) (other k ne) (contained d.children k)) (same_or_not k t);
-        within = omega (arith, total-replaced paid.credit t (weight q d.onward) (length p.threads) (standing_there here), (weights p q valid).successor d.join d.onward (step.Join d.onward) d.found (contains_head d.onward []), had.steps, paid.within);
+        within = omega (
+          arith,
+          total-replaced paid.credit t (weight q d.onward) (length p.threads) (standing_there here),
+          (weights p q valid).successor d.join d.onward (step.Join d.onward) d.found (contains_head d.onward []),
+          had.steps,
+          paid.within,
+        );
       }
     where
       m : StepMoves p c t e
@@ -203,18 +236,23 @@ module _ (p : Program) (q : Tables) (valid : IsValid p q) (c : Control) (ok : Is
       credit = replaced paid.credit t (weight q d.onward)
 
       goes_on : Affords q (paid.may t) (weight q d.onward) d.onward
-      goes_on = record { steps = omega arith; ends = λ h. had.ends ((end_bits p q valid).successor d.join d.onward (step.Join d.onward) d.found (contains_head d.onward []) h) }
+      goes_on = record {
+        steps = omega arith;
+        ends = λ h. had.ends ((end_bits p q valid).successor d.join d.onward (step.Join d.onward) d.found (contains_head d.onward []) h);
+      }
 
       own : (k : ℕ) → k ≡ t → Covers p q paid.may k (credit k) (status_of (after e c) k)
       own k same =
           subst (λ k. Covers p q paid.may k (credit k) (status_of (after e c) k)) (sym same)
-          (covers_at paid.may t credit (weight q d.onward) (status.At d.onward) (replaced_same paid.credit t t (weight q d.onward) refl) (after_self p formed c t e m) goes_on)
+          (covers_at paid.may t credit (weight q d.onward) (status.At d.onward) (replaced_same paid.credit t t (weight q d.onward) refl)
+          (after_self p formed c t e m) goes_on)
 
       child : (k : ℕ) → k ≢ t → Contains d.children k → Covers p q paid.may k (credit k) (status_of (after e c) k)
       child k ne h = subst (Covers p q paid.may k (credit k)) (sym (after_child p formed c t e m k h)) tt
 
       other : (k : ℕ) → k ≢ t → ¬ Contains d.children k → Covers p q paid.may k (credit k) (status_of (after e c) k)
-      other k ne none = covers_at paid.may k credit (paid.credit k) (status_of c k) (replaced_other paid.credit t k (weight q d.onward) ne) (after_other p formed c t e m k ne none) (paid.each k)
+      other k ne none = covers_at paid.may k credit (paid.credit k) (status_of c k) (replaced_other paid.credit t k (weight q d.onward) ne)
+          (after_other p formed c t e m k ne none) (paid.each k)
 
   pay_does : Does p c t e → Paid p q bound (after e c) (suc spent)
   pay_does (simple d) = pay_simple d
@@ -222,5 +260,6 @@ module _ (p : Program) (q : Tables) (valid : IsValid p q) (c : Control) (ok : Is
   pay_does (joins d) = pay_joins d
 
 -- a step is paid for
-pub pay : (p : Program) (q : Tables) → IsValid p q → (c : Control) → IsConfiguration p c → (t : ℕ) (e : Effect) (bound spent : ℕ) → effect p c t ≡ Some e → Paid p q bound c spent → Paid p q bound (after e c) (suc spent)
+pub pay : (p : Program) (q : Tables) → IsValid p q → (c : Control) → IsConfiguration p c → (t : ℕ) (e : Effect) (bound spent : ℕ) → effect p c t ≡ Some e
+    → Paid p q bound c spent → Paid p q bound (after e c) (suc spent)
 pay p q valid c ok t e bound spent h paid = pay_does p q valid c ok t e bound spent paid (does p c t e h)

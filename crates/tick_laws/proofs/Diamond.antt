@@ -1,6 +1,7 @@
 -- Two enabled threads whose steps stand in no order and in no conflict: each step keeps the other's effect,
 -- and both orders lead to the same configuration.
-use Rattle.std.proofs.Common.{◌≡◌, ◌≢◌, ℕ, zero, suc, ◌⊎◌, Bool, true, false, List, set, Option, Some, None, slice_get, unwrap_or, option_map, option_and_then, Contains, refl, sym, ap, ap₂, subst, subst₂, ◌∙◌, inl, inr, ⊎_elim, set-set}
+use Rattle.std.proofs.Common.{◌≡◌, ◌≢◌, ℕ, zero, suc, ◌⊎◌, Bool, true, false, List, set, Option, Some, None, slice_get, unwrap_or, option_map, option_and_then}
+use Rattle.std.proofs.Common.{Contains, refl, sym, ap, ap₂, subst, subst₂, ◌∙◌, inl, inr, ⊎_elim, set-set}
 use Rattle.std.proofs.lemmas.Bool.{cases_Bool}
 use Rattle.std.proofs.lemmas.List.{set_comm}
 use Rattle.std.proofs.lemmas.Option.{slice_get_within}
@@ -8,7 +9,8 @@ use Rattle.sc_values.specs.declared.value.Value.{Value}
 use Rattle.sc_values.specs.declared.operator.Combination.{Combination}
 use Rattle.sc_values.specs.declared.operator.Combination.TheVariants as combine
 use Rattle.sc_values.specs.Operator.{combined}
-use Rattle.sc_values.specs.Access.{Access, no_access, Reads, Inits, Updates, Precedes, init_update, init_read, update_read, Clash, two_inits, two_updates, one_literal}
+use Rattle.sc_values.specs.Access.{Access, no_access, Reads, Inits, Updates, Precedes, init_update, init_read, update_read, Clash, two_inits, two_updates}
+use Rattle.sc_values.specs.Access.{one_literal}
 use Rattle.sc_values.proofs.Merge.{combined_turn, one_combination}
 use Rattle.sc_values.proofs.Loading.{code_value_same}
 use Rattle.sc_values.proofs.Literals.{clash_turned, literal_from_same}
@@ -19,12 +21,14 @@ use Rattle.sc_graph.specs.declared.program.Step.TheVariants as steps
 use Rattle.sc_graph.specs.Program.{Program, step_at}
 use Rattle.sc_graph.specs.Accesses.{access_of, accesses}
 use Rattle.sc_graph.specs.Control.{status_of, joined_at, all_ended, access_at}
-use Rattle.sc_graph.specs.Steps.{Change, Keep, Put, Combine, Effect, combined_at, changed, after, only_if, assigned, updated, branched, node_effect, join_effect, status_effect, effect}
+use Rattle.sc_graph.specs.Steps.{Change, Keep, Put, Combine, Effect, combined_at, changed, after, only_if, assigned, updated, branched, node_effect}
+use Rattle.sc_graph.specs.Steps.{join_effect, status_effect, effect}
 use Rattle.sc_graph.specs.Tick.{IsConfiguration}
 use Rattle.sc_graph.specs.Valid.{IsFormed}
 use Rattle.tick_laws.proofs.Lists.{same_or_not, get_set_other, get_set_same}
 use Rattle.tick_laws.proofs.Moves.{moved_turned}
-use Rattle.tick_laws.proofs.Views.{Completes, Enabled, stands, completes, Does, simple, forks, joins, InitsBy, Changes, does, all_ended_from, enabled_from_effect}
+use Rattle.tick_laws.proofs.Views.{Completes, Enabled, stands, completes, Does, simple, forks, joins, InitsBy, Changes, does, all_ended_from}
+use Rattle.tick_laws.proofs.Views.{enabled_from_effect}
 use Rattle.tick_laws.proofs.Sound.{apart, keeps_self, stay_ended}
 
 -- two steps that stand in no order and in no conflict
@@ -51,7 +55,8 @@ IsOf Keep k = ⊥
 IsOf (Put x v) k = k ≡ x
 IsOf (Combine x f v) k = k ≡ x
 
-combined_other : (values : List Value) (x : ℕ) (f : Combination) (v : Value) (o : Option Value) (k : ℕ) → k ≢ x → slice_get (combined_at values x f v o) k ≡ slice_get values k
+combined_other : (values : List Value) (x : ℕ) (f : Combination) (v : Value) (o : Option Value) (k : ℕ) → k ≢ x → slice_get (combined_at values x f v o) k
+    ≡ slice_get values k
 combined_other values x f v None k ne = refl
 combined_other values x f v (Some present) k ne = get_set_other values x k (combined f present v) ne
 
@@ -111,7 +116,8 @@ one_value a b x v y w by_a by_b one =
     by_a.by_literal literal.value literal.first ∙ sym (by_b.by_literal literal.value literal.second)
 
 module _ (a b : Access) (free : Free a b) (values : List Value) where
-  both_put : (x : ℕ) (v : Value) (y : ℕ) (w : Value) → InitsBy a x v → InitsBy b y w → changed (Put x v) (changed (Put y w) values) ≡ changed (Put y w) (changed (Put x v) values)
+  both_put : (x : ℕ) (v : Value) (y : ℕ) (w : Value) → InitsBy a x v → InitsBy b y w → changed (Put x v) (changed (Put y w) values)
+      ≡ changed (Put y w) (changed (Put x v) values)
   both_put x v y w by_a by_b = ⊎_elim at_one (λ differ. set_comm values y x w v (λ e. differ (sym e))) (same_or_not x y)
     where
       by_one : x ≡ y → v ≡ w → changed (Put x v) (changed (Put y w) values) ≡ changed (Put y w) (changed (Put x v) values)
@@ -140,11 +146,13 @@ module _ (a b : Access) (free : Free a b) (values : List Value) where
   both_combine x f v y g w by_a by_b = ⊎_elim (λ same. at_one same by_b) (combine_turned values x f v y g w) (same_or_not x y)
     where
       by_one : x ≡ y → f ≡ g → changed (Combine x f v) (changed (Combine y g w) values) ≡ changed (Combine y g w) (changed (Combine x f v) values)
-      by_one same one = subst₂ (λ z h. changed (Combine x f v) (changed (Combine z h w) values) ≡ changed (Combine z h w) (changed (Combine x f v) values)) same one (one_combined values x f v w)
+      by_one same one = subst₂ (λ z h. changed (Combine x f v) (changed (Combine z h w) values) ≡ changed (Combine z h w) (changed (Combine x f v) values)) same
+          one (one_combined values x f v w)
 
       at_one : x ≡ y → Updates b y g → changed (Combine x f v) (changed (Combine y g w) values) ≡ changed (Combine y g w) (changed (Combine x f v) values)
       at_one same by_y =
-          ⊎_elim (by_one same) (λ differ. absurd (free.no_clash (two_updates x f g by_a (subst (λ z. Updates b z g) (sym same) by_y) differ))) (one_combination f g)
+          ⊎_elim (by_one same) (λ differ. absurd (free.no_clash (two_updates x f g by_a (subst (λ z. Updates b z g) (sym same) by_y) differ)))
+          (one_combination f g)
 
   -- changes in no order and in no conflict commute
   pub changes_commute : (d e : Change) → Writes a d → Writes b e → changed d (changed e values) ≡ changed e (changed d values)
@@ -169,7 +177,8 @@ accesses_is : (p : Program) (n : ℕ) (s : Step) → step_at p n ≡ Some s → 
 accesses_is p n s found = ap (λ o. unwrap_or (option_map access_of o) no_access) found
 
 -- the access of a step is that of the node at which its thread stands
-pub access_at_node : (p : Program) (c : Control) (t n : ℕ) (s : Step) → status_of c t ≡ status.At n → step_at p n ≡ Some s → access_at p (status_of c t) ≡ access_of s
+pub access_at_node : (p : Program) (c : Control) (t n : ℕ) (s : Step) → status_of c t ≡ status.At n → step_at p n ≡ Some s → access_at p (status_of c t)
+    ≡ access_of s
 access_at_node p c t n s at found = ap (access_at p) at ∙ accesses_is p n s found
 
 changes_write : (p : Program) (s : Step) (d : Change) → Changes p s d → Writes (access_of s) d
@@ -180,7 +189,8 @@ changes_write p s (Combine x f v) h = h.0
 -- a step's change is what its access writes
 pub writes : (p : Program) (c : Control) (t : ℕ) (e : Effect) → Does p c t e → Writes (access_at p (status_of c t)) e.change
 writes p c t e (simple d) =
-    subst₂ Writes (sym (access_at_node p c t d.node d.taken d.at d.found)) (sym (ap (λ (x : Effect). x.change) d.is)) (changes_write p d.taken d.change d.changes)
+    subst₂ Writes (sym (access_at_node p c t d.node d.taken d.at d.found)) (sym (ap (λ (x : Effect). x.change) d.is))
+    (changes_write p d.taken d.change d.changes)
 writes p c t e (forks d) = subst (Writes (access_at p (status_of c t))) (sym (ap (λ (x : Effect). x.change) d.is)) tt
 writes p c t e (joins d) = subst (Writes (access_at p (status_of c t))) (sym (ap (λ (x : Effect). x.change) d.is)) tt
 
@@ -201,7 +211,8 @@ at_same : (p : Program) (c d : Control) (t n : ℕ) (o : Option Step) → step_a
 at_same p c d t n None found same = refl
 at_same p c d t n (Some s) found same = node_same p c d t s (λ x h. same x (subst (λ (a : Access). Contains a.reads x) (sym (accesses_is p n s found)) h))
 
-join_same : (p : Program) (c d : Control) (t : ℕ) (w : Completes p c t) → status_of d t ≡ status_of c t → ((k : ℕ) → Contains w.children k → status_of d k ≡ status.Ended) →
+join_same : (p : Program) (c d : Control) (t : ℕ) (w : Completes p c t) → status_of d t ≡ status_of c t
+    → ((k : ℕ) → Contains w.children k → status_of d k ≡ status.Ended) →
     effect p d t ≡ effect p c t
 join_same p c d t w same ended =
     ap (status_effect p d t) (same ∙ w.at)
@@ -234,6 +245,7 @@ module _ (p : Program) (formed : IsFormed p) (c : Control) (ok : IsConfiguration
       Free (access_at p (status_of c t)) (access_at p (status_of c u)) → after e (after f c) ≡ after f (after e c)
   commute t u differ e f by_t by_u free =
       ap₂ (λ values statuses. record { variables = values; statuses = statuses })
-      (changes_commute (access_at p (status_of c t)) (access_at p (status_of c u)) free c.variables e.change f.change (writes p c t e (does p c t e by_t)) (writes p c u f (does p c u f by_u)))
+      (changes_commute (access_at p (status_of c t)) (access_at p (status_of c u)) free c.variables e.change f.change (writes p c t e (does p c t e by_t))
+      (writes p c u f (does p c u f by_u)))
       (moved_turned e.moves f.moves c.statuses
       (apart p formed c ok t u differ (enabled_from_effect p c t e by_t) (enabled_from_effect p c u f by_u) e f (does p c t e by_t) (does p c u f by_u)))

@@ -31,7 +31,13 @@ pub record StepsFrom (p : Program) (q : Tables) (c : Control) (t : ℕ) : Type 0
 module _ (p : Program) (q : Tables) (valid : IsValid p q) where
   -- the nodes of two threads that a third forks apart
   nodes_apart : (m n t u a : ℕ) → owner_of p m ≡ Some t → owner_of p n ≡ Some u → ForkedApart p t u a → ConcurrentNodes p m n
-  nodes_apart m n t u a of_m of_n apart = record { first = t; second = u; first_owner = of_m; second_owner = of_n; concurrent = record { forking = a; apart = apart } }
+  nodes_apart m n t u a of_m of_n apart = record {
+    first = t;
+    second = u;
+    first_owner = of_m;
+    second_owner = of_n;
+    concurrent = record { forking = a; apart = apart };
+  }
 
   -- don't clash
   pub no_clash : (m n t u a : ℕ) → owner_of p m ≡ Some t → owner_of p n ≡ Some u → ForkedApart p t u a → ¬ Clash (accesses p m) (accesses p n)
@@ -48,16 +54,32 @@ module _ (p : Program) (q : Tables) (valid : IsValid p q) where
       turned : n < m → ⊥
       turned h =
           valid.no_conflict (place.Pair n m)
-          (record { in_order = h; concurrent = nodes_apart n m u t a of_n of_m (apart_turned p t u a apart); clash = clash_turned (accesses p m) (accesses p n) clash })
+          (record {
+            in_order = h;
+            concurrent = nodes_apart n m u t a of_n of_m (apart_turned p t u a apart);
+            clash = clash_turned (accesses p m) (accesses p n) clash;
+          })
 
   -- and priority falls strictly from the one that must come before
-  pub edge_falls : (m n t u a : ℕ) → owner_of p m ≡ Some t → owner_of p n ≡ Some u → ForkedApart p t u a → Precedes (accesses p m) (accesses p n) → priority q n < priority q m
-  edge_falls m n t u a of_m of_n apart precedes = valid.protocol (place.Pair m n) (record { concurrent = nodes_apart m n t u a of_m of_n apart; precedes = precedes })
+  pub edge_falls : (m n t u a : ℕ) → owner_of p m ≡ Some t → owner_of p n ≡ Some u → ForkedApart p t u a → Precedes (accesses p m) (accesses p n)
+      → priority q n < priority q m
+  edge_falls m n t u a of_m of_n apart precedes = valid.protocol (place.Pair m n)
+      (record { concurrent = nodes_apart m n t u a of_m of_n apart; precedes = precedes })
 
   module _ (c : Control) (ok : IsConfiguration p c) where
     pub steps_from : (t : ℕ) → Enabled p c t → StepsFrom p q c t
-    steps_from t (stands n at) = record { node = n; owned = node_owned p (valid_formed p q valid) c ok t n at; access = ap (access_at p) at; priority = ap (priority_of q) at }
-    steps_from t (completes h) = record { node = h.join; owned = waits_owned p (valid_formed p q valid) c ok t h.join h.at; access = ap (access_at p) h.at; priority = ap (priority_of q) h.at }
+    steps_from t (stands n at) = record {
+      node = n;
+      owned = node_owned p (valid_formed p q valid) c ok t n at;
+      access = ap (access_at p) at;
+      priority = ap (priority_of q) at;
+    }
+    steps_from t (completes h) = record {
+      node = h.join;
+      owned = waits_owned p (valid_formed p q valid) c ok t h.join h.at;
+      access = ap (access_at p) h.at;
+      priority = ap (priority_of q) h.at;
+    }
 
     meet : (t u : ℕ) → t ≢ u → Enabled p c t → Enabled p c u → (a : ℕ) × ForkedApart p t u a
     meet t u ne r s = enabled_meet p (valid_formed p q valid) c ok t u r s ne
@@ -77,5 +99,6 @@ module _ (p : Program) (q : Tables) (valid : IsValid p q) where
         let from = steps_from t r in
         let to = steps_from u s in
         let m = meet t u ne r s in
-        let less : priority q to.node < priority q from.node = edge_falls from.node to.node t u m.0 from.owned to.owned m.1 (subst₂ Precedes from.access to.access precedes) in
+        let less : priority q to.node < priority q from.node = edge_falls from.node to.node t u m.0 from.owned to.owned m.1
+        (subst₂ Precedes from.access to.access precedes) in
         subst₂ ◌<◌ (sym to.priority) (sym from.priority) less

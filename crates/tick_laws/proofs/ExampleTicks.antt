@@ -1,5 +1,6 @@
 -- The law is not empty: the example's first tick and one that finds it paused have one end, and where the first one leads.
-use Rattle.std.proofs.Common.{◌≡◌, ℕ, zero, suc, Some, [], ◌∷◌, slice_get, option_and_then, option_map, Contains, refl, ap, subst, sym, ◌∙◌, ⊎_elim, arith, ℤ, pos}
+use Rattle.std.proofs.Common.{◌≡◌, ℕ, zero, suc, Some, [], ◌∷◌, slice_get, option_and_then, option_map, Contains, refl, ap, subst, sym, ◌∙◌, ⊎_elim, arith, ℤ}
+use Rattle.std.proofs.Common.{pos}
 use Rattle.std.proofs.lemmas.Option.{none-some, same_Some}
 use Rattle.std.proofs.lemmas.Int.{int_wrap_fits, fits_signed_from_abs}
 use Rattle.std.specs.Int.{w32}
@@ -26,7 +27,8 @@ use Rattle.sc_graph.specs.Tick.{initial, start, Rests, AreAccepted, IsPlace, IsP
 use Rattle.tick_laws.specs.OneEnd.{OneEnd}
 use Rattle.tick_laws.proofs.Final.{one_end_of_tick}
 use Rattle.tick_laws.proofs.Lists.{contains_none, contains_cons}
-use Rattle.tick_laws.proofs.Example.{example, example_tables, example_valid, the_fork}
+use Rattle.tick_laws.proofs.ExampleStands.{example, example_tables, the_fork}
+use Rattle.tick_laws.proofs.Example.{example_valid}
 
 -- before its first tick
 all_absent : (t : ℕ) → status_of (initial example) t ≡ status.Absent
@@ -49,7 +51,10 @@ example_rests =
             kinds = initial_kinds;
             threads = refl;
             places = λ t. subst (IsPlace example t) (sym (all_absent t)) tt;
-            present = λ n t children j k fork child. (λ here. absurd (subst IsPresent (all_absent k) here), λ waits. absurd (apart j (sym (all_absent t) ∙ waits)));
+            present = λ n t children j k fork child. (
+              λ here. absurd (subst IsPresent (all_absent k) here),
+              λ waits. absurd (apart j (sym (all_absent t) ∙ waits)),
+            );
           };
       nobody_at = λ t n at. stands n (sym (all_absent t) ∙ at);
     }
@@ -96,7 +101,8 @@ nobody_stands (suc (suc zero)) n h = cc
 nobody_stands (suc (suc (suc t))) n h = cc
 
 children_absent : (k : ℕ) → Contains (1 ∷ 2 ∷ []) k → IsPresent (status_of example_paused k) → ⊥
-children_absent zero child here = ⊎_elim (λ e. absurd (omega (arith, e))) (λ rest. ⊎_elim (λ e. absurd (omega (arith, e))) (λ none. absurd (contains_none 0 none)) (contains_cons 2 0 [] rest)) (contains_cons 1 0 (2 ∷ []) child)
+children_absent zero child here = ⊎_elim (λ e. absurd (omega (arith, e)))
+    (λ rest. ⊎_elim (λ e. absurd (omega (arith, e))) (λ none. absurd (contains_none 0 none)) (contains_cons 2 0 [] rest)) (contains_cons 1 0 (2 ∷ []) child)
 children_absent (suc zero) child here = here
 children_absent (suc (suc zero)) child here = here
 children_absent (suc (suc (suc k))) child here = here
@@ -132,7 +138,8 @@ forked = stands (pos 0) (pos 0) (status.Waiting 1) (status.At 4) (status.At 6)
 added : step_of example 1 forked ≡ Some (stands (pos 1) (pos 0) (status.Waiting 1) (status.At 5) (status.At 6))
 added =
     ap (λ o. option_map (λ e. after e forked) (option_and_then (updated example 1 0 combine.Add 5) o)) (value-literal (value_is.Int (pos 1)) forked.variables)
-    ∙ ap (λ z. Some (stands z (pos 0) (status.Waiting 1) (status.At 5) (status.At 6))) (int_wrap_fits w32 (pos 1) (fits_signed_from_abs w32 (pos 1) (omega arith)))
+    ∙ ap (λ z. Some (stands z (pos 0) (status.Waiting 1) (status.At 5) (status.At 6)))
+    (int_wrap_fits w32 (pos 1) (fits_signed_from_abs w32 (pos 1) (omega arith)))
 
 abbrev adds_no_more : Control
 adds_no_more = stands (pos 1) (pos 0) (status.Waiting 1) status.Ended (status.At 6)

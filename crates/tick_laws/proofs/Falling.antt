@@ -19,7 +19,8 @@ use Rattle.tick_laws.specs.WithinTick.{Tops, NoHigher, as_before, no_higher}
 use Rattle.tick_laws.proofs.Lists.{same_or_not, contained, contains_none, contains_head}
 use Rattle.tick_laws.proofs.Formed.{JoinOf, join_of, joined_is, some_child, valid_formed}
 use Rattle.tick_laws.proofs.RulesGive.{flow}
-use Rattle.tick_laws.proofs.Views.{Completes, Enabled, stands, completes, Does, simple, forks, joins, Simple, Forks, Joins, Enters, GoesTo, does, enabled_view, enabled_from, enabled_from_effect}
+use Rattle.tick_laws.proofs.Views.{Completes, Enabled, stands, completes, Does, simple, forks, joins, Simple, Forks, Joins, Enters, GoesTo, does, enabled_view}
+use Rattle.tick_laws.proofs.Views.{enabled_from, enabled_from_effect}
 use Rattle.tick_laws.proofs.Sound.{node_owned, waits_owned, forks_is, fork_of_join}
 use Rattle.tick_laws.proofs.StepMoves.{StepMoves, simple_moves, forks_moves, joins_moves}
 use Rattle.tick_laws.proofs.ConfigurationKept.{after_self, after_child, after_other}
@@ -149,7 +150,8 @@ module _ (p : Program) (formed : IsFormed p) (c : Control) (ok : IsConfiguration
         own same =
             let fork : IsFork p o.from t m.children w.join = o.waits w.join (own_to u (status.Waiting w.join) same w.at) in
             let k : (k : ℕ) × Contains m.children k = some_child p formed o.from t m.children w.join fork in
-            absurd (o.lives k.0 k.1 (sym (after_child p formed c t e m k.0 k.1) ∙ w.ended k.0 (subst (λ ks. Contains ks k.0) (same_children (joined_is p formed o.from t m.children w.join fork)) k.1)))
+            absurd (o.lives k.0 k.1 (sym (after_child p formed c t e m k.0 k.1)
+            ∙ w.ended k.0 (subst (λ ks. Contains ks k.0) (same_children (joined_is p formed o.from t m.children w.join fork)) k.1)))
           where
             same_children : joined_at p w.join ≡ Some m.children → m.children ≡ w.children
             same_children h = same_Some m.children w.children (sym h ∙ w.joined)
@@ -167,7 +169,8 @@ module _ (p : Program) (formed : IsFormed p) (c : Control) (ok : IsConfiguration
             last h =
                 let of : JoinOf p w.join w.children = join_of p w.join w.children w.joined in
                 let fork : IsFork p of.fork u w.children w.join = fork_of_join p formed c ok u w.join w.children (sym same ∙ w.at) of in
-                arrived o.from w.join o.at (waits_by (status_of (after e c) u) w.join w.at) (by_exit of.fork u w.children t fork h o.owned (o.exits (own_to t status.Ended refl (w.ended t h))))
+                arrived o.from w.join o.at (waits_by (status_of (after e c) u) w.join w.at)
+                (by_exit of.fork u w.children t fork h o.owned (o.exits (own_to t status.Ended refl (w.ended t h))))
 
             unmoved : ¬ Contains w.children t → (k : ℕ) → Contains w.children k → status_of (after e c) k ≡ status_of c k
             unmoved out k h =
@@ -175,7 +178,9 @@ module _ (p : Program) (formed : IsFormed p) (c : Control) (ok : IsConfiguration
                 (λ in_children. o.lives k in_children (sym (after_child p formed c t e m k in_children) ∙ w.ended k h))
 
             before : ¬ Contains w.children t → Came p c (after e c) t u
-            before out = stayed (completes (record { join = w.join; children = w.children; at = sym same ∙ w.at; joined = w.joined; ended = λ k h. sym (unmoved out k h) ∙ w.ended k h })) same
+            before out = stayed (completes
+                (record { join = w.join; children = w.children; at = sym same ∙ w.at; joined = w.joined; ended = λ k h. sym (unmoved out k h) ∙ w.ended k h }))
+                same
 
   pub came : effect p c t ≡ Some e → (u : ℕ) → Enabled p (after e c) u → Came p c (after e c) t u
   came h u r = of (does p c t e h)
@@ -190,7 +195,8 @@ module _ (p : Program) (formed : IsFormed p) (c : Control) (ok : IsConfiguration
       of (joins d) = by (joins_moves p formed c ok t e d) (onward_joins d) r
 
 -- an enabled thread is where it was before, or came to a place no higher than the one that the step left
-pub never_higher : (p : Program) (q : Tables) → IsValid p q → (c : Control) → IsConfiguration p c → (t : ℕ) (e : Effect) → effect p c t ≡ Some e → (u : ℕ) → Enabled p (after e c) u → NoHigher p q c (after e c) t u
+pub never_higher : (p : Program) (q : Tables) → IsValid p q → (c : Control) → IsConfiguration p c → (t : ℕ) (e : Effect) → effect p c t ≡ Some e → (u : ℕ)
+    → Enabled p (after e c) u → NoHigher p q c (after e c) t u
 never_higher p q valid c ok t e h u on = by (came p (valid_formed p q valid) c ok t e h u on)
   where
     by : Came p c (after e c) t u → NoHigher p q c (after e c) t u
@@ -198,7 +204,8 @@ never_higher p q valid c ok t e h u on = by (came p (valid_formed p q valid) c o
     by (arrived m n at there edge) =
         no_higher (omega (arith, (flow p q valid).falls m n edge, stands_priority q (status_of c t) m at, stands_priority q (status_of (after e c) u) n there))
 
-pub low_kept : (p : Program) (q : Tables) → IsValid p q → (top : ℕ) (c : Control) → IsConfiguration p c → (t : ℕ) (e : Effect) → effect p c t ≡ Some e → Tops p q top c → Tops p q top (after e c)
+pub low_kept : (p : Program) (q : Tables) → IsValid p q → (top : ℕ) (c : Control) → IsConfiguration p c → (t : ℕ) (e : Effect) → effect p c t ≡ Some e
+    → Tops p q top c → Tops p q top (after e c)
 low_kept p q valid top c ok t e h low u on = by (never_higher p q valid c ok t e h u (enabled_view p (after e c) u on))
   where
     by : NoHigher p q c (after e c) t u → priority_of q (status_of (after e c) u) ≤ top

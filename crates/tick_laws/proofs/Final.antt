@@ -20,9 +20,11 @@ use Rattle.tick_laws.proofs.RunsOn.{priority_replay}
 use Rattle.tick_laws.proofs.Confluent.{same_end}
 use Rattle.tick_laws.proofs.Following.{follows_run, threads_acts, orderly_priority}
 
-module _ (p : Program) (q : Tables) (valid : IsValid p q) (c : Control) (ok : IsConfiguration p c) (run : List ℕ) (d : Control) (by_priority : PriorityRun p q run c d) where
+module _ (p : Program) (q : Tables) (valid : IsValid p q) (c : Control) (ok : IsConfiguration p c) (run : List ℕ) (d : Control)
+    (by_priority : PriorityRun p q run c d) where
   -- an admissible complete run ends where the priority run ends, with the same steps
-  same_as : IsOver (machine p) d → (other : List ℕ) (end : Control) → Completes (machine p) other c end → IsAdmissible (machine p) other c → (end ≡ d) × IsPermutation other run
+  same_as : IsOver (machine p) d → (other : List ℕ) (end : Control) → Completes (machine p) other c end → IsAdmissible (machine p) other c
+      → (end ≡ d) × IsPermutation other run
   same_as over other end complete admissible =
       let both = same_end p q valid run (acts (machine p) other c) c d end ok by_priority over (follows_run p other c end complete.runs) complete.over
       (orderly_from_admissible (ForkedApart p) (acts (machine p) other c) admissible) in

@@ -1,5 +1,6 @@
 -- From each configuration of a tick a complete priority run exists, and each run is within the budget.
-use Rattle.std.proofs.Common.{◌≡◌, ℕ, zero, suc, ◌+◌, ◌≤◌, ◌<◌, ◌⊎◌, Bool, true, false, Some, option_and_then, List, [], ◌∷◌, length, refl, ap, subst, ◌∙◌, inl, inr, ⊎_elim, arith}
+use Rattle.std.proofs.Common.{◌≡◌, ℕ, zero, suc, ◌+◌, ◌≤◌, ◌<◌, ◌⊎◌, Bool, true, false, Some, option_and_then, List, [], ◌∷◌, length, refl, ap, subst, ◌∙◌, inl}
+use Rattle.std.proofs.Common.{inr, ⊎_elim, arith}
 use Rattle.std.proofs.lemmas.Option.{same_Some}
 use Rattle.std.proofs.lemmas.Bool.{cases_lt, cases_Bool}
 use Rattle.sc_values.specs.Runs.{replay, IsOver}
@@ -33,7 +34,8 @@ rests_when_over p c ok over = record { configuration = ok; nobody_at = λ t n at
 
 -- among the first n threads one that leads, or none is enabled
 data LeaderBelow (p : Program) (q : Tables) (c : Control) (n : ℕ) : Type 0 where
-  one_leads : (t : ℕ) → IsEnabled p c t → ((u : ℕ) → u < n → IsEnabled p c u → priority_of q (status_of c u) ≤ priority_of q (status_of c t)) → LeaderBelow p q c n
+  one_leads : (t : ℕ) → IsEnabled p c t → ((u : ℕ) → u < n → IsEnabled p c u → priority_of q (status_of c u) ≤ priority_of q (status_of c t))
+      → LeaderBelow p q c n
   none_enabled : ((u : ℕ) → u < n → is_enabled p c u ≡ false) → LeaderBelow p q c n
 
 module _ (p : Program) (q : Tables) (c : Control) where
@@ -107,7 +109,10 @@ module _ (p : Program) (q : Tables) (valid : IsValid p q) where
         run = t ∷ rest.run;
         end = rest.end;
         by_priority = (first, (after e c, effect_steps p t c e h, rest.by_priority));
-        complete = record { runs = ap (option_and_then (replay (machine p) rest.run)) (effect_steps p t c e h) ∙ rest.complete.runs; over = rest.complete.over };
+        complete = record {
+          runs = ap (option_and_then (replay (machine p) rest.run)) (effect_steps p t c e h) ∙ rest.complete.runs;
+          over = rest.complete.over;
+        };
         rests = rest.rests;
       }
 
@@ -122,18 +127,21 @@ module _ (p : Program) (q : Tables) (valid : IsValid p q) where
           absurd (omega (arith, (pay p q valid c ok t e.0 q.budget spent e.1 paid).within, enough))
   finish (suc fuel) spent enough c ok paid = at (leader c ok) (finish fuel)
     where
-      at : Leader p q c → ((spent : ℕ) → q.budget ≤ spent + fuel → (c : Control) → IsConfiguration p c → Paid p q q.budget c spent → HasEnd p q c) → HasEnd p q c
+      at : Leader p q c → ((spent : ℕ) → q.budget ≤ spent + fuel → (c : Control) → IsConfiguration p c → Paid p q q.budget c spent → HasEnd p q c)
+          → HasEnd p q c
       at (over done) rest = finished c ok done
       at (leads t first) rest =
           let e : (e : Effect) × (effect p c t ≡ Some e) = defined p q valid c ok t (enabled_view p c t first.enabled) in
-          goes_first c t e.0 e.1 first (rest (suc spent) (omega (arith, enough)) (after e.0 c) (configuration_kept p formed c t e.0 ok e.1) (pay p q valid c ok t e.0 q.budget spent e.1 paid))
+          goes_first c t e.0 e.1 first (rest (suc spent) (omega (arith, enough)) (after e.0 c) (configuration_kept p formed c t e.0 ok e.1)
+          (pay p q valid c ok t e.0 q.budget spent e.1 paid))
 
   -- where a run leads that has been paid for
   pub record Reached (bound spent : ℕ) (d : Control) : Type 0 where
     pub ok : IsConfiguration p d
     pub paid : Paid p q bound d spent
 
-  pub reached : (run : List ℕ) (c d : Control) (bound spent : ℕ) → IsConfiguration p c → Paid p q bound c spent → replay (machine p) run c ≡ Some d → Reached bound (spent + length run) d
+  pub reached : (run : List ℕ) (c d : Control) (bound spent : ℕ) → IsConfiguration p c → Paid p q bound c spent → replay (machine p) run c ≡ Some d
+      → Reached bound (spent + length run) d
   reached [] c d bound spent ok paid h =
       let same : c ≡ d = same_Some c d h in
       subst (λ n. Reached bound n d) (omega arith) (record { ok = subst (IsConfiguration p) same ok; paid = subst (λ d. Paid p q bound d spent) same paid })
@@ -141,13 +149,15 @@ module _ (p : Program) (q : Tables) (valid : IsValid p q) where
       let mid = and_then_some (replay (machine p) run) (step p t c) d h in
       let e = map_some (λ e. after e c) (effect p c t) mid.0 mid.1 in
       subst (λ n. Reached bound n d) (more spent (length run))
-      (reached run (after e.0 c) d bound (suc spent) (configuration_kept p formed c t e.0 ok e.1) (pay p q valid c ok t e.0 bound spent e.1 paid) (ap (replay (machine p) run) e.2 ∙ mid.2))
+      (reached run (after e.0 c) d bound (suc spent) (configuration_kept p formed c t e.0 ok e.1) (pay p q valid c ok t e.0 bound spent e.1 paid)
+      (ap (replay (machine p) run) e.2 ∙ mid.2))
     where
       more : (m n : ℕ) → suc m + n ≡ m + suc n
       more m n = omega arith
 
   -- what holds of each run
-  pub of_each : (c : Control) → IsConfiguration p c → Paid p q q.budget c 0 → (run : List ℕ) (d : Control) → replay (machine p) run c ≡ Some d → OfEach p q run d
+  pub of_each : (c : Control) → IsConfiguration p c → Paid p q q.budget c 0 → (run : List ℕ) (d : Control) → replay (machine p) run c ≡ Some d
+      → OfEach p q run d
   of_each c ok paid run d h =
       let at : Reached q.budget (0 + length run) d = reached run c d q.budget 0 ok paid h in
       record {

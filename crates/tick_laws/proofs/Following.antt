@@ -62,7 +62,8 @@ threads_acts p (t ∷ run) c d h =
 
 module _ (p : Program) (q : Tables) (valid : IsValid p q) where
   -- a step from a node may precede each that is forked apart from it and has no greater priority
-  may_precede : (m n t u a : ℕ) → owner_of p m ≡ Some t → owner_of p n ≡ Some u → ForkedApart p t u a → priority q n ≤ priority q m → MayPrecede (accesses p m) (accesses p n)
+  may_precede : (m n t u a : ℕ) → owner_of p m ≡ Some t → owner_of p n ≡ Some u → ForkedApart p t u a → priority q n ≤ priority q m
+      → MayPrecede (accesses p m) (accesses p n)
   may_precede m n t u a of_m of_n apart low =
       record {
         no_order = λ before.
@@ -71,7 +72,8 @@ module _ (p : Program) (q : Tables) (valid : IsValid p q) where
         no_clash = no_clash p q valid m n t u a of_m of_n apart;
       }
 
-  clear_here : (t n : ℕ) (m : Act) → m.thread ≡ t → owner_of p n ≡ Some t → m.access ≡ accesses p n → (u : ℕ) → (c : Control) → (from : StepsFrom p q c u) → priority_of q (status_of c u) ≤ priority q n →
+  clear_here : (t n : ℕ) (m : Act) → m.thread ≡ t → owner_of p n ≡ Some t → m.access ≡ accesses p n → (u : ℕ) → (c : Control) → (from : StepsFrom p q c u)
+      → priority_of q (status_of c u) ≤ priority q n →
       (a : ℕ) → ForkedApart p m.thread u a → MayPrecede m.access (access_at p (status_of c u))
   clear_here t n m thread owned access u c from low a apart =
       subst₂ MayPrecede (sym access) (sym from.access)
@@ -79,7 +81,8 @@ module _ (p : Program) (q : Tables) (valid : IsValid p q) where
 
   -- a step of the greatest priority may precede all that follow
   clear_leader : (t n : ℕ) (m : Act) → m.thread ≡ t → owner_of p n ≡ Some t → m.access ≡ accesses p n → (IsOpen : ℕ → Type 0) →
-      (run : List ℕ) (c d : Control) → IsConfiguration p c → Tops p q (priority q n) c → replay (machine p) run c ≡ Some d → Clear (ForkedApart p) m IsOpen (acts (machine p) run c)
+      (run : List ℕ) (c d : Control) → IsConfiguration p c → Tops p q (priority q n) c → replay (machine p) run c ≡ Some d
+      → Clear (ForkedApart p) m IsOpen (acts (machine p) run c)
   clear_leader t n m thread owned access IsOpen [] c d ok low h = tt
   clear_leader t n m thread owned access IsOpen (u ∷ run) c d ok low h =
       let b : Begins p u run c d = begins p u run c d h in

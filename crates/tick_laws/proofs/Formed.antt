@@ -1,6 +1,7 @@
 -- What the rules of size and of structure say of a program, by numbers: who owns what, one fork for
 -- each join and for each child, and parents of smaller number.
-use Rattle.std.proofs.Common.{◌≡◌, ◌≢◌, ℕ, zero, suc, ◌<◌, Bool, true, false, List, [], ◌∷◌, length, get_or, Option, Some, None, slice_get, option_map, if◌then◌else◌, eqb, Contains, refl, sym, ap, subst, subst₂, ◌∙◌, arith}
+use Rattle.std.proofs.Common.{◌≡◌, ◌≢◌, ℕ, zero, suc, ◌<◌, Bool, true, false, List, [], ◌∷◌, length, get_or, Option, Some, None, slice_get, option_map}
+use Rattle.std.proofs.Common.{if◌then◌else◌, eqb, Contains, refl, sym, ap, subst, subst₂, ◌∙◌, arith}
 use Rattle.std.proofs.lemmas.Bool.{eq-eqb, eqb-true, and_parts}
 use Rattle.std.proofs.lemmas.List.Elements.{All-contains, Contains-get_or}
 use Rattle.sc_graph.specs.declared.program.Thread.{Thread}
@@ -9,7 +10,8 @@ use Rattle.sc_graph.specs.declared.program.Step.{Step}
 use Rattle.sc_graph.specs.declared.program.Step.TheVariants as step
 use Rattle.sc_graph.specs.declared.place.Place.TheVariants as place
 use Rattle.sc_graph.specs.declared.tables.Tables.{Tables}
-use Rattle.sc_graph.specs.Program.{Program, is_some_number, step_at, owner_of, parent_of, entry_of, owns, is_join_step, is_depth_step, is_ordinary_step, is_join, is_depth, is_target}
+use Rattle.sc_graph.specs.Program.{Program, is_some_number, step_at, owner_of, parent_of, entry_of, owns, is_join_step, is_depth_step, is_ordinary_step}
+use Rattle.sc_graph.specs.Program.{is_join, is_depth, is_target}
 use Rattle.sc_graph.specs.Threads.{IsFork}
 use Rattle.sc_graph.specs.Control.{joined_by, first_of, joined_among, joined_at}
 use Rattle.sc_graph.specs.Size.{ChildrenFit, StepFits, ParentFits, AreDistinct}
@@ -103,12 +105,14 @@ found_among : (j : ℕ) (nodes : List Node) (ks : List ℕ) → joined_among j n
 found_among j [] ks h = absurd (cc)
 found_among j (x ∷ nodes) ks h = of_head (joined_by j x.step) refl h (found_among j nodes ks)
   where
-    of_head : (o : Option (List ℕ)) → joined_by j x.step ≡ o → first_of o (joined_among j nodes) ≡ Some ks → (joined_among j nodes ≡ Some ks → ForkAmong nodes j ks) → ForkAmong (x ∷ nodes) j ks
+    of_head : (o : Option (List ℕ)) → joined_by j x.step ≡ o → first_of o (joined_among j nodes) ≡ Some ks
+        → (joined_among j nodes ≡ Some ks → ForkAmong nodes j ks) → ForkAmong (x ∷ nodes) j ks
     of_head None e h rest = let r = rest h in record { n = suc r.n; forks = r.forks }
     of_head (Some ls) e h rest = record { n = zero; forks = ap Some (joined_step j x.step ks (e ∙ h)) }
 
 -- the search finds something where there is something to find
-finds_among : (j n : ℕ) (nodes : List Node) (ks : List ℕ) → option_map (λ x. x.step) (slice_get nodes n) ≡ Some (step.Fork ks j) → (ls : List ℕ) × (joined_among j nodes ≡ Some ls)
+finds_among : (j n : ℕ) (nodes : List Node) (ks : List ℕ) → option_map (λ x. x.step) (slice_get nodes n) ≡ Some (step.Fork ks j)
+    → (ls : List ℕ) × (joined_among j nodes ≡ Some ls)
 finds_among j n [] ks h = absurd (cc)
 finds_among j zero (x ∷ nodes) ks h = (ks, ap (λ o. first_of o (joined_among j nodes)) by_head)
   where
@@ -169,7 +173,8 @@ module _ (p : Program) (formed : IsFormed p) where
   step_fits n s h = let a = map_some (λ x. x.step) (slice_get p.nodes n) s h in subst (StepFits p) a.2 (formed.size (place.Node n) a.0 a.1).fits
 
   pub owner_in_range : (n t : ℕ) → owner_of p n ≡ Some t → t < length p.threads
-  owner_in_range n t h = let a = map_some (λ x. x.owner) (slice_get p.nodes n) t h in subst (λ u. u < length p.threads) a.2 (formed.size (place.Node n) a.0 a.1).owner
+  owner_in_range n t h = let a = map_some (λ x. x.owner) (slice_get p.nodes n) t h in
+      subst (λ u. u < length p.threads) a.2 (formed.size (place.Node n) a.0 a.1).owner
 
   -- a fork's join is its thread's own, and its children are that thread's
   pub fork_joins : (n t : ℕ) (ks : List ℕ) (j : ℕ) → IsFork p n t ks j → is_join p t j ≡ true
@@ -195,7 +200,8 @@ module _ (p : Program) (formed : IsFormed p) where
 
   -- parents have smaller numbers, and the root has none
   pub parent_below : (t u : ℕ) → parent_of p t ≡ Some u → u < t
-  parent_below t u h = let a = and_then_some (λ x. x.parent) (slice_get p.threads t) u h in parent_less t u a.0.parent (formed.size (place.Thread t) a.0 a.1).parent a.2
+  parent_below t u h = let a = and_then_some (λ x. x.parent) (slice_get p.threads t) u h in
+      parent_less t u a.0.parent (formed.size (place.Thread t) a.0 a.1).parent a.2
 
   pub root_alone : (u : ℕ) → parent_of p 0 ≢ Some u
   root_alone u h = absurd (omega (arith, parent_below 0 u h))
@@ -215,7 +221,8 @@ module _ (p : Program) (formed : IsFormed p) where
   pub one_fork_child : (m n t u : ℕ) (ks ls : List ℕ) (i j k : ℕ) → IsFork p m t ks i → IsFork p n u ls j → Contains ks k → Contains ls k → m ≡ n
   one_fork_child m n t u ks ls i j k f g a b =
       let one : ExactlyOne (ForksChild p k) = forked_once k t (child_parent m t ks i k f a) in
-      one.alone m (record { children = ks; join = i; forks = f.forks; child = a }) ∙ sym (one.alone n (record { children = ls; join = j; forks = g.forks; child = b }))
+      one.alone m (record { children = ks; join = i; forks = f.forks; child = a })
+      ∙ sym (one.alone n (record { children = ls; join = j; forks = g.forks; child = b }))
 
   -- the children that a join waits for are those of its fork
   pub joined_is : (n t : ℕ) (ks : List ℕ) (j : ℕ) → IsFork p n t ks j → joined_at p j ≡ Some ks

@@ -1,5 +1,6 @@
 -- Threads that can step are concurrent: the ancestors of a present thread wait, so none of them is enabled.
-use Rattle.std.proofs.Common.{◌≡◌, ◌≢◌, ℕ, zero, suc, ◌<◌, ◌≤◌, ◌+◌, ◌⊎◌, List, Option, Some, None, length, slice_get, unwrap_or, option_and_then, Contains, refl, sym, ap, subst, ◌∙◌, inl, inr, ⊎_elim, arith}
+use Rattle.std.proofs.Common.{◌≡◌, ◌≢◌, ℕ, zero, suc, ◌<◌, ◌≤◌, ◌+◌, ◌⊎◌, List, Option, Some, None, length, slice_get, unwrap_or, option_and_then, Contains}
+use Rattle.std.proofs.Common.{refl, sym, ap, subst, ◌∙◌, inl, inr, ⊎_elim, arith}
 use Rattle.std.proofs.lemmas.Bool.{cases_lt, cases_order}
 use Rattle.std.proofs.lemmas.Option.{slice_get_past}
 use Rattle.sc_graph.specs.declared.program.Thread.{Thread}
@@ -144,7 +145,8 @@ module _ (p : Program) (formed : IsFormed p) (c : Control) (ok : IsConfiguration
   not_above t u r (completes h) ne b =
       let o : Over p c t u = over_from t u ne b (enabled_present p c t r) in
       let same_join : o.join ≡ h.join = of_waiting o.join h.join o.waits h.at in
-      let joined : joined_at p h.join ≡ Some o.children = subst (λ j. joined_at p j ≡ Some o.children) same_join (joined_is p formed o.fork u o.children o.join o.is_fork) in
+      let joined : joined_at p h.join ≡ Some o.children = subst (λ j. joined_at p j ≡ Some o.children) same_join
+      (joined_is p formed o.fork u o.children o.join o.is_fork) in
       let children : o.children ≡ h.children = of_joined o.children h.children h.join joined h.joined in
       let ended : status_of c o.child ≡ status.Ended = h.ended o.child (subst (λ ks. Contains ks o.child) children o.is_child) in
       ⊎_elim (λ e. enabled_not_ended r (ap (status_of c) e ∙ ended)) (λ w. waiting_not_ended o.child w.0 w.1 ended) o.between

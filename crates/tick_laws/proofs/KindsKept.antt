@@ -59,7 +59,8 @@ set_kinds p values y w each at_y x v h = ⊎_elim here elsewhere (same_or_not x 
     elsewhere : x ≢ y → kind_at p x ≡ Some (kind_of v)
     elsewhere ne = each x v (sym (get_set_other values y x w ne) ∙ h)
 
-combined_kinds : (p : Program) (values : List Value) (y : ℕ) (f : Combination) (w : Value) → AreOfKind p values → kind_at p y ≡ Some (kind_of w) → kind_combined f ≡ kind_of w →
+combined_kinds : (p : Program) (values : List Value) (y : ℕ) (f : Combination) (w : Value) → AreOfKind p values → kind_at p y ≡ Some (kind_of w)
+    → kind_combined f ≡ kind_of w →
     (o : Option Value) → slice_get values y ≡ o → AreOfKind p (combined_at values y f w o)
 combined_kinds p values y f w each at_y fits None e = each
 combined_kinds p values y f w each at_y fits (Some a) e =
@@ -90,6 +91,7 @@ values_kept e c = changed_length e.change c.variables
 
 -- a step keeps their kinds
 pub kinds_kept : (p : Program) (c : Control) (t : ℕ) (e : Effect) → Does p c t e → AreOfKind p c.variables → AreOfKind p (after e c).variables
-kinds_kept p c t e (simple d) each = subst (λ e. AreOfKind p (changed e.change c.variables)) (sym d.is) (changed_kinds p d.taken d.change c.variables d.changes each)
+kinds_kept p c t e (simple d) each = subst (λ e. AreOfKind p (changed e.change c.variables)) (sym d.is)
+    (changed_kinds p d.taken d.change c.variables d.changes each)
 kinds_kept p c t e (forks d) each = subst (λ e. AreOfKind p (changed e.change c.variables)) (sym d.is) each
 kinds_kept p c t e (joins d) each = subst (λ e. AreOfKind p (changed e.change c.variables)) (sym d.is) each

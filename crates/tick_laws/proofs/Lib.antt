@@ -24,5 +24,6 @@ pub mod WithinTick
 pub mod Claims
 pub mod Following
 pub mod Final
+pub mod ExampleStands
 pub mod Example
 pub mod ExampleTicks

@@ -1,5 +1,6 @@
 -- Membership in lists by head and tail, and what stands at a place after a write.
-use Rattle.std.proofs.Common.{◌≡◌, ◌≢◌, ℕ, zero, suc, ◌<◌, ◌⊎◌, ◌&&◌, Bool, true, List, [], ◌∷◌, map, length, get_or, set, Option, Some, None, slice_get, option_map, option_and_then, Contains, All, refl, ap, subst, ◌∙◌, inl, inr, ⊎_elim, arith}
+use Rattle.std.proofs.Common.{◌≡◌, ◌≢◌, ℕ, zero, suc, ◌<◌, ◌⊎◌, ◌&&◌, Bool, true, List, [], ◌∷◌, map, length, get_or, set, Option, Some, None, slice_get}
+use Rattle.std.proofs.Common.{option_map, option_and_then, Contains, All, refl, ap, subst, ◌∙◌, inl, inr, ⊎_elim, arith}
 use Rattle.std.proofs.lemmas.Bool.{and_parts, cases_eq}
 use Rattle.std.specs.List.{list_all}
 use Rattle.std.proofs.lemmas.Option.{none-some, same_Some, slice_get-get_or, slice_get_within, get_or_from_slice_get}

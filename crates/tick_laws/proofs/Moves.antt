@@ -1,6 +1,7 @@
 -- Where threads stand after the moves of a step, and that moves of different threads commute.
 use Rattle.std.proofs.lemmas.Bool.{cases_lt}
-use Rattle.std.proofs.Common.{◌≡◌, ◌≢◌, ℕ, zero, suc, ◌<◌, ◌≤◌, List, [], ◌∷◌, map, length, set, Option, Some, None, slice_get, unwrap_or, Contains, refl, sym, ap, subst, ◌∙◌, ⊎_elim, arith, length-set}
+use Rattle.std.proofs.Common.{◌≡◌, ◌≢◌, ℕ, zero, suc, ◌<◌, ◌≤◌, List, [], ◌∷◌, map, length, set, Option, Some, None, slice_get, unwrap_or, Contains, refl, sym}
+use Rattle.std.proofs.Common.{ap, subst, ◌∙◌, ⊎_elim, arith, length-set}
 use Rattle.std.proofs.lemmas.List.{set_comm}
 use Rattle.std.proofs.lemmas.Option.{slice_get_past}
 use Rattle.sc_graph.specs.declared.control.Status.{Status}
@@ -111,7 +112,8 @@ left_absent children statuses k h =
     (λ le. standing_past (moved (leaving children) statuses) k (subst (λ n. n ≤ k) (sym (moved_length (leaving children) statuses)) le))
     (cases_lt k (length statuses))
 
-moved_late : (moves : List (ℕ × Status)) (statuses : List Status) (k : ℕ) (s : Status) → ¬ IsMoved moves k → moved moves (set statuses k s) ≡ set (moved moves statuses) k s
+moved_late : (moves : List (ℕ × Status)) (statuses : List Status) (k : ℕ) (s : Status) → ¬ IsMoved moves k → moved moves (set statuses k s)
+    ≡ set (moved moves statuses) k s
 moved_late [] statuses k s h = refl
 moved_late (m ∷ moves) statuses k s h =
     ap (moved moves) (set_comm statuses k m.0 s m.1 (λ e. h (subst (λ i. Contains (m.0 ∷ movers moves) i) (sym e) (contains_head m.0 (movers moves)))))

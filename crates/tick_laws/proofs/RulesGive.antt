@@ -1,5 +1,6 @@
 -- What the rules of end bits, weights, bounds and flow say along each sort of edge.
-use Rattle.std.proofs.Common.{◌≡◌, ℕ, ◌+◌, ◌≤◌, ◌⊎◌, true, Some, List, [], ◌∷◌, slice_get, Contains, if◌then◌else◌, refl, ap, subst, ◌∙◌, inl, inr, ⊎_elim, arith}
+use Rattle.std.proofs.Common.{◌≡◌, ℕ, ◌+◌, ◌≤◌, ◌⊎◌, true, Some, List, [], ◌∷◌, slice_get, Contains, if◌then◌else◌, refl, ap, subst, ◌∙◌, inl, inr, ⊎_elim}
+use Rattle.std.proofs.Common.{arith}
 use Rattle.std.proofs.lemmas.Bool.{and_from, or_left as or_from_left, or_right as or_from_right}
 use Rattle.sc_graph.specs.declared.program.Thread.{Thread}
 use Rattle.sc_graph.specs.declared.program.Step.{Step}
@@ -27,7 +28,8 @@ pub record Weights (p : Program) (q : Tables) : Type 0 where
 -- the end bits come back from what follows
 pub record EndBits (p : Program) (q : Tables) : Type 0 where
   pub successor : (m n : ℕ) (s : Step) → step_at p m ≡ Some s → Contains (successors s) n → end_bit q n ≡ true → end_bit q m ≡ true
-  pub fork : (n j : ℕ) (children : List ℕ) → step_at p n ≡ Some (step.Fork children j) → entries_end p q children ≡ true → end_bit q j ≡ true → end_bit q n ≡ true
+  pub fork : (n j : ℕ) (children : List ℕ) → step_at p n ≡ Some (step.Fork children j) → entries_end p q children ≡ true → end_bit q j ≡ true
+      → end_bit q n ≡ true
   pub exit : (n : ℕ) → step_at p n ≡ Some step.Exit → end_bit q n ≡ true
 
 -- what a thread's bound covers
@@ -63,7 +65,8 @@ module _ (p : Program) (q : Tables) where
   weight_after : (s : Step) (w n : ℕ) → needed_weight p q s ≤ w → Contains (successors s) n → 1 + weight q n ≤ w
   weight_after (step.Assign x code m) w n h c = subst (λ k. 1 + weight q k ≤ w) (alone m n c) h
   weight_after (step.Update x f code m) w n h c = subst (λ k. 1 + weight q k ≤ w) (alone m n c) h
-  weight_after (step.Cond code a b) w n h c = ⊎_elim (λ e. subst (λ k. 1 + weight q k ≤ w) e (omega (arith, h))) (λ e. subst (λ k. 1 + weight q k ≤ w) e (omega (arith, h))) (one_of_two a b n c)
+  weight_after (step.Cond code a b) w n h c = ⊎_elim (λ e. subst (λ k. 1 + weight q k ≤ w) e (omega (arith, h)))
+      (λ e. subst (λ k. 1 + weight q k ≤ w) e (omega (arith, h))) (one_of_two a b n c)
   weight_after (step.Fork children j) w n h c = nothing_in n c
   weight_after (step.Join m) w n h c = subst (λ k. 1 + weight q k ≤ w) (alone m n c) h
   weight_after (step.Surf d) w n h c = nothing_in n c

@@ -22,16 +22,19 @@ pub effect_steps : (p : Program) (t : ℕ) (c : Control) (e : Effect) → effect
 effect_steps p t c e h = ap (option_map (λ e. after e c)) h
 
 -- two runs one after the other
-pub replay_append : (p : Program) (run more : List ℕ) (c d : Control) → replay (machine p) run c ≡ Some d → replay (machine p) (run ++ more) c ≡ replay (machine p) more d
+pub replay_append : (p : Program) (run more : List ℕ) (c d : Control) → replay (machine p) run c ≡ Some d → replay (machine p) (run ++ more) c
+    ≡ replay (machine p) more d
 replay_append p [] more c d h = ap (λ o. option_and_then (replay (machine p) more) o) h
 replay_append p (t ∷ run) more c d h =
     let f = and_then_some (replay (machine p) run) (step p t c) d h in
     ap (option_and_then (replay (machine p) (run ++ more))) f.1 ∙ replay_append p run more f.0 d f.2
 
-pub replay_push : (p : Program) (run : List ℕ) (t : ℕ) (c d e : Control) → replay (machine p) run c ≡ Some d → step p t d ≡ Some e → replay (machine p) (run ++ t ∷ []) c ≡ Some e
+pub replay_push : (p : Program) (run : List ℕ) (t : ℕ) (c d e : Control) → replay (machine p) run c ≡ Some d → step p t d ≡ Some e
+    → replay (machine p) (run ++ t ∷ []) c ≡ Some e
 replay_push p run t c d e h k = replay_append p run (t ∷ []) c d h ∙ ap (option_and_then (replay (machine p) [])) k
 
-pub priority_push : (p : Program) (q : Tables) (run : List ℕ) (t : ℕ) (c d e : Control) → PriorityRun p q run c d → Leads p q d t → step p t d ≡ Some e → PriorityRun p q (run ++ t ∷ []) c e
+pub priority_push : (p : Program) (q : Tables) (run : List ℕ) (t : ℕ) (c d e : Control) → PriorityRun p q run c d → Leads p q d t → step p t d ≡ Some e
+    → PriorityRun p q (run ++ t ∷ []) c e
 priority_push p q [] t c d e h leads k = (subst (λ d. Leads p q d t) (sym h) leads, (e, (subst (λ d. step p t d ≡ Some e) (sym h) k), refl))
 priority_push p q (u ∷ run) t c d e h leads k = (h.0, (h.1.0, h.1.1, priority_push p q run t h.1.0 d e h.1.2 leads k))
 

@@ -1,6 +1,7 @@
 -- A tick starts within its budget. Threads are served in the order of their numbers: each has the credit
 -- that its parent handed to it, and one that waits keeps its join's weight and hands its children their bounds.
-use Rattle.std.proofs.Common.{◌≡◌, ◌≢◌, ℕ, zero, suc, ◌+◌, ◌≤◌, ◌<◌, ◌⊎◌, true, unwrap_or, Some, List, length, slice_get, Contains, refl, ap, subst, sym, ◌∙◌, inl, inr, ⊎_elim, arith}
+use Rattle.std.proofs.Common.{◌≡◌, ◌≢◌, ℕ, zero, suc, ◌+◌, ◌≤◌, ◌<◌, ◌⊎◌, true, unwrap_or, Some, List, length, slice_get, Contains, refl, ap, subst, sym, ◌∙◌}
+use Rattle.std.proofs.Common.{inl, inr, ⊎_elim, arith}
 use Rattle.std.proofs.lemmas.Bool.{cases_eq, cases_lt}
 use Rattle.std.proofs.lemmas.Option.{slice_get_past}
 use Rattle.sc_graph.specs.declared.program.Thread.{Thread}
@@ -20,10 +21,12 @@ use Rattle.sc_graph.specs.Costs.{child_bounds, entry_weight, BoundHolds}
 use Rattle.sc_graph.specs.Valid.{IsFormed, IsValid}
 use Rattle.tick_laws.specs.WithinTick.{total, Covers, Paid}
 use Rattle.tick_laws.proofs.Lists.{map_some, slice_get_there}
-use Rattle.tick_laws.proofs.Formed.{ChildOf, valid_formed, has_owner, join_step, depth_step, join_owned, depth_owned, fork_join_owned, child_parent, parent_below, fork_of, one_fork_joins, fork_children, owner_in_range}
+use Rattle.tick_laws.proofs.Formed.{ChildOf, valid_formed, has_owner, join_step, depth_step, join_owned, depth_owned, fork_join_owned, child_parent}
+use Rattle.tick_laws.proofs.Formed.{parent_below, fork_of, one_fork_joins, fork_children, owner_in_range}
 use Rattle.tick_laws.proofs.Kin.{present_in_range, has_parent}
 use Rattle.tick_laws.proofs.RulesGive.{bounds}
-use Rattle.tick_laws.proofs.Ledger.{among, apart, replaced, handed, total_zero, replaced_same, replaced_other, handed_apart, Handed, handed_cases, total-replaced_le, total-replaced, total-handed_le, child_bounds_total}
+use Rattle.tick_laws.proofs.Ledger.{among, apart, replaced, handed, total_zero, replaced_same, replaced_other, handed_apart, Handed, handed_cases}
+use Rattle.tick_laws.proofs.Ledger.{total-replaced_le, total-replaced, total-handed_le, child_bounds_total}
 use Rattle.tick_laws.proofs.Starting.{wakes, enters, Starts, starts, start_config}
 
 -- what a thread has when its turn to be served comes: the root the budget, another one its bound
@@ -79,8 +82,12 @@ module _ (p : Program) (q : Tables) (valid : IsValid p q) where
       let a = map_some (λ x. x.step) (slice_get p.nodes j) (step.Join s.0) s.1 in
       let one : ExactlyOne (JoinsAt p j) = subst (BelongsToOne p j) a.2 (formed.structure (place.Node j) a.0 a.1).belongs in
       let o : (u : ℕ) × (owner_of p one.one ≡ Some u) = has_owner p one.one (step.Fork one.is.children j) one.is.forks in
-      let f : IsFork p one.one o.0 one.is.children j = record { owned = o.1; forks = one.is.forks } in
-      (one.one, one.is.children, subst (λ u. IsFork p one.one u one.is.children j) (same_owner o.0 (fork_join_owned p formed one.one o.0 one.is.children j f)) f)
+      let f : IsFork p one.one o.0 one.is.children j = record { owned = o.1; forks = one.is.forks } in (
+        one.one,
+        one.is.children,
+        subst (λ u. IsFork p one.one u one.is.children j) (same_owner o.0 (fork_join_owned p formed one.one o.0 one.is.children j f))
+            f,
+      )
     where
       same_owner : (u : ℕ) → owner_of p j ≡ Some u → u ≡ t
       same_owner u e = let mine = join_owned p t j h in cc
@@ -105,7 +112,8 @@ module _ (p : Program) (q : Tables) (valid : IsValid p q) where
         record {
           credit = s.credit;
           done = λ t lt. ⊎_elim (λ e. subst (λ u. Needs q (s.credit u) (status_of d u)) (sym e) needs) (s.done t) (below_suc t n lt);
-          handed_on = λ t le present reached. s.handed_on t (omega (arith, le)) present (λ u parent. before t u present parent (below_suc u n (reached u parent)));
+          handed_on = λ t le present reached. s.handed_on t (omega (arith, le)) present
+              (λ u parent. before t u present parent (below_suc u n (reached u parent)));
           within = s.within;
         }
       where
@@ -140,14 +148,21 @@ module _ (p : Program) (q : Tables) (valid : IsValid p q) where
         done : (t : ℕ) → (t ≡ n) ⊎ (t < n) → Needs q (credit t) (status_of d t)
         done t (inl same) = subst (Needs q (credit t)) (sym (ap (status_of d) same ∙ e)) (omega (arith, replaced_same handed_out n t (weight q j) same))
         done t (inr below) =
-            let kept : credit t ≡ s.credit t = replaced_other handed_out n t (weight q j) (λ h. omega (arith, h, below)) ∙ handed_apart (bound q) w.children s.credit t (no_child t (omega (arith, below))) in
+            let kept : credit t ≡ s.credit t = replaced_other handed_out n t (weight q j) (λ h. omega (arith, h, below))
+            ∙ handed_apart (bound q) w.children s.credit t (no_child t (omega (arith, below))) in
             subst (λ c. Needs q c (status_of d t)) (sym kept) (s.done t below)
 
-        handed_on : (t : ℕ) → n < t → IsPresent (status_of d t) → ((u : ℕ) → parent_of p t ≡ Some u → u < suc n) → Handed (bound q) w.children s.credit t → due q t ≤ credit t
+        handed_on : (t : ℕ) → n < t → IsPresent (status_of d t) → ((u : ℕ) → parent_of p t ≡ Some u → u < suc n) → Handed (bound q) w.children s.credit t
+            → due q t ≤ credit t
         handed_on t above present reached (among child h) =
             omega (arith, due_bound t n above, h, replaced_other handed_out n t (weight q j) (λ h. omega (arith, h, above)))
         handed_on t above present reached (apart other h) =
-            omega (arith, s.handed_on t (omega (arith, above)) present (λ u parent. before u parent (below_suc u n (reached u parent))), h, replaced_other handed_out n t (weight q j) (λ h. omega (arith, h, above)))
+            omega (
+              arith,
+              s.handed_on t (omega (arith, above)) present (λ u parent. before u parent (below_suc u n (reached u parent))),
+              h,
+              replaced_other handed_out n t (weight q j) (λ h. omega (arith, h, above)),
+            )
           where
             before : (u : ℕ) → parent_of p t ≡ Some u → (u ≡ n) ⊎ (u < n) → u < n
             before u parent (inl same) =
@@ -161,12 +176,22 @@ module _ (p : Program) (q : Tables) (valid : IsValid p q) where
                 in_same of h =
                     let f : IsFork p of.fork n of.children j = subst (IsFork p of.fork n of.children) h of.is in
                     let one : of.fork ≡ w.fork = one_fork_joins p formed of.fork w.fork n n of.children w.children j f w.is in
-                    subst (λ ks. Contains ks t) (fork_children p w.fork n n of.children w.children j j (subst (λ m. IsFork p m n of.children j) one f) w.is) of.child
+                    subst (λ ks. Contains ks t) (fork_children p w.fork n n of.children w.children j j (subst (λ m. IsFork p m n of.children j) one f) w.is)
+                    of.child
             before u parent (inr below) = below
 
         within : total credit (length p.threads) ≤ q.budget
         within =
-            omega (arith, total-replaced handed_out n (weight q j) (length p.threads) lt, total-handed_le (bound q) w.children s.credit (length p.threads), handed_apart (bound q) w.children s.credit n (no_child n (omega arith)), child_bounds_total q w.children, w.covered, own, s.within)
+            omega (
+              arith,
+              total-replaced handed_out n (weight q j) (length p.threads) lt,
+              total-handed_le (bound q) w.children s.credit (length p.threads),
+              handed_apart (bound q) w.children s.credit n (no_child n (omega arith)),
+              child_bounds_total q w.children,
+              w.covered,
+              own,
+              s.within,
+            )
 
     own_due : (n : ℕ) (s : Served p q d n) → IsPresent (status_of d n) → due q n ≤ s.credit n
     own_due n s present = s.handed_on n (omega arith) present (λ u parent. parent_below p formed n u parent)
@@ -193,7 +218,8 @@ module _ (p : Program) (q : Tables) (valid : IsValid p q) where
         first : (t : ℕ) → IsPresent (status_of d t) → ((u : ℕ) → parent_of p t ≡ Some u → u < 0) → due q t ≤ replaced (λ _. 0) 0 q.budget t
         first zero present reached = omega arith
         first (suc t) present reached =
-            let up : (u : ℕ) × (parent_of p (suc t) ≡ Some u) = has_parent p formed d ok (suc t) (present_in_range p formed d ok (suc t) present) (omega arith) in
+            let up : (u : ℕ) × (parent_of p (suc t) ≡ Some u) = has_parent p formed d ok (suc t) (present_in_range p formed d ok (suc t) present)
+            (omega arith) in
             absurd (omega (arith, reached up.0 up.1))
     served (suc n) le = serve n le (served n (omega (arith, le)))
 
@@ -214,9 +240,11 @@ module _ (p : Program) (q : Tables) (valid : IsValid p q) where
           within = omega (arith, s.within);
         }
       where
-        each : (s : Served p q d (length p.threads)) (t : ℕ) → (t < length p.threads) ⊎ (length p.threads ≤ t) → Covers p q (λ _. true) t (s.credit t) (status_of d t)
+        each : (s : Served p q d (length p.threads)) (t : ℕ) → (t < length p.threads) ⊎ (length p.threads ≤ t)
+            → Covers p q (λ _. true) t (s.credit t) (status_of d t)
         each s t (inl lt) = covered t (s.credit t) (status_of d t) (s.done t lt)
-        each s t (inr le) = subst (Covers p q (λ _. true) t (s.credit t)) (sym (ap (λ o. unwrap_or o status.Absent) (slice_get_past d.statuses t (omega (arith, le, ok.threads))))) tt
+        each s t (inr le) = subst (Covers p q (λ _. true) t (s.credit t))
+            (sym (ap (λ o. unwrap_or o status.Absent) (slice_get_past d.statuses t (omega (arith, le, ok.threads))))) tt
 
   fresh_start : (inputs : Inputs) (c : Control) → Rests p c → IsFresh q (start p inputs c)
   fresh_start inputs c rests t n e = at (starts p inputs c t)

@@ -55,7 +55,8 @@ module _ (p : Program) (formed : IsFormed p) where
     -- the fork to whose join a thread has come
     pub fork_of_join : (t j : ℕ) (children : List ℕ) → status_of c t ≡ status.Waiting j → (of : JoinOf p j children) → IsFork p of.fork t children j
     fork_of_join t j children at of =
-        subst (λ u. IsFork p of.fork u children j) (same_Some of.thread t (sym (fork_join_owned p formed of.fork of.thread children j of.is) ∙ waits_owned t j at)) of.is
+        subst (λ u. IsFork p of.fork u children j)
+        (same_Some of.thread t (sym (fork_join_owned p formed of.fork of.thread children j of.is) ∙ waits_owned t j at)) of.is
 
     pub joins_child : (t : ℕ) (e : Effect) (d : Joins p c t e) (k : ℕ) → Contains d.children k → parent_of p k ≡ Some t
     joins_child t e d k h =
@@ -83,7 +84,10 @@ module _ (p : Program) (formed : IsFormed p) where
     whom t e (forks d) k h =
         ⊎_elim (λ same. inl (sym same))
         (λ tail. let child = entering_movers p d.children k tail in
-        inr (record { parent = child_parent p formed d.node t d.children d.join k (forks_is t e d) child; idle = subst IsIdle (sym (unforked t e d k child)) tt }))
+        inr (record {
+          parent = child_parent p formed d.node t d.children d.join k (forks_is t e d) child;
+          idle = subst IsIdle (sym (unforked t e d k child)) tt;
+        }))
         (contains_cons t k _ (subst (λ (x : Effect). IsMoved x.moves k) d.is h))
     whom t e (joins d) k h =
         ⊎_elim (λ same. inl (sym same))
@@ -92,10 +96,12 @@ module _ (p : Program) (formed : IsFormed p) where
         (contains_cons t k _ (subst (λ (x : Effect). IsMoved x.moves k) d.is h))
 
     -- no thread is moved by the steps of two
-    pub apart : (t u : ℕ) → t ≢ u → Enabled p c t → Enabled p c u → (e f : Effect) → Does p c t e → Does p c u f → (k : ℕ) → IsMoved e.moves k → IsMoved f.moves k → ⊥
+    pub apart : (t u : ℕ) → t ≢ u → Enabled p c t → Enabled p c u → (e f : Effect) → Does p c t e → Does p c u f → (k : ℕ) → IsMoved e.moves k
+        → IsMoved f.moves k → ⊥
     apart t u differ enabled_t enabled_u e f does_t does_u k by_t by_u =
         ⊎_elim
-        (λ is_t. ⊎_elim (λ is_u. differ (sym is_t ∙ is_u)) (λ child. not_idle p c t enabled_t (subst (λ i. IsIdle (status_of c i)) is_t child.idle)) (whom u f does_u k by_u))
+        (λ is_t. ⊎_elim (λ is_u. differ (sym is_t ∙ is_u)) (λ child. not_idle p c t enabled_t (subst (λ i. IsIdle (status_of c i)) is_t child.idle))
+        (whom u f does_u k by_u))
         (λ child. ⊎_elim
         (λ is_u. not_idle p c u enabled_u (subst (λ i. IsIdle (status_of c i)) is_u child.idle))
         (λ other. differ (same_Some t u (sym child.parent ∙ other.parent)))
@@ -118,7 +124,8 @@ module _ (p : Program) (formed : IsFormed p) where
         (whom u f does_u k moved))
 
     -- ended children of a finished fork stay so
-    pub stay_ended : (t u : ℕ) → t ≢ u → (w : Completes p c t) → Enabled p c u → (f : Effect) → Does p c u f → (k : ℕ) → Contains w.children k → status_of (after f c) k ≡ status.Ended
+    pub stay_ended : (t u : ℕ) → t ≢ u → (w : Completes p c t) → Enabled p c u → (f : Effect) → Does p c u f → (k : ℕ) → Contains w.children k
+        → status_of (after f c) k ≡ status.Ended
     stay_ended t u differ w enabled_u f does_u k h =
         keeps_child t u differ enabled_u k (record { parent = completes_child t w k h; idle = subst IsIdle (sym (w.ended k h)) tt }) f does_u ∙ w.ended k h
 

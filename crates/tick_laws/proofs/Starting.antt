@@ -1,5 +1,6 @@
 -- The start of a tick from a resting configuration is a configuration, and its steps are within the budget.
-use Rattle.std.proofs.Common.{◌≡◌, ◌≢◌, ◌↔◌, ℕ, zero, suc, ◌<◌, ◌⊎◌, Bool, true, false, Option, Some, None, unwrap_or, option_map, List, [], ◌∷◌, length, map, slice_get, Contains, if◌then◌else◌, refl, ap, subst, sym, ◌∙◌, inl, inr, arith}
+use Rattle.std.proofs.Common.{◌≡◌, ◌≢◌, ◌↔◌, ℕ, zero, suc, ◌<◌, ◌⊎◌, Bool, true, false, Option, Some, None, unwrap_or, option_map, List, [], ◌∷◌, length, map}
+use Rattle.std.proofs.Common.{slice_get, Contains, if◌then◌else◌, refl, ap, subst, sym, ◌∙◌, inl, inr, arith}
 use Rattle.std.specs.Str.{bytes_eq}
 use Rattle.std.proofs.lemmas.Bool.{cases_order}
 use Rattle.std.proofs.lemmas.List.{length-map}
@@ -19,7 +20,8 @@ use Rattle.sc_graph.specs.declared.place.Place.TheVariants as place
 use Rattle.sc_graph.specs.Program.{Program, kind_at, entry_of, parent_of, is_join_step}
 use Rattle.sc_graph.specs.Threads.{IsFork}
 use Rattle.sc_graph.specs.Control.{status_of}
-use Rattle.sc_graph.specs.Tick.{IsPlace, IsPresent, IsConfiguration, Rests, Inputs, given, AreAccepted, value_at_start, values_at_start, woken, root_started, statuses_at_start, start}
+use Rattle.sc_graph.specs.Tick.{IsPlace, IsPresent, IsConfiguration, Rests, Inputs, given, AreAccepted, value_at_start, values_at_start, woken, root_started}
+use Rattle.sc_graph.specs.Tick.{statuses_at_start, start}
 use Rattle.sc_graph.specs.Valid.{IsFormed}
 use Rattle.tick_laws.proofs.Moves.{standing}
 use Rattle.tick_laws.proofs.Formed.{depth_owned, depth_step, target_owned, target_no_join, child_parent, root_alone, entry_target}
@@ -56,7 +58,8 @@ starts p inputs c t = at c.statuses refl t
       where
         at_root : RootStarts (entry_of p 0) x → Starts p c (start p inputs c) zero
         at_root (root_wakes h) = wakes (subst (λ ys. standing (statuses_at_start p ys) zero ≡ woken (standing ys zero)) (sym e) h)
-        at_root (root_enters n i s h) = enters n refl i (subst (λ ys. standing ys zero ≡ status.Absent) (sym e) s) (subst (λ ys. standing (statuses_at_start p ys) zero ≡ status.At n) (sym e) h)
+        at_root (root_enters n i s h) = enters n refl i (subst (λ ys. standing ys zero ≡ status.Absent) (sym e) s)
+            (subst (λ ys. standing (statuses_at_start p ys) zero ≡ status.At n) (sym e) h)
     at (x ∷ xs) e (suc t) = wakes (subst (λ ys. standing (statuses_at_start p ys) (suc t) ≡ woken (standing ys (suc t))) (sym e) (standing_woken xs t))
 
 length_statuses : (p : Program) (xs : List Status) → length (statuses_at_start p xs) ≡ length xs
@@ -76,10 +79,17 @@ record StartValue (inputs : Inputs) (vs : List Variable) (ws : List Value) (x : 
   is_before : slice_get ws x ≡ Some before
   gives : value_at_start inputs variable variable.role before ≡ v
 
-start_value : (inputs : Inputs) (vs : List Variable) (ws : List Value) (x : ℕ) (v : Value) → slice_get (values_at_start inputs vs ws) x ≡ Some v → StartValue inputs vs ws x v
+start_value : (inputs : Inputs) (vs : List Variable) (ws : List Value) (x : ℕ) (v : Value) → slice_get (values_at_start inputs vs ws) x ≡ Some v
+    → StartValue inputs vs ws x v
 start_value inputs [] ws x v h = absurd (none-some v h)
 start_value inputs (a ∷ vs) [] x v h = absurd (none-some v h)
-start_value inputs (a ∷ vs) (w ∷ ws) zero v h = record { variable = a; before = w; is_variable = refl; is_before = refl; gives = same_Some (value_at_start inputs a a.role w) v h }
+start_value inputs (a ∷ vs) (w ∷ ws) zero v h = record {
+  variable = a;
+  before = w;
+  is_variable = refl;
+  is_before = refl;
+  gives = same_Some (value_at_start inputs a a.role w) v h;
+}
 start_value inputs (a ∷ vs) (w ∷ ws) (suc x) v h =
     let rest : StartValue inputs vs ws x v = start_value inputs vs ws x v h in
     record { variable = rest.variable; before = rest.before; is_variable = rest.is_variable; is_before = rest.is_before; gives = rest.gives }
@@ -93,7 +103,8 @@ given_at : (inputs : Inputs) (name : List ℕ) (v : Value) → given inputs name
 given_at [] name v h = absurd (none-some v h)
 given_at (i ∷ inputs) name v h = at (bytes_eq i.0 name) (bytes_eq-Decides i.0 name).0 h (given_at inputs name v)
   where
-    at : (b : Bool) → (b ≡ true → i.0 ≡ name) → (if b then Some i.1 else given inputs name) ≡ Some v → (given inputs name ≡ Some v → GivenAt inputs name v) → GivenAt (i ∷ inputs) name v
+    at : (b : Bool) → (b ≡ true → i.0 ≡ name) → (if b then Some i.1 else given inputs name) ≡ Some v → (given inputs name ≡ Some v → GivenAt inputs name v)
+        → GivenAt (i ∷ inputs) name v
     at true same h rest = record { place = zero; is = ap Some (λ j. (same refl j, same_Some i.1 v h j)) }
     at false same h rest = let r : GivenAt inputs name v = rest h in record { place = suc r.place; is = r.is }
 
@@ -133,14 +144,16 @@ module _ (p : Program) (formed : IsFormed p) where
       at (inr (inr lt)) = absurd ((formed.size (place.Variable x) a h).new_name y b lt i e)
 
   module _ (inputs : Inputs) (accepted : AreAccepted p inputs) where
-    kind_given : (x : ℕ) (a : Variable) (o : Option Value) → slice_get p.variables x ≡ Some a → given inputs a.name ≡ o → kind_of (unwrap_or o (initial_value a.kind)) ≡ a.kind
+    kind_given : (x : ℕ) (a : Variable) (o : Option Value) → slice_get p.variables x ≡ Some a → given inputs a.name ≡ o
+        → kind_of (unwrap_or o (initial_value a.kind)) ≡ a.kind
     kind_given x a None h e = kind_initial a.kind
     kind_given x a (Some v) h e =
         let at : GivenAt inputs a.name v = given_at inputs a.name v e in
         let named = accepted.named at.place a.name v at.is in
         sym named.5 ∙ ap (λ b. b.kind) (same_variable x named.0 a named.1 h named.2 named.3)
 
-    kind_at_start : (x : ℕ) (a : Variable) (r : Role) (w : Value) → slice_get p.variables x ≡ Some a → kind_of w ≡ a.kind → kind_of (value_at_start inputs a r w) ≡ a.kind
+    kind_at_start : (x : ℕ) (a : Variable) (r : Role) (w : Value) → slice_get p.variables x ≡ Some a → kind_of w ≡ a.kind
+        → kind_of (value_at_start inputs a r w) ≡ a.kind
     kind_at_start x a role.Input w h k = kind_given x a (given inputs a.name) h refl
     kind_at_start x a role.Output w h k = k
     kind_at_start x a role.Local w h k = k
@@ -150,7 +163,8 @@ module _ (p : Program) (formed : IsFormed p) where
       kinds_kept x v h =
           let from : StartValue inputs p.variables c.variables x v = start_value inputs p.variables c.variables x v h in
           let there : kind_at p x ≡ Some from.variable.kind = ap (option_map (λ a. a.kind)) from.is_variable in
-          let before : kind_of from.before ≡ from.variable.kind = same_Some (kind_of from.before) from.variable.kind (sym (rests.configuration.kinds x from.before from.is_before) ∙ there) in
+          let before : kind_of from.before ≡ from.variable.kind = same_Some (kind_of from.before) from.variable.kind
+          (sym (rests.configuration.kinds x from.before from.is_before) ∙ there) in
           there ∙ ap Some (sym (kind_at_start x from.variable from.variable.role from.before from.is_variable before) ∙ ap kind_of from.gives)
 
       place_woken : (t : ℕ) (s : Status) → IsPlace p t s → ((n : ℕ) → s ≢ status.At n) → IsPlace p t (woken s)
@@ -182,7 +196,8 @@ module _ (p : Program) (formed : IsFormed p) where
       present_kept n t ks j k fork child =
           let before = rests.configuration.present n t ks j k fork child in
           let waits = waiting_kept t j (starts p inputs c t) in
-          let e : status_of (start p inputs c) k ≡ woken (status_of c k) = child_wakes k t (child_parent p formed n t ks j k fork child) (starts p inputs c k) in (
+          let e : status_of (start p inputs c) k ≡ woken (status_of c k) = child_wakes k t (child_parent p formed n t ks j k fork child)
+          (starts p inputs c k) in (
             λ h. waits.0 (before.0 (present_before (status_of c k) (subst IsPresent e h))),
             λ h. subst IsPresent (sym e) (present_woken (status_of c k) (before.1 (waits.1 h))),
           )

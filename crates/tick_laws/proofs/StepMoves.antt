@@ -11,7 +11,8 @@ use Rattle.sc_graph.specs.Steps.{Effect, enters}
 use Rattle.sc_graph.specs.Tick.{IsConfiguration, IsPlace, IsPresent}
 use Rattle.sc_graph.specs.Valid.{IsFormed}
 use Rattle.tick_laws.proofs.Lists.{same_or_not, contains_none}
-use Rattle.tick_laws.proofs.Formed.{JoinOf, join_of, target_owned, target_no_join, child_parent, child_in_range, fork_children, fork_join, one_fork_joins, one_fork_child}
+use Rattle.tick_laws.proofs.Formed.{JoinOf, join_of, target_owned, target_no_join, child_parent, child_in_range, fork_children, fork_join, one_fork_joins}
+use Rattle.tick_laws.proofs.Formed.{one_fork_child}
 use Rattle.tick_laws.proofs.Views.{Does, simple, forks, joins, Simple, Forks, Joins, Enters, GoesTo}
 use Rattle.tick_laws.proofs.Sound.{forks_is, fork_of_join}
 use Rattle.tick_laws.proofs.Moves.{entering_own}
@@ -153,14 +154,17 @@ module _ (p : Program) (formed : IsFormed p) (c : Control) (ok : IsConfiguration
       fork : IsFork p d.node t d.children d.join
       fork = forks_is p formed c ok t e d
 
-      same_join : (n : ℕ) (ls : List ℕ) (j k : ℕ) → IsFork p n t ls j → Contains ls k → j ≡ d.join → ChildIs c d.children (λ k. enters k (entry_of p k)) (status.Waiting d.join) j k
+      same_join : (n : ℕ) (ls : List ℕ) (j k : ℕ) → IsFork p n t ls j → Contains ls k → j ≡ d.join
+          → ChildIs c d.children (λ k. enters k (entry_of p k)) (status.Waiting d.join) j k
       same_join n ls j k f child e =
           let here : Contains d.children k = of_same_join d.node n d.children ls d.join j k fork f e child in
           present here (subst IsPresent (sym (entered_status k (d.entered k here))) tt) (ap status.Waiting (sym e))
 
-      other_join : (n : ℕ) (ls : List ℕ) (j k : ℕ) → IsFork p n t ls j → Contains ls k → j ≢ d.join → ChildIs c d.children (λ k. enters k (entry_of p k)) (status.Waiting d.join) j k
+      other_join : (n : ℕ) (ls : List ℕ) (j k : ℕ) → IsFork p n t ls j → Contains ls k → j ≢ d.join
+          → ChildIs c d.children (λ k. enters k (entry_of p k)) (status.Waiting d.join) j k
       other_join n ls j k f child ne =
-          untouched (of_other_join d.node n d.children ls d.join j k fork f ne child) (child_absent n ls j k f child (at_away d.node j d.at)) (other_free d.join j ne)
+          untouched (of_other_join d.node n d.children ls d.join j k fork f ne child) (child_absent n ls j k f child (at_away d.node j d.at))
+          (other_free d.join j ne)
 
   abbrev pub joins_moves : (e : Effect) → Joins p c t e → StepMoves p c t e
   joins_moves e d =
@@ -187,11 +191,14 @@ module _ (p : Program) (formed : IsFormed p) (c : Control) (ok : IsConfiguration
       fork : IsFork p o.fork t d.children d.join
       fork = fork_of_join p formed c ok t d.join d.children d.at o
 
-      same_join : (n : ℕ) (ls : List ℕ) (j k : ℕ) → IsFork p n t ls j → Contains ls k → j ≡ d.join → ChildIs c d.children (λ k. (k, status.Absent)) (status.At d.onward) j k
+      same_join : (n : ℕ) (ls : List ℕ) (j k : ℕ) → IsFork p n t ls j → Contains ls k → j ≡ d.join
+          → ChildIs c d.children (λ k. (k, status.Absent)) (status.At d.onward) j k
       same_join n ls j k f child e = absent (of_same_join o.fork n d.children ls d.join j k fork f e child) refl (at_free d.onward j)
 
-      other_join : (n : ℕ) (ls : List ℕ) (j k : ℕ) → IsFork p n t ls j → Contains ls k → j ≢ d.join → ChildIs c d.children (λ k. (k, status.Absent)) (status.At d.onward) j k
-      other_join n ls j k f child ne = untouched (of_other_join o.fork n d.children ls d.join j k fork f ne child) (child_absent n ls j k f child (waits_once d.join j d.at ne)) (at_free d.onward j)
+      other_join : (n : ℕ) (ls : List ℕ) (j k : ℕ) → IsFork p n t ls j → Contains ls k → j ≢ d.join
+          → ChildIs c d.children (λ k. (k, status.Absent)) (status.At d.onward) j k
+      other_join n ls j k f child ne = untouched (of_other_join o.fork n d.children ls d.join j k fork f ne child)
+          (child_absent n ls j k f child (waits_once d.join j d.at ne)) (at_free d.onward j)
 
   pub step_moves : (e : Effect) → Does p c t e → StepMoves p c t e
   step_moves e (simple d) = simple_moves e d

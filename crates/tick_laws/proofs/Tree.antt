@@ -108,4 +108,5 @@ module _ (p : Program) (formed : IsFormed p) where
   apart_once t u a b m n =
       let over = left_under t u a m in
       let other = left_under t u b n in
-      ⊎_elim (forked_lower t u a b m n) (λ low. sym (forked_lower t u b a n m low)) (on_line p over.generations other.generations t a b over.descends other.descends)
+      ⊎_elim (forked_lower t u a b m n) (λ low. sym (forked_lower t u b a n m low))
+      (on_line p over.generations other.generations t a b over.descends other.descends)

@@ -20,7 +20,8 @@ use Rattle.sc_graph.specs.Program.{Program, step_at, entry_of, kind_at, is_join,
 use Rattle.sc_graph.specs.Accesses.{access_of}
 use Rattle.sc_graph.specs.Control.{status_of, has_ended, joined_at, all_ended, IsEnabled, status_enabled}
 use Rattle.sc_graph.specs.Protocol.{successors}
-use Rattle.sc_graph.specs.Steps.{Change, Keep, Put, Combine, Effect, only_if, is_kind, takes_kind, goes, assigned, updated, branched, enters, is_entered, forked, paused, node_effect, join_effect, status_effect, effect}
+use Rattle.sc_graph.specs.Steps.{Change, Keep, Put, Combine, Effect, only_if, is_kind, takes_kind, goes, assigned, updated, branched, enters, is_entered}
+use Rattle.sc_graph.specs.Steps.{forked, paused, node_effect, join_effect, status_effect, effect}
 use Rattle.tick_laws.proofs.Lists.{contains_head, contains_tail, list_all_at, list_all_from, and_then_some}
 
 -- thread t waits at a join of which all children have ended
@@ -110,13 +111,15 @@ ended_from (status.At n) h = cc
 ended_from (status.Waiting n) h = cc
 ended_from (status.Paused n) h = cc
 
-ended_in : (c : Control) (children : List ℕ) → list_all (λ k. has_ended (status_of c k)) children ≡ true → (k : ℕ) → Contains children k → status_of c k ≡ status.Ended
+ended_in : (c : Control) (children : List ℕ) → list_all (λ k. has_ended (status_of c k)) children ≡ true → (k : ℕ) → Contains children k
+    → status_of c k ≡ status.Ended
 ended_in c children h k in_children = ended_from (status_of c k) (list_all_at (λ u. has_ended (status_of c u)) children k h in_children)
 
 pub all_ended_from : (c : Control) (children : List ℕ) → ((k : ℕ) → Contains children k → status_of c k ≡ status.Ended) → all_ended c (Some children) ≡ true
 all_ended_from c children ended = list_all_from (λ u. has_ended (status_of c u)) children (λ k h. ap has_ended (ended k h))
 
-enabled_at_join : (p : Program) (c : Control) (t j : ℕ) (o : Option (List ℕ)) → joined_at p j ≡ o → status_of c t ≡ status.Waiting j → all_ended c o ≡ true → Enabled p c t
+enabled_at_join : (p : Program) (c : Control) (t j : ℕ) (o : Option (List ℕ)) → joined_at p j ≡ o → status_of c t ≡ status.Waiting j → all_ended c o ≡ true
+    → Enabled p c t
 enabled_at_join p c t j None joined at h = absurd (cc)
 enabled_at_join p c t j (Some children) joined at h =
     completes (record { join = j; children = children; at = at; joined = joined; ended = ended_in c children h })
@@ -152,14 +155,25 @@ module _ (p : Program) (c : Control) (t : ℕ) (e : Effect) where
       Contains (successors s) m → Changes p s change → goes p t change m ≡ Some e → Does p c t e
   gone n s change m at found next changes h =
       let parts = goes_is p t change m e h in
-      simple (record { node = n; taken = s; change = change; to = status.At m; at = at; found = found; goes = (next, parts.0); changes = changes; is = parts.1 })
+      simple (record {
+        node = n;
+        taken = s;
+        change = change;
+        to = status.At m;
+        at = at;
+        found = found;
+        goes = (next, parts.0);
+        changes = changes;
+        is = parts.1;
+      })
 
   does_assign : (n x : ℕ) (code : List Operation) (m : ℕ) → status_of c t ≡ status.At n → step_at p n ≡ Some (steps.Assign x code m) →
       node_effect p c t (steps.Assign x code m) ≡ Some e → Does p c t e
   does_assign n x code m at found h =
       let v = and_then_some (assigned p t x m) (code_value code c.variables) e h in
       let parts = only_if_some (takes_kind (kind_at p x) (kind_of v.0)) (goes p t (Put x v.0) m) e v.2 in
-      gone n (steps.Assign x code m) (Put x v.0) m at found (contains_head m []) (record { literal = literal_of code; writes = refl; by_literal = λ w. literal_is_value code v.0 w c.variables v.1 }, parts.0) parts.1
+      gone n (steps.Assign x code m) (Put x v.0) m at found (contains_head m [])
+      (record { literal = literal_of code; writes = refl; by_literal = λ w. literal_is_value code v.0 w c.variables v.1 }, parts.0) parts.1
 
   does_update : (n x : ℕ) (f : Combination) (code : List Operation) (m : ℕ) → status_of c t ≡ status.At n → step_at p n ≡ Some (steps.Update x f code m) →
       node_effect p c t (steps.Update x f code m) ≡ Some e → Does p c t e
@@ -207,11 +221,31 @@ module _ (p : Program) (c : Control) (t : ℕ) (e : Effect) where
   does_surf : (n d : ℕ) → status_of c t ≡ status.At n → step_at p n ≡ Some (steps.Surf d) → paused p t d ≡ Some e → Does p c t e
   does_surf n d at found h =
       let parts = only_if_some (is_depth p t d) (Some (record { change = Keep; moves = (t, status.Paused d) ∷ [] })) e h in
-      simple (record { node = n; taken = steps.Surf d; change = Keep; to = status.Paused d; at = at; found = found; goes = (refl, parts.0); changes = tt; is = sym (same_Some _ e parts.1) })
+      simple (record {
+        node = n;
+        taken = steps.Surf d;
+        change = Keep;
+        to = status.Paused d;
+        at = at;
+        found = found;
+        goes = (refl, parts.0);
+        changes = tt;
+        is = sym (same_Some _ e parts.1);
+      })
 
   does_exit : (n : ℕ) → status_of c t ≡ status.At n → step_at p n ≡ Some steps.Exit → node_effect p c t steps.Exit ≡ Some e → Does p c t e
   does_exit n at found h =
-      simple (record { node = n; taken = steps.Exit; change = Keep; to = status.Ended; at = at; found = found; goes = refl; changes = tt; is = sym (same_Some _ e h) })
+      simple (record {
+        node = n;
+        taken = steps.Exit;
+        change = Keep;
+        to = status.Ended;
+        at = at;
+        found = found;
+        goes = refl;
+        changes = tt;
+        is = sym (same_Some _ e h);
+      })
 
   does_node : (n : ℕ) → status_of c t ≡ status.At n → (s : Step) → step_at p n ≡ Some s → node_effect p c t s ≡ Some e → Does p c t e
   does_node n at (steps.Assign x code m) found h = does_assign n x code m at found h

@@ -27,7 +27,8 @@ pub record OfPriority (p : Program) (q : Tables) (c : Control) (run : List ℕ) 
   pub admissible : IsAdmissible (machine p) run c
   pub ends : IsOver (machine p) d → Ends (machine p) c d
   pub one_end : IsOver (machine p) d → (other : Control) → Ends (machine p) c other → other ≡ d
-  pub reordered : IsOver (machine p) d → (other : List ℕ) (end : Control) → Completes (machine p) other c end → IsAdmissible (machine p) other c → IsPermutation other run
+  pub reordered : IsOver (machine p) d → (other : List ℕ) (end : Control) → Completes (machine p) other c end → IsAdmissible (machine p) other c
+      → IsPermutation other run
 
 -- what holds of each run that leads to d, admissible or not: it is within the budget, each enabled thread has
 -- a step, and a priority run completes it

@@ -69,7 +69,8 @@ pub record WithinTick (p : Program) (q : Tables) : Type 0 where
   pub falls : (c d : Control) (t u : ℕ) → IsConfiguration p c → step p t c ≡ Some d → IsEnabled p d u → NoHigher p q c d t u
   pub tops : (run : List ℕ) (c d : Control) (top : ℕ) → IsConfiguration p c → replay (machine p) run c ≡ Some d → Tops p q top c → Tops p q top d
   -- each step is paid for, and a tick begins with the budget
-  pub paid : (run : List ℕ) (c d : Control) (bound spent : ℕ) → IsConfiguration p c → Paid p q bound c spent → replay (machine p) run c ≡ Some d → Paid p q bound d (spent + length run)
+  pub paid : (run : List ℕ) (c d : Control) (bound spent : ℕ) → IsConfiguration p c → Paid p q bound c spent → replay (machine p) run c ≡ Some d
+      → Paid p q bound d (spent + length run)
   pub begins : (c : Control) (inputs : Inputs) → Rests p c → AreAccepted p inputs → Paid p q q.budget (start p inputs c) 0
 
 -- they hold of each valid image

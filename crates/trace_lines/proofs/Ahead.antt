@@ -1,8 +1,10 @@
 -- How the bytes ahead change while a line is taken from them.
-use Rattle.std.proofs.Common.{◌≡◌, ◌≢◌, ℕ, ◌<◌, Bool, true, false, List, [], ◌∷◌, ◌++◌, length, Option, Some, None, refl, ap, sym, ◌∙◌, arith, append_assoc, append-nil, length-append, subst, IsTrue, ◌==◌}
+use Rattle.std.proofs.Common.{◌≡◌, ◌≢◌, ℕ, ◌<◌, Bool, true, false, List, [], ◌∷◌, ◌++◌, length, Option, Some, None, refl, ap, sym, ◌∙◌, arith, append_assoc}
+use Rattle.std.proofs.Common.{append-nil, length-append, subst, IsTrue, ◌==◌}
 use Rattle.std.specs.Io.KnownBytes.{Consumes, IsAtEnd}
 use Rattle.trace_lines.specs.Lines.{has_feed, first_line, after_line, line_limit, ahead, TakesLine, IsTooLong}
-use Rattle.trace_lines.proofs.Feeds.{first_line-none, after_line-none, first_line-append, after_line-append, length-feed, length-first_line, has_feed-append, has_feed-first_line}
+use Rattle.trace_lines.proofs.Feeds.{first_line-none, after_line-none, first_line-append, after_line-append, length-feed, length-first_line, has_feed-append}
+use Rattle.trace_lines.proofs.Feeds.{has_feed-first_line}
 
 -- all that was held, and had no line feed, went to the line
 pub moves_all : (start to_come : Option (List ℕ)) (line held line' : List ℕ) → has_feed held ≡ false → line' ≡ line ++ first_line held

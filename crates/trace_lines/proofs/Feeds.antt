@@ -1,5 +1,6 @@
 -- Line feeds in lists that are joined and cut.
-use Rattle.std.proofs.Common.{◌≡◌, ℕ, ◌+◌, ◌<◌, ◌≤◌, Bool, true, false, not, cond, List, [], ◌++◌, length, take, drop, get_or, replicate, refl, ap, sym, ◌∙◌, arith, Some, None, is_some, length-append}
+use Rattle.std.proofs.Common.{◌≡◌, ℕ, ◌+◌, ◌<◌, ◌≤◌, Bool, true, false, not, cond, List, [], ◌++◌, length, take, drop, get_or, replicate, refl, ap, sym, ◌∙◌}
+use Rattle.std.proofs.Common.{arith, Some, None, is_some, length-append}
 use Rattle.std.specs.List.{position_or_len}
 use Rattle.std.proofs.lemmas.Bool.{ltb-true, ltb-false, le-ltb}
 use Rattle.std.proofs.lemmas.Bool.Decides.{nat_tests}

@@ -1,5 +1,6 @@
 -- The texts of rows and of a whole line.
-use Rattle.std.proofs.Common.{◌≡◌, ◌∙◌, ℕ, true, false, not, ◌==◌, List, [], ◌∷◌, ◌++◌, length, String, Global, string_bytes, codes, decimal, refl, ap, sym, arith, append_assoc, append-nil, Result, Ok, Err, OnOk}
+use Rattle.std.proofs.Common.{◌≡◌, ◌∙◌, ℕ, true, false, not, ◌==◌, List, [], ◌∷◌, ◌++◌, length, String, Global, string_bytes, codes, decimal, refl, ap, sym}
+use Rattle.std.proofs.Common.{arith, append_assoc, append-nil, Result, Ok, Err, OnOk}
 use Rattle.std.proofs.lemmas.Bool.Decides.{nat_tests}
 use Rattle.json.specs.Print.{quoted}
 use Rattle.serde_json.specs.Data.{Members}
@@ -28,12 +29,16 @@ regroup r c q v m = simp (append_assoc, append-nil)
 -- one row more is shown
 pub one_row : (rows rows' : List Row) (row : Row) (e : String Global × ℕ) (rest : List (String Global × ℕ)) (values : List Value) → rows' ≡ rows ++ row ∷ []
     → string_bytes row.before ≡ key_text (has_rows rows) (string_bytes e.0) → row.place ≡ e.1
-    → rows_text rows' values ++ members_text (has_rows rows') (placed rest values) ≡ rows_text rows values ++ members_text (has_rows rows) (placed (e ∷ rest) values)
+    → rows_text rows' values ++ members_text (has_rows rows') (placed rest values) ≡ rows_text rows values ++ members_text (has_rows rows)
+    (placed (e ∷ rest) values)
 one_row rows rows' row e rest values more key place =
-    rw (more, has_rows-append rows row, rows_text-append rows (row ∷ []) values, key, place) (regroup (rows_text rows values) (comma_if (has_rows rows)) (quoted (string_bytes e.0)) (compact_text (data_at values e.1)) (members_text true (placed rest values)))
+    rw (more, has_rows-append rows row, rows_text-append rows (row ∷ []) values, key, place)
+    (regroup (rows_text rows values) (comma_if (has_rows rows)) (quoted (string_bytes e.0)) (compact_text (data_at values e.1))
+    (members_text true (placed rest values)))
 
 -- the output line by its rows
-pub line_is : (tick steps : ℕ) (rows : List ℕ) (shown : Members) → rows ++ 125 ∷ [] ≡ members_text false shown → line_by tick steps rows ≡ tick_line tick steps shown
+pub line_is : (tick steps : ℕ) (rows : List ℕ) (shown : Members) → rows ++ 125 ∷ [] ≡ members_text false shown → line_by tick steps rows
+    ≡ tick_line tick steps shown
 unfolding serde_json_on_literals
 line_is tick steps rows shown is =
     let rest : List ℕ = codes ",\"steps\":" ++ (decimal steps ++ (codes ",\"tick\":" ++ (decimal tick ++ codes "}\n"))) in

@@ -124,8 +124,16 @@ impl Lines {
         Ok(read > 0)
     }
 
+    /// Whether the next line is at hand, with its line feed: `next` gives it and reads nothing.
+    pub fn has_line(&self) -> bool
+        ensures { result ≡ has_feed self.now }
+    {
+        feed_in(&self.piece[self.from..self.to]).is_some()
+    }
+
     /// Makes `line` the next line, without its line feed, and says how it ends; None at the end of the
-    /// input. A line that ends with the input is the last, and then nothing is to be read any more.
+    /// input. Where the line is at hand, nothing is read.
+    /// A line that ends with the input is the last, and then nothing is to be read any more.
     /// `TooLong` where the line has more than 65,536 bytes, `Read` where the source failed. After an error
     /// the rest of the input is not to be read.
     pub fn next<R: Source>(
@@ -149,6 +157,7 @@ impl Lines {
         ensures not_behind { IsNotReadBehind (R.progress source.old) (R.progress source.new) }
         ensures too_long { IsErrOf result LinesFault.TooLong
             → IsTooLong (ahead self.old (R.to_come source.old)) }
+        ensures at_hand { has_feed self.old ≡ true → source.new ≡ source.old }
     {
         line.clear();
         loop {

@@ -42,7 +42,8 @@ came_well image input old new rows rows' r r' w w' p p' k plays reads writes end
 -- it was not, for this fault
 pub came_off : (image : Image) (input old new : Option (List ℕ)) (rows rows' : Option (List Outputs)) (r r' w w' : ℕ) (p p' : Option Progress) (f : PlayFault)
     → LeavesTo image input old new rows rows' f → (f ≡ play_fault.Read → r' ≡ r + 1) → (f ≢ play_fault.Read → r' ≡ r)
-    → (f ≡ play_fault.Write → w' ≡ w + 1) → (f ≢ play_fault.Write → w' ≡ w) → IsNotReadBehind p p' → CameTo image input old new rows rows' r r' w w' p p' (Err f)
+    → (f ≡ play_fault.Write → w' ≡ w + 1) → (f ≢ play_fault.Write → w' ≡ w) → IsNotReadBehind p p'
+    → CameTo image input old new rows rows' r r' w w' p p' (Err f)
 came_off image input old new rows rows' r r' w w' p p' f left read not_read write not_write end =
     record {
       whole = tt;
@@ -58,18 +59,21 @@ came_off image input old new rows rows' r r' w w' p p' f left read not_read writ
 
 -- memory was refused, after some lines
 pub came_short : (image : Image) (input old new : Option (List ℕ)) (rows rows' : Option (List Outputs)) (r r' w w' : ℕ) (p p' : Option Progress)
-    → PlaysFirstTo image input old new rows rows' → r' ≡ r → w' ≡ w → IsNotReadBehind p p' → CameTo image input old new rows rows' r r' w w' p p' (Err play_fault.Memory)
+    → PlaysFirstTo image input old new rows rows' → r' ≡ r → w' ≡ w → IsNotReadBehind p p'
+    → CameTo image input old new rows rows' r r' w w' p p' (Err play_fault.Memory)
 came_short image input old new rows rows' r r' w w' p p' first reads writes end =
     came_off image input old new rows rows' r r' w w' p p' play_fault.Memory first (λ e. absurd cc) (λ _. reads) (λ e. absurd cc) (λ _. writes) end
 
 -- a line of output was not written, or not to its end
 pub came_cut : (image : Image) (input old new : Option (List ℕ)) (rows rows' : Option (List Outputs)) (r r' w w' : ℕ) (p p' : Option Progress)
-    → PlaysPartTo image input old new rows rows' → r' ≡ r → w' ≡ w + 1 → IsNotReadBehind p p' → CameTo image input old new rows rows' r r' w w' p p' (Err play_fault.Write)
+    → PlaysPartTo image input old new rows rows' → r' ≡ r → w' ≡ w + 1 → IsNotReadBehind p p'
+    → CameTo image input old new rows rows' r r' w w' p p' (Err play_fault.Write)
 came_cut image input old new rows rows' r r' w w' p p' part reads writes end =
     came_off image input old new rows rows' r r' w w' p p' play_fault.Write part (λ e. absurd cc) (λ _. reads) (λ _. writes) (λ n. absurd (n refl)) end
 
 -- memory was refused before the first line
-pub came_never : (image : Image) (input old : Option (List ℕ)) (rows : Option (List Outputs)) (r w : ℕ) (p : Option Progress) (f : PlayFault) (result : Result ℕ PlayFault)
+pub came_never : (image : Image) (input old : Option (List ℕ)) (rows : Option (List Outputs)) (r w : ℕ) (p : Option Progress) (f : PlayFault)
+    (result : Result ℕ PlayFault)
     → result ≡ Err f → f ≡ play_fault.Memory → CameTo image input old old rows rows r r w w p p result
 came_never image input old rows r w p f result is memory =
     rw (is, memory) (came_short image input old old rows rows r r w w p p (not_begun image input old rows) refl refl (open_not_behind p p (λ e. e)))

@@ -14,7 +14,8 @@ Told image k c done out None new = Unit {0}
 Told image k c done out (Some old) None = ⊥
 Told image k c done out (Some old) (Some new) =
     (rows : List Outputs) × (new ≡ old ++ rows)
-    × ((lines rest : List (List ℕ)) (more : List Outputs) → EndWith image (next_number k) c lines rest more → EndWith image 1 (initial image.program) (done ++ lines) (out ++ rest) (rows ++ more))
+    × ((lines rest : List (List ℕ)) (more : List Outputs) → EndWith image (next_number k) c lines rest more
+    → EndWith image 1 (initial image.program) (done ++ lines) (out ++ rest) (rows ++ more))
 
 pub none_told : (image : Image) (rows : Option (List Outputs)) → Told image 0 (initial image.program) [] [] rows rows
 none_told image None = tt
@@ -33,8 +34,10 @@ one_told image k c d done out (Some old) (Some new) (Some new') line shown told 
       rows ++ row ∷ [],
       gains.1 ∙ ap (λ rs. rs ++ row ∷ []) told.1 ∙ append_assoc old rows (row ∷ []),
       λ lines rest more ends.
-          subst (λ xs. EndWith image 1 (initial image.program) xs ((out ++ shown ∷ []) ++ rest) ((rows ++ row ∷ []) ++ more)) (sym (append_assoc done (line ∷ []) lines))
-          (subst (λ ys. EndWith image 1 (initial image.program) (done ++ line ∷ lines) ys ((rows ++ row ∷ []) ++ more)) (sym (append_assoc out (shown ∷ []) rest))
+          subst (λ xs. EndWith image 1 (initial image.program) xs ((out ++ shown ∷ []) ++ rest) ((rows ++ row ∷ []) ++ more))
+          (sym (append_assoc done (line ∷ []) lines))
+          (subst (λ ys. EndWith image 1 (initial image.program) (done ++ line ∷ lines) ys ((rows ++ row ∷ []) ++ more))
+          (sym (append_assoc out (shown ∷ []) rest))
           (subst (λ zs. EndWith image 1 (initial image.program) (done ++ line ∷ lines) (out ++ shown ∷ rest) zs) (sym (append_assoc rows (row ∷ []) more))
           (told.2 (line ∷ lines) (shown ∷ rest) (row ∷ more) (d, shows, gains.2, ends)))),
     )

@@ -1,5 +1,9 @@
 pub mod Coming
+pub mod Cutting
 pub mod Ending
+pub mod HeldBack
+pub mod HeldLines
 pub mod OneTrace
 pub mod Playing
 pub mod Splits
+pub mod Took

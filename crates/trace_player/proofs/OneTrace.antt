@@ -30,13 +30,15 @@ one_reaction image inputs c d e m n x y = (
   y.count ∙ sym (length_permutation y.run x.run (x.tick.reordered y.run e y.tick.complete y.tick.admissible)) ∙ sym x.count,
 )
 
-one_shown : (image : Image) (k : ℕ) (c d e : Control) (line shown other : List ℕ) → Shows image k c line d shown → Shows image k c line e other → (e ≡ d) × (other ≡ shown)
+one_shown : (image : Image) (k : ℕ) (c d e : Control) (line shown other : List ℕ) → Shows image k c line d shown → Shows image k c line e other
+    → (e ≡ d) × (other ≡ shown)
 one_shown image k c d e line shown other x y =
     let variables = image.program.variables in
     let same = one_gift image.program line y.inputs x.inputs y.gives x.gives in
     let one = one_reaction image x.inputs c d e x.steps y.steps x.reacts (subst (λ i. Reacts image i c e y.steps) same y.reacts) in (
       one.0,
-      y.is ∙ ap (λ n. tick_line k n (outputs_of variables e.variables)) one.1 ∙ ap (λ w. tick_line k x.steps (outputs_of variables w.variables)) one.0 ∙ sym x.is,
+      y.is ∙ ap (λ n. tick_line k n (outputs_of variables e.variables)) one.1 ∙ ap (λ w. tick_line k x.steps (outputs_of variables w.variables)) one.0
+          ∙ sym x.is,
     )
 
 -- no line gives inputs that are accepted, and none that are
@@ -63,7 +65,8 @@ one_ending p k line (NoObject m) Good x y = absurd y
 one_ending p k line (NoObject m) (NoInputs n) x y = absurd (object_or_not p line y.1.members x.1 y.1.short y.1.object)
 one_ending p k line (NoObject m) (NoObject n) x y = ap NoObject (y.0 ∙ sym x.0)
 
-goes_one_way : (image : Image) (k : ℕ) (c : Control) (lines out other : List (List ℕ)) (end last : End) → Goes image k c lines out end → Goes image k c lines other last → (other ≡ out) × (last ≡ end)
+goes_one_way : (image : Image) (k : ℕ) (c : Control) (lines out other : List (List ℕ)) (end last : End) → Goes image k c lines out end
+    → Goes image k c lines other last → (other ≡ out) × (last ≡ end)
 goes_one_way image k c [] [] [] end last x y = (refl, y ∙ sym x)
 goes_one_way image k c [] [] (shown ∷ other) end last x y = absurd y
 goes_one_way image k c [] (shown ∷ out) other end last x y = absurd x
@@ -77,5 +80,6 @@ goes_one_way image k c (line ∷ lines) (shown ∷ out) (second ∷ other) end l
     let others = rest.0 in
     (cc (first, others), rest.1)
 
-pub one_trace : (image : Image) (lines out other : List (List ℕ)) (end last : End) → Trace image lines out end → Trace image lines other last → (other ≡ out) × (last ≡ end)
+pub one_trace : (image : Image) (lines out other : List (List ℕ)) (end last : End) → Trace image lines out end → Trace image lines other last
+    → (other ≡ out) × (last ≡ end)
 one_trace image lines out other end last x y = goes_one_way image 1 (initial image.program) lines out other end last x y

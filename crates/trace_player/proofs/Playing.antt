@@ -1,5 +1,6 @@
 -- How a trace grows, line by line.
-use Rattle.std.proofs.Common.{◌≡◌, ℕ, min, Option, Some, None, option_map, Result, Err, List, [], ◌∷◌, ◌++◌, length, refl, ap, sym, ◌∙◌, subst, arith, append_assoc, append-nil, length-append, inl}
+use Rattle.std.proofs.Common.{◌≡◌, ℕ, min, Option, Some, None, option_map, Result, Err, List, [], ◌∷◌, ◌++◌, length, refl, ap, sym, ◌∙◌, subst, arith}
+use Rattle.std.proofs.Common.{append_assoc, append-nil, length-append, inl}
 use Rattle.std.specs.List.{concat}
 use Rattle.std.specs.Io.KnownBytes.{Appends, IsAtEnd}
 use Rattle.std.proofs.lemmas.List.Folds.{concat-append}
@@ -24,16 +25,18 @@ use Rattle.trace_player.proofs.Splits.{Cut, known_lines, cut_known, are_lines, c
 
 -- after the line of number k the configuration is c, and these lines of output were written and the ends of their ticks
 -- published
-pub record Played (image : Image) (start now : Option (List ℕ)) (k : ℕ) (c : Control) (old new : Option (List ℕ)) (rows rows' : Option (List Outputs)) : Type 0 where
-  pub done : List (List ℕ)
-  pub out : List (List ℕ)
-  pub leads : (rest : List (List ℕ)) → Cut now rest → Cut start (done ++ rest)
-  pub goes : (lines rest : List (List ℕ)) (end : End) → Goes image (next_number k) c lines rest end → Trace image (done ++ lines) (out ++ rest) end
-  pub shown : k ≡ min (length out) greatest
-  pub written : Appends old new (concat out)
-  pub told : Told image k c done out rows rows'
+pub record Played (image : Image) (start now : Option (List ℕ)) (k : ℕ) (c : Control) (old new : Option (List ℕ)) (rows rows' : Option (List Outputs)) : Type 0
+  where
+    pub done : List (List ℕ)
+    pub out : List (List ℕ)
+    pub leads : (rest : List (List ℕ)) → Cut now rest → Cut start (done ++ rest)
+    pub goes : (lines rest : List (List ℕ)) (end : End) → Goes image (next_number k) c lines rest end → Trace image (done ++ lines) (out ++ rest) end
+    pub shown : k ≡ min (length out) greatest
+    pub written : Appends old new (concat out)
+    pub told : Told image k c done out rows rows'
 
-at_start : (image : Image) (start old : Option (List ℕ)) (rows : Option (List Outputs)) → Played image start (ahead [] start) 0 (initial image.program) old old rows rows
+at_start : (image : Image) (start old : Option (List ℕ)) (rows : Option (List Outputs))
+    → Played image start (ahead [] start) 0 (initial image.program) old old rows rows
 at_start image start old rows =
     record {
       done = [];
@@ -46,13 +49,15 @@ at_start image start old rows =
     }
 
 -- nothing was taken
-pub none_played : (image : Image) (start old : Option (List ℕ)) (rows : Option (List Outputs)) (held : List ℕ) (c : Control) → held ≡ [] → c ≡ initial image.program → Played image start (ahead held start) 0 c old old rows rows
+pub none_played : (image : Image) (start old : Option (List ℕ)) (rows : Option (List Outputs)) (held : List ℕ) (c : Control) → held ≡ []
+    → c ≡ initial image.program → Played image start (ahead held start) 0 c old old rows rows
 none_played image start old rows held c none first =
     subst (λ d. Played image start (ahead held start) 0 d old old rows rows) (sym first)
     (subst (λ bytes. Played image start (ahead bytes start) 0 (initial image.program) old old rows rows) (sym none) (at_start image start old rows))
 
 -- one line more was taken, and its line of output written
-pub one_played : (image : Image) (start now now' : Option (List ℕ)) (k : ℕ) (c d : Control) (old new new' : Option (List ℕ)) (rows rows' rows'' : Option (List Outputs)) (line shown : List ℕ)
+pub one_played : (image : Image) (start now now' : Option (List ℕ)) (k : ℕ) (c d : Control) (old new new' : Option (List ℕ))
+    (rows rows' rows'' : Option (List Outputs)) (line shown : List ℕ)
     → Played image start now k c old new rows rows' → TakesLine now now' line → Shows image (next_number k) c line d shown → Appends new new' shown
     → Gains rows' rows'' image.program.variables d.variables → Played image start now' (next_number k) d old new' rows rows''
 one_played image start now now' k c d old new new' rows rows' rows'' line shown a takes shows writes gains =
@@ -62,7 +67,8 @@ one_played image start now now' k c d old new new' rows rows' rows'' line shown 
       leads = λ rest cut. subst (Cut start) (sym (append_assoc a.done (line ∷ []) rest)) (a.leads (line ∷ rest) (cut_taken now now' line rest takes cut));
       goes = λ lines rest end trace.
           subst (λ xs. Trace image xs ((a.out ++ shown ∷ []) ++ rest) end) (sym (append_assoc a.done (line ∷ []) lines))
-          (subst (λ ys. Trace image (a.done ++ line ∷ lines) ys end) (sym (append_assoc a.out (shown ∷ []) rest)) (a.goes (line ∷ lines) (shown ∷ rest) end (d, shows, trace)));
+          (subst (λ ys. Trace image (a.done ++ line ∷ lines) ys end) (sym (append_assoc a.out (shown ∷ []) rest))
+          (a.goes (line ∷ lines) (shown ∷ rest) end (d, shows, trace)));
       shown = omega (arith, a.shown, length-append a.out (shown ∷ []));
       written =
           subst (Appends old new') (sym (concat-append a.out (shown ∷ []) ∙ ap (λ last. concat a.out ++ last) (append-nil shown)))
@@ -71,7 +77,8 @@ one_played image start now now' k c d old new new' rows rows' rows'' line shown 
     }
 
 -- the trace of the lines so far
-so_far : (image : Image) (start now : Option (List ℕ)) (k : ℕ) (c : Control) (old new : Option (List ℕ)) (rows rows' : Option (List Outputs)) (a : Played image start now k c old new rows rows') → Trace image a.done a.out Good
+pub so_far : (image : Image) (start now : Option (List ℕ)) (k : ℕ) (c : Control) (old new : Option (List ℕ)) (rows rows' : Option (List Outputs))
+    (a : Played image start now k c old new rows rows') → Trace image a.done a.out Good
 so_far image start now k c old new rows rows' a =
     subst (λ xs. Trace image xs a.out Good) (append-nil a.done)
     (subst (λ ys. Trace image (a.done ++ []) ys Good) (append-nil a.out) (a.goes [] [] Good refl))
@@ -96,7 +103,8 @@ all_played image start now k c old new rows rows' a ended = (
 )
 
 -- a line ends the trace
-ends_at : (image : Image) (start now : Option (List ℕ)) (k : ℕ) (c : Control) (old new : Option (List ℕ)) (rows rows' : Option (List Outputs)) (line : List ℕ) (rest : List (List ℕ)) (end : End)
+ends_at : (image : Image) (start now : Option (List ℕ)) (k : ℕ) (c : Control) (old new : Option (List ℕ)) (rows rows' : Option (List Outputs)) (line : List ℕ)
+    (rest : List (List ℕ)) (end : End)
     → Played image start now k c old new rows rows' → Cut now (line ∷ rest) → EndsAt image.program (next_number k) line end
     → (out : List (List ℕ)) × PlaysTo image start old new rows rows' out end
 ends_at image start now k c old new rows rows' line rest end a cut ends = (
@@ -114,7 +122,8 @@ ends_at image start now k c old new rows rows' line rest end a cut ends = (
 )
 
 -- the line that was taken is refused
-pub refused : (image : Image) (start now now' : Option (List ℕ)) (k : ℕ) (c : Control) (old new : Option (List ℕ)) (rows rows' : Option (List Outputs)) (line : List ℕ) (end : End)
+pub refused : (image : Image) (start now now' : Option (List ℕ)) (k : ℕ) (c : Control) (old new : Option (List ℕ)) (rows rows' : Option (List Outputs))
+    (line : List ℕ) (end : End)
     → Played image start now k c old new rows rows' → TakesLine now now' line → EndsAt image.program (next_number k) line end
     → (out : List (List ℕ)) × PlaysTo image start old new rows rows' out end
 refused image start now now' k c old new rows rows' line end a takes ends =
@@ -122,7 +131,8 @@ refused image start now now' k c old new rows rows' line end a takes ends =
 
 -- the next line is too long
 pub refused_long : (image : Image) (start now : Option (List ℕ)) (k : ℕ) (c : Control) (old new : Option (List ℕ)) (rows rows' : Option (List Outputs))
-    → Played image start now k c old new rows rows' → IsTooLong now → (out : List (List ℕ)) × PlaysTo image start old new rows rows' out (NoObject (next_number k))
+    → Played image start now k c old new rows rows' → IsTooLong now → (out : List (List ℕ))
+    × PlaysTo image start old new rows rows' out (NoObject (next_number k))
 refused_long image start now k c old new rows rows' a long =
     let cut = cut_too_long now long in
     ends_at image start now k c old new rows rows' cut.0 cut.1 (NoObject (next_number k)) a cut.3 (refl, inl cut.2)
@@ -156,7 +166,8 @@ wanted_appends None bytes = tt
 wanted_appends (Some xs) bytes = refl
 
 -- the line of output could not be written, or not to its end
-pub stopped_writing : (image : Image) (start now now' : Option (List ℕ)) (k : ℕ) (c d : Control) (old new new' : Option (List ℕ)) (rows rows' rows'' : Option (List Outputs)) (line shown : List ℕ)
+pub stopped_writing : (image : Image) (start now now' : Option (List ℕ)) (k : ℕ) (c d : Control) (old new new' : Option (List ℕ))
+    (rows rows' rows'' : Option (List Outputs)) (line shown : List ℕ)
     → Played image start now k c old new rows rows' → TakesLine now now' line → Shows image (next_number k) c line d shown → GrowsInto new new' shown
     → Gains rows' rows'' image.program.variables d.variables → PlaysPartTo image start old new' rows rows''
 unfolding one_played
@@ -179,23 +190,30 @@ stopped_writing image start now now' k c d old new new' rows rows' rows'' line s
     }
 
 -- the next line could not be had
-pub stopped_reading : (image : Image) (start now : Option (List ℕ)) (k : ℕ) (c : Control) (old new : Option (List ℕ)) (rows rows' : Option (List Outputs)) (f : LinesFault)
-    → Played image start now k c old new rows rows' → (f ≡ lines_fault.TooLong → IsTooLong now) → LeavesTo image start old new rows rows' (unread f (next_number k))
+pub stopped_reading : (image : Image) (start now : Option (List ℕ)) (k : ℕ) (c : Control) (old new : Option (List ℕ)) (rows rows' : Option (List Outputs))
+    (f : LinesFault)
+    → Played image start now k c old new rows rows' → (f ≡ lines_fault.TooLong → IsTooLong now)
+    → LeavesTo image start old new rows rows' (unread f (next_number k))
 stopped_reading image start now k c old new rows rows' lines_fault.Memory a long = stopped image start now k c old new rows rows' a
 stopped_reading image start now k c old new rows rows' lines_fault.Read a long = stopped image start now k c old new rows rows' a
 stopped_reading image start now k c old new rows rows' lines_fault.TooLong a long = refused_long image start now k c old new rows rows' a (long refl)
 
 -- the next line makes no tick
-pub stopped_reacting : (image : Image) (start now now' : Option (List ℕ)) (k : ℕ) (c : Control) (old new : Option (List ℕ)) (rows rows' : Option (List Outputs)) (line : List ℕ) (f : PlayFault)
-    → Played image start now k c old new rows rows' → TakesLine now now' line → Tells image.program (next_number k) line f → LeavesTo image start old new rows rows' f
-stopped_reacting image start now now' k c old new rows rows' line (play_fault.Input n) a takes tells = refused image start now now' k c old new rows rows' line (NoInputs n) a takes tells
-stopped_reacting image start now now' k c old new rows rows' line (play_fault.NotJson n) a takes tells = refused image start now now' k c old new rows rows' line (NoObject n) a takes tells
+pub stopped_reacting : (image : Image) (start now now' : Option (List ℕ)) (k : ℕ) (c : Control) (old new : Option (List ℕ)) (rows rows' : Option (List Outputs))
+    (line : List ℕ) (f : PlayFault)
+    → Played image start now k c old new rows rows' → TakesLine now now' line → Tells image.program (next_number k) line f
+    → LeavesTo image start old new rows rows' f
+stopped_reacting image start now now' k c old new rows rows' line (play_fault.Input n) a takes tells = refused image start now now' k c old new rows rows' line
+    (NoInputs n) a takes tells
+stopped_reacting image start now now' k c old new rows rows' line (play_fault.NotJson n) a takes tells = refused image start now now' k c old new rows rows'
+    line (NoObject n) a takes tells
 stopped_reacting image start now now' k c old new rows rows' line play_fault.Memory a takes tells = stopped image start now k c old new rows rows' a
 stopped_reacting image start now now' k c old new rows rows' line play_fault.Read a takes tells = absurd tells
 stopped_reacting image start now now' k c old new rows rows' line play_fault.Write a takes tells = absurd tells
 
 -- what was written, whatever was published
-pub leaves : (image : Image) (start old new : Option (List ℕ)) (rows rows' : Option (List Outputs)) (f : PlayFault) → LeavesTo image start old new rows rows' f → Leaves image start old new f
+pub leaves : (image : Image) (start old new : Option (List ℕ)) (rows rows' : Option (List Outputs)) (f : PlayFault) → LeavesTo image start old new rows rows' f
+    → Leaves image start old new f
 leaves image start old new rows rows' (play_fault.Input n) left = (left.0, left.1.plays)
 leaves image start old new rows rows' (play_fault.NotJson n) left = (left.0, left.1.plays)
 leaves image start old new rows rows' play_fault.Memory left = left.plays

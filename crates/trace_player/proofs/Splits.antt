@@ -1,5 +1,6 @@
 -- An input as its first line and the lines behind it.
-use Rattle.std.proofs.Common.{◌≡◌, ◌≢◌, ℕ, ◌+◌, ◌<◌, ◌≤◌, Bool, true, false, not, cond, Option, Some, None, List, [], ◌∷◌, length, take, drop, refl, ap, sym, ◌∙◌, arith, suc}
+use Rattle.std.proofs.Common.{◌≡◌, ◌≢◌, ℕ, ◌+◌, ◌<◌, ◌≤◌, Bool, true, false, not, cond, Option, Some, None, List, [], ◌∷◌, length, take, drop, refl, ap, sym}
+use Rattle.std.proofs.Common.{◌∙◌, arith, suc}
 use Rattle.std.specs.Bool.{⊤}
 use Rattle.std.specs.List.{position_or_len}
 use Rattle.std.specs.Io.KnownBytes.{IsAtEnd}
@@ -93,7 +94,8 @@ length-lines_of (x ∷ xs) = length-lines_of-step (is_feed x) x xs refl (length-
 pub cut_taken : (old new : Option (List ℕ)) (line : List ℕ) (rest : List (List ℕ)) → TakesLine old new line → Cut new rest → Cut old (line ∷ rest)
 cut_taken None new line rest takes cut = tt
 cut_taken (Some xs) None line rest takes cut = absurd takes
-cut_taken (Some xs) (Some ys) line rest takes cut = sym (lines_of-cut xs takes.0 ∙ ap (λ first. first ∷ lines_of (after_line xs)) (sym takes.1) ∙ ap (λ zs. line ∷ lines_of zs) (sym takes.2) ∙ ap (λ zs. line ∷ zs) (sym cut))
+cut_taken (Some xs) (Some ys) line rest takes cut = sym (lines_of-cut xs takes.0 ∙ ap (λ first. first ∷ lines_of (after_line xs)) (sym takes.1)
+    ∙ ap (λ zs. line ∷ lines_of zs) (sym takes.2) ∙ ap (λ zs. line ∷ zs) (sym cut))
 
 -- a line that is too long
 pub cut_too_long : (bytes : Option (List ℕ)) → IsTooLong bytes → (line : List ℕ) × (rest : List (List ℕ)) × (line_limit < length line) × Cut bytes (line ∷ rest)

@@ -1,12 +1,12 @@
 //! Where lines come from, and where output and ends of ticks go.
 
-ghost use Rattle.std.specs.Prelude.{◌≡◌, ◌≢◌, ◌+◌, ◌≤◌, ℕ, List, Option, Some, true, false, length};
+ghost use Rattle.std.specs.Prelude.{◌≡◌, ◌≢◌, ◌+◌, ◌≤◌, ℕ, List, Option, Some, None, true, false, length};
 ghost use Rattle.std.specs.Prelude.{IfOk, IfSome, IfNone, IsErrOf, OnOk, OnErr};
 ghost use Rattle.std.specs.Io.KnownBytes.{Appends, IsAtEnd};
 ghost use Rattle.logbook.specs.Pages.{Book};
 ghost use Rattle.sc_values.specs.Streams.{GrowsInto, StaysOpen, IsNotReadBehind};
 ghost use Rattle.probe.specs.Outputs.{Outputs};
-ghost use Rattle.trace_lines.specs.Lines.{line_limit, ahead, TakesLine, IsTooLong};
+ghost use Rattle.trace_lines.specs.Lines.{line_limit, ahead, has_feed, TakesLine, IsTooLong};
 ghost use Rattle.trace_player.specs.Inside.Playing.{Gains};
 
 use probe::{Publisher, TickEnd};
@@ -54,6 +54,7 @@ pub(crate) trait Channels {
         ensures going { IfOk result (λ next. next ≡ Some LineEnd.Feed
             → StaysOpen (progress self.old) (progress self.new)) }
         ensures not_behind { IsNotReadBehind (progress self.old) (progress self.new) }
+        ensures at_hand { has_feed lines.old ≡ true → result ≢ Err LinesFault.Read }
         ensures taken { taken self.new ≡ taken self.old }
         ensures no_write { failed_writes self.new ≡ failed_writes self.old }
         ensures published { published self.new ≡ published self.old }
@@ -70,6 +71,7 @@ pub(crate) trait Channels {
         ensures row { OnOk result (Gains (published self.old) (published self.new)
             verified.now.program.variables control.now.variables) }
         ensures none { OnErr result (published self.new ≡ published self.old) }
+        ensures unwatched { published self.old ≡ None → published self.new ≡ None }
         ensures to_come { to_come self.new ≡ to_come self.old }
         ensures taken { taken self.new ≡ taken self.old }
         ensures progress { progress self.new ≡ progress self.old }
@@ -77,7 +79,11 @@ pub(crate) trait Channels {
         ensures no_write { failed_writes self.new ≡ failed_writes self.old }
         ensures same { names self.new ≡ names self.old };
 
-    /// Writes a line of output. Whether the sink took it whole.
+    /// Whether output may be held back: nothing is published, before whose line others have to be written.
+    fn may_hold(&self) -> bool
+        ensures { result ≡ true → published self.now ≡ None };
+
+    /// Writes some output. Whether the sink took it whole.
     fn write(&mut self, shown: &[u8]) -> bool
         ensures whole { result ≡ true → Appends (taken self.old) (taken self.new) shown.now }
         ensures none_failed { result ≡ true → failed_writes self.new ≡ failed_writes self.old }
@@ -129,6 +135,10 @@ impl<'a, 'b, S: Source, W: Sink> Channels for Streams<'a, 'b, S, W> {
         _control: &Control,
     ) -> Result<(), AllocError> {
         Ok(())
+    }
+
+    fn may_hold(&self) -> bool {
+        true
     }
 
     fn write(&mut self, shown: &[u8]) -> bool {
@@ -184,6 +194,10 @@ impl<'a, 'b, 'c, S: Source, W: Sink> Channels for Watched<'a, 'b, 'c, S, W> {
         control: &Control,
     ) -> Result<(), AllocError> {
         self.publisher.publish(rt, TickEnd::of(verified, control))
+    }
+
+    fn may_hold(&self) -> bool {
+        false
     }
 
     fn write(&mut self, shown: &[u8]) -> bool {

@@ -83,7 +83,8 @@ where
         rt,
         move |scope| -> (Result<u64, PlayFault>, &mut P)
             ensures name { result.1.ghost_name ≡ channels.entry.ghost_name }
-            ensures came { CameTo J.image (P.to_come channels.entry.now) (P.taken channels.entry.now) (P.taken result.1.now)
+            ensures came { CameTo J.image (P.to_come channels.entry.now)
+                (P.taken channels.entry.now) (P.taken result.1.now)
                 (P.published channels.entry.now) (P.published result.1.now)
                 (P.failed_reads channels.entry.now) (P.failed_reads result.1.now)
                 (P.failed_writes channels.entry.now) (P.failed_writes result.1.now)

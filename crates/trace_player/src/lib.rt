@@ -3,6 +3,7 @@
 
 mod channels;
 mod fault_text;
+mod holding;
 mod hosting;
 mod laws;
 mod player;

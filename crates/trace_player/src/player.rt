@@ -42,8 +42,9 @@ impl From<AllocError> for PlayFault {
     }
 }
 
-/// Plays an input to an output, with 1 to 8 workers: for each line one tick and one output line, which is written
-/// before the next line is read; behind the end of the input nothing is read. Gives the number of ticks.
+/// Plays an input to an output, with 1 to 8 workers: for each line one tick and one output line. Output is held back
+/// while the next line of the input is at hand, up to some 64 KB, and written before more is read, at the end, and
+/// before a fault is told; behind the end of the input nothing is read. Gives the number of ticks.
 /// `Input` and `NotJson` name the line at which the trace ends, and all before it was written; else
 /// the lines of output of some first lines were, each whole, or at `Write` the last one perhaps in
 /// part. Numbers stay at the greatest of 64 bits; after 2^128 lines it gives up as at `Memory`.
@@ -77,9 +78,9 @@ pub fn play<'x, R: Threads + Wait + Sync, S: Source, W: Sink, G: Gate + Sync>(
     host::<Brand, R, G, Streams<'_, '_, S, W>>(rt, alloc, image, workers, gate, &mut streams)
 }
 
-/// Plays an input as `play` does, and publishes the end of each tick before its line of output is written. So the ends
-/// of all ticks that have a line of output were published, and at `Write` that of the last one too, whose line is
-/// perhaps there in part. `Memory` also where memory for publishing was refused.
+/// Plays an input as `play` does, but holds nothing back: it publishes the end of each tick, and then writes its line
+/// of output. So the ends of all ticks that have a line of output were published, and at `Write` that of the last one
+/// too, whose line is perhaps there in part. `Memory` also where memory for publishing was refused.
 pub fn play_to<'x, R: Threads + Wait + Sync, S: Source, W: Sink, G: Gate + Sync>(
     rt: &R,
     alloc: Global,

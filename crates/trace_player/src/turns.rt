@@ -1,12 +1,15 @@
 //! The lines of an input, one after another.
 
 ghost use Rattle.std.specs.Prelude.{◌≡◌, ◌↔◌, [], IsTrue};
+ghost use Rattle.std.specs.Io.KnownBytes.{append_known};
 ghost use Rattle.sc_graph.specs.Tick.{Rests, initial};
 ghost use Rattle.trace_player.specs.Trace.{next_number};
 ghost use Rattle.trace_player.specs.Inside.Faults.{unread};
+ghost use Rattle.trace_player.specs.Inside.HeldBack.{HoldsBack};
 ghost use Rattle.trace_player.specs.Inside.Playing.{CameTo};
 
 use crate::channels::Channels;
+use crate::holding::{settle, write_or_hold};
 use crate::player::PlayFault;
 use crate::session::Session;
 use std::sync::Wait;
@@ -84,11 +87,11 @@ where
     let interface = Interface::of(session.alloc, program.variables())?;
     let mut lines = Lines::new(session.alloc)?;
     let room = TickSpace::of(session.alloc, session.verified)?;
-    go_on(session, &interface, room, control, &mut lines, channels)
+    go_through(session, &interface, room, control, &mut lines, channels)
 }
 
-// Plays the lines of an input, none of which was read.
-fn go_on<'s, 'r: 's, 'x: 's, E: 's, R, J, G, P>(
+// Plays the lines of an input, none of which was read, and writes what is held back at their end.
+fn go_through<'s, 'r: 's, 'x: 's, E: 's, R, J, G, P>(
     session: &mut Session<'s, 'r, 'x, E, R, J, G>,
     interface: &Interface<'_>,
     room: TickSpace<'x>,
@@ -113,6 +116,49 @@ where
         (P.progress channels.old) (P.progress channels.new) result }
     ensures same { P.names channels.new ≡ P.names channels.old }
 {
+    let mut held = Vec::new(session.alloc);
+    let result = go_on(
+        session, interface, room, control, lines, channels, &mut held,
+    );
+    if settle(channels, &mut held) {
+        return result;
+    }
+    Err(PlayFault::Write)
+}
+
+// Plays the lines of an input, none of which was read. What it holds back counts as written.
+fn go_on<'s, 'r: 's, 'x: 's, E: 's, R, J, G, P>(
+    session: &mut Session<'s, 'r, 'x, E, R, J, G>,
+    interface: &Interface<'_>,
+    room: TickSpace<'x>,
+    control: Control,
+    lines: &mut Lines,
+    channels: &mut P,
+    held: &mut Vec<u8>,
+) -> Result<u64, PlayFault>
+where
+    R: Wait + Sync,
+    J: OfImage + Send + Sync + 's,
+    G: Gate + Sync + 's,
+    P: Channels,
+    requires interface { interface.now ≡ J.image.program.variables }
+    requires room { room ≡ J.image }
+    requires initial { control ≡ initial J.image.program }
+    requires rests { Rests J.image.program control }
+    requires lines { lines.old ≡ [] }
+    requires held { held.old.items ≡ [] }
+    ensures came { CameTo J.image (P.to_come channels.old) (P.taken channels.old)
+        (append_known (P.taken channels.new) held.new.items)
+        (P.published channels.old) (P.published channels.new)
+        (P.failed_reads channels.old) (P.failed_reads channels.new)
+        (P.failed_writes channels.old) (P.failed_writes channels.new)
+        (P.progress channels.old) (P.progress channels.new) result }
+    ensures same { P.names channels.new ≡ P.names channels.old }
+    ensures holds { HoldsBack J.image (P.to_come channels.old) (P.taken channels.old) (P.taken channels.new)
+        held.new.items (P.published channels.new) }
+    ensures read { result ≡ Err PlayFault.Read → held.new.items ≡ [] }
+    ensures write { result ≡ Err PlayFault.Write → held.new.items ≡ [] }
+{
     let mut room = room;
     let mut control = control;
     let mut line = Vec::new(session.alloc);
@@ -127,7 +173,7 @@ where
         };
         let (after, left) = session.react(interface, room, control, next, &line, &mut shown)?;
         channels.publish(session.rt, session.verified, &after)?;
-        if !channels.write(shown.as_slice()) {
+        if !write_or_hold(channels, held, shown.as_slice(), lines.has_line()) {
             return Err(PlayFault::Write);
         }
         control = after;

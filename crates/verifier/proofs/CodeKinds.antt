@@ -8,7 +8,8 @@ use Rattle.sc_values.proofs.Evaluating.{code_kind_is}
 use Rattle.sc_graph.specs.Program.{Program, kinds}
 
 pub checked_gives : (p : Program) (known : List Kind) (code : List Operation) (checked : Checked) (k : Kind) → known ≡ kinds p → Checks known code checked →
-    ((ks : List Kind) (checks : Checks ks checked.operations checked) → k ≡ checks.formed.gives) → IsWellFormed (kinds p) code × (code_kind code (kinds p) ≡ Some k)
+    ((ks : List Kind) (checks : Checks ks checked.operations checked) → k ≡ checks.formed.gives) → IsWellFormed (kinds p) code
+    × (code_kind code (kinds p) ≡ Some k)
 checked_gives p known code checked k same checks tells =
     let P : List Kind → Type 0 = λ ks. Checks ks code checked in
     let here : Checks (kinds p) code checked = subst P same checks in

@@ -1,5 +1,6 @@
 -- Bounds cover each node exactly where the tick-bound rule is kept.
-use Rattle.std.proofs.Common.{ℕ, ◌≡◌, ◌<◌, ◌≤◌, ◌+◌, ◌⊎◌, inl, inr, Option, Some, None, List, length, slice_get, option_map, refl, ◌∙◌, ap, subst, get_or, arith}
+use Rattle.std.proofs.Common.{ℕ, ◌≡◌, ◌<◌, ◌≤◌, ◌+◌, ◌⊎◌, inl, inr, Option, Some, None, List, length, slice_get, option_map, refl, ◌∙◌, ap, subst, get_or}
+use Rattle.std.proofs.Common.{arith}
 use Rattle.std.proofs.lemmas.Option.{slice_get_cases}
 use Rattle.sc_graph.specs.declared.place.Place.{Place}
 use Rattle.sc_graph.specs.declared.place.Place.TheVariants as place
@@ -34,7 +35,9 @@ pub record IsThread (p : Program) (t : ℕ) : Type 0 where
 pub thread_of : (p : Program) (t : ℕ) → t < length p.threads → IsThread p t
 thread_of p t h = found (slice_get p.threads t) refl (slice_get_cases p.threads t).1
   where
-    found : (o : Option Thread) → slice_get p.threads t ≡ o → ((x : Thread) × (t < length p.threads) × (slice_get p.threads t ≡ Some x) × (get_or p.threads t x ≡ x)) ⊎ ((length p.threads ≤ t) × (slice_get p.threads t ≡ None)) → IsThread p t
+    found : (o : Option Thread) → slice_get p.threads t ≡ o
+        → ((x : Thread) × (t < length p.threads) × (slice_get p.threads t ≡ Some x) × (get_or p.threads t x ≡ x))
+        ⊎ ((length p.threads ≤ t) × (slice_get p.threads t ≡ None)) → IsThread p t
     found o is (inl a) = record { thread = a.0; stands = a.2 }
     found o is (inr b) = absurd (omega (arith, b.0))
 
@@ -61,16 +64,19 @@ pub owner_there : (p : Program) (q : Tables) → ((at : Place) → SizeAt p q at
 owner_there p q size n t e = thread_of p t (owner_within p q size n t e)
 
 -- a fork has few children
-pub few_children : (p : Program) (q : Tables) → ((at : Place) → SizeAt p q at) → (n j : ℕ) (ks : List ℕ) → step_at p n ≡ Some (step.Fork ks j) → length ks ≤ child_limit
+pub few_children : (p : Program) (q : Tables) → ((at : Place) → SizeAt p q at) → (n j : ℕ) (ks : List ℕ) → step_at p n ≡ Some (step.Fork ks j)
+    → length ks ≤ child_limit
 few_children p q size n j ks e =
     let at = node_of_step p n (step.Fork ks j) e in
     let P : Step → Type 0 = λ s. StepFits p s in
     (subst P at.step ((size (place.Node n)).0 at.node at.stands).fits).0.few
 
-pub covered_depth : (p : Program) (q : Tables) (n m : ℕ) → step_at p n ≡ Some (step.Depth m) → ((t : ℕ) → owner_of p n ≡ Some t → weight q n ≤ bound q t) → IsCovered p q n
+pub covered_depth : (p : Program) (q : Tables) (n m : ℕ) → step_at p n ≡ Some (step.Depth m) → ((t : ℕ) → owner_of p n ≡ Some t → weight q n ≤ bound q t)
+    → IsCovered p q n
 covered_depth p q n m s h = record { depth = λ t k o e. h t o; join = λ t j ks o e. absurd (cc) }
 
-pub covered_fork : (p : Program) (q : Tables) (n j : ℕ) (ks : List ℕ) → step_at p n ≡ Some (step.Fork ks j) → ((t : ℕ) → owner_of p j ≡ Some t → weight q j + child_bounds q ks ≤ bound q t) → IsCovered p q n
+pub covered_fork : (p : Program) (q : Tables) (n j : ℕ) (ks : List ℕ) → step_at p n ≡ Some (step.Fork ks j)
+    → ((t : ℕ) → owner_of p j ≡ Some t → weight q j + child_bounds q ks ≤ bound q t) → IsCovered p q n
 covered_fork p q n j ks s h = record { depth = λ t k o e. absurd (cc); join = λ t i ls o e. turned t i ls o (cc) (cc) }
   where
     turned : (t i : ℕ) (ls : List ℕ) → owner_of p i ≡ Some t → j ≡ i → ks ≡ ls → weight q i + child_bounds q ls ≤ bound q t
@@ -80,13 +86,15 @@ covered_fork p q n j ks s h = record { depth = λ t k o e. absurd (cc); join = �
         let B : List ℕ → Type 0 = λ l. weight q i + child_bounds q l ≤ bound q t in
         subst B kl (subst A ji (h t o'))
 
-pub over_depth : (p : Program) (q : Tables) → ((at : Place) → SizeAt p q at) → (n m t : ℕ) → step_at p n ≡ Some (step.Depth m) → (owner_of p n ≡ Some t) × (bound q t < weight q n) → ¬ BoundAt p q (place.Thread t)
+pub over_depth : (p : Program) (q : Tables) → ((at : Place) → SizeAt p q at) → (n m t : ℕ) → step_at p n ≡ Some (step.Depth m) → (owner_of p n ≡ Some t)
+    × (bound q t < weight q n) → ¬ BoundAt p q (place.Thread t)
 over_depth p q size n m t s h kept =
     let a = owner_there p q size n t h.0 in
     let covers : weight q n ≤ bound q t = (kept a.thread a.stands).depths n m h.0 s in
     omega (arith, h.1)
 
-pub over_fork : (p : Program) (q : Tables) → ((at : Place) → SizeAt p q at) → (n j t : ℕ) (ks : List ℕ) → step_at p n ≡ Some (step.Fork ks j) → (owner_of p j ≡ Some t) × (bound q t < weight q j + child_bounds q ks) → ¬ BoundAt p q (place.Thread t)
+pub over_fork : (p : Program) (q : Tables) → ((at : Place) → SizeAt p q at) → (n j t : ℕ) (ks : List ℕ) → step_at p n ≡ Some (step.Fork ks j)
+    → (owner_of p j ≡ Some t) × (bound q t < weight q j + child_bounds q ks) → ¬ BoundAt p q (place.Thread t)
 over_fork p q size n j t ks s h kept =
     let a = owner_there p q size j t h.0 in
     let covers : weight q j + child_bounds q ks ≤ bound q t = (kept a.thread a.stands).joins n j ks h.0 s in

@@ -13,7 +13,8 @@ before_last made new x lt = grind (arith, common_steps)
 the_last : (made : List (List ℕ)) (new : List ℕ) (x : ℕ) → x ≡ length made → get_or (made ++ new ∷ []) x [] ≡ new
 the_last made new x e = grind (arith, common_steps)
 
-pub each_more : (P : List ℕ → List ℕ → Type 0) (n : ℕ) (lists made : List (List ℕ)) (new : List ℕ) → EachOf P n lists made → P (get_or lists n []) new → EachOf P (n + 1) lists (made ++ new ∷ [])
+pub each_more : (P : List ℕ → List ℕ → Type 0) (n : ℕ) (lists made : List (List ℕ)) (new : List ℕ) → EachOf P n lists made → P (get_or lists n []) new
+    → EachOf P (n + 1) lists (made ++ new ∷ [])
 each_more P n lists made new e here =
     let long : length made ≡ n = e.long in
     let more : length (made ++ new ∷ []) ≡ length made + 1 = length-append made (new ∷ []) in

@@ -6,5 +6,4 @@ pub mod Ordering
 pub mod Rising
 pub mod Each
 pub mod Standing
-pub mod Sampling
 pub mod CodeKinds

@@ -11,7 +11,8 @@ use Rattle.verifier.specs.declared.rule.Rule.TheVariants as rule
 use Rattle.verifier.specs.Verdict.{KeptAt, KeepsBelow, fault_number}
 
 abbrev pub rules_in_order : List Rule
-rules_in_order = rule.Size ∷ rule.Structure ∷ rule.Code ∷ rule.Assignment ∷ rule.EndBit ∷ rule.NoConflict ∷ rule.Flow ∷ rule.Protocol ∷ rule.Weight ∷ rule.Bound ∷ []
+rules_in_order = rule.Size ∷ rule.Structure ∷ rule.Code ∷ rule.Assignment ∷ rule.EndBit
+    ∷ rule.NoConflict ∷ rule.Flow ∷ rule.Protocol ∷ rule.Weight ∷ rule.Bound ∷ []
 
 abbrev rule_of : ℕ → Rule
 rule_of number = get_or rules_in_order (number - 31) rule.Size
@@ -47,7 +48,8 @@ number_of (suc (suc (suc (suc (suc (suc (suc (suc (suc (suc i)))))))))) r lt = a
 less_or_same : (a b : ℕ) → a < b + 1 → (a < b) ⊎ (a ≡ b)
 less_or_same a b lt = grind arith
 
-pub keeps_next : (p : Program) (q : Tables) (number : ℕ) (r : Rule) → fault_number r ≡ number → KeepsBelow p q number → ((at : Place) → KeptAt r p q at) → KeepsBelow p q (number + 1)
+pub keeps_next : (p : Program) (q : Tables) (number : ℕ) (r : Rule) → fault_number r ≡ number → KeepsBelow p q number → ((at : Place) → KeptAt r p q at)
+    → KeepsBelow p q (number + 1)
 keeps_next p q number r e below kept lower lt = elim (less_or_same (fault_number lower) number lt) [
   | inl less ↦ below lower less
   | inr same ↦ (let P : Rule → Type 0 = λ s. (at : Place) → KeptAt s p q at in subst P (same_rule r lower (e ∙ sym same)) kept)
@@ -97,8 +99,10 @@ formed_from p q r number e lt h = record {
   structure = h rule.Structure (omega (arith, e, lt));
 }
 
-pub sizes_from : (p : Program) (q : Tables) (r : Rule) (number : ℕ) → fault_number r ≡ number → 31 < number → KeepsBelow p q (fault_number r) → (at : Place) → SizeAt p q at
+pub sizes_from : (p : Program) (q : Tables) (r : Rule) (number : ℕ) → fault_number r ≡ number → 31 < number → KeepsBelow p q (fault_number r) → (at : Place)
+    → SizeAt p q at
 sizes_from p q r number e lt h = h rule.Size (omega (arith, e, lt))
 
-pub codes_from : (p : Program) (q : Tables) (r : Rule) (number : ℕ) → fault_number r ≡ number → 33 < number → KeepsBelow p q (fault_number r) → (at : Place) → CodeAt p at
+pub codes_from : (p : Program) (q : Tables) (r : Rule) (number : ℕ) → fault_number r ≡ number → 33 < number → KeepsBelow p q (fault_number r) → (at : Place)
+    → CodeAt p at
 codes_from p q r number e lt h = h rule.Code (omega (arith, e, lt))

@@ -42,7 +42,8 @@ takes_last p q e list n = record {
   only = λ m c. elim (Contains-push_cases list n m c) [ inl before ↦ inl before | inr same ↦ inr (sym same) ];
 }
 
-pub takes_none : (p : Program) (q : Tables) (e : Extreme) (list : List ℕ) (at n other : ℕ) → OwnedAlike p list at n other → ¬ Beats q e n other → TakesIn p q e list list n
+pub takes_none : (p : Program) (q : Tables) (e : Extreme) (list : List ℕ) (at n other : ℕ) → OwnedAlike p list at n other → ¬ Beats q e n other
+    → TakesIn p q e list list n
 takes_none p q e list at n other alike none = record {
   keeps = λ m s. s;
   gains = record {
@@ -60,7 +61,8 @@ at_place list at n lt = let long = length-set list at n in (at, omega (arith, lt
 same_or_not : (a b : ℕ) → (a ≡ b) ⊎ (a ≢ b)
 same_or_not a b = grind arith
 
-pub takes_place : (p : Program) (q : Tables) (e : Extreme) (list : List ℕ) (at n other : ℕ) → OwnedAlike p list at n other → Beats q e n other → TakesIn p q e list (slice_set list at n) n
+pub takes_place : (p : Program) (q : Tables) (e : Extreme) (list : List ℕ) (at n other : ℕ) → OwnedAlike p list at n other → Beats q e n other
+    → TakesIn p q e list (slice_set list at n) n
 takes_place p q e list at n other alike beats = record {
   keeps = λ m s. elim (same_or_not s.among.0 at) [
     | inl here ↦
@@ -96,7 +98,8 @@ pub owned_too : (p : Program) (m n k : ℕ) → owner_of p k ≡ owner_of p n �
 owned_too p m n k e c = record { first = c.first; second = c.second; first_owner = c.first_owner; second_owner = e ∙ c.second_owner; concurrent = c.concurrent }
 
 -- priority falls between all nodes where it falls from those of the least to those of the greatest
-pub all_fall : (p : Program) (q : Tables) (firsts least seconds greatest : List ℕ) → StandFor p q extreme.Least firsts least → StandFor p q extreme.Greatest seconds greatest → AllFall p q least greatest → AllFall p q firsts seconds
+pub all_fall : (p : Program) (q : Tables) (firsts least seconds greatest : List ℕ) → StandFor p q extreme.Least firsts least
+    → StandFor p q extreme.Greatest seconds greatest → AllFall p q least greatest → AllFall p q firsts seconds
 all_fall p q firsts least seconds greatest f s fall m n a b =
     let l : StoodFor p q extreme.Least least m = f.each m a in
     let g : StoodFor p q extreme.Greatest greatest n = s.each n b in
@@ -116,7 +119,8 @@ pub record StandUpTo (p : Program) (q : Tables) (e : Extreme) (nodes list : List
 pub stand_none : (p : Program) (q : Tables) (e : Extreme) (nodes : List ℕ) → StandUpTo p q e nodes [] 0
 stand_none p q e nodes = record { each = λ k lt. absurd (omega arith); only = λ n c. let lt = c.1 in absurd (omega arith) }
 
-pub stand_more : (p : Program) (q : Tables) (e : Extreme) (nodes old new : List ℕ) (i : ℕ) → i < length nodes → StandUpTo p q e nodes old i → TakesIn p q e old new (get_or nodes i 0) → StandUpTo p q e nodes new (i + 1)
+pub stand_more : (p : Program) (q : Tables) (e : Extreme) (nodes old new : List ℕ) (i : ℕ) → i < length nodes → StandUpTo p q e nodes old i
+    → TakesIn p q e old new (get_or nodes i 0) → StandUpTo p q e nodes new (i + 1)
 stand_more p q e nodes old new i lt s t = record {
   each = λ k less. elim (below_or_at k i less) [
     | inl before ↦ t.keeps (get_or nodes k 0) (s.each k before)
@@ -128,7 +132,8 @@ stand_more p q e nodes old new i lt s t = record {
   ];
 }
 
-pub stand_all : (p : Program) (q : Tables) (e : Extreme) (nodes list : List ℕ) (i : ℕ) → length nodes ≤ i → StandUpTo p q e nodes list i → StandFor p q e nodes list
+pub stand_all : (p : Program) (q : Tables) (e : Extreme) (nodes list : List ℕ) (i : ℕ) → length nodes ≤ i → StandUpTo p q e nodes list i
+    → StandFor p q e nodes list
 stand_all p q e nodes list i all s = record {
   each = of_each nodes (StoodFor p q e list) (λ k lt. s.each k (omega arith));
   only = s.only;

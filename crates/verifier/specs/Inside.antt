@@ -4,7 +4,6 @@ pub mod ByNode
 pub mod Pairs
 pub mod Each
 pub mod Extremes
-pub mod Samples
 pub mod Chosen
 pub mod Linked
 pub mod Known

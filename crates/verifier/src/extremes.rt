@@ -125,13 +125,8 @@ fn take_in(
     }
 }
 
-/// The node at a place of a list, where the thread of another owns it.
-pub(crate) fn owned_alike(
-    program: &Program,
-    list: &[NodeId],
-    at: usize,
-    n: NodeId,
-) -> Option<NodeId>
+// The node at a place of a list, where the thread of another owns it.
+fn owned_alike(program: &Program, list: &[NodeId], at: usize, n: NodeId) -> Option<NodeId>
     ensures { IfSome result (OwnedAlike program.now list.now at n) }
 {
     match list.get(at) {

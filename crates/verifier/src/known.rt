@@ -5,7 +5,6 @@ ghost use Rattle.verifier.specs.Inside.Known.{KnownOf};
 
 use crate::extremes::Extremes;
 use crate::kinds::kinds_of;
-use crate::samples::Samples;
 use program_edges::Users;
 use sc_graph::{Links, Program, Tables};
 use sc_values::Kind;
@@ -20,7 +19,6 @@ pub(crate) struct Known {
     pub(crate) kinds: Items<Kind>,
     pub(crate) users: Users,
     pub(crate) extremes: Extremes,
-    pub(crate) samples: Samples,
 }
 
 impl Known {
@@ -33,7 +31,6 @@ impl Known {
             links: Links::of(alloc, program)?,
             kinds: kinds_of(alloc, program)?,
             extremes: Extremes::of(alloc, program, tables, &users)?,
-            samples: Samples::of(alloc, program, &users)?,
             users,
         })
     }
@@ -47,7 +44,6 @@ impl Known {
             kinds: _,
             users: _,
             extremes: _,
-            samples: _,
         } = self;
         links
     }

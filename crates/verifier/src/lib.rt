@@ -4,7 +4,6 @@
 mod assignments;
 mod bounds;
 mod codes;
-mod concurrency;
 mod conflicts;
 mod end_bits;
 mod extremes;
@@ -15,7 +14,6 @@ mod known;
 mod places;
 mod protocol;
 mod rule;
-mod samples;
 mod size;
 mod verification;
 mod verified;

@@ -14,10 +14,9 @@ ghost use Rattle.verifier.specs.Inside.Chosen.{StandOver};
 ghost use Rattle.verifier.specs.Inside.Extremes.{StandFor};
 ghost use Rattle.verifier.specs.declared.extremes.Extreme.TheVariants.{Greatest, Least};
 
-use crate::concurrency::are_concurrent;
 use crate::extremes::{Extremes, list_of};
 use crate::known::Known;
-use program_edges::has_company;
+use program_edges::{are_concurrent, has_company};
 use sc_graph::{Links, NodeId, Place, Program, Tables, VariableId};
 
 /// A place where the rule is broken, where it is.

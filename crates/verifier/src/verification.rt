@@ -1,6 +1,6 @@
 //! All rules in order, and the lowest that an image breaks.
 
-ghost use Rattle.std.specs.Prelude.{◌≡◌, IfOk, MatchOption, ◌≢◌, Err};
+ghost use Rattle.std.specs.Prelude.{◌≡◌, IfErr, IfOk, MatchOption, ◌≢◌, Err};
 ghost use Rattle.sc_graph.specs.Valid.{IsValid};
 ghost use Rattle.verifier.specs.Verdict.{IsLowestBroken, KeepsBelow, KeptAt, fault_number};
 ghost use Rattle.verifier.specs.Inside.Faults.{IsFault};
@@ -23,7 +23,7 @@ use crate::verified::Verified;
 use crate::weights::weight_fault;
 use bytecode::Image;
 use sc_graph::{Place, Program, Tables};
-use std::alloc::Global;
+use std::alloc::{AllocError, Global};
 
 /// Verifies an image, and gives it where it is valid. `Broken`: the lowest rule that it breaks, and
 /// a place where it does. `Memory`: memory was refused; then the image keeps the first two rules,
@@ -38,24 +38,25 @@ pub fn verify(alloc: Global, image: Image) -> Result<Verified, Refusal>
     ensures accepted { IsValid image.program image.tables → (broken : Broken) → result ≢ Err (refusal.Broken broken) }
 {
     match Known::of(alloc, image.program(), image.tables()) {
-        Ok(known) => verify_by(image, known),
+        Ok(known) => verify_by(alloc, image, known),
         Err(_refused) => Err(refusal_without_memory(image.program(), image.tables())),
     }
 }
 
 // By what is known of its program.
-fn verify_by(image: Image, known: Known) -> Result<Verified, Refusal>
+fn verify_by(alloc: Global, image: Image, known: Known) -> Result<Verified, Refusal>
     requires { KnownOf image.program image.tables known }
     ensures verified { IfOk result (λ v. v ≡ image) }
     ensures valid { IfOk result (λ v. IsValid v.program v.tables) }
     ensures broken { (broken : Broken) → result ≡ Err (refusal.Broken broken)
         → IsLowestBroken image.program image.tables broken }
-    ensures memory { result ≢ Err refusal.Memory }
+    ensures memory { result ≡ Err refusal.Memory → KeepsBelow image.program image.tables (fault_number named.Code) }
     ensures accepted { IsValid image.program image.tables → (broken : Broken) → result ≢ Err (refusal.Broken broken) }
 {
-    match lowest_broken(image.program(), image.tables(), &known) {
-        None => Ok(Verified::known(image, known.into_links())),
-        Some(broken) => Err(Refusal::Broken(broken)),
+    match lowest_broken(alloc, image.program(), image.tables(), &known) {
+        Ok(None) => Ok(Verified::known(image, known.into_links())),
+        Ok(Some(broken)) => Err(Refusal::Broken(broken)),
+        Err(_refused) => Err(Refusal::Memory),
     }
 }
 
@@ -80,17 +81,25 @@ fn refusal_without_memory(program: &Program, tables: &Tables) -> Refusal
     }
 }
 
-// The lowest rule that is broken, and a place where it is.
-fn lowest_broken(program: &Program, tables: &Tables, known: &Known) -> Option<Broken>
+// The lowest rule that is broken, and a place where it is. Err: memory was refused; the first two rules are kept.
+fn lowest_broken(
+    alloc: Global,
+    program: &Program,
+    tables: &Tables,
+    known: &Known,
+) -> Result<Option<Broken>, AllocError>
     requires { KnownOf program.now tables.now known.now }
-    ensures { MatchOption result (IsValid program.now tables.now) (IsLowestBroken program.now tables.now) }
+    ensures found { IfOk result (λ found. MatchOption found (IsValid program.now tables.now)
+        (IsLowestBroken program.now tables.now)) }
+    ensures refused { IfErr result (λ _. KeepsBelow program.now tables.now (fault_number named.Code)) }
 {
     for rule in RULES {
-        if let Some(place) = broken_place(rule, program, tables, known) {
-            return Some(Broken { rule, place });
+        match broken_place(alloc, rule, program, tables, known)? {
+            Some(place) => return Ok(Some(Broken { rule, place })),
+            None => {}
         }
     }
-    None
+    Ok(None)
 }
 
 const RULES: [Rule; 10] = [
@@ -106,22 +115,30 @@ const RULES: [Rule; 10] = [
     Rule::Bound,
 ];
 
-// A place where a rule is broken, where it is. The lower rules are kept.
-fn broken_place(rule: Rule, program: &Program, tables: &Tables, known: &Known) -> Option<Place>
+// A place where a rule is broken, where it is. The lower rules are kept. Err: memory was refused; the rule is not one
+// of the first two, which are decided without it.
+fn broken_place(
+    alloc: Global,
+    rule: Rule,
+    program: &Program,
+    tables: &Tables,
+    known: &Known,
+) -> Result<Option<Place>, AllocError>
     requires lower { KeepsBelow program.now tables.now (fault_number rule) }
     requires known { KnownOf program.now tables.now known.now }
-    ensures { IsFault (KeptAt rule program.now tables.now) result }
+    ensures found { IfOk result (IsFault (KeptAt rule program.now tables.now)) }
+    ensures refused { IfErr result (λ _. KeepsBelow program.now tables.now (fault_number named.Code)) }
 {
     match rule {
-        Rule::Size => size_fault(program, tables),
-        Rule::Structure => program.structure_fault_with(&known.links),
-        Rule::Code => code_fault(program, known.kinds.as_slice()),
-        Rule::Assignment => assignment_fault(program, known.kinds.as_slice()),
-        Rule::EndBit => end_bit_fault(program, tables),
-        Rule::NoConflict => no_conflict_fault(program, &known.links, &known.users, &known.samples),
-        Rule::Flow => flow_fault(program, tables, &known.links),
-        Rule::Protocol => protocol_fault(program, tables, known),
-        Rule::Weight => weight_fault(program, tables),
-        Rule::Bound => bound_fault(program, tables),
+        Rule::Size => Ok(size_fault(program, tables)),
+        Rule::Structure => Ok(program.structure_fault_with(&known.links)),
+        Rule::Code => Ok(code_fault(program, known.kinds.as_slice())),
+        Rule::Assignment => Ok(assignment_fault(program, known.kinds.as_slice())),
+        Rule::EndBit => Ok(end_bit_fault(program, tables)),
+        Rule::NoConflict => no_conflict_fault(alloc, program, &known.links, &known.users),
+        Rule::Flow => Ok(flow_fault(program, tables, &known.links)),
+        Rule::Protocol => Ok(protocol_fault(program, tables, known)),
+        Rule::Weight => Ok(weight_fault(program, tables)),
+        Rule::Bound => Ok(bound_fault(program, tables)),
     }
 }

@@ -4,7 +4,8 @@ use Rattle.chart_machine.specs.declared.standing.Standing.TheVariants as at
 use Rattle.chart_machine.specs.declared.table.Table.{Table}
 use Rattle.chart_machine.specs.Table.{Piece}
 use Rattle.chart_machine_laws.proofs.ByEvaluation.Charts.{letter_A, letter_B, input, of_read}
-use Rattle.chart_machine_laws.proofs.ByEvaluation.Charts.{go, strong, weak, join, immediate, only_if, initial_state, state, final_state, initial_final_state, region, chart}
+use Rattle.chart_machine_laws.proofs.ByEvaluation.Charts.{go, strong, weak, join, immediate, only_if, initial_state, state, final_state, initial_final_state}
+use Rattle.chart_machine_laws.proofs.ByEvaluation.Charts.{region, chart}
 use Rattle.chart_machine_laws.proofs.ByEvaluation.Told.{on, yes, no, tick, ticks, standings}
 
 -- input bool A; input bool B;

@@ -4,7 +4,8 @@ use Rattle.core_charts.specs.declared.region.Transition.{Transition}
 use Rattle.chart_machine.specs.declared.table.Table.{Table}
 use Rattle.chart_machine.specs.Table.{Piece}
 use Rattle.chart_machine_laws.proofs.ByEvaluation.Charts.{letter_A, input, of_read}
-use Rattle.chart_machine_laws.proofs.ByEvaluation.Charts.{go, weak, join, immediate, only_if, initial_state, state, final_state, initial_final_state, region, chart}
+use Rattle.chart_machine_laws.proofs.ByEvaluation.Charts.{go, weak, join, immediate, only_if, initial_state, state, final_state, initial_final_state, region}
+use Rattle.chart_machine_laws.proofs.ByEvaluation.Charts.{chart}
 use Rattle.chart_machine_laws.proofs.ByEvaluation.Told.{on, yes, no, tick, ticks}
 
 -- region M {

@@ -1,5 +1,4 @@
 -- What the protocol edges of a program are found by.
-use Rattle.std.specs.Prelude.{◌≡◌}
 use Rattle.sc_graph.specs.Links.{Tells}
 use Rattle.sc_graph.specs.Program.{Program}
 use Rattle.sc_graph.specs.declared.links.Links.{Links}
@@ -7,9 +6,8 @@ use Rattle.sc_graph.specs.Valid.{IsFormed}
 use Rattle.program_edges.specs.declared.users.Users.{Users}
 use Rattle.program_edges.specs.Users.{UsersOf}
 
--- of a formed program a table of its concurrent threads, its links, and the users of its variables
-pub record AreHeld (p threads : Program) (links : Links) (users : Users) : Type 0 where
+-- of a formed program its links, and the users of its variables
+pub record AreHeld (p : Program) (links : Links) (users : Users) : Type 0 where
   pub formed : IsFormed p
-  pub concurrent : threads ≡ p
   pub told : Tells p links
   pub used : UsersOf p users

@@ -37,7 +37,8 @@ abbrev pub body : List Statement → Numbers → ℕ → Block
 body statements at g = thread_body (in_row (map piece_of statements)) at.node (with_goto at g)
 
 -- behind the old ones this thread and its nodes were put
-pub record IsThreadLaid (target : Way → ℕ) (parent : Option ℕ) (t : ℕ) (statements : List Statement) (at : Numbers) (olds news : List Thread) (old new : List Node) : Type 0 where
+pub record IsThreadLaid (target : Way → ℕ) (parent : Option ℕ) (t : ℕ) (statements : List Statement) (at : Numbers) (olds news : List Thread)
+    (old new : List Node) : Type 0 where
   pub threads : (g : ℕ) → news ≡ olds ++ thread target parent (body statements at g) ∷ []
   pub nodes : (g : ℕ) → new ≡ old ++ of_thread target t (body statements at g)
 
@@ -47,6 +48,7 @@ pub record AreForkedLaid (target : Way → ℕ) (t : ℕ) (statements : List Sta
   pub nodes : (g : ℕ) → new ≡ old ++ below target (text statements at g)
 
 -- behind the old ones these branches of a fork of thread t were put, with the threads that they fork
-pub record AreBranchesLaid (target : Way → ℕ) (t : ℕ) (branches : List (List Statement)) (at : Numbers) (olds news : List Thread) (old new : List Node) : Type 0 where
+pub record AreBranchesLaid (target : Way → ℕ) (t : ℕ) (branches : List (List Statement)) (at : Numbers) (olds news : List Thread)
+    (old new : List Node) : Type 0 where
   pub threads : (g : ℕ) → news ≡ olds ++ forked_among target t (branches_from (map (map piece_of) branches) (with_goto at g))
   pub nodes : (g : ℕ) → new ≡ old ++ among target (branches_from (map (map piece_of) branches) (with_goto at g))

@@ -154,4 +154,5 @@ body statements at = thread_body (in_row (map piece_of statements)) at.node (num
 -- the labels of this thread and of those below it
 abbrev pub IsThreadGathered : List Statement → Spot → Noted → Noted → Type 0
 IsThreadGathered statements at old new =
-    Gathers (thread_label (body statements at)) (own_count (body statements at) + lower_count (body statements at)) (at.base + (totals_of_all statements).lower) (lands.Node 0) old new
+    Gathers (thread_label (body statements at)) (own_count (body statements at) + lower_count (body statements at)) (at.base + (totals_of_all statements).lower)
+    (lands.Node 0) old new

@@ -1,5 +1,6 @@
 -- Where gotos lead through labels and gotos alone: each label is a place, at which stands a node, or a goto to a place.
-use Rattle.std.specs.Prelude.{ℕ, zero, suc, ◌+◌, ◌≡◌, ◌≤◌, Bool, Option, Some, None, List, [], ◌∷◌, map, length, get_or, slice_get, option_and_then, nat_lt, if◌then◌else◌}
+use Rattle.std.specs.Prelude.{ℕ, zero, suc, ◌+◌, ◌≡◌, ◌≤◌, Bool, Option, Some, None, List, [], ◌∷◌, map, length, get_or, slice_get, option_and_then, nat_lt}
+use Rattle.std.specs.Prelude.{if◌then◌else◌}
 use Rattle.std.specs.Map.{keys_of}
 use Rattle.scl_graph.specs.declared.hops.Hop.{Hop}
 use Rattle.scl_graph.specs.declared.hops.Hop.TheVariants as hop

@@ -15,6 +15,7 @@ ghost use Rattle.tick_core.specs.Events.{Happens, Asks, Brings, Returns};
 ghost use Rattle.tick_core.specs.Inside.Turns.{NothingToClaim, IsUnclaimed, IsNew, MayCommit};
 
 use crate::claim::{Claim, Done};
+use crate::kept_claim::KeptClaim;
 use crate::leading::priority;
 use crate::sorting::sort;
 use crate::state::{Receipt, StaleClaim, TickState, Turn};
@@ -130,7 +131,7 @@ impl<'a> TickState<'a> {
     {
         let thread = claim.thread();
         self.level = self.priority(thread);
-        self.claims[thread as usize] = Some(claim.copied());
+        self.claims[thread as usize] = Some(claim.kept());
         self.claimed += 1;
         self.rows.set(thread, None);
     }
@@ -174,7 +175,8 @@ impl<'a> TickState<'a> {
 }
 
 /// Closes the claim of a thread, where it has one. So many are open.
-pub(super) fn close_one(claims: &mut Vec<Option<Claim<'_>>>, claimed: &mut usize, thread: ThreadId)
+#[tactic(auto, using(crate::proofs::Opened::none_there))]
+pub(super) fn close_one(claims: &mut Vec<Option<KeptClaim>>, claimed: &mut usize, thread: ThreadId)
     requires place { thread < length claims.old.items }
     requires counted { claimed.old ≡ count_by is_some claims.old.items }
     ensures closed { claims.new.items ≡ slice_set claims.old.items thread None }
@@ -182,12 +184,12 @@ pub(super) fn close_one(claims: &mut Vec<Option<Claim<'_>>>, claimed: &mut usize
 {
     if claims[thread as usize].is_some() {
         *claimed -= 1;
+        claims[thread as usize] = None;
     }
-    claims[thread as usize] = None;
 }
 
 // Whether this very claim stands among the open ones.
-fn is_open(claims: &[Option<Claim<'_>>], claim: &Claim<'_>) -> bool
+fn is_open(claims: &[Option<KeptClaim>], claim: &Claim<'_>) -> bool
     ensures { IsTrue result ↔ (slice_get claims.now claim.now.thread ≡ Some (Some claim.now)) }
 {
     match claims.get(claim.thread() as usize) {

@@ -15,12 +15,12 @@ ghost use Rattle.tick_core.specs.State.{Advances, GoesAlone, threads_of};
 ghost use Rattle.tick_core.specs.Whole.{WholeTick};
 ghost use Rattle.tick_core.specs.Inside.Turns.{DropsClaims};
 
-use crate::claim::Claim;
 use crate::history::{Entry, Report};
+use crate::kept_claim::KeptClaim;
 use crate::living::count_after;
 use crate::sorting::{children_at, sort_after, sort_every};
 use crate::state::claiming::close_one;
-use crate::state::{TickSpace, TickState};
+use crate::state::{ParkedSpace, TickSpace, TickState};
 use crate::stepping::{code_at, take_step};
 use sc_graph::{Control, ThreadId};
 use sc_values::{CheckedCode, Kind, Operands, Value, eval};
@@ -152,8 +152,7 @@ impl<'a> TickState<'a> {
             living,
             given,
         } = self;
-        let room = TickSpace {
-            verified,
+        let room = ParkedSpace {
             joins,
             rows,
             variable_kinds,
@@ -163,11 +162,12 @@ impl<'a> TickState<'a> {
             given,
             spare: begun,
         };
-        (present, room)
+        let space = TickSpace { verified, room };
+        (present, space)
     }
 }
 
-fn close_all(claims: &mut Vec<Option<Claim<'_>>>)
+fn close_all(claims: &mut Vec<Option<KeptClaim>>)
     ensures length { length claims.new.items ≡ length claims.old.items }
     ensures none { (t : ℕ) (a : OpenClaim) → slice_get claims.new.items t ≢ Some (Some a) }
 {

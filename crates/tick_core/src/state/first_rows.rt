@@ -3,7 +3,7 @@
 ghost use Rattle.std.specs.Prelude.{◌≡◌, IfOk, None, map};
 ghost use Rattle.sc_graph.specs.Program.{kinds};
 
-use crate::claim::Claim;
+use crate::kept_claim::KeptClaim;
 use sc_graph::Program;
 use sc_values::Kind;
 use std::alloc::{AllocError, Global};
@@ -20,10 +20,10 @@ pub(crate) fn kinds_of(alloc: Global, program: &Program) -> Result<Vec<Kind>, Al
 }
 
 /// No claim of any thread.
-pub(crate) fn no_claims<'a>(
+pub(crate) fn no_claims(
     alloc: Global,
     program: &Program,
-) -> Result<Vec<Option<Claim<'a>>>, AllocError>
+) -> Result<Vec<Option<KeptClaim>>, AllocError>
     ensures { IfOk result (λ claims. claims.items ≡ map (λ _. None) program.now.threads) }
 {
     let mut claims = Vec::with_capacity(alloc, program.threads().len())?;

@@ -1,5 +1,6 @@
 -- The outputs among variables as rows, in the order of their names: the text before a value, and the value's place.
-use Rattle.std.specs.Prelude.{◌≡◌, ℕ, Bool, true, false, if◌then◌else◌, Option, Some, None, List, [], ◌∷◌, ◌++◌, length, slice_get, String, string_bytes, codes, decimal}
+use Rattle.std.specs.Prelude.{◌≡◌, ℕ, Bool, true, false, if◌then◌else◌, Option, Some, None, List, [], ◌∷◌, ◌++◌, length, slice_get, String, string_bytes, codes}
+use Rattle.std.specs.Prelude.{decimal}
 use Rattle.std.specs.declared.alloc.Global.{Global}
 use Rattle.json.specs.Print.{quoted}
 use Rattle.serde_json.specs.Data.{Data, null, Members, no_members, member, put}

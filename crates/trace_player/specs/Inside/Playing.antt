@@ -18,7 +18,8 @@ Gains (Some old) None variables values = ⊥
 Gains (Some old) (Some new) variables values = (row : Outputs) × (new ≡ old ++ row ∷ []) × IsRowOf variables values row
 
 -- the lines of an input were played, from so many failures of the source and the sink to so many
-pub record CameTo (image : Image) (input old new : Option (List ℕ)) (rows rows' : Option (List Outputs)) (reads reads' writes writes' : ℕ) (progress progress' : Option Progress) (result : Result ℕ PlayFault) : Type 0 where
+pub record CameTo (image : Image) (input old new : Option (List ℕ)) (rows rows' : Option (List Outputs)) (reads reads' writes writes' : ℕ)
+    (progress progress' : Option Progress) (result : Result ℕ PlayFault) : Type 0 where
   pub whole : IfOk result (λ ticks. (out : List (List ℕ)) × (ticks ≡ min (length out) greatest) × Plays image input old new out Good)
   pub fault : IfErr result (Leaves image input old new)
   pub published : IfOk result (PlaysAllTo image input old new rows rows')

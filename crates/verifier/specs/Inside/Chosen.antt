@@ -4,11 +4,9 @@ use Rattle.sc_graph.specs.declared.tables.Tables.{Tables}
 use Rattle.sc_graph.specs.Program.{Program}
 use Rattle.verifier.specs.declared.extremes.Extreme.TheVariants as extreme
 use Rattle.verifier.specs.declared.extremes.Extremes.{Extremes}
-use Rattle.verifier.specs.declared.samples.Samples.{Samples}
 use Rattle.program_edges.specs.declared.users.Users.{Users}
 use Rattle.verifier.specs.Inside.Each.{EachOf}
 use Rattle.verifier.specs.Inside.Extremes.{StandFor}
-use Rattle.verifier.specs.Inside.Samples.{IsSample}
 
 pub record ExtremesOf (p : Program) (q : Tables) (u : Users) (e : Extremes) : Type 0 where
   pub least_inits : EachOf (StandFor p q extreme.Least) (length p.variables) u.inits e.least_inits
@@ -22,7 +20,3 @@ pub record StandOver (p : Program) (q : Tables) (e : Extremes) (x : ℕ) (inits 
   pub least_updates : StandFor p q extreme.Least updates (get_or e.least_updates x [])
   pub greatest_updates : StandFor p q extreme.Greatest updates (get_or e.greatest_updates x [])
   pub greatest_reads : StandFor p q extreme.Greatest reads (get_or e.greatest_reads x [])
-
-pub record SamplesOf (p : Program) (u : Users) (s : Samples) : Type 0 where
-  pub inits : EachOf (IsSample p) (length p.variables) u.inits s.inits
-  pub updates : EachOf (IsSample p) (length p.variables) u.updates s.updates

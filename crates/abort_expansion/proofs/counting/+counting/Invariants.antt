@@ -14,5 +14,6 @@ abbrev pub invariant-state_size-loop-region : goal.invariant-state_size-loop-reg
 invariant-state_size-loop-region l = record {
   superstates : l.size.superstates + superstates_in (map piece_of_region (drop l.region-index l.region-items)) ≡ (piece_of_state l.state).superstates;
   states : l.size.states + states_in (map piece_of_region (drop l.region-index l.region-items)) ≡ (piece_of_state l.state).states;
-  variables : l.size.variables + variables_in l.inside_weak (map piece_of_region (drop l.region-index l.region-items)) ≡ (piece_of_state l.state).variables l.weak;
+  variables : l.size.variables + variables_in l.inside_weak (map piece_of_region (drop l.region-index l.region-items))
+      ≡ (piece_of_state l.state).variables l.weak;
 }

@@ -1,4 +1,4 @@
-use Rattle.std.proofs.Common.{◌≡◌, ◌∙◌, ◌+◌, ◌<◌, ap, arith, length, slice_index}
+use Rattle.std.proofs.Common.{◌∙◌, ◌+◌, ◌<◌, ap, arith, length, slice_index}
 use Rattle.std.proofs.lemmas.Grind.{get_or_default_zero}
 use Rattle.buckets.proofs.Counting.{count_more}
 use Rattle.buckets.proofs.making.rooms_of.Goals as goal
@@ -6,7 +6,9 @@ use Rattle.buckets.proofs.making.rooms_of.Goals as goal
 pub loop-place-preserved : goal.loop-place-preserved
 loop-place-preserved c =
     let below : c.loop-place.place-index < length c.args.places.now = c.loop-place-test.true in
-    let known : slice_index c.args.places.now c.loop-place.place-index < c.greatest_of.result + 1 = omega (arith, c.greatest_of.ensures c.loop-place.place-index below) in
+    let known : slice_index c.args.places.now c.loop-place.place-index < c.greatest_of.result + 1 = omega
+    (arith, c.greatest_of.ensures c.loop-place.place-index below) in
     let there : slice_index c.args.places.now c.loop-place.place-index < length c.loop-place.rooms.items = omega (arith, c.loop-place.invariant.long) in
     count_more c.loop-place.rooms.items c.args.places.now c.loop-place.place-index _ c.loop-place.invariant below known _
-    (ap (λ n. n + 1) (c.index_mut.ensures.value ∙ get_or_default_zero c.loop-place.rooms.items (slice_index c.args.places.now c.loop-place.place-index) c.index_mut.result.now there))
+    (ap (λ n. n + 1) (c.index_mut.ensures.value ∙ get_or_default_zero c.loop-place.rooms.items (slice_index c.args.places.now c.loop-place.place-index)
+    c.index_mut.result.now there))

@@ -1,4 +1,3 @@
-use Rattle.std.proofs.Common.{◌≡◌, ◌+◌, ◌<◌, ℕ, length, take}
 use Rattle.buckets.proofs.Counting.{Counted}
 use Rattle.buckets.proofs.making.rooms_of.Given as goal
 

@@ -1,4 +1,3 @@
-use Rattle.std.proofs.Common.{◌≡◌, ◌+◌, ◌<◌, ℕ, length, take}
 use Rattle.buckets.proofs.Counting.{Begun}
 use Rattle.buckets.proofs.making.starts_of.Given as goal
 

@@ -9,8 +9,10 @@ region_flaws-loop-at-preserved t c =
     let region = c.index-regions-at.result in
     let is : slice_get c.args.regions.now c.loop-at.at ≡ Some region = slice_get_read _ _ _ _ refl c.loop-at-test.true c.index-regions-at.is in
     let names : c.in_ok-names.names.names ≡ region_names c.args.regions.now = c.in_ok-names.ensures ∙ c.in_ok-region_names.ensures in
-    region_noted c.args.scope.now.variables.now (nested_flaws c.args.scope.now.variables.now (c.args.levels - 1)) (region_names c.args.regions.now) c.args.regions.now c.loop-at.at region _ _ _ _ _ _ _ _ _ is names
-    c.is_repeated-is_repeated.ensures c.note_if.ensures c.is_full.ensures c.note_if-in-loop-at.ensures c.initial_flaws.ensures c.as_slice-states.ensures c.in_ok-state_flaws.ensures
+    region_noted c.args.scope.now.variables.now (nested_flaws c.args.scope.now.variables.now (c.args.levels - 1))
+    (region_names c.args.regions.now) c.args.regions.now c.loop-at.at region _ _ _ _ _ _ _ _ _ is names
+    c.is_repeated-is_repeated.ensures c.in_ok-note_told.ensures c.is_full-is_past.ensures c.in_ok-note_told-2.ensures
+    c.in_ok-initial_flaws.ensures c.as_slice-states.ensures c.in_ok-state_flaws.ensures
     ∙ c.loop-at.invariant
 
 pub state_flaws-loop-at-preserved : goal.state_flaws-loop-at-preserved
@@ -18,6 +20,7 @@ state_flaws-loop-at-preserved t c =
     let state = c.index-states-at.result in
     let is : slice_get c.args.states.now c.loop-at.at ≡ Some state = slice_get_read _ _ _ _ refl c.loop-at-test.true c.index-states-at.is in
     let names : c.in_ok-names.names.names ≡ state_names c.args.states.now = c.in_ok-names.ensures ∙ c.in_ok-state_names.ensures in
-    state_noted c.args.scope.now.variables.now (nested_flaws c.args.scope.now.variables.now c.args.levels) (state_names c.args.states.now) c.args.states.now c.loop-at.at state _ _ _ _ _ _ _ is names
-    c.place_flaws.ensures c.final_flaws.ensures c.in_ok-own_transition_flaws.ensures c.as_slice.ensures c.in_ok-region_flaws.ensures
+    state_noted c.args.scope.now.variables.now (nested_flaws c.args.scope.now.variables.now c.args.levels) (state_names c.args.states.now) c.args.states.now
+    c.loop-at.at state _ _ _ _ _ _ _ is names
+    c.in_ok-place_flaws.ensures c.in_ok-final_flaws.ensures c.in_ok-own_transition_flaws.ensures c.as_slice.ensures c.in_ok-region_flaws.ensures
     ∙ c.loop-at.invariant

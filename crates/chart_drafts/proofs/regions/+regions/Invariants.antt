@@ -29,8 +29,10 @@ decreases-inside l = 8 * l.depth
 
 abbrev pub invariant-regions-loop-used : goal.invariant-regions-loop-used
 invariant-regions-loop-used l =
-    IsGoing (read (listed (region (expression 0) (within (expression 0) l.fn.depth)) (region (expression 0) (within (expression 0) l.fn.depth))) l.fn.ahead.tokens.now) (region (expression 0) (within (expression 0) l.fn.depth)) (the_word word.Region) l.found (l.most - l.used) l.ahead.tokens.now
+    IsGoing (read (listed (region (expression 0) (within (expression 0) l.fn.depth)) (region (expression 0) (within (expression 0) l.fn.depth)))
+    l.fn.ahead.tokens.now) (region (expression 0) (within (expression 0) l.fn.depth)) (the_word word.Region) l.found (l.most - l.used) l.ahead.tokens.now
 
 abbrev pub invariant-states-loop-used : goal.invariant-states-loop-used
 invariant-states-loop-used l =
-    IsGoing (read (states (expression 0) (within (expression 0) l.fn.depth)) l.fn.ahead.tokens.now) (state (expression 0) (within (expression 0) l.fn.depth)) state_first l.found (l.most - l.used) l.ahead.tokens.now
+    IsGoing (read (states (expression 0) (within (expression 0) l.fn.depth)) l.fn.ahead.tokens.now) (state (expression 0) (within (expression 0) l.fn.depth))
+    state_first l.found (l.most - l.used) l.ahead.tokens.now

@@ -21,7 +21,8 @@ pub returns-in_err-next : goal.returns-in_err-next
 returns-in_err-next c =
     let on = c.if-not-role_follows.false in
     let more : starts text_tokens roles c.loop-used.ahead.tokens.now ≡ true = search (rules, on, c.role_follows.ensures) in
-    let stops : (f : ReadFault) → Stops c.args.end (read declaration c.loop-used.ahead.tokens.now) f → Stops c.args.end (read (many declaration) c.args.ahead.now.tokens.now) f =
+    let stops : (f : ReadFault) → Stops c.args.end (read declaration c.loop-used.ahead.tokens.now) f
+    → Stops c.args.end (read (many declaration) c.args.ahead.now.tokens.now) f =
     λ f. going_stops declaration roles _ _ _ _ _ c.args.end f c.loop-used-test.true c.loop-used.invariant more in
     search (rules, stops)
 

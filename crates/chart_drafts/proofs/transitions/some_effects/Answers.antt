@@ -21,7 +21,8 @@ pub returns-in_err-next : goal.returns-in_err-next
 returns-in_err-next c =
     let on = c.if-not-sign_follows.false in
     let more : starts text_tokens (the_sign sign.Comma) c.loop-used.ahead.tokens.now ≡ true = search (rules, on, c.sign_follows.ensures) in
-    let stops : (f : ReadFault) → Stops c.args.end (read (next_effect (expression 0)) c.loop-used.ahead.tokens.now) f → Stops c.args.end (read (some_effects (expression 0)) c.args.ahead.now.tokens.now) f =
+    let stops : (f : ReadFault) → Stops c.args.end (read (next_effect (expression 0)) c.loop-used.ahead.tokens.now) f
+    → Stops c.args.end (read (some_effects (expression 0)) c.args.ahead.now.tokens.now) f =
     λ f. going_stops (next_effect (expression 0)) (the_sign sign.Comma) _ _ _ _ _ c.args.end f c.loop-used-test.true c.loop-used.invariant more in
     search (rules, stops)
 
@@ -29,4 +30,5 @@ pub loop-used-preserved : goal.loop-used-preserved
 loop-used-preserved c =
     let on = c.if-not-sign_follows.false in
     let more : starts text_tokens (the_sign sign.Comma) c.loop-used.ahead.tokens.now ≡ true = search (rules, on, c.sign_follows.ensures) in
-    going_on (next_effect (expression 0)) (the_sign sign.Comma) _ _ _ _ _ _ _ _ c.loop-used-test.true c.loop-used.invariant more c.in_ok-next.ensures c.in_ok-push-2.ensures.ok
+    going_on (next_effect (expression 0)) (the_sign sign.Comma) _ _ _ _ _ _ _ _ c.loop-used-test.true c.loop-used.invariant more c.in_ok-next.ensures
+    c.in_ok-push-2.ensures.ok

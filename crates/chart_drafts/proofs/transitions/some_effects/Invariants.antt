@@ -8,4 +8,5 @@ use Rattle.chart_drafts.proofs.transitions.some_effects.Given as goal
 
 abbrev pub invariant-loop-used : goal.invariant-loop-used
 invariant-loop-used l =
-    IsGoing (read (some_effects (expression 0)) l.fn.ahead.tokens.now) (next_effect (expression 0)) (the_sign sign.Comma) l.found (l.most - l.used) l.ahead.tokens.now
+    IsGoing (read (some_effects (expression 0)) l.fn.ahead.tokens.now) (next_effect (expression 0)) (the_sign sign.Comma) l.found
+    (l.most - l.used) l.ahead.tokens.now

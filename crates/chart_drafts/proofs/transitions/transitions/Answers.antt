@@ -21,7 +21,8 @@ pub returns-in_err-next : goal.returns-in_err-next
 returns-in_err-next c =
     let on = c.if-not-transition_follows.false in
     let more : starts text_tokens transition_first c.loop-used.ahead.tokens.now ≡ true = search (rules, on, c.transition_follows.ensures) in
-    let stops : (f : ReadFault) → Stops c.args.end (read (transition (expression 0)) c.loop-used.ahead.tokens.now) f → Stops c.args.end (read (many (transition (expression 0))) c.args.ahead.now.tokens.now) f =
+    let stops : (f : ReadFault) → Stops c.args.end (read (transition (expression 0)) c.loop-used.ahead.tokens.now) f
+    → Stops c.args.end (read (many (transition (expression 0))) c.args.ahead.now.tokens.now) f =
     λ f. going_stops (transition (expression 0)) transition_first _ _ _ _ _ c.args.end f c.loop-used-test.true c.loop-used.invariant more in
     search (rules, stops)
 
@@ -29,4 +30,5 @@ pub loop-used-preserved : goal.loop-used-preserved
 loop-used-preserved c =
     let on = c.if-not-transition_follows.false in
     let more : starts text_tokens transition_first c.loop-used.ahead.tokens.now ≡ true = search (rules, on, c.transition_follows.ensures) in
-    going_on (transition (expression 0)) transition_first _ _ _ _ _ _ _ _ c.loop-used-test.true c.loop-used.invariant more c.in_ok-next.ensures c.in_ok-push.ensures.ok
+    going_on (transition (expression 0)) transition_first _ _ _ _ _ _ _ _ c.loop-used-test.true c.loop-used.invariant more c.in_ok-next.ensures
+    c.in_ok-push.ensures.ok

@@ -8,4 +8,5 @@ use Rattle.chart_drafts.proofs.transitions.transitions.Given as goal
 
 abbrev pub invariant-loop-used : goal.invariant-loop-used
 invariant-loop-used l =
-    IsGoing (read (many (transition (expression 0))) l.fn.ahead.tokens.now) (transition (expression 0)) transition_first l.found (l.most - l.used) l.ahead.tokens.now
+    IsGoing (read (many (transition (expression 0))) l.fn.ahead.tokens.now) (transition (expression 0)) transition_first l.found
+    (l.most - l.used) l.ahead.tokens.now

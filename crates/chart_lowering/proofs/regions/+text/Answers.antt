@@ -21,4 +21,10 @@ body_of-returns-clause-statements t c =
 pub body_of-returns-clause-next : goal.body_of-returns-clause-next
 body_of-returns-clause-next t c =
     let region : Region = c.args.region.now in
-    omega (arith, c.in_ok-numbers.ensures.end, c.in_ok-next.ensures.sum, region_labels region, ap (λ ys. labels_in_states (map piece_of_state ys)) c.as_slice-states.ensures)
+    omega (
+      arith,
+      c.in_ok-numbers.ensures.end,
+      c.in_ok-next.ensures.sum,
+      region_labels region,
+      ap (λ ys. labels_in_states (map piece_of_state ys)) c.as_slice-states.ensures,
+    )

@@ -8,7 +8,11 @@ use Rattle.chart_reader.proofs.regions.+resolving.Goals as goal
 pub regions-region-requires : goal.regions-region-requires
 regions-region-requires t c = (
   search rules,
-  (c.requires.few_variables, states_few c.args.levels c.args.texts.now _ c.text-item.result c.requires.narrow c.if-levels-eq0.false c.loop-text-test.true c.text-item.is),
+  (
+    c.requires.few_variables,
+    states_few c.args.levels c.args.texts.now _ c.text-item.result c.requires.narrow c.if-levels-eq0.false c.loop-text-test.true
+        c.text-item.is,
+  ),
 )
 
 pub states-state-requires : goal.states-state-requires
@@ -28,7 +32,8 @@ states-loop-text-preserved t c =
     let names = state_names texts in
     let item = c.text-item.result in
     let at = c.loop-text.text-index in
-    let made : c.in_ok-state.field-0 ≡ state_of variables names item = c.in_ok-state.ensures ∙ ap (λ xs. state_of variables (state_names xs) item) c.in_ok-own.ensures in
+    let made : c.in_ok-state.field-0 ≡ state_of variables names item = c.in_ok-state.ensures
+    ∙ ap (λ xs. state_of variables (state_names xs) item) c.in_ok-own.ensures in
     ap (λ all. all ++ states_of variables names (drop (at + 1) texts)) (c.in_ok-push.ensures.ok ∙ ap (λ one. c.loop-text.all ++ one ∷ []) made)
     ∙ one_more_made (state_of variables names) c.loop-text.all texts at item c.loop-text-test.true c.text-item.is
     ∙ c.loop-text.invariant

@@ -14,4 +14,5 @@ returns-then-begins_character c =
 
 pub returns : goal.returns
 returns c =
-    same_spot c.args.text.now c.args.i 0 c.args.spot c.args.spot c.requires.within c.requires.is (is_no_feed (get_or c.args.text.now c.args.i 0) c.if-byte-eq10.false) (sym c.begins_character.ensures ∙ c.if-begins_character.false) refl
+    same_spot c.args.text.now c.args.i 0 c.args.spot c.args.spot c.requires.within c.requires.is
+    (is_no_feed (get_or c.args.text.now c.args.i 0) c.if-byte-eq10.false) (sym c.begins_character.ensures ∙ c.if-begins_character.false) refl

@@ -13,5 +13,6 @@ loop-left-preserved c =
     let is : slice_get c.args.names.now (c.loop-left.left - 1) ≡ Some name = slice_get_read _ _ _ _ refl below c.index-names-left.is in
     record {
       within = omega (arith, c.loop-left.invariant.within);
-      places = one_before (get (pointwise nat_eq) c.loop-left.hashed) (get (pointwise nat_eq) c.insert.new.self) c.args.names.now c.loop-left.left name c.loop-left-test.true is c.loop-left.invariant.places c.in_ok-insert.ensures.updates.0;
+      places = one_before (get (pointwise nat_eq) c.loop-left.hashed) (get (pointwise nat_eq) c.insert.new.self) c.args.names.now c.loop-left.left name
+          c.loop-left-test.true is c.loop-left.invariant.places c.in_ok-insert.ensures.updates.0;
     }

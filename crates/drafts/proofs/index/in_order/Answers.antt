@@ -14,6 +14,8 @@ loop-left-preserved c =
     let is : slice_get c.args.names.now (c.loop-left.left - 1) ≡ Some name = slice_get_read _ _ _ _ refl below c.index-names-left.is in
     record {
       within = omega (arith, c.loop-left.invariant.within);
-      places = one_before (get (slice_cmp nat_cmp) c.loop-left.ordered) (get (slice_cmp nat_cmp) c.insert.new.self) c.args.names.now c.loop-left.left name c.loop-left-test.true is c.loop-left.invariant.places
-          (λ q. c.in_ok-insert.ensures.updates.0 q ∙ ap (λ b. cond b (Some (c.loop-left.left - 1)) (get (slice_cmp nat_cmp) c.loop-left.ordered q)) (is_eq-slice_cmp name q));
+      places = one_before (get (slice_cmp nat_cmp) c.loop-left.ordered) (get (slice_cmp nat_cmp) c.insert.new.self) c.args.names.now c.loop-left.left name
+          c.loop-left-test.true is c.loop-left.invariant.places
+          (λ q. c.in_ok-insert.ensures.updates.0 q ∙ ap (λ b. cond b (Some (c.loop-left.left - 1)) (get (slice_cmp nat_cmp) c.loop-left.ordered q))
+          (is_eq-slice_cmp name q));
     }

@@ -14,6 +14,13 @@ pub of_state-returns : goal.of_state-returns
 of_state-returns t c = record {
   some = rw (c.around.ensures.some, c.has_aborts-aborts.ensures, c.of_regions-inside.ensures.some, c.as_slice.ensures, c.as_slice-2.ensures)
       (state_some c.args.state.now);
-  flat = rw (c.around.ensures.flat, c.has_aborts-aborts.ensures, c.of_regions-inside.ensures.some, c.of_regions-inside.ensures.flat, c.as_slice.ensures, c.as_slice-2.ensures)
+  flat = rw (
+    c.around.ensures.flat,
+    c.has_aborts-aborts.ensures,
+    c.of_regions-inside.ensures.some,
+    c.of_regions-inside.ensures.flat,
+    c.as_slice.ensures,
+    c.as_slice-2.ensures,
+  )
       (state_flat c.args.state.now);
 }

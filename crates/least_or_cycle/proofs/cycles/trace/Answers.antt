@@ -9,7 +9,8 @@ loop-at-preserved g c =
     let leads = g.G.Graph.leads c.args.graph.now in
     let P : List ℕ → Type 0 = λ xs. IsTraced leads c.args.ranks.now c.args.start xs c.in-Some.next in
     let Q : ℕ → Type 0 = λ below. LeadsTo leads c.args.ranks.now c.loop-at.at below c.in-Some.next in
-    let to : LeadsTo leads c.args.ranks.now c.loop-at.at (slice_index c.args.ranks.now c.loop-at.at) c.in-Some.next = subst Q c.from.ensures c.in-Some.ensures in
+    let to : LeadsTo leads c.args.ranks.now c.loop-at.at (slice_index c.args.ranks.now c.loop-at.at) c.in-Some.next = subst Q c.from.ensures c.in-Some.ensures
+    in
     let ne : c.loop-at.at ≢ c.args.start = c.loop-at-test.true in
     subst P (sym c.in_ok-push-2.ensures.items)
     (traced_more leads c.args.ranks.now c.args.start c.loop-at.walk.items c.loop-at.at c.in-Some.next c.requires.ranks c.loop-at.invariant ne to)

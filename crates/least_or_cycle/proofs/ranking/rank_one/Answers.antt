@@ -6,12 +6,14 @@ pub overflow_add-ranks : goal.overflow_add-ranks
 overflow_add-ranks g c =
     let lt : c.args.node < length c.args.ranks.now = omega arith in
     let none : slice_index c.args.ranks.now c.args.node ≡ 0 = omega arith in
-    let h : slice_index c.args.ranks.now c.in-Some.next + 1 ≤ length c.args.ranks.now = room (g.G.Graph.leads c.args.graph.now) c.args.target c.args.ranks.now c.args.node c.in-Some.next c.requires.ranks lt none in
+    let h : slice_index c.args.ranks.now c.in-Some.next + 1 ≤ length c.args.ranks.now = room (g.G.Graph.leads c.args.graph.now) c.args.target c.args.ranks.now
+    c.args.node c.in-Some.next c.requires.ranks lt none in
     omega (arith, h)
 
 pub returns-in-Some : goal.returns-in-Some
 returns-in-Some g c =
-    ranked_more (g.G.Graph.leads c.args.graph.now) c.args.target c.args.ranks.now c.args.node c.in-Some.next _ c.requires.ranks (omega arith) (omega arith) c.in-Some.ensures
+    ranked_more (g.G.Graph.leads c.args.graph.now) c.args.target c.args.ranks.now c.args.node c.in-Some.next _ c.requires.ranks (omega arith)
+    (omega arith) c.in-Some.ensures
 
 pub returns-in-None : goal.returns-in-None
 returns-in-None g c =

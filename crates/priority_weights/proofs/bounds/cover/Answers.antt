@@ -19,7 +19,8 @@ pub overflow_cast-bounds : goal.overflow_cast-bounds
 overflow_cast-bounds c =
     let p = c.args.program.now in
     let at = sym c.in-Some-Some.ensures' in
-    let small = cost_small p c.requires.formed (slice_index c.args.weights.now) c.requires.within c.args.bounds.now c.requires.under c.args.node c.in-Some-Some.thread c.in-Some-Some.step.now (step_within p c.args.node c.in-Some-Some.step.now at) (sym c.in-Some-Some.ensures) at in
+    let small = cost_small p c.requires.formed (slice_index c.args.weights.now) c.requires.within c.args.bounds.now c.requires.under c.args.node
+    c.in-Some-Some.thread c.in-Some-Some.step.now (step_within p c.args.node c.in-Some-Some.step.now at) (sym c.in-Some-Some.ensures) at in
     let is = c.step_cost-cost.ensures in
     omega (arith, small, is)
 
@@ -37,5 +38,6 @@ returns-then-from-cost c =
     let long = c.requires.under.long in
     let less = c.if-from-cost.true in
     let from = c.from.ensures in
-    bound_raised p (slice_index c.args.weights.now) c.args.bounds.now c.requires.under c.args.node c.in-Some-Some.thread c.in-Some-Some.step.now (step_within p c.args.node c.in-Some-Some.step.now at) (omega (arith, lt, long))
+    bound_raised p (slice_index c.args.weights.now) c.args.bounds.now c.requires.under c.args.node c.in-Some-Some.thread c.in-Some-Some.step.now
+    (step_within p c.args.node c.in-Some-Some.step.now at) (omega (arith, lt, long))
     (sym c.in-Some-Some.ensures) at c.step_cost-cost.result c.step_cost-cost.ensures (omega (arith, less, from))

@@ -15,7 +15,8 @@ returns-in-Some c =
     let table = c.args.table.now in
     let P : ℕ → Type 0 = λ x. IsAsked (Instant p m) table 0 x in
     let Q : List ℕ → Type 0 = λ ks. IsAsked (IsEntry p ks) table 0 c.asked_by_entries.result in
-    let on = asked_alike (IsNext c.next_nodes.result) (IsOn p m s) table 0 c.asked_by_next.result (c.next_nodes.ensures c.requires.formed c.requires.told) c.asked_by_next.ensures in
+    let on = asked_alike (IsNext c.next_nodes.result) (IsOn p m s) table 0 c.asked_by_next.result (c.next_nodes.ensures c.requires.formed c.requires.told)
+    c.asked_by_next.ensures in
     let into = subst Q c.children_of.ensures c.asked_by_entries.ensures in
     subst P (sym c.max.ensures)
     (asked_alike (λ n. IsOn p m s n ⊎ IsEntry p (children_of s) n) (Instant p m) table 0 _ (instants_are p m s (sym c.in-Some.ensures))

@@ -8,4 +8,5 @@ pub returns : goal.returns
 returns c =
     let P : ℕ → Type 0 = λ x. IsAsked (IsNext c.args.nodes) c.args.table.now c.args.weight x in
     subst P (sym c.max.ensures)
-    (asked_either (λ n. c.args.nodes.first ≡ Some n) (λ n. c.args.nodes.second ≡ Some n) c.args.table.now c.args.weight c.asked_by.result c.asked_by-2.result c.asked_by.ensures c.asked_by-2.ensures)
+    (asked_either (λ n. c.args.nodes.first ≡ Some n) (λ n. c.args.nodes.second ≡ Some n) c.args.table.now c.args.weight c.asked_by.result c.asked_by-2.result
+    c.asked_by.ensures c.asked_by-2.ensures)

@@ -4,7 +4,9 @@ use Rattle.sc_graph.specs.Threads.{ConcurrentNodes}
 use Rattle.priority_weights.specs.Inside.Ordered.{IsFollower}
 use Rattle.priority_weights.specs.Inside.Next.{IsAsked}
 use Rattle.priority_weights.proofs.Asking.{Before, asked_up, asked_same, asked_alike, before_end}
-use Rattle.priority_weights.proofs.protocol.asked_by_followers.Goals.{then-asked-more+then-are_concurrent, else-asked-more, else-asked-more-via-then-asked-more+else-are_concurrent, else-asked-more-via-else-asked-more}
+use Rattle.priority_weights.proofs.protocol.asked_by_followers.Goals.{then-asked-more+then-are_concurrent, else-asked-more}
+use Rattle.priority_weights.proofs.protocol.asked_by_followers.Goals.{else-asked-more-via-then-asked-more+else-are_concurrent}
+use Rattle.priority_weights.proofs.protocol.asked_by_followers.Goals.{else-asked-more-via-else-asked-more}
 use Rattle.priority_weights.proofs.protocol.asked_by_followers.Goals as goal
 
 pub loop-follower-preserved : goal.loop-follower-preserved

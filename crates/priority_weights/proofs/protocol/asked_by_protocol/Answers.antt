@@ -14,5 +14,7 @@ returns c =
     let table = c.args.table.now in
     let P : ℕ → Type 0 = λ x. IsAsked (ProtocolEdge p m) table 1 x in
     subst P (sym c.max.ensures)
-    (asked_alike (λ n. IsFollower p m f.updates.now n ⊎ IsFollower p m f.reads.now n) (ProtocolEdge p m) table 1 _ (protocol_edges p m f c.followers-followers.ensures)
-    (asked_either (IsFollower p m f.updates.now) (IsFollower p m f.reads.now) table 1 c.asked_by_followers.result c.asked_by_followers-2.result c.asked_by_followers.ensures c.asked_by_followers-2.ensures))
+    (asked_alike (λ n. IsFollower p m f.updates.now n ⊎ IsFollower p m f.reads.now n) (ProtocolEdge p m) table 1 _
+    (protocol_edges p m f c.followers-followers.ensures)
+    (asked_either (IsFollower p m f.updates.now) (IsFollower p m f.reads.now) table 1 c.asked_by_followers.result c.asked_by_followers-2.result
+    c.asked_by_followers.ensures c.asked_by_followers-2.ensures))

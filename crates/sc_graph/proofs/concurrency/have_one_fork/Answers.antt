@@ -3,7 +3,8 @@ use Rattle.sc_graph.proofs.concurrency.have_one_fork.Goals as goal
 
 pub returns-in-Some-Some : goal.returns-in-Some-Some
 returns-in-Some-Some c =
-    one_fork_known c.args.program.now c.requires c.args.left c.args.right c.in-Some-Some.first c.in-Some-Some.second c.in-Some-Some.ensures.fork c.in-Some-Some.ensures'.fork
+    one_fork_known c.args.program.now c.requires c.args.left c.args.right c.in-Some-Some.first c.in-Some-Some.second c.in-Some-Some.ensures.fork
+    c.in-Some-Some.ensures'.fork
 
 pub returns-in_default : goal.returns-in_default
 returns-in_default c = (λ yes. cc yes, λ one. c.in_default.ensures'.once.1 (one_fork_right c.args.program.now c.requires c.args.left c.args.right one))

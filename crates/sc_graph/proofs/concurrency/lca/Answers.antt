@@ -9,7 +9,8 @@ returns-then-have_one_fork-clause-concurrent c =
     let up : c.parent.result ≡ Some place.0 = cc (place.1.left_parent) in (
       λ some. record {
         forking = place.0;
-        apart = forks_apart c.args.program.now c.requires c.args.first c.args.second c.in-Some.left c.in-Some.right place.0 place.1 (c.have_one_fork.ensures.0 c.if-have_one_fork.true);
+        apart = forks_apart c.args.program.now c.requires c.args.first c.args.second c.in-Some.left c.in-Some.right place.0 place.1
+            (c.have_one_fork.ensures.0 c.if-have_one_fork.true);
       },
       λ x. ap (λ (o : Option ℕ). is_some o) up,
     )
@@ -19,14 +20,17 @@ returns-then-have_one_fork-clause-apart c =
     let place = c.in-Some.ensures in
     let up : c.parent.result ≡ Some place.0 = cc (place.1.left_parent) in
     subst (λ (o : Option ℕ). IfSome o (λ t. ForkedApart c.args.program.now c.args.first c.args.second t)) (sym up)
-    (forks_apart c.args.program.now c.requires c.args.first c.args.second c.in-Some.left c.in-Some.right place.0 place.1 (c.have_one_fork.ensures.0 c.if-have_one_fork.true))
+    (forks_apart c.args.program.now c.requires c.args.first c.args.second c.in-Some.left c.in-Some.right place.0 place.1
+    (c.have_one_fork.ensures.0 c.if-have_one_fork.true))
 
 pub returns-else-have_one_fork-clause-concurrent : goal.returns-else-have_one_fork-clause-concurrent
 returns-else-have_one_fork-clause-concurrent c =
     let place = c.in-Some.ensures in (
       λ yes. absurd (cc yes),
       λ x.
-          let one : c.have_one_fork.result ≡ true = c.have_one_fork.ensures.1 (one_fork_apart c.args.program.now c.requires c.args.first c.args.second c.in-Some.left c.in-Some.right place.0 x.forking x.apart place.1) in
+          let one : c.have_one_fork.result
+          ≡ true = c.have_one_fork.ensures.1
+          (one_fork_apart c.args.program.now c.requires c.args.first c.args.second c.in-Some.left c.in-Some.right place.0 x.forking x.apart place.1) in
           cc,
     )
 

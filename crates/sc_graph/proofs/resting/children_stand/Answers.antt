@@ -12,7 +12,8 @@ returns-in-Fork c =
     search rules
     in (
       λ yes. stands_if _ _ c.in-Fork.children _ _ c.in-Fork.is wait
-          (subst (λ ks. (k : ℕ) → Contains ks k → (IsPresent (status_of c.args.control.now k)) ↔ IsTrue c.eq-waits.result) c.as_slice.ensures (c.are_present.ensures.0 yes)),
+          (subst (λ ks. (k : ℕ) → Contains ks k → (IsPresent (status_of c.args.control.now k)) ↔ IsTrue c.eq-waits.result) c.as_slice.ensures
+          (c.are_present.ensures.0 yes)),
       λ stands. c.are_present.ensures.1
           (subst (λ ks. (k : ℕ) → Contains ks k → (IsPresent (status_of c.args.control.now k)) ↔ IsTrue c.eq-waits.result) (sym c.as_slice.ensures)
           (present_if _ _ c.in-Fork.children _ _ c.in-Fork.is wait stands)),

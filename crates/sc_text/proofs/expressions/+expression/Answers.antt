@@ -18,6 +18,7 @@ chain-returns-in_err-rest-2 t c =
     let some : 0 < length c.in_ok-rest.rest.now - c.loop-used.used = omega arith in
     let on = c.if-not-goes_on.false in
     let more : starts text_tokens (begins_behind c.args.level) c.loop-used.rest.now ≡ true = search (rules, on, c.goes_on.ensures) in
-    let stops : (f : ReadFault) → Stops c.args.end (read (behind_operand c.args.level (within c.args.depth)) c.loop-used.rest.now) f → Stops c.args.end (read (whole c.args.level (within c.args.depth)) c.args.tokens.now) f =
+    let stops : (f : ReadFault) → Stops c.args.end (read (behind_operand c.args.level (within c.args.depth)) c.loop-used.rest.now) f
+    → Stops c.args.end (read (whole c.args.level (within c.args.depth)) c.args.tokens.now) f =
     λ f. going_stops _ _ _ _ _ _ _ c.args.end f some c.loop-used.invariant more in
     search (rules, stops)

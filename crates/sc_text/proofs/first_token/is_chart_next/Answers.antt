@@ -6,7 +6,8 @@ use Rattle.sc_text.proofs.first_token.is_chart_next.Goals as goal
 
 pub returns-in-Some-empty : goal.returns-in-Some-empty
 returns-in-Some-empty c =
-    word_ends c.args.text.now c.in-Some-empty.field-0.now (strip_prefix_is unsigned_Decides c.args.text.now (codes "chart") (Some c.in-Some-empty.field-0) c.in-Some-empty.ensures.cases)
+    word_ends c.args.text.now c.in-Some-empty.field-0.now
+    (strip_prefix_is unsigned_Decides c.args.text.now (codes "chart") (Some c.in-Some-empty.field-0) c.in-Some-empty.ensures.cases)
     c.in-Some-empty.len_below
 
 pub returns-in-Some-len1-up : goal.returns-in-Some-len1-up

@@ -23,8 +23,10 @@ loop-at-preserved c =
     record {
       within = step_within c.args.language c.loop-at.at c.in-Ok.step.length bytes c.in-Ok.step.kind step.cuts step.gives c.loop-at.invariant.within;
       done = λ more a. subst (λ t. AreTokens c.args.language 0 bytes (t ++ more)) (sym put)
-          (step_tokens c.args.language c.loop-at.at c.in-Ok.step.length bytes c.in-Ok.step.kind step.cuts step.gives c.loop-at.tokens more c.loop-at.invariant.done a);
-      faulty = λ b place a. step_fault c.args.language c.loop-at.at c.in-Ok.step.length bytes c.in-Ok.step.kind step.cuts step.gives b place (c.loop-at.invariant.faulty b place) a;
+          (step_tokens c.args.language c.loop-at.at c.in-Ok.step.length bytes c.in-Ok.step.kind step.cuts step.gives c.loop-at.tokens more
+          c.loop-at.invariant.done a);
+      faulty = λ b place a. step_fault c.args.language c.loop-at.at c.in-Ok.step.length bytes c.in-Ok.step.kind step.cuts step.gives b place
+          (c.loop-at.invariant.faulty b place) a;
     }
 
 pub returns-clause-ok : goal.returns-clause-ok

@@ -3,4 +3,5 @@ use Rattle.sc_text.proofs.scan.value_of.Goals as goal
 
 pub returns-then-value-gt-NUMBER_LIMIT : goal.returns-then-value-gt-NUMBER_LIMIT
 returns-then-value-gt-NUMBER_LIMIT c =
-    too_large c.loop-digit.value c.loop-digit.digit-index c.saturating_sub.result c.args.digits.now c.loop-digit-test.true c.saturating_sub.ensures c.loop-digit.invariant.rest c.if-value-gt-NUMBER_LIMIT.true
+    too_large c.loop-digit.value c.loop-digit.digit-index c.saturating_sub.result c.args.digits.now c.loop-digit-test.true c.saturating_sub.ensures
+    c.loop-digit.invariant.rest c.if-value-gt-NUMBER_LIMIT.true

@@ -18,7 +18,8 @@ loop-operation-init c = rw c.new-found.ensures (gathers_none_yet _ _)
 pub loop-operation-preserved : goal.loop-operation-preserved
 loop-operation-preserved c =
     elim c.match-loaded_kind.branch [
-      | in-Some w ↦ rw (w.found-is, w.push.ensures.items) (gathers_some _ _ _ _ _ c.loop-operation-test.true c.operation-item.is w.in-Some.kind w.in-Some.ensures c.loop-operation.invariant)
+      | in-Some w ↦ rw (w.found-is, w.push.ensures.items)
+          (gathers_some _ _ _ _ _ c.loop-operation-test.true c.operation-item.is w.in-Some.kind w.in-Some.ensures c.loop-operation.invariant)
       | in_default w ↦ rw w.found-is (gathers_none _ _ _ _ _ c.loop-operation-test.true c.operation-item.is w.in_default.ensures c.loop-operation.invariant)
     ]
 

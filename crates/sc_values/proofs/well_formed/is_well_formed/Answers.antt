@@ -14,7 +14,8 @@ returns-then-is_some c =
     let same = c.operations-operations.ensures.value in
     let count : c.load_count.result ≡ length (loads code) = rw same at c.load_count.ensures in
     let leaves : IsSome (option_and_then alone (tested kinds code [])) =
-    sym (c.is_some.ensures ∙ ap is_some c.kind_of_code.ensures ∙ ap (λ (o : List Operation). is_some (option_and_then alone (tested kinds o []))) same) ∙ c.if-is_some.true in (
+    sym (c.is_some.ensures ∙ ap is_some c.kind_of_code.ensures ∙ ap (λ (o : List Operation). is_some (option_and_then alone (tested kinds o []))) same)
+    ∙ c.if-is_some.true in (
       λ few. (let low = leb-true _ load_limit few in
           formed_where kinds code leaves c.operations-operations.ensures.long (omega (arith, count, low))),
       λ (formed : IsWellFormed kinds code). (let low = formed.within.loaded in le-leb c.load_count.result load_limit (omega (arith, count, low))),

@@ -25,7 +25,8 @@ statements-returns-in_err-rest t c =
     let some : 0 < length c.args.tokens.now - c.loop-used.used = omega arith in
     let on = c.if-not-statement_follows.false in
     let more : starts text_tokens statement_classes c.loop-used.rest.now ≡ true = search (rules, on, c.statement_follows.ensures) in
-    let stops : (f : ReadFault) → Stops c.args.end (read (within c.args.forks c.args.ifs) c.loop-used.rest.now) f → Stops c.args.end (read (many (within c.args.forks c.args.ifs)) c.args.tokens.now) f =
+    let stops : (f : ReadFault) → Stops c.args.end (read (within c.args.forks c.args.ifs) c.loop-used.rest.now) f
+    → Stops c.args.end (read (many (within c.args.forks c.args.ifs)) c.args.tokens.now) f =
     λ f. within_stops _ _ _ _ _ _ _ c.args.end f some c.loop-used.invariant more in
     search (rules, stops)
 
@@ -40,24 +41,28 @@ branches-returns-in_err-rest t c =
     let some : 0 < length c.args.tokens.now - c.loop-used.used = omega arith in
     let on = c.if-not-word_follows.false in
     let more : starts text_tokens (TheWord word.Par ∷ []) c.loop-used.rest.now ≡ true = search (rules, on, c.word_follows.ensures) in
-    let stops : (f : ReadFault) → Stops c.args.end (read (branch word.Par (within c.args.forks 32)) c.loop-used.rest.now) f → Stops c.args.end (read (many (branch word.Par (within c.args.forks 32))) c.args.tokens.now) f =
+    let stops : (f : ReadFault) → Stops c.args.end (read (branch word.Par (within c.args.forks 32)) c.loop-used.rest.now) f
+    → Stops c.args.end (read (many (branch word.Par (within c.args.forks 32))) c.args.tokens.now) f =
     λ f. branch_stops _ _ _ _ _ _ c.args.end f some c.loop-used.invariant more in
     search (rules, stops)
 
 pub block-returns-in_err-after : goal.block-returns-in_err-after
 block-returns-in_err-after t c =
-    let stops : (f : ReadFault) → Stops c.args.end (read (one {L = text_tokens} (TheSign sign.CloseBrace ∷ [])) c.in_ok-rest.rest.now) f → Stops c.args.end (read (block (within c.args.forks c.args.ifs)) c.args.tokens.now) f =
+    let stops : (f : ReadFault) → Stops c.args.end (read (one {L = text_tokens} (TheSign sign.CloseBrace ∷ [])) c.in_ok-rest.rest.now) f
+    → Stops c.args.end (read (block (within c.args.forks c.args.ifs)) c.args.tokens.now) f =
     λ f. close_stops _ _ _ c.in_ok-body.ensures _ _ _ c.in_ok-rest.ensures c.args.end f in
     search (rules, stops)
 
 pub fork-returns-in_err-join : goal.fork-returns-in_err-join
 fork-returns-in_err-join t c =
-    let stops : (f : ReadFault) → Stops c.args.end (read (one {L = text_tokens} (TheWord word.Join ∷ [])) c.in_ok-rest.rest.now) f → Stops c.args.end (read (fork (within c.args.forks 32)) c.args.tokens.now) f =
+    let stops : (f : ReadFault) → Stops c.args.end (read (one {L = text_tokens} (TheWord word.Join ∷ [])) c.in_ok-rest.rest.now) f
+    → Stops c.args.end (read (fork (within c.args.forks 32)) c.args.tokens.now) f =
     λ f. join_stops _ _ _ _ _ c.in_ok-more.ensures _ _ c.in_ok-rest.ensures c.args.end f in
     search (rules, stops)
 
 pub fork-returns-in_err-after : goal.fork-returns-in_err-after
 fork-returns-in_err-after t c =
-    let stops : (f : ReadFault) → Stops c.args.end (read (one {L = text_tokens} (TheSign sign.Semicolon ∷ [])) c.in_ok-join.join.now) f → Stops c.args.end (read (fork (within c.args.forks 32)) c.args.tokens.now) f =
+    let stops : (f : ReadFault) → Stops c.args.end (read (one {L = text_tokens} (TheSign sign.Semicolon ∷ [])) c.in_ok-join.join.now) f
+    → Stops c.args.end (read (fork (within c.args.forks 32)) c.args.tokens.now) f =
     λ f. join_end_stops _ _ _ _ _ c.in_ok-more.ensures _ _ c.in_ok-rest.ensures _ c.in_ok-join.ensures c.args.end f in
     search (rules, stops)

@@ -40,4 +40,5 @@ invariant-statements-loop-used l =
 
 abbrev pub invariant-branches-loop-used : goal.invariant-branches-loop-used
 invariant-branches-loop-used l =
-    IsGoing (branch word.Par (within l.fn.forks 32)) one_branch (read (many (branch word.Par (within l.fn.forks 32))) l.fn.tokens) l.fn.into l.into (l.most - l.used) l.rest
+    IsGoing (branch word.Par (within l.fn.forks 32)) one_branch (read (many (branch word.Par (within l.fn.forks 32))) l.fn.tokens) l.fn.into l.into
+    (l.most - l.used) l.rest

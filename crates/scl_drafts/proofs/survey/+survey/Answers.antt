@@ -36,7 +36,8 @@ survey_statement-returns-in_ok-survey_statements-in-If-2 t c =
     c.in_ok-survey_statements-in-If.ensures ∙ ap (λ l. behind start (in_row (parts_of V l))) c.as_slice.ensures in
     let second : done ≡ behind half (in_row (parts_of V c.in-If.second)) =
     c.in_ok-survey_statements-in-If-2.ensures ∙ ap (λ l. behind half (in_row (parts_of V l))) c.as_slice-in-If.ensures in
-    if_surveyed V own found c.args.statement.now c.in-If.test c.in-If.first c.in-If.second noted half done c.in-If.is c.in_ok-expression-in-If.ensures first second
+    if_surveyed V own found c.args.statement.now c.in-If.test c.in-If.first c.in-If.second noted half done c.in-If.is c.in_ok-expression-in-If.ensures first
+    second
 
 pub survey_thread-returns : goal.survey_thread-returns
 survey_thread-returns t c =
@@ -46,7 +47,8 @@ survey_thread-returns t c =
     let after : Found = c.survey_statements.new.found in
     let first : Option Flaw = c.note_lost.new.first in
     let begun : survey own after ≡ behind (survey (record { labels = []; gotos = [] }) found) (in_row (parts_of V c.args.body.now)) =
-    c.in_ok-survey_statements.ensures ∙ ap (λ n. behind (survey n found) (in_row (parts_of V c.args.body.now))) (λ i. record { labels = c.new.ensures i; gotos = c.new-2.ensures i }) in
+    c.in_ok-survey_statements.ensures ∙ ap (λ n. behind (survey n found) (in_row (parts_of V c.args.body.now)))
+    (λ i. record { labels = c.new.ensures i; gotos = c.new-2.ensures i }) in
     let told : first ≡ first_behind after.first (lost (names own.labels) own.gotos) =
     c.in_ok-note_lost.ensures
     ∙ ap (λ l. first_behind after.first (lost (names l) c.as_slice-2.result.now)) c.as_slice.ensures

@@ -39,7 +39,8 @@ lay_forked-loop-i-preserved g t c =
       laid = λ news new h.
           let Whole : List Statement → Type 0 = λ zs. AreForkedLaid target o zs here x news a new in
           let Others : Numbers → Type 0 = λ m. AreForkedLaid target o rest m y news b new in
-          c.loop-i.invariant.laid news new (subst Whole (sym split) (forked_more target o s rest here x y news a b new c.in_ok-lay_forked_by.ensures (subst Others next h)));
+          c.loop-i.invariant.laid news new
+          (subst Whole (sym split) (forked_more target o s rest here x y news a b new c.in_ok-lay_forked_by.ensures (subst Others next h)));
     }
 
 pub lay_forked-returns : goal.lay_forked-returns
@@ -49,7 +50,8 @@ lay_forked-returns g t c =
     let threads : List Thread = c.loop-i.threads.items in
     let nodes : List Node = c.loop-i.nodes.items in
     let Left : List Statement → Type 0 = λ zs. AreForkedLaid target c.args.owner zs here threads threads nodes nodes in
-    c.loop-i.invariant.laid threads nodes (subst Left (sym (drop_all c.loop-i.i c.args.statements.now c.loop-i-test.false)) (forked_none target c.args.owner here threads nodes))
+    c.loop-i.invariant.laid threads nodes
+    (subst Left (sym (drop_all c.loop-i.i c.args.statements.now c.loop-i-test.false)) (forked_none target c.args.owner here threads nodes))
 
 pub lay_forked_by-returns-in_ok-lay_forked-in-If : goal.lay_forked_by-returns-in_ok-lay_forked-in-If
 lay_forked_by-returns-in_ok-lay_forked-in-If g t c =
@@ -72,7 +74,8 @@ lay_forked_by-returns-in_ok-lay_forked-in-If g t c =
     ∙ ap (past (after 1 at)) (c.known_counts.ensures.counts ∙ ap counts_of_all c.as_slice-first.ensures) in
     let FirstAt : Numbers → Type 0 = λ k. AreForkedLaid target o a k x y l m in
     let FirstOf : List Statement → Type 0 = λ zs. AreForkedLaid target o zs c.after_a_node-inside.result x y l m in
-    let first : AreForkedLaid target o a (after 1 at) x y l m = subst FirstAt within (subst FirstOf c.as_slice-first.ensures c.in_ok-lay_forked-in-If.ensures) in
+    let first : AreForkedLaid target o a (after 1 at) x y l m = subst FirstAt within (subst FirstOf c.as_slice-first.ensures c.in_ok-lay_forked-in-If.ensures)
+    in
     let SecondAt : Numbers → Type 0 = λ k. AreForkedLaid target o b k y z m n in
     let SecondOf : List Statement → Type 0 = λ zs. AreForkedLaid target o zs c.past-further.result y z m n in
     ok_then c.lay_forked-in-If.result
@@ -117,10 +120,12 @@ lay_forked_by-loop-place-preserved g t c =
     let next : c.past_branch-here.result ≡ past_branch here (counts_of_all b) = c.past_branch-here.ensures ∙ ap (past_branch here) counted in
     let OneAt : Numbers → Type 0 = λ n. IsThreadLaid target (Some o) here.thread b n w x k l in
     let OneOf : List Statement → Type 0 = λ zs. IsThreadLaid target (Some o) here.thread zs c.inside-inside.result w x k l in
-    let one : IsThreadLaid target (Some o) here.thread b (inside here (counts_of_all b)) w x k l = subst OneAt inner (subst OneOf c.as_slice-body.ensures c.in_ok-lay_thread-in-Fork.ensures) in
+    let one : IsThreadLaid target (Some o) here.thread b (inside here (counts_of_all b)) w x k l = subst OneAt inner
+    (subst OneOf c.as_slice-body.ensures c.in_ok-lay_thread-in-Fork.ensures) in
     let NestedAt : Numbers → Type 0 = λ n. AreForkedLaid target here.thread b n x y l m in
     let NestedOf : List Statement → Type 0 = λ zs. AreForkedLaid target here.thread zs c.inside-inside.result x y l m in
-    let nested : AreForkedLaid target here.thread b (inside here (counts_of_all b)) x y l m = subst NestedAt inner (subst NestedOf c.as_slice-body.ensures c.in_ok-lay_forked-in-Fork.ensures) in
+    let nested : AreForkedLaid target here.thread b (inside here (counts_of_all b)) x y l m = subst NestedAt inner
+    (subst NestedOf c.as_slice-body.ensures c.in_ok-lay_forked-in-Fork.ensures) in
     let Fits : List (List Statement) → Type 0 = λ zs. HasBranchesRoom here zs in
     let Room : Numbers → Type 0 = λ n. HasBranchesRoom n rest in
     record {
@@ -128,7 +133,8 @@ lay_forked_by-loop-place-preserved g t c =
       laid = λ news new h.
           let Whole : List (List Statement) → Type 0 = λ zs. AreBranchesLaid target o zs here w news k new in
           let Others : Numbers → Type 0 = λ n. AreBranchesLaid target o rest n y news m new in
-          c.loop-place.invariant.laid news new (subst Whole (sym split) (branches_more target o b rest here w x y news k l m new one nested (subst Others next h)));
+          c.loop-place.invariant.laid news new
+          (subst Whole (sym split) (branches_more target o b rest here w x y news k l m new one nested (subst Others next h)));
     }
 
 pub lay_forked_by-known_counts-counts-requires-clause-tallied : goal.lay_forked_by-known_counts-counts-requires-clause-tallied

@@ -22,6 +22,7 @@ returns g c =
     let Behind : Counts → Way = λ k. leads.At (at.node + k.nodes) in
     let Laid : Counts → Type 0 = λ k. IsLaid target c.args.thread body at (Behind k) old middle in
     thread_laid target c.args.parent c.args.thread body at olds c.push.new.self.items old middle c.push-2.new.self.items
-    (c.in_ok-push.ensures.items ∙ ap Entered (c.target-entry.ensures ∙ ap target (c.way_of.ensures ∙ ap (λ k. way_in body at.node (Behind k)) c.known_counts.ensures.counts)))
+    (c.in_ok-push.ensures.items
+    ∙ ap Entered (c.target-entry.ensures ∙ ap target (c.way_of.ensures ∙ ap (λ k. way_in body at.node (Behind k)) c.known_counts.ensures.counts)))
     (subst Laid c.known_counts.ensures.counts c.in_ok-lay.ensures)
     c.in_ok-push-2.ensures.items

@@ -42,14 +42,17 @@ gather-loop-i-preserved t c =
       gathered = λ new h.
           let Whole : List Statement → Type 0 = λ zs. IsGathered zs here behind old new in
           let Others : Spot → Type 0 = λ m. IsGathered rest m behind middle new in
-          c.loop-i.invariant.gathered new (subst Whole (sym split) (gathered_more s rest here behind old middle new (subst One leads c.in_ok-gather_statement.ensures) (subst Others next h)));
+          c.loop-i.invariant.gathered new
+          (subst Whole (sym split) (gathered_more s rest here behind old middle new (subst One leads c.in_ok-gather_statement.ensures)
+          (subst Others next h)));
     }
 
 pub gather-returns : goal.gather-returns
 gather-returns t c =
     let labels : Noted = c.loop-i.labels in
     let Left : List Statement → Type 0 = λ zs. IsGathered zs c.loop-i.here c.args.behind.now labels labels in
-    c.loop-i.invariant.gathered labels (subst Left (sym (drop_all c.loop-i.i c.args.statements.now c.loop-i-test.false)) (gathered_none c.loop-i.here c.args.behind.now labels))
+    c.loop-i.invariant.gathered labels
+    (subst Left (sym (drop_all c.loop-i.i c.args.statements.now c.loop-i-test.false)) (gathered_none c.loop-i.here c.args.behind.now labels))
 
 pub gather_statement-returns-in_ok-gather-in-If : goal.gather_statement-returns-in_ok-gather-in-If
 gather_statement-returns-in_ok-gather-in-If t c =

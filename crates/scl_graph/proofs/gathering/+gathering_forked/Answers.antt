@@ -9,7 +9,7 @@ use Rattle.scl_graph.specs.Inside.Totals.{HasBranchesRoom, HasRoom, after, insid
 use Rattle.scl_graph.specs.Inside.Tallies.{fork_tally, tally_of}
 use Rattle.scl_graph.specs.Inside.Gathering.{AreBranchesGathered, AreForkedGathered, IsGathered, Noted}
 use Rattle.scl_graph.proofs.Laid.{ok_then, split_at}
-use Rattle.scl_graph.proofs.Gathered.{branches_gathered_more, branches_gathered_none, lower_fork, lower_if, lower_more, lower_none}
+use Rattle.scl_graph.proofs.GatheredBelow.{branches_gathered_more, branches_gathered_none, lower_fork, lower_if, lower_more, lower_none}
 use Rattle.scl_graph.proofs.SpotRooms.{spot_fork_room, spot_further_room, spot_room_more}
 use Rattle.scl_graph.proofs.Tallied.{branch_part, fork_is}
 use Rattle.scl_graph.proofs.gathering.+gathering_forked.Goals as goal
@@ -104,7 +104,8 @@ gather_forked_by-loop-place-preserved t c =
     subst OneEnd counted (subst OneAt inner (subst OneOf c.as_slice-body.ensures c.in_ok-gather-in-Fork.ensures)) in
     let NestedAt : Spot → Type 0 = λ m. AreForkedGathered b m x y in
     let NestedOf : List Statement → Type 0 = λ zs. AreForkedGathered zs c.inside-inside.result x y in
-    let nested : AreForkedGathered b (inside here (totals_of_all b)) x y = subst NestedAt inner (subst NestedOf c.as_slice-body.ensures c.in_ok-gather_forked-in-Fork.ensures) in
+    let nested : AreForkedGathered b (inside here (totals_of_all b)) x y = subst NestedAt inner
+    (subst NestedOf c.as_slice-body.ensures c.in_ok-gather_forked-in-Fork.ensures) in
     let Fits : List (List Statement) → Type 0 = λ zs. HasBranchesRoom here zs in
     let Room : Spot → Type 0 = λ m. HasBranchesRoom m rest in
     record {
@@ -120,7 +121,8 @@ gather_forked_by-returns-after-loop-place t c =
     let here : Spot = c.loop-place.here in
     let labels : Noted = c.loop-place.labels in
     let Left : List (List Statement) → Type 0 = λ zs. AreBranchesGathered zs here labels labels in
-    c.loop-place.invariant.gathered labels (subst Left (sym (drop_all c.loop-place.place c.as_slice-bodies.result.now c.loop-place-test.false)) (branches_gathered_none here labels))
+    c.loop-place.invariant.gathered labels (subst Left (sym (drop_all c.loop-place.place c.as_slice-bodies.result.now c.loop-place-test.false))
+    (branches_gathered_none here labels))
 
 pub gather_forked_by-known_totals-totals-requires-clause-tallied : goal.gather_forked_by-known_totals-totals-requires-clause-tallied
 gather_forked_by-known_totals-totals-requires-clause-tallied t c =

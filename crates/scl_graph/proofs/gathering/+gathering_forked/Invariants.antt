@@ -12,5 +12,6 @@ invariant-gather_forked-loop-i l = record {
 abbrev pub invariant-gather_forked_by-loop-place : goal.invariant-gather_forked_by-loop-place
 invariant-gather_forked_by-loop-place l = record {
   room : HasBranchesRoom l.here (drop l.place l.bodies);
-  gathered : (new : Noted) → AreBranchesGathered (drop l.place l.bodies) l.here l.labels new → AreForkedGathered (l.statement ∷ []) l.fn.at l.initial.labels new;
+  gathered : (new : Noted) → AreBranchesGathered (drop l.place l.bodies) l.here l.labels new
+      → AreForkedGathered (l.statement ∷ []) l.fn.at l.initial.labels new;
 }

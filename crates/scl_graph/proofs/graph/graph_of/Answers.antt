@@ -30,7 +30,8 @@ returns-in-Ok c =
     let fits : FitsTotals c.in-Some.totals = search rules in
     let Of : List Statement → Type 0 = λ b. IsResolved b (last_node c.in-Some.totals) labels table in
     let Last : Totals → Type 0 = λ t. IsResolved p.body (last_node t) labels table in
-    let resolved : IsResolved p.body (last_node (totals_of_all p.body)) labels table = subst Last is (subst Of c.as_slice-body.ensures c.in_ok-targets.ensures) in
+    let resolved : IsResolved p.body (last_node (totals_of_all p.body)) labels table = subst Last is (subst Of c.as_slice-body.ensures c.in_ok-targets.ensures)
+    in
     graph_is p labels table c.in-Ok.program resolved (subst FitsTotals is fits)
     (c.in-Ok.ensures
     ∙ ap (λ v. program_by (leads_by labels table) (numbered_of v c.as_slice-body.result.now)) c.as_slice-variables.ensures

@@ -46,7 +46,9 @@ lay-loop-i-preserved g t c =
       laid = λ new h.
           let Whole : List Statement → Type 0 = λ zs. IsLaid target c.args.owner zs here behind before new in
           let Others : Numbers → Type 0 = λ m. IsLaid target c.args.owner rest m behind middle new in
-          c.loop-i.invariant.laid new (subst Whole (sym split) (laid_more target c.args.owner s rest here behind before middle new (subst One leads c.in_ok-lay_statement.ensures) (subst Others next h)));
+          c.loop-i.invariant.laid new
+          (subst Whole (sym split) (laid_more target c.args.owner s rest here behind before middle new (subst One leads c.in_ok-lay_statement.ensures)
+          (subst Others next h)));
     }
 
 pub lay-returns : goal.lay-returns
@@ -54,7 +56,8 @@ lay-returns g t c =
     let target : Way → ℕ = g.T.Targets.target c.args.targets.now in
     let nodes : List Node = c.loop-i.nodes.items in
     let Left : List Statement → Type 0 = λ zs. IsLaid target c.args.owner zs c.loop-i.here c.args.behind.now nodes nodes in
-    c.loop-i.invariant.laid nodes (subst Left (sym (drop_all c.loop-i.i c.args.statements.now c.loop-i-test.false)) (laid_none target c.args.owner c.loop-i.here c.args.behind.now nodes))
+    c.loop-i.invariant.laid nodes
+    (subst Left (sym (drop_all c.loop-i.i c.args.statements.now c.loop-i-test.false)) (laid_none target c.args.owner c.loop-i.here c.args.behind.now nodes))
 
 pub lay_statement-returns-in_ok-lay-in-If : goal.lay_statement-returns-in_ok-lay-in-If
 lay_statement-returns-in_ok-lay-in-If g t c =
@@ -75,10 +78,12 @@ lay_statement-returns-in_ok-lay-in-If g t c =
     ∙ ap (past (after 1 at)) (c.known_counts.ensures.counts ∙ ap counts_of_all c.as_slice-first.ensures) in
     let to_first : c.target-then.result ≡ target (way_in a (1 + at.node) behind) =
     c.target-then.ensures
-    ∙ ap target (c.way_of.ensures ∙ ap (λ zs. way_in zs c.after_a_node-inside.result.node behind) c.as_slice-first.ensures ∙ ap (λ m. way_in a m.node behind) inside) in
+    ∙ ap target (c.way_of.ensures ∙ ap (λ zs. way_in zs c.after_a_node-inside.result.node behind) c.as_slice-first.ensures
+    ∙ ap (λ m. way_in a m.node behind) inside) in
     let to_second : c.target-other.result ≡ target (way_in b (1 + at.node + (counts_of_all a).nodes) behind) =
     c.target-other.ensures
-    ∙ ap target (c.way_of-in-If.ensures ∙ ap (λ zs. way_in zs c.past-further.result.node behind) c.as_slice-second.ensures ∙ ap (λ m. way_in b m.node behind) further) in
+    ∙ ap target (c.way_of-in-If.ensures ∙ ap (λ zs. way_in zs c.past-further.result.node behind) c.as_slice-second.ensures
+    ∙ ap (λ m. way_in b m.node behind) further) in
     let test : ℕ → ℕ → List Node = λ m n. old ++ node o (step.Cond (postorder c.in-If.test) m n) ∷ [] in
     let put : tested ≡ test (target (way_in a (1 + at.node) behind)) (target (way_in b (1 + at.node + (counts_of_all a).nodes) behind)) =
     c.in_ok-lay_test-in-If.ensures
@@ -93,7 +98,8 @@ lay_statement-returns-in_ok-lay-in-If g t c =
     ok_then c.lay-in-If.result
     (λ v. IsLaid target o c.as_slice-second.result.now c.past-further.result behind middle new)
     (λ v. IsLaid target o (s ∷ []) at behind old new)
-    (λ v h. laid_if target o s at behind old tested middle new c.in-If.test a b c.in-If.is put first (subst SecondAt further (subst SecondOf c.as_slice-second.ensures h)))
+    (λ v h. laid_if target o s at behind old tested middle new c.in-If.test a b c.in-If.is put first
+    (subst SecondAt further (subst SecondOf c.as_slice-second.ensures h)))
     c.lay-in-If.ensures
 
 pub lay_statement-returns-in_ok-forked-in-Fork : goal.lay_statement-returns-in_ok-forked-in-Fork
@@ -110,7 +116,8 @@ lay_statement-returns-in_ok-forked-in-Fork g t c =
     ok_then c.lay_fork.result
     (λ v. new ≡ put ks c.target-in-Fork.result)
     (λ v. IsLaid target o (c.args.statement.now ∷ []) at behind old new)
-    (λ v h. laid_fork target o c.args.statement.now at behind old new c.in-Fork.branches c.in-Fork.is (h ∙ ap (λ cs. put cs c.target-in-Fork.result) forked ∙ ap (put (children c.in-Fork.branches at.thread)) c.target-in-Fork.ensures))
+    (λ v h. laid_fork target o c.args.statement.now at behind old new c.in-Fork.branches c.in-Fork.is (h ∙ ap (λ cs. put cs c.target-in-Fork.result) forked
+    ∙ ap (put (children c.in-Fork.branches at.thread)) c.target-in-Fork.ensures))
     c.lay_fork.ensures
 
 pub lay_statement-children_of-requires-clause-small : goal.lay_statement-children_of-requires-clause-small

@@ -6,7 +6,7 @@ use Rattle.scl_graph.specs.declared.totals.Totals.{Totals}
 use Rattle.scl_graph.specs.Inside.Gathering.{AreForkedGathered, IsGathered, IsThreadGathered, Noted}
 use Rattle.scl_graph.specs.Inside.Resolving.{start}
 use Rattle.scl_graph.specs.Inside.Totals.{totals_of_all}
-use Rattle.scl_graph.proofs.Gathered.{thread_gathered}
+use Rattle.scl_graph.proofs.GatheredBelow.{thread_gathered}
 use Rattle.scl_graph.proofs.resolving.labels_of.Goals as goal
 
 pub returns : goal.returns

@@ -22,7 +22,8 @@ write_statements-loop-statement-preserved g t c =
     let Levels : List Statement → Type 0 = λ ys. HasLevels c.args.level (in_row (map part_of ys)) in
     record {
       levels = second_levels c.args.level (part_of s) (in_row (map part_of rest)) (subst Levels split c.loop-statement.invariant.levels);
-      written = λ new h. c.loop-statement.invariant.written new (written_as _ _ _ _ (sym (ap (λ ys. statements_text vs ys c.args.level) split)) (follows _ _ _ _ _ c.write_statement.ensures h));
+      written = λ new h. c.loop-statement.invariant.written new
+          (written_as _ _ _ _ (sym (ap (λ ys. statements_text vs ys c.args.level) split)) (follows _ _ _ _ _ c.write_statement.ensures h));
     }
 
 pub write_statements-returns : goal.write_statements-returns
@@ -46,7 +47,8 @@ write_statement-returns-in-If g t c =
     let level : ℕ = c.args.level in
     let a : List Statement = c.in-If.first in
     let b : List Statement = c.in-If.second in
-    let whole : statement_text vs c.args.statement.now level ≡ _ = ap (λ s. statement_text vs s level) c.in-If.is ∙ ap (λ f. f level) (text_of_if vs c.in-If.test a b) in
+    let whole : statement_text vs c.args.statement.now level ≡ _ = ap (λ s. statement_text vs s level) c.in-If.is
+    ∙ ap (λ f. f level) (text_of_if vs c.in-If.test a b) in
     let some : c.has_any.result ≡ has_any b = c.has_any.ensures ∙ ap has_any c.as_slice-in-If.ensures in
     written_as _ _ _ _ (sym whole)
     (follows _ _ _ _ _ c.write_test.ensures
@@ -84,7 +86,8 @@ write_statement-returns-after-loop-branch g t c =
     let level : ℕ = c.args.level in
     let items : List (List Statement) = c.as_slice-branch-items.result.now in
     let branches : List (List Statement) = c.in-Fork.branches in
-    let whole : statement_text vs c.args.statement.now level ≡ _ = ap (λ s. statement_text vs s level) c.in-Fork.is ∙ ap (λ f. f level) (text_of_fork vs branches) in
+    let whole : statement_text vs c.args.statement.now level ≡ _ = ap (λ s. statement_text vs s level) c.in-Fork.is
+    ∙ ap (λ f. f level) (text_of_fork vs branches) in
     let none : drop c.loop-branch.branch-index items ≡ [] = drop_all c.loop-branch.branch-index items c.loop-branch-test.false in
     written_as _ _ _ _ (sym whole)
     (follows _ _ _ _ _

@@ -1,8 +1,18 @@
+use Rattle.std.proofs.Common.{subst, sym}
 use Rattle.sct_command.proofs.States.{played, stopped}
+use Rattle.sct_command.specs.TellingStates.{HasStates}
 use Rattle.sct_command.proofs.run_with_states.run_with_states.Goals as goal
 
 pub returns-clause-done : goal.returns-clause-done
-returns-clause-done g c = played c.play_beside.result _ _ _ _ _ _ _ _ c.in_ok-image.ensures.loaded c.play_beside.ensures.done
+returns-clause-done g c = played c.play_beside.result _ _ _ _ _ _ _ _
+    (subst (λ i. HasStates (g.F.Files.contents c.args.files.now) c.args.name.now c.args.chart.now i c.get-2.result.now) (sym c.get.ensures)
+    (subst (HasStates (g.F.Files.contents c.args.files.now) c.args.name.now c.args.chart.now c.in_ok-image.image) (sym c.get-2.ensures)
+    c.in_ok-image.ensures.loaded))
+    c.play_beside.ensures.done
 
 pub returns-clause-refused : goal.returns-clause-refused
-returns-clause-refused g c = stopped c.play_beside.result _ _ _ _ _ _ _ _ c.in_ok-image.ensures.loaded c.play_beside.ensures.refused
+returns-clause-refused g c = stopped c.play_beside.result _ _ _ _ _ _ _ _
+    (subst (λ i. HasStates (g.F.Files.contents c.args.files.now) c.args.name.now c.args.chart.now i c.get-2.result.now) (sym c.get.ensures)
+    (subst (HasStates (g.F.Files.contents c.args.files.now) c.args.name.now c.args.chart.now c.in_ok-image.image) (sym c.get-2.ensures)
+    c.in_ok-image.ensures.loaded))
+    c.play_beside.ensures.refused

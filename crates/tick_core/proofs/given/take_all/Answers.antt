@@ -13,9 +13,11 @@ returns-then-is_given-clause-accepted c =
     let input = c.index-inputs-at.result in
     let is : slice_get c.args.inputs.now l.at ≡ Some input = slice_get_read _ _ _ _ refl c.loop-at-test.true c.index-inputs-at.is in
     let it : IsForAt p.variables input c.in-Some.place = subst (λ vs. IsForAt vs input c.in-Some.place) c.variables-variables.ensures c.in-Some.ensures in
-    let before : IsGiven l.values.items c.in-Some.place = subst (λ vs. IsGiven vs c.in-Some.place) c.deref.ensures.value (c.is_given.ensures.0 c.if-is_given.true) in (
+    let before : IsGiven l.values.items c.in-Some.place = subst (λ vs. IsGiven vs c.in-Some.place) c.deref.ensures.value
+    (c.is_given.ensures.0 c.if-is_given.true) in (
       λ no. absurd cc,
-      λ all. absurd (given_twice p c.requires.names c.args.inputs.now l.values.items l.at c.in-Some.place input before.value l.invariant.gives is it before.is all),
+      λ all. absurd (given_twice p c.requires.names c.args.inputs.now l.values.items l.at c.in-Some.place input before.value l.invariant.gives is it before.is
+          all),
     )
 
 pub loop-at-preserved : goal.loop-at-preserved
@@ -45,6 +47,7 @@ pub returns-clause-accepted : goal.returns-clause-accepted
 returns-clause-accepted c = (
   λ yes.
       accepted_from c.args.program.now c.args.inputs.now
-      (λ i a is. let within : i < length c.args.inputs.now = slice_get_within _ _ _ is in c.loop-at.invariant.accepted i a (omega (arith, c.loop-at-test.false)) is),
+      (λ i a is. let within : i < length c.args.inputs.now = slice_get_within _ _ _ is in
+      c.loop-at.invariant.accepted i a (omega (arith, c.loop-at-test.false)) is),
   λ all. refl,
 )

@@ -23,7 +23,8 @@ judge_steps-requires-clause-configuration c =
     let begins : BeginsTick p c.in_ok-reached.reached = search rules in
     let by : RunsBy p c.in_ok-reached.reached c.args.run.now c.replay.new.control c.in-Whole.steps.items =
     subst (ReplaysTo p c.in_ok-reached.reached c.args.run.now c.replay.new.control) c.in-Whole.is c.in_ok-at.ensures in
-    (reached_by p c.args.verified.now.tables c.in_ok-reached.reached c.image.ensures.valid begins c.args.run.now c.replay.new.control c.in-Whole.steps.items by).configuration
+    (reached_by p c.args.verified.now.tables c.in_ok-reached.reached c.image.ensures.valid begins c.args.run.now c.replay.new.control c.in-Whole.steps.items
+    by).configuration
 
 pub returns-in-Stopped-clause-judged : goal.returns-in-Stopped-clause-judged
 returns-in-Stopped-clause-judged c =

@@ -4,4 +4,5 @@ use Rattle.tick_core.proofs.sorting.sort_after.Goals as goal
 
 pub sort-requires-in-Some-clause-place : goal.sort-requires-in-Some-clause-place
 sort-requires-in-Some-clause-place c =
-    parent_in_range c.args.program.now (valid_formed c.args.program.now c.args.tables.now c.requires.valid) c.args.thread c.in-Some.parent (sym c.parent.ensures ∙ c.in-Some.is)
+    parent_in_range c.args.program.now (valid_formed c.args.program.now c.args.tables.now c.requires.valid) c.args.thread c.in-Some.parent
+    (sym c.parent.ensures ∙ c.in-Some.is)

@@ -4,6 +4,7 @@ use Rattle.tick_core.proofs.sorting.sort_all.Given as goal
 
 abbrev pub invariant-loop-thread : goal.invariant-loop-thread
 invariant-loop-thread l = record {
-  rest : sorted_all (ready_row l.program l.tables l.control l.claims) (drop l.thread-index l.threads) l.rows ≡ sorted_all (ready_row l.program l.tables l.control l.claims) l.threads l.initial.rows;
+  rest : sorted_all (ready_row l.program l.tables l.control l.claims) (drop l.thread-index l.threads) l.rows
+      ≡ sorted_all (ready_row l.program l.tables l.control l.claims) l.threads l.initial.rows;
   own : OwnRows l.program l.tables l.rows;
 }

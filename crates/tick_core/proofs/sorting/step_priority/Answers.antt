@@ -11,4 +11,5 @@ returns-then-left-eq0 c = λ p h.
 pub returns-else-left-eq0 : goal.returns-else-left-eq0
 returns-else-left-eq0 c = λ p h.
     waits_on c.left.result _ c.if-left-eq0.false
-    ∙ sym (waiting_row p c.args.tables.now c.args.control.now c.args.thread c.in-Waiting.join c.args.living.now h (sym c.status.ensures ∙ c.in-Waiting.is) c.left.result c.left.ensures)
+    ∙ sym (waiting_row p c.args.tables.now c.args.control.now c.args.thread c.in-Waiting.join c.args.living.now h (sym c.status.ensures ∙ c.in-Waiting.is)
+    c.left.result c.left.ensures)

@@ -12,9 +12,11 @@ loop-x-preserved c =
       long = ap length c.set.ensures ∙ (length-set _ _ _ ∙ l.invariant.long);
       started = λ inputs gives.
           let is : slice_get c.args.variables.now l.x ≡ Some variable = slice_get_read _ _ _ _ refl c.loop-x-test.true c.index-variables-x.is in
-          let started = c.started_value.ensures inputs (get_or_from_slice_get c.args.given.now l.x (given inputs variable.name) None (gives.each l.x variable is)) in
+          let started = c.started_value.ensures inputs
+          (get_or_from_slice_get c.args.given.now l.x (given inputs variable.name) None (gives.each l.x variable is)) in
           ap (λ ws. values_from inputs c.args.variables.now ws (l.x + 1)) c.set.ensures
           ∙ (value_more inputs c.args.variables.now l.values l.x variable _ _ is
-          (sym (ap (λ ws. slice_get ws l.x) c.as_slice.ensures) ∙ slice_get-get_or c.as_slice.result.now l.x _ (omega (arith, ap length c.as_slice.ensures, l.invariant.long, c.loop-x-test.true))) started
+          (sym (ap (λ ws. slice_get ws l.x) c.as_slice.ensures)
+          ∙ slice_get-get_or c.as_slice.result.now l.x _ (omega (arith, ap length c.as_slice.ensures, l.invariant.long, c.loop-x-test.true))) started
           ∙ l.invariant.started inputs gives);
     }

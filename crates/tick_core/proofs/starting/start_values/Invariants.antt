@@ -7,5 +7,6 @@ use Rattle.tick_core.proofs.starting.start_values.Given as goal
 abbrev pub invariant-loop-x : goal.invariant-loop-x
 invariant-loop-x l = record {
   long : length l.values ≡ length l.variables;
-  started : (inputs : Inputs) → Gives l.variables inputs l.given → values_from inputs l.variables l.values l.x ≡ values_at_start inputs l.variables l.initial.values;
+  started : (inputs : Inputs) → Gives l.variables inputs l.given → values_from inputs l.variables l.values l.x
+      ≡ values_at_start inputs l.variables l.initial.values;
 }

@@ -7,4 +7,5 @@ use Rattle.trace_lines.proofs.outputs.places_of.Given as goal
 -- what is left adds what is missing
 abbrev pub invariant-loop-place : goal.invariant-loop-place
 invariant-loop-place l =
-    (values : List Value) → length values ≡ length l.variables → with_outputs (drop l.place l.variables) (drop l.place values) (placed l.places.entries values) ≡ outputs_of l.variables values
+    (values : List Value) → length values ≡ length l.variables → with_outputs (drop l.place l.variables) (drop l.place values) (placed l.places.entries values)
+    ≡ outputs_of l.variables values

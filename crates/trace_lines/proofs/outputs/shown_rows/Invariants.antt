@@ -7,4 +7,5 @@ use Rattle.trace_lines.proofs.outputs.shown_rows.Given as goal
 -- what is left shows what is missing
 abbrev pub invariant-loop-name : goal.invariant-loop-name
 invariant-loop-name l =
-    (values : List Value) → rows_text l.rows.items values ++ members_text (has_rows l.rows.items) (placed l.name-iterator values) ≡ members_text false (placed l.places.entries values)
+    (values : List Value) → rows_text l.rows.items values ++ members_text (has_rows l.rows.items) (placed l.name-iterator values)
+    ≡ members_text false (placed l.places.entries values)

@@ -10,7 +10,9 @@ loop-n-init c =
 
 pub loop-n-preserved : goal.loop-n-preserved
 loop-n-preserved c =
-    stand_more c.args.program.now c.args.tables.now c.args.extreme c.args.nodes.now c.loop-n.chosen c.take_in.new.chosen c.loop-n.n-index c.loop-n-test.true c.loop-n.invariant c.in_ok-take_in.ensures
+    stand_more c.args.program.now c.args.tables.now c.args.extreme c.args.nodes.now c.loop-n.chosen c.take_in.new.chosen c.loop-n.n-index c.loop-n-test.true
+    c.loop-n.invariant c.in_ok-take_in.ensures
 
 pub returns : goal.returns
-returns c = stand_all c.args.program.now c.args.tables.now c.args.extreme c.args.nodes.now c.loop-n.chosen c.loop-n.n-index c.loop-n-test.false c.loop-n.invariant
+returns c = stand_all c.args.program.now c.args.tables.now c.args.extreme c.args.nodes.now c.loop-n.chosen c.loop-n.n-index c.loop-n-test.false
+    c.loop-n.invariant

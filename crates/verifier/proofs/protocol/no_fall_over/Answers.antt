@@ -5,10 +5,12 @@ use Rattle.verifier.proofs.Ordering.{falls_on, init_update_breaks, init_read_bre
 use Rattle.verifier.proofs.protocol.no_fall_over.Goals as goal
 
 pub returns-in-Some : goal.returns-in-Some
-returns-in-Some c = init_update_breaks c.args.program.now c.args.tables.now c.args.x c.args.inits.now c.args.updates.now c.requires.inits c.requires.updates c.in-Some.place c.in-Some.ensures
+returns-in-Some c = init_update_breaks c.args.program.now c.args.tables.now c.args.x c.args.inits.now c.args.updates.now c.requires.inits c.requires.updates
+    c.in-Some.place c.in-Some.ensures
 
 pub returns-in-Some-no_fall_by : goal.returns-in-Some-no_fall_by
-returns-in-Some-no_fall_by c = init_read_breaks c.args.program.now c.args.tables.now c.args.x c.args.inits.now c.args.reads.now c.requires.inits c.requires.reads c.in-Some-no_fall_by.place c.in-Some-no_fall_by.ensures
+returns-in-Some-no_fall_by c = init_read_breaks c.args.program.now c.args.tables.now c.args.x c.args.inits.now c.args.reads.now c.requires.inits
+    c.requires.reads c.in-Some-no_fall_by.place c.in-Some-no_fall_by.ensures
 
 pub returns : goal.returns
 returns c =
@@ -19,6 +21,7 @@ returns c =
     (FallsOn p q c.args.x)
     (NoFallBetween p q c.args.updates.now c.args.reads.now)
     (λ at. ¬ ProtocolAt p q at)
-    (λ h. falls_on p q c.args.x c.args.inits.now c.args.updates.now c.args.reads.now c.requires.inits c.requires.updates c.requires.reads c.in_default.ensures c.in_default-no_fall_by.ensures h)
+    (λ h. falls_on p q c.args.x c.args.inits.now c.args.updates.now c.args.reads.now c.requires.inits c.requires.updates c.requires.reads c.in_default.ensures
+    c.in_default-no_fall_by.ensures h)
     (λ at r. update_read_breaks p q c.args.x c.args.updates.now c.args.reads.now c.requires.updates c.requires.reads at r)
     c.no_fall_by-3.ensures

@@ -8,7 +8,8 @@ pub no_fall_over-requires-clause-extremes : goal.no_fall_over-requires-clause-ex
 no_fall_over-requires-clause-extremes c =
     let lt = c.loop-x-test.true in
     let count = c.variable_count-x-end.ensures in
-    stand_over c.args.program.now c.args.tables.now c.args.known.now.users c.args.known.now.extremes c.loop-x.x c.of-inits.result.now c.of-updates.result.now c.of-reads.result.now
+    stand_over c.args.program.now c.args.tables.now c.args.known.now.users c.args.known.now.extremes c.loop-x.x c.of-inits.result.now c.of-updates.result.now
+    c.of-reads.result.now
     c.requires.known.extremes (omega (arith, lt, count)) c.of-inits.ensures c.of-updates.ensures c.of-reads.ensures
 
 pub loop-x-preserved : goal.loop-x-preserved

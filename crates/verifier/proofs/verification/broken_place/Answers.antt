@@ -4,7 +4,8 @@ use Rattle.verifier.proofs.Lowest.{formed_from, sizes_from, codes_from}
 use Rattle.verifier.proofs.verification.broken_place.Goals as goal
 
 pub assignment_fault-requires-clause-codes : goal.assignment_fault-requires-clause-codes
-assignment_fault-requires-clause-codes c = codes_from c.args.program.now c.args.tables.now c.args.rule 34 (ap fault_number c.in-Assignment.is) (omega arith) c.requires.lower
+assignment_fault-requires-clause-codes c = codes_from c.args.program.now c.args.tables.now c.args.rule 34 (ap fault_number c.in-Assignment.is)
+    (omega arith) c.requires.lower
 
 pub no_conflict_fault-requires-clause-links : goal.no_conflict_fault-requires-clause-links
 no_conflict_fault-requires-clause-links c = record {
@@ -19,7 +20,8 @@ flow_fault-requires c = record {
 }
 
 pub protocol_fault-requires-clause-formed : goal.protocol_fault-requires-clause-formed
-protocol_fault-requires-clause-formed c = formed_from c.args.program.now c.args.tables.now c.args.rule 38 (ap fault_number c.in-Protocol.is) (omega arith) c.requires.lower
+protocol_fault-requires-clause-formed c = formed_from c.args.program.now c.args.tables.now c.args.rule 38 (ap fault_number c.in-Protocol.is)
+    (omega arith) c.requires.lower
 
 pub weight_fault-requires : goal.weight_fault-requires
 weight_fault-requires c = sizes_from c.args.program.now c.args.tables.now c.args.rule 39 (ap fault_number c.in-Weight.is) (omega arith) c.requires.lower

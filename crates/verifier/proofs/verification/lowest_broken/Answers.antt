@@ -1,9 +1,8 @@
-use Rattle.std.proofs.Common.{◌≡◌, ◌<◌, ◌≤◌, ◌+◌, arith, sym, subst, get_or, Option}
+use Rattle.std.proofs.Common.{◌≡◌, ◌<◌, ◌≤◌, ◌+◌, arith, sym, subst, get_or}
 use Rattle.sc_graph.specs.declared.place.Place.{Place}
 use Rattle.verifier.specs.declared.rule.Rule.{Rule}
 use Rattle.verifier.specs.declared.rule.Rule.TheVariants as rule
 use Rattle.verifier.specs.Verdict.{KeptAt, KeepsBelow}
-use Rattle.verifier.specs.Inside.Faults.{IsFault}
 use Rattle.verifier.proofs.Lowest.{rules_in_order, keeps_next, keeps_none, valid_from, number_of}
 use Rattle.verifier.proofs.verification.lowest_broken.Goals as goal
 
@@ -16,14 +15,12 @@ broken_place-requires-clause-lower c =
     let lt : i < 10 = c.loop-rule-test.true in
     subst (KeepsBelow c.args.program.now c.args.tables.now) (sym (number_of i rule.Size lt)) c.loop-rule.invariant
 
-pub returns-in-Some : goal.returns-in-Some
-returns-in-Some c =
+pub returns-in-Some-clause-found : goal.returns-in-Some-clause-found
+returns-in-Some-clause-found c =
     let i = c.loop-rule.rule-index in
     let lt : i < 10 = c.loop-rule-test.true in
-    let r : Rule = get_or rules_in_order i rule.Size in
-    let P : Option Place → Type 0 = IsFault (KeptAt r c.args.program.now c.args.tables.now) in
     record {
-      breaks = c.in-Some.ensures;
+      breaks = rw c.in-Some.is at c.in_ok-place.ensures.found;
       lower = subst (KeepsBelow c.args.program.now c.args.tables.now) (sym (number_of i rule.Size lt)) c.loop-rule.invariant;
     }
 
@@ -34,14 +31,13 @@ loop-rule-preserved c =
     let i = c.loop-rule.rule-index in
     let lt : i < 10 = c.loop-rule-test.true in
     let r : Rule = get_or rules_in_order i rule.Size in
-    let P : Option Place → Type 0 = IsFault (KeptAt r p q) in
-    let kept : (at : Place) → KeptAt r p q at = c.in_default.ensures in
+    let kept : (at : Place) → KeptAt r p q at = rw c.in-None.is at c.in_ok-place.ensures.found in
     let more : KeepsBelow p q (31 + i + 1) = keeps_next p q (31 + i) r (number_of i rule.Size lt) c.loop-rule.invariant kept in
     let same : 31 + i + 1 ≡ 31 + (i + 1) = omega arith in
     subst (KeepsBelow p q) same more
 
-pub returns : goal.returns
-returns c =
+pub returns-clause-found : goal.returns-clause-found
+returns-clause-found c =
     let p = c.args.program.now in
     let q = c.args.tables.now in
     let end : 10 ≤ c.loop-rule.rule-index = c.loop-rule-test.false in

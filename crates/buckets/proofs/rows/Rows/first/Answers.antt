@@ -1,6 +1,6 @@
-use Rattle.std.proofs.Common.{◌≡◌, ◌<◌, ◌≤◌, ◌∙◌, ap, ℕ, Option, subst, sym, slice_index}
+use Rattle.std.proofs.Common.{◌∙◌, ap, subst, sym, slice_index}
 use Rattle.std.specs.Prelude.{MatchOption}
-use Rattle.buckets.specs.Rows.{Rows, AreEmpty, IsBare, IsFirst, IsIn, IsGreatest}
+use Rattle.buckets.specs.Rows.{Rows, AreEmpty, IsBare, IsFirst, IsIn}
 use Rattle.buckets.proofs.Reading.{empty_is, greatest_is, first_is}
 use Rattle.buckets.proofs.rows.Rows.first.Goals as goal
 

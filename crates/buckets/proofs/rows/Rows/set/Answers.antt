@@ -1,5 +1,4 @@
-use Rattle.std.proofs.Common.{ap, ◌∙◌, sym, slice_get, Some, None}
-use Rattle.std.proofs.lemmas.List.{set-set}
+use Rattle.std.proofs.Common.{ap, ◌∙◌, slice_get, None}
 use Rattle.buckets.proofs.Lists.{get_set_same}
 use Rattle.buckets.proofs.Moving.{room_after, room_known, set_again}
 use Rattle.buckets.proofs.rows.Rows.set.Goals as goal
@@ -8,7 +7,8 @@ pub put_in-requires-clause-room : goal.put_in-requires-clause-room
 put_in-requires-clause-room c = room_after _ _ c.args.item c.in-Some.class c.take_out.ensures (rw c.in-Some.is at c.requires)
 
 pub put_in-requires-clause-nowhere : goal.put_in-requires-clause-nowhere
-put_in-requires-clause-nowhere c = ap (λ r. slice_get r.classes c.args.item) c.take_out.ensures ∙ get_set_same _ c.args.item None (room_known _ c.args.item c.args.class c.requires)
+put_in-requires-clause-nowhere c = ap (λ r. slice_get r.classes c.args.item) c.take_out.ensures
+    ∙ get_set_same _ c.args.item None (room_known _ c.args.item c.args.class c.requires)
 
 pub returns-in-Some : goal.returns-in-Some
 returns-in-Some c = set_again _ _ _ c.args.item c.in-Some.class c.args.class c.in-Some.is c.take_out.ensures c.put_in.ensures

@@ -1,58 +1,85 @@
-use Rattle.std.proofs.Common.{arith, rules, refl, ◌≡◌, ◌∙◌, ◌<◌, ◌≤◌, ◌+◌, ◌-◌, sym, ap, subst, List, Option, length, ℕ, slice_index, slice_get, Some, None}
+use Rattle.std.proofs.Common.{arith, ◌≡◌, ◌∙◌, ◌+◌, ◌-◌, ap, slice_index}
 use Rattle.std.proofs.lemmas.Grind.{get_or_default_zero}
-use Rattle.buckets.specs.Rows.{Rows, IsIn}
+use Rattle.buckets.specs.Rows.{IsIn}
 use Rattle.buckets.proofs.Classes.{stood_in}
-use Rattle.buckets.proofs.Moving.{has_left, stands_in, StandsIn}
+use Rattle.buckets.proofs.Leaving.{has_left, stands_in, StandsIn}
 use Rattle.buckets.proofs.rows.Rows.take_out.Goals as goal
 
 pub overflow_add-index : goal.overflow_add-index
 overflow_add-index c =
-    let is : IsIn c.self.inside.classes.items c.args.item c.in-Some.class = stood_in _ c.args.item c.index.result.now c.in-Some.class (rw (← c.self.view_is) at c.requires) c.index.ensures c.in-Some.is in
-    let it : StandsIn c.self.inside.classes.items c.self.inside.starts.items c.self.inside.counts.items c.self.inside.row.items c.self.inside.places.items c.args.item c.in-Some.class = stands_in _ _ _ _ _ _ _ _ c.self.invariant c.args.item c.in-Some.class is in
-    let start_is : c.index-3.result.now ≡ slice_index c.self.inside.starts.items c.in-Some.class = c.index-3.ensures ∙ get_or_default_zero c.self.inside.starts.items c.in-Some.class c.index-3.result.now it.start_there in
-    let count_is : c.index-2.result.now ≡ slice_index c.self.inside.counts.items c.in-Some.class = c.index-2.ensures ∙ get_or_default_zero c.self.inside.counts.items c.in-Some.class c.index-2.result.now it.count_there in
+    let is : IsIn c.self.inside.classes.items c.args.item c.in-Some.class = stood_in _ c.args.item c.index.result.now c.in-Some.class
+    (rw (← c.self.view_is) at c.requires) c.index.ensures c.in-Some.is in
+    let it : StandsIn c.self.inside.classes.items c.self.inside.starts.items c.self.inside.counts.items c.self.inside.row.items c.self.inside.places.items
+    c.args.item c.in-Some.class = stands_in _ _ _ _ _ _ _ _ c.self.invariant c.args.item c.in-Some.class is in
+    let start_is : c.index-3.result.now ≡ slice_index c.self.inside.starts.items c.in-Some.class = c.index-3.ensures
+    ∙ get_or_default_zero c.self.inside.starts.items c.in-Some.class c.index-3.result.now it.start_there in
+    let count_is : c.index-2.result.now ≡ slice_index c.self.inside.counts.items c.in-Some.class = c.index-2.ensures
+    ∙ get_or_default_zero c.self.inside.counts.items c.in-Some.class c.index-2.result.now it.count_there in
     omega (arith, it.last_place)
 
 pub index-last-requires : goal.index-last-requires
 index-last-requires c =
-    let is : IsIn c.self.inside.classes.items c.args.item c.in-Some.class = stood_in _ c.args.item c.index.result.now c.in-Some.class (rw (← c.self.view_is) at c.requires) c.index.ensures c.in-Some.is in
-    let it : StandsIn c.self.inside.classes.items c.self.inside.starts.items c.self.inside.counts.items c.self.inside.row.items c.self.inside.places.items c.args.item c.in-Some.class = stands_in _ _ _ _ _ _ _ _ c.self.invariant c.args.item c.in-Some.class is in
-    let start_is : c.index-3.result.now ≡ slice_index c.self.inside.starts.items c.in-Some.class = c.index-3.ensures ∙ get_or_default_zero c.self.inside.starts.items c.in-Some.class c.index-3.result.now it.start_there in
-    let count_is : c.index-2.result.now ≡ slice_index c.self.inside.counts.items c.in-Some.class = c.index-2.ensures ∙ get_or_default_zero c.self.inside.counts.items c.in-Some.class c.index-2.result.now it.count_there in
+    let is : IsIn c.self.inside.classes.items c.args.item c.in-Some.class = stood_in _ c.args.item c.index.result.now c.in-Some.class
+    (rw (← c.self.view_is) at c.requires) c.index.ensures c.in-Some.is in
+    let it : StandsIn c.self.inside.classes.items c.self.inside.starts.items c.self.inside.counts.items c.self.inside.row.items c.self.inside.places.items
+    c.args.item c.in-Some.class = stands_in _ _ _ _ _ _ _ _ c.self.invariant c.args.item c.in-Some.class is in
+    let start_is : c.index-3.result.now ≡ slice_index c.self.inside.starts.items c.in-Some.class = c.index-3.ensures
+    ∙ get_or_default_zero c.self.inside.starts.items c.in-Some.class c.index-3.result.now it.start_there in
+    let count_is : c.index-2.result.now ≡ slice_index c.self.inside.counts.items c.in-Some.class = c.index-2.ensures
+    ∙ get_or_default_zero c.self.inside.counts.items c.in-Some.class c.index-2.result.now it.count_there in
     omega (arith, it.last_place)
 
 pub index_mut-requires : goal.index_mut-requires
 index_mut-requires c =
-    let is : IsIn c.self.inside.classes.items c.args.item c.in-Some.class = stood_in _ c.args.item c.index.result.now c.in-Some.class (rw (← c.self.view_is) at c.requires) c.index.ensures c.in-Some.is in
-    let it : StandsIn c.self.inside.classes.items c.self.inside.starts.items c.self.inside.counts.items c.self.inside.row.items c.self.inside.places.items c.args.item c.in-Some.class = stands_in _ _ _ _ _ _ _ _ c.self.invariant c.args.item c.in-Some.class is in
-    let at_is : c.index-at.result.now ≡ slice_index c.self.inside.places.items c.args.item = c.index-at.ensures ∙ get_or_default_zero c.self.inside.places.items c.args.item c.index-at.result.now it.place_there in
+    let is : IsIn c.self.inside.classes.items c.args.item c.in-Some.class = stood_in _ c.args.item c.index.result.now c.in-Some.class
+    (rw (← c.self.view_is) at c.requires) c.index.ensures c.in-Some.is in
+    let it : StandsIn c.self.inside.classes.items c.self.inside.starts.items c.self.inside.counts.items c.self.inside.row.items c.self.inside.places.items
+    c.args.item c.in-Some.class = stands_in _ _ _ _ _ _ _ _ c.self.invariant c.args.item c.in-Some.class is in
+    let at_is : c.index-at.result.now ≡ slice_index c.self.inside.places.items c.args.item = c.index-at.ensures
+    ∙ get_or_default_zero c.self.inside.places.items c.args.item c.index-at.result.now it.place_there in
     omega (arith, it.place)
 
 pub index_mut-requires-2 : goal.index_mut-requires-2
 index_mut-requires-2 c =
-    let is : IsIn c.self.inside.classes.items c.args.item c.in-Some.class = stood_in _ c.args.item c.index.result.now c.in-Some.class (rw (← c.self.view_is) at c.requires) c.index.ensures c.in-Some.is in
-    let it : StandsIn c.self.inside.classes.items c.self.inside.starts.items c.self.inside.counts.items c.self.inside.row.items c.self.inside.places.items c.args.item c.in-Some.class = stands_in _ _ _ _ _ _ _ _ c.self.invariant c.args.item c.in-Some.class is in
-    let start_is : c.index-3.result.now ≡ slice_index c.self.inside.starts.items c.in-Some.class = c.index-3.ensures ∙ get_or_default_zero c.self.inside.starts.items c.in-Some.class c.index-3.result.now it.start_there in
-    let count_is : c.index-2.result.now ≡ slice_index c.self.inside.counts.items c.in-Some.class = c.index-2.ensures ∙ get_or_default_zero c.self.inside.counts.items c.in-Some.class c.index-2.result.now it.count_there in
-    let last_is : c.index-last.result.now ≡ slice_index c.self.inside.row.items (slice_index c.self.inside.starts.items c.in-Some.class + (c.index-2.result.now - 1)) =
-    c.index-last.ensures ∙ (get_or_default_zero c.self.inside.row.items (c.index-3.result.now + (c.index-2.result.now - 1)) c.index-last.result.now (omega (arith, it.last_place))
+    let is : IsIn c.self.inside.classes.items c.args.item c.in-Some.class = stood_in _ c.args.item c.index.result.now c.in-Some.class
+    (rw (← c.self.view_is) at c.requires) c.index.ensures c.in-Some.is in
+    let it : StandsIn c.self.inside.classes.items c.self.inside.starts.items c.self.inside.counts.items c.self.inside.row.items c.self.inside.places.items
+    c.args.item c.in-Some.class = stands_in _ _ _ _ _ _ _ _ c.self.invariant c.args.item c.in-Some.class is in
+    let start_is : c.index-3.result.now ≡ slice_index c.self.inside.starts.items c.in-Some.class = c.index-3.ensures
+    ∙ get_or_default_zero c.self.inside.starts.items c.in-Some.class c.index-3.result.now it.start_there in
+    let count_is : c.index-2.result.now ≡ slice_index c.self.inside.counts.items c.in-Some.class = c.index-2.ensures
+    ∙ get_or_default_zero c.self.inside.counts.items c.in-Some.class c.index-2.result.now it.count_there in
+    let last_is : c.index-last.result.now
+    ≡ slice_index c.self.inside.row.items (slice_index c.self.inside.starts.items c.in-Some.class + (c.index-2.result.now - 1)) =
+    c.index-last.ensures ∙ (get_or_default_zero c.self.inside.row.items (c.index-3.result.now + (c.index-2.result.now - 1)) c.index-last.result.now
+    (omega (arith, it.last_place))
     ∙ ap (λ n. slice_index c.self.inside.row.items (n + (c.index-2.result.now - 1))) start_is) in
     omega (arith, it.last_item, ap (λ n. slice_index c.self.inside.row.items (slice_index c.self.inside.starts.items c.in-Some.class + (n - 1))) count_is)
 
 pub index_mut-requires-3 : goal.index_mut-requires-3
 index_mut-requires-3 c =
-    let is : IsIn c.self.inside.classes.items c.args.item c.in-Some.class = stood_in _ c.args.item c.index.result.now c.in-Some.class (rw (← c.self.view_is) at c.requires) c.index.ensures c.in-Some.is in
-    let it : StandsIn c.self.inside.classes.items c.self.inside.starts.items c.self.inside.counts.items c.self.inside.row.items c.self.inside.places.items c.args.item c.in-Some.class = stands_in _ _ _ _ _ _ _ _ c.self.invariant c.args.item c.in-Some.class is in
+    let is : IsIn c.self.inside.classes.items c.args.item c.in-Some.class = stood_in _ c.args.item c.index.result.now c.in-Some.class
+    (rw (← c.self.view_is) at c.requires) c.index.ensures c.in-Some.is in
+    let it : StandsIn c.self.inside.classes.items c.self.inside.starts.items c.self.inside.counts.items c.self.inside.row.items c.self.inside.places.items
+    c.args.item c.in-Some.class = stands_in _ _ _ _ _ _ _ _ c.self.invariant c.args.item c.in-Some.class is in
     omega (arith, it.count_there)
 
 pub invariant_of-self : goal.invariant_of-self
 invariant_of-self c =
-    let is : IsIn c.self.inside.classes.items c.args.item c.in-Some.class = stood_in _ c.args.item c.index.result.now c.in-Some.class (rw (← c.self.view_is) at c.requires) c.index.ensures c.in-Some.is in
-    let it : StandsIn c.self.inside.classes.items c.self.inside.starts.items c.self.inside.counts.items c.self.inside.row.items c.self.inside.places.items c.args.item c.in-Some.class = stands_in _ _ _ _ _ _ _ _ c.self.invariant c.args.item c.in-Some.class is in
-    let start_is : c.index-3.result.now ≡ slice_index c.self.inside.starts.items c.in-Some.class = c.index-3.ensures ∙ get_or_default_zero c.self.inside.starts.items c.in-Some.class c.index-3.result.now it.start_there in
-    let count_is : c.index-2.result.now ≡ slice_index c.self.inside.counts.items c.in-Some.class = c.index-2.ensures ∙ get_or_default_zero c.self.inside.counts.items c.in-Some.class c.index-2.result.now it.count_there in
-    let at_is : c.index-at.result.now ≡ slice_index c.self.inside.places.items c.args.item = c.index-at.ensures ∙ get_or_default_zero c.self.inside.places.items c.args.item c.index-at.result.now it.place_there in
-    let last_is : c.index-last.result.now ≡ slice_index c.self.inside.row.items (slice_index c.self.inside.starts.items c.in-Some.class + (c.index-2.result.now - 1)) =
-    c.index-last.ensures ∙ (get_or_default_zero c.self.inside.row.items (c.index-3.result.now + (c.index-2.result.now - 1)) c.index-last.result.now (omega (arith, it.last_place))
+    let is : IsIn c.self.inside.classes.items c.args.item c.in-Some.class = stood_in _ c.args.item c.index.result.now c.in-Some.class
+    (rw (← c.self.view_is) at c.requires) c.index.ensures c.in-Some.is in
+    let it : StandsIn c.self.inside.classes.items c.self.inside.starts.items c.self.inside.counts.items c.self.inside.row.items c.self.inside.places.items
+    c.args.item c.in-Some.class = stands_in _ _ _ _ _ _ _ _ c.self.invariant c.args.item c.in-Some.class is in
+    let start_is : c.index-3.result.now ≡ slice_index c.self.inside.starts.items c.in-Some.class = c.index-3.ensures
+    ∙ get_or_default_zero c.self.inside.starts.items c.in-Some.class c.index-3.result.now it.start_there in
+    let count_is : c.index-2.result.now ≡ slice_index c.self.inside.counts.items c.in-Some.class = c.index-2.ensures
+    ∙ get_or_default_zero c.self.inside.counts.items c.in-Some.class c.index-2.result.now it.count_there in
+    let at_is : c.index-at.result.now ≡ slice_index c.self.inside.places.items c.args.item = c.index-at.ensures
+    ∙ get_or_default_zero c.self.inside.places.items c.args.item c.index-at.result.now it.place_there in
+    let last_is : c.index-last.result.now
+    ≡ slice_index c.self.inside.row.items (slice_index c.self.inside.starts.items c.in-Some.class + (c.index-2.result.now - 1)) =
+    c.index-last.ensures ∙ (get_or_default_zero c.self.inside.row.items (c.index-3.result.now + (c.index-2.result.now - 1)) c.index-last.result.now
+    (omega (arith, it.last_place))
     ∙ ap (λ n. slice_index c.self.inside.row.items (n + (c.index-2.result.now - 1))) start_is) in
-    has_left _ _ _ _ _ _ _ _ c.self.invariant c.args.item c.in-Some.class c.index-at.result.now (c.index-2.result.now - 1) c.index-last.result.now is at_is (ap (λ n. n - 1) count_is) last_is
+    has_left _ _ _ _ _ _ _ _ c.self.invariant c.args.item c.in-Some.class c.index-at.result.now (c.index-2.result.now - 1) c.index-last.result.now is at_is
+    (ap (λ n. n - 1) count_is) last_is

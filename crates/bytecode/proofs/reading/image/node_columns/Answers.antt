@@ -10,7 +10,8 @@ pub returns-in_err-row-clause-gives : goal.returns-in_err-row-clause-gives
 returns-in_err-row-clause-gives c =
     let p = err_from_is_err_and c.from_residual.result c.from_residual.ensures.1 in
     let front = node_rows c.loop.nodes c.loop.priorities c.loop.weights c.loop.end_bits in
-    rw (p.1, p.2) (ends (node_at c.args.version) c.in_err-row.field-0.0 front c.args.count c.loop.counter c.loop.rest.now (each_at (node_at c.args.version) c.args.count c.args.bytes.now) c.loop-test.true c.in_err-row.ensures c.loop.invariant.read)
+    rw (p.1, p.2) (ends (node_at c.args.version) c.in_err-row.field-0.0 front c.args.count c.loop.counter c.loop.rest.now
+    (each_at (node_at c.args.version) c.args.count c.args.bytes.now) c.loop-test.true c.in_err-row.ensures c.loop.invariant.read)
 
 pub loop-preserved : goal.loop-preserved
 loop-preserved c =
@@ -20,10 +21,12 @@ loop-preserved c =
     rw (c.in_ok-push.ensures.ok, c.in_ok-push-2.ensures.ok, c.in_ok-push-3.ensures.ok, c.in_ok-push-4.ensures.ok) (record {
       lengths = are_nodes_push c.loop.nodes c.loop.priorities c.loop.weights c.loop.end_bits c.loop.counter row k;
       read = rw (node_rows_push c.loop.nodes c.loop.priorities c.loop.weights c.loop.end_bits c.loop.counter row k)
-          (goes_on (node_at c.args.version) front c.args.count c.loop.counter c.loop.rest.now row c.in_ok-row.after.now (each_at (node_at c.args.version) c.args.count c.args.bytes.now) c.loop-test.true c.in_ok-row.ensures c.loop.invariant.read);
+          (goes_on (node_at c.args.version) front c.args.count c.loop.counter c.loop.rest.now row c.in_ok-row.after.now
+          (each_at (node_at c.args.version) c.args.count c.args.bytes.now) c.loop-test.true c.in_ok-row.ensures c.loop.invariant.read);
     })
 
 pub returns-clause-gives : goal.returns-clause-gives
 returns-clause-gives c =
     let front = node_rows c.loop.nodes c.loop.priorities c.loop.weights c.loop.end_bits in
-    is_done (node_at c.args.version) front c.args.count c.loop.counter c.loop.rest.now (each_at (node_at c.args.version) c.args.count c.args.bytes.now) c.loop-test.false c.loop.invariant.read
+    is_done (node_at c.args.version) front c.args.count c.loop.counter c.loop.rest.now (each_at (node_at c.args.version) c.args.count c.args.bytes.now)
+    c.loop-test.false c.loop.invariant.read

@@ -19,6 +19,7 @@ loop-n-preserved c =
     node_rows_more nodes q.priorities q.weights q.end_bits n row (omega arith) (omega arith) (omega arith) (omega arith)
     c.index-nodes-n.is c.priority.ensures c.weight.ensures c.end_bit.ensures in
     rw next (record {
-      written = c.in_ok-put_node.ensures.written ∙ ap (λ (bytes : List ℕ). bytes ++ node_bytes row) c.loop-n.invariant.written ∙ flat_map_more node_bytes c.args.out.now.items front row;
+      written = c.in_ok-put_node.ensures.written ∙ ap (λ (bytes : List ℕ). bytes ++ node_bytes row) c.loop-n.invariant.written
+          ∙ flat_map_more node_bytes c.args.out.now.items front row;
       fits = all_push (SayableNode 2) front row c.loop-n.invariant.fits c.in_ok-put_node.ensures.fits;
     })

@@ -18,6 +18,7 @@ loop-t-preserved c =
     let next : thread_rows (take (t + 1) threads) bounds ≡ front ++ row ∷ [] =
     thread_rows_more threads bounds t row (record { parent = None; entry = 0 }) (omega arith) (omega arith) refl c.bound.ensures in
     rw next (record {
-      written = c.in_ok-put_thread.ensures.written ∙ ap (λ (bytes : List ℕ). bytes ++ thread_bytes row) c.loop-t.invariant.written ∙ flat_map_more thread_bytes c.args.out.now.items front row;
+      written = c.in_ok-put_thread.ensures.written ∙ ap (λ (bytes : List ℕ). bytes ++ thread_bytes row) c.loop-t.invariant.written
+          ∙ flat_map_more thread_bytes c.args.out.now.items front row;
       fits = all_push SayableThread front row c.loop-t.invariant.fits c.in_ok-put_thread.ensures.fits;
     })

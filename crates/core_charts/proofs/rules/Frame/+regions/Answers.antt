@@ -1,4 +1,5 @@
-use Rattle.std.proofs.Common.{ℕ, suc, ◌≡◌, ◌≤◌, ◌-◌, IsTrue, IsFalse, List, map, slice_get, Some, true, false, length, count_by, subst, sym, ap, ◌∙◌, refl, rules, arith}
+use Rattle.std.proofs.Common.{ℕ, suc, ◌≡◌, ◌≤◌, ◌-◌, IsTrue, IsFalse, List, map, slice_get, Some, true, false, length, count_by, subst, sym, ap, ◌∙◌, refl}
+use Rattle.std.proofs.Common.{rules, arith}
 use Rattle.sc_text.specs.Parts.{IsNameIn, are_distinct}
 use Rattle.core_charts.specs.declared.region.State.{State}
 use Rattle.core_charts.specs.declared.region.Transition.{Transition}
@@ -42,7 +43,8 @@ is_region-returns t c =
     let e : c.as_slice-states.result.now ≡ (out-Region c.args.region.now).states = c.as_slice-states.ensures in
     let one : c.initial_count.result ≡ 1 = omega (arith, c.if-initial_count-ne1.false) in
     let names : c.are_distinct.result ≡ are_distinct (map (λ s. (out-State s).name) (out-Region c.args.region.now).states) =
-    c.are_distinct.ensures ∙ (ap are_distinct (c.deref.ensures.value ∙ c.in_ok-state_names.ensures) ∙ ap (λ xs. are_distinct (map (λ s. (out-State s).name) xs)) e) in (
+    c.are_distinct.ensures
+    ∙ (ap are_distinct (c.deref.ensures.value ∙ c.in_ok-state_names.ensures) ∙ ap (λ xs. are_distinct (map (λ s. (out-State s).name) xs)) e) in (
       λ yes. record {
         named = subst (λ l. IsNameIn l (out-Region c.args.region.now).name) c.language.ensures (c.takes_name.ensures.0 c.if-not-takes_name.false);
         state_count =
@@ -51,12 +53,14 @@ is_region-returns t c =
         one_initial = subst (λ xs. count_by (λ s. (out-State s).is_initial) xs ≡ 1) e (sym c.initial_count.ensures ∙ one);
         distinct = subst (λ b. IsTrue b) names c.if-not-are_distinct.false;
         states = λ i s at.
-            subst (λ xs. IsState c.args.self.features c.args.self.variables.now (AreRegions c.args.self.features c.args.self.variables.now c.args.levels) (length xs) s) e
+            subst (λ xs. IsState c.args.self.features c.args.self.variables.now (AreRegions c.args.self.features c.args.self.variables.now c.args.levels)
+            (length xs) s) e
             (c.in_ok-all_keep.ensures.0 yes i s (ap (λ xs. slice_get xs i) e ∙ at));
       },
       λ is.
           c.in_ok-all_keep.ensures.1 (λ i s at.
-          subst (λ xs. IsState c.args.self.features c.args.self.variables.now (AreRegions c.args.self.features c.args.self.variables.now c.args.levels) (length xs) s) (sym e)
+          subst (λ xs. IsState c.args.self.features c.args.self.variables.now (AreRegions c.args.self.features c.args.self.variables.now c.args.levels)
+          (length xs) s) (sym e)
           (is.states i s (sym (ap (λ xs. slice_get xs i) e) ∙ at))),
     )
 

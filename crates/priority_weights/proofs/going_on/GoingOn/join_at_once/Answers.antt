@@ -16,4 +16,5 @@ returns-else-entry_bits c =
     let p = c.args.self.now.program.now in
     let e = bits (slice_index c.args.self.now.ends.now) in
     let P : List ℕ → Type 0 = λ xs. c.entry_bits.result ≡ entry_bits p e xs in
-    no_join_told p e c.args.step.now c.in-Fork.children c.in-Fork.join c.in-Fork.is (sym (subst P c.as_slice.ensures c.entry_bits.ensures) ∙ c.if-entry_bits.false)
+    no_join_told p e c.args.step.now c.in-Fork.children c.in-Fork.join c.in-Fork.is (sym (subst P c.as_slice.ensures c.entry_bits.ensures)
+    ∙ c.if-entry_bits.false)

@@ -6,4 +6,5 @@ use Rattle.priority_weights.proofs.going_on.GoingOnGraph.strictly_towards.Goals 
 
 pub returns : goal.returns
 returns c =
-    on_strictly c.args.self.now.program.now (slice_index c.args.self.now.ends.now) (IsNext c.next.result) c.args.ranks.now c.args.node 4294967296 c.ranked_next.result (λ n. let fits = c.type_inv.ranks n in omega (arith, fits)) c.next.ensures c.ranked_next.ensures
+    on_strictly c.args.self.now.program.now (slice_index c.args.self.now.ends.now) (IsNext c.next.result) c.args.ranks.now c.args.node 4294967296
+    c.ranked_next.result (λ n. let fits = c.type_inv.ranks n in omega (arith, fits)) c.next.ensures c.ranked_next.ensures

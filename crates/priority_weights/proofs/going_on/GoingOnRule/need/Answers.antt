@@ -5,4 +5,5 @@ use Rattle.priority_weights.proofs.going_on.GoingOnRule.need.Goals as goal
 
 pub returns : goal.returns
 returns c =
-    on_needed c.args.self.now.program.now (slice_index c.args.self.now.ends.now) (IsNext c.next.result) c.args.table.now c.args.place c.asked_by_next.result c.requires c.next.ensures c.asked_by_next.ensures
+    on_needed c.args.self.now.program.now (slice_index c.args.self.now.ends.now) (IsNext c.next.result) c.args.table.now c.args.place c.asked_by_next.result
+    c.requires c.next.ensures c.asked_by_next.ensures

@@ -13,6 +13,8 @@ returns c =
     let ranks = c.args.ranks.now in
     let m = c.args.node in
     let r = c.ranked_behind.result in
-    let P : Program → Type 0 = λ q. MatchOption r ((n : ℕ) → ProtocolEdge q m n → ¬ IsRanked ranks 4294967296 n) (λ n. ProtocolEdge q m n × IsRanked ranks 4294967296 n) in
+    let P : Program → Type 0 = λ q. MatchOption r ((n : ℕ) → ProtocolEdge q m n → ¬ IsRanked ranks 4294967296 n)
+    (λ n. ProtocolEdge q m n × IsRanked ranks 4294967296 n) in
     let R : Program → Type 0 = λ q. MatchOption r ((n : ℕ) → ¬ LeadsStrictlyTo (InOrder q) ranks m n) (LeadsStrictlyTo (InOrder q) ranks m) in
-    subst R c.self.view_is (order_strictly p ranks m 4294967296 r (λ n. let fits = c.type_inv.ranks n in omega (arith, fits)) (subst P c.self.invariant.edges_of c.ranked_behind.ensures))
+    subst R c.self.view_is (order_strictly p ranks m 4294967296 r (λ n. let fits = c.type_inv.ranks n in omega (arith, fits))
+    (subst P c.self.invariant.edges_of c.ranked_behind.ensures))

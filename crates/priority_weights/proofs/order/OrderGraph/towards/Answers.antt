@@ -22,6 +22,7 @@ returns-in-None c =
     let below = c.args.below in
     let r = c.ranked_behind.result in
     let none = rw c.in-None.is at c.ranked_instant.ensures in
-    let P : Program → Type 0 = λ q. MatchOption r ((n : ℕ) → ProtocolEdge q m n → ¬ IsRanked ranks below n) (λ n. ProtocolEdge q m n × IsRanked ranks below n) in
+    let P : Program → Type 0 = λ q. MatchOption r ((n : ℕ) → ProtocolEdge q m n → ¬ IsRanked ranks below n) (λ n. ProtocolEdge q m n × IsRanked ranks below n)
+    in
     let R : Program → Type 0 = λ q. MatchOption r ((n : ℕ) → ¬ LeadsTo (InOrder q) ranks m below n) (LeadsTo (InOrder q) ranks m below) in
     subst R c.self.view_is (order_towards p ranks m below r none (subst P c.self.invariant.edges_of c.ranked_behind.ensures))

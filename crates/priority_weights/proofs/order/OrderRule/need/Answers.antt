@@ -18,4 +18,5 @@ returns c =
     let R : Program → Type 0 = λ q. IsNeeded (Falls (InOrder q)) table m c.max.result in
     subst R c.self.view_is
     (subst Q (sym c.max.ensures)
-    (order_needed p table m c.asked_by_instants.result c.asked_by_protocol.result c.requires c.asked_by_instants.ensures (subst P c.self.invariant.edges_of c.asked_by_protocol.ensures)))
+    (order_needed p table m c.asked_by_instants.result c.asked_by_protocol.result c.requires c.asked_by_instants.ensures
+    (subst P c.self.invariant.edges_of c.asked_by_protocol.ensures)))

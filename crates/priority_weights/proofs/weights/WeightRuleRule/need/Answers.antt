@@ -15,4 +15,5 @@ returns-in-Some c =
     let p = c.self.inside.program.now in
     let P : (Program × List ℕ) → Type 0 = λ v. IsNeeded (WeightKept v.0 (bits (slice_index v.1))) c.args.table.now c.args.place c.step_weight.result in
     subst P c.self.view_is
-    (weight_needed p (bits (slice_index c.self.inside.ends.now)) c.args.table.now c.args.place c.step_weight.result c.in-Some.step.now c.requires (sym c.in-Some.ensures) c.step_weight.ensures)
+    (weight_needed p (bits (slice_index c.self.inside.ends.now)) c.args.table.now c.args.place c.step_weight.result c.in-Some.step.now c.requires
+    (sym c.in-Some.ensures) c.step_weight.ensures)

@@ -10,7 +10,8 @@ loop-preserved c = (
       let more : length (c.loop.lists.items ++ c.new.result ∷ []) ≡ length c.loop.lists.items + 1 = length-append c.loop.lists.items (c.new.result ∷ []) in
       subst P (sym c.in_ok-push.ensures.items) (omega (arith, more, count)),
   λ x. let P : List (Vec ℕ Global) → Type 0 = λ items. get_or (map (λ v. v.items) items) x [] ≡ [] in
-      subst P (sym c.in_ok-push.ensures.items) (empty_more (λ (v : Vec ℕ Global). v.items) c.loop.lists.items c.new.result c.new.ensures.items c.loop.invariant.1 x),
+      subst P (sym c.in_ok-push.ensures.items)
+      (empty_more (λ (v : Vec ℕ Global). v.items) c.loop.lists.items c.new.result c.new.ensures.items c.loop.invariant.1 x),
 )
 
 pub returns : goal.returns
@@ -18,4 +19,5 @@ returns c =
     let end : c.args.count ≤ c.loop.counter = c.loop-test.false in
     let below : c.loop.counter ≤ c.args.count = c.loop.auto.counter-end in
     let all : c.loop.counter ≡ c.args.count = omega (arith, end, below) in
-    unused_from (map (λ (v : Vec ℕ Global). v.items) c.loop.lists.items) c.args.count (length-map c.loop.lists.items (λ (v : Vec ℕ Global). v.items) ∙ c.loop.invariant.0 ∙ all) c.loop.invariant.1
+    unused_from (map (λ (v : Vec ℕ Global). v.items) c.loop.lists.items) c.args.count (length-map c.loop.lists.items (λ (v : Vec ℕ Global). v.items)
+    ∙ c.loop.invariant.0 ∙ all) c.loop.invariant.1

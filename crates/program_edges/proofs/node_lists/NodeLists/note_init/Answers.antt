@@ -8,5 +8,6 @@ returns-in-Some-Assign c =
     on_ok c.note.result
     (Gains c.args.self.now c.note.new.self c.args.n (λ y. y ≡ c.in-Some-Assign.variable))
     (Gains c.args.self.now c.note.new.self c.args.n (λ y. InitsAt c.args.program.now y c.args.n))
-    (gains_init c.args.program.now c.args.self.now c.note.new.self c.args.n c.in-Some-Assign.variable c.in-Some-Assign.field-0-2 c.in-Some-Assign.field-0-1 (sym c.in-Some-Assign.ensures ∙ ap Some c.in-Some-Assign.field-0-is))
+    (gains_init c.args.program.now c.args.self.now c.note.new.self c.args.n c.in-Some-Assign.variable c.in-Some-Assign.field-0-2 c.in-Some-Assign.field-0-1
+    (sym c.in-Some-Assign.ensures ∙ ap Some c.in-Some-Assign.field-0-is))
     c.note.ensures

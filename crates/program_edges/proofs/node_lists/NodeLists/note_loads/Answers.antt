@@ -9,7 +9,8 @@ use Rattle.program_edges.proofs.node_lists.NodeLists.note_loads.Goals as goal
 pub loop-operation-preserved : goal.loop-operation-preserved
 loop-operation-preserved c =
     λ new g. c.loop-operation.invariant new
-    (gains_load c.loop-operation.self c.note_load.new.self new c.args.n c.operations-operation-items.result.now c.loop-operation.operation-index _ c.loop-operation-test.true c.operation-item.is c.in_ok-note_load.ensures g)
+    (gains_load c.loop-operation.self c.note_load.new.self new c.args.n c.operations-operation-items.result.now c.loop-operation.operation-index _
+    c.loop-operation-test.true c.operation-item.is c.in_ok-note_load.ensures g)
 
 pub returns : goal.returns
 returns c =

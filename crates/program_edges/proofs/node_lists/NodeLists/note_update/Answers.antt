@@ -8,5 +8,6 @@ returns-in-Some-Update c =
     on_ok c.note.result
     (Gains c.args.self.now c.note.new.self c.args.n (λ y. y ≡ c.in-Some-Update.variable))
     (Gains c.args.self.now c.note.new.self c.args.n (λ y. UpdatesAt c.args.program.now y c.args.n))
-    (gains_update c.args.program.now c.args.self.now c.note.new.self c.args.n c.in-Some-Update.variable c.in-Some-Update.field-0-3 c.in-Some-Update.field-0-1 c.in-Some-Update.field-0-2 (sym c.in-Some-Update.ensures ∙ ap Some c.in-Some-Update.field-0-is))
+    (gains_update c.args.program.now c.args.self.now c.note.new.self c.args.n c.in-Some-Update.variable c.in-Some-Update.field-0-3 c.in-Some-Update.field-0-1
+    c.in-Some-Update.field-0-2 (sym c.in-Some-Update.ensures ∙ ap Some c.in-Some-Update.field-0-is))
     c.note.ensures

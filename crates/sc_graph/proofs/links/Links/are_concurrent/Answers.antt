@@ -19,11 +19,13 @@ returns-in-Some c =
         forking = place.0;
         apart = forks_apart p c.requires.formed c.args.first c.args.second c.in-Some.left c.in-Some.right place.0 place.1 (c.have_one_fork.ensures.0 yes);
       },
-      λ x. c.have_one_fork.ensures.1 (one_fork_apart p c.requires.formed c.args.first c.args.second c.in-Some.left c.in-Some.right place.0 x.forking x.apart place.1),
+      λ x. c.have_one_fork.ensures.1
+          (one_fork_apart p c.requires.formed c.args.first c.args.second c.in-Some.left c.in-Some.right place.0 x.forking x.apart place.1),
     )
 
 pub returns-in-None : goal.returns-in-None
 returns-in-None c = (
   λ yes. absurd (cc yes),
-  λ x. absurd (c.in-None.ensures x.apart.left x.apart.right x.forking (parts c.args.program.now c.requires.formed c.args.first c.args.second x.forking x.apart)),
+  λ x. absurd (c.in-None.ensures x.apart.left x.apart.right x.forking
+      (parts c.args.program.now c.requires.formed c.args.first c.args.second x.forking x.apart)),
 )

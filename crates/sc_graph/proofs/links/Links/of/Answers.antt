@@ -19,10 +19,12 @@ loop-node-preserved c =
     elim c.match-step.branch [
       | in-Some w ↦
           (let e : c.match-step.links ≡ after_step w.in-Some.step.now n c.loop-node.links = w.links-is ∙ w.note.ensures in
-          subst (λ (l : Links). TellsBelow p l (n + 1)) (sym e) (tells_more p c.loop-node.links n w.in-Some.step.now (sym w.in-Some.ensures) c.loop-node.invariant))
+          subst (λ (l : Links). TellsBelow p l (n + 1)) (sym e)
+          (tells_more p c.loop-node.links n w.in-Some.step.now (sym w.in-Some.ensures) c.loop-node.invariant))
       | in-None w ↦
           (let none = w.in-None.ensures in
-          subst (λ (l : Links). TellsBelow p l (n + 1)) (sym w.links-is) (unlinked p c.loop-node.links n (λ ks j e. cc (e, none)) (λ d e. cc (e, none)) c.loop-node.invariant))
+          subst (λ (l : Links). TellsBelow p l (n + 1)) (sym w.links-is)
+          (unlinked p c.loop-node.links n (λ ks j e. cc (e, none)) (λ d e. cc (e, none)) c.loop-node.invariant))
     ]
 
 pub returns : goal.returns

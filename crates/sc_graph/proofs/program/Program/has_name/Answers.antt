@@ -6,7 +6,13 @@ use Rattle.sc_graph.proofs.program.Program.has_name.Goals as goal
 
 pub returns-in-Some : goal.returns-in-Some
 returns-in-Some c =
-    let at : slice_get c.args.self.now.variables c.args.variable ≡ Some c.in-Some.found.now = grind (arith, common_steps, gets, c.in-Some.ensures.lookup, c.variables.ensures) in
+    let at : slice_get c.args.self.now.variables c.args.variable ≡ Some c.in-Some.found.now = grind (
+      arith,
+      common_steps,
+      gets,
+      c.in-Some.ensures.lookup,
+      c.variables.ensures,
+    ) in
     name_decides c.args.self.now c.args.variable c.in-Some.found.now c.args.name.now c.eq.result at c.eq.ensures
 
 pub returns-in-None : goal.returns-in-None

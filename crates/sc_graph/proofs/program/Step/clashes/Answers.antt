@@ -5,7 +5,8 @@ use Rattle.sc_graph.proofs.program.Step.clashes.Goals as goal
 pub returns-then-x-y : goal.returns-then-x-y
 returns-then-x-y c =
     let w = c.in-Assign-Assign in
-    clash_inits c.args.self.now c.args.other.now w.x w.y w.next-0 w.next-1 w.a w.b c.are_one_literal.result w.is-0 w.is-1 c.if-x-y.true c.are_one_literal.ensures
+    clash_inits c.args.self.now c.args.other.now w.x w.y w.next-0 w.next-1 w.a w.b c.are_one_literal.result w.is-0 w.is-1 c.if-x-y.true
+    c.are_one_literal.ensures
 
 pub returns-then-u-v : goal.returns-then-u-v
 returns-then-u-v c =

@@ -16,7 +16,8 @@ loop-operation-init c = rw c.new-operands.ensures (gathers_none_yet _ _)
 pub loop-operation-preserved : goal.loop-operation-preserved
 loop-operation-preserved c =
     elim c.match-loaded_value.branch [
-      | in-Some w ↦ rw (w.operands-is, w.push.ensures) (gathers_some _ _ _ _ _ c.loop-operation-test.true c.operation-item.is w.in-Some.value w.in-Some.ensures c.loop-operation.invariant)
+      | in-Some w ↦ rw (w.operands-is, w.push.ensures)
+          (gathers_some _ _ _ _ _ c.loop-operation-test.true c.operation-item.is w.in-Some.value w.in-Some.ensures c.loop-operation.invariant)
       | in_default w ↦ rw w.operands-is (gathers_none _ _ _ _ _ c.loop-operation-test.true c.operation-item.is w.in_default.ensures c.loop-operation.invariant)
     ]
 

@@ -10,7 +10,8 @@ returns-in-Some c =
       λ e. concurrent_by c.args.program.now c.args.steps.now c.args.first c.args.second s t two c.in-Some.forking c.in-Some.ensures.apart
           (λ takes. not_true c.takes_between.result e (c.takes_between.ensures.1 takes)),
       λ both. not_from c.takes_between.result
-          (λ e. none_between c.args.program.now c.args.steps.now c.args.first c.args.second s t two c.requires.formed c.in-Some.forking c.in-Some.ensures.apart both (c.takes_between.ensures.0 e)),
+          (λ e. none_between c.args.program.now c.args.steps.now c.args.first c.args.second s t two c.requires.formed c.in-Some.forking c.in-Some.ensures.apart
+          both (c.takes_between.ensures.0 e)),
     )
 
 pub returns-in-None : goal.returns-in-None

@@ -9,12 +9,14 @@ pub returns-then-is_forbidden : goal.returns-then-is_forbidden
 returns-then-is_forbidden c =
     record {
       is = c.is_forbidden.ensures.0 c.if-is_forbidden.true;
-      least = least_from (λ h. IsForbidden (ForkedApart c.args.program.now) (acts_at c.args.program.now c.args.steps.now) h c.args.second) c.loop-first.first c.loop-first.invariant;
+      least = least_from (λ h. IsForbidden (ForkedApart c.args.program.now) (acts_at c.args.program.now c.args.steps.now) h c.args.second) c.loop-first.first
+          c.loop-first.invariant;
     }
 
 pub loop-first-preserved : goal.loop-first-preserved
 loop-first-preserved c =
-    none_more (λ h. IsForbidden (ForkedApart c.args.program.now) (acts_at c.args.program.now c.args.steps.now) h c.args.second) c.loop-first.first c.loop-first.invariant
+    none_more (λ h. IsForbidden (ForkedApart c.args.program.now) (acts_at c.args.program.now c.args.steps.now) h c.args.second) c.loop-first.first
+    c.loop-first.invariant
     (λ f. let refused : c.is_forbidden.result ≡ true = c.is_forbidden.ensures.1 f in let other = c.if-is_forbidden.false in absurd (cc))
 
 pub returns : goal.returns

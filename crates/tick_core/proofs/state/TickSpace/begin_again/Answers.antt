@@ -12,38 +12,43 @@ use Rattle.tick_core.proofs.state.TickSpace.begin_again.Goals as goal
 pub copy_into-requires-clause-values : goal.copy_into-requires-clause-values
 copy_into-requires-clause-values c =
     let begins : BeginsTick c.self.inside.verified.now.program c.args.begun = subst (λ i. BeginsTick i.program c.args.begun) (sym c.self.view_is) c.requires in
-    c.self.invariant.7.values ∙ sym (begins_configuration c.self.inside.verified.now c.args.begun c.image-image.ensures.valid begins).values
+    c.self.invariant.spare.values ∙ sym (begins_configuration c.self.inside.verified.now c.args.begun c.image-image.ensures.valid begins).values
 
 pub copy_into-requires-clause-statuses : goal.copy_into-requires-clause-statuses
 copy_into-requires-clause-statuses c =
     let begins : BeginsTick c.self.inside.verified.now.program c.args.begun = subst (λ i. BeginsTick i.program c.args.begun) (sym c.self.view_is) c.requires in
-    c.self.invariant.7.statuses ∙ sym (begins_configuration c.self.inside.verified.now c.args.begun c.image-image.ensures.valid begins).threads
+    c.self.invariant.spare.statuses ∙ sym (begins_configuration c.self.inside.verified.now c.args.begun c.image-image.ensures.valid begins).threads
 
 pub sort_every-requires-clause-valid : goal.sort_every-requires-clause-valid
 sort_every-requires-clause-valid c =
     subst (λ p. IsValid p c.tables.result.now) (sym (c.program-program.ensures ∙ ap (λ i. i.program) c.image-image.ensures.value))
-    (subst (IsValid c.self.inside.verified.now.program) (sym (c.tables.ensures.value ∙ ap (λ i. i.tables) c.image-image.ensures.value)) c.image-image.ensures.valid)
+    (subst (IsValid c.self.inside.verified.now.program) (sym (c.tables.ensures.value ∙ ap (λ i. i.tables) c.image-image.ensures.value))
+    c.image-image.ensures.valid)
 
 pub sort_every-requires-clause-configuration : goal.sort_every-requires-clause-configuration
 sort_every-requires-clause-configuration c =
     let begins : BeginsTick c.self.inside.verified.now.program c.args.begun = subst (λ i. BeginsTick i.program c.args.begun) (sym c.self.view_is) c.requires in
     subst (λ p. IsConfiguration p c.copy_into.new.to) (sym (c.program-program.ensures ∙ ap (λ i. i.program) c.image-image.ensures.value))
-    (subst (IsConfiguration c.self.inside.verified.now.program) (sym c.copy_into.ensures) (begins_configuration c.self.inside.verified.now c.args.begun c.image-image.ensures.valid begins))
+    (subst (IsConfiguration c.self.inside.verified.now.program) (sym c.copy_into.ensures)
+    (begins_configuration c.self.inside.verified.now c.args.begun c.image-image.ensures.valid begins))
 
 pub count_every-requires-clause-configuration : goal.count_every-requires-clause-configuration
 count_every-requires-clause-configuration c =
     let begins : BeginsTick c.self.inside.verified.now.program c.args.begun = subst (λ i. BeginsTick i.program c.args.begun) (sym c.self.view_is) c.requires in
     subst (λ p. IsConfiguration p c.copy_into.new.to) (sym (c.program-program.ensures ∙ ap (λ i. i.program) c.image-image.ensures.value))
-    (subst (IsConfiguration c.self.inside.verified.now.program) (sym c.copy_into.ensures) (begins_configuration c.self.inside.verified.now c.args.begun c.image-image.ensures.valid begins))
+    (subst (IsConfiguration c.self.inside.verified.now.program) (sym c.copy_into.ensures)
+    (begins_configuration c.self.inside.verified.now c.args.begun c.image-image.ensures.valid begins))
 
 pub sort_every-requires-clause-rows : goal.sort_every-requires-clause-rows
 sort_every-requires-clause-rows c =
-    subst (λ p. OwnRows p c.tables.result.now c.self.inside.rows) (sym (c.program-program.ensures ∙ ap (λ i. i.program) c.image-image.ensures.value))
-    (subst (λ q. OwnRows c.self.inside.verified.now.program q c.self.inside.rows) (sym (c.tables.ensures.value ∙ ap (λ i. i.tables) c.image-image.ensures.value)) c.self.invariant.3)
+    subst (λ p. OwnRows p c.tables.result.now c.self.inside.room.rows) (sym (c.program-program.ensures ∙ ap (λ i. i.program) c.image-image.ensures.value))
+    (subst (λ q. OwnRows c.self.inside.verified.now.program q c.self.inside.room.rows)
+    (sym (c.tables.ensures.value ∙ ap (λ i. i.tables) c.image-image.ensures.value)) c.self.invariant.rows)
 
 pub invariant_of-result : goal.invariant_of-result
 invariant_of-result c =
-    let begins : BeginsTick c.self.inside.verified.now.program c.args.begun = subst (λ i. BeginsTick i.program c.args.begun) (sym c.self.view_is) c.requires in (
+    let begins : BeginsTick c.self.inside.verified.now.program c.args.begun =
+    subst (λ i. BeginsTick i.program c.args.begun) (sym c.self.view_is) c.requires in (
       holds_begun c.self.inside.verified.now begins.resting begins.inputs _ c.image-image.ensures.valid begins.rests
           (record {
             accepted = begins.accepted;
@@ -51,14 +56,17 @@ invariant_of-result c =
             begun_is = begins.is;
             present_is = c.copy_into.ensures ∙ begins.is;
             no_step = c.clear.ensures.items;
-            claims_are = c.self.invariant.1;
+            claims_are = c.self.invariant.no_claim;
           }),
-      c.self.invariant.0,
-      omega (arith, c.self.invariant.4, c.clear.ensures.capacity),
-      c.self.invariant.2,
-      sorted_every_at c.self.inside.verified.now.program c.program-program.result.now c.self.inside.verified.now.tables c.tables.result.now c.copy_into.new.to c.self.inside.claims.items c.deref-2.result.now c.sort_every.new.rows
-          (c.program-program.ensures ∙ ap (λ i. i.program) c.image-image.ensures.value) (c.tables.ensures.value ∙ ap (λ i. i.tables) c.image-image.ensures.value) c.deref-2.ensures.value c.sort_every.ensures,
-      none_open_at _ 0 (no_claims_at c.self.inside.verified.now.program.threads c.self.inside.claims.items c.self.invariant.1),
-      subst (λ p. CountsLiving p c.copy_into.new.to c.count_every.new.counts.items) (c.program-program.ensures ∙ ap (λ i. i.program) c.image-image.ensures.value) c.count_every.ensures,
-      c.self.invariant.6,
+      c.self.invariant.kinds_are,
+      omega (arith, c.self.invariant.history, c.clear.ensures.capacity),
+      c.self.invariant.forks,
+      sorted_every_at c.self.inside.verified.now.program c.program-program.result.now c.self.inside.verified.now.tables c.tables.result.now c.copy_into.new.to
+          c.self.inside.room.claims.items c.deref-2.result.now c.sort_every.new.rows
+          (c.program-program.ensures ∙ ap (λ i. i.program) c.image-image.ensures.value)
+          (c.tables.ensures.value ∙ ap (λ i. i.tables) c.image-image.ensures.value) c.deref-2.ensures.value c.sort_every.ensures,
+      none_open_at _ 0 (no_claims_at c.self.inside.verified.now.program.threads c.self.inside.room.claims.items c.self.invariant.no_claim),
+      subst (λ p. CountsLiving p c.copy_into.new.to c.count_every.new.counts.items)
+          (c.program-program.ensures ∙ ap (λ i. i.program) c.image-image.ensures.value) c.count_every.ensures,
+      c.self.invariant.given,
     )

@@ -7,7 +7,8 @@ use Rattle.tick_core.proofs.state.TickState.close.Goals as goal
 
 pub sort-requires-clause-configuration : goal.sort-requires-clause-configuration
 sort-requires-clause-configuration c =
-    subst (λ p. IsConfiguration p c.self.inside.present) (sym (c.program.ensures ∙ ap (λ i. i.program) c.image-image.ensures.value)) (configuration _ c.self.invariant.0)
+    subst (λ p. IsConfiguration p c.self.inside.present) (sym (c.program.ensures ∙ ap (λ i. i.program) c.image-image.ensures.value))
+    (configuration _ c.self.invariant.0)
 
 pub sort-requires-clause-counts : goal.sort-requires-clause-counts
 sort-requires-clause-counts c =
@@ -20,11 +21,14 @@ invariant_of-self c = (
   c.self.invariant.1,
   c.self.invariant.2,
   c.self.invariant.3,
-  sorted_with_at c.self.inside.verified.now.program c.self.inside.verified.now.tables c.self.inside.present c.self.inside.claims.items c.args.thread None c.self.inside.rows c.sort.new.rows c.self.invariant.4
-      (omega (arith, c.requires, ap (λ s. length s.claims) c.self.view_is, c.self.invariant.0.places)) c.program.result.now c.tables.result.now c.deref-2.result.now c.close_one.new.claims.items
+  sorted_with_at c.self.inside.verified.now.program c.self.inside.verified.now.tables c.self.inside.present c.self.inside.claims.items c.args.thread None
+      c.self.inside.rows c.sort.new.rows c.self.invariant.4
+      (omega (arith, c.requires, ap (λ s. length s.claims) c.self.view_is, c.self.invariant.0.places)) c.program.result.now c.tables.result.now
+      c.deref-2.result.now c.close_one.new.claims.items
       (c.program.ensures ∙ ap (λ i. i.program) c.image-image.ensures.value) (c.tables.ensures.value ∙ ap (λ i. i.tables) c.image-image.ensures.value)
       c.deref-2.ensures.value c.close_one.ensures.closed c.sort.ensures.sorted c.sort.ensures.rows,
-  open_closed _ c.self.invariant.0 c.self.inside.claimed c.self.inside.level c.self.invariant.5 c.args.thread c.close_one.new.claimed c.close_one.new.claims.items
+  open_closed _ c.self.invariant.0 c.self.inside.claimed c.self.inside.level c.self.invariant.5 c.args.thread c.close_one.new.claimed
+      c.close_one.new.claims.items
       c.close_one.ensures.closed c.close_one.ensures.counted,
   c.self.invariant.6,
   c.self.invariant.7,

@@ -9,7 +9,8 @@ use Rattle.tick_core.proofs.state.TickState.drop_claims.Goals as goal
 
 pub sort_every-requires-clause-configuration : goal.sort_every-requires-clause-configuration
 sort_every-requires-clause-configuration c =
-    subst (λ p. IsConfiguration p c.self.inside.present) (sym (c.program.ensures ∙ ap (λ i. i.program) c.image-image.ensures.value)) (configuration _ c.self.invariant.0)
+    subst (λ p. IsConfiguration p c.self.inside.present) (sym (c.program.ensures ∙ ap (λ i. i.program) c.image-image.ensures.value))
+    (configuration _ c.self.invariant.0)
 
 pub sort_every-requires-clause-counts : goal.sort_every-requires-clause-counts
 sort_every-requires-clause-counts c =
@@ -18,12 +19,15 @@ sort_every-requires-clause-counts c =
 
 pub invariant_of-self : goal.invariant_of-self
 invariant_of-self c = (
-  kept_dropped _ c.self.invariant.0 _ c.close_all.ensures.length (record { image_is = refl; begun_is = refl; present_is = refl; history_is = refl; no_claim = c.close_all.ensures.none }),
+  kept_dropped _ c.self.invariant.0 _ c.close_all.ensures.length
+      (record { image_is = refl; begun_is = refl; present_is = refl; history_is = refl; no_claim = c.close_all.ensures.none }),
   c.self.invariant.1,
   c.self.invariant.2,
   c.self.invariant.3,
-  sorted_every_at c.self.inside.verified.now.program c.program.result.now c.self.inside.verified.now.tables c.tables.result.now c.self.inside.present c.close_all.new.claims.items c.deref-then-self-gt0.result.now c.sort_every.new.rows
-      (c.program.ensures ∙ ap (λ i. i.program) c.image-image.ensures.value) (c.tables.ensures.value ∙ ap (λ i. i.tables) c.image-image.ensures.value) c.deref-then-self-gt0.ensures.value c.sort_every.ensures,
+  sorted_every_at c.self.inside.verified.now.program c.program.result.now c.self.inside.verified.now.tables c.tables.result.now c.self.inside.present
+      c.close_all.new.claims.items c.deref-then-self-gt0.result.now c.sort_every.new.rows
+      (c.program.ensures ∙ ap (λ i. i.program) c.image-image.ensures.value) (c.tables.ensures.value ∙ ap (λ i. i.tables) c.image-image.ensures.value)
+      c.deref-then-self-gt0.ensures.value c.sort_every.ensures,
   none_open_at _ c.self.inside.level c.close_all.ensures.none,
   c.self.invariant.6,
   c.self.invariant.7,
@@ -37,5 +41,6 @@ returns-else-self-gt0 c =
       begun_is = refl;
       present_is = refl;
       history_is = refl;
-      no_claim = nobody_open _ c.self.invariant.0 c.self.inside.rows c.self.invariant.4 c.self.inside.claimed c.self.inside.level c.self.invariant.5 (omega (arith, c.if-self-gt0.false));
+      no_claim = nobody_open _ c.self.invariant.0 c.self.inside.rows c.self.invariant.4 c.self.inside.claimed c.self.inside.level c.self.invariant.5
+          (omega (arith, c.if-self-gt0.false));
     })

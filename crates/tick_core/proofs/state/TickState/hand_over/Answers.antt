@@ -3,8 +3,18 @@ use Rattle.tick_core.proofs.StateKept.{finished, none_open}
 use Rattle.tick_core.proofs.StartKept.{begun_places}
 use Rattle.tick_core.proofs.state.TickState.hand_over.Goals as goal
 
-pub invariant_of-room : goal.invariant_of-room
-invariant_of-room c = (c.self.invariant.1, none_open _ _ c.self.view_is c.self.invariant.0 c.requires, c.self.invariant.3, c.self.invariant.4.own_rows, c.self.invariant.2, c.self.invariant.6.long, c.self.invariant.7, begun_places _ c.self.invariant.0)
+pub invariant_of-space : goal.invariant_of-space
+invariant_of-space c =
+    record {
+      kinds_are = c.self.invariant.1;
+      no_claim = none_open _ _ c.self.view_is c.self.invariant.0 c.requires;
+      forks = c.self.invariant.3;
+      rows = c.self.invariant.4.own_rows;
+      history = c.self.invariant.2;
+      living = c.self.invariant.6.long;
+      given = c.self.invariant.7;
+      spare = begun_places _ c.self.invariant.0;
+    }
 
 pub returns-clause-rests : goal.returns-clause-rests
 returns-clause-rests c = (finished _ _ _ _ c.self.view_is c.self.invariant.0 c.requires (ap (λ s. s.present) c.self.view_is) refl).rests

@@ -12,15 +12,18 @@ invariant_of-self c =
     let fresh = fresh_at _ _ c.args.claim.now c.self.view_is c.requires.fresh in
     let place = has_place _ c.self.invariant.0 _ fresh.leads in
     let here : c.thread-thread.result < length c.self.inside.claims.items = omega (arith, place, c.thread-thread.ensures) in (
-      rw (c.thread-thread.ensures, c.copied.ensures) (kept_claimed _ c.self.invariant.0 _ c.args.claim.now fresh),
+      rw (c.thread-thread.ensures, c.kept.ensures) (kept_claimed _ c.self.invariant.0 _ c.args.claim.now fresh),
       c.self.invariant.1,
       c.self.invariant.2,
       c.self.invariant.3,
-      sorted_opened c.self.inside.verified.now.program c.self.inside.verified.now.tables c.self.inside.present c.self.inside.claims.items c.thread-thread.result c.copied.result c.self.inside.rows c.set.new.self
+      sorted_opened c.self.inside.verified.now.program c.self.inside.verified.now.tables c.self.inside.present c.self.inside.claims.items c.thread-thread.result
+          c.kept.result c.self.inside.rows c.set.new.self
           c.self.invariant.4 (omega (arith, here, c.self.invariant.0.places)) here c.set.ensures,
-      open_opened_at _ c.self.invariant.0 c.self.inside.claimed c.self.inside.level c.self.invariant.5 c.args.claim.now.thread c.thread-thread.result c.args.claim.now c.copied.result
-          (c.self.inside.claimed + 1) c.priority-self-inside.result fresh.leads (ap (λ (s : InTick). slice_get s.claims c.args.claim.now.thread) c.self.view_is ∙ c.requires.unclaimed) refl
-          c.thread-thread.ensures c.copied.ensures
+      open_opened_at _ c.self.invariant.0 c.self.inside.claimed c.self.inside.level c.self.invariant.5 c.args.claim.now.thread c.thread-thread.result
+          c.args.claim.now c.kept.result
+          (c.self.inside.claimed + 1) c.priority-self-inside.result fresh.leads (ap (λ (s : InTick). slice_get s.claims c.args.claim.now.thread) c.self.view_is
+          ∙ c.requires.unclaimed) refl
+          c.thread-thread.ensures c.kept.ensures
           (c.priority-self-inside.ensures ∙ sym (ap (λ (s : InTick). priority_of s.image.tables (status_of s.present c.thread-thread.result)) c.self.view_is)),
       c.self.invariant.6,
       c.self.invariant.7,

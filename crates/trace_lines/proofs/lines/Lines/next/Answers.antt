@@ -6,17 +6,20 @@ use Rattle.trace_lines.proofs.Ahead.{moves_all, moved_no_feed, reads, takes, tak
 use Rattle.trace_lines.proofs.lines.Lines.next.Goals as goal
 
 pub returns-then-is_whole-clause-one : goal.returns-then-is_whole-clause-one
-returns-then-is_whole-clause-one g c = moved_no_feed c.loop-is_whole.line.items c.loop-is_whole.self c.move_line.new.line.items c.loop-is_whole.invariant.no_feed c.in_ok-is_whole.ensures.line
+returns-then-is_whole-clause-one g c = moved_no_feed c.loop-is_whole.line.items c.loop-is_whole.self c.move_line.new.line.items
+    c.loop-is_whole.invariant.no_feed c.in_ok-is_whole.ensures.line
 
 pub returns-then-not-branch-clause-one : goal.returns-then-not-branch-clause-one
-returns-then-not-branch-clause-one g c = moved_no_feed c.loop-is_whole.line.items c.loop-is_whole.self c.move_line.new.line.items c.loop-is_whole.invariant.no_feed c.in_ok-is_whole.ensures.line
+returns-then-not-branch-clause-one g c = moved_no_feed c.loop-is_whole.line.items c.loop-is_whole.self c.move_line.new.line.items
+    c.loop-is_whole.invariant.no_feed c.in_ok-is_whole.ensures.line
 
 pub returns-then-is_whole-clause-line : goal.returns-then-is_whole-clause-line
 returns-then-is_whole-clause-line g c =
     let start = ahead c.args.self.now (g.R.Source.to_come c.args.source.now) in
     let feed : has_feed c.loop-is_whole.self ≡ true = sym c.in_ok-is_whole.ensures.feed ∙ c.if-is_whole.true in
     rw (c.in_ok-is_whole.ensures.line, c.in_ok-is_whole.ensures.rest)
-    (takes start (g.R.Source.to_come c.loop-is_whole.source) c.loop-is_whole.line.items c.loop-is_whole.self c.loop-is_whole.invariant.no_feed feed c.loop-is_whole.invariant.taken)
+    (takes start (g.R.Source.to_come c.loop-is_whole.source) c.loop-is_whole.line.items c.loop-is_whole.self c.loop-is_whole.invariant.no_feed feed
+    c.loop-is_whole.invariant.taken)
 
 pub loop-is_whole-preserved : goal.loop-is_whole-preserved
 loop-is_whole-preserved g c =
@@ -30,6 +33,7 @@ loop-is_whole-preserved g c =
       no_feed = moved_no_feed c.loop-is_whole.line.items c.loop-is_whole.self line c.loop-is_whole.invariant.no_feed c.in_ok-is_whole.ensures.line;
       none_failed = c.in_ok-refill.ensures.none_failed ∙ c.loop-is_whole.invariant.none_failed;
       going = λ e. c.in_ok-refill.ensures.going c.if-not-branch.false (c.loop-is_whole.invariant.going e);
+      at_hand = λ e. let has = (c.loop-is_whole.invariant.at_hand e).1 in absurd cc;
     }
 
 pub returns-then-not-branch-clause-line : goal.returns-then-not-branch-clause-line

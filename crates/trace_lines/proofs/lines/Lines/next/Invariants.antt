@@ -1,4 +1,4 @@
-use Rattle.std.proofs.Common.{◌≡◌, ◌+◌, ◌-◌, ◌*◌, min, length, vec_len, false}
+use Rattle.std.proofs.Common.{◌≡◌, ◌+◌, ◌-◌, ◌*◌, min, length, vec_len, true, false}
 use Rattle.std.specs.Io.KnownBytes.{Consumes}
 use Rattle.sc_values.specs.Streams.{StaysOpen}
 use Rattle.trace_lines.specs.Lines.{line_limit, has_feed, ahead}
@@ -10,6 +10,7 @@ invariant-loop-is_whole g l = record {
   no_feed : has_feed l.line.items ≡ false;
   none_failed : g.R.Source.failures l.source ≡ g.R.Source.failures l.fn.source;
   going : StaysOpen (g.R.Source.progress l.fn.source) (g.R.Source.progress l.source);
+  at_hand : has_feed l.fn.self ≡ true → (l.source ≡ l.fn.source) × (has_feed l.self ≡ true);
 }
 
 abbrev pub decreases-loop-is_whole : goal.decreases-loop-is_whole

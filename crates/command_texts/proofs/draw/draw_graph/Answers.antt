@@ -1,0 +1,5 @@
+use Rattle.command_texts.proofs.Drawn.{graph_drawn}
+use Rattle.command_texts.proofs.draw.draw_graph.Goals as goal
+
+pub returns-in-Ok-graph_of-clause-drawn : goal.returns-in-Ok-graph_of-clause-drawn
+returns-in-Ok-graph_of-clause-drawn c = graph_drawn _ _ _ c.requires c.in-Ok.ensures.ok c.in-Ok-graph_of.ensures

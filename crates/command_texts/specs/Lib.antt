@@ -1,0 +1,6 @@
+pub mod Cores
+pub mod Drawing
+pub mod Images
+pub mod Listing
+pub mod Summary
+pub mod Wanted

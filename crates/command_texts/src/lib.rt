@@ -1,0 +1,14 @@
+//! The texts that single commands write to the output: the summary of an image, its listing, a core chart, a drawing;
+//! and the bytes of images.
+#![tactic(auto)]
+
+mod draw;
+mod images;
+mod list;
+mod list_places;
+mod print_core;
+mod summary;
+mod wanted;
+
+pub use summary::summary_of;
+pub use wanted::made_for;

@@ -1,5 +1,0 @@
-use Rattle.conflict_edges.specs.Inside.Candidates.{StandFor}
-use Rattle.conflict_edges.proofs.choosing.candidates.Given as goal
-
-abbrev pub invariant-loop-node : goal.invariant-loop-node
-invariant-loop-node l = StandFor l.program l.nodes l.kept.items l.node-index

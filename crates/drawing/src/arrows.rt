@@ -1,0 +1,143 @@
+//! The arrows of the transitions of a state. The words of a transition are a node between its state and its target, so
+//! that they have room of their own, and nothing is drawn over them. Delayed transitions of a simple state to itself
+//! share one arrow, beside which the words of each stand.
+
+ghost use Rattle.std.specs.Prelude.{◌≡◌};
+ghost use Rattle.drawing.specs.Labels.{head_text, line_text, tail_text};
+
+use crate::labels::transition_text;
+use core_charts::{State, Transition, TransitionKind};
+use sc_graph::Variable;
+use sqlite_items::at;
+use std::alloc::{AllocError, Global};
+
+// How the arrow to the words of a transition is drawn.
+fn tail_text(kind: TransitionKind) -> &'static str
+    ensures { result.now ≡ tail_text kind }
+{
+    match kind {
+        TransitionKind::Go => "dir=\"none\"",
+        TransitionKind::Strong => "dir=\"back\", arrowtail=\"dot\", color=\"red3\"",
+        TransitionKind::Weak => "dir=\"back\", arrowtail=\"odot\", color=\"orange3\"",
+        TransitionKind::Join => "dir=\"back\", arrowtail=\"invempty\", color=\"green4\"",
+    }
+}
+
+// How the arrow from the words of a transition is drawn.
+fn head_text(kind: TransitionKind) -> &'static str
+    ensures { result.now ≡ head_text kind }
+{
+    match kind {
+        TransitionKind::Go => "color=\"black\"",
+        TransitionKind::Strong => "color=\"red3\"",
+        TransitionKind::Weak => "color=\"orange3\"",
+        TransitionKind::Join => "color=\"green4\"",
+    }
+}
+
+// How the lines of both are drawn.
+fn line_text(immediate: bool) -> &'static str
+    ensures { result.now ≡ line_text immediate }
+{
+    if immediate { ", style=\"dashed\"" } else { "" }
+}
+
+/// The states of a region, the path of that, and the variables of the chart.
+#[derive(Clone, Copy)]
+pub(crate) struct Place<'a> {
+    pub(crate) variables: &'a [Variable],
+    pub(crate) states: &'a [State],
+    pub(crate) path: &'a str,
+}
+
+// Where an arrow is cut: at the border of a superstate.
+fn cut(alloc: Global, end: &str, place: Place<'_>, number: u32) -> Result<String, AllocError> {
+    let path = place.path;
+    match at(place.states, number as usize) {
+        Some(state) if state.is_superstate() => {
+            format!(in alloc; ", {end}=\"cluster_{path}_{number}\"")
+        }
+        _ => Ok(String::new(alloc)),
+    }
+}
+
+// Where an arrow to words ends that leads back to its state, and where that from them begins: at their sides, so that
+// the two stand apart.
+fn side(end: &'static str, is_loop: bool) -> &'static str {
+    if is_loop { end } else { "" }
+}
+
+// Puts the node of these words of a transition, and the arrows to it and from it, behind a text.
+fn put_arrows(
+    alloc: Global,
+    text: &mut String,
+    place: Place<'_>,
+    from: u32,
+    number: u32,
+    transition: &Transition,
+    words: &str,
+) -> Result<(), AllocError> {
+    let path = place.path;
+    let to = transition.target;
+    let line = line_text(transition.immediate);
+    let tail = tail_text(transition.kind);
+    let head = head_text(transition.kind);
+    let left = cut(alloc, "ltail", place, from)?;
+    let entered = cut(alloc, "lhead", place, to)?;
+    let west = side(", headport=\"w\"", to == from);
+    let east = side(", tailport=\"e\"", to == from);
+    let node = format!(in alloc;
+        "\"{path}_{from} {number}\" [shape=\"plaintext\", fontsize=10, margin=0, height=0, label=\"{words}\"];\n"
+    )?;
+    let before = format!(in alloc;
+        "\"{path}_{from}\" -> \"{path}_{from} {number}\" [{tail}{line}{left}{west}];\n"
+    )?;
+    let behind = format!(in alloc;
+        "\"{path}_{from} {number}\" -> \"{path}_{to}\" [{head}{line}{entered}{east}];\n"
+    )?;
+    text.push_str(node.as_str())?;
+    text.push_str(before.as_str())?;
+    text.push_str(behind.as_str())
+}
+
+// Whether a transition of the state of this number shares an arrow.
+fn is_shared(state: &State, from: u32, transition: &Transition) -> bool {
+    transition.target == from && !transition.immediate && !state.is_superstate()
+}
+
+// Puts the arrow that such transitions share, whose words these are, behind a text.
+fn put_shared(
+    alloc: Global,
+    text: &mut String,
+    path: &str,
+    from: u32,
+    words: &str,
+) -> Result<(), AllocError> {
+    if words.is_empty() {
+        return Ok(());
+    }
+    let line = format!(in alloc; "\"{path}_{from}\" -> \"{path}_{from}\" [label=\"{words}\"];\n")?;
+    text.push_str(line.as_str())
+}
+
+/// Puts the arrows of the transitions of the state of this number behind a text. Err: memory was refused.
+pub(crate) fn put_transitions(
+    alloc: Global,
+    text: &mut String,
+    place: Place<'_>,
+    from: u32,
+    state: &State,
+) -> Result<(), AllocError> {
+    let mut shared = String::new(alloc);
+    let mut number: u32 = 1;
+    for transition in state.transitions.as_slice() {
+        let words = transition_text(alloc, place.variables, number, transition)?;
+        if is_shared(state, from, transition) {
+            shared.push_str(words.as_str())?;
+        } else {
+            put_arrows(alloc, text, place, from, number, transition, words.as_str())?;
+        }
+        number = number.saturating_add(1);
+    }
+    put_shared(alloc, text, place.path, from, shared.as_str())
+}

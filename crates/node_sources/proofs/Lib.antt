@@ -1,0 +1,10 @@
+mod Items
+mod Branches
+mod Graphless
+mod ChartsTold
+mod SpotsCounted
+mod SclTold
+mod SourcesTold
+mod Listed
+mod LabelsTold
+mod LanguagesTold

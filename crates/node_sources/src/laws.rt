@@ -1,0 +1,16 @@
+//! What origins tell.
+
+ghost use Rattle.node_sources.specs.Laws.{SourcesTellCharts};
+
+use chart_places::places_tell_texts;
+use node_elements::elements_tell_nodes;
+
+/// Of the program of a chart there are as many origins as nodes. Each node comes from an element of the chart, an
+/// assignment of the text from the effect that makes it, and at the place of its origin stands the token that begins
+/// this element. This function does nothing; its contract is the law.
+pub fn sources_tell_charts()
+    ensures { SourcesTellCharts }
+{
+    elements_tell_nodes();
+    places_tell_texts();
+}

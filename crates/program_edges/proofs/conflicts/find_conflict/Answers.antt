@@ -1,0 +1,10 @@
+use Rattle.std.proofs.Common.{arith, below_more}
+use Rattle.program_edges.specs.Inside.NoConflicts.{NoConflictOn}
+use Rattle.program_edges.proofs.Finding.{no_conflicts}
+use Rattle.program_edges.proofs.conflicts.find_conflict.Goals as goal
+
+pub loop-x-preserved : goal.loop-x-preserved
+loop-x-preserved c = let here = rw c.in-None.is at c.in_ok-pair.ensures in below_more (NoConflictOn c.args.program.now) _ c.loop-x.invariant here
+
+pub returns : goal.returns
+returns c = no_conflicts c.args.program.now c.requires.formed (λ x h. c.loop-x.invariant x (omega (arith, h)))

@@ -1,0 +1,14 @@
+use Rattle.std.proofs.Common.{◌≡◌, true}
+use Rattle.program_edges.proofs.conflicts.is_conflict.Goals as goal
+
+pub returns-then-not-nodes_clash : goal.returns-then-not-nodes_clash
+returns-then-not-nodes_clash c = (
+  λ e. absurd (cc),
+  λ w. let e : c.nodes_clash.result ≡ true = c.nodes_clash.ensures.1 w.clash in let f = c.if-not-nodes_clash.true in cc,
+)
+
+pub returns : goal.returns
+returns c = (
+  λ e. record { in_order = c.if-n-m.false; concurrent = c.are_concurrent.ensures.0 e; clash = c.nodes_clash.ensures.0 c.if-not-nodes_clash.false },
+  λ w. c.are_concurrent.ensures.1 w.concurrent,
+)

@@ -1,5 +1,0 @@
-use Rattle.sct_command.proofs.Drawn.{chart_drawn}
-use Rattle.sct_command.proofs.draw.draw_chart.Goals as goal
-
-pub returns-in-Ok-scl_of_chart-clause-drawn : goal.returns-in-Ok-scl_of_chart-clause-drawn
-returns-in-Ok-scl_of_chart-clause-drawn c = chart_drawn _ _ _ c.requires c.in-Ok.ensures.ok c.in-Ok-scl_of_chart.ensures.scl

@@ -1,5 +1,0 @@
-use Rattle.sct_command.proofs.Drawn.{graph_drawn}
-use Rattle.sct_command.proofs.draw.draw_graph.Goals as goal
-
-pub returns-in-Ok-graph_of-clause-drawn : goal.returns-in-Ok-graph_of-clause-drawn
-returns-in-Ok-graph_of-clause-drawn c = graph_drawn _ _ _ c.requires c.in-Ok.ensures.ok c.in-Ok-graph_of.ensures
