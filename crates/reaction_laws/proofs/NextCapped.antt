@@ -1,0 +1,159 @@
+-- What is known of a flat chart, its core chart and its graph, as a tick starts, and again behind each step, for a number its ranks were within.
+use Rattle.std.proofs.Common.{◌≡◌, ℕ, true, Some, List, [], ◌∷◌}
+use Rattle.sc_values.specs.Runs.{replay, act_of}
+use Rattle.sc_graph.specs.declared.control.Control.{Control}
+use Rattle.sc_graph.specs.declared.tables.Tables.{Tables}
+use Rattle.sc_graph.specs.Machine as graph
+use Rattle.sc_graph.specs.Program.{Program}
+use Rattle.sc_graph.specs.Valid.{IsValid}
+use Rattle.core_charts.specs.declared.features.Features.TheVariants as features
+use Rattle.core_charts.specs.Chart.{Chart}
+use Rattle.core_charts.specs.Rules.{IsChart}
+use Rattle.chart_machine.specs.declared.standing.Configuration.{Configuration}
+use Rattle.chart_machine.specs.declared.table.Table.{Table}
+use Rattle.chart_machine.specs.Machine.{machine}
+use Rattle.chart_machine.specs.Table.{table}
+use Rattle.chart_machine.specs.Turns.{standing_of}
+use Rattle.chart_machine.specs.Steps.{step}
+use Rattle.scl.specs.declared.program.Scl.{Scl}
+use Rattle.scl.specs.Numbering.{numbered}
+use Rattle.scl_graph.specs.Graph.{program_of}
+use Rattle.abort_expansion.specs.Expansion.{expanded}
+use Rattle.chart_lowering_laws.specs.Laws.{IsLowering}
+use Rattle.compiled_charts_laws.proofs.LateTests.{is_late}
+use Rattle.abort_expansion_laws.specs.CoreRows.{Images}
+use Rattle.abort_expansion_laws.specs.Flat.{IsFlat}
+use Rattle.abort_expansion_laws.specs.Related.{Related}
+use Rattle.abort_expansion_laws.specs.Segments.{Segment}
+use Rattle.abort_expansion_laws.specs.StageReached.{Stage}
+use Rattle.abort_expansion_laws.specs.Stages.{Entry, Correspondence, NoneReached}
+use Rattle.abort_expansion_laws.proofs.Owed.{Started}
+use Rattle.abort_expansion_laws.proofs.OwnTests.{OwnTests}
+use Rattle.abort_expansion_laws.proofs.PreemptionKept.{ToldHere, own_tests_kept}
+use Rattle.abort_expansion_laws.proofs.QuietBegins.{LoweredTests}
+use Rattle.abort_expansion_laws.proofs.StepsByCase.{steps_followed}
+use Rattle.abort_expansion_laws.proofs.TickFollowed as ticks
+use Rattle.abort_expansion_laws.proofs.TicksBegin.{ticks_begin}
+use Rattle.abort_expansion_laws.proofs.ToldSteps.{told_silent}
+use Rattle.reaction_laws.specs.StepNodes.{Alike}
+use Rattle.reaction_laws.proofs.CappedSteps.{IsCapped}
+use Rattle.reaction_laws.proofs.ChartOrder.{AllAt}
+use Rattle.reaction_laws.proofs.GraphComes.{graph_run, graph_next, graph_leads, all_there, alike_there, quiet_there}
+use Rattle.reaction_laws.proofs.GreatestPriority.{greatest_priority, all_ahead, all_once_stepped}
+use Rattle.reaction_laws.proofs.MonitorsLow.{lowered, MonitorsQuiet, guards_low}
+use Rattle.reaction_laws.proofs.OthersLow.{RanksWithin}
+use Rattle.reaction_laws.proofs.StepLow.{StepsAgain, LinesLow, step_low}
+
+module _ (c : Chart) (rules : IsChart features.Extended c) (core_rules : IsChart features.Core (expanded c)) (flat : IsFlat c) (p : Scl) (q : Tables)
+    (low : IsLowering (expanded c) p) (valid : IsValid (program_of (numbered p)) q)
+    (lowered_tests : LoweredTests (table (expanded c)) (program_of (numbered p)) (Alike (expanded c) p) (lowered c rules core_rules p q low valid))
+    (earlier : (d next : Configuration) (t g : ℕ) → step (table (expanded c)) t d ≡ Some next → is_late (standing_of next g) ≡ true →
+    is_late (standing_of d g) ≡ true) where
+  abbrev k : Table
+  k = table c
+
+  abbrev core : Table
+  core = table (expanded c)
+
+  abbrev i : Images
+  i = ticks.i c rules core_rules
+
+  abbrev corr : Correspondence
+  corr = ticks.corr c rules core_rules
+
+  abbrev G : Program
+  G = program_of (numbered p)
+
+  abbrev Told : Configuration → Entry → Type 0
+  Told = ToldHere c rules core_rules
+
+  abbrev Quiet : Configuration → Control → Type 0
+  Quiet = MonitorsQuiet c rules core_rules p q low valid lowered_tests earlier
+
+  -- ---- behind a step
+
+  module _ (now next d : Configuration) (m : Control) (most least : ℕ) (known : IsCapped c rules core_rules p q low valid now d m most) (quiet : Quiet d m)
+      (ranks : RanksWithin c rules core_rules p q low valid now m most least) (r : ℕ) (steps : step k r now ≡ Some next) where
+    pub followed : Segment (machine core) corr Told d (Stage k i.thread_of now d) (Stage k i.thread_of next) (act_of (machine k) now r ∷ [])
+        (Related k core i next)
+    followed = steps_followed c rules core_rules flat now d known.all.related known.all.owns r next steps
+
+    pub owns_next : OwnTests k next
+    owns_next = (own_tests_kept c rules core_rules).steps now next r known.all.owns steps
+
+    abbrev pub run : List ℕ
+    run =
+        graph_run c rules core_rules p q low valid lowered_tests earlier next d followed.last m known.alike quiet followed.log followed.follows
+        followed.reaches owns_next
+
+    abbrev pub n : Control
+    n =
+        graph_next c rules core_rules p q low valid lowered_tests earlier next d followed.last m known.alike quiet followed.log followed.follows
+        followed.reaches owns_next
+
+    pub quiet_next : Quiet followed.last n
+    quiet_next =
+        quiet_there c rules core_rules p q low valid lowered_tests earlier next d followed.last m known.alike quiet followed.log followed.follows
+        followed.reaches owns_next
+
+    all_next : AllAt c rules core_rules p q low valid next followed.last n
+    all_next =
+        all_there c rules core_rules p q low valid lowered_tests earlier next d followed.last m known.alike quiet followed.log followed.follows
+        followed.reaches owns_next
+
+    alike_next : Alike (expanded c) p followed.last n
+    alike_next =
+        alike_there c rules core_rules p q low valid lowered_tests earlier next d followed.last m known.alike quiet followed.log followed.follows
+        followed.reaches owns_next
+
+    leads_next : replay (graph.machine G) run m ≡ Some n
+    leads_next =
+        graph_leads c rules core_rules p q low valid lowered_tests earlier next d followed.last m known.alike quiet followed.log followed.follows
+        followed.reaches owns_next
+
+    pub next_capped : StepsAgain c rules core_rules now next r run → IsCapped c rules core_rules p q low valid next followed.last n least
+    next_capped again =
+        let those : LinesLow c rules core_rules p q low valid next n least =
+        step_low c rules core_rules p q low valid now d next followed.last m n most least r run known ranks steps leads_next all_next alike_next again in
+        record {
+          all = all_next;
+          alike = alike_next;
+          lines = those.lines;
+          joins = those.joins;
+          guarded = λ t on guards some.
+              guards_low c rules core_rules p q low valid lowered_tests earlier next followed.last n all_next alike_next quiet_next t on guards some;
+        }
+
+  -- ---- as a tick starts
+
+  module _ (now d : Configuration) (m : Control) (started : Started k core i now d) (owns : OwnTests k now) (alike : Alike (expanded c) p d m)
+      (quiet : Quiet d m) where
+    pub first : Segment (machine core) corr Told d NoneReached (Stage k i.thread_of now) [] (Related k core i now)
+    first = ticks_begin c rules core_rules flat Told (told_silent k core i) now d started
+
+    abbrev pub m_first : Control
+    m_first =
+        graph_next c rules core_rules p q low valid lowered_tests earlier now d first.last m alike quiet first.log first.follows first.reaches owns
+
+    pub quiet_first : Quiet first.last m_first
+    quiet_first =
+        quiet_there c rules core_rules p q low valid lowered_tests earlier now d first.last m alike quiet first.log first.follows first.reaches owns
+
+    all_first : AllAt c rules core_rules p q low valid now first.last m_first
+    all_first =
+        all_there c rules core_rules p q low valid lowered_tests earlier now d first.last m alike quiet first.log first.follows first.reaches owns
+
+    alike_first : Alike (expanded c) p first.last m_first
+    alike_first =
+        alike_there c rules core_rules p q low valid lowered_tests earlier now d first.last m alike quiet first.log first.follows first.reaches owns
+
+    pub first_capped : IsCapped c rules core_rules p q low valid now first.last m_first (greatest_priority q)
+    first_capped =
+        record {
+          all = all_first;
+          alike = alike_first;
+          lines = λ t on out. all_ahead G q (i.thread_of t) m_first;
+          joins = λ t on inside. all_once_stepped G q (i.thread_of t) m_first;
+          guarded = λ t on guards some.
+              guards_low c rules core_rules p q low valid lowered_tests earlier now first.last m_first all_first alike_first quiet_first t on guards some;
+        }

@@ -1,0 +1,37 @@
+-- All that was proved, passed on from one place, so that the check reads each file.
+use Rattle.std.proofs.Common.{◌≡◌, ℕ, refl}
+pub use Rattle.reaction_laws.proofs.ByRank.{ranks_lead_to_ends}
+pub use Rattle.reaction_laws.proofs.FlatRuns.{flat_ticks_end}
+pub use Rattle.reaction_laws.proofs.SeenTheSame.{reactions_alike}
+pub use Rattle.reaction_laws.proofs.RanksReact.{has_reaction}
+pub use Rattle.reaction_laws.proofs.CappedRanks.{capped_are_ranks}
+pub use Rattle.reaction_laws.proofs.GraphRuns.{goes_to_nodes}
+pub use Rattle.reaction_laws.proofs.StillAtJoins.{has_stepped}
+pub use Rattle.reaction_laws.proofs.MonitorsLow.{guards_low}
+pub use Rattle.reaction_laws.proofs.QuietRuns.{steps_keep, coming_keeps}
+pub use Rattle.reaction_laws.proofs.QuietStarts.{starts_quiet}
+pub use Rattle.reaction_laws.proofs.FlatRanks.{has_capped_ranks, reacts}
+pub use Rattle.reaction_laws.proofs.NextCapped.{first_capped, next_capped}
+pub use Rattle.reaction_laws.proofs.LinesAhead.{low_once_stepped, once_stepped_above, stepped_ahead, once_stepped_on, once_stepped_both}
+pub use Rattle.reaction_laws.proofs.LinesAhead.{ahead_on, ahead_within, ahead_less, ahead_both, enabled_ahead}
+pub use Rattle.reaction_laws.proofs.GreatestPriority.{all_ahead, all_once_stepped}
+pub use Rattle.reaction_laws.proofs.LowLines.{lines_stay_low}
+pub use Rattle.reaction_laws.proofs.ApartInCore.{apart_in_core, thread_there, monitor_there}
+pub use Rattle.reaction_laws.proofs.CappedSteps.{uncapped, line_kept, idle_is}
+pub use Rattle.reaction_laws.proofs.OthersLow.{others_low}
+pub use Rattle.reaction_laws.proofs.BelowInGraph.{below_there}
+pub use Rattle.reaction_laws.proofs.StillWaits.{turn_still, lies_or_not, elsewhere_from}
+pub use Rattle.reaction_laws.proofs.NextLow.{ahead_free, ahead_behind, lines_next, joins_next}
+pub use Rattle.reaction_laws.proofs.WeakFails.{lines_failed, joins_failed}
+pub use Rattle.reaction_laws.proofs.Leaves.{fails_or_taken, left_stepped}
+pub use Rattle.reaction_laws.proofs.StepLow.{step_low}
+pub use Rattle.reaction_laws.proofs.GuardsLow.{guard_low}
+pub use Rattle.reaction_laws.proofs.NoResumes.{no_resumes}
+pub use Rattle.reaction_laws.proofs.RaiseNodes.{leads_to_effect, taken_lower}
+pub use Rattle.reaction_laws.proofs.ChartOrder.{in_order}
+pub use Rattle.reaction_laws.proofs.CoreTurns.{taken_by}
+pub use Rattle.reaction_laws.proofs.StepsInside.{stays, turn_same}
+pub use Rattle.reaction_laws.proofs.StepNodes.{steps_come_to_nodes, priorities_order_steps}
+
+pub checked : ◌≡◌ {A = ℕ} 0 0
+checked = refl

@@ -1,0 +1,154 @@
+-- Two lists of ends of a flat chart are seen alike in one list of ends of its graph, so they are seen the same.
+use Rattle.std.proofs.Common.{◌≡◌, ℕ, ◌<◌, Bool, true, false, Option, Some, None, List, [], ◌∷◌, length, take, slice_get, unwrap_or, refl, sym, ap, subst, ◌∙◌}
+use Rattle.std.proofs.lemmas.Option.{none-some, slice_get_within}
+use Rattle.sc_values.specs.Runs.{Ends}
+use Rattle.sc_graph.specs.declared.control.Control.{Control}
+use Rattle.sc_graph.specs.declared.tables.Tables.{Tables}
+use Rattle.sc_graph.specs.Program.{Program}
+use Rattle.sc_graph.specs.Machine as graph
+use Rattle.sc_graph.specs.Tick as graph_tick
+use Rattle.sc_graph.specs.Tick.{Inputs, AreAccepted, Rests}
+use Rattle.sc_graph.specs.Valid.{IsValid}
+use Rattle.sc_graph.proofs.AtRest.{rests-initial}
+use Rattle.tick_laws.specs.OneEnd.{OneEnd}
+use Rattle.tick_laws.proofs.Final.{one_end_of_tick}
+use Rattle.core_charts.specs.declared.features.Features.TheVariants as features
+use Rattle.core_charts.specs.Chart.{Chart}
+use Rattle.core_charts.specs.Rules.{IsChart}
+use Rattle.chart_machine.specs.declared.standing.Configuration.{Configuration}
+use Rattle.chart_machine.specs.declared.table.Table.{Table}
+use Rattle.chart_machine.specs.Table.{table}
+use Rattle.chart_machine.specs.Machine.{initial, is_active}
+use Rattle.scl.specs.Numbering.{numbered}
+use Rattle.scl_graph.specs.Graph.{program_of}
+use Rattle.abort_expansion.specs.Expansion.{expanded, state_map}
+use Rattle.abort_expansion.specs.StateMap.{chart_state}
+use Rattle.node_states.specs.Nodes.{state_of_node}
+use Rattle.chart_lowering_laws.specs.Keeps as lists
+use Rattle.chart_lowering_laws.specs.Keeps.{EachPair}
+use Rattle.chart_lowering_laws.specs.Laws.{IsLowering}
+use Rattle.compiled_charts_laws.specs.Reactions.{AreSeenAlike, AllAccepted, HasOneReaction}
+use Rattle.compiled_charts_laws.proofs.Ticks.{one_reaction}
+use Rattle.compiled_charts_laws.proofs.Told.{nodes_stand}
+use Rattle.abort_expansion_laws.specs.Flat.{IsFlat}
+use Rattle.abort_expansion_laws.specs.Preemption.{chart_machine, IsActiveInCore, SeenAlike, HasImage}
+use Rattle.abort_expansion_laws.specs.Ticks.{Reactive, Reaction, AllOf, EachAlike, HasAlike}
+use Rattle.abort_expansion_laws.proofs.StatesMapped.{states_mapped_all}
+use Rattle.abort_expansion_laws.proofs.StepsByCase.{preemption_holds}
+use Rattle.reaction_laws.specs.Alike.{AreSeenTheSame, FlatReactionsAreAlike}
+
+same_truth : (a b : Bool) → (a ≡ true → b ≡ true) → (b ≡ true → a ≡ true) → a ≡ b
+same_truth true b there back = sym (there refl)
+same_truth false true there back = back refl
+same_truth false false there back = refl
+
+-- the other spelling of lists of ends
+back : (r : Reactive) (ticks : List Inputs) (c : r.machine.Configuration) (ends : List r.machine.Configuration) →
+    Reaction r ticks c ends → lists.Reaction r.machine r.start c ticks ends
+back r [] c [] h = tt
+back r (inputs ∷ ticks) c (d ∷ ends) h = (h.0, back r ticks d ends h.1)
+back r [] c (d ∷ ends) h = absurd h
+back r (inputs ∷ ticks) c [] h = absurd h
+
+-- ---- the graph has a list of ends
+
+module _ (p : Program) (q : Tables) (valid : IsValid p q) where
+  record GraphEnds (ticks : List Inputs) (e : Control) : Type 0 where
+    ends : List Control
+    reacts : lists.Reaction (graph.machine p) (graph_tick.start p) e ticks ends
+
+  graph_reacts : (ticks : List Inputs) (e : Control) → Rests p e → AllAccepted p ticks → GraphEnds ticks e
+  graph_reacts [] e rests accepted = record { ends = []; reacts = tt }
+  graph_reacts (inputs ∷ ticks) e rests accepted =
+      let one : OneEnd p q (graph_tick.start p inputs e) = one_end_of_tick p q e inputs valid rests accepted.0 in
+      let ends : Ends (graph.machine p) (graph_tick.start p inputs e) one.exists.end =
+      (one.of_priority one.exists.run one.exists.end one.exists.by_priority).ends one.exists.complete.over in
+      let rest : GraphEnds ticks one.exists.end = graph_reacts ticks one.exists.end one.exists.rests accepted.1 in
+      record { ends = one.exists.end ∷ rest.ends; reacts = (ends, rest.reacts) }
+
+module _ (c : Chart) (rules : IsChart features.Extended c) where
+  abbrev k : Table
+  k = table c
+
+  abbrev core : Chart
+  core = expanded c
+
+  entry_there : (states : List (Option ℕ)) (n s : ℕ) → chart_state states n ≡ Some s → n < length states
+  entry_there states n s stands = by (slice_get states n) refl stands
+    where
+      by : (o : Option (Option ℕ)) → slice_get states n ≡ o → unwrap_or o None ≡ Some s → n < length states
+      by None is e = absurd (none-some s e)
+      by (Some x) is e = slice_get_within states n x is
+
+  -- a configuration of the graph shows the core chart's, which keeps the chart's
+  record ShownBy (d : Configuration) (m : Control) : Type 0 where
+    core_now : Configuration
+    kept : SeenAlike c d core_now
+    shown : AreSeenAlike (table core) (state_of_node core) core_now m
+
+  active_too : (x y : Configuration) (m : Control) → ShownBy x m → ShownBy y m → (s : ℕ) → is_active k x s ≡ true → is_active k y s ≡ true
+  active_too x y m first second s on =
+      let in_core : IsActiveInCore c first.core_now s = (first.kept.active s).0 on in
+      let inside : in_core.0 < length (table core).states =
+      subst (λ n. in_core.0 < n) (states_mapped_all c rules).0 (entry_there (state_map c) in_core.0 s in_core.2) in
+      (second.kept.active s).1 (in_core.0, sym (second.shown.active in_core.0 inside) ∙ (first.shown.active in_core.0 inside ∙ in_core.1), in_core.2)
+
+  both_seen : (d e : Configuration) (m : Control) → ShownBy d m → ShownBy e m → AreSeenTheSame k d e
+  both_seen d e m first second =
+      record {
+        variables = sym first.kept.variables
+            ∙ (ap (take (length c.variables)) (sym first.shown.variables ∙ second.shown.variables) ∙ second.kept.variables);
+        active = λ s. same_truth (is_active k d s) (is_active k e s) (active_too d e m first second s) (active_too e d m second first s);
+      }
+
+  through : (ds xs : List Configuration) (ms : List Control) → EachAlike (SeenAlike c) ds xs →
+      EachPair (AreSeenAlike (table core) (state_of_node core)) xs ms → EachAlike ShownBy ds ms
+  through [] [] [] kept shown = tt
+  through (d ∷ ds) (x ∷ xs) (m ∷ ms) kept shown =
+      (record { core_now = x; kept = kept.0; shown = shown.0 }, through ds xs ms kept.1 shown.1)
+  through [] [] (m ∷ ms) kept shown = absurd shown
+  through (d ∷ ds) (x ∷ xs) [] kept shown = absurd shown
+  through [] (x ∷ xs) ms kept shown = absurd kept
+  through (d ∷ ds) [] ms kept shown = absurd kept
+
+  all_seen : (ds es : List Configuration) (ms : List Control) → EachAlike ShownBy ds ms → EachAlike ShownBy es ms → EachAlike (AreSeenTheSame k) ds es
+  all_seen [] [] [] first second = tt
+  all_seen (d ∷ ds) (e ∷ es) (m ∷ ms) first second = (both_seen d e m first.0 second.0, all_seen ds es ms first.1 second.1)
+  all_seen [] es (m ∷ ms) first second = absurd first
+  all_seen (d ∷ ds) es [] first second = absurd first
+  all_seen [] (e ∷ es) [] first second = absurd second
+  all_seen (d ∷ ds) [] (m ∷ ms) first second = absurd second
+
+  module _ (flat : IsFlat c) (image : HasImage c) (low : IsLowering core image.scl) where
+    abbrev G : Program
+    G = program_of (numbered image.scl)
+
+    valid : IsValid G image.tables
+    valid = subst (λ z. IsValid z image.tables) image.graph.is image.valid
+
+    all_accepted : (ticks : List Inputs) → AllOf (AreAccepted image.program) ticks → AllAccepted G ticks
+    all_accepted [] accepted = tt
+    all_accepted (inputs ∷ ticks) accepted = (subst (λ z. AreAccepted z inputs) image.graph.is accepted.0, all_accepted ticks accepted.1)
+
+    one : HasOneReaction core (state_of_node core) G
+    one = one_reaction core image.scl image.tables low valid (state_of_node core) (nodes_stand core image.scl low)
+
+    pub ends_are_alike : (ticks : List Inputs) (ds es : List Configuration) → AllOf (AreAccepted image.program) ticks →
+        Reaction (chart_machine c) ticks (initial k) ds → Reaction (chart_machine c) ticks (initial k) es → EachAlike (AreSeenTheSame k) ds es
+    ends_are_alike ticks ds es accepted d_reacts e_reacts =
+        let keeps = preemption_holds c rules low.core flat image in
+        let d_core : HasAlike (chart_machine core) Configuration (SeenAlike c) ticks (initial (table core)) ds = keeps ticks ds accepted d_reacts in
+        let e_core : HasAlike (chart_machine core) Configuration (SeenAlike c) ticks (initial (table core)) es = keeps ticks es accepted e_reacts in
+        let those : GraphEnds G image.tables valid ticks (graph_tick.initial G) =
+        graph_reacts G image.tables valid ticks (graph_tick.initial G) (rests-initial G) (all_accepted ticks accepted) in
+        all_seen ds es those.ends
+        (through ds d_core.others those.ends d_core.alike
+        (one.each ticks d_core.others those.ends (all_accepted ticks accepted)
+        (back (chart_machine core) ticks (initial (table core)) d_core.others d_core.reaction) those.reacts))
+        (through es e_core.others those.ends e_core.alike
+        (one.each ticks e_core.others those.ends (all_accepted ticks accepted)
+        (back (chart_machine core) ticks (initial (table core)) e_core.others e_core.reaction) those.reacts))
+
+pub reactions_alike : FlatReactionsAreAlike
+reactions_alike c rules flat image low ticks ds es accepted d_reacts e_reacts =
+    ends_are_alike c rules flat image low ticks ds es accepted d_reacts e_reacts

@@ -1,0 +1,7 @@
+pub mod Ranked
+pub mod Bounded
+pub mod Alike
+pub mod ChartRanks
+pub mod StepNodes
+pub mod CappedRanks
+pub mod LowLines
