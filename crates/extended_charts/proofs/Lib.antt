@@ -1,0 +1,4 @@
+pub mod Naming
+pub mod Folded
+pub mod Handed
+mod ReductionRows

@@ -1,0 +1,10 @@
+pub mod Making
+pub mod Reading
+pub mod Constants
+pub mod Registers
+pub mod Clocks
+pub mod Initial
+pub mod Entry
+pub mod Rows
+pub mod Reduction
+pub mod FaultText

@@ -1,0 +1,42 @@
+-- The chart to which an extended chart is reduced. The passes come in this order: constants, what variables were before, the
+-- ticks since a state was entered, initial values, entry actions.
+use Rattle.std.specs.Prelude.{◌≡◌, map}
+use Rattle.core_charts.specs.declared.features.Features.TheVariants as features
+use Rattle.core_charts.specs.Chart.{Chart}
+use Rattle.core_charts.specs.Rules.{IsChart}
+use Rattle.extended_charts.specs.declared.extended.ExtendedChart.{ExtendedChart}
+use Rattle.extended_charts.specs.declared.rows.Rows.{Rows}
+use Rattle.extended_charts.specs.declared.fault.ReduceFault.{ReduceFault}
+use Rattle.extended_charts.specs.declared.fault.ReduceFault.TheVariants as fault
+use Rattle.extended_charts.specs.Constants.{without_constants}
+use Rattle.extended_charts.specs.Registers.{with_registers}
+use Rattle.extended_charts.specs.Clocks.{with_clocks}
+use Rattle.extended_charts.specs.Initial.{with_settings}
+use Rattle.extended_charts.specs.Entry.{without_entry}
+use Rattle.extended_charts.specs.Rows.{rows_of}
+
+-- the chart that has nothing but entry actions left
+abbrev pub with_entry : ExtendedChart → ExtendedChart
+with_entry c = with_settings (with_clocks (with_registers (without_constants c)))
+
+-- the chart of one that has nothing but entry actions
+abbrev pub chart_of : ExtendedChart → Chart
+chart_of c =
+    record {
+      name = c.name;
+      variables = map (λ d. d.variable) c.variables;
+      regions = map without_entry c.regions;
+    }
+
+abbrev pub reduced : ExtendedChart → Chart
+reduced c = chart_of (with_entry c)
+
+-- what is made of an extended chart: the chart, and which of its states and transitions are the author's
+pub record IsReduction (c : ExtendedChart) (made : Chart) (rows : Rows) : Type 0 where
+  pub chart_is : made ≡ reduced c
+  pub rows_are : rows ≡ rows_of (with_entry c).regions
+
+-- it is reduced to no chart for this reason. A refusal of memory says nothing of the chart
+abbrev pub LacksChart : ExtendedChart → ReduceFault → Type 0
+LacksChart c fault.Limit = ¬ IsChart features.Extended (reduced c)
+LacksChart c fault.Memory = Unit {0}

@@ -1,0 +1,29 @@
+//! Copies of the parts of an extended chart.
+
+ghost use Rattle.std.specs.Prelude.{◌≡◌, IfOk};
+
+use crate::extended::Declared;
+use sc_graph::Variable;
+use sqlite_items::Items;
+use std::alloc::{AllocError, Global};
+
+/// A copy of declarations. Err: memory was refused.
+pub(crate) fn copied_declarations(
+    alloc: Global,
+    variables: &[Declared],
+) -> Result<Items<Declared>, AllocError>
+    ensures { IfOk result (λ copy. copy ≡ variables.now) }
+{
+    let mut copy = Vec::with_capacity(alloc, variables.len())?;
+    for declared in variables {
+        copy.push(Declared {
+            variable: Variable {
+                name: declared.variable.name,
+                kind: declared.variable.kind,
+                role: declared.variable.role,
+            },
+            initial: declared.initial,
+        })?;
+    }
+    Ok(Items::from_vec(copy))
+}

@@ -1,0 +1,59 @@
+//! Extended charts.
+
+use core_charts::{Effect, Transition};
+use sc_graph::{Variable, VariableId};
+use sc_values::{Name, Value};
+use sqlite_items::Items;
+
+/// The number by which triggers name the ticks since their state was entered. No variable has it.
+pub const ELAPSED: u16 = 65535;
+
+/// A variable, and what it holds before the first tick; none counts as `false` or 0.
+#[derive(Debug, Drop)]
+pub struct Declared {
+    pub variable: Variable,
+    pub initial: Option<Value>,
+}
+
+/// A name for a value.
+#[derive(Debug, Drop)]
+pub struct Constant {
+    pub name: Name,
+    pub value: Value,
+}
+
+/// An extended chart. Expressions name its variables by their numbers from 0; behind these what variables were at the
+/// end of the tick before; and behind these its constants.
+#[derive(Debug, Drop)]
+pub struct ExtendedChart {
+    pub name: Name,
+    pub variables: Items<Declared>,
+    /// The variables of which is asked what they were.
+    pub befores: Items<VariableId>,
+    pub constants: Items<Constant>,
+    pub regions: Items<ExtendedRegion>,
+}
+
+/// A region: it is in one of its states, or has ended.
+#[derive(Debug, Drop)]
+#[cycle(extended)]
+pub struct ExtendedRegion {
+    pub name: Name,
+    pub states: Items<ExtendedState>,
+}
+
+/// A state. With regions it is a superstate, else a simple one.
+#[derive(Debug, Drop)]
+#[cycle(extended)]
+pub struct ExtendedState {
+    pub name: Name,
+    /// Whether it is the author's, with all its transitions; others are made by reductions.
+    pub is_own: bool,
+    pub is_initial: bool,
+    pub is_final: bool,
+    /// What is done each time that the state is entered, before it tests anything or enters its regions.
+    pub entry: Items<Effect>,
+    pub regions: Items<ExtendedRegion>,
+    /// In the order of the text. Their targets are places among the states of the region, from 0.
+    pub transitions: Items<Transition>,
+}

@@ -1,0 +1,145 @@
+//! The literals, variables, transitions and states that reductions make.
+
+ghost use Rattle.std.specs.Prelude.{◌≡◌, ◌∷◌, [], IfOk};
+ghost use Rattle.extended_charts.specs.Making.{has_some, literal, local, copy, always, made_state};
+ghost use Rattle.extended_charts.specs.Making.{passing, all_passing};
+
+use crate::extended::{Declared, ExtendedRegion, ExtendedState};
+use crate::names::numbered;
+use chart_elements::next;
+use core_charts::{Effect, Transition, TransitionKind};
+use sc_graph::{Role, Variable, VariableId};
+use sc_values::{Expr, Kind, Name, UnaryOperator, Value};
+use sqlite_items::{Boxed, Items};
+use std::alloc::{AllocError, Global};
+
+/// The expression that a text writes for a value.
+pub(crate) fn literal(alloc: Global, value: Value) -> Result<Expr, AllocError>
+    ensures { IfOk result (λ made. made ≡ literal value) }
+{
+    match value {
+        Value::Int(number) if number < 0 => {
+            let positive = Expr::Literal(Value::Int(number.wrapping_neg()));
+            Ok(Expr::Unary(UnaryOperator::Negate, Boxed::new(alloc, positive)?))
+        }
+        _ => Ok(Expr::Literal(value)),
+    }
+}
+
+/// A local variable.
+pub(crate) fn local(name: Name, kind: Kind, initial: Option<Value>) -> Declared
+    ensures { result ≡ local name kind initial }
+{
+    Declared {
+        variable: Variable {
+            name,
+            kind,
+            role: Role::Local,
+        },
+        initial,
+    }
+}
+
+/// The variable becomes what another is.
+pub(crate) fn copy(variable: VariableId, from: VariableId) -> Effect
+    ensures { result ≡ copy variable from }
+{
+    Effect {
+        variable,
+        value: Expr::Load(from),
+    }
+}
+
+/// The transition without a trigger.
+pub(crate) fn always(immediate: bool, effects: Items<Effect>, target: u32) -> Transition
+    ensures { result ≡ always immediate effects target }
+{
+    Transition {
+        kind: TransitionKind::Go,
+        immediate,
+        trigger: None,
+        effects,
+        target,
+    }
+}
+
+/// A state that is made, with these parts.
+pub(crate) fn made_state(
+    alloc: Global,
+    name: Name,
+    is_initial: bool,
+    regions: Items<ExtendedRegion>,
+    transitions: Items<Transition>,
+) -> ExtendedState
+    ensures { result ≡ made_state name is_initial regions transitions }
+{
+    ExtendedState {
+        name,
+        is_own: false,
+        is_initial,
+        is_final: false,
+        entry: Items::new(alloc),
+        regions,
+        transitions,
+    }
+}
+
+/// The state of this place, which makes these effects and goes on: at once, or in the next tick.
+pub(crate) fn passing(
+    alloc: Global,
+    immediate: bool,
+    place: u32,
+    effects: Items<Effect>,
+    target: u32,
+) -> Result<ExtendedState, AllocError>
+    ensures { IfOk result (λ made. made ≡ passing immediate place effects target) }
+{
+    let name = numbered("step__", place);
+    let transitions = alone(alloc, always(immediate, effects, target))?;
+    Ok(made_state(alloc, name, place == 0, Items::new(alloc), transitions))
+}
+
+/// States from this place on that make these effects, one after the other, and lead to the place behind them.
+pub(crate) fn all_passing(
+    alloc: Global,
+    first: u32,
+    effects: &[Effect],
+) -> Result<Items<ExtendedState>, AllocError>
+    ensures { IfOk result (λ made. made ≡ all_passing first effects.now) }
+{
+    let mut made = Items::new(alloc);
+    let mut place = first;
+    for effect in effects {
+        let behind = next(place)?;
+        let own = alone(alloc, effect.copied(alloc)?)?;
+        made.push(passing(alloc, true, place, own, behind)?)?;
+        place = behind;
+    }
+    Ok(made)
+}
+
+/// Whether there is an item.
+pub(crate) fn has_some<T>(items: &[T]) -> bool
+    ensures { result ≡ has_some items.now }
+{
+    !items.is_empty()
+}
+
+/// A list of one item.
+pub(crate) fn alone<T: Drop>(alloc: Global, item: T) -> Result<Items<T>, AllocError>
+    ensures { IfOk result (λ made. made ≡ item ∷ []) }
+{
+    let mut items = Items::new(alloc);
+    items.push(item)?;
+    Ok(items)
+}
+
+/// A variable of this number. Err: a chart with so many is refused before.
+pub(crate) fn variable(number: usize) -> Result<VariableId, AllocError>
+    ensures { IfOk result (λ x. x ≡ number) }
+{
+    match VariableId::try_from(number) {
+        Ok(x) => Ok(x),
+        Err(_) => Err(AllocError),
+    }
+}

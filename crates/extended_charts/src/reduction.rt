@@ -1,0 +1,65 @@
+//! Extended charts reduced to charts.
+
+ghost use Rattle.std.specs.Prelude.{◌≡◌, IfOk, MatchResult, SomeIff, map};
+ghost use Rattle.core_charts.specs.declared.features.Features.TheVariants as features;
+ghost use Rattle.core_charts.specs.Rules.{IsChart};
+ghost use Rattle.extended_charts.specs.Reduction.{with_entry, chart_of, IsReduction, LacksChart};
+
+use crate::clocks::with_clocks;
+use crate::constants::without_constants;
+use crate::entry::without_entry;
+use crate::extended::{Declared, ExtendedChart};
+use crate::fault::ReduceFault;
+use crate::initial::with_settings;
+use crate::registers::with_registers;
+use crate::rows::{Rows, rows_of};
+use core_charts::Chart;
+use sc_graph::Variable;
+use sqlite_items::Items;
+use std::alloc::{AllocError, Global};
+
+/// The chart to which an extended chart is reduced, and which of its parts are the author's. `Limit`: it would break a
+/// rule or a limit of charts.
+pub fn reduce(alloc: Global, chart: &ExtendedChart) -> Result<(Chart, Rows), ReduceFault>
+    ensures { MatchResult result (λ made. IsReduction chart.now made.0 made.1) (LacksChart chart.now) }
+{
+    let left = with_entry(alloc, chart)?;
+    let rows = rows_of(alloc, left.regions.as_slice())?;
+    match chart_of(alloc, &left)? {
+        Some(chart) => Ok((chart, rows)),
+        None => Err(ReduceFault::Limit),
+    }
+}
+
+// The chart that has nothing but entry actions left.
+fn with_entry(alloc: Global, chart: &ExtendedChart) -> Result<ExtendedChart, AllocError>
+    ensures { IfOk result (λ made. made ≡ with_entry chart.now) }
+{
+    let valued = without_constants(alloc, chart)?;
+    let registered = with_registers(alloc, valued)?;
+    let clocked = with_clocks(alloc, registered)?;
+    with_settings(alloc, clocked)
+}
+
+// The chart of one that has nothing but entry actions. None: it breaks a rule or a limit of charts.
+fn chart_of(alloc: Global, chart: &ExtendedChart) -> Result<Option<Chart>, AllocError>
+    ensures { IfOk result (λ made. SomeIff made (IsChart features.Extended (chart_of chart.now)) (chart_of chart.now)) }
+{
+    let regions = without_entry(alloc, chart.regions.as_slice())?;
+    let variables = variables(alloc, chart.variables.as_slice())?;
+    Chart::of(alloc, chart.name, variables, regions)
+}
+
+fn variables(alloc: Global, declared: &[Declared]) -> Result<Items<Variable>, AllocError>
+    ensures { IfOk result (λ made. made ≡ map (λ d. d.variable) declared.now) }
+{
+    let mut made = Items::new(alloc);
+    for one in declared {
+        made.push(Variable {
+            name: one.variable.name,
+            kind: one.variable.kind,
+            role: one.variable.role,
+        })?;
+    }
+    Ok(made)
+}
