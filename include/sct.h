@@ -96,8 +96,7 @@ sct_status sct_set_bool(sct_machine *machine, size_t number, int value);
 sct_status sct_set_int(sct_machine *machine, size_t number, int32_t value);
 
 /* One tick, under the inputs that were given since the last one. `steps` takes how many steps it took, and may be null. The
- * inputs are taken back then. It takes memory for its room, and gives it back. SCT_MEMORY: the machine and its inputs are as
- * they were. SCT_NULL. */
+ * inputs are taken back then. It takes no memory: a machine has the room for its ticks from when it is opened. SCT_NULL. */
 sct_status sct_react(sct_machine *machine, uint64_t *steps);
 
 /* The value of a variable after the last tick, or before the first: 0 or 1 of a truth value. SCT_NUMBER, SCT_KIND, SCT_NULL. */

@@ -23,7 +23,7 @@ Value = Union[bool, int]
 
 __all__ = [
     "Kind", "Role", "Variable", "Machine", "compile_text", "SctError", "TextFault", "ImageFault", "MemoryRefused", "NoSuchVariable",
-    "NotAnInput", "WrongKind", "WrongControl",
+    "NotAnInput", "WrongKind", "WrongControl", "Closed",
 ]
 
 
@@ -91,13 +91,17 @@ class WrongControl(SctError, ValueError):
     """The bytes hold no configuration in which the machine rests."""
 
 
+class Closed(SctError, ValueError):
+    """The machine was closed."""
+
+
 class _Fault(ctypes.Structure):
     _fields_ = [("number", c_int32), ("line", c_uint64), ("column", c_uint64), ("words", c_char * 256)]
 
 
 _OK, _NULL, _MEMORY, _TEXT, _IMAGE, _NUMBER, _ROLE, _KIND, _BUFFER, _CONTROL = range(10)
 _ERRORS: Dict[int, Type[SctError]] = {
-    _MEMORY: MemoryRefused, _NUMBER: NoSuchVariable, _ROLE: NotAnInput, _KIND: WrongKind, _CONTROL: WrongControl,
+    _NULL: Closed, _MEMORY: MemoryRefused, _NUMBER: NoSuchVariable, _ROLE: NotAnInput, _KIND: WrongKind, _CONTROL: WrongControl,
 }
 _SIGNATURES = {
     "sct_status_words": (c_char_p, [c_int]),
@@ -197,7 +201,7 @@ class Machine:
         return self._by_name[name]
 
     def close(self) -> None:
-        """Gives its memory back. A closed machine refuses each further call."""
+        """Gives its memory back. A closed machine refuses each further call, with Closed."""
         _library.sct_close(self._at)
         self._at = c_void_p()
 
@@ -222,7 +226,7 @@ class Machine:
         if isinstance(value, bool):
             _check(_library.sct_set_bool(self._at, variable.number, int(value)), name)
             return
-        if not -(2**31) <= value < 2**31:
+        if not isinstance(value, int) or not -(2**31) <= value < 2**31:
             raise WrongKind(f"{name} = {value}")
         _check(_library.sct_set_int(self._at, variable.number, value), name)
 

@@ -1,10 +1,33 @@
-/* ticks IMAGE COUNT: so many ticks of an image, under inputs that change, and then how many ns a tick took and by how many
- * bytes the program grew behind the first tenth of them. */
+/* ticks IMAGE COUNT: so many ticks of an image, under inputs that change, and then how many ns a tick took, how often memory
+ * was asked for in the ticks, and by how many kB the program grew behind the first tenth of them. */
 #include <sct.h>
+
+#include "../../lib/heap.h"
 
 #include <stdio.h>
 #include <stdlib.h>
 #include <time.h>
+
+static long requests = 0;
+
+static struct rattle_tried tried(void *at) {
+  static char nowhere;
+  struct rattle_tried answer;
+  requests++;
+  answer.has = at != NULL;
+  answer.at = at != NULL ? at : (void *)&nowhere;
+  return answer;
+}
+
+/* The heap of the library, counted. */
+struct rattle_tried rattle_alloc(size_t size, size_t align) { return tried(malloc(size != 0 ? size : align)); }
+
+struct rattle_tried rattle_realloc(void *at, size_t old_size, size_t size, size_t align) {
+  (void)old_size;
+  return tried(realloc(at, size != 0 ? size : align));
+}
+
+void rattle_dealloc(void *at) { free(at); }
 
 /* How many kB of memory the program has. */
 static long resident(void) {
@@ -43,13 +66,15 @@ int main(int count, char **words) {
   length = fread(image, 1, sizeof image, file);
   fclose(file);
   if (sct_open(image, length, &machine, NULL) != SCT_OK) return 1;
+  requests = 0;
   begun = clock();
   for (tick = 0; tick < ticks; tick++) {
     word = word * 1664525u + 1013904223u;
     if (tick == ticks / 10) before = resident();
     if (give(machine, word) != SCT_OK || sct_react(machine, NULL) != SCT_OK) return 1;
   }
-  printf("%.0f ns a tick, grown by %ld kB\n", (double)(clock() - begun) / CLOCKS_PER_SEC * 1e9 / (double)ticks, resident() - before);
+  printf("%.0f ns a tick, %ld requests for memory, grown by %ld kB\n", (double)(clock() - begun) / CLOCKS_PER_SEC * 1e9 / (double)ticks,
+         requests, resident() - before);
   sct_close(machine);
   return 0;
 }
