@@ -27,6 +27,8 @@ pub record Followed (core : Table) (p : Program) (Stands : Configuration → Con
   pub stands : Stands next last
   -- besides t itself nobody steps who waits at a join
   pub by : (u : ℕ) → Contains run u → (u ≡ t) ⊎ ((j : ℕ) → status_of m u ≢ status.Waiting j)
+  -- and where t itself waits at one, it steps
+  pub leaves : (j : ℕ) → status_of m t ≡ status.Waiting j → Contains run t
 
 -- the node of what a region is about to do: its thread stands there, or at a resume node that leads there
 pub record AtNode (p : Program) (m : Control) (t : ℕ) (a : Access) : Type 0 where

@@ -1,9 +1,9 @@
--- A step of a core chart is followed in the graph of its lowering, and besides its thread nobody leaves a join.
-use Rattle.std.proofs.Common.{◌≡◌, ◌≢◌, ℕ, zero, suc, ◌<◌, ◌⊎◌, inl, inr, ⊎_elim, Some, List, [], ◌∷◌, map, length, slice_get, unwrap_or}
-use Rattle.std.proofs.Common.{option_and_then, Contains, refl, sym, ap, subst, ◌∙◌, arith}
+-- A step of a core chart is followed in the graph of its lowering: its thread leaves the join at which it waits, and nobody else leaves one.
+use Rattle.std.proofs.Common.{◌≡◌, ◌≢◌, ℕ, zero, suc, ◌<◌, ◌⊎◌, inl, inr, ⊎_elim, Bool, true, false, Option, Some, None, List, [], ◌∷◌, map, length}
+use Rattle.std.proofs.Common.{slice_get, unwrap_or, option_and_then, Contains, refl, sym, ap, subst, ◌∙◌, arith}
 use Rattle.std.specs.Prelude.{slice_index_or}
 use Rattle.std.proofs.lemmas.Option.{same_Some}
-use Rattle.sc_values.specs.Runs.{replay, act_of}
+use Rattle.sc_values.specs.Runs.{Machine, Act, replay, act_of}
 use Rattle.sc_graph.specs.declared.control.Control.{Control}
 use Rattle.sc_graph.specs.declared.control.Status.TheVariants as status
 use Rattle.sc_graph.specs.Program.{Program}
@@ -12,14 +12,18 @@ use Rattle.sc_graph.specs.Machine as graph
 use Rattle.sc_graph.specs.Steps as of_nodes
 use Rattle.sc_graph.specs.Tick.{IsConfiguration}
 use Rattle.sc_graph.specs.Valid.{IsFormed}
-use Rattle.tick_laws.proofs.Lists.{map_some}
+use Rattle.tick_laws.proofs.Lists.{map_some, contains_head, contains_tail}
 use Rattle.tick_laws.proofs.Views.{does}
 use Rattle.tick_laws.proofs.StepMoves.{StepMoves, step_moves}
 use Rattle.tick_laws.proofs.ConfigurationKept.{after_other, configuration_kept}
+use Rattle.core_charts.specs.declared.region.Transition.{Transition}
 use Rattle.core_charts.specs.Chart.{Chart}
+use Rattle.chart_machine.specs.declared.standing.Standing.{Standing}
+use Rattle.chart_machine.specs.declared.standing.Standing.TheVariants as stand
 use Rattle.chart_machine.specs.declared.standing.Configuration.{Configuration}
 use Rattle.chart_machine.specs.declared.table.Table.{Table}
-use Rattle.chart_machine.specs.Table.{table}
+use Rattle.chart_machine.specs.Table.{table, region_at}
+use Rattle.chart_machine.specs.Turns.{standing_of}
 use Rattle.chart_machine.specs.Steps.{step}
 use Rattle.chart_machine.specs.Machine as chart
 use Rattle.scl.specs.declared.program.Scl.{Scl}
@@ -33,18 +37,19 @@ use Rattle.scl_graph_laws.specs.Keeps.{Keeps}
 use Rattle.scl_graph_laws.specs.Keeps.{Corresponds as StandsInGraph}
 use Rattle.scl_graph_laws.proofs.Alike.{from_both}
 use Rattle.scl_graph_laws.proofs.RunsKept.{program_keeps_runs}
-use Rattle.chart_lowering_laws.specs.Layout.{Layout}
-use Rattle.chart_lowering_laws.specs.Corresponds.{Corresponds}
+use Rattle.chart_lowering_laws.specs.Layout.{Layout, IsRegionOf}
+use Rattle.chart_lowering_laws.specs.Corresponds.{Live, Giving, Nothing, Ready, Turn, Past, given, Fits, Corresponds}
 use Rattle.chart_lowering_laws.specs.Follows.{AnswersBy, EachMay, HoldsAfter}
 use Rattle.chart_lowering_laws.specs.Keeps.{IsForked, LeavesJoins, KeepsSteps}
 use Rattle.chart_lowering_laws.specs.Laws.{IsLowering}
 use Rattle.chart_lowering_laws.specs.Marks.{layout}
-use Rattle.chart_lowering_laws.specs.Shown.{move, shown_acts}
-use Rattle.chart_lowering_laws.specs.WhichShow.{region_shows, thread_shows}
+use Rattle.chart_lowering_laws.specs.Shown.{move, moves, moves_after, shown_acts, Showing}
+use Rattle.chart_lowering_laws.specs.WhichShow.{shows_standing, region_shows, thread_shows}
 use Rattle.chart_lowering_laws.specs.Stands.{Followed}
 use Rattle.chart_lowering_laws.proofs.NumberTests.{same_or_not}
 use Rattle.chart_lowering_laws.proofs.Following.{first_step}
 use Rattle.chart_lowering_laws.proofs.Lowered.{chart_is_lowered}
+use Rattle.chart_lowering_laws.proofs.Showing.{region_of}
 use Rattle.chart_lowering_laws.proofs.TicksKept.{keeps_runs}
 use Rattle.compiled_charts_laws.specs.Stands.{StandAlike}
 
@@ -77,6 +82,26 @@ waits_forked (Todo todo) j h = absurd (cc)
 waits_forked (Resting n rest) j h = absurd (cc)
 waits_forked (Resuming n rest) j h = absurd (cc)
 waits_forked Finished j h = absurd (cc)
+
+-- ---- a run that shows a step has it taken by its thread
+
+shown_by : (n : Machine) (shows : Showing n) (run : List ℕ) (b : n.Configuration) (a : Act) → shown_acts (moves n shows run b) ≡ a ∷ [] →
+    Contains run a.thread
+shown_by n shows [] b a is = let none : [] ≡ a ∷ [] = is in absurd cc
+shown_by n shows (u ∷ run) b a is = by (λ e rest. shown_by n shows run e a rest) (shows b u) is
+  where
+    later : ((e : n.Configuration) → shown_acts (moves n shows run e) ≡ a ∷ [] → Contains run a.thread) → (o : Option n.Configuration) →
+        shown_acts (moves_after n (moves n shows run) o) ≡ a ∷ [] → Contains run a.thread
+    later further None rest = let none : [] ≡ a ∷ [] = rest in absurd cc
+    later further (Some e) rest = further e rest
+
+    by : ((e : n.Configuration) → shown_acts (moves n shows run e) ≡ a ∷ [] → Contains run a.thread) → (shown : Bool) →
+        shown_acts (move shown (act_of n b u) ∷ moves_after n (moves n shows run) (n.step u b)) ≡ a ∷ [] → Contains (u ∷ run) a.thread
+    by further true rest =
+        let first : act_of n b u ∷ shown_acts (moves_after n (moves n shows run) (n.step u b)) ≡ a ∷ [] = rest in
+        let same : act_of n b u ≡ a = cc in
+        subst (Contains (u ∷ run)) (ap (λ (z : Act). z.thread) same) (contains_head u run)
+    by further false rest = contains_tail u a.thread run (later further (n.step u b) rest)
 
 module _ (c : Chart) (p : Scl) (low : IsLowering c p) (formed : IsFormed (program_of (numbered p))) where
   abbrev K : Table
@@ -154,6 +179,38 @@ module _ (c : Chart) (p : Scl) (low : IsLowering c p) (formed : IsFormed (progra
           each.1 in
           ⊎_elim inl (λ free. inr (λ j waits. free j (waits_still m f.0 v u j ok f.1 differ waits))) (rest_free g.0 f.0 f.2 ok_too g.2 rest)
 
+  -- a step shows where the thread waits at a join: its region stands in no simple state
+  forked_shows : (d : Configuration) (s : State) (t : ℕ) → Corresponds K P L d s → IsForked (doing s t) → region_shows d t ≡ true
+  forked_shows d s t corr forked = by (standing_of d t) refl
+    where
+      none_live : (u : ℕ) (y : Transition) (tests : List Transition) (z : Doing) → Live K P.root L t (stand.Trying u (y ∷ tests)) z → IsForked z → ⊥
+      none_live u y tests (Forked n branches rest) live waits = live
+      none_live u y tests Away live waits = waits
+      none_live u y tests (Todo todo) live waits = waits
+      none_live u y tests (Resting n rest) live waits = waits
+      none_live u y tests (Resuming n rest) live waits = waits
+      none_live u y tests Finished live waits = waits
+
+      none_fits : (u : ℕ) (y : Transition) (tests : List Transition) (g : Giving) → Fits K P.root L t g (stand.Trying u (y ∷ tests)) (doing s t) → ⊥
+      none_fits u y tests Nothing fits = subst IsForked fits.1 forked
+      none_fits u y tests Ready fits = subst IsForked fits.1 forked
+      none_fits u y tests Past fits = subst IsForked fits.1 forked
+      none_fits u y tests Turn fits = none_live u y tests (doing s t) fits.0 forked
+
+      by : (x : Standing) → standing_of d t ≡ x → shows_standing (standing_of d t) ≡ true
+      by (stand.Trying u (y ∷ tests)) is =
+          let there : IsRegionOf K t =
+          region_of K P L d s corr t (λ out. let wrong : stand.Trying u (y ∷ tests) ≡ stand.Outside = sym is ∙ out in absurd cc) in
+          absurd (none_fits u y tests (given K d s (region_at K t).around)
+          (subst (λ z. Fits K P.root L t (given K d s (region_at K t).around) z (doing s t)) is (corr.each t there)))
+      by (stand.Trying u []) is = ap shows_standing is
+      by stand.Outside is = ap shows_standing is
+      by stand.Ended is = ap shows_standing is
+      by (stand.Entering u tests) is = ap shows_standing is
+      by (stand.Guarding u tests) is = ap shows_standing is
+      by (stand.Within u tests) is = ap shows_standing is
+      by (stand.Acting u effects place) is = ap shows_standing is
+
   pub follow : (d next : Configuration) (m : Control) (t : ℕ) → Alike d m → step K t d ≡ Some next → Followed K G Alike next m t
   follow d next m t x goes =
       let a : AnswersBy (text.machine P) thread_shows x.state (LeavesJoins t) (Corresponds K P L next)
@@ -174,4 +231,9 @@ module _ (c : Chart) (p : Scl) (low : IsLowering c p) (formed : IsFormed (progra
           is_configuration = replay_kept a.answers.run m r.0 x.is_configuration r.1;
         };
         by = λ u inside. by_run t a.answers.run x.state a.answers.end m x.of_graph x.is_configuration a.answers.runs a.each u inside;
+        leaves = λ j waits.
+            shown_by (text.machine P) thread_shows a.answers.run x.state (act_of (chart.machine K) d t)
+            (a.answers.shown
+            ∙ ap (λ b. shown_acts (move b (act_of (chart.machine K) d t) ∷ []))
+            (forked_shows d x.state t x.of_chart (waits_forked (doing x.state t) j (sym (status_is P x.state m x.of_graph t) ∙ waits))));
       }

@@ -18,11 +18,11 @@ pub fn charts_have_one_reaction()
     ensures { ChartsHaveOneReaction }
 {}
 
-/// If that graph is formed, it stands as the chart does, through each step of the chart: besides the thread of
-/// the region that steps nobody leaves a join; who waits at the join of a superstate's fork stands in that
-/// superstate; who is about to write stands at the node that does it; who is concurrent in the chart is so in
-/// the graph; and a thread's parent is the region that holds the superstate around it. This function does
-/// nothing; its contract is the law.
+/// If that graph is formed, it stands as the chart does, through each step of the chart: the thread of the region
+/// that steps leaves the join at which it waits, and nobody else leaves one; who waits at the join of a superstate's
+/// fork stands in that superstate; who is about to write stands at the node that does it; who is concurrent in the
+/// chart is so in the graph; and a thread's parent is the region that holds the superstate around it. This function
+/// does nothing; its contract is the law.
 pub fn lowerings_stand()
     ensures { LoweringsStand }
 {}
