@@ -1,6 +1,6 @@
--- The steps of a flat chart that has a valid image have capped ranks, if a region that enters a superstate again has its thread step.
-use Rattle.std.proofs.Common.{◌≡◌, ◌≢◌, ℕ, ◌≤◌, true, Some, List, length, refl, sym, ap, subst, ◌∙◌}
-use Rattle.sc_values.specs.Access.{Nothing, no_access, MayPrecede}
+-- The steps of a flat chart that has a valid image have capped ranks, so it has a list of ends for each list of accepted inputs.
+use Rattle.std.proofs.Common.{◌≡◌, ℕ, true, Some, List, length, refl, sym, ap, subst, ◌∙◌}
+use Rattle.sc_values.specs.Access.{MayPrecede}
 use Rattle.sc_graph.specs.declared.control.Control.{Control}
 use Rattle.sc_graph.specs.Program.{Program}
 use Rattle.sc_graph.specs.Tick.{Inputs, AreAccepted}
@@ -10,7 +10,7 @@ use Rattle.core_charts.specs.Chart.{Chart}
 use Rattle.core_charts.specs.Rules.{IsChart}
 use Rattle.chart_machine.specs.declared.standing.Configuration.{Configuration}
 use Rattle.chart_machine.specs.declared.table.Table.{Table}
-use Rattle.chart_machine.specs.Machine.{machine, initial, start}
+use Rattle.chart_machine.specs.Machine.{initial, start}
 use Rattle.chart_machine.specs.Table.{table}
 use Rattle.chart_machine.specs.Turns.{standing_of, is_enabled}
 use Rattle.chart_machine.specs.Steps.{access_of, step}
@@ -30,12 +30,11 @@ use Rattle.reaction_laws.proofs.CappedSteps.{IsCapped, idle_is, is_idle, uncappe
 use Rattle.reaction_laws.proofs.ChartOrder.{step_priority, in_order}
 use Rattle.reaction_laws.proofs.FlatRuns.{BothRest, is_valid, resting, started, takes}
 use Rattle.reaction_laws.proofs.GreatestPriority.{greatest_priority}
-use Rattle.reaction_laws.proofs.NextCapped.{run, n, m_first, followed, next_capped, quiet_next, first, first_capped, quiet_first}
+use Rattle.reaction_laws.proofs.NextCapped.{n, m_first, followed, next_capped, quiet_next, first, first_capped, quiet_first}
 use Rattle.reaction_laws.proofs.OthersLow.{RanksWithin}
 use Rattle.reaction_laws.proofs.QuietStarts.{Quiet, lowered_tests, earlier, starts_quiet}
 use Rattle.reaction_laws.proofs.RanksReact.{has_reaction}
 use Rattle.reaction_laws.proofs.RunsComplete.{enabled_there, turn_of}
-use Rattle.reaction_laws.proofs.StepLow.{StepsAgain}
 
 module _ (c : Chart) (rules : IsChart features.Extended c) (flat : IsFlat c) (image : HasImage c) (low : IsLowering (expanded c) image.scl) where
   abbrev k : Table
@@ -64,23 +63,11 @@ module _ (c : Chart) (rules : IsChart features.Extended c) (flat : IsFlat c) (im
   abbrev priority_at : KnownAt → ℕ → ℕ
   priority_at at = step_priority c rules low.core image.scl image.tables low (is_valid c rules low.core flat image low) at.now at.control
 
-  -- what is still to be shown
-  abbrev pub EachStepsAgain : Type 0
-  EachStepsAgain =
-      (now next d : Configuration) (m : Control) (most least : ℕ) (known : Capped now d m most) (quiet : Calm d m)
-      (ranks : RanksWithin c rules low.core image.scl image.tables low (is_valid c rules low.core flat image low) now m most least) (r : ℕ)
-      (steps : step k r now ≡ Some next) →
-      StepsAgain c rules low.core now next r
-      (run c rules low.core flat image.scl image.tables low (is_valid c rules low.core flat image low)
-      (lowered_tests c rules low.core flat image.scl image.tables low (is_valid c rules low.core flat image low))
-      (earlier c rules low.core flat image.scl image.tables low (is_valid c rules low.core flat image low)) now next d m most least known quiet ranks r
-      steps)
-
-  goes_at : EachStepsAgain → (next : Configuration) (at : KnownAt) (cap least t : ℕ) → Capped at.now at.core at.control cap → Calm at.core at.control →
+  goes_at : (next : Configuration) (at : KnownAt) (cap least t : ℕ) → Capped at.now at.core at.control cap → Calm at.core at.control →
       step k t at.now ≡ Some next →
       RanksWithin c rules low.core image.scl image.tables low (is_valid c rules low.core flat image low) at.now at.control cap least →
       (l : KnownAt) × HoldsAt next l least
-  goes_at again next at cap least t known quiet steps ranks =
+  goes_at next at cap least t known quiet steps ranks =
       let v = is_valid c rules low.core flat image low in
       let tests = lowered_tests c rules low.core flat image.scl image.tables low v in
       let late = earlier c rules low.core flat image.scl image.tables low v in (
@@ -93,7 +80,7 @@ module _ (c : Chart) (rules : IsChart features.Extended c) (flat : IsFlat c) (im
         record {
           same = refl;
           is_capped = next_capped c rules low.core flat image.scl image.tables low v tests late at.now next at.core at.control cap least known quiet ranks t
-              steps (again at.now next at.core at.control cap least known quiet ranks t steps);
+              steps;
           quiet = quiet_next c rules low.core flat image.scl image.tables low v tests late at.now next at.core at.control cap least known quiet ranks t steps;
         },
       )
@@ -132,8 +119,8 @@ module _ (c : Chart) (rules : IsChart features.Extended c) (flat : IsFlat c) (im
   enabled_too x at u same on = subst (λ z. is_enabled k z u ≡ true) same on
 
   -- so there are capped ranks
-  pub has_capped_ranks : EachStepsAgain → HasCappedRanks (chart_machine c) (AreAccepted image.program)
-  has_capped_ranks again =
+  pub has_capped_ranks : HasCappedRanks (chart_machine c) (AreAccepted image.program)
+  has_capped_ranks =
       record {
         Known = KnownAt;
         Holds = HoldsAt;
@@ -144,7 +131,7 @@ module _ (c : Chart) (rules : IsChart features.Extended c) (flat : IsFlat c) (im
         turns = λ x d t steps. turn_of k x d t steps;
         begins = begins_at;
         goes = λ x d at cap least t holds steps ranks.
-            goes_at again d at cap least t holds.is_capped holds.quiet (subst (λ z. step k t z ≡ Some d) holds.same steps)
+            goes_at d at cap least t holds.is_capped holds.quiet (subst (λ z. step k t z ≡ Some d) holds.same steps)
             (λ u on. ranks u (subst (λ z. is_enabled k z u ≡ true) (sym holds.same) on));
         is_free = λ x at cap u holds free.
             ap (λ z. access_of (standing_of z u)) holds.same ∙ idle_is (access_of (standing_of at.now u)) free;
@@ -159,6 +146,6 @@ module _ (c : Chart) (rules : IsChart features.Extended c) (flat : IsFlat c) (im
       }
 
   -- and a list of ends for each list of accepted inputs
-  pub reacts : EachStepsAgain → (inputs : List Inputs) → AllOf (AreAccepted image.program) inputs →
+  pub reacts : (inputs : List Inputs) → AllOf (AreAccepted image.program) inputs →
       (ends : List Configuration) × Reaction (chart_machine c) inputs (initial k) ends
-  reacts again = has_reaction c rules flat image low (capped_are_ranks (chart_machine c) (AreAccepted image.program) (has_capped_ranks again))
+  reacts = has_reaction c rules flat image low (capped_are_ranks (chart_machine c) (AreAccepted image.program) has_capped_ranks)

@@ -1,8 +1,11 @@
--- Where a core chart goes along with its flat chart, its graph comes along, to where the threads are at their nodes and monitors quiet.
-use Rattle.std.proofs.Common.{◌≡◌, ℕ, true, Some, List, [], ◌++◌, ◌∙◌}
+-- Where a core chart goes along with its flat chart, its graph comes along, to where the threads are at their nodes and monitors quiet; and who
+-- leaves its superstate there leaves its join.
+use Rattle.std.proofs.Common.{◌≡◌, ℕ, true, Some, List, [], ◌∷◌, ◌++◌, Contains, refl, ap, subst, ◌∙◌}
 use Rattle.sc_values.specs.Runs.{replay}
 use Rattle.sc_graph.specs.declared.control.Control.{Control}
+use Rattle.sc_graph.specs.declared.control.Status.TheVariants as status
 use Rattle.sc_graph.specs.declared.tables.Tables.{Tables}
+use Rattle.sc_graph.specs.Control.{status_of}
 use Rattle.sc_graph.specs.Machine as graph
 use Rattle.sc_graph.specs.Program.{Program}
 use Rattle.sc_graph.specs.Valid.{IsValid}
@@ -33,9 +36,13 @@ use Rattle.abort_expansion_laws.proofs.TickFollowed as ticks
 use Rattle.reaction_laws.specs.StepNodes.{Alike}
 use Rattle.reaction_laws.proofs.ChartOrder.{AllAt}
 use Rattle.reaction_laws.proofs.FlatRuns.{replay_behind}
-use Rattle.reaction_laws.proofs.GraphRuns.{GoesToNodes, goes_to_nodes}
+use Rattle.reaction_laws.proofs.GraphRuns.{GoesToNodes, goes_to_nodes, comes_own}
 use Rattle.reaction_laws.proofs.MonitorsLow.{lowered, MonitorsQuiet}
 use Rattle.reaction_laws.proofs.QuietRuns.{steps_keep, coming_keeps}
+
+all_of : (xs : List ℕ) → xs ≡ xs ++ []
+all_of [] = refl
+all_of (x ∷ xs) = ap (λ ys. x ∷ ys) (all_of xs)
 
 module _ (c : Chart) (rules : IsChart features.Extended c) (core_rules : IsChart features.Core (expanded c)) (p : Scl) (q : Tables)
     (low : IsLowering (expanded c) p) (valid : IsValid (program_of (numbered p)) q)
@@ -102,3 +109,10 @@ module _ (c : Chart) (rules : IsChart features.Extended c) (core_rules : IsChart
     pub quiet_there : Quiet e graph_next
     unfolding graph_next
     quiet_there = coming_keeps c rules core_rules p q low valid lowered_tests earlier e there.between.last there.come there.between.holds
+
+    -- a thread of the log that waits at a join has stepped
+    pub own_there : (t j : ℕ) → status_of m t ≡ status.Waiting j → Contains (threads corr log) t → Contains graph_run t
+    unfolding graph_run there
+    own_there t j waits has =
+        comes_own (expanded c) p q low valid Quiet (steps_keep c rules core_rules p q low valid lowered_tests earlier) t j (threads corr log ++ []) d e m
+        alike quiet (replay_behind (machine core) corr Told log d e [] follows) waits (subst (λ ts. Contains ts t) (all_of (threads corr log)) has)

@@ -25,8 +25,9 @@ pub mod OthersLow
 pub mod BelowInGraph
 pub mod StillWaits
 pub mod NextLow
-pub mod WeakFails
-pub mod Leaves
+pub mod IdleInside
+pub mod OpenedThreads
+pub mod OwnSteps
 pub mod StepLow
 pub mod GuardsLow
 pub mod MonitorsLow

@@ -1,20 +1,18 @@
 -- While a monitor has strong aborts to test, its superstate's holder comes to no greater priority than the monitor, for nobody beside it does.
-use Rattle.std.proofs.Common.{◌≡◌, ◌≢◌, ℕ, suc, ◌<◌, ◌≤◌, true, false, ⊎_elim, Option, Some, None, List, [], ◌∷◌, ◌++◌, map, pos, refl, sym, ap, subst}
+use Rattle.std.proofs.Common.{◌≡◌, ◌≢◌, ℕ, suc, ◌<◌, ◌≤◌, true, false, ⊎_elim, Option, Some, None, List, [], ◌∷◌, ◌++◌, map, pos, refl, sym, ap}
 use Rattle.std.proofs.Common.{◌∙◌, arith}
 use Rattle.sc_values.specs.Access.{no_access}
 use Rattle.sc_values.specs.declared.expression.Expr.{Expr}
 use Rattle.sc_values.specs.declared.value.Value.TheVariants as value_is
 use Rattle.sc_graph.specs.declared.control.Control.{Control}
 use Rattle.sc_graph.specs.declared.tables.Tables.{Tables}
-use Rattle.sc_graph.specs.Control.{status_of, IsEnabled}
-use Rattle.sc_graph.specs.Program.{Program, parent_of}
+use Rattle.sc_graph.specs.Control.{status_of}
+use Rattle.sc_graph.specs.Program.{Program}
 use Rattle.sc_graph.specs.Tables.{priority, priority_of}
-use Rattle.sc_graph.specs.Threads.{Below}
 use Rattle.sc_graph.specs.Valid.{IsValid}
 use Rattle.tick_laws.proofs.Formed.{valid_formed}
 use Rattle.tick_laws.proofs.Views.{enabled_view}
 use Rattle.core_charts.specs.declared.features.Features.TheVariants as features
-use Rattle.core_charts.specs.declared.region.Effect.{Effect}
 use Rattle.core_charts.specs.declared.region.Transition.{Transition}
 use Rattle.core_charts.specs.Aborts.{has_aborts}
 use Rattle.core_charts.specs.Chart.{Chart}

@@ -1,5 +1,6 @@
 -- What is known of a flat chart, its core chart and its graph, as a tick starts, and again behind each step, for a number its ranks were within.
-use Rattle.std.proofs.Common.{◌≡◌, ℕ, true, Some, List, [], ◌∷◌}
+use Rattle.std.proofs.Common.{◌≡◌, ℕ, ◌≤◌, true, Some, List, [], ◌∷◌, Contains, refl, sym, subst, ◌∙◌, arith}
+use Rattle.std.specs.List.{list_any}
 use Rattle.sc_values.specs.Runs.{replay, act_of}
 use Rattle.sc_graph.specs.declared.control.Control.{Control}
 use Rattle.sc_graph.specs.declared.tables.Tables.{Tables}
@@ -7,8 +8,12 @@ use Rattle.sc_graph.specs.Machine as graph
 use Rattle.sc_graph.specs.Program.{Program}
 use Rattle.sc_graph.specs.Valid.{IsValid}
 use Rattle.core_charts.specs.declared.features.Features.TheVariants as features
+use Rattle.core_charts.specs.declared.region.Transition.{Transition}
+use Rattle.core_charts.specs.Aborts.{has_aborts}
 use Rattle.core_charts.specs.Chart.{Chart}
 use Rattle.core_charts.specs.Rules.{IsChart}
+use Rattle.core_charts.specs.Tests.{is_weak}
+use Rattle.chart_machine.specs.declared.standing.Standing.TheVariants as at
 use Rattle.chart_machine.specs.declared.standing.Configuration.{Configuration}
 use Rattle.chart_machine.specs.declared.table.Table.{Table}
 use Rattle.chart_machine.specs.Machine.{machine}
@@ -20,17 +25,21 @@ use Rattle.scl.specs.Numbering.{numbered}
 use Rattle.scl_graph.specs.Graph.{program_of}
 use Rattle.abort_expansion.specs.Expansion.{expanded}
 use Rattle.chart_lowering_laws.specs.Laws.{IsLowering}
+use Rattle.chart_machine_laws.specs.Tree.{IsThere}
+use Rattle.compiled_charts_laws.proofs.AtJoins as at_joins
 use Rattle.compiled_charts_laws.proofs.LateTests.{is_late}
-use Rattle.abort_expansion_laws.specs.CoreRows.{Images}
+use Rattle.abort_expansion_laws.specs.CoreRows.{own, Images, CoreRows}
 use Rattle.abort_expansion_laws.specs.Flat.{IsFlat}
 use Rattle.abort_expansion_laws.specs.Related.{Related}
-use Rattle.abort_expansion_laws.specs.Segments.{Segment}
-use Rattle.abort_expansion_laws.specs.StageReached.{Stage}
+use Rattle.abort_expansion_laws.specs.Segments.{Segment, threads}
+use Rattle.abort_expansion_laws.specs.StageReached.{some_work, stage_of, Stage}
 use Rattle.abort_expansion_laws.specs.Stages.{Entry, Correspondence, NoneReached}
+use Rattle.abort_expansion_laws.proofs.KnownVariables.{present_there}
 use Rattle.abort_expansion_laws.proofs.Owed.{Started}
 use Rattle.abort_expansion_laws.proofs.OwnTests.{OwnTests}
 use Rattle.abort_expansion_laws.proofs.PreemptionKept.{ToldHere, own_tests_kept}
 use Rattle.abort_expansion_laws.proofs.QuietBegins.{LoweredTests}
+use Rattle.abort_expansion_laws.proofs.StageReached.{one_at_least}
 use Rattle.abort_expansion_laws.proofs.StepsByCase.{steps_followed}
 use Rattle.abort_expansion_laws.proofs.TickFollowed as ticks
 use Rattle.abort_expansion_laws.proofs.TicksBegin.{ticks_begin}
@@ -38,11 +47,13 @@ use Rattle.abort_expansion_laws.proofs.ToldSteps.{told_silent}
 use Rattle.reaction_laws.specs.StepNodes.{Alike}
 use Rattle.reaction_laws.proofs.CappedSteps.{IsCapped}
 use Rattle.reaction_laws.proofs.ChartOrder.{AllAt}
-use Rattle.reaction_laws.proofs.GraphComes.{graph_run, graph_next, graph_leads, all_there, alike_there, quiet_there}
+use Rattle.reaction_laws.proofs.GraphComes.{graph_run, graph_next, graph_leads, all_there, alike_there, quiet_there, own_there}
 use Rattle.reaction_laws.proofs.GreatestPriority.{greatest_priority, all_ahead, all_once_stepped}
 use Rattle.reaction_laws.proofs.MonitorsLow.{lowered, MonitorsQuiet, guards_low}
+use Rattle.reaction_laws.proofs.OpenedThreads.{waits_there}
 use Rattle.reaction_laws.proofs.OthersLow.{RanksWithin}
-use Rattle.reaction_laws.proofs.StepLow.{StepsAgain, LinesLow, step_low}
+use Rattle.reaction_laws.proofs.OwnSteps.{touched, touched_climbs, has_own_step}
+use Rattle.reaction_laws.proofs.StepLow.{LinesLow, step_low}
 
 module _ (c : Chart) (rules : IsChart features.Extended c) (core_rules : IsChart features.Core (expanded c)) (flat : IsFlat c) (p : Scl) (q : Tables)
     (low : IsLowering (expanded c) p) (valid : IsValid (program_of (numbered p)) q)
@@ -57,6 +68,9 @@ module _ (c : Chart) (rules : IsChart features.Extended c) (core_rules : IsChart
 
   abbrev i : Images
   i = ticks.i c rules core_rules
+
+  abbrev rows : CoreRows k core i
+  rows = ticks.rows c rules core_rules
 
   abbrev corr : Correspondence
   corr = ticks.corr c rules core_rules
@@ -111,15 +125,48 @@ module _ (c : Chart) (rules : IsChart features.Extended c) (core_rules : IsChart
         graph_leads c rules core_rules p q low valid lowered_tests earlier next d followed.last m known.alike quiet followed.log followed.follows
         followed.reaches owns_next
 
-    pub next_capped : StepsAgain c rules core_rules now next r run → IsCapped c rules core_rules p q low valid next followed.last n least
-    next_capped again =
-        let those : LinesLow c rules core_rules p q low valid next n least =
-        step_low c rules core_rules p q low valid now d next followed.last m n most least r run known ranks steps leads_next all_next alike_next again in
+    -- who tests an opened superstate has his thread step
+    module _ (s : ℕ) (t : Transition) (tests : List Transition) (was : standing_of now r ≡ at.Within s (t ∷ tests))
+        (low_stage : stage_of k next (standing_of next r) ≤ 1) where
+      r_there : IsThere k r
+      r_there =
+          present_there k core i now d known.all.related r
+          (λ out. let wrong : at.Outside ≡ at.Within s (t ∷ tests) = sym out ∙ was in absurd cc)
+
+      stage_now : Stage k i.thread_of now d (i.thread_of r) 1
+      stage_now =
+          record {
+            regions = λ u there same.
+                subst (λ v. 1 ≤ stage_of k now (standing_of now v)) (rows.region_once r u same)
+                (subst (λ x. 1 ≤ stage_of k now x) (sym was)
+                (one_at_least (has_aborts (own k s)) (some_work k now s) (list_any (λ z. is_weak z.kind) (t ∷ tests))));
+            chart = λ same. omega arith;
+          }
+
+      stage_next : (n : ℕ) → Stage k i.thread_of next followed.last (i.thread_of r) n → n ≤ 1
+      stage_next n reached = let most_now = reached.regions r r_there refl in omega (most_now, low_stage, arith)
+
+      in_log : Contains (threads corr followed.log) (i.thread_of r)
+      in_log =
+          has_own_step corr r (act_of (machine k) now r) refl followed.log (Stage k i.thread_of now d) stage_now
+          (followed.climbs (touched corr r) (touched_climbs corr r (Stage k i.thread_of next followed.last) stage_next)) followed.fits followed.charted
+
+      in_run : Contains run (i.thread_of r)
+      in_run =
+          own_there c rules core_rules p q low valid lowered_tests earlier next d followed.last m known.alike quiet followed.log followed.follows
+          followed.reaches owns_next (i.thread_of r) (at_joins.join_of (expanded c) p low (i.main_of s))
+          (waits_there c rules core_rules p q low valid now d m r s t tests known.all r_there was) in_log
+
+    low_next : LinesLow c rules core_rules p q low valid next n least
+    low_next = step_low c rules core_rules p q low valid now d next followed.last m n most least r run known ranks steps leads_next all_next in_run
+
+    pub next_capped : IsCapped c rules core_rules p q low valid next followed.last n least
+    next_capped =
         record {
           all = all_next;
           alike = alike_next;
-          lines = those.lines;
-          joins = those.joins;
+          lines = low_next.lines;
+          joins = low_next.joins;
           guarded = λ t on guards some.
               guards_low c rules core_rules p q low valid lowered_tests earlier next followed.last n all_next alike_next quiet_next t on guards some;
         }

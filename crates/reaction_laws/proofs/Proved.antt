@@ -5,7 +5,7 @@ pub use Rattle.reaction_laws.proofs.FlatRuns.{flat_ticks_end}
 pub use Rattle.reaction_laws.proofs.SeenTheSame.{reactions_alike}
 pub use Rattle.reaction_laws.proofs.RanksReact.{has_reaction}
 pub use Rattle.reaction_laws.proofs.CappedRanks.{capped_are_ranks}
-pub use Rattle.reaction_laws.proofs.GraphRuns.{goes_to_nodes}
+pub use Rattle.reaction_laws.proofs.GraphRuns.{goes_to_nodes, comes_own}
 pub use Rattle.reaction_laws.proofs.StillAtJoins.{has_stepped}
 pub use Rattle.reaction_laws.proofs.MonitorsLow.{guards_low}
 pub use Rattle.reaction_laws.proofs.QuietRuns.{steps_keep, coming_keeps}
@@ -22,8 +22,9 @@ pub use Rattle.reaction_laws.proofs.OthersLow.{others_low}
 pub use Rattle.reaction_laws.proofs.BelowInGraph.{below_there}
 pub use Rattle.reaction_laws.proofs.StillWaits.{turn_still, lies_or_not, elsewhere_from}
 pub use Rattle.reaction_laws.proofs.NextLow.{ahead_free, ahead_behind, lines_next, joins_next}
-pub use Rattle.reaction_laws.proofs.WeakFails.{lines_failed, joins_failed}
-pub use Rattle.reaction_laws.proofs.Leaves.{fails_or_taken, left_stepped}
+pub use Rattle.reaction_laws.proofs.IdleInside.{lines_idle, joins_idle}
+pub use Rattle.reaction_laws.proofs.OpenedThreads.{waits_there}
+pub use Rattle.reaction_laws.proofs.OwnSteps.{touched_climbs, has_own_step}
 pub use Rattle.reaction_laws.proofs.StepLow.{step_low}
 pub use Rattle.reaction_laws.proofs.GuardsLow.{guard_low}
 pub use Rattle.reaction_laws.proofs.NoResumes.{no_resumes}

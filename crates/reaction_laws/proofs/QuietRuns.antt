@@ -38,7 +38,7 @@ use Rattle.abort_expansion_laws.proofs.StrongTestsQuiet.{along}
 use Rattle.abort_expansion_laws.proofs.TickFollowed as ticks
 use Rattle.reaction_laws.specs.StepNodes.{Alike}
 use Rattle.reaction_laws.proofs.GraphRuns.{KeptByFollowing}
-use Rattle.reaction_laws.proofs.MonitorsLow.{lowered, Raises, Stays, MonitorsQuiet}
+use Rattle.reaction_laws.proofs.MonitorsLow.{lowered, Stays, MonitorsQuiet}
 use Rattle.reaction_laws.proofs.StepNodes.{AllCome}
 
 late_works : (k : Table) (d : Configuration) (x : Standing) → is_late x ≡ true → has_work k d x ≡ true

@@ -9,7 +9,6 @@ use Rattle.sc_graph.specs.Valid.{IsValid}
 use Rattle.tick_laws.proofs.Formed.{valid_formed}
 use Rattle.core_charts.specs.declared.features.Features.TheVariants as features
 use Rattle.core_charts.specs.declared.region.Transition.{Transition}
-use Rattle.core_charts.specs.Aborts.{has_aborts}
 use Rattle.core_charts.specs.Chart.{Chart}
 use Rattle.core_charts.specs.Rules.{IsChart}
 use Rattle.core_charts.specs.Tests.{strong_aborts, closing_tests}
@@ -26,13 +25,12 @@ use Rattle.scl.specs.Numbering.{numbered}
 use Rattle.scl_graph.specs.Graph.{program_of}
 use Rattle.abort_expansion.specs.Expansion.{expanded}
 use Rattle.chart_lowering_laws.specs.Laws.{IsLowering}
-use Rattle.chart_lowering_laws.specs.Stands.{Lowered}
 use Rattle.chart_machine_laws.specs.Tree.{holder}
 use Rattle.compiled_charts_laws.proofs.LateTests.{is_late}
 use Rattle.compiled_charts_laws.proofs.Stands.{waits_there}
 use Rattle.compiled_charts_laws.proofs.TestNodes.{test_node}
 use Rattle.compiled_charts_laws.proofs.TickStarts as tick_starts
-use Rattle.abort_expansion_laws.specs.CoreRows.{own, IsState, Images, CoreRows}
+use Rattle.abort_expansion_laws.specs.CoreRows.{own, Images, CoreRows}
 use Rattle.abort_expansion_laws.specs.Flat.{IsFlat}
 use Rattle.abort_expansion_laws.proofs.DelayedBefore.{late_before, first_prompt}
 use Rattle.abort_expansion_laws.proofs.FlatChartRows.{flat_rows, start_rows, started_related}
@@ -44,7 +42,7 @@ use Rattle.abort_expansion_laws.proofs.QuietBegins.{LoweredTests}
 use Rattle.abort_expansion_laws.proofs.RowsOfCharts as whole
 use Rattle.abort_expansion_laws.proofs.WokenConfigurations.{woken_at}
 use Rattle.reaction_laws.specs.StepNodes.{Alike}
-use Rattle.reaction_laws.proofs.MonitorsLow.{lowered, Raises, Stays, MonitorsQuiet}
+use Rattle.reaction_laws.proofs.MonitorsLow.{lowered, MonitorsQuiet}
 
 -- who comes to stand in an open superstate when it wakes has no strong aborts
 opened_plain : (k : Table) (x : Standing) (o : ℕ) (tests : List Transition) → ((u : ℕ) (others : List Transition) → x ≢ at.Guarding u others) →

@@ -1,16 +1,19 @@
--- Behind each step all lines are within the new cap, if the thread of a region that enters again the superstate it leaves has stepped.
-use Rattle.std.proofs.Common.{◌≡◌, ℕ, ◌<◌, true, ◌⊎◌, inl, inr, ⊎_elim, Some, List, [], ◌∷◌, Contains, length, refl, sym, subst, ◌∙◌, arith}
+-- Behind each step all lines are within the new cap, where the thread of a region that tests an opened superstate has stepped, or nobody inside has
+-- anything left to do.
+use Rattle.std.proofs.Common.{◌≡◌, ℕ, ◌≤◌, Bool, true, false, Some, List, [], ◌∷◌, Contains, if◌then◌else◌, refl, sym, subst, arith}
+use Rattle.std.specs.List.{list_any}
 use Rattle.sc_values.specs.Runs.{replay}
 use Rattle.sc_graph.specs.declared.control.Control.{Control}
 use Rattle.sc_graph.specs.declared.tables.Tables.{Tables}
 use Rattle.sc_graph.specs.Machine.{machine}
 use Rattle.sc_graph.specs.Program.{Program}
 use Rattle.sc_graph.specs.Valid.{IsValid}
-use Rattle.tick_laws.proofs.Lists.{same_or_not}
 use Rattle.core_charts.specs.declared.features.Features.TheVariants as features
 use Rattle.core_charts.specs.declared.region.Transition.{Transition}
+use Rattle.core_charts.specs.Aborts.{has_aborts}
 use Rattle.core_charts.specs.Chart.{Chart}
 use Rattle.core_charts.specs.Rules.{IsChart}
+use Rattle.core_charts.specs.Tests.{is_weak}
 use Rattle.chart_machine.specs.declared.standing.Standing.{Standing}
 use Rattle.chart_machine.specs.declared.standing.Standing.TheVariants as at
 use Rattle.chart_machine.specs.declared.standing.Configuration.{Configuration}
@@ -24,22 +27,19 @@ use Rattle.scl.specs.Numbering.{numbered}
 use Rattle.scl_graph.specs.Graph.{program_of}
 use Rattle.abort_expansion.specs.Expansion.{expanded}
 use Rattle.chart_lowering_laws.specs.Laws.{IsLowering}
-use Rattle.chart_machine_laws.specs.Tree.{IsThere}
-use Rattle.abort_expansion_laws.specs.CoreRows.{Images}
-use Rattle.abort_expansion_laws.specs.Related.{IsInside, guarded, open_inside}
+use Rattle.abort_expansion_laws.specs.CoreRows.{own, Images}
+use Rattle.abort_expansion_laws.specs.StageReached.{some_work, stage_of}
 use Rattle.abort_expansion_laws.proofs.ChartSteps.{Makes, takes_trying, takes_entering, takes_guarding, takes_within, tries_on, enters_on, guards_on}
 use Rattle.abort_expansion_laws.proofs.ChartSteps.{waits_on, acts_on, StepMade, step_made}
-use Rattle.abort_expansion_laws.proofs.KnownVariables.{present_there}
+use Rattle.abort_expansion_laws.proofs.StageReached.{staged, one_at_most}
 use Rattle.abort_expansion_laws.proofs.TickFollowed as ticks
-use Rattle.reaction_laws.specs.StepNodes.{Alike}
 use Rattle.reaction_laws.proofs.CappedSteps.{IsCapped}
 use Rattle.reaction_laws.proofs.ChartOrder.{AllAt}
-use Rattle.reaction_laws.proofs.Leaves.{TestTaken, fails_or_taken, left_stepped}
+use Rattle.reaction_laws.proofs.IdleInside.{lines_idle, joins_idle}
 use Rattle.reaction_laws.proofs.LinesAhead.{LowAhead, LowOnceStepped}
 use Rattle.reaction_laws.proofs.NextLow.{ahead_free, ahead_behind, lines_next, joins_next}
 use Rattle.reaction_laws.proofs.OthersLow.{RanksWithin}
 use Rattle.reaction_laws.proofs.StepsInside.{IsWithin}
-use Rattle.reaction_laws.proofs.WeakFails.{TestFails, lines_failed, joins_failed}
 
 module _ (c : Chart) (rules : IsChart features.Extended c) (core_rules : IsChart features.Core (expanded c)) where
   abbrev k : Table
@@ -50,39 +50,6 @@ module _ (c : Chart) (rules : IsChart features.Extended c) (core_rules : IsChart
 
   abbrev i : Images
   i = ticks.i c rules core_rules
-
-  -- ---- who stands in a superstate
-
-  inside_is : (s : ℕ) (x : Standing) → IsInside k core i s x →
-      ((tests : List Transition) × (x ≡ at.Guarding s tests)) ⊎ ((tests : List Transition) × (x ≡ at.Within s tests))
-  inside_is s _ (guarded tests) = inl (tests, refl)
-  inside_is s _ (open_inside tests) = inr (tests, refl)
-
-  guards_or_not : (s u : ℕ) (tests : List Transition) → IsInside k core i s (at.Guarding u tests) ⊎ ¬ IsInside k core i s (at.Guarding u tests)
-  guards_or_not s u tests =
-      ⊎_elim (λ same. inl (subst (λ z. IsInside k core i z (at.Guarding u tests)) same (guarded tests)))
-      (λ other. inr (λ h. ⊎_elim (λ x. let is = x.1 in let same : u ≡ s = cc in other same) (λ x. let is = x.1 in absurd cc)
-      (inside_is s (at.Guarding u tests) h)))
-      (same_or_not u s)
-
-  opened_or_not : (s u : ℕ) (tests : List Transition) → IsInside k core i s (at.Within u tests) ⊎ ¬ IsInside k core i s (at.Within u tests)
-  opened_or_not s u tests =
-      ⊎_elim (λ same. inl (subst (λ z. IsInside k core i z (at.Within u tests)) same (open_inside tests)))
-      (λ other. inr (λ h. ⊎_elim (λ x. let is = x.1 in absurd cc) (λ x. let is = x.1 in let same : u ≡ s = cc in other same)
-      (inside_is s (at.Within u tests) h)))
-      (same_or_not u s)
-
-  inside_or_not : (s : ℕ) (x : Standing) → IsInside k core i s x ⊎ ¬ IsInside k core i s x
-  inside_or_not s (at.Guarding u tests) = guards_or_not s u tests
-  inside_or_not s (at.Within u tests) = opened_or_not s u tests
-  inside_or_not s at.Outside = inr (λ h. ⊎_elim (λ x. let is = x.1 in absurd cc) (λ x. let is = x.1 in absurd cc) (inside_is s at.Outside h))
-  inside_or_not s at.Ended = inr (λ h. ⊎_elim (λ x. let is = x.1 in absurd cc) (λ x. let is = x.1 in absurd cc) (inside_is s at.Ended h))
-  inside_or_not s (at.Trying u tests) =
-      inr (λ h. ⊎_elim (λ x. let is = x.1 in absurd cc) (λ x. let is = x.1 in absurd cc) (inside_is s (at.Trying u tests) h))
-  inside_or_not s (at.Entering u tests) =
-      inr (λ h. ⊎_elim (λ x. let is = x.1 in absurd cc) (λ x. let is = x.1 in absurd cc) (inside_is s (at.Entering u tests) h))
-  inside_or_not s (at.Acting u effects place) =
-      inr (λ h. ⊎_elim (λ x. let is = x.1 in absurd cc) (λ x. let is = x.1 in absurd cc) (inside_is s (at.Acting u effects place) h))
 
   -- who has no test left takes no step
   none_left : (r s : ℕ) (x : Standing) (ms : List Move) → Makes k r x ms → x ≡ at.Within s [] → ⊥
@@ -98,11 +65,11 @@ module _ (c : Chart) (rules : IsChart features.Extended c) (core_rules : IsChart
 
   -- ---- a step
 
-  -- who takes a transition of an opened superstate to where he is in it again has his thread step
-  abbrev pub StepsAgain : Configuration → Configuration → ℕ → List ℕ → Type 0
-  StepsAgain now next r run =
-      (s : ℕ) (t : Transition) (tests : List Transition) → standing_of now r ≡ at.Within s (t ∷ tests) → TestTaken c rules core_rules now next r s t →
-      IsInside k core i s (standing_of next r) → Contains run (i.thread_of r)
+  -- who tests an opened superstate has his thread step, unless that leads to where the inside of one has nothing left to do
+  abbrev pub StepsItself : Configuration → Configuration → ℕ → List ℕ → Type 0
+  StepsItself now next r run =
+      (s : ℕ) (t : Transition) (tests : List Transition) → standing_of now r ≡ at.Within s (t ∷ tests) → stage_of k next (standing_of next r) ≤ 1 →
+      Contains run (i.thread_of r)
 
   module _ (p : Scl) (q : Tables) (low : IsLowering (expanded c) p) (valid : IsValid (program_of (numbered p)) q) where
     abbrev G : Program
@@ -116,7 +83,7 @@ module _ (c : Chart) (rules : IsChart features.Extended c) (core_rules : IsChart
     module _ (now d next e : Configuration) (m n : Control) (most least r : ℕ) (run : List ℕ)
         (known : IsCapped c rules core_rules p q low valid now d m most) (ranks : RanksWithin c rules core_rules p q low valid now m most least)
         (steps : step k r now ≡ Some next) (leads : replay (machine G) run m ≡ Some n) (there : AllAt c rules core_rules p q low valid next e n)
-        (alike : Alike (expanded c) p e n) (again : StepsAgain now next r run) where
+        (itself : StepsItself now next r run) where
       by_ahead : LowAhead G q least (i.thread_of r) n → LinesLow next n least
       by_ahead ahead =
           record {
@@ -124,11 +91,14 @@ module _ (c : Chart) (rules : IsChart features.Extended c) (core_rules : IsChart
             joins = joins_next c rules core_rules p q low valid now d m most least known ranks next n r run steps leads ahead;
           }
 
-      by_failing : TestFails c rules core_rules now next r → LinesLow next n least
-      by_failing fails =
+      by_idle : IsWithin (standing_of now r) → (u : ℕ) (left : List Transition) → standing_of next r ≡ at.Within u left → some_work k next u ≡ false →
+          LinesLow next n least
+      by_idle inside u left stands idle =
           record {
-            lines = lines_failed c rules core_rules p q low valid now d next e m n most least r known ranks steps fails run leads there;
-            joins = joins_failed c rules core_rules p q low valid now d next e m n most least r known ranks steps fails run leads there;
+            lines =
+                lines_idle c rules core_rules p q low valid now d next e m n most least r known ranks steps inside run leads there u left stands idle;
+            joins =
+                joins_idle c rules core_rules p q low valid now d next e m n most least r known ranks steps inside run leads there u left stands idle;
           }
 
       by_free : ¬ IsWithin (standing_of now r) → LinesLow next n least
@@ -139,26 +109,31 @@ module _ (c : Chart) (rules : IsChart features.Extended c) (core_rules : IsChart
 
       by_tests : (s : ℕ) (tests : List Transition) → standing_of now r ≡ at.Within s tests → LinesLow next n least
       by_tests s [] was = absurd (none_left r s (standing_of now r) made.deed.moves made.makes was)
-      by_tests s (t ∷ tests) was =
-          ⊎_elim by_failing (λ takes. by_ahead (behind_join (stepped_by takes))) (fails_or_taken c rules core_rules now next r s t tests less was steps)
+      by_tests s (t ∷ tests) was = behind (standing_of next r) refl
         where
-          r_there : IsThere k r
-          r_there =
-              present_there k core i now d known.all.related r
-              (λ out. let wrong : at.Outside ≡ at.Within s (t ∷ tests) = sym out ∙ was in absurd cc)
+          inside : IsWithin (standing_of now r)
+          inside = subst IsWithin (sym was) tt
 
-          less : r < length now.regions
-          less = let many = known.all.related.chart_regions in let small = r_there.1 in omega (many, small, arith)
+          by_thread : stage_of k next (standing_of next r) ≤ 1 → LinesLow next n least
+          by_thread low_stage =
+              by_ahead (ahead_behind c rules core_rules p q low valid now d m most least known ranks next n r run steps leads inside
+              (itself s t tests was low_stage))
 
-          behind_join : Contains run (i.thread_of r) → LowAhead G q least (i.thread_of r) n
-          behind_join has =
-              ahead_behind c rules core_rules p q low valid now d m most least known ranks next n r run steps leads (subst IsWithin (sym was) tt) has
+          by_work : (u : ℕ) (left : List Transition) → standing_of next r ≡ at.Within u left → (b : Bool) → some_work k next u ≡ b → LinesLow next n least
+          by_work u left stands false idle = by_idle inside u left stands idle
+          by_work u left stands true works =
+              by_thread (subst (λ x. stage_of k next x ≤ 1) (sym stands)
+              (subst (λ b. (if has_aborts (own k u) then staged b (list_any (λ z. is_weak z.kind) left) else 1) ≤ 1) (sym works)
+              (one_at_most (has_aborts (own k u)))))
 
-          stepped_by : TestTaken c rules core_rules now next r s t → Contains run (i.thread_of r)
-          stepped_by takes =
-              ⊎_elim (again s t tests was takes)
-              (λ gone. left_stepped c rules core_rules p q low valid now d next e m n most r s t tests run known r_there was leads there.related alike gone)
-              (inside_or_not s (standing_of next r))
+          behind : (x : Standing) → standing_of next r ≡ x → LinesLow next n least
+          behind (at.Within u left) is = by_work u left is (some_work k next u) refl
+          behind (at.Guarding u left) is = by_thread (subst (λ x. stage_of k next x ≤ 1) (sym is) (omega arith))
+          behind at.Outside is = by_thread (subst (λ x. stage_of k next x ≤ 1) (sym is) (omega arith))
+          behind at.Ended is = by_thread (subst (λ x. stage_of k next x ≤ 1) (sym is) (omega arith))
+          behind (at.Trying u left) is = by_thread (subst (λ x. stage_of k next x ≤ 1) (sym is) (omega arith))
+          behind (at.Entering u left) is = by_thread (subst (λ x. stage_of k next x ≤ 1) (sym is) (omega arith))
+          behind (at.Acting u effects place) is = by_thread (subst (λ x. stage_of k next x ≤ 1) (sym is) (omega arith))
 
       by_standing : (x : Standing) → standing_of now r ≡ x → LinesLow next n least
       by_standing (at.Within s tests) was = by_tests s tests was

@@ -1,5 +1,5 @@
 -- Who waits at a join and waits there no more has stepped; and by steps of threads that wait at no join all who wait stay.
-use Rattle.std.proofs.Common.{◌≡◌, ◌≢◌, ℕ, Some, option_and_then, unwrap_or, slice_get, List, [], ◌∷◌, Contains, refl, sym, ap, subst, ◌∙◌, ⊎_elim}
+use Rattle.std.proofs.Common.{◌≡◌, ◌≢◌, ℕ, Some, option_and_then, unwrap_or, slice_get, List, [], ◌∷◌, Contains, sym, ap, subst, ◌∙◌, ⊎_elim}
 use Rattle.std.proofs.lemmas.Option.{same_Some}
 use Rattle.sc_values.specs.Runs.{replay}
 use Rattle.sc_graph.specs.declared.control.Control.{Control}
@@ -8,7 +8,7 @@ use Rattle.sc_graph.specs.declared.tables.Tables.{Tables}
 use Rattle.sc_graph.specs.Control.{status_of}
 use Rattle.sc_graph.specs.Machine as graph
 use Rattle.sc_graph.specs.Program.{Program}
-use Rattle.sc_graph.specs.Steps.{Effect, after, effect}
+use Rattle.sc_graph.specs.Steps.{after}
 use Rattle.sc_graph.specs.Steps as nodes
 use Rattle.sc_graph.specs.Tick.{IsConfiguration}
 use Rattle.sc_graph.specs.Valid.{IsFormed, IsValid}
@@ -37,22 +37,22 @@ use Rattle.reaction_laws.proofs.CaughtThreads.{standing_in}
 -- ---- who waits is moved by nobody else
 
 module _ (p : Program) (formed : IsFormed p) (h j : ℕ) where
-  waits_on : (run : List ℕ) (m n : Control) → IsConfiguration p m → replay (graph.machine p) run m ≡ Some n → ¬ Contains run h →
+  pub still_waits : (run : List ℕ) (m n : Control) → IsConfiguration p m → replay (graph.machine p) run m ≡ Some n → ¬ Contains run h →
       status_of m h ≡ status.Waiting j → status_of n h ≡ status.Waiting j
-  waits_on [] m n ok leads out waits = ap (λ z. status_of z h) (sym (same_Some m n leads)) ∙ waits
-  waits_on (t ∷ run) m n ok leads out waits =
+  still_waits [] m n ok leads out waits = ap (λ z. status_of z h) (sym (same_Some m n leads)) ∙ waits
+  still_waits (t ∷ run) m n ok leads out waits =
       let mid = and_then_some (replay (graph.machine p) run) (nodes.step p t m) n leads in
       let s : SteppedBy p t m mid.0 = stepped_by p t m mid.0 mid.1 in
       let moves : StepMoves p m t s.e = step_moves p formed m ok t s.e (does p m t s.e s.is) in
       let still : status_of (after s.e m) h ≡ status.Waiting j =
       after_other p formed m t s.e moves h (λ same. out (subst (Contains (t ∷ run)) (sym same) (contains_head t run)))
       (λ child. moves.was_idle h j child waits) ∙ waits in
-      waits_on run mid.0 n (subst (IsConfiguration p) s.leads (configuration_kept p formed m t s.e ok s.is)) mid.2
+      still_waits run mid.0 n (subst (IsConfiguration p) s.leads (configuration_kept p formed m t s.e ok s.is)) mid.2
       (λ has. out (contains_tail t h run has)) (subst (λ z. status_of z h ≡ status.Waiting j) s.leads still)
 
   pub has_stepped : (run : List ℕ) (m n : Control) → IsConfiguration p m → replay (graph.machine p) run m ≡ Some n → status_of m h ≡ status.Waiting j →
       status_of n h ≢ status.Waiting j → Contains run h
-  has_stepped run m n ok leads waits gone = ⊎_elim (λ has. has) (λ out. absurd (gone (waits_on run m n ok leads out waits))) (contained run h)
+  has_stepped run m n ok leads waits gone = ⊎_elim (λ has. has) (λ out. absurd (gone (still_waits run m n ok leads out waits))) (contained run h)
 
 -- ---- a run of a text by threads that wait at no join, in the graph
 

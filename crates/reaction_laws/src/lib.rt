@@ -5,6 +5,7 @@
 ghost use Rattle.reaction_laws.specs.Alike.{FlatReactionsAreAlike};
 ghost use Rattle.reaction_laws.specs.Bounded.{FlatTicksEnd};
 ghost use Rattle.reaction_laws.specs.LowLines.{LinesStayLow};
+ghost use Rattle.reaction_laws.specs.Reacts.{FlatChartsReact};
 ghost use Rattle.reaction_laws.specs.StepNodes.{PrioritiesOrderSteps, StepsComeToNodes};
 
 /// Each tick of a flat chart that has a valid image comes to an end, whatever steps it takes: no run of a tick that
@@ -12,6 +13,12 @@ ghost use Rattle.reaction_laws.specs.StepNodes.{PrioritiesOrderSteps, StepsComeT
 /// its contract is the law.
 pub fn flat_ticks_end()
     ensures { FlatTicksEnd }
+{}
+
+/// Such a chart has a reaction to whatever inputs its image accepts: a list of ends, one for each tick, and to each of
+/// them an admissible complete run leads. This function does nothing; its contract is the law.
+pub fn flat_charts_react()
+    ensures { FlatChartsReact }
 {}
 
 /// All reactions of such a chart to the same accepted inputs end alike: in each tick the variables have the same

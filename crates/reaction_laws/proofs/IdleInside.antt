@@ -1,6 +1,5 @@
--- A test of an opened superstate that fails leaves nobody inside a turn, and all lines are within the new cap behind it.
-use Rattle.std.proofs.Common.{◌≡◌, ◌≢◌, ℕ, zero, suc, true, false, not, ◌&&◌, ◌||◌, ⊎_elim, Some, List, [], ◌∷◌, Contains}
-use Rattle.std.proofs.Common.{refl, sym, ap, subst, ◌∙◌}
+-- Where a region that tested an opened superstate stands in one with nobody inside who has anything left to do, all lines are within the new cap.
+use Rattle.std.proofs.Common.{◌≡◌, ◌≢◌, ℕ, zero, suc, true, false, not, ◌&&◌, ⊎_elim, Some, List, Contains, sym, ap, subst, ◌∙◌}
 use Rattle.sc_values.specs.Runs.{replay}
 use Rattle.sc_graph.specs.declared.control.Control.{Control}
 use Rattle.sc_graph.specs.declared.tables.Tables.{Tables}
@@ -9,19 +8,18 @@ use Rattle.sc_graph.specs.Program.{Program}
 use Rattle.sc_graph.specs.Tick.{IsConfiguration}
 use Rattle.sc_graph.specs.Threads.{Descends, Below}
 use Rattle.sc_graph.specs.Valid.{IsValid}
-use Rattle.tick_laws.proofs.Lists.{list_all_at, same_or_not}
+use Rattle.tick_laws.proofs.Lists.{same_or_not}
 use Rattle.tick_laws.proofs.WithinTick.{laws_within_tick}
 use Rattle.core_charts.specs.declared.features.Features.TheVariants as features
 use Rattle.core_charts.specs.declared.region.Transition.{Transition}
 use Rattle.core_charts.specs.Chart.{Chart}
 use Rattle.core_charts.specs.Rules.{IsChart}
-use Rattle.core_charts.specs.Tests.{is_join}
 use Rattle.chart_machine.specs.declared.standing.Standing.{Standing}
 use Rattle.chart_machine.specs.declared.standing.Standing.TheVariants as at
 use Rattle.chart_machine.specs.declared.standing.Configuration.{Configuration}
 use Rattle.chart_machine.specs.declared.table.Table.{Table}
-use Rattle.chart_machine.specs.Table.{table, state_at}
-use Rattle.chart_machine.specs.Turns.{LiesIn, itself, deeper, standing_of, has_ended, has_work, is_guarded, inside, inside_is_done, is_enabled}
+use Rattle.chart_machine.specs.Table.{table}
+use Rattle.chart_machine.specs.Turns.{LiesIn, itself, deeper, standing_of, has_work, is_guarded, inside, inside_is_done, is_enabled}
 use Rattle.chart_machine.specs.Steps.{step}
 use Rattle.scl.specs.declared.program.Scl.{Scl}
 use Rattle.scl.specs.Numbering.{numbered}
@@ -33,9 +31,8 @@ use Rattle.chart_machine_laws.proofs.LyingIn.{around, holder}
 use Rattle.abort_expansion_laws.specs.CoreRows.{Images, CoreRows}
 use Rattle.abort_expansion_laws.specs.Related.{Related, Stands, outside, ended, left, trying, acting, entering, guarding, staying, within, behind}
 use Rattle.abort_expansion_laws.specs.Related.{IsInside, guarded, open_inside}
-use Rattle.abort_expansion_laws.proofs.DropsOut.{all_alike}
 use Rattle.abort_expansion_laws.proofs.KnownVariables.{both_true, present_there}
-use Rattle.abort_expansion_laws.proofs.StageReached.{inside_in}
+use Rattle.abort_expansion_laws.proofs.StageReached.{inside_in, none_of, some_work}
 use Rattle.abort_expansion_laws.proofs.TickFollowed as ticks
 use Rattle.reaction_laws.proofs.ApartInCore.{thread_there}
 use Rattle.reaction_laws.proofs.BelowInGraph.{below_there}
@@ -79,67 +76,30 @@ module _ (c : Chart) (rules : IsChart features.Extended c) (core_rules : IsChart
   one_state u s _ tests (guarded others) e = absurd cc
   one_state u s _ tests (open_inside others) e = cc
 
-  -- ---- a test that fails
+  -- ---- nobody inside has anything left to do
 
-  -- the step moves nobody but the region that tests, which stays in the superstate
-  pub record TestFails (now next : Configuration) (r : ℕ) : Type 0 where
-    pub state : ℕ
-    pub tests : List Transition
-    pub left_over : List Transition
-    pub was : standing_of now r ≡ at.Within state tests
-    pub is : standing_of next r ≡ at.Within state left_over
-    pub others : (z : ℕ) → z ≢ r → standing_of next z ≡ standing_of now z
-
-  module _ (now d next : Configuration) (r : ℕ) (related : Related k core i now d) (on : is_enabled k now r ≡ true) (fails : TestFails now next r) where
-    ended_same : (z : ℕ) → has_ended (standing_of next z) ≡ has_ended (standing_of now z)
-    ended_same z =
-        ⊎_elim (λ same. subst (λ v. has_ended (standing_of next v) ≡ has_ended (standing_of now v)) (sym same)
-        (ap has_ended fails.is ∙ sym (ap has_ended fails.was)))
-        (λ ne. ap has_ended (fails.others z ne)) (same_or_not z r)
-
-    work_same : (x : Standing) → has_work k next x ≡ has_work k now x
-    work_same (at.Within s []) = refl
-    work_same (at.Within s (w ∷ tests)) =
-        ap (λ b. not (is_join w.kind) || b)
-        (all_alike (λ v. has_ended (standing_of next v)) (λ v. has_ended (standing_of now v)) (state_at k s).regions (λ v h. ended_same v))
-    work_same at.Outside = refl
-    work_same at.Ended = refl
-    work_same (at.Trying s []) = refl
-    work_same (at.Trying s (t ∷ tests)) = refl
-    work_same (at.Entering s tests) = refl
-    work_same (at.Guarding s tests) = refl
-    work_same (at.Acting s effects place) = refl
-
-    idle_inside : (z : ℕ) → Contains (inside k fails.state) z → not (has_work k now (standing_of now z)) ≡ true
-    idle_inside z h =
-        list_all_at (λ v. not (has_work k now (standing_of now v))) (inside k fails.state) z
-        (subst (λ x. inside_is_done k now x ≡ true) fails.was
-        (both_true (not (is_guarded k now (around k r))) (inside_is_done k now (standing_of now r))
-        (both_true (has_work k now (standing_of now r)) (not (is_guarded k now (around k r)) && inside_is_done k now (standing_of now r)) on).1).1) h
-
-    -- nobody deeper inside has a turn behind it
-    pub none_deeper : (z : ℕ) → LiesIn k z r → z ≢ r → is_enabled k next z ≡ true → ⊥
+  module _ (next e : Configuration) (r u : ℕ) (left_over : List Transition) (related : Related k core i next e)
+      (stands : standing_of next r ≡ at.Within u left_over) (idle : some_work k next u ≡ false) where
+    -- nobody deeper inside has a turn
+    none_deeper : (z : ℕ) → LiesIn k z r → z ≢ r → is_enabled k next z ≡ true → ⊥
     none_deeper z (itself same) ne turn = ne same
-    none_deeper z (deeper u inner held) ne turn = let wrong : not true ≡ true = ap not (sym works) ∙ idle in absurd cc
+    none_deeper z (deeper v inner held) ne turn =
+        let wrong : true ≡ false =
+        sym works ∙ none_of (λ w. has_work k next (standing_of next w)) (inside k u) z idle
+        (inside_in k u z there (subst (λ w. Contains (around k z) w) state inner)) in absurd cc
       where
-        works : has_work k now (standing_of now z) ≡ true
-        works =
-            sym (ap (has_work k next) (fails.others z ne) ∙ work_same (standing_of now z))
-            ∙ (both_true (has_work k next (standing_of next z)) (not (is_guarded k next (around k z)) && inside_is_done k next (standing_of next z)) turn).0
+        works : has_work k next (standing_of next z) ≡ true
+        works = (both_true (has_work k next (standing_of next z)) (not (is_guarded k next (around k z)) && inside_is_done k next (standing_of next z)) turn).0
 
-        entered : standing_of now z ≢ at.Outside
-        entered out = let wrong : true ≡ false = sym works ∙ ap (has_work k now) out in absurd cc
+        entered : standing_of next z ≢ at.Outside
+        entered out = let wrong : true ≡ false = sym works ∙ ap (has_work k next) out in absurd cc
 
         there : IsThere k z
-        there = present_there k core i now d related z entered
+        there = present_there k core i next e related z entered
 
-        state : u ≡ fails.state
+        state : v ≡ u
         state =
-            one_state u fails.state (standing_of now (holder k u)) fails.tests (related.enclosed z u there entered inner)
-            (ap (standing_of now) held ∙ fails.was)
-
-        idle : not (has_work k now (standing_of now z)) ≡ true
-        idle = idle_inside z (inside_in k fails.state z there (subst (λ v. Contains (around k z) v) state inner))
+            one_state v u (standing_of next (holder k v)) left_over (related.enclosed z v there entered inner) (ap (standing_of next) held ∙ stands)
 
   -- ---- all lines behind it
 
@@ -148,21 +108,20 @@ module _ (c : Chart) (rules : IsChart features.Extended c) (core_rules : IsChart
     G = program_of (numbered p)
 
     module _ (now d next e : Configuration) (m n : Control) (most least r : ℕ) (known : IsCapped c rules core_rules p q low valid now d m most)
-        (ranks : RanksWithin c rules core_rules p q low valid now m most least) (steps : step k r now ≡ Some next) (fails : TestFails now next r)
-        (run : List ℕ) (leads : replay (machine G) run m ≡ Some n) (there : AllAt c rules core_rules p q low valid next e n) where
+        (ranks : RanksWithin c rules core_rules p q low valid now m most least) (steps : step k r now ≡ Some next)
+        (was_within : IsWithin (standing_of now r)) (run : List ℕ) (leads : replay (machine G) run m ≡ Some n)
+        (there : AllAt c rules core_rules p q low valid next e n) (u : ℕ) (left_over : List Transition)
+        (stands : standing_of next r ≡ at.Within u left_over) (idle : some_work k next u ≡ false) where
       on_r : is_enabled k now r ≡ true
       on_r = turn_of k now next r steps
 
-      is_within : (x : Standing) → x ≡ at.Within fails.state fails.left_over → IsWithin x
+      is_within : (x : Standing) → x ≡ at.Within u left_over → IsWithin x
       is_within x same = subst IsWithin (sym same) tt
 
-      was_within : IsWithin (standing_of now r)
-      was_within = subst IsWithin (sym fails.was) tt
-
-      pub lines_failed : (t : ℕ) → is_enabled k next t ≡ true → ¬ IsWithin (standing_of next t) → LowAhead G q least (i.thread_of t) n
-      lines_failed t on free =
-          ⊎_elim (λ inner. absurd (none_deeper now d next r known.all.related on_r fails t inner
-          (λ same. free (is_within (standing_of next t) (ap (standing_of next) same ∙ fails.is))) on))
+      pub lines_idle : (t : ℕ) → is_enabled k next t ≡ true → ¬ IsWithin (standing_of next t) → LowAhead G q least (i.thread_of t) n
+      lines_idle t on free =
+          ⊎_elim (λ inner. absurd (none_deeper next e r u left_over there.related stands idle t inner
+          (λ same. free (is_within (standing_of next t) (ap (standing_of next) same ∙ stands))) on))
           (λ none. others_low c rules core_rules p q low valid now d next m n most least r run known ranks steps leads t
           (elsewhere_from c rules core_rules r t none) on free)
           (lies_or_not c rules core_rules t r)
@@ -178,15 +137,15 @@ module _ (c : Chart) (rules : IsChart features.Extended c) (core_rules : IsChart
       r_there : IsThere k r
       r_there =
           present_there k core i next e there.related r
-          (λ out. let wrong : at.Outside ≡ at.Within fails.state fails.left_over = sym out ∙ fails.is in absurd cc)
+          (λ out. let wrong : at.Outside ≡ at.Within u left_over = sym out ∙ stands in absurd cc)
 
-      pub joins_failed : (t : ℕ) → is_enabled k next t ≡ true → IsWithin (standing_of next t) → LowOnceStepped G q least (i.thread_of t) n
-      joins_failed t on waits = ⊎_elim inner elsewhere (lies_or_not c rules core_rules t r)
+      pub joins_idle : (t : ℕ) → is_enabled k next t ≡ true → IsWithin (standing_of next t) → LowOnceStepped G q least (i.thread_of t) n
+      joins_idle t on waits = ⊎_elim inner elsewhere (lies_or_not c rules core_rules t r)
         where
           inner : LiesIn k t r → LowOnceStepped G q least (i.thread_of t) n
           inner lies =
               ⊎_elim (λ same. subst (λ v. LowOnceStepped G q least (i.thread_of v) n) (sym same) own_join)
-              (λ ne. absurd (none_deeper now d next r known.all.related on_r fails t lies ne on)) (same_or_not t r)
+              (λ ne. absurd (none_deeper next e r u left_over there.related stands idle t lies ne on)) (same_or_not t r)
 
           around_r : t ≢ r → LiesIn k r t → LowOnceStepped G q least (i.thread_of t) n
           around_r ne outer = by under.generations under.descends
@@ -196,7 +155,7 @@ module _ (c : Chart) (rules : IsChart features.Extended c) (core_rules : IsChart
 
               going : (standing_of e (i.thread_of r) ≢ at.Outside) × (standing_of e (i.thread_of r) ≢ at.Ended)
               going =
-                  goes_within next r fails.state fails.left_over (standing_of next r) (standing_of e (i.thread_of r)) (there.related.regions r r_there) fails.is
+                  goes_within next r u left_over (standing_of next r) (standing_of e (i.thread_of r)) (there.related.regions r r_there) stands
 
               by : (g : ℕ) → Descends G g (i.thread_of r) (i.thread_of t) → LowOnceStepped G q least (i.thread_of t) n
               by zero same = absurd (ne (sym (rows.region_once r t same)))
