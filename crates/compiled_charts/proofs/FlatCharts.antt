@@ -1,4 +1,4 @@
--- What shows the reaction of the core chart of a flat chart shows each reaction of the chart.
+-- What shows the reaction of the core chart of a flat chart shows each reaction of the chart; and the chart has one.
 use Rattle.std.proofs.Common.{ℕ, ◌≡◌, ◌<◌, true, Some, List, [], ◌∷◌, length, take, sym, ap, subst, ◌∙◌}
 use Rattle.sc_graph.specs.declared.control.Control.{Control}
 use Rattle.sc_graph.specs.Program.{Program}
@@ -99,3 +99,11 @@ module _ (c : Chart) (rules : IsChart features.Extended c) where
       in
       all_seen ends kept.others controls kept.alike
       (each kept.others (back (chart_machine core) ticks (chart.initial (table core)) kept.others kept.reaction))
+
+  -- by the law of reactions
+  pub flat_reacts : (q : Program) → ((ticks : List Inputs) → AllOf (AreAccepted q) ticks →
+      (ends : List Configuration) × Reaction (chart_machine c) ticks (chart.initial (table c)) ends) →
+      (ticks : List Inputs) → AllAccepted q ticks → (ends : List Configuration) × Reacts c ticks ends
+  flat_reacts q has ticks accepted =
+      let one : (ends : List Configuration) × Reaction (chart_machine c) ticks (chart.initial (table c)) ends = has ticks (all_of q ticks accepted) in
+      (one.0, back (chart_machine c) ticks (chart.initial (table c)) one.0 one.1)

@@ -41,11 +41,12 @@ use Rattle.compiled_charts_laws.proofs.Told.{as_many_states, nodes_stand}
 use Rattle.abort_expansion_laws.specs.Flat.{IsFlat}
 use Rattle.abort_expansion_laws.specs.Preemption.{HasImage}
 use Rattle.abort_expansion_laws.proofs.StepsByCase.{preemption_holds}
+use Rattle.reaction_laws.proofs.FlatRanks.{reacts}
 use Rattle.compiled_charts.specs.Ticks.{AreTicks}
 use Rattle.compiled_charts.specs.Compiled.{CompiledChart}
-use Rattle.compiled_charts.specs.Kept.{AreSeenAlike, Reacts, IsReactionSeen, ShowsItsReaction}
+use Rattle.compiled_charts.specs.Kept.{AreSeenAlike, IsReactionSeen, ShowsItsReaction}
 use Rattle.compiled_charts.proofs.ActiveStates.{same_numbers}
-use Rattle.compiled_charts.proofs.FlatCharts.{flat_shown}
+use Rattle.compiled_charts.proofs.FlatCharts.{flat_shown, flat_reacts}
 
 -- ---- ticks
 
@@ -177,13 +178,16 @@ module _ (c : Chart) (image : Image) (is : IsImageOfChart c image) (kept : Keeps
     valid = is.image_of.valid;
   }
 
-  kept_flat : IsChart features.Extended c → IsFlat c → (ends : List Configuration) → Reacts c ticks ends →
-      EachPair (AreSeenAlike c (stands_for c) (state_count c)) ends controls
+  flat_seen : IsChart features.Extended c → IsFlat c → IsReactionSeen c (stands_for c) (state_count c) ticks controls
   unfolding has_image
-  kept_flat rules flat =
+  flat_seen rules flat =
       let r : AreReaction image ticks (initial image.program) controls = are_reaction image ticks (initial image.program) controls are in
-      flat_shown c rules image.program (preemption_holds c rules is.lowers.core flat has_image) ticks controls r.accepted
-      (λ ends reacts. (one (state_of_node core) own).each ticks ends controls r.accepted reacts r.reacts)
+      record {
+        each =
+            flat_shown c rules image.program (preemption_holds c rules is.lowers.core flat has_image) ticks controls r.accepted
+            (λ ends reacts. (one (state_of_node core) own).each ticks ends controls r.accepted reacts r.reacts);
+        some = flat_reacts c rules image.program (reacts c rules flat has_image low) ticks r.accepted;
+      }
 
 pub shows_its_reaction : (x : CompiledChart) (ticks : List Inputs) (controls : List Control) → AreTicks x.image ticks (initial x.image.program) controls →
     ShowsItsReaction x ticks controls
@@ -194,9 +198,9 @@ shows_its_reaction x ticks controls are c is = ∥∥₁_map is.image.lowers.rul
       (subst (λ states. IsReactionSeen c (stands_for c) states ticks controls) (sym is.states)
       (chart_shown c x.image is.image kept ticks controls are (expands_to_itself c is.rules none) (stands_for_itself c is.rules none)));
   flat = λ flat.
-      subst (λ nodes. (ends : List Configuration) → Reacts c ticks ends → EachPair (AreSeenAlike c nodes x.states) ends controls) (sym is.nodes)
-      (subst (λ states. (ends : List Configuration) → Reacts c ticks ends → EachPair (AreSeenAlike c (stands_for c) states) ends controls) (sym is.states)
-      (kept_flat c x.image is.image kept ticks controls are is.rules flat));
+      subst (λ nodes. IsReactionSeen c nodes x.states ticks controls) (sym is.nodes)
+      (subst (λ states. IsReactionSeen c (stands_for c) states ticks controls) (sym is.states)
+      (flat_seen c x.image is.image kept ticks controls are is.rules flat));
 })
 
 -- ticks that were run show it

@@ -33,12 +33,11 @@ pub record IsReactionSeen (c : Chart) (nodes : List (Option ℕ)) (states : ℕ)
   pub each : (ends : List Configuration) → Reacts c ticks ends → EachPair (AreSeenAlike c nodes states) ends controls
   pub some : (ends : List Configuration) × Reacts c ticks ends
 
--- the core chart's reaction is seen in these configurations, and where the chart has no aborts so is that of the chart. Of a
--- flat chart each reaction that it has is seen in them
+-- the core chart's reaction is seen in these configurations, and so is that of the chart, where it has no aborts or is flat
 pub record ShowsReaction (c : Chart) (x : CompiledChart) (ticks : List Inputs) (controls : List Control) : Type 0 where
   pub core : IsReactionSeen (expanded c) (state_of_node (expanded c)) (length (table (expanded c)).states) ticks controls
   pub without_aborts : chart_has_aborts c ≡ false → IsReactionSeen c x.nodes x.states ticks controls
-  pub flat : IsFlat c → (ends : List Configuration) → Reacts c ticks ends → EachPair (AreSeenAlike c x.nodes x.states) ends controls
+  pub flat : IsFlat c → IsReactionSeen c x.nodes x.states ticks controls
 
 -- of whichever chart this was compiled
 abbrev pub ShowsItsReaction : CompiledChart → List Inputs → List Control → Type 0
