@@ -24,7 +24,8 @@ use Rattle.abort_expansion_laws.specs.Preemption.{chart_machine, HasImage}
 use Rattle.abort_expansion_laws.specs.Ticks.{Reaction, AllOf}
 use Rattle.abort_expansion_laws.proofs.PreemptionKept.{own_tests_kept}
 use Rattle.reaction_laws.specs.Bounded.{last_of}
-use Rattle.reaction_laws.specs.CappedRanks.{capped, HasCappedRanks}
+use Rattle.reaction_laws.specs.CappedRanks.{HasCappedRanks}
+use Rattle.reaction_laws.specs.KeptBack.{CoreChartsDoNoMore}
 use Rattle.reaction_laws.proofs.CappedRanks.{capped_are_ranks}
 use Rattle.reaction_laws.proofs.CappedSteps.{IsCapped, idle_is, is_idle, uncapped}
 use Rattle.reaction_laws.proofs.ChartOrder.{step_priority, in_order}
@@ -35,6 +36,7 @@ use Rattle.reaction_laws.proofs.OthersLow.{RanksWithin}
 use Rattle.reaction_laws.proofs.QuietStarts.{Quiet, lowered_tests, earlier, starts_quiet}
 use Rattle.reaction_laws.proofs.RanksReact.{has_reaction}
 use Rattle.reaction_laws.proofs.RunsComplete.{enabled_there, turn_of}
+use Rattle.reaction_laws.proofs.SeenTheSame.{core_ends_alike}
 
 module _ (c : Chart) (rules : IsChart features.Extended c) (flat : IsFlat c) (image : HasImage c) (low : IsLowering (expanded c) image.scl) where
   abbrev k : Table
@@ -149,3 +151,14 @@ module _ (c : Chart) (rules : IsChart features.Extended c) (flat : IsFlat c) (im
   pub reacts : (inputs : List Inputs) → AllOf (AreAccepted image.program) inputs →
       (ends : List Configuration) × Reaction (chart_machine c) inputs (initial k) ends
   reacts = has_reaction c rules flat image low (capped_are_ranks (chart_machine c) (AreAccepted image.program) has_capped_ranks)
+
+-- so each list of ends of its core chart has one of the chart that is seen alike
+pub does_no_more : CoreChartsDoNoMore
+does_no_more c rules flat image low ticks es accepted core_reacts =
+    let those : (ends : List Configuration) × Reaction (chart_machine c) ticks (initial (table c)) ends =
+    reacts c rules flat image low ticks accepted in
+    record {
+      others = those.0;
+      reaction = those.1;
+      alike = core_ends_alike c rules flat image low ticks those.0 es accepted those.1 core_reacts;
+    }

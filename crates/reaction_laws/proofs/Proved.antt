@@ -10,7 +10,7 @@ pub use Rattle.reaction_laws.proofs.StillAtJoins.{has_stepped}
 pub use Rattle.reaction_laws.proofs.MonitorsLow.{guards_low}
 pub use Rattle.reaction_laws.proofs.QuietRuns.{steps_keep, coming_keeps}
 pub use Rattle.reaction_laws.proofs.QuietStarts.{starts_quiet}
-pub use Rattle.reaction_laws.proofs.FlatRanks.{has_capped_ranks, reacts}
+pub use Rattle.reaction_laws.proofs.FlatRanks.{has_capped_ranks, reacts, does_no_more}
 pub use Rattle.reaction_laws.proofs.NextCapped.{first_capped, next_capped}
 pub use Rattle.reaction_laws.proofs.LinesAhead.{low_once_stepped, once_stepped_above, stepped_ahead, once_stepped_on, once_stepped_both}
 pub use Rattle.reaction_laws.proofs.LinesAhead.{ahead_on, ahead_within, ahead_less, ahead_both, enabled_ahead}

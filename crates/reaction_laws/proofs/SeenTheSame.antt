@@ -1,4 +1,5 @@
--- Two lists of ends of a flat chart are seen alike in one list of ends of its graph, so they are seen the same.
+-- Two lists of ends of a flat chart are seen alike in one list of ends of its graph, so they are seen the same. So it is of one of the chart and one
+-- of its core chart.
 use Rattle.std.proofs.Common.{◌≡◌, ℕ, ◌<◌, Bool, true, false, Option, Some, None, List, [], ◌∷◌, length, take, slice_get, unwrap_or, refl, sym, ap, subst, ◌∙◌}
 use Rattle.std.proofs.lemmas.Option.{none-some, slice_get_within}
 use Rattle.sc_values.specs.Runs.{Ends}
@@ -86,11 +87,13 @@ module _ (c : Chart) (rules : IsChart features.Extended c) where
     kept : SeenAlike c d core_now
     shown : AreSeenAlike (table core) (state_of_node core) core_now m
 
+  core_state_there : (n s : ℕ) → chart_state (state_map c) n ≡ Some s → n < length (table core).states
+  core_state_there n s stands = subst (λ m. n < m) (states_mapped_all c rules).0 (entry_there (state_map c) n s stands)
+
   active_too : (x y : Configuration) (m : Control) → ShownBy x m → ShownBy y m → (s : ℕ) → is_active k x s ≡ true → is_active k y s ≡ true
   active_too x y m first second s on =
       let in_core : IsActiveInCore c first.core_now s = (first.kept.active s).0 on in
-      let inside : in_core.0 < length (table core).states =
-      subst (λ n. in_core.0 < n) (states_mapped_all c rules).0 (entry_there (state_map c) in_core.0 s in_core.2) in
+      let inside : in_core.0 < length (table core).states = core_state_there in_core.0 s in_core.2 in
       (second.kept.active s).1 (in_core.0, sym (second.shown.active in_core.0 inside) ∙ (first.shown.active in_core.0 inside ∙ in_core.1), in_core.2)
 
   both_seen : (d e : Configuration) (m : Control) → ShownBy d m → ShownBy e m → AreSeenTheSame k d e
@@ -100,6 +103,26 @@ module _ (c : Chart) (rules : IsChart features.Extended c) where
             ∙ (ap (take (length c.variables)) (sym first.shown.variables ∙ second.shown.variables) ∙ second.kept.variables);
         active = λ s. same_truth (is_active k d s) (is_active k e s) (active_too d e m first second s) (active_too e d m second first s);
       }
+
+  -- another one of the core chart that is shown keeps the chart's too
+  module _ (d e : Configuration) (m : Control) (first : ShownBy d m) (shown : AreSeenAlike (table core) (state_of_node core) e m) where
+    active_there : (s : ℕ) → is_active k d s ≡ true → IsActiveInCore c e s
+    active_there s on =
+        let in_core : IsActiveInCore c first.core_now s = (first.kept.active s).0 on in
+        let inside : in_core.0 < length (table core).states = core_state_there in_core.0 s in_core.2 in
+        (in_core.0, sym (shown.active in_core.0 inside) ∙ (first.shown.active in_core.0 inside ∙ in_core.1), in_core.2)
+
+    active_back : (s : ℕ) → IsActiveInCore c e s → is_active k d s ≡ true
+    active_back s in_core =
+        let inside : in_core.0 < length (table core).states = core_state_there in_core.0 s in_core.2 in
+        (first.kept.active s).1 (in_core.0, sym (first.shown.active in_core.0 inside) ∙ (shown.active in_core.0 inside ∙ in_core.1), in_core.2)
+
+    kept_too : SeenAlike c d e
+    kept_too =
+        record {
+          variables = ap (take (length c.variables)) (sym shown.variables ∙ first.shown.variables) ∙ first.kept.variables;
+          active = λ s. (active_there s, active_back s);
+        }
 
   through : (ds xs : List Configuration) (ms : List Control) → EachAlike (SeenAlike c) ds xs →
       EachPair (AreSeenAlike (table core) (state_of_node core)) xs ms → EachAlike ShownBy ds ms
@@ -118,6 +141,15 @@ module _ (c : Chart) (rules : IsChart features.Extended c) where
   all_seen (d ∷ ds) es [] first second = absurd first
   all_seen [] (e ∷ es) [] first second = absurd second
   all_seen (d ∷ ds) [] (m ∷ ms) first second = absurd second
+
+  all_kept : (ds es : List Configuration) (ms : List Control) → EachAlike ShownBy ds ms →
+      EachPair (AreSeenAlike (table core) (state_of_node core)) es ms → EachAlike (λ e d. SeenAlike c d e) es ds
+  all_kept [] [] [] first shown = tt
+  all_kept (d ∷ ds) (e ∷ es) (m ∷ ms) first shown = (kept_too d e m first.0 shown.0, all_kept ds es ms first.1 shown.1)
+  all_kept [] es (m ∷ ms) first shown = absurd first
+  all_kept (d ∷ ds) es [] first shown = absurd first
+  all_kept [] (e ∷ es) [] first shown = absurd shown
+  all_kept (d ∷ ds) [] (m ∷ ms) first shown = absurd shown
 
   module _ (flat : IsFlat c) (image : HasImage c) (low : IsLowering core image.scl) where
     abbrev G : Program
@@ -148,6 +180,20 @@ module _ (c : Chart) (rules : IsChart features.Extended c) where
         (through es e_core.others those.ends e_core.alike
         (one.each ticks e_core.others those.ends (all_accepted ticks accepted)
         (back (chart_machine core) ticks (initial (table core)) e_core.others e_core.reaction) those.reacts))
+
+    pub core_ends_alike : (ticks : List Inputs) (ds es : List Configuration) → AllOf (AreAccepted image.program) ticks →
+        Reaction (chart_machine c) ticks (initial k) ds → Reaction (chart_machine core) ticks (initial (table core)) es →
+        EachAlike (λ e d. SeenAlike c d e) es ds
+    core_ends_alike ticks ds es accepted d_reacts e_reacts =
+        let d_core : HasAlike (chart_machine core) Configuration (SeenAlike c) ticks (initial (table core)) ds =
+        preemption_holds c rules low.core flat image ticks ds accepted d_reacts in
+        let those : GraphEnds G image.tables valid ticks (graph_tick.initial G) =
+        graph_reacts G image.tables valid ticks (graph_tick.initial G) (rests-initial G) (all_accepted ticks accepted) in
+        all_kept ds es those.ends
+        (through ds d_core.others those.ends d_core.alike
+        (one.each ticks d_core.others those.ends (all_accepted ticks accepted)
+        (back (chart_machine core) ticks (initial (table core)) d_core.others d_core.reaction) those.reacts))
+        (one.each ticks es those.ends (all_accepted ticks accepted) (back (chart_machine core) ticks (initial (table core)) es e_reacts) those.reacts)
 
 pub reactions_alike : FlatReactionsAreAlike
 reactions_alike c rules flat image low ticks ds es accepted d_reacts e_reacts =

@@ -2,6 +2,7 @@ pub mod Ranked
 pub mod Bounded
 pub mod Alike
 pub mod Reacts
+pub mod KeptBack
 pub mod ChartRanks
 pub mod StepNodes
 pub mod CappedRanks

@@ -4,6 +4,7 @@
 
 ghost use Rattle.reaction_laws.specs.Alike.{FlatReactionsAreAlike};
 ghost use Rattle.reaction_laws.specs.Bounded.{FlatTicksEnd};
+ghost use Rattle.reaction_laws.specs.KeptBack.{CoreChartsDoNoMore};
 ghost use Rattle.reaction_laws.specs.LowLines.{LinesStayLow};
 ghost use Rattle.reaction_laws.specs.Reacts.{FlatChartsReact};
 ghost use Rattle.reaction_laws.specs.StepNodes.{PrioritiesOrderSteps, StepsComeToNodes};
@@ -25,6 +26,12 @@ pub fn flat_charts_react()
 /// values, and the same states are active. This function does nothing; its contract is the law.
 pub fn flat_reactions_are_alike()
     ensures { FlatReactionsAreAlike }
+{}
+
+/// Each list of ends of the core chart of such a chart, to inputs that are accepted, has one of the chart that is seen
+/// alike. This function does nothing; its contract is the law.
+pub fn core_charts_do_no_more()
+    ensures { CoreChartsDoNoMore }
 {}
 
 /// Wherever a core chart and its valid graph stand alike, a run of threads alone leads to where they do so too, and the
