@@ -1,9 +1,8 @@
--- Where a fork begins, seen through the pieces of its branches.
+-- Where a fork begins, seen through the spots of its branches.
 use Rattle.std.proofs.Common.{◌≡◌, ℕ, List, [], ◌∷◌, refl}
 use Rattle.scl_drafts.specs.declared.statement.TextStatement.{TextStatement}
-use Rattle.node_sources.specs.declared.words.Words.{Words}
-use Rattle.node_sources.specs.SclOrigins.{branch_pieces, opening}
+use Rattle.node_sources.specs.SclOrigins.{branch_spots, opening}
 
-pub opening_of_pieces : (w : Words) (branches : List (ℕ × List TextStatement)) → opening (branch_pieces w branches) ≡ opening branches
-opening_of_pieces w [] = refl
-opening_of_pieces w (b ∷ branches) = refl
+pub opening_of_spots : (branches : List (ℕ × List TextStatement)) → opening (branch_spots branches) ≡ opening branches
+opening_of_spots [] = refl
+opening_of_spots (b ∷ branches) = refl

@@ -2,9 +2,12 @@ mod Items
 mod Branches
 mod Graphless
 mod ChartsTold
-mod SpotsCounted
+mod StatementPoints
+mod StatementsPlaced
+mod StatementsSpelled
 mod SclTold
 mod SourcesTold
+mod SclSourcesTold
 mod Listed
 mod LabelsTold
 mod LanguagesTold

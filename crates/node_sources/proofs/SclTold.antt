@@ -1,9 +1,11 @@
 -- Each node of the program of an SCL text comes from a point that has a spot.
 use Rattle.std.proofs.Common.{Result, Ok, Err, IfOk, MatchOption}
-use Rattle.std.proofs.Common.{◌≡◌, ℕ, ◌<◌, Option, Some, None, IsSome, is_some, List}
-use Rattle.std.proofs.Common.{map, length, slice_get, sym, ap, subst, ◌∙◌, arith, inl, inr}
+use Rattle.std.proofs.Common.{◌≡◌, ℕ, suc, ◌<◌, Option, Some, None, IsSome, is_some, List, [], ◌∷◌}
+use Rattle.std.proofs.Common.{map, length, slice_get, refl, sym, ap, subst, ◌∙◌, arith, inl, inr}
 use Rattle.std.proofs.lemmas.Option.{slice_get-get_or}
 use Rattle.std.specs.List.{slice_index_or}
+use Rattle.grammar.specs.Grammar.{spells}
+use Rattle.grammar.proofs.Each.{Every}
 use Rattle.chart_elements.proofs.Standing.{below}
 use Rattle.drafts.specs.Flaws.{variable_names}
 use Rattle.sc_graph.specs.Program.{Program}
@@ -12,27 +14,33 @@ use Rattle.sc_text.specs.declared.language.Language.TheVariants as language
 use Rattle.sc_text.specs.declared.read_fault.Broken.{Broken}
 use Rattle.sc_text.specs.declared.read_fault.ReadFault.TheVariants as fault
 use Rattle.sc_text.specs.declared.token.Token.{Token}
+use Rattle.sc_text.specs.Reading.{place_of}
 use Rattle.sc_text.specs.Tokens.{AreTokens, IsFirstFault}
+use Rattle.sc_text.proofs.OneCut.{one_list}
 use Rattle.scl.specs.declared.program.Scl.{Scl}
 use Rattle.scl.specs.Numbering.{numbered}
 use Rattle.scl.specs.declared.statement.Statement.{Statement}
 use Rattle.scl_drafts.specs.declared.draft.Draft.{Draft}
 use Rattle.scl_drafts.specs.Checked.{IsFlawless, IsTextFault}
-use Rattle.scl_reader.specs.Resolved.{IsProgramOf}
+use Rattle.scl_drafts.specs.Program.{scl as scl_grammar}
+use Rattle.scl_drafts.specs.Statements.{Statements}
+use Rattle.scl_reader.specs.Resolved.{IsProgramOf, statements_of}
 use Rattle.scl_graph.specs.Answers.{IsGraph}
 use Rattle.scl_graph.specs.Graph.{program_of}
 use Rattle.graph_origins.specs.declared.origin.NodeOrigin.{NodeOrigin}
 use Rattle.graph_origins.specs.declared.origin.NodeOrigin.TheVariants as node
 use Rattle.graph_origins.specs.Laws.{IsDone, OriginsTellNodes}
 use Rattle.graph_origins.specs.Origins.{node_origins}
-use Rattle.graph_origins.specs.Points.{text_points}
+use Rattle.graph_origins.specs.Points.{Ends, in_row as point_row, points_of, text_points}
 use Rattle.node_sources.specs.declared.origin.Origin.{Origin}
 use Rattle.node_sources.specs.declared.statements.Spot.{Spot}
-use Rattle.node_sources.specs.SclOrigins.{at_first, at_second, point_origin, scl_origins, spots_of}
+use Rattle.node_sources.specs.SclLaws.{OpeningStands}
+use Rattle.node_sources.specs.SclOrigins.{at_first, at_second, in_row, one_place, point_origin, scl_origins, spots_in, spots_of}
 use Rattle.node_sources.specs.declared.sources.Sources.{Sources}
 use Rattle.node_sources.specs.Sources.{IsGraphless, NoneIn, SclHasNone, SclSources}
 use Rattle.node_sources.proofs.Items.{Item, item_below}
-use Rattle.node_sources.proofs.SpotsCounted.{spots_counted}
+use Rattle.node_sources.proofs.StatementsPlaced.{Stand, as_many, row_stands, stand_both}
+use Rattle.node_sources.proofs.StatementsSpelled.{Good, text_opened, text_spelled}
 
 -- a point that is there has a spot
 done_there : (spots : List Spot) (body : List Statement) (o : NodeOrigin) (s : Step) → length spots ≡ length (text_points body) →
@@ -46,19 +54,48 @@ done_there spots body (node.Second n) s each h =
     let small : n < length spots = omega (arith, each, less) in
     ap (λ o. is_some (at_second o)) (item_below spots n small).there
 
-module _ (d : Draft) (tokens : List Token) (scl : Scl) (spelled : IsProgramOf d scl) where
-  as_many : length (spots_of tokens d.statements) ≡ length (text_points scl.body)
-  as_many =
-      spots_counted tokens (variable_names d.declarations) d.statements ∙ ap (λ body. length (text_points body)) (sym spelled.body)
+-- what holds at each place holds of each
+every_of : {A : Type 0} (P : A → Type 0) (xs : List A) → ((n : ℕ) (x : A) → slice_get xs n ≡ Some x → P x) → Every P xs
+every_of P [] h = tt
+every_of P (x ∷ xs) h = (h 0 x refl, every_of P xs (λ n y at. h (suc n) y at))
+
+module _ (text : List ℕ) (d : Draft) (is : IsFlawless text d) (tokens : List Token) (cut : AreTokens language.Scl 0 text tokens)
+    (scl : Scl) (spelled : IsProgramOf d scl) where
+  abbrev names : List (List ℕ)
+  names = variable_names d.declarations
+
+  all_good : Every (Good text names) tokens
+  all_good = every_of (Good text names) tokens (λ n t at. record { tokens = tokens; cut = cut; index = n; stands = at })
+
+  spells_it : spells (scl_grammar 0) tokens is.drafted.program
+  spells_it =
+      subst (λ ts. spells (scl_grammar 0) ts is.drafted.program)
+      (one_list language.Scl text is.drafted.tokens tokens is.drafted.cut cut) is.drafted.spelled
+
+  -- each point of the text has its spot at its tokens
+  pub spots_stand : Stand text names (spots_of tokens d.statements) (text_points scl.body)
+  spots_stand =
+      let statements : Statements = is.drafted.program.1.1 in
+      let body : Stand text names (in_row (map spots_in statements)) (point_row (map points_of (statements_of names statements))) =
+      row_stands text names statements ((text_spelled text names).holds tokens is.drafted.program all_good spells_it) in
+      let opens : OpeningStands text (place_of 0 tokens) = text_opened text names tokens is.drafted.program all_good spells_it in
+      let whole : Stand text names (spots_of tokens statements) (text_points (statements_of names statements)) =
+      stand_both text names (in_row (map spots_in statements)) (one_place (place_of 0 tokens) ∷ [])
+      (point_row (map points_of (statements_of names statements))) (Ends ∷ []) body ((opens, tt), tt) in
+      let same : d.statements ≡ statements = ap (λ (d : Draft). d.statements) is.drafted.drafted in
+      subst (λ body. Stand text names (spots_of tokens d.statements) (text_points body)) (sym spelled.body)
+      (subst (λ ss. Stand text names (spots_of tokens ss) (text_points (statements_of names ss))) (sym same) whole)
 
   pub each_located : OriginsTellNodes → (spots : List Spot) → spots ≡ spots_of tokens d.statements → (nodes : List NodeOrigin) →
       nodes ≡ node_origins scl.body → (k : ℕ) (o : NodeOrigin) → slice_get nodes k ≡ Some o → IsSome (point_origin spots o)
   each_located tell spots made nodes from k o h =
+      let many : length (spots_of tokens d.statements) ≡ length (text_points scl.body) =
+      as_many text names (spots_of tokens d.statements) (text_points scl.body) spots_stand in
       let stands : slice_get (node_origins scl.body) k ≡ Some o = subst (λ ns. slice_get ns k ≡ Some o) from h in
       let less : k < length (node_origins scl.body) = below (node_origins scl.body) k o stands in
       let small : k < length (program_of (numbered scl)).nodes = subst (λ m. k < m) (tell scl).each less in
       let n : Item (program_of (numbered scl)).nodes k = item_below (program_of (numbered scl)).nodes k small in
-      done_there spots scl.body o n.item.step (ap length made ∙ as_many) ((tell scl).done k o n.item stands n.there)
+      done_there spots scl.body o n.item.step (ap length made ∙ many) ((tell scl).done k o n.item stands n.there)
 
   pub origins_are : (spots : List Spot) → spots ≡ spots_of tokens d.statements → (nodes : List NodeOrigin) → nodes ≡ node_origins scl.body →
       (origins : List Origin) → map Some origins ≡ map (point_origin spots) nodes → map Some origins ≡ scl_origins tokens d.statements scl.body

@@ -4,4 +4,5 @@ pub mod SclOrigins
 pub mod Sources
 pub mod Labels
 pub mod Laws
+pub mod SclLaws
 pub mod Listing

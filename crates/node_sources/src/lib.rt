@@ -14,10 +14,9 @@ mod positions;
 mod scl_sources;
 mod sources;
 mod statements;
-mod words;
 
 pub use labels::label_origin;
-pub use laws::sources_tell_charts;
+pub use laws::{sources_tell_charts, sources_tell_scl};
 pub use listing::image_text_with;
 pub use origin::{Origin, Part};
 pub use positions::{Position, Positions};

@@ -67,11 +67,14 @@ fn origins_at(
 #[tactic(auto, using(crate::proofs::SclTold::origins_are))]
 fn origins_in(
     alloc: Global,
+    text: &str,
     draft: &Draft,
     tokens: &[Token],
     scl: &Scl,
 ) -> Result<Items<Origin>, AllocError>
-    requires { IsProgramOf draft.now scl.now }
+    requires drafted { IsFlawless text.now draft.now }
+    requires cut { AreTokens language.Scl 0 text.now tokens.now }
+    requires spelled { IsProgramOf draft.now scl.now }
     ensures { IfOk result (λ origins. map Some origins
         ≡ scl_origins tokens.now draft.now.statements scl.now.body) }
 {
@@ -98,7 +101,7 @@ fn sources_in(
     let Some(program) = graph(alloc, &scl)? else {
         return Ok(None);
     };
-    let origins = origins_in(alloc, draft, tokens, &scl)?;
+    let origins = origins_in(alloc, text, draft, tokens, &scl)?;
     Ok(Some(Sources { program, origins }))
 }
 

@@ -1,10 +1,8 @@
 //! Where the statements of an SCL text stand: one walk over its draft, in the order of the text.
 
-ghost use Rattle.std.specs.Prelude.{◌≡◌, [], ◌∷◌, ◌++◌, suc, IfOk, OnOk, map};
-ghost use Rattle.node_sources.specs.SclOrigins.{behind_if, behind_join, behind_pause, behind_row};
-ghost use Rattle.node_sources.specs.SclOrigins.{one_place, opening, piece_of, row, spots_of};
+ghost use Rattle.std.specs.Prelude.{◌≡◌, [], ◌∷◌, ◌++◌, IfOk, OnOk, map};
+ghost use Rattle.node_sources.specs.SclOrigins.{in_row, one_place, opening, spots_in, spots_of};
 
-use crate::words::{Words, nth_place};
 use sc_text::Token;
 use sc_text::ahead::place;
 use scl_drafts::TextStatement;
@@ -19,56 +17,6 @@ pub struct Spot {
     pub second: usize,
 }
 
-/// How many of the statements that begin with these words were met.
-#[derive(Clone, Copy, Debug)]
-pub struct Met {
-    pub ifs: usize,
-    pub pauses: usize,
-    pub joins: usize,
-}
-
-// The number behind this one. Err: no memory holds a text with so many words.
-fn next(number: usize) -> Result<usize, AllocError>
-    ensures { IfOk result (λ next. next ≡ suc number) }
-{
-    match number.checked_add(1) {
-        Some(next) => Ok(next),
-        None => Err(AllocError),
-    }
-}
-
-impl Met {
-    fn behind_if(self) -> Result<Met, AllocError>
-        ensures { IfOk result (λ met. met ≡ behind_if self) }
-    {
-        Ok(Met {
-            ifs: next(self.ifs)?,
-            pauses: self.pauses,
-            joins: self.joins,
-        })
-    }
-
-    fn behind_pause(self) -> Result<Met, AllocError>
-        ensures { IfOk result (λ met. met ≡ behind_pause self) }
-    {
-        Ok(Met {
-            ifs: self.ifs,
-            pauses: next(self.pauses)?,
-            joins: self.joins,
-        })
-    }
-
-    fn behind_join(self) -> Result<Met, AllocError>
-        ensures { IfOk result (λ met. met ≡ behind_join self) }
-    {
-        Ok(Met {
-            ifs: self.ifs,
-            pauses: self.pauses,
-            joins: next(self.joins)?,
-        })
-    }
-}
-
 // Puts a spot at one place behind others.
 fn put_place(spots: &mut Items<Spot>, place: usize) -> Result<(), AllocError>
     ensures { OnOk result (spots.new ≡ spots.old ++ one_place place ∷ []) }
@@ -79,78 +27,47 @@ fn put_place(spots: &mut Items<Spot>, place: usize) -> Result<(), AllocError>
     })
 }
 
-// Puts the spots of statements behind others: the answer is how many words were met behind them.
+// Puts the spots of statements behind others.
 #[cycle(spots)]
-fn put_row(
-    alloc: Global,
-    words: &Words,
-    statements: &[TextStatement],
-    met: Met,
-    spots: &mut Items<Spot>,
-) -> Result<Met, AllocError>
-    ensures spots { IfOk result (λ _. spots.new
-        ≡ spots.old ++ row (map (piece_of words.now) statements.now) met) }
-    ensures behind { IfOk result (λ behind. behind
-        ≡ behind_row (map (piece_of words.now) statements.now) met) }
+fn put_row(statements: &[TextStatement], spots: &mut Items<Spot>) -> Result<(), AllocError>
+    ensures { OnOk result (spots.new ≡ spots.old ++ in_row (map spots_in statements.now)) }
 {
-    let mut here = met;
     for statement in statements {
-        here = put_statement(alloc, words, statement, here, spots)?;
+        put_statement(statement, spots)?;
     }
-    Ok(here)
+    Ok(())
 }
 
 #[cycle(spots)]
-#[tactic(auto, using(crate::proofs::Branches::opening_of_pieces))]
-fn put_statement(
-    alloc: Global,
-    words: &Words,
-    statement: &TextStatement,
-    met: Met,
-    spots: &mut Items<Spot>,
-) -> Result<Met, AllocError>
-    ensures spots { IfOk result (λ _. spots.new ≡ spots.old ++ (piece_of words.now statement.now).spots met) }
-    ensures behind { IfOk result (λ behind. behind ≡ (piece_of words.now statement.now).behind met) }
+#[tactic(auto, using(crate::proofs::Branches::opening_of_spots))]
+fn put_statement(statement: &TextStatement, spots: &mut Items<Spot>) -> Result<(), AllocError>
+    ensures { OnOk result (spots.new ≡ spots.old ++ spots_in statement.now) }
 {
     match statement {
-        TextStatement::Assign { target, value: _ } => {
-            put_place(spots, target.at)?;
-            Ok(met)
-        }
-        TextStatement::Label(label) => {
-            put_place(spots, label.at)?;
-            Ok(met)
-        }
-        TextStatement::Goto(label) => {
-            put_place(spots, label.at)?;
-            Ok(met)
-        }
-        TextStatement::Pause => {
-            put_place(spots, nth_place(words.pauses.as_slice(), met.pauses))?;
-            met.behind_pause()
-        }
+        TextStatement::Assign { target, value: _ } => put_place(spots, target.at),
+        TextStatement::Label(label) => put_place(spots, label.at),
+        TextStatement::Goto(label) => put_place(spots, label.at),
+        TextStatement::Pause { at } => put_place(spots, *at),
         TextStatement::If {
+            at,
             test: _,
             first,
             second,
         } => {
-            put_place(spots, nth_place(words.ifs.as_slice(), met.ifs))?;
-            let between = put_row(alloc, words, first.as_slice(), met.behind_if()?, spots)?;
-            put_row(alloc, words, second.as_slice(), between, spots)
+            put_place(spots, *at)?;
+            put_row(first.as_slice(), spots)?;
+            put_row(second.as_slice(), spots)
         }
-        TextStatement::Fork { branches } => {
-            let mut inside = Items::new(alloc);
-            let mut here = met;
-            for branch in branches.as_slice() {
-                here = put_row(alloc, words, branch.1.as_slice(), here, &mut inside)?;
-                put_place(&mut inside, branch.0)?;
-            }
+        TextStatement::Fork { branches, join } => {
             spots.push(Spot {
                 first: opening(branches.as_slice()),
-                second: nth_place(words.joins.as_slice(), here.joins),
+                second: *join,
             })?;
-            spots.append(inside)?;
-            here.behind_join()
+            for branch in branches.as_slice() {
+                put_row(branch.1.as_slice(), spots)?;
+                put_place(spots, branch.0)?;
+            }
+            Ok(())
         }
     }
 }
@@ -174,14 +91,8 @@ pub(crate) fn spots_of(
 ) -> Result<Items<Spot>, AllocError>
     ensures { IfOk result (λ spots. spots ≡ spots_of tokens.now statements.now) }
 {
-    let words = Words::of(alloc, tokens)?;
-    let none = Met {
-        ifs: 0,
-        pauses: 0,
-        joins: 0,
-    };
     let mut spots = Items::new(alloc);
-    put_row(alloc, &words, statements, none, &mut spots)?;
+    put_row(statements, &mut spots)?;
     put_place(&mut spots, place(tokens, 0))?;
     Ok(spots)
 }

@@ -2,7 +2,7 @@
 use Rattle.std.proofs.Common.{◌≡◌, ℕ, true, false, Some, None, Option, List, [], ◌∷◌, ◌++◌, drop, refl, sym, ◌∙◌, ap}
 use Rattle.std.proofs.lemmas.List.{append-nil}
 use Rattle.std.specs.List.{flat_map}
-use Rattle.grammar.specs.Grammar.{one, seq, maybe, many, made, headed}
+use Rattle.grammar.specs.Grammar.{one, seq, maybe, many, headed}
 use Rattle.grammar.specs.Read.{Got, starts, next, choose, read}
 use Rattle.sc_text.specs.declared.token.Token.{Token}
 use Rattle.sc_text.specs.declared.word.Word.TheVariants as word
@@ -11,7 +11,7 @@ use Rattle.sc_text.specs.declared.read_fault.ReadFault.{ReadFault}
 use Rattle.sc_text.specs.Classes.{Class, TheWord, TheSign}
 use Rattle.sc_text.specs.Phrases.{Phrase}
 use Rattle.sc_text.specs.Expression.{text_tokens, after, before, expression}
-use Rattle.sc_text.specs.Reading.{Stops, Takes}
+use Rattle.sc_text.specs.Reading.{Stops, Takes, place_of}
 use Rattle.sc_text.proofs.Steps.{one_taken, next_stops, stops_as, seq_got, seq_stops_first, seq_stops_second}
 use Rattle.drafts.specs.declared.parts.TextExpression.{TextExpression}
 use Rattle.scl_drafts.specs.declared.statement.TextStatement.{TextStatement}
@@ -20,7 +20,7 @@ use Rattle.scl_drafts.specs.Statements.{Statements, none_or_them, if_statement}
 use Rattle.scl_drafts.specs.Program.{Grows, block, test, choice}
 use Rattle.scl_drafts.specs.Inside.{TakesValue, Adds, itself, alone}
 use Rattle.scl_drafts.proofs.Taking.{after_got, after_stops_before, after_stops, before_got, before_stops, before_stops_behind, pair_got, pair_stops_first}
-use Rattle.scl_drafts.proofs.Taking.{pair_stops_second}
+use Rattle.scl_drafts.proofs.Taking.{pair_stops_second, taken_place}
 
 abbrev opening : List Class
 opening = TheSign sign.OpenBrace ∷ []
@@ -124,56 +124,57 @@ module _ (s : Grows TextStatement) (text : List Token) where
 
 -- ---- ifs
 
-abbrev if_of : (Token × Phrase) × (Statements × Option Statements) → TextStatement
-if_of x = if_statement x.0 x.1.0 x.1.1
+abbrev if_of : Token × ((Token × Phrase) × (Statements × Option Statements)) → TextStatement
+if_of x = if_statement x.0 x.1.0 x.1.1.0 x.1.1.1
 
 module _ (s : Grows TextStatement) (text : List Token) where
   abbrev lists : Grows (Statements × Option Statements)
   lists = seq (block s) (maybe (after else_word (block s)))
 
-  abbrev behind_word : Grows TextStatement
-  behind_word = made if_of (seq (test (expression 0)) lists)
+  abbrev behind_word : Grows ((Token × Phrase) × (Statements × Option Statements))
+  behind_word = seq (test (expression 0)) lists
 
   pub if_word_stops : (end : ℕ) (f : ReadFault) → Stops end (read (one {L = text_tokens} if_word) text) f → Stops end (read (choice (expression 0) s) text) f
   unfolding choice
-  if_word_stops end f h = after_stops_before if_word behind_word end text f h
+  if_word_stops end f h = seq_stops_first if_of (one if_word) behind_word end text f h
 
   module _ (mid : List Token) (t : Takes (read (one {L = text_tokens} if_word) text) mid) where
-    pub test_stops : (end : ℕ) (f : ReadFault) → Stops end (read (test (expression 0)) mid) f → Stops end (read (choice (expression 0) s) text) f
+    behind_stops : (end : ℕ) (f : ReadFault) → Stops end (read behind_word mid) f → Stops end (read (choice (expression 0) s) text) f
     unfolding choice
-    test_stops end f h = after_stops if_word behind_word end text mid f t (seq_stops_first if_of (test (expression 0)) lists end mid f h)
+    behind_stops end f h = seq_stops_second if_of (one if_word) behind_word end text mid t.token f t.is h
+
+    pub test_stops : (end : ℕ) (f : ReadFault) → Stops end (read (test (expression 0)) mid) f → Stops end (read (choice (expression 0) s) text) f
+    test_stops end f h = behind_stops end f (pair_stops_first (test (expression 0)) lists end mid f h)
 
     module _ (value : TextExpression) (listed : List Token) (v : TakesValue (read (test (expression 0)) mid) value listed) where
+      lists_stop : (end : ℕ) (f : ReadFault) → Stops end (read lists listed) f → Stops end (read (choice (expression 0) s) text) f
+      lists_stop end f h =
+          behind_stops end f (pair_stops_second (test (expression 0)) lists end mid listed (v.head, v.phrase) f v.is h)
+
       pub first_stops : (end : ℕ) (f : ReadFault) → Stops end (read (block s) listed) f → Stops end (read (choice (expression 0) s) text) f
-      unfolding choice
-      first_stops end f h =
-          after_stops if_word behind_word end text mid f t
-          (seq_stops_second if_of (test (expression 0)) lists end mid listed (v.head, v.phrase) f v.is
-          (pair_stops_first (block s) (maybe (after else_word (block s))) end listed f h))
+      first_stops end f h = lists_stop end f (pair_stops_first (block s) (maybe (after else_word (block s))) end listed f h)
 
       module _ (old_first first : Statements) (rest : List Token) (c : Adds itself (read (block s) listed) old_first first rest) where
         pub second_stops : (end : ℕ) (f : ReadFault) → Stops end (read (maybe (after else_word (block s))) rest) f
             → Stops end (read (choice (expression 0) s) text) f
-        unfolding choice
         second_stops end f h =
-            after_stops if_word behind_word end text mid f t
-            (seq_stops_second if_of (test (expression 0)) lists end mid listed (v.head, v.phrase) f v.is
-            (pair_stops_second (block s) (maybe (after else_word (block s))) end listed rest c.meaning f c.is h))
+            lists_stop end f (pair_stops_second (block s) (maybe (after else_word (block s))) end listed rest c.meaning f c.is h)
 
-        pub choice_reads : (old_second others old new : Statements) (end : List Token)
+        pub choice_reads : (at here : ℕ) (old_second others old new : Statements) (end : List Token) → at ≡ place_of here text
             → Adds none_or_them (read (maybe (after else_word (block s))) rest) old_second others end → old_first ≡ [] → old_second ≡ []
-            → new ≡ old ++ open_text.If value first others ∷ [] → Adds alone (read (choice (expression 0) s) text) old new end
+            → new ≡ old ++ open_text.If at value first others ∷ [] → Adds alone (read (choice (expression 0) s) text) old new end
         unfolding choice
-        choice_reads old_second others old new end d e g b =
+        choice_reads at here old_second others old new end p d e g b =
+            let placed : at ≡ t.token.at = p ∙ taken_place if_word here text mid t.token t.is in
             let tests = v.means in
             let firsts : first ≡ c.meaning = c.behind ∙ ap (λ o. o ++ c.meaning) e in
             let seconds : others ≡ none_or_them d.meaning = d.behind ∙ ap (λ o. o ++ none_or_them d.meaning) g in
-            let same : open_text.If value first others ≡ if_statement (v.head, v.phrase) c.meaning d.meaning = cc in
+            let same : open_text.If at value first others ≡ if_statement t.token (v.head, v.phrase) c.meaning d.meaning = cc in
             record {
-              meaning = if_statement (v.head, v.phrase) c.meaning d.meaning;
+              meaning = if_statement t.token (v.head, v.phrase) c.meaning d.meaning;
               is =
-                  after_got if_word behind_word text mid end (if_statement (v.head, v.phrase) c.meaning d.meaning) t
-                  (seq_got if_of (test (expression 0)) lists mid listed end (v.head, v.phrase) (c.meaning, d.meaning) v.is
+                  seq_got if_of (one if_word) behind_word text mid end t.token ((v.head, v.phrase), (c.meaning, d.meaning)) t.is
+                  (pair_got (test (expression 0)) lists mid listed end (v.head, v.phrase) (c.meaning, d.meaning) v.is
                   (pair_got (block s) (maybe (after else_word (block s))) listed rest end c.meaning d.meaning c.is d.is));
               behind = b ∙ ap (λ x. old ++ x ∷ []) same;
             }

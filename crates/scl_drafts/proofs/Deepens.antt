@@ -47,9 +47,7 @@ fork_wider s s' d =
     deeper_made _ _ _ _ _
     (deeper_seq _ _ _ _ _ _ (branch_wider word.Fork s s' d)
     (deeper_made _ _ _ _ _
-    (deeper_seq _ _ _ _ _ _
-    (deeper_made _ _ _ _ _ (deeper_seq _ _ _ _ _ _ (deeper_many _ _ _ (branch_wider word.Par s s' d)) (same_one _)))
-    (same_one _))))
+    (deeper_seq _ _ _ _ _ _ (deeper_seq _ _ _ _ _ _ (deeper_many _ _ _ (branch_wider word.Par s s' d)) (same_one _)) (same_one _))))
 
 module _ (e e' : Grows Phrase) (w : Deeper Phrase e e') where
   simple_wider : Wider (simple e) (simple e')
@@ -71,13 +69,12 @@ module _ (e e' : Grows Phrase) (w : Deeper Phrase e e') where
   choice_wider s s' d =
       deeper_made _ _ _ _ _
       (deeper_seq _ _ _ _ _ _ (same_one _)
-      (deeper_made _ _ _ _ _
       (deeper_seq _ _ _ _ _ _
       (deeper_made _ _ _ _ _
       (deeper_seq _ _ _ _ _ _ (same_one _)
       (deeper_made _ _ _ _ _ (deeper_seq _ _ _ _ _ _ (deeper_headed _ _ _ w) (same_one _)))))
       (deeper_seq _ _ _ _ _ _ (block_wider s s' d)
-      (deeper_maybe _ _ _ (deeper_made _ _ _ _ _ (deeper_seq _ _ _ _ _ _ (same_one _) (block_wider s s' d))))))))
+      (deeper_maybe _ _ _ (deeper_made _ _ _ _ _ (deeper_seq _ _ _ _ _ _ (same_one _) (block_wider s s' d)))))))
 
   forking_wider : (i j : Inner) → Opened i j → Wider (forking e i) (forking e' j)
   unfolding forking fork branch

@@ -2,8 +2,8 @@
 use Rattle.std.proofs.Common.{◌≡◌, ℕ, List, [], ◌∷◌, ◌++◌, map, ◌∙◌, ap}
 use Rattle.std.proofs.lemmas.List.Concat.{flat_map_single}
 use Rattle.std.specs.List.{flat_map}
-use Rattle.grammar.specs.Grammar.{one, many}
-use Rattle.grammar.specs.Read.{read}
+use Rattle.grammar.specs.Grammar.{one, seq, many}
+use Rattle.grammar.specs.Read.{Got, read}
 use Rattle.sc_text.specs.declared.token.Token.{Token}
 use Rattle.sc_text.specs.declared.word.Word.{Word}
 use Rattle.sc_text.specs.declared.word.Word.TheVariants as word
@@ -52,12 +52,15 @@ module _ (w : Word) (s : Grows TextStatement) (text : List Token) where
 
 -- ---- a fork
 
-abbrev fork_of : (Token × Statements) × List (Token × Statements) → TextStatement
-fork_of x = fork_statement x.0 x.1
+abbrev fork_of : (Token × Statements) × (List (Token × Statements) × Token) → TextStatement
+fork_of x = fork_statement x.0 x.1.0 x.1.1
 
 module _ (s : Grows TextStatement) (text : List Token) where
-  abbrev further : Grows (List (Token × Statements))
-  further = before (before (many (branch word.Par s)) join_word) semicolon
+  abbrev joined : Grows (List (Token × Statements) × Token)
+  joined = seq (many (branch word.Par s)) (one join_word)
+
+  abbrev further : Grows (List (Token × Statements) × Token)
+  further = before joined semicolon
 
   pub first_branch_stops : (end : ℕ) (f : ReadFault) → Stops end (read (branch word.Fork s) text) f → Stops end (read (fork s) text) f
   unfolding fork
@@ -70,35 +73,37 @@ module _ (s : Grows TextStatement) (text : List Token) where
 
     pub branches_stop : (end : ℕ) (f : ReadFault) → Stops end (read (many (branch word.Par s)) more) f → Stops end (read (fork s) text) f
     branches_stop end f h =
-        further_stops end f (before_stops semicolon (before (many (branch word.Par s)) join_word) end more f
-        (before_stops join_word (many (branch word.Par s)) end more f h))
+        further_stops end f (before_stops semicolon joined end more f (pair_stops_first (many (branch word.Par s)) (one join_word) end more f h))
 
     module _ (all : List (ℕ × Statements)) (rest : List Token) (c : Adds (flat_map one_branch) (read (many (branch word.Par s)) more) one_there all rest) where
       pub join_stops : (end : ℕ) (f : ReadFault) → Stops end (read (one {L = text_tokens} join_word) rest) f → Stops end (read (fork s) text) f
       join_stops end f h =
           further_stops end f
-          (before_stops semicolon (before (many (branch word.Par s)) join_word) end more f
-          (before_stops_behind join_word (many (branch word.Par s)) end more rest c.meaning f c.is h))
+          (before_stops semicolon joined end more f
+          (pair_stops_second (many (branch word.Par s)) (one join_word) end more rest c.meaning f c.is h))
 
-      module _ (join : List Token) (j : Takes (read (one {L = text_tokens} join_word) rest) join) where
-        pub join_end_stops : (end : ℕ) (f : ReadFault) → Stops end (read (one {L = text_tokens} semicolon) join) f → Stops end (read (fork s) text) f
+      module _ (behind : List Token) (j : Takes (read (one {L = text_tokens} join_word) rest) behind) where
+        joined_got : read joined more ≡ Got (c.meaning, j.token) behind
+        joined_got = pair_got (many (branch word.Par s)) (one join_word) more rest behind c.meaning j.token c.is j.is
+
+        pub join_end_stops : (end : ℕ) (f : ReadFault) → Stops end (read (one {L = text_tokens} semicolon) behind) f → Stops end (read (fork s) text) f
         join_end_stops end f h =
-            further_stops end f
-            (before_stops_behind semicolon (before (many (branch word.Par s)) join_word) end more join c.meaning f
-            (before_got join_word (many (branch word.Par s)) more rest join c.meaning c.is j) h)
+            further_stops end f (before_stops_behind semicolon joined end more behind (c.meaning, j.token) f joined_got h)
 
-        pub fork_reads : (after : List Token) (old new : Statements) → Takes (read (one {L = text_tokens} semicolon) join) after → none ≡ []
-            → new ≡ old ++ open_text.Fork all ∷ [] → Adds alone (read (fork s) text) old new after
+        pub fork_reads : (join end : ℕ) (after : List Token) (old new : Statements) → join ≡ place_of end rest
+            → Takes (read (one {L = text_tokens} semicolon) behind) after → none ≡ []
+            → new ≡ old ++ open_text.Fork all join ∷ [] → Adds alone (read (fork s) text) old new after
         unfolding fork
-        fork_reads after old new e z b =
+        fork_reads join end after old new p e z b =
+            let placed : join ≡ j.token.at = p ∙ taken_place join_word end rest behind j.token j.is in
             let first : one_there ≡ branch_of a.meaning ∷ [] = a.behind ∙ ap (λ o. o ++ branch_of a.meaning ∷ []) z in
             let whole : all ≡ branch_of a.meaning ∷ map branch_of c.meaning = c.behind ∙ ap (λ o. o ++ flat_map one_branch c.meaning) first
             ∙ ap (λ l. branch_of a.meaning ∷ l) (each_branch c.meaning) in
             record {
-              meaning = fork_statement a.meaning c.meaning;
+              meaning = fork_statement a.meaning c.meaning j.token;
               is =
-                  seq_got fork_of (branch word.Fork s) further text more after a.meaning c.meaning a.is
-                  (before_got semicolon (before (many (branch word.Par s)) join_word) more join after c.meaning
-                  (before_got join_word (many (branch word.Par s)) more rest join c.meaning c.is j) e);
-              behind = b ∙ ap (λ x. old ++ open_text.Fork x ∷ []) whole;
+                  seq_got fork_of (branch word.Fork s) further text more after a.meaning (c.meaning, j.token) a.is
+                  (before_got semicolon joined more behind after (c.meaning, j.token) joined_got e);
+              behind =
+                  b ∙ ap (λ n. old ++ open_text.Fork all n ∷ []) placed ∙ ap (λ x. old ++ open_text.Fork x j.token.at ∷ []) whole;
             }

@@ -62,7 +62,7 @@ module _ (e : Grows Phrase) (w : EachScl e CanWrite) (limit : ℕ) where
       (λ x h. named_fits forks ifs x.0 x.1 h.0 h.1))
       (each_either _ _ _ _
       (each_made _ _ _ _ _ (StatementFits forks ifs) (each_after _ _ _ (each_before _ _ _ (each_token _))) (λ t h. goto_fits limit forks ifs (named t)))
-      (each_made _ _ _ _ _ (StatementFits forks ifs) (each_before _ _ _ (each_token _)) (λ t h. pause_fits limit forks ifs)))
+      (each_made _ _ _ _ _ (StatementFits forks ifs) (each_before _ _ _ (each_token _)) (λ t h. pause_fits limit forks ifs t.at)))
 
   block_fits : (forks ifs : ℕ) (s : Grows TextStatement) → Grown forks ifs s → EachScl (block s) (AllFit forks ifs)
   unfolding block
@@ -75,11 +75,13 @@ module _ (e : Grows Phrase) (w : EachScl e CanWrite) (limit : ℕ) where
   choice_fits : (forks ifs : ℕ) (s : Grows TextStatement) → Grown forks ifs s → Grown forks (suc ifs) (choice e s)
   unfolding choice test
   choice_fits forks ifs s g =
-      each_after _ _ _
-      (each_made _ _ _ _ _ (StatementFits forks (suc ifs))
+      each_made _ _ _ _ _ (StatementFits forks (suc ifs))
+      (each_seq _ _ _ _ _ _ (each_token _)
       (each_seq _ _ _ _ _ _ (each_after _ _ _ (each_before _ _ _ (each_headed _ _ _ w)))
-      (each_seq _ _ _ _ _ _ (block_fits forks ifs s g) (each_maybe _ _ _ (each_after _ _ _ (block_fits forks ifs s g)))))
-      (λ x h. if_fits limit forks ifs (expressed x.0) x.1.0 (none_or_them x.1.1) h.0 h.1.0 (none_or_them_fit forks ifs x.1.1 h.1.1)))
+      (each_seq _ _ _ _ _ _ (block_fits forks ifs s g) (each_maybe _ _ _ (each_after _ _ _ (block_fits forks ifs s g))))))
+      (λ x h.
+      if_fits limit forks ifs x.0.at (expressed x.1.0) x.1.1.0 (none_or_them x.1.1.1) h.1.0 h.1.1.0
+      (none_or_them_fit forks ifs x.1.1.1 h.1.1.1))
 
   branch_fits : (forks : ℕ) (opening : Word) (s : Grows TextStatement) → Grown forks limit s → EachScl (branch opening s) (λ b. AllFit forks limit b.1)
   unfolding branch
@@ -91,8 +93,10 @@ module _ (e : Grows Phrase) (w : EachScl e CanWrite) (limit : ℕ) where
   forked_fits forks ifs s g =
       each_made _ _ _ _ _ (StatementFits (suc forks) ifs)
       (each_seq _ _ _ _ _ _ (branch_fits forks word.Fork s g)
-      (each_before _ _ _ (each_before _ _ _ (each_many _ _ _ (branch_fits forks word.Par s g)))))
-      (λ x h. fork_fits limit forks ifs (branch_of x.0) (map branch_of x.1) (h.0, every_map (λ b. AllFit forks limit b.1) branch_of x.1 h.1))
+      (each_before _ _ _ (each_seq _ _ _ _ _ _ (each_many _ _ _ (branch_fits forks word.Par s g)) (each_token _))))
+      (λ x h.
+      fork_fits limit forks ifs (branch_of x.0) (map branch_of x.1.0) x.1.1.at
+      (h.0, every_map (λ b. AllFit forks limit b.1) branch_of x.1.0 h.1.0))
 
   -- the statements within one more fork, and within one more if
   data ForksFit : ℕ → Inner → Type 1 where

@@ -100,12 +100,11 @@ unfolding choice
 choice_is e s h i =
     shaped_made _ _ _ _ _ _ _
     (shaped_seq _ _ _ _ _ _ _ _ _ _ (shaped_one _ refl)
-    (shaped_made _ _ _ _ _ _ _
     (shaped_seq _ _ _ _ _ _ _ _ _ _ (test_is e h)
     (shaped_seq _ _ _ _ _ _ _ _ _ _ (block_is s i)
     (shaped_maybe _ _ _ _ (shaped_made _ _ _ _ _ _ _ (shaped_seq _ _ _ _ _ _ _ _ _ _ (shaped_one _ refl) (block_is s i) refl)))
     refl)
-    refl))
+    refl)
     refl)
 
 branch_is : (w : Word) (s : Grows TextStatement) → IsStatement s → Shaped (branch w s) false (TheWord w ∷ []) []
@@ -119,7 +118,7 @@ fork_is s i =
     (shaped_seq _ _ _ _ _ _ _ _ _ _ (branch_is word.Fork s i)
     (shaped_made _ _ _ _ _ _ _
     (shaped_seq _ _ _ _ _ _ _ _ _ _
-    (shaped_made _ _ _ _ _ _ _ (shaped_seq _ _ _ _ _ _ _ _ _ _ (shaped_many _ _ _ _ (branch_is word.Par s i) refl) (shaped_one _ refl) refl))
+    (shaped_seq _ _ _ _ _ _ _ _ _ _ (shaped_many _ _ _ _ (branch_is word.Par s i) refl) (shaped_one _ refl) refl)
     (shaped_one _ refl) refl))
     refl)
 

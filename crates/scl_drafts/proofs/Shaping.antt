@@ -29,16 +29,18 @@ shape_of_label label = ap shape_of (sym (rolls-Label label)) ∙ fold-roll-TextS
 shape_of_goto : (label : Named) → shape_of (variant.Goto label) ≡ shape (text.Goto label)
 shape_of_goto label = ap shape_of (sym (rolls-Goto label)) ∙ fold-roll-TextStatement Shape shape (text.Goto label)
 
-shape_of_pause : shape_of variant.Pause ≡ shape text.Pause
-shape_of_pause = ap shape_of (sym rolls-Pause) ∙ fold-roll-TextStatement Shape shape text.Pause
+shape_of_pause : (at : ℕ) → shape_of (variant.Pause at) ≡ shape (text.Pause at)
+shape_of_pause at = ap shape_of (sym (rolls-Pause at)) ∙ fold-roll-TextStatement Shape shape (text.Pause at)
 
-shape_of_if : (test : TextExpression) (first second : List TextStatement) → shape_of (variant.If test first second)
-    ≡ shape (text.If test (shapes first) (shapes second))
-shape_of_if test first second =
-    ap shape_of (sym (rolls-If test first second)) ∙ fold-roll-TextStatement Shape shape (text.If test first second)
+shape_of_if : (at : ℕ) (test : TextExpression) (first second : List TextStatement) → shape_of (variant.If at test first second)
+    ≡ shape (text.If at test (shapes first) (shapes second))
+shape_of_if at test first second =
+    ap shape_of (sym (rolls-If at test first second)) ∙ fold-roll-TextStatement Shape shape (text.If at test first second)
 
-shape_of_fork : (branches : List (ℕ × List TextStatement)) → shape_of (variant.Fork branches) ≡ shape (text.Fork (map of_branch branches))
-shape_of_fork branches = ap shape_of (sym (rolls-Fork branches)) ∙ fold-roll-TextStatement Shape shape (text.Fork branches)
+shape_of_fork : (branches : List (ℕ × List TextStatement)) (join : ℕ)
+    → shape_of (variant.Fork branches join) ≡ shape (text.Fork (map of_branch branches) join)
+shape_of_fork branches join =
+    ap shape_of (sym (rolls-Fork branches join)) ∙ fold-roll-TextStatement Shape shape (text.Fork branches join)
 
 -- ---- what fits within so many forks and ifs, where a thread may have `limit` ifs in one another
 
@@ -129,16 +131,16 @@ module _ (limit : ℕ) where
   pub goto_fits : (forks ifs : ℕ) (label : Named) → Fits forks ifs (shape_of (variant.Goto label))
   goto_fits forks ifs label = subst (Fits forks ifs) (sym (shape_of_goto label)) (nothing_fits forks ifs)
 
-  pub pause_fits : (forks ifs : ℕ) → Fits forks ifs (shape_of variant.Pause)
-  pause_fits forks ifs = subst (Fits forks ifs) (sym shape_of_pause) (nothing_fits forks ifs)
+  pub pause_fits : (forks ifs at : ℕ) → Fits forks ifs (shape_of (variant.Pause at))
+  pause_fits forks ifs at = subst (Fits forks ifs) (sym (shape_of_pause at)) (nothing_fits forks ifs)
 
-  pub if_fits : (forks ifs : ℕ) (test : TextExpression) (first second : List TextStatement) → IsTrue (is_writable_expression test)
+  pub if_fits : (forks ifs at : ℕ) (test : TextExpression) (first second : List TextStatement) → IsTrue (is_writable_expression test)
       → Every (λ s. Fits forks ifs (shape_of s)) first → Every (λ s. Fits forks ifs (shape_of s)) second
-      → Fits forks (suc ifs) (shape_of (variant.If test first second))
-  if_fits forks ifs test first second h a b =
+      → Fits forks (suc ifs) (shape_of (variant.If at test first second))
+  if_fits forks ifs at test first second h a b =
       let p = both (in_row (shapes first)) (in_row (shapes second)) in
       let f : Fits forks ifs p = both_fit forks ifs _ _ (row_fits forks ifs first a) (row_fits forks ifs second b) in
-      subst (Fits forks (suc ifs)) (sym (shape_of_if test first second))
+      subst (Fits forks (suc ifs)) (sym (shape_of_if at test first second))
       (record {
         labels = f.labels;
         lower = f.lower;
@@ -156,11 +158,11 @@ module _ (limit : ℕ) where
       both_fit forks ifs (thread (in_row (shapes b.1))) (side_by_side (map of_branch branches))
       (thread_fits forks ifs (in_row (shapes b.1)) (row_fits forks limit b.1 e.0)) (branches_fit forks ifs branches e.1)
 
-  pub fork_fits : (forks ifs : ℕ) (first : ℕ × List TextStatement) (more : List (ℕ × List TextStatement))
-      → Every (λ b. Every (λ s. Fits forks limit (shape_of s)) b.1) (first ∷ more) → Fits (suc forks) ifs (shape_of (variant.Fork (first ∷ more)))
-  fork_fits forks ifs first more e =
+  pub fork_fits : (forks ifs : ℕ) (first : ℕ × List TextStatement) (more : List (ℕ × List TextStatement)) (join : ℕ)
+      → Every (λ b. Every (λ s. Fits forks limit (shape_of s)) b.1) (first ∷ more) → Fits (suc forks) ifs (shape_of (variant.Fork (first ∷ more) join))
+  fork_fits forks ifs first more join e =
       let f = branches_fit forks ifs (first ∷ more) e in
-      subst (Fits (suc forks) ifs) (sym (shape_of_fork (first ∷ more)))
+      subst (Fits (suc forks) ifs) (sym (shape_of_fork (first ∷ more) join))
       (record {
         labels = f.labels;
         lower = f.lower;

@@ -8,7 +8,7 @@ use Rattle.sc_text.specs.declared.sign.Sign.TheVariants as sign
 use Rattle.sc_text.specs.declared.read_fault.ReadFault.{ReadFault}
 use Rattle.sc_text.specs.Classes.{Class, AName, TheWord, TheSign}
 use Rattle.sc_text.specs.Expression.{text_tokens, before, expression}
-use Rattle.sc_text.specs.Reading.{Stops, Takes}
+use Rattle.sc_text.specs.Reading.{Stops, Takes, place_of}
 use Rattle.sc_text.proofs.Steps.{one_taken, next_stops, stops_as, seq_got, seq_stops_first, seq_stops_second}
 use Rattle.drafts.specs.declared.parts.Named.{Named}
 use Rattle.drafts.specs.declared.parts.TextExpression.{TextExpression}
@@ -18,7 +18,7 @@ use Rattle.scl_drafts.specs.Statements.{Statements, Becomes, IsLabel, named_stat
 use Rattle.scl_drafts.specs.Program.{name, semicolon, assigned, labelled, named, goto, pause, simple}
 use Rattle.scl_drafts.specs.Inside.{TakesName, TakesValue, Adds, alone}
 use Rattle.scl_drafts.proofs.Names.{name_got}
-use Rattle.scl_drafts.proofs.Taking.{after_got, after_stops_before, after_stops, before_got, before_stops, before_stops_behind, adds_as}
+use Rattle.scl_drafts.proofs.Taking.{after_got, after_stops_before, after_stops, before_got, before_stops, before_stops_behind, adds_as, taken_place}
 
 abbrev becomes : List Class
 becomes = TheSign sign.Becomes ∷ []
@@ -144,14 +144,16 @@ module _ (text : List Token) where
   unfolding pause
   pause_end_stops rest end f t s = next_stops end _ _ f (before_stops_behind semicolon (one pause_word) end text rest t.token f t.is s)
 
-  pub pause_reads : (rest end : List Token) (old new : Statements) → Takes (read (one {L = text_tokens} pause_word) text) rest
-      → Takes (read (one {L = text_tokens} semicolon) rest) end → new ≡ old ++ pause_statement ∷ [] → Adds alone (read pause text) old new end
+  pub pause_reads : (at here : ℕ) (rest end : List Token) (old new : Statements) → at ≡ place_of here text
+      → Takes (read (one {L = text_tokens} pause_word) text) rest → Takes (read (one {L = text_tokens} semicolon) rest) end
+      → new ≡ old ++ open_text.Pause at ∷ [] → Adds alone (read pause text) old new end
   unfolding pause
-  pause_reads rest end old new t c b =
+  pause_reads at here rest end old new p t c b =
+      let placed : at ≡ t.token.at = p ∙ taken_place pause_word here text rest t.token t.is in
       record {
-        meaning = pause_statement;
-        is = ap (λ o. next o (λ x r. Got pause_statement r)) (before_got semicolon (one pause_word) text rest end t.token t.is c);
-        behind = b;
+        meaning = pause_statement t.token;
+        is = ap (λ o. next o (λ x r. Got (pause_statement x) r)) (before_got semicolon (one pause_word) text rest end t.token t.is c);
+        behind = b ∙ ap (λ n. old ++ open_text.Pause n ∷ []) placed;
       }
 
 -- ---- any of them

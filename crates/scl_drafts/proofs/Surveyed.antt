@@ -71,17 +71,18 @@ module _ (V : List Declaration) where
   part_of_goto : (label : Named) → part_of V (statement.Goto label) ≡ part V (text.Goto label)
   part_of_goto label = ap (part_of V) (sym (rolls-Goto label)) ∙ fold-roll-TextStatement Part (part V) (text.Goto label)
 
-  part_of_pause : part_of V statement.Pause ≡ part V text.Pause
-  part_of_pause = ap (part_of V) (sym rolls-Pause) ∙ fold-roll-TextStatement Part (part V) text.Pause
+  part_of_pause : (at : ℕ) → part_of V (statement.Pause at) ≡ part V (text.Pause at)
+  part_of_pause at = ap (part_of V) (sym (rolls-Pause at)) ∙ fold-roll-TextStatement Part (part V) (text.Pause at)
 
-  part_of_if : (test : TextExpression) (first second : Statements) → part_of V (statement.If test first second)
-      ≡ part V (text.If test (parts_of V first) (parts_of V second))
-  part_of_if test first second =
-      ap (part_of V) (sym (rolls-If test first second)) ∙ fold-roll-TextStatement Part (part V) (text.If test first second)
+  part_of_if : (at : ℕ) (test : TextExpression) (first second : Statements) → part_of V (statement.If at test first second)
+      ≡ part V (text.If at test (parts_of V first) (parts_of V second))
+  part_of_if at test first second =
+      ap (part_of V) (sym (rolls-If at test first second)) ∙ fold-roll-TextStatement Part (part V) (text.If at test first second)
 
-  part_of_fork : (branches : List (ℕ × Statements)) → part_of V (statement.Fork branches) ≡ part V (text.Fork (branch_parts V branches))
-  part_of_fork branches =
-      ap (part_of V) (sym (rolls-Fork branches)) ∙ fold-roll-TextStatement Part (part V) (text.Fork branches)
+  part_of_fork : (branches : List (ℕ × Statements)) (join : ℕ)
+      → part_of V (statement.Fork branches join) ≡ part V (text.Fork (branch_parts V branches) join)
+  part_of_fork branches join =
+      ap (part_of V) (sym (rolls-Fork branches join)) ∙ fold-roll-TextStatement Part (part V) (text.Fork branches join)
 
 -- ---- going over a statement
 
@@ -140,19 +141,20 @@ module _ (V : List Declaration) (own : Thread) (found : Found) (s : TextStatemen
       → after ≡ behind (survey own found) (part_of V s)
   label_surveyed label after is e = e ∙ behind_it (label_part label) (ap (part_of V) is ∙ part_of_label V label)
 
-  pub pause_surveyed : s ≡ statement.Pause → survey own found ≡ behind (survey own found) (part_of V s)
-  pause_surveyed is = sym (survey_nothing (survey own found)) ∙ behind_it nothing (ap (part_of V) is ∙ part_of_pause V)
+  pub pause_surveyed : (at : ℕ) → s ≡ statement.Pause at → survey own found ≡ behind (survey own found) (part_of V s)
+  pause_surveyed at is = sym (survey_nothing (survey own found)) ∙ behind_it nothing (ap (part_of V) is ∙ part_of_pause V at)
 
-  pub fork_surveyed : (branches : List (ℕ × Statements)) (after : Found) → s ≡ statement.Fork branches
+  pub fork_surveyed : (branches : List (ℕ × Statements)) (join : ℕ) (after : Found) → s ≡ statement.Fork branches join
       → after ≡ found_behind found (side_by_side 0 (branch_parts V branches)) → survey own after ≡ behind (survey own found) (part_of V s)
-  fork_surveyed branches after is e =
+  fork_surveyed branches join after is e =
       side_surveyed own found after 0 (branch_parts V branches) e
-      ∙ behind_it (side_by_side 0 (branch_parts V branches)) (ap (part_of V) is ∙ part_of_fork V branches)
+      ∙ behind_it (side_by_side 0 (branch_parts V branches)) (ap (part_of V) is ∙ part_of_fork V branches join)
 
-  pub if_surveyed : (test : TextExpression) (first second : Statements) (noted : Option Flaw) (b c : Survey) → s ≡ statement.If test first second
+  pub if_surveyed : (at : ℕ) (test : TextExpression) (first second : Statements) (noted : Option Flaw) (b c : Survey)
+      → s ≡ statement.If at test first second
       → noted ≡ first_behind found.first (expression_flaws V (Some kind.Bool) test) → b ≡ behind (survey own (record { labels = found.labels; first = noted }))
       (in_row (parts_of V first)) → c ≡ behind b (in_row (parts_of V second)) → c ≡ behind (survey own found) (part_of V s)
-  if_surveyed test first second noted b c is e f g =
+  if_surveyed at test first second noted b c is e f g =
       let flaws : List Flaw = expression_flaws V (Some kind.Bool) test in
       let p : Part = in_row (parts_of V first) in
       let q : Part = in_row (parts_of V second) in
@@ -162,7 +164,7 @@ module _ (V : List Declaration) (own : Thread) (found : Found) (s : TextStatemen
       ∙ ap (λ x. behind x q) (f ∙ ap (λ x. behind x p) start)
       ∙ sym (survey_both (behind (survey own found) (only_flaws flaws)) p q)
       ∙ sym (survey_both (survey own found) (only_flaws flaws) (both p q))
-      ∙ behind_it (both (only_flaws flaws) (both p q)) (ap (part_of V) is ∙ part_of_if V test first second)
+      ∙ behind_it (both (only_flaws flaws) (both p q)) (ap (part_of V) is ∙ part_of_if V at test first second)
 
 -- ---- going over statements, branches and threads
 

@@ -61,10 +61,10 @@ part variables (text.Assign target value) =
     only_flaws (assigned_flaws variables (variable_named variables target.name) target value)
 part variables (text.Label label) = record nothing { labels = label ∷ []; all = label ∷ [] }
 part variables (text.Goto label) = record nothing { gotos = label ∷ [] }
-part variables text.Pause = nothing
-part variables (text.If test first second) =
+part variables (text.Pause at) = nothing
+part variables (text.If at test first second) =
     both (only_flaws (expression_flaws variables (Some kind.Bool) test)) (both (in_row first) (in_row second))
-part variables (text.Fork branches) = side_by_side 0 branches
+part variables (text.Fork branches join) = side_by_side 0 branches
 
 abbrev pub part_of : List Declaration → TextStatement → Part
 part_of variables = fold-TextStatement Part (part variables)

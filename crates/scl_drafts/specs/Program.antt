@@ -42,7 +42,7 @@ unfoldable pub goto : Grows TextStatement
 goto = made goto_statement (after (TheWord word.Goto ∷ []) (before name semicolon))
 
 unfoldable pub pause : Grows TextStatement
-pause = made (λ t. pause_statement) (before (one (TheWord word.Pause ∷ [])) semicolon)
+pause = made pause_statement (before (one (TheWord word.Pause ∷ [])) semicolon)
 
 unfoldable pub simple : Grows Phrase → Grows TextStatement
 simple e = either (named e) (either goto pause)
@@ -56,8 +56,8 @@ test e = after (TheSign sign.OpenParenthesis ∷ []) (before (headed e) (TheSign
 
 unfoldable pub choice : Grows Phrase → Grows TextStatement → Grows TextStatement
 choice e s =
-    after (TheWord word.If ∷ [])
-    (made (λ x. if_statement x.0 x.1.0 x.1.1) (seq (test e) (seq (block s) (maybe (after (TheWord word.Else ∷ []) (block s))))))
+    made (λ x. if_statement x.0 x.1.0 x.1.1.0 x.1.1.1)
+    (seq (one (TheWord word.If ∷ [])) (seq (test e) (seq (block s) (maybe (after (TheWord word.Else ∷ []) (block s))))))
 
 -- statements in braces behind the word that opens a branch
 unfoldable pub branch : Word → Grows TextStatement → Grows (Token × Statements)
@@ -65,8 +65,8 @@ branch opening s = seq (one (TheWord opening ∷ [])) (block s)
 
 unfoldable pub fork : Grows TextStatement → Grows TextStatement
 fork s =
-    made (λ x. fork_statement x.0 x.1)
-    (seq (branch word.Fork s) (before (before (many (branch word.Par s)) (TheWord word.Join ∷ [])) semicolon))
+    made (λ x. fork_statement x.0 x.1.0 x.1.1)
+    (seq (branch word.Fork s) (before (seq (many (branch word.Par s)) (one (TheWord word.Join ∷ []))) semicolon))
 
 -- the statements within one more fork or one more if: none, where no more of them may stand in one another
 pub data Inner : Type 1 where

@@ -71,9 +71,9 @@ abbrev pub shape : TextStatement-F Shape → Shape
 shape (text.Assign target value) = record nothing { writable = is_writable_expression value }
 shape (text.Label label) = record nothing { labels = label.name ∷ [] }
 shape (text.Goto label) = nothing
-shape text.Pause = nothing
-shape (text.If test first second) = tested test (both (in_row first) (in_row second))
-shape (text.Fork branches) = forked (length branches) (side_by_side branches)
+shape (text.Pause at) = nothing
+shape (text.If at test first second) = tested test (both (in_row first) (in_row second))
+shape (text.Fork branches join) = forked (length branches) (side_by_side branches)
 
 abbrev pub shape_of : TextStatement → Shape
 shape_of = fold-TextStatement Shape shape

@@ -21,20 +21,21 @@ named_statement t IsLabel = text.Label (named t)
 abbrev pub goto_statement : Token → TextStatement
 goto_statement t = text.Goto (named t)
 
-abbrev pub pause_statement : TextStatement
-pause_statement = text.Pause
+abbrev pub pause_statement : Token → TextStatement
+pause_statement t = text.Pause t.at
 
 abbrev pub none_or_them : Option Statements → Statements
 none_or_them None = []
 none_or_them (Some statements) = statements
 
--- a test with its first token, the first list, and the second one if it is there
-abbrev pub if_statement : Token × Phrase → Statements → Option Statements → TextStatement
-if_statement test first second = text.If (expressed test) first (none_or_them second)
+-- an `if`, a test with its first token, the first list, and the second one if it is there
+abbrev pub if_statement : Token → Token × Phrase → Statements → Option Statements → TextStatement
+if_statement t test first second = text.If t.at (expressed test) first (none_or_them second)
 
 -- a branch by the word that opens it
 abbrev pub branch_of : Token × Statements → ℕ × Statements
 branch_of b = (b.0.at, b.1)
 
-abbrev pub fork_statement : Token × Statements → List (Token × Statements) → TextStatement
-fork_statement first more = text.Fork (branch_of first ∷ map branch_of more)
+-- its branches, and the `join`
+abbrev pub fork_statement : Token × Statements → List (Token × Statements) → Token → TextStatement
+fork_statement first more t = text.Fork (branch_of first ∷ map branch_of more) t.at

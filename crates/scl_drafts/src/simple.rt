@@ -10,7 +10,7 @@ ghost use Rattle.scl_drafts.specs.Inside.{Adds, alone};
 use crate::name::{name, name_follows};
 use crate::statement::TextStatement;
 use crate::value::value;
-use sc_text::ahead::{behind, past_sign, past_word, sign_follows, word_follows};
+use sc_text::ahead::{behind, past_sign, past_word, place, sign_follows, word_follows};
 use sc_text::{ReadFault, Sign, Token, Word};
 use sqlite_items::Items;
 use std::alloc::Global;
@@ -95,8 +95,9 @@ fn pause<'a>(
         (λ rest. Adds alone (read pause tokens.now) statements.old statements.new rest.now)
         (λ fault. Stops end (read pause tokens.now) fault) }
 {
+    let at = place(tokens, end);
     let rest = past_word(tokens, end, Word::Pause)?;
     let after = past_sign(rest, end, Sign::Semicolon)?;
-    statements.push(TextStatement::Pause)?;
+    statements.push(TextStatement::Pause { at })?;
     Ok(after)
 }

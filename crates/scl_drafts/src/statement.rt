@@ -14,15 +14,20 @@ pub enum TextStatement {
     Label(Named),
     /// A goto of this label.
     Goto(Named),
-    Pause,
-    /// An if. Where it has no `else` the second list is empty.
+    /// A pause, with the place of its word.
+    Pause {
+        at: usize,
+    },
+    /// An if, with the place of its word. Where it has no `else` the second list is empty.
     If {
+        at: usize,
         test: TextExpression,
         first: Items<TextStatement>,
         second: Items<TextStatement>,
     },
-    /// A fork of these branches, each with the place of the word that opens it.
+    /// A fork of these branches, each with the place of the word that opens it, and the place of its `join`.
     Fork {
         branches: Items<(usize, Items<TextStatement>)>,
+        join: usize,
     },
 }

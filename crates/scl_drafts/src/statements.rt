@@ -151,6 +151,7 @@ fn choice<'a>(
         (λ rest. Adds alone (read (choice (expression 0) (within forks ifs)) tokens.now) into.old into.new rest.now)
         (λ fault. Stops end (read (choice (expression 0) (within forks ifs)) tokens.now) fault) }
 {
+    let at = place(tokens, end);
     let opened = past_word(tokens, end, Word::If)?;
     let (test, listed) = test(alloc, opened, end)?;
     let mut first = Items::new(alloc);
@@ -158,6 +159,7 @@ fn choice<'a>(
     let mut second = Items::new(alloc);
     let after = otherwise(alloc, forks, ifs, rest, end, &mut second)?;
     into.push(TextStatement::If {
+        at,
         test,
         first,
         second,
@@ -221,9 +223,13 @@ fn fork<'a>(
     let mut all = Items::new(alloc);
     let more = branch(alloc, forks, Word::Fork, tokens, end, &mut all)?;
     let rest = branches(alloc, forks, more, end, &mut all)?;
-    let join = past_word(rest, end, Word::Join)?;
-    let after = past_sign(join, end, Sign::Semicolon)?;
-    into.push(TextStatement::Fork { branches: all })?;
+    let join = place(rest, end);
+    let joined = past_word(rest, end, Word::Join)?;
+    let after = past_sign(joined, end, Sign::Semicolon)?;
+    into.push(TextStatement::Fork {
+        branches: all,
+        join,
+    })?;
     Ok(after)
 }
 

@@ -91,8 +91,9 @@ fn survey_statement(
         ),
         TextStatement::Label(label) => note_label(label, own, found),
         TextStatement::Goto(label) => own.gotos.push(*label),
-        TextStatement::Pause => Ok(()),
+        TextStatement::Pause { at: _ } => Ok(()),
         TextStatement::If {
+            at: _,
             test,
             first,
             second,
@@ -102,7 +103,7 @@ fn survey_statement(
             survey_statements(alloc, scope, second.as_slice(), own, found)?;
             Ok(())
         }
-        TextStatement::Fork { branches } => {
+        TextStatement::Fork { branches, join: _ } => {
             let all = branches.as_slice();
             for (before, branch) in all.iter().enumerate() {
                 note_branch(before, branch.0, found);

@@ -157,15 +157,17 @@ module _ (V : List Declaration) where
       ≡ rules.forked (length (rule_parts branches)) (rules.side_by_side (rule_parts branches))
   rules_of_fork branches = ap part_of (sym (rolls-Fork branches)) ∙ fold-roll-Statement rules.Part rules.part (open_statement.Fork branches)
 
-  flaws_of_fork : (branches : List (Token × Statements)) → flaws.part_of V (variant.Fork (map branch_of branches)) ≡ flaws.side_by_side 0 (flaw_parts branches)
-  flaws_of_fork branches =
-      ap (flaws.part_of V) (sym (rolls-text-Fork (map branch_of branches)))
-      ∙ fold-roll-TextStatement flaws.Part (flaws.part V) (text.Fork (map branch_of branches))
+  flaws_of_fork : (branches : List (Token × Statements)) (join : ℕ)
+      → flaws.part_of V (variant.Fork (map branch_of branches) join) ≡ flaws.side_by_side 0 (flaw_parts branches)
+  flaws_of_fork branches join =
+      ap (flaws.part_of V) (sym (rolls-text-Fork (map branch_of branches) join))
+      ∙ fold-roll-TextStatement flaws.Part (flaws.part V) (text.Fork (map branch_of branches) join)
 
-  meant_fork : (branches : List (Token × Statements)) → statement_of vn (variant.Fork (map branch_of branches)) ≡ statement.Fork (meant branches)
-  meant_fork branches =
-      ap (statement_of vn) (sym (rolls-text-Fork (map branch_of branches)))
-      ∙ fold-roll-TextStatement Statement (resolved vn) (text.Fork (map branch_of branches))
+  meant_fork : (branches : List (Token × Statements)) (join : ℕ)
+      → statement_of vn (variant.Fork (map branch_of branches) join) ≡ statement.Fork (meant branches)
+  meant_fork branches join =
+      ap (statement_of vn) (sym (rolls-text-Fork (map branch_of branches) join))
+      ∙ fold-roll-TextStatement Statement (resolved vn) (text.Fork (map branch_of branches) join)
 
   forked : (ts us : List Token) (f o c j s : Token)
       → (f ∷ (o ∷ (ts ++ c ∷ []))) ++ ((us ++ j ∷ []) ++ s ∷ []) ≡ f ∷ o ∷ (ts ++ (c ∷ (us ++ (j ∷ s ∷ []))))
@@ -208,12 +210,12 @@ module _ (V : List Declaration) where
       let tokens : List Token = w ∷ o ∷ (r.tokens ++ (c ∷ (f.tokens ++ joined))) in
       let branched : List Token = w ∷ (o ∷ (r.tokens ++ c ∷ [])) in
       let all : List (Token × Statements) = (w, r.meaning) ∷ f.meaning in
-      let m : TextStatement = variant.Fork (map branch_of all) in
+      let m : TextStatement = variant.Fork (map branch_of all) f.joining in
       reads_as V (within (suc forks) ifs) (statement_text (variables_of V) (statement.Fork (b ∷ branches)) level) (opening ++ (row ++ (others ++ last))) rest at
       (statement.Fork (b ∷ branches)) (rules.forked count (rules.both (rules.thread p) kept)) tokens m (flaws.side_by_side 0 (flaw_parts all))
       (ap (λ g. g level) (text_of_fork (variables_of V) (b ∷ branches)) ∙ three opening row others last)
-      (rules_of_fork (b ∷ branches)) (flaws_of_fork all)
-      (meant_fork all ∙ ap statement.Fork (ap (λ x. x ∷ meant f.meaning) r.means ∙ ap (λ xs. b ∷ xs) f.means))
+      (rules_of_fork (b ∷ branches)) (flaws_of_fork all f.joining)
+      (meant_fork all f.joining ∙ ap statement.Fork (ap (λ x. x ∷ meant f.meaning) r.means ∙ ap (λ xs. b ∷ xs) f.means))
       (cuts_both opening (row ++ (others ++ last)) rest at (w ∷ o ∷ []) (r.tokens ++ (c ∷ (f.tokens ++ joined)))
       (cuts_line level (codes "fork {") ((row ++ (others ++ last)) ++ rest) at (w ∷ o ∷ [])
       (cuts_opening word.Fork 102 (codes "ork") refl refl refl ((row ++ (others ++ last)) ++ rest) start))

@@ -112,14 +112,16 @@ module _ (V : List Declaration) (first : AreFirst (variable_names V)) where
       ≡ rules.tested e (rules.both (rules.in_row (map part_of a)) (rules.in_row (map part_of b)))
   rules_of_if e a b = ap part_of (sym (rolls-If e a b)) ∙ fold-roll-Statement rules.Part rules.part (open_statement.If e a b)
 
-  flaws_of_if : (t : TextExpression) (a b : Statements) → flaws.part_of V (variant.If t a b)
+  flaws_of_if : (at : ℕ) (t : TextExpression) (a b : Statements) → flaws.part_of V (variant.If at t a b)
       ≡ flaws.both (flaws.only_flaws (expression_flaws V (Some kind_is.Bool) t))
       (flaws.both (flaws.in_row (flaws.parts_of V a)) (flaws.in_row (flaws.parts_of V b)))
-  flaws_of_if t a b = ap (flaws.part_of V) (sym (rolls-text-If t a b)) ∙ fold-roll-TextStatement flaws.Part (flaws.part V) (text.If t a b)
+  flaws_of_if at t a b =
+      ap (flaws.part_of V) (sym (rolls-text-If at t a b)) ∙ fold-roll-TextStatement flaws.Part (flaws.part V) (text.If at t a b)
 
-  meant_if : (t : TextExpression) (a b : Statements)
-      → statement_of vn (variant.If t a b) ≡ statement.If (expression_of vn t.operations) (statements_of vn a) (statements_of vn b)
-  meant_if t a b = ap (statement_of vn) (sym (rolls-text-If t a b)) ∙ fold-roll-TextStatement Statement (resolved vn) (text.If t a b)
+  meant_if : (at : ℕ) (t : TextExpression) (a b : Statements)
+      → statement_of vn (variant.If at t a b) ≡ statement.If (expression_of vn t.operations) (statements_of vn a) (statements_of vn b)
+  meant_if at t a b =
+      ap (statement_of vn) (sym (rolls-text-If at t a b)) ∙ fold-roll-TextStatement Statement (resolved vn) (text.If at t a b)
 
   -- an if around lists of which this is known
   like_tested : (fs : flaws.Part) (q : flaws.Part) (e : Expr) (p : rules.Part) → fs ≡ flaws.nothing → Like q p → Like (flaws.both fs q) (rules.tested e p)
@@ -160,7 +162,7 @@ module _ (V : List Declaration) (first : AreFirst (variable_names V)) where
       let k : Token = signed_at sign.OpenBrace (end + 1 + 1) in
       let d : Token = signed_at sign.CloseBrace o.closing in
       let lined : List Token = (i ∷ p ∷ (v.tokens ++ (q ∷ k ∷ []))) ++ (r.tokens ++ d ∷ o.tokens) in
-      let m : TextStatement = variant.If t r.meaning (none_or_them o.other) in
+      let m : TextStatement = variant.If start t r.meaning (none_or_them o.other) in
       let same = grouped i p q k d v.tokens r.tokens o.tokens in
       let begun : Quiet ((shown ++ codes ") {") ++ 10 ∷ more) =
       subst Quiet (sym (append_assoc shown (codes ") {") (10 ∷ more))) (value_quiet (variables_of V) e here.write (codes ") {" ++ 10 ∷ more)) in
@@ -168,8 +170,8 @@ module _ (V : List Declaration) (first : AreFirst (variable_names V)) where
       (rules.tested e (rules.both (rules.in_row (map part_of a)) (rules.in_row (map part_of b)))) lined m
       (flaws.both (flaws.only_flaws (expression_flaws V (Some kind_is.Bool) t))
       (flaws.both (flaws.in_row (flaws.parts_of V r.meaning)) (flaws.in_row (flaws.parts_of V (none_or_them o.other)))))
-      (ap (λ f. f level) (text_of_if (variables_of V) e a b)) (rules_of_if e a b) (flaws_of_if t r.meaning (none_or_them o.other))
-      (meant_if t r.meaning (none_or_them o.other)
+      (ap (λ f. f level) (text_of_if (variables_of V) e a b)) (rules_of_if e a b) (flaws_of_if start t r.meaning (none_or_them o.other))
+      (meant_if start t r.meaning (none_or_them o.other)
       ∙ ap (λ w. statement.If w (statements_of vn r.meaning) (statements_of vn (none_or_them o.other))) (expression_meant vn v.value.1 e v.means)
       ∙ ap (λ w. statement.If e w (statements_of vn (none_or_them o.other))) r.means
       ∙ ap (λ w. statement.If e a w) o.means)

@@ -125,8 +125,8 @@ module _ (V : List Declaration) (first : AreFirst (variable_names V)) where
   flaws_of_goto : (l : Named) → flaws.part_of V (variant.Goto l) ≡ flaws.part V (text.Goto l)
   flaws_of_goto l = ap (flaws.part_of V) (sym (rolls-text-Goto l)) ∙ fold-roll-TextStatement flaws.Part (flaws.part V) (text.Goto l)
 
-  flaws_of_pause : flaws.part_of V variant.Pause ≡ flaws.part V text.Pause
-  flaws_of_pause = ap (flaws.part_of V) (sym rolls-text-Pause) ∙ fold-roll-TextStatement flaws.Part (flaws.part V) text.Pause
+  flaws_of_pause : (at : ℕ) → flaws.part_of V (variant.Pause at) ≡ flaws.part V (text.Pause at)
+  flaws_of_pause at = ap (flaws.part_of V) (sym (rolls-text-Pause at)) ∙ fold-roll-TextStatement flaws.Part (flaws.part V) (text.Pause at)
 
   meant_assign : (t : Named) (v : TextExpression) → statement_of vn (variant.Assign t v) ≡ resolved vn (text.Assign t v)
   meant_assign t v = ap (statement_of vn) (sym (rolls-text-Assign t v)) ∙ fold-roll-TextStatement Statement (resolved vn) (text.Assign t v)
@@ -137,8 +137,8 @@ module _ (V : List Declaration) (first : AreFirst (variable_names V)) where
   meant_goto : (l : Named) → statement_of vn (variant.Goto l) ≡ resolved vn (text.Goto l)
   meant_goto l = ap (statement_of vn) (sym (rolls-text-Goto l)) ∙ fold-roll-TextStatement Statement (resolved vn) (text.Goto l)
 
-  meant_pause : statement_of vn variant.Pause ≡ resolved vn text.Pause
-  meant_pause = ap (statement_of vn) (sym rolls-text-Pause) ∙ fold-roll-TextStatement Statement (resolved vn) text.Pause
+  meant_pause : (at : ℕ) → statement_of vn (variant.Pause at) ≡ resolved vn (text.Pause at)
+  meant_pause at = ap (statement_of vn) (sym (rolls-text-Pause at)) ∙ fold-roll-TextStatement Statement (resolved vn) (text.Pause at)
 
   -- ---- each statement
 
@@ -185,10 +185,10 @@ module _ (V : List Declaration) (first : AreFirst (variable_names V)) where
       let b : ℕ = begins_at level at in
       let tokens : List Token = worded_at word.Pause b ∷ (signed_at sign.Semicolon (b + 5) ∷ []) in
       reads_as V (within forks ifs) (statement_text (variables_of V) statement.Pause level) (line (codes "pause;") level) rest at statement.Pause
-      (rules.part open_statement.Pause) tokens variant.Pause (flaws.part V text.Pause)
-      (ap (λ f. f level) (text_of_pause (variables_of V))) rules_of_pause flaws_of_pause meant_pause
+      (rules.part open_statement.Pause) tokens (variant.Pause b) (flaws.part V (text.Pause b))
+      (ap (λ f. f level) (text_of_pause (variables_of V))) rules_of_pause (flaws_of_pause b) (meant_pause b)
       (cuts_line level (codes "pause;") rest at tokens (cuts_ending word.Pause 112 (codes "ause") refl refl refl rest b))
-      (within_simple forks ifs tokens variant.Pause (pause_is b (b + 5)))
+      (within_simple forks ifs tokens (variant.Pause b) (pause_is b (b + 5)))
       (record { labels = refl; gotos = refl; counted = λ n. refl; flawless = refl })
 
   module _ (called : (i : ℕ) (d : Declaration) → slice_get V i ≡ Some d → CanName d.named.name) where

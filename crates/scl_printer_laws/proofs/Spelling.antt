@@ -1,6 +1,6 @@
 -- How the tokens of its parts spell a statement, in the grammar of SCL.
 use Rattle.std.proofs.Common.{ℕ, zero, suc, Option, Some, List, [], ◌∷◌, ◌++◌, refl, inl, inr}
-use Rattle.grammar.specs.Grammar.{headed, many, maybe, each_spelled, spells}
+use Rattle.grammar.specs.Grammar.{one as one_of, seq, headed, many, maybe, each_spelled, spells}
 use Rattle.sc_text.specs.declared.word.Word.{Word}
 use Rattle.sc_text.specs.declared.word.Word.TheVariants as word
 use Rattle.sc_text.specs.declared.sign.Sign.TheVariants as sign
@@ -68,7 +68,8 @@ goto_is n a b c =
           (before_of semicolon name (signed_at sign.Semicolon c) (named_at n b ∷ []) (named_at n b) refl (refl, refl)),
     ))
 
-pub pause_is : (a b : ℕ) → Simple (worded_at word.Pause a ∷ (signed_at sign.Semicolon b ∷ [])) pause_statement
+pub pause_is : (a b : ℕ)
+    → Simple (worded_at word.Pause a ∷ (signed_at sign.Semicolon b ∷ [])) (pause_statement (worded_at word.Pause a))
 unfolding simple pause
 pause_is a b =
     let word_token : Token = worded_at word.Pause a in
@@ -110,19 +111,19 @@ test_of a b ts v s =
 pub if_is : (s : Grows TextStatement) (a b c d e : ℕ) (es ts us : List Token) (v : Token × Phrase) (all : Statements) (other : Option Statements)
     → spells (headed (expression 0)) es v → each_spelled (spells s) ts all → spells (Otherwise s) us other
     → spells (choice (expression 0) s) (worded_at word.If a ∷ ((signed_at sign.OpenParenthesis b ∷ (es ++ signed_at sign.CloseParenthesis c ∷ []))
-    ++ ((signed_at sign.OpenBrace d ∷ (ts ++ signed_at sign.CloseBrace e ∷ [])) ++ us))) (if_statement v all other)
+    ++ ((signed_at sign.OpenBrace d ∷ (ts ++ signed_at sign.CloseBrace e ∷ [])) ++ us))) (if_statement (worded_at word.If a) v all other)
 unfolding choice
 if_is s a b c d e es ts us v all other h i j =
     let tested : List Token = signed_at sign.OpenParenthesis b ∷ (es ++ signed_at sign.CloseParenthesis c ∷ []) in
     let first : List Token = signed_at sign.OpenBrace d ∷ (ts ++ signed_at sign.CloseBrace e ∷ []) in (
-      (worded_at word.If a, if_statement v all other),
+      (worded_at word.If a, (v, (all, other))),
       refl,
       (
         worded_at word.If a ∷ [],
         tested ++ (first ++ us),
         refl,
         (refl, refl),
-        ((v, (all, other)), refl, (tested, first ++ us, refl, test_of b c es v h, (first, us, refl, block_is s d e ts all i, j))),
+        (tested, first ++ us, refl, test_of b c es v h, (first, us, refl, block_is s d e ts all i, j)),
       ),
     )
 
@@ -135,18 +136,20 @@ branch_is w s a b c ts all fits h =
 
 pub fork_is : (s : Grows TextStatement) (a b : ℕ) (ts us : List Token) (one : Token × Statements) (others : List (Token × Statements))
     → spells (branch word.Fork s) ts one → each_spelled (spells (branch word.Par s)) us others
-    → spells (fork s) (ts ++ ((us ++ worded_at word.Join a ∷ []) ++ signed_at sign.Semicolon b ∷ [])) (fork_statement one others)
+    → spells (fork s) (ts ++ ((us ++ worded_at word.Join a ∷ []) ++ signed_at sign.Semicolon b ∷ []))
+    (fork_statement one others (worded_at word.Join a))
 unfolding fork
 fork_is s a b ts us one others h i = (
-  (one, others),
+  (one, (others, worded_at word.Join a)),
   refl,
   (
     ts,
     (us ++ worded_at word.Join a ∷ []) ++ signed_at sign.Semicolon b ∷ [],
     refl,
     h,
-    before_of semicolon (before (many (branch word.Par s)) (TheWord word.Join ∷ [])) (signed_at sign.Semicolon b) (us ++ worded_at word.Join a ∷ []) others refl
-        (before_of (TheWord word.Join ∷ []) (many (branch word.Par s)) (worded_at word.Join a) us others refl i),
+    before_of semicolon (seq (many (branch word.Par s)) (one_of (TheWord word.Join ∷ []))) (signed_at sign.Semicolon b)
+        (us ++ worded_at word.Join a ∷ []) (others, worded_at word.Join a) refl
+        (us, worded_at word.Join a ∷ [], refl, i, (refl, refl)),
   ),
 )
 

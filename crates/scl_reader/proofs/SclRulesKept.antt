@@ -112,11 +112,11 @@ module _ (V : List Declaration) where
         ruled = λ sound. record { lost = refl; assigned = tt; tests = tt; forks = tt };
       })
 
-  pause_keeps : one (flaws.part V text.Pause) (shape text.Pause) (resolved vn text.Pause)
-  pause_keeps =
+  pause_keeps : (at : ℕ) → one (flaws.part V (text.Pause at)) (shape (text.Pause at)) (resolved vn (text.Pause at))
+  pause_keeps at =
       let is : part_of statement.Pause ≡ rules.part open_statement.Pause = ap part_of (sym rolls-Pause)
       ∙ fold-roll-Statement rules.Part rules.part open_statement.Pause in
-      subst (Keeps V (flaws.part V text.Pause) (shape text.Pause)) (sym is) (keeps_nothing V)
+      subst (Keeps V (flaws.part V (text.Pause at)) (shape (text.Pause at))) (sym is) (keeps_nothing V)
 
   -- an if around lists of which this is known
   tested_keeps : (e : TextExpression) (q : flaws.Part) (h : shapes.Shape) (p : rules.Part) → Keeps V q h p
@@ -235,10 +235,11 @@ module _ (V : List Declaration) where
             });
       }
 
-  if_known : (e : TextExpression) (xs ys : List Known) → one (flaws.part V (text.If e (map (flaws.part_of V) (plain xs)) (map (flaws.part_of V) (plain ys))))
-      (shape (text.If e (map shape_of (plain xs)) (map shape_of (plain ys))))
-      (resolved vn (text.If e (map (statement_of vn) (plain xs)) (map (statement_of vn) (plain ys))))
-  if_known e xs ys =
+  if_known : (at : ℕ) (e : TextExpression) (xs ys : List Known)
+      → one (flaws.part V (text.If at e (map (flaws.part_of V) (plain xs)) (map (flaws.part_of V) (plain ys))))
+      (shape (text.If at e (map shape_of (plain xs)) (map shape_of (plain ys))))
+      (resolved vn (text.If at e (map (statement_of vn) (plain xs)) (map (statement_of vn) (plain ys))))
+  if_known at e xs ys =
       let t : Expr = expression_of vn e.operations in
       let ss : List Statement = map (statement_of vn) (plain xs) in
       let us : List Statement = map (statement_of vn) (plain ys) in
@@ -248,8 +249,8 @@ module _ (V : List Declaration) where
       let r : flaws.Part = flaws.in_row (map (flaws.part_of V) (plain ys)) in
       let h : shapes.Shape = shapes.in_row (map shape_of (plain xs)) in
       let i : shapes.Shape = shapes.in_row (map shape_of (plain ys)) in
-      subst (Keeps V (flaws.part V (text.If e (map (flaws.part_of V) (plain xs)) (map (flaws.part_of V) (plain ys))))
-      (shape (text.If e (map shape_of (plain xs)) (map shape_of (plain ys))))) (sym is)
+      subst (Keeps V (flaws.part V (text.If at e (map (flaws.part_of V) (plain xs)) (map (flaws.part_of V) (plain ys))))
+      (shape (text.If at e (map shape_of (plain xs)) (map shape_of (plain ys))))) (sym is)
       (tested_keeps e (flaws.both q r) (shapes.both h i) (rules.both (rules.in_row (map part_of ss)) (rules.in_row (map part_of us)))
       (keeps_both V q r h i (rules.in_row (map part_of ss)) (rules.in_row (map part_of us)) (known_row xs) (known_row ys)))
 
@@ -257,15 +258,16 @@ module _ (V : List Declaration) where
   rows_same [] = refl
   rows_same (b ∷ bs) = ap (λ rows. map part_of (map (statement_of vn) (plain b.1)) ∷ rows) (rows_same bs)
 
-  fork_keeps : (bs : List (ℕ × List Known)) → one (flaws.part V (text.Fork (flaw_rows bs))) (shape (text.Fork (shape_rows bs)))
-      (resolved vn (text.Fork (statement_rows bs)))
-  fork_keeps bs =
+  fork_keeps : (bs : List (ℕ × List Known)) (join : ℕ)
+      → one (flaws.part V (text.Fork (flaw_rows bs) join)) (shape (text.Fork (shape_rows bs) join))
+      (resolved vn (text.Fork (statement_rows bs) join))
+  fork_keeps bs join =
       let ss : List (List Statement) = map (λ (b : ℕ × List Statement). b.1) (statement_rows bs) in
       let is : part_of (statement.Fork ss) ≡ rules.part (open_statement.Fork (map (map part_of) ss)) = ap part_of (sym (rolls-Fork ss))
       ∙ fold-roll-Statement rules.Part rules.part (open_statement.Fork ss) in
       let same : part_of (statement.Fork ss) ≡ rules.part (open_statement.Fork (rule_rows bs)) = is ∙ ap (λ rows. rules.part (open_statement.Fork rows))
       (rows_same bs) in
-      subst (Keeps V (flaws.part V (text.Fork (flaw_rows bs))) (shape (text.Fork (shape_rows bs)))) (sym same) (fork_known bs)
+      subst (Keeps V (flaws.part V (text.Fork (flaw_rows bs) join)) (shape (text.Fork (shape_rows bs) join))) (sym same) (fork_known bs)
 
   abbrev looked : TextStatement-F Known → TextStatement-F TextStatement
   looked y = map-TextStatement Known TextStatement (λ x. x.0) y
@@ -276,9 +278,9 @@ module _ (V : List Declaration) where
   at_layer (text.Assign target e) = assign_keeps target e
   at_layer (text.Label label) = label_keeps label
   at_layer (text.Goto label) = goto_keeps label
-  at_layer text.Pause = pause_keeps
-  at_layer (text.If e xs ys) = if_known e xs ys
-  at_layer (text.Fork bs) = fork_keeps bs
+  at_layer (text.Pause at) = pause_keeps at
+  at_layer (text.If at e xs ys) = if_known at e xs ys
+  at_layer (text.Fork bs join) = fork_keeps bs join
 
   statement_keeps : (s : TextStatement) → one (flaws.part_of V s) (shape_of s) (statement_of vn s)
   statement_keeps = ind-TextStatement (λ s. one (flaws.part_of V s) (shape_of s) (statement_of vn s)) (λ x y is.

@@ -15,9 +15,9 @@ abbrev pub resolved : (names : List (List ℕ)) → TextStatement-F Statement �
 resolved names (text.Assign target value) = statement.Assign (number_of names target.name) (expression_of names value.operations)
 resolved names (text.Label label) = statement.Label label.name
 resolved names (text.Goto label) = statement.Goto label.name
-resolved names text.Pause = statement.Pause
-resolved names (text.If test first second) = statement.If (expression_of names test.operations) first second
-resolved names (text.Fork branches) = statement.Fork (map (λ b. b.1) branches)
+resolved names (text.Pause at) = statement.Pause
+resolved names (text.If at test first second) = statement.If (expression_of names test.operations) first second
+resolved names (text.Fork branches join) = statement.Fork (map (λ b. b.1) branches)
 
 -- a statement, over variables of these names
 abbrev pub statement_of : (names : List (List ℕ)) → TextStatement → Statement

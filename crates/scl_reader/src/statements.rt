@@ -44,8 +44,9 @@ fn statement(alloc: Global, scope: &Scope, text: &TextStatement) -> Result<State
         }
         TextStatement::Label(label) => Ok(Statement::Label(label.name)),
         TextStatement::Goto(label) => Ok(Statement::Goto(label.name)),
-        TextStatement::Pause => Ok(Statement::Pause),
+        TextStatement::Pause { at: _ } => Ok(Statement::Pause),
         TextStatement::If {
+            at: _,
             test,
             first,
             second,
@@ -59,7 +60,7 @@ fn statement(alloc: Global, scope: &Scope, text: &TextStatement) -> Result<State
                 second,
             })
         }
-        TextStatement::Fork { branches } => {
+        TextStatement::Fork { branches, join: _ } => {
             let mut all = Items::new(alloc);
             for branch in branches.as_slice() {
                 all.push(statements(alloc, scope, branch.1.as_slice())?)?;

@@ -53,8 +53,8 @@ block-returns-in_err-after t c =
     λ f. close_stops _ _ _ c.in_ok-body.ensures _ _ _ c.in_ok-rest.ensures c.args.end f in
     search (rules, stops)
 
-pub fork-returns-in_err-join : goal.fork-returns-in_err-join
-fork-returns-in_err-join t c =
+pub fork-returns-in_err-joined : goal.fork-returns-in_err-joined
+fork-returns-in_err-joined t c =
     let stops : (f : ReadFault) → Stops c.args.end (read (one {L = text_tokens} (TheWord word.Join ∷ [])) c.in_ok-rest.rest.now) f
     → Stops c.args.end (read (fork (within c.args.forks 32)) c.args.tokens.now) f =
     λ f. join_stops _ _ _ _ _ c.in_ok-more.ensures _ _ c.in_ok-rest.ensures c.args.end f in
@@ -62,7 +62,7 @@ fork-returns-in_err-join t c =
 
 pub fork-returns-in_err-after : goal.fork-returns-in_err-after
 fork-returns-in_err-after t c =
-    let stops : (f : ReadFault) → Stops c.args.end (read (one {L = text_tokens} (TheSign sign.Semicolon ∷ [])) c.in_ok-join.join.now) f
+    let stops : (f : ReadFault) → Stops c.args.end (read (one {L = text_tokens} (TheSign sign.Semicolon ∷ [])) c.in_ok-joined.joined.now) f
     → Stops c.args.end (read (fork (within c.args.forks 32)) c.args.tokens.now) f =
-    λ f. join_end_stops _ _ _ _ _ c.in_ok-more.ensures _ _ c.in_ok-rest.ensures _ c.in_ok-join.ensures c.args.end f in
+    λ f. join_end_stops _ _ _ _ _ c.in_ok-more.ensures _ _ c.in_ok-rest.ensures _ c.in_ok-joined.ensures c.args.end f in
     search (rules, stops)

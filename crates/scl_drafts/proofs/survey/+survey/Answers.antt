@@ -36,8 +36,8 @@ survey_statement-returns-in_ok-survey_statements-in-If-2 t c =
     c.in_ok-survey_statements-in-If.ensures ∙ ap (λ l. behind start (in_row (parts_of V l))) c.as_slice.ensures in
     let second : done ≡ behind half (in_row (parts_of V c.in-If.second)) =
     c.in_ok-survey_statements-in-If-2.ensures ∙ ap (λ l. behind half (in_row (parts_of V l))) c.as_slice-in-If.ensures in
-    if_surveyed V own found c.args.statement.now c.in-If.test c.in-If.first c.in-If.second noted half done c.in-If.is c.in_ok-expression-in-If.ensures first
-    second
+    if_surveyed V own found c.args.statement.now c.in-If.at c.in-If.test c.in-If.first c.in-If.second noted half done c.in-If.is
+    c.in_ok-expression-in-If.ensures first second
 
 pub survey_thread-returns : goal.survey_thread-returns
 survey_thread-returns t c =
@@ -78,4 +78,4 @@ survey_statement-returns-after-loop-before t c =
     sym (branches_over V xs c.loop-before.before after c.loop-before-test.false)
     ∙ c.loop-before.invariant
     ∙ ap (λ l. found_behind found (side_by_side 0 (branch_parts V l))) c.as_slice-all.ensures in
-    fork_surveyed V c.args.own.now found c.args.statement.now c.in-Fork.branches after c.in-Fork.is all
+    fork_surveyed V c.args.own.now found c.args.statement.now c.in-Fork.branches c.in-Fork.join after c.in-Fork.is all
