@@ -9,7 +9,6 @@ use Rattle.sc_graph.specs.Program.{Program}
 use Rattle.sc_graph.specs.declared.program.Node.{Node}
 use Rattle.sc_graph.specs.declared.program.Step.{Step}
 use Rattle.sc_graph.specs.declared.program.Variable.{Variable}
-use Rattle.scl.specs.declared.program.Scl.{Scl}
 use Rattle.graph_origins.specs.declared.origin.NodeOrigin.{NodeOrigin}
 use Rattle.graph_origins.specs.declared.origin.NodeOrigin.TheVariants as node
 use Rattle.graph_origins.specs.Laws.{IsDone, IsSecond, OriginsTellNodes, TellsNodes}

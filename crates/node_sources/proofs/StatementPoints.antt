@@ -15,7 +15,7 @@ use Rattle.scl_drafts.specs.declared.statement.TextStatement.TheFolds.{fold-roll
 use Rattle.graph_origins.specs.Points.{Point, Assigns, Marks, Jumps, Pauses, Tests, Forks, points, points_of}
 use Rattle.graph_origins.specs.Points.{in_branches as point_branches, in_row as point_row}
 use Rattle.node_sources.specs.declared.statements.Spot.{Spot}
-use Rattle.node_sources.specs.SclOrigins.{branch_spots, in_branches, in_row, one_place, opening, spots, spots_in}
+use Rattle.node_sources.specs.SclOrigins.{branch_spots, in_branches, in_row, one_place, spots, spots_in}
 
 -- ---- points
 

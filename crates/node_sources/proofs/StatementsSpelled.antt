@@ -3,7 +3,6 @@ use Rattle.std.proofs.Common.{◌≡◌, ℕ, zero, suc, pos, negsuc, Bool, true
 use Rattle.std.proofs.Common.{List, [], ◌∷◌, ◌++◌, map, refl, sym, ap, subst, ◌∙◌}
 use Rattle.grammar.specs.Grammar.{is_in, one, spells}
 use Rattle.grammar.proofs.Each.{Each, Every, OfIt, each_as, each_barred, each_either, each_made, each_many, each_maybe, each_one, each_seq}
-use Rattle.grammar.proofs.Each.{every_map}
 use Rattle.sc_text.specs.declared.token.Token.{Token}
 use Rattle.sc_text.specs.declared.token.TokenKind.{TokenKind}
 use Rattle.sc_text.specs.declared.token.TokenKind.TheVariants as token
@@ -16,9 +15,9 @@ use Rattle.sc_text.specs.Reading.{place_of}
 use Rattle.sc_text.proofs.EachPart.{each_after, each_before}
 use Rattle.drafts.specs.Parts.{expressed, name_of}
 use Rattle.scl_drafts.specs.declared.statement.TextStatement.{TextStatement}
-use Rattle.scl_drafts.specs.Statements.{AfterName, Statements, branch_of, goto_statement, named_statement, none_or_them, pause_statement}
-use Rattle.scl_drafts.specs.Program.{Grows, Inner, NoMore, Nested, Text, assigned, block, branch, choice, declaration, fork, forking, forks_within, goto}
-use Rattle.scl_drafts.specs.Program.{ifs_within, labelled, name, named, pause, program, scl, simple, statement, test, thread}
+use Rattle.scl_drafts.specs.Statements.{Statements, branch_of, goto_statement, named_statement, none_or_them, pause_statement}
+use Rattle.scl_drafts.specs.Program.{Grows, Inner, NoMore, Nested, Text, block, branch, choice, fork, forking, forks_within, goto}
+use Rattle.scl_drafts.specs.Program.{ifs_within, name, named, pause, program, scl, simple, statement, test, thread}
 use Rattle.node_sources.specs.SclLaws.{NameStands, OpensThread, OpeningStands, TokenStands, WordStands, opens_branch, opens_fork, opens_text}
 use Rattle.node_sources.proofs.StatementsPlaced.{IsBranchPut, IsPut, fork_put, goto_put, if_put, named_put, pause_put}
 
