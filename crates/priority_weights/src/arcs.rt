@@ -2,10 +2,20 @@
 
 use std::alloc::{AllocError, Global};
 
+/// What an arc is: an edge of a program, or one between a node and what stands for it; a fall, which each protocol
+/// edge crosses once, between two that stand for nodes; or a link between two of which one stands for the other too.
+#[derive(Clone, Copy)]
+pub(crate) enum Sort {
+    Edge,
+    Fall,
+    Link,
+}
+
 /// An arc to a node, and the number of the next arc from where it begins; 0 where it is the last.
 #[derive(Clone, Copy)]
 pub(crate) struct Arc {
     pub(crate) to: u32,
+    pub(crate) sort: Sort,
     pub(crate) next: u32,
 }
 
@@ -37,10 +47,15 @@ impl Arcs {
         Ok(node)
     }
 
-    /// One more arc. It becomes the first one of its node.
+    /// One more edge. It becomes the first arc of its node.
     pub(crate) fn add(&mut self, from: u32, to: u32) -> Result<(), AllocError> {
+        self.add_sort(from, to, Sort::Edge)
+    }
+
+    /// One more arc of a sort.
+    pub(crate) fn add_sort(&mut self, from: u32, to: u32, sort: Sort) -> Result<(), AllocError> {
         let next = self.first(from);
-        self.arcs.push(Arc { to, next })?;
+        self.arcs.push(Arc { to, sort, next })?;
         self.count = self.count.saturating_add(1);
         put(self.firsts.as_mut_slice(), from, self.count);
         Ok(())
@@ -92,7 +107,7 @@ impl Arcs {
             match self.arc(number) {
                 Some(arc) => {
                     if number_at(component, arc.to) == number_at(component, node) {
-                        turned.add(arc.to, node)?;
+                        turned.add_sort(arc.to, node, arc.sort)?;
                     }
                     number = arc.next;
                 }

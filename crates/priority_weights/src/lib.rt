@@ -4,6 +4,7 @@
 mod arcs;
 mod assembling;
 mod bounds;
+mod branches;
 mod ends;
 mod extremes;
 mod falling;

@@ -3,13 +3,16 @@
 
 ghost use Rattle.std.specs.Prelude.{IsTrue, Contains};
 
-use crate::arcs::{Arcs, number_at, put};
+use crate::arcs::{Arc, Arcs, Sort, number_at, put};
 use sc_graph::NodeId;
 use std::alloc::{AllocError, Global};
 
-/// Of the first so many nodes of a graph, which are a program's, the node for which each has its number; 0 where there
-/// is none. The nodes behind these stand for those of one thread, and an arc between two of these counts. Each node
-/// stands in the order behind those to which arcs lead. Err: memory was refused.
+// The reason of what stands for no node.
+const NOBODY: u32 = u32::MAX;
+
+/// Of the first so many nodes of a graph, which are a program's, the node for which each has its number; one that is no
+/// node where there is none. The nodes behind these stand for some of the program. Each node stands in the order behind
+/// those to which arcs lead. Err: memory was refused.
 pub(crate) fn reasons(
     alloc: Global,
     arcs: &Arcs,
@@ -17,7 +20,7 @@ pub(crate) fn reasons(
     count: u16,
 ) -> Result<Vec<NodeId>, AllocError> {
     let mut numbers = vec![in alloc; 0; arcs.nodes() as usize]?;
-    let mut reasons = vec![in alloc; 0; arcs.nodes() as usize]?;
+    let mut reasons = vec![in alloc; NOBODY; arcs.nodes() as usize]?;
     for node in order {
         give_number(arcs, &mut numbers, &mut reasons, *node, u32::from(count));
     }
@@ -36,20 +39,43 @@ fn give_number(arcs: &Arcs, numbers: &mut Vec<u32>, reasons: &mut Vec<u32>, node
     for _ in 0..arcs.count() {
         match arcs.arc(number) {
             Some(arc) => {
-                let counts = count <= node && count <= arc.to;
-                let asked = number_at(numbers.as_slice(), arc.to).saturating_add(u32::from(counts));
-                if asked > number_at(numbers.as_slice(), node) {
-                    put(numbers.as_mut_slice(), node, asked);
-                }
-                if (count <= node || count <= arc.to) && asked >= most {
-                    most = asked;
-                    let reason = reason_by(reasons.as_slice(), arc.to, count);
-                    put(reasons.as_mut_slice(), node, reason);
-                }
+                take_arc(arc, numbers, reasons, node, count, &mut most);
                 number = arc.next;
             }
             None => return,
         }
+    }
+}
+
+// Takes in what an arc from a node asks for, and whether it asks most of it so far. To what stands for no node none
+// leads.
+fn take_arc(
+    arc: Arc,
+    numbers: &mut Vec<u32>,
+    reasons: &mut Vec<u32>,
+    node: u32,
+    count: u32,
+    most: &mut u32,
+) {
+    let reason = reason_by(reasons.as_slice(), arc.to, count);
+    if reason == NOBODY {
+        return;
+    }
+    let asked = number_at(numbers.as_slice(), arc.to).saturating_add(weight(arc.sort));
+    if asked > number_at(numbers.as_slice(), node) {
+        put(numbers.as_mut_slice(), node, asked);
+    }
+    if (count <= node || count <= arc.to) && asked >= *most {
+        *most = asked;
+        put(reasons.as_mut_slice(), node, reason);
+    }
+}
+
+// By how much numbers have to fall along an arc.
+fn weight(sort: Sort) -> u32 {
+    match sort {
+        Sort::Fall => 1,
+        Sort::Edge | Sort::Link => 0,
     }
 }
 

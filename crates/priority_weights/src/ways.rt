@@ -1,6 +1,6 @@
 //! Searches in breadth, for hints: from where a component comes back to a node.
 
-use crate::arcs::{Arcs, number_at, put};
+use crate::arcs::{Arc, Arcs, Sort, number_at, put};
 use crate::visit::Visited;
 use std::alloc::{AllocError, Global};
 
@@ -52,12 +52,22 @@ pub(crate) fn way_to(
     Ok(way)
 }
 
-// A search in breadth: which nodes it came to, from where, and these nodes in the order in which it did.
+// A node that may be come to, and from where.
+#[derive(Clone, Copy)]
+struct Arrival {
+    node: u32,
+    before: u32,
+}
+
+// A search in breadth, in which links cost nothing: which nodes it came to, from where, and these nodes in the order in
+// which it did; and where it may come to next, by links and else.
 #[derive(Drop)]
 struct Spread {
     reached: Vec<u32>,
     before: Vec<u32>,
-    queue: Vec<u32>,
+    found: Vec<u32>,
+    by_link: Vec<Arrival>,
+    queue: Vec<Arrival>,
     at: usize,
 }
 
@@ -66,6 +76,8 @@ impl Spread {
         Ok(Spread {
             reached: vec![in alloc; 0; nodes as usize]?,
             before: vec![in alloc; 0; nodes as usize]?,
+            found: Vec::new(alloc),
+            by_link: Vec::new(alloc),
             queue: Vec::new(alloc),
             at: 0,
         })
@@ -73,40 +85,56 @@ impl Spread {
 
     // Begins at a node.
     fn begin(&mut self, node: u32) -> Result<(), AllocError> {
-        self.reach(node, node)
-    }
-
-    // Comes to a node from another, where it has not been yet.
-    fn reach(&mut self, node: u32, before: u32) -> Result<(), AllocError> {
-        if number_at(self.reached.as_slice(), node) != 0 {
-            return Ok(());
-        }
-        put(self.reached.as_mut_slice(), node, 1);
-        put(self.before.as_mut_slice(), node, before);
-        self.queue.push(node)?;
+        self.queue.push(Arrival { node, before: node })?;
         Ok(())
     }
 
     // Goes on until there is nowhere left to go.
     fn run(&mut self, arcs: &Arcs) -> Result<(), AllocError> {
-        for _ in 0..arcs.nodes() {
-            let node = match self.queue.get(self.at) {
-                Some(next) => *next,
+        for _ in 0..u64::from(arcs.count()) + 1 {
+            match self.next() {
+                Some(arrival) => self.arrive(arcs, arrival)?,
                 None => return Ok(()),
-            };
-            self.at = self.at.saturating_add(1);
-            self.reach_all(arcs, node)?;
+            }
         }
         Ok(())
     }
 
-    // Comes to all nodes to which arcs lead from a node.
-    fn reach_all(&mut self, arcs: &Arcs, node: u32) -> Result<(), AllocError> {
+    // Where it comes to next.
+    fn next(&mut self) -> Option<Arrival> {
+        match self.by_link.pop() {
+            Some(arrival) => Some(arrival),
+            None => self.next_of_queue(),
+        }
+    }
+
+    fn next_of_queue(&mut self) -> Option<Arrival> {
+        let next = match self.queue.get(self.at) {
+            Some(arrival) => *arrival,
+            None => return None,
+        };
+        self.at = self.at.saturating_add(1);
+        Some(next)
+    }
+
+    // Comes to a node, where it has not been yet.
+    fn arrive(&mut self, arcs: &Arcs, arrival: Arrival) -> Result<(), AllocError> {
+        if number_at(self.reached.as_slice(), arrival.node) != 0 {
+            return Ok(());
+        }
+        put(self.reached.as_mut_slice(), arrival.node, 1);
+        put(self.before.as_mut_slice(), arrival.node, arrival.before);
+        self.found.push(arrival.node)?;
+        self.look_on(arcs, arrival.node)
+    }
+
+    // Notes all nodes to which arcs lead from a node.
+    fn look_on(&mut self, arcs: &Arcs, node: u32) -> Result<(), AllocError> {
         let mut number = arcs.first(node);
         for _ in 0..arcs.count() {
             match arcs.arc(number) {
                 Some(arc) => {
-                    self.reach(arc.to, node)?;
+                    self.note(arc, node)?;
                     number = arc.next;
                 }
                 None => return Ok(()),
@@ -115,9 +143,23 @@ impl Spread {
         Ok(())
     }
 
-    // Puts the nodes of the queue behind an order, and leaves it.
+    // Notes that it may come along an arc from a node.
+    fn note(&mut self, arc: Arc, node: u32) -> Result<(), AllocError> {
+        let arrival = Arrival {
+            node: arc.to,
+            before: node,
+        };
+        match arc.sort {
+            Sort::Link => self.by_link.push(arrival)?,
+            Sort::Edge | Sort::Fall => self.queue.push(arrival)?,
+        }
+        Ok(())
+    }
+
+    // Puts the nodes that it came to behind an order, and leaves them.
     fn take_all(&mut self, order: &mut Vec<u32>) -> Result<(), AllocError> {
-        order.extend_from_slice(self.queue.as_slice())?;
+        order.extend_from_slice(self.found.as_slice())?;
+        self.found.clear();
         self.queue.clear();
         self.at = 0;
         Ok(())
