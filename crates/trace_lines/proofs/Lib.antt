@@ -2,6 +2,9 @@ pub mod Ahead
 pub mod Cut
 pub mod Feeds
 pub mod Given
+pub mod InOrder
 pub mod Placing
 pub mod Shown
+pub mod Standing
+pub mod Turns
 pub mod Naming

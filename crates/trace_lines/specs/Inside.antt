@@ -1,3 +1,5 @@
 -- What private functions alone say of themselves. It is proved, and no public contract rests on what it means.
+pub mod Members
 pub mod Named
+pub mod Ordered
 pub mod Rows

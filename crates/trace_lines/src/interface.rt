@@ -7,6 +7,7 @@ ghost use Rattle.trace_lines.specs.Output.{outputs_of, tick_line};
 
 use crate::inputs::named_inputs;
 use crate::line::{LineFault, inputs_by, object_of};
+use crate::members::{LineRoom, plain_inputs};
 use crate::output::write_line;
 use crate::outputs::{Row, rows_of};
 use sc_graph::Variable;
@@ -64,6 +65,28 @@ impl<'a> Interface<'a> {
     {
         let members = object_of(alloc, line)?;
         inputs_by(alloc, self.variables, &self.inputs, &members)
+    }
+
+    /// What a line of input gives to the inputs, as `read_line` says, read in a room that is kept from line
+    /// to line. An object in which each member gives a value is read without a tree of its members, and
+    /// takes no memory but that of what it gives and what the room grows.
+    pub fn read_line_in(
+        &self,
+        alloc: Global,
+        room: &mut LineRoom,
+        line: &[u8],
+    ) -> Result<Items<(Name, Value)>, LineFault>
+        ensures ok { IfOk result (λ inputs. (members : Members)
+            × IsObjectOf line.now members × (inputs_of self.now members ≡ Some inputs)) }
+        ensures not_json { IsErrOf result LineFault.NotJson
+            → (members : Members) → ¬ IsObjectOf line.now members }
+        ensures input { IsErrOf result LineFault.Input → (members : Members)
+            × IsObjectOf line.now members × (inputs_of self.now members ≡ None) }
+    {
+        match plain_inputs(alloc, room, self.variables, &self.inputs, line)? {
+            Some(inputs) => Ok(inputs),
+            None => self.read_line(alloc, line),
+        }
     }
 
     /// Makes `line` the output line of a tick of this number: its steps, and the values of the outputs after

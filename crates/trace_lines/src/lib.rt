@@ -3,12 +3,16 @@
 #![tactic(auto)]
 
 mod inputs;
+mod integers;
 mod interface;
 mod line;
 mod lines;
+mod members;
+mod ordered;
 mod output;
 mod outputs;
 
 pub use interface::Interface;
 pub use line::LineFault;
 pub use lines::{LINE_LIMIT, LineEnd, Lines, LinesFault};
+pub use members::LineRoom;

@@ -46,8 +46,11 @@ fn value_of(kind: Kind, json: &Json) -> Option<Value>
     }
 }
 
-// The input of this name.
-fn input_of<'a>(inputs: &'a BTreeMap<String, Variable>, name: &str) -> Option<&'a Variable>
+/// The input of this name.
+pub(crate) fn input_of<'a>(
+    inputs: &'a BTreeMap<String, Variable>,
+    name: &str,
+) -> Option<&'a Variable>
     ensures { option_copied result ≡ get_by_text inputs.now name.now }
 {
     inputs.get(name)

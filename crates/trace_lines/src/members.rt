@@ -1,0 +1,170 @@
+//! What a line gives to the inputs, read member by member.
+
+ghost use Rattle.std.specs.Prelude.{◌≡◌, ◌∷◌, IfOk, IfSome, IsTrue, MatchOption, Some, None, option_and_then};
+ghost use Rattle.json.specs.Token.{begin_object};
+ghost use Rattle.json.specs.Json.{read_key};
+ghost use Rattle.json.specs.Reads.{token_of};
+ghost use Rattle.serde_json.specs.Data.{Members, object};
+ghost use Rattle.serde_json.specs.Find.{as_i64};
+ghost use Rattle.serde_json.specs.Read.{read, number_of};
+ghost use Rattle.trace_lines.specs.Line.{int32_of, IsObjectOf, inputs_of};
+ghost use Rattle.trace_lines.specs.Inside.Named.{NamesInputs};
+ghost use Rattle.trace_lines.specs.Inside.Members.{Spells, GivesFirst, BeginsGiving, GivesAll};
+
+use crate::integers::integer_of;
+use crate::line::input_of;
+use crate::ordered::{is_near_end, put};
+use json::{Reader, Scratch, Token};
+use sc_graph::Variable;
+use sc_values::{Kind, Name, Value};
+use sqlite_items::Items;
+use std::alloc::{AllocError, Global};
+use std::collections::BTreeMap;
+
+/// The room that lines are read in: made once, and kept from line to line.
+#[derive(Drop)]
+pub struct LineRoom {
+    scratch: Scratch,
+}
+
+impl LineRoom {
+    /// Room for lines. It grows with the longest one.
+    pub fn new(alloc: Global) -> LineRoom {
+        LineRoom {
+            scratch: Scratch::new(alloc),
+        }
+    }
+}
+
+// What is no member that gives true, false or an integer.
+#[derive(Clone, Copy, Debug, PartialEq, Eq)]
+struct Unusual;
+
+// The value of an input of integers that the text of a number spells.
+fn integer_value(text: &str) -> Option<Value>
+    ensures { IfSome result
+        (λ v. option_and_then int32_of (option_and_then as_i64 (number_of text.now)) ≡ Some v) }
+{
+    let integer = i32::try_from(integer_of(text)?).ok()?;
+    Some(Value::Int(integer))
+}
+
+// The value of this kind that a token is, where it is true, false or an integer.
+fn value_of(kind: Kind, token: Token<'_>) -> Option<Value>
+    ensures { IfSome result (λ v. Spells kind (token_of token.entry) v) }
+{
+    match (kind, token) {
+        (Kind::Bool, Token::Bool(value)) => Some(Value::Bool(value)),
+        (Kind::Int, Token::Number(text)) => integer_value(text),
+        _ => None,
+    }
+}
+
+// What a member of this name gives, of which the value comes next.
+fn given_first(
+    variables: &[Variable],
+    named: &BTreeMap<String, Variable>,
+    name: &str,
+    reader: &mut Reader<'_>,
+) -> Option<(Name, Value)>
+    requires { NamesInputs variables.now named.now }
+    ensures { IfSome result (λ g. GivesFirst variables.now name.now reader.old reader.new g) }
+{
+    let input = input_of(named, name)?;
+    let value = value_of(input.kind, reader.next()?)?;
+    Some((input.name, value))
+}
+
+// What the next member gives. None: there is none.
+fn next_given(
+    variables: &[Variable],
+    named: &BTreeMap<String, Variable>,
+    reader: &mut Reader<'_>,
+) -> Result<Option<(Name, Value)>, Unusual>
+    requires { NamesInputs variables.now named.now }
+    ensures { IfOk result (λ next. MatchOption next (read_key reader.old ≡ Some (None, reader.new))
+        (λ g. BeginsGiving variables.now reader.old reader.new g)) }
+{
+    match reader.next_key() {
+        Ok(Some(name)) => match given_first(variables, named, name, reader) {
+            Some(given) => Ok(Some(given)),
+            None => Err(Unusual),
+        },
+        Ok(None) => Ok(None),
+        Err(_) => Err(Unusual),
+    }
+}
+
+// What all members give up to the end of the object. None: one is unusual, or they are many, and not in
+// the order of their names.
+fn all_given(
+    alloc: Global,
+    variables: &[Variable],
+    named: &BTreeMap<String, Variable>,
+    reader: &mut Reader<'_>,
+) -> Result<Option<Vec<(Name, Value)>>, AllocError>
+    requires { NamesInputs variables.now named.now }
+    ensures { IfOk result (λ all. IfSome all
+        (λ found. GivesAll variables.now reader.old reader.new found.items)) }
+{
+    let mut found = Vec::new(alloc);
+    'members: loop {
+        match next_given(variables, named, reader) {
+            Ok(Some(given)) if is_near_end(&found, &given.0) => put(&mut found, given)?,
+            Ok(None) => return Ok(Some(found)),
+            Ok(Some(_)) | Err(Unusual) => return Ok(None),
+        }
+    }
+}
+
+// Whether an object begins. Then what is left begins with its members.
+fn begins_object(reader: &mut Reader<'_>) -> bool
+    ensures { IsTrue result → reader.old ≡ begin_object ∷ reader.new }
+{
+    matches!(reader.next(), Some(Token::BeginObject))
+}
+
+// What a text gives. None: it is unusual.
+fn given_by(
+    alloc: Global,
+    variables: &[Variable],
+    named: &BTreeMap<String, Variable>,
+    text: &str,
+    scratch: &mut Scratch,
+) -> Result<Option<Items<(Name, Value)>>, AllocError>
+    requires { NamesInputs variables.now named.now }
+    ensures { IfOk result (λ all. IfSome all (λ inputs. (members : Members)
+        × (read text.now ≡ Some (object members)) × (inputs_of variables.now members ≡ Some inputs))) }
+{
+    let mut reader = Reader::new(text, scratch)?;
+    if !begins_object(&mut reader) {
+        return Ok(None);
+    }
+    let Some(found) = all_given(alloc, variables, named, &mut reader)? else {
+        return Ok(None);
+    };
+    if reader.next().is_some() {
+        return Ok(None);
+    }
+    Ok(Some(Items::from_vec(found)))
+}
+
+/// What a line gives to the inputs of these names, which are those among the variables, where it is an
+/// object in which each member gives true, false or an integer. None: it has to be read in another way, as
+/// have many members that are not in the order of their names.
+pub(crate) fn plain_inputs(
+    alloc: Global,
+    room: &mut LineRoom,
+    variables: &[Variable],
+    named: &BTreeMap<String, Variable>,
+    line: &[u8],
+) -> Result<Option<Items<(Name, Value)>>, AllocError>
+    requires { NamesInputs variables.now named.now }
+    ensures { IfOk result (λ all. IfSome all (λ inputs. (members : Members)
+        × IsObjectOf line.now members × (inputs_of variables.now members ≡ Some inputs))) }
+{
+    match simdutf8::basic::from_utf8(line) {
+        Ok(text) => given_by(alloc, variables, named, text, &mut room.scratch),
+        Err(_) => Ok(None),
+    }
+}
