@@ -12,7 +12,7 @@ use crate::line::write_line;
 use crate::words::Words;
 use std::alloc::Global;
 use tick_core::{BeginFault, Control, Inputs, TickSpace};
-use trace_lines::{Interface, LineFault};
+use trace_lines::{Interface, LineFault, LineRoom};
 use trace_player::PlayFault;
 
 // One tick from a configuration: the one after it, the number of steps, and the room for the next tick.
@@ -39,6 +39,7 @@ fn tick<'x>(
 pub(crate) fn react<'x, W: Words>(
     alloc: Global,
     interface: &Interface<'_>,
+    line_room: &mut LineRoom,
     words: &W,
     room: TickSpace<'x>,
     control: Control,
@@ -55,7 +56,7 @@ pub(crate) fn react<'x, W: Words>(
     ensures room { IfOk result (λ r. r.1 ≡ room.entry) }
     ensures fault { IfErr result (Tells room.entry.program number line.now) }
 {
-    let inputs = match interface.read_line(alloc, line) {
+    let inputs = match interface.read_line_in(alloc, line_room, line) {
         Ok(inputs) => inputs,
         Err(LineFault::Memory) => return Err(PlayFault::Memory),
         Err(LineFault::NotJson) => return Err(PlayFault::NotJson(number)),

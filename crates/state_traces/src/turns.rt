@@ -13,7 +13,7 @@ use crate::words::Words;
 use sc_values::{Sink, Source, write_all};
 use std::alloc::Global;
 use tick_core::{Control, TickSpace};
-use trace_lines::{Interface, LineEnd, Lines, LinesFault};
+use trace_lines::{Interface, LineEnd, LineRoom, Lines, LinesFault};
 use trace_player::PlayFault;
 use verifier::Verified;
 
@@ -73,8 +73,17 @@ pub(crate) fn begin<S: Source, K: Sink, W: Words>(
     let interface = Interface::of(alloc, program.variables())?;
     let mut lines = Lines::new(alloc)?;
     let room = TickSpace::of(alloc, verified)?;
+    let mut line_room = LineRoom::new(alloc);
     go_on(
-        alloc, words, &interface, room, control, &mut lines, source, sink,
+        alloc,
+        words,
+        &interface,
+        &mut line_room,
+        room,
+        control,
+        &mut lines,
+        source,
+        sink,
     )
 }
 
@@ -83,6 +92,7 @@ fn go_on<'x, S: Source, K: Sink, W: Words>(
     alloc: Global,
     words: &W,
     interface: &Interface<'_>,
+    line_room: &mut LineRoom,
     room: TickSpace<'x>,
     control: Control,
     lines: &mut Lines,
@@ -111,7 +121,7 @@ fn go_on<'x, S: Source, K: Sink, W: Words>(
             Err(fault) => return Err(unread_line(fault, next)),
         };
         let (after, left) = react(
-            alloc, interface, words, room, control, next, &line, &mut shown,
+            alloc, interface, line_room, words, room, control, next, &line, &mut shown,
         )?;
         if !write(sink, shown.as_slice()) {
             return Err(PlayFault::Write);

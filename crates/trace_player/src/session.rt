@@ -12,7 +12,7 @@ use std::alloc::Global;
 use std::sync::Wait;
 use std::thread::Scope;
 use tick_core::{BeginFault, Control, Inputs, TickSpace};
-use trace_lines::{Interface, LineFault};
+use trace_lines::{Interface, LineFault, LineRoom};
 use verifier::Verified;
 use worker_pool::{Gate, OfImage, Team};
 
@@ -60,6 +60,7 @@ where
     pub(crate) fn react(
         &mut self,
         interface: &Interface<'_>,
+        line_room: &mut LineRoom,
         room: TickSpace<'x>,
         control: Control,
         number: u64,
@@ -75,7 +76,7 @@ where
         ensures room { IfOk result (λ r. r.1 ≡ J.image) }
         ensures fault { IfErr result (Tells J.image.program number line.now) }
     {
-        let inputs = match interface.read_line(self.alloc, line) {
+        let inputs = match interface.read_line_in(self.alloc, line_room, line) {
             Ok(inputs) => inputs,
             Err(LineFault::Memory) => return Err(PlayFault::Memory),
             Err(LineFault::NotJson) => return Err(PlayFault::NotJson(number)),

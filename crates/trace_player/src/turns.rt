@@ -14,7 +14,7 @@ use crate::player::PlayFault;
 use crate::session::Session;
 use std::sync::Wait;
 use tick_core::{Control, TickSpace};
-use trace_lines::{Interface, LineEnd, Lines, LinesFault};
+use trace_lines::{Interface, LineEnd, LineRoom, Lines, LinesFault};
 use worker_pool::{Gate, OfImage};
 
 // The fault where the line of this number could not be had.
@@ -87,13 +87,23 @@ where
     let interface = Interface::of(session.alloc, program.variables())?;
     let mut lines = Lines::new(session.alloc)?;
     let room = TickSpace::of(session.alloc, session.verified)?;
-    go_through(session, &interface, room, control, &mut lines, channels)
+    let mut line_room = LineRoom::new(session.alloc);
+    go_through(
+        session,
+        &interface,
+        &mut line_room,
+        room,
+        control,
+        &mut lines,
+        channels,
+    )
 }
 
 // Plays the lines of an input, none of which was read, and writes what is held back at their end.
 fn go_through<'s, 'r: 's, 'x: 's, E: 's, R, J, G, P>(
     session: &mut Session<'s, 'r, 'x, E, R, J, G>,
     interface: &Interface<'_>,
+    line_room: &mut LineRoom,
     room: TickSpace<'x>,
     control: Control,
     lines: &mut Lines,
@@ -118,7 +128,7 @@ where
 {
     let mut held = Vec::new(session.alloc);
     let result = go_on(
-        session, interface, room, control, lines, channels, &mut held,
+        session, interface, line_room, room, control, lines, channels, &mut held,
     );
     if settle(channels, &mut held) {
         return result;
@@ -130,6 +140,7 @@ where
 fn go_on<'s, 'r: 's, 'x: 's, E: 's, R, J, G, P>(
     session: &mut Session<'s, 'r, 'x, E, R, J, G>,
     interface: &Interface<'_>,
+    line_room: &mut LineRoom,
     room: TickSpace<'x>,
     control: Control,
     lines: &mut Lines,
@@ -171,7 +182,9 @@ where
             Ok(None) => return Ok(number),
             Err(fault) => return Err(unread_line(fault, next)),
         };
-        let (after, left) = session.react(interface, room, control, next, &line, &mut shown)?;
+        let (after, left) = session.react(
+            interface, line_room, room, control, next, &line, &mut shown,
+        )?;
         channels.publish(session.rt, session.verified, &after)?;
         if !write_or_hold(channels, held, shown.as_slice(), lines.has_line()) {
             return Err(PlayFault::Write);
