@@ -13,7 +13,7 @@ _sct() {
   if [[ $word == -* ]]; then
     local options='--explain --help'
     case $command in
-      list) options='--source --explain --help' ;;
+      list) options='--source --json --chart --explain --help' ;;
       test) options='--help' ;;
       run) options='--workers --chart --explain --help' ;;
     esac

@@ -1,6 +1,7 @@
 pub mod Cores
 pub mod Drawing
 pub mod Images
+pub mod Json
 pub mod Listing
 pub mod Summary
 pub mod Wanted

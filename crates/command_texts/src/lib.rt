@@ -1,9 +1,10 @@
-//! The texts that single commands write to the output: the summary of an image, its listing, a core chart, a drawing;
-//! and the bytes of images.
+//! The texts that single commands write to the output: the summary of an image, its listing, its line of JSON, a core
+//! chart, a drawing; and the bytes of images.
 #![tactic(auto)]
 
 mod draw;
 mod images;
+mod json;
 mod list;
 mod list_places;
 mod print_core;

@@ -15,6 +15,8 @@ pub data Wanted : Type 0 where
   Core : (name : List ℕ) → Wanted
   Nodes : (name : List ℕ) → Wanted
   Places : (name source : List ℕ) → Wanted
+  Json : (name : List ℕ) → Wanted
+  JsonWithStates : (name chart : List ℕ) → Wanted
   Drawing : (name : List ℕ) → Wanted
   Compiled : (from : List ℕ) → Wanted
   Migrated : (from : List ℕ) → Wanted
@@ -37,6 +39,8 @@ wanted_seen (wanted.Summary name) = Summary name.now
 wanted_seen (wanted.Core name) = Core name.now
 wanted_seen (wanted.Nodes name) = Nodes name.now
 wanted_seen (wanted.Places name source) = Places name.now source.now
+wanted_seen (wanted.Json name) = Json name.now
+wanted_seen (wanted.JsonWithStates name chart) = JsonWithStates name.now chart.now
 wanted_seen (wanted.Drawing name) = Drawing name.now
 wanted_seen (wanted.Compiled from) = Compiled from.now
 wanted_seen (wanted.Migrated from) = Migrated from.now
@@ -68,6 +72,12 @@ list_of None None None (One name) = Some (Write (Nodes name))
 list_of None (Some source) None (One name) = Some (Write (Places name source))
 list_of workers source chart names = None
 
+-- a line of JSON of one file, with the states of a chart or without
+abbrev pub json_of : Option ℕ → Option (List ℕ) → Option (List ℕ) → Names → Option Request
+json_of None None None (One name) = Some (Write (Json name))
+json_of None None (Some chart) (One name) = Some (Write (JsonWithStates name chart))
+json_of workers source chart names = None
+
 -- where an image goes: to the file of a name, or, of the name `-`, to the output
 abbrev pub compile_to : List ℕ → List ℕ → Request
 compile_to from to = if bytes_eq to (codes "-") then Write (Compiled from) else Compile from to
@@ -96,12 +106,20 @@ abbrev pub asked_plainly : List ℕ → Option ℕ → Option (List ℕ) → Opt
 asked_plainly verb None None None names = asked verb names
 asked_plainly verb workers source chart names = None
 
--- what a verb asks for with what is said behind it
-abbrev pub request_by : List ℕ → Said → Option Request
-request_by verb s =
+-- what a verb asks for in JSON: a listing alone is had so
+abbrev pub json_by : List ℕ → Said → Option Request
+json_by verb s = if bytes_eq verb (codes "list") then json_of s.workers s.source s.chart s.names else None
+
+-- what it asks for in plain text
+abbrev pub text_by : List ℕ → Said → Option Request
+text_by verb s =
     if bytes_eq verb (codes "run") then run_of s.workers s.source s.chart s.names
     else if bytes_eq verb (codes "list") then list_of s.workers s.source s.chart s.names
     else asked_plainly verb s.workers s.source s.chart s.names
+
+-- what a verb asks for with what is said behind it
+abbrev pub request_by : List ℕ → Said → Option Request
+request_by verb s = if s.json then json_by verb s else text_by verb s
 
 -- tests of controllers are asked for by names alone, of which there is one at least
 abbrev pub are_names : List (List ℕ) → Bool

@@ -24,6 +24,7 @@ pub record Said : Type 0 where
   pub source : Option (List ℕ)
   pub chart : Option (List ℕ)
   pub explains : Bool
+  pub json : Bool
   pub names : Names
 
 abbrev pub names_seen : GivenNames → Names
@@ -38,11 +39,12 @@ said_seen s = record {
   source = option_map (λ name. name.now) s.source;
   chart = option_map (λ name. name.now) s.chart;
   explains = s.explains;
+  json = s.json;
   names = names_seen s.names;
 }
 
 abbrev pub start : Said
-start = record { next = next.Any; workers = None; source = None; chart = None; explains = false; names = NoName }
+start = record { next = next.Any; workers = None; source = None; chart = None; explains = false; json = false; names = NoName }
 
 abbrev pub hyphen : ℕ
 hyphen = 45
@@ -87,6 +89,9 @@ with_chart s chart = if is_some s.chart then None else Some (record s { next = n
 abbrev pub explained : Said → Option Said
 explained s = if s.explains then None else Some (record s { explains = true })
 
+abbrev pub in_json : Said → Option Said
+in_json s = if s.json then None else Some (record s { json = true })
+
 abbrev pub named : Said → List ℕ → Option Said
 named s name = option_map (λ names. record s { names = names }) (with_name s.names name)
 
@@ -113,6 +118,7 @@ opened s word =
     else if bytes_eq word (codes "--source") then Some (record s { next = next.Source })
     else if bytes_eq word (codes "--chart") then Some (record s { next = next.Chart })
     else if bytes_eq word (codes "--explain") then explained s
+    else if bytes_eq word (codes "--json") then in_json s
     else if is_option word then valued s word
     else named s word
 

@@ -2,7 +2,8 @@
 
 ghost use Rattle.std.specs.Prelude.{◌≡◌, Some, None, IfOk, IfSome, OnErr, map, option_map, string_bytes};
 ghost use Rattle.command_words.specs.Request.{seen, asked, asked_plainly, list_of, request_by, request_of, run_of};
-ghost use Rattle.command_words.specs.Request.{are_names, compile_to, explains, migrate_to, test_of};
+ghost use Rattle.command_words.specs.Request.{are_names, compile_to, explains, json_by, json_of, migrate_to, test_of};
+ghost use Rattle.command_words.specs.Request.{text_by};
 ghost use Rattle.command_words.specs.Said.{names_seen, said_seen};
 ghost use Rattle.command_words.specs.declared.arguments.Unread.TheVariants.{Memory};
 
@@ -27,6 +28,10 @@ pub enum Wanted<'a> {
     Nodes(&'a str),
     /// The listing of the image in the first file, with the places of its nodes in the text of the second.
     Places(&'a str, &'a str),
+    /// The image in this file as a line of JSON.
+    Json(&'a str),
+    /// The image in the first file as a line of JSON, with the states of the chart in the second.
+    JsonWithStates(&'a str, &'a str),
     /// The drawing of the chart in this file, or of the graph of the SCL text.
     Drawing(&'a str),
     /// The image of the chart or SCL text in this file.
@@ -125,6 +130,20 @@ fn list_of<'a>(said: &Said<'a>) -> Option<Request<'a>>
     }
 }
 
+// A line of JSON of one file.
+fn json_of<'a>(said: &Said<'a>) -> Option<Request<'a>>
+    ensures { option_map seen result ≡ json_of (said_seen said.now).workers (said_seen said.now).source
+        (said_seen said.now).chart (said_seen said.now).names }
+{
+    match (said.workers, said.source, said.chart, said.names) {
+        (None, None, None, Names::One(name)) => Some(Request::Write(Wanted::Json(name))),
+        (None, None, Some(chart), Names::One(name)) => {
+            Some(Request::Write(Wanted::JsonWithStates(name, chart)))
+        }
+        _ => None,
+    }
+}
+
 // Where the image of a text goes.
 fn compile_to<'a>(from: &'a str, to: &'a str) -> Request<'a>
     ensures { seen result ≡ compile_to from.now to.now }
@@ -173,14 +192,35 @@ fn asked_plainly<'a>(verb: &str, said: &Said<'a>) -> Option<Request<'a>>
     }
 }
 
-// What a verb asks for with what is said behind it.
-fn request_by<'a>(verb: &str, said: &Said<'a>) -> Option<Request<'a>>
-    ensures { option_map seen result ≡ request_by verb.now (said_seen said.now) }
+// What a verb asks for in JSON.
+fn json_by<'a>(verb: &str, said: &Said<'a>) -> Option<Request<'a>>
+    ensures { option_map seen result ≡ json_by verb.now (said_seen said.now) }
+{
+    match verb {
+        "list" => json_of(said),
+        _ => None,
+    }
+}
+
+// What a verb asks for in plain text.
+fn text_by<'a>(verb: &str, said: &Said<'a>) -> Option<Request<'a>>
+    ensures { option_map seen result ≡ text_by verb.now (said_seen said.now) }
 {
     match verb {
         "run" => run_of(said),
         "list" => list_of(said),
         verb => asked_plainly(verb, said),
+    }
+}
+
+// What a verb asks for with what is said behind it.
+fn request_by<'a>(verb: &str, said: &Said<'a>) -> Option<Request<'a>>
+    ensures { option_map seen result ≡ request_by verb.now (said_seen said.now) }
+{
+    if said.json {
+        json_by(verb, said)
+    } else {
+        text_by(verb, said)
     }
 }
 

@@ -3,7 +3,7 @@
 ghost use Rattle.std.specs.Prelude.{◌≡◌, map, option_map, string_bytes};
 ghost use Rattle.command_words.specs.Said.{chart_in, names_seen, said_seen, source_in, step, workers_in, workers_named};
 ghost use Rattle.command_words.specs.Said.{by_file, ended, opened, read_on, said_by, start, valued, with_name};
-ghost use Rattle.command_words.specs.Said.{explained, is_option, named, with_chart, with_source, with_workers};
+ghost use Rattle.command_words.specs.Said.{explained, in_json, is_option, named, with_chart, with_source, with_workers};
 
 use crate::workers::Workers;
 
@@ -42,6 +42,8 @@ pub(crate) struct Said<'a> {
     pub(crate) chart: Option<&'a str>,
     /// Whether words are wanted behind a fault.
     pub(crate) explains: bool,
+    /// Whether JSON is wanted.
+    pub(crate) json: bool,
     /// The files.
     pub(crate) names: Names<'a>,
 }
@@ -113,6 +115,7 @@ impl<'a> Said<'a> {
             source: None,
             chart: None,
             explains: false,
+            json: false,
             names: Names::None,
         }
     }
@@ -174,6 +177,18 @@ impl<'a> Said<'a> {
         Some(said)
     }
 
+    // With JSON wanted, which is said once.
+    fn in_json(self) -> Option<Said<'a>>
+        ensures { option_map said_seen result ≡ in_json (said_seen self.entry) }
+    {
+        if self.json {
+            return None;
+        }
+        let mut said = self;
+        said.json = true;
+        Some(said)
+    }
+
     // With one more name.
     fn named(self, name: &'a str) -> Option<Said<'a>>
         ensures { option_map said_seen result ≡ named (said_seen self.entry) name.now }
@@ -223,6 +238,7 @@ impl<'a> Said<'a> {
             "--source" => Some(self.awaits(Next::Source)),
             "--chart" => Some(self.awaits(Next::Chart)),
             "--explain" => self.explained(),
+            "--json" => self.in_json(),
             word if is_option(word) => self.valued(word),
             word => self.named(word),
         }

@@ -45,6 +45,11 @@ const COMPILE_EXAMPLES: &str = r#"Examples:
   sct compile examples/abro.chart abro.image
   sct compile - - < examples/abro.chart > abro.image"#;
 
+const LIST_EXAMPLES: &str = r#"Examples:
+  sct list examples/two_threads.image
+  sct list examples/two_threads.image --json
+  sct list abro.image --json --chart examples/abro.chart"#;
+
 // What a run reads and prints, and how it ends.
 const RUN_HELP: &str = r#"Input, a line for each tick (an input that is not named is false, or 0):
   {"left":true,"level":7}
@@ -149,11 +154,24 @@ fn list_command<'a>(alloc: Global) -> Result<Command<'a>, AllocError> {
             "The chart or SCL text that it was compiled from: each node is listed with its place there",
         )
         .action(ArgAction::Set);
+    let json = Arg::new(alloc, "json")
+        .long("json")
+        .help("Print a line of JSON for programs: variables, counts and the budget")
+        .action(ArgAction::SetTrue)
+        .conflicts_with("source")?;
+    let chart = Arg::new(alloc, "chart")
+        .long("chart")
+        .value_name("FILE")
+        .help("With --json: the chart that it was compiled from, whose states are told too")
+        .action(ArgAction::Set)
+        .requires_arg("json")?;
     Command::new(alloc, "list")
         .about("Prints an image for people: variables, threads, nodes and protocol edges")
-        .after_help("Example:\n  sct list examples/two_threads.image")
+        .after_help(LIST_EXAMPLES)
         .arg(image_name(alloc))?
-        .arg(source)
+        .arg(source)?
+        .arg(json)?
+        .arg(chart)
 }
 
 // The command that prints a text.

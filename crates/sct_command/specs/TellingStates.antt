@@ -1,12 +1,9 @@
 -- What is left where an input is played by an image, and the active states of its chart are told.
-use Rattle.std.specs.Prelude.{ℕ, ◌≡◌, ◌⊎◌, Option, List, string_bytes}
+use Rattle.std.specs.Prelude.{ℕ, ◌≡◌, Option, List}
 use Rattle.bytecode.specs.Image.{Image}
-use Rattle.command_files.specs.declared.fault.LoadFault.{LoadFault}
-use Rattle.command_files.specs.declared.fault.LoadFault.TheVariants as load
-use Rattle.command_files.specs.FaultText.{shown_name}
-use Rattle.command_files.specs.Files.{Contents, HasBytes, LacksFile}
-use Rattle.command_files.specs.Images.{IsLoaded, FileLacksImage}
-use Rattle.image_charts.specs.Charts.{IsChartOf, IsNotChartOf, NamedStates, state_words}
+use Rattle.command_files.specs.Files.{Contents}
+use Rattle.image_charts.specs.Charts.{NamedStates, state_words}
+use Rattle.image_charts.specs.Files.{FilesLackStates, HasStates}
 use Rattle.line_causes.specs.declared.cause.Cause.{Cause}
 use Rattle.trace_player.specs.declared.player.PlayFault.{PlayFault}
 use Rattle.trace_player.specs.Trace.{Good}
@@ -14,13 +11,6 @@ use Rattle.state_traces.specs.Trace.{Leaves, Plays, Words}
 use Rattle.sct_command.specs.Words.{IsMet}
 use Rattle.sct_command.specs.declared.fault.Fault.{Fault}
 use Rattle.sct_command.specs.declared.fault.Fault.TheVariants as fault
-
--- there is a valid image in one file, and in the other the text of its chart, whose states these are
-pub record HasStates (files : Option Contents) (name chart : List ℕ) (image : Image) (states : NamedStates) : Type 0 where
-  pub loaded : IsLoaded files name image
-  pub bytes : List ℕ
-  pub held : HasBytes files chart bytes
-  pub is : IsChartOf bytes image states
 
 -- the whole trace of the input by that image was written, with the states that are active behind each tick
 pub record PlaysStates (files : Option Contents) (name chart : List ℕ) (input old new : Option (List ℕ)) : Type 0 where
@@ -44,25 +34,6 @@ abbrev pub RefusesWords : Words → Image → Option (List ℕ) → Option (List
 RefusesWords words image input old new (fault.Play f cause) =
     Leaves words image input old new f × IsMet image.program.variables input f cause
 RefusesWords words image input old new other = ⊥
-
--- there is a valid image in one file, and in the other bytes that are not the chart of the image, for this fault
-pub record IsAnotherChart (files : Option Contents) (name chart : List ℕ) (f : LoadFault) : Type 0 where
-  pub image : Image
-  pub loaded : IsLoaded files name image
-  pub bytes : List ℕ
-  pub held : HasBytes files chart bytes
-  pub not : IsNotChartOf chart bytes image f
-
--- the file of the chart cannot be read
-abbrev pub IsUnread : Option Contents → List ℕ → LoadFault → Type 0
-IsUnread files chart (load.File shown) = LacksFile files chart × (string_bytes shown ≡ shown_name chart)
-IsUnread files chart other = ⊥
-
--- there is no valid image in one file; or the other cannot be read, or has not the chart of the image. A refusal of
--- memory says nothing of them
-abbrev pub FilesLackStates : Option Contents → List ℕ → List ℕ → LoadFault → Type 0
-FilesLackStates files name chart load.Memory = Unit {0}
-FilesLackStates files name chart f = FileLacksImage files name f ⊎ IsUnread files chart f ⊎ IsAnotherChart files name chart f
 
 -- what such a run leaves that is refused: nothing was written, but what the player left
 abbrev pub RefusesStates : Option Contents → List ℕ → List ℕ → Option (List ℕ) → Option (List ℕ) → Option (List ℕ)

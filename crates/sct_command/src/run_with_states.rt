@@ -1,21 +1,20 @@
 //! The verb `run` with a chart, whose active states each line tells.
 
-ghost use Rattle.std.specs.Prelude.{◌≡◌, ◌+◌, ℕ, List, IfErr, IfOk, OnOk};
-ghost use Rattle.command_files.specs.Counting as files_count;
-ghost use Rattle.image_charts.specs.Charts.{IsChartOf, IsNotChartOf, state_words};
+ghost use Rattle.std.specs.Prelude.{◌≡◌, ◌+◌, ℕ, List, IfErr, OnOk};
+ghost use Rattle.image_charts.specs.Charts.{state_words};
 ghost use Rattle.sc_values.specs.Streams.{IsNotReadBehind};
 ghost use Rattle.sct_command.specs.Failing.{files_failed, reads_failed, writes_failed};
-ghost use Rattle.sct_command.specs.TellingStates.{FilesLackStates, HasStates, PlaysStates, RefusesStates, RefusesWords};
+ghost use Rattle.sct_command.specs.TellingStates.{PlaysStates, RefusesStates, RefusesWords};
 ghost use Rattle.state_traces.specs.Trace.{Plays};
 ghost use Rattle.trace_player.specs.Trace.{Good};
 
 use crate::fault::Fault;
 use crate::run::met;
-use command_files::{Files, LoadFault, bytes_of, load_verified};
-use image_charts::{ChartStates, chart_of};
+use command_files::Files;
+pub(crate) use image_charts::boxed_states;
+use image_charts::{ChartStates, load_states};
 use line_causes::{Lent, OfInput, Recent};
 use sc_values::{Sink, Source};
-use sqlite_items::Boxed;
 use state_traces::play_with;
 use std::alloc::Global;
 use std::marker::Brand;
@@ -54,42 +53,6 @@ fn play_states<'a, R: Source, W: Sink, N: OfInput>(
     };
     let Lent { source } = recent.lent();
     (played, source)
-}
-
-/// The states of the chart that the bytes of the file of this name spell, in a box, where this is its image.
-pub(crate) fn boxed_states(
-    alloc: Global,
-    name: &str,
-    bytes: &[u8],
-    image: &Verified,
-) -> Result<Boxed<ChartStates>, LoadFault>
-    ensures found { IfOk result (IsChartOf bytes.now image.now) }
-    ensures lacks { IfErr result (IsNotChartOf name.now bytes.now image.now) }
-{
-    let states = chart_of(alloc, name, bytes, image)?;
-    Ok(Boxed::new(alloc, states)?)
-}
-
-// The image in one file, and in the other the chart from which it was compiled, with its states. Err: there is no valid
-// image in the first file, or the second has not its chart.
-#[tactic(auto, using(crate::proofs::States::no_image, crate::proofs::States::unread, crate::proofs::States::quiet, crate::proofs::States::another_behind, crate::proofs::States::has))]
-fn load_states<F: Files>(
-    alloc: Global,
-    name: &str,
-    chart: &str,
-    files: &mut F,
-) -> Result<(Boxed<Verified>, Boxed<ChartStates>), LoadFault>
-    ensures loaded { IfOk result (λ r. HasStates (F.contents files.old) name.now chart.now r.0 r.1) }
-    ensures lacks { IfErr result (FilesLackStates (F.contents files.old) name.now chart.now) }
-    ensures same { F.contents files.new ≡ F.contents files.old }
-    ensures none_failed { OnOk result (F.failures files.new ≡ F.failures files.old) }
-    ensures failed { IfErr result (λ fault. F.failures files.new
-        ≡ F.failures files.old + files_count.files_failed fault) }
-{
-    let image = load_verified(alloc, files, name)?;
-    let bytes = bytes_of(alloc, files, chart)?;
-    let states = boxed_states(alloc, chart, &bytes, image.get())?;
-    Ok((image, states))
 }
 
 // Plays an input by an image with these states of its chart.

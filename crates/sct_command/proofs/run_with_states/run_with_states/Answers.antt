@@ -1,6 +1,6 @@
 use Rattle.std.proofs.Common.{subst, sym}
+use Rattle.image_charts.specs.Files.{HasStates}
 use Rattle.sct_command.proofs.States.{played, stopped}
-use Rattle.sct_command.specs.TellingStates.{HasStates}
 use Rattle.sct_command.proofs.run_with_states.run_with_states.Goals as goal
 
 pub returns-clause-done : goal.returns-clause-done
