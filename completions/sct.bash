@@ -13,6 +13,7 @@ _sct() {
   if [[ $word == -* ]]; then
     local options='--explain --help'
     case $command in
+      compile) options='--warn --explain --help' ;;
       list) options='--source --json --chart --explain --help' ;;
       test) options='--help' ;;
       run) options='--workers --chart --explain --help' ;;

@@ -19,6 +19,7 @@ complete -c sct -n '__fish_seen_subcommand_from compile scl core explain dot sim
 complete -c sct -n '__fish_seen_subcommand_from compile scl core explain dot simulate check list run migrate' -F
 complete -c sct -n '__fish_seen_subcommand_from test' -l help -d 'Print help'
 complete -c sct -n '__fish_seen_subcommand_from test' -F
+complete -c sct -n '__fish_seen_subcommand_from compile' -l warn -d 'Tell warnings on standard error'
 complete -c sct -n '__fish_seen_subcommand_from list' -l source -r -F -d 'The text that it was compiled from'
 complete -c sct -n '__fish_seen_subcommand_from list' -l json -d 'Print a line of JSON'
 complete -c sct -n '__fish_seen_subcommand_from list' -l chart -r -F -d 'The chart whose states are told'

@@ -4,13 +4,6 @@ use Rattle.bytecode.specs.Image.{Image}
 use Rattle.bytecode.specs.Spells.{Spells}
 use Rattle.command_files.specs.Files.{Contents}
 use Rattle.command_files.specs.Images.{IsLoaded}
-use Rattle.command_files.specs.Sources.{IsCompiledFrom}
-
--- those of the image of the program in this file
-pub record AreOfProgram (files : Option Contents) (name bytes : List ℕ) : Type 0 where
-  pub image : Image
-  pub compiled : IsCompiledFrom files name image
-  pub spelt : Spells 2 bytes image
 
 -- those of the image in this file
 pub record AreOfImage (files : Option Contents) (name bytes : List ℕ) : Type 0 where

@@ -3,12 +3,11 @@ use Rattle.std.specs.Prelude.{ℕ, Option, List}
 use Rattle.command_files.specs.declared.fault.LoadFault.{LoadFault}
 use Rattle.command_files.specs.Files.{Contents}
 use Rattle.command_files.specs.Images.{FileLacksImage}
-use Rattle.command_files.specs.Sources.{FileLacksCompiled}
-use Rattle.command_words.specs.Request.{Wanted, Summary, Core, Nodes, Places, Json, JsonWithStates, Drawing, Compiled, Migrated}
+use Rattle.command_words.specs.Request.{Wanted, Summary, Core, Nodes, Places, Json, JsonWithStates, Drawing, Migrated}
 use Rattle.image_charts.specs.Files.{FilesLackStates}
 use Rattle.command_texts.specs.Cores.{IsCoreIn, FileLacksCore}
 use Rattle.command_texts.specs.Drawing.{HasDrawingIn, FileLacksDrawing}
-use Rattle.command_texts.specs.Images.{AreOfImage, AreOfProgram}
+use Rattle.command_texts.specs.Images.{AreOfImage}
 use Rattle.command_texts.specs.Json.{IsJsonIn, IsJsonWithStates}
 use Rattle.command_texts.specs.Listing.{IsListingIn, HasPlaces, FilesLackPlaces}
 use Rattle.command_texts.specs.Summary.{IsSummaryIn}
@@ -23,7 +22,6 @@ IsMadeFor files (Places name source) text = HasPlaces files name source
 IsMadeFor files (Json name) text = IsJsonIn files name text
 IsMadeFor files (JsonWithStates name chart) text = IsJsonWithStates files name chart text
 IsMadeFor files (Drawing name) text = HasDrawingIn files name
-IsMadeFor files (Compiled from) bytes = AreOfProgram files from bytes
 IsMadeFor files (Migrated from) bytes = AreOfImage files from bytes
 
 abbrev pub LacksWanted : Option Contents → Wanted → LoadFault → Type 0
@@ -34,5 +32,4 @@ LacksWanted files (Places name source) f = FilesLackPlaces files name source f
 LacksWanted files (Json name) f = FileLacksImage files name f
 LacksWanted files (JsonWithStates name chart) f = FilesLackStates files name chart f
 LacksWanted files (Drawing name) f = FileLacksDrawing files name f
-LacksWanted files (Compiled from) f = FileLacksCompiled files from f
 LacksWanted files (Migrated from) f = FileLacksImage files from f

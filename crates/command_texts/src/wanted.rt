@@ -6,7 +6,7 @@ ghost use Rattle.command_words.specs.Request.{wanted_seen};
 ghost use Rattle.std.specs.Prelude.{◌≡◌, ◌+◌, IfErr, IfOk, OnOk};
 
 use crate::draw::drawing_in;
-use crate::images::{compiled_in, migrated_in};
+use crate::images::migrated_in;
 use crate::json::{json_in, json_with_states};
 use crate::list::listing_in;
 use crate::list_places::places_in;
@@ -36,7 +36,6 @@ pub fn made_for<F: Files>(
         Wanted::Json(name) => json_in(alloc, name, files),
         Wanted::JsonWithStates(name, chart) => json_with_states(alloc, name, chart, files),
         Wanted::Drawing(name) => drawing_in(alloc, name, files),
-        Wanted::Compiled(name) => compiled_in(alloc, name, files),
         Wanted::Migrated(name) => migrated_in(alloc, name, files),
     }
 }

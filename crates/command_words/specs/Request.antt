@@ -18,7 +18,6 @@ pub data Wanted : Type 0 where
   Json : (name : List ℕ) → Wanted
   JsonWithStates : (name chart : List ℕ) → Wanted
   Drawing : (name : List ℕ) → Wanted
-  Compiled : (from : List ℕ) → Wanted
   Migrated : (from : List ℕ) → Wanted
 
 -- a request, with the name of a file or of two, or of several; a run by so many workers
@@ -27,6 +26,7 @@ pub data Request : Type 0 where
   Run : (name : List ℕ) (workers : ℕ) → Request
   RunWithStates : (name chart : List ℕ) → Request
   Compile : (from to : List ℕ) → Request
+  WriteCompiled : (from : List ℕ) → Request
   Print : (name : List ℕ) → Request
   Migrate : (from to : List ℕ) → Request
   Explain : (name : List ℕ) → Request
@@ -42,7 +42,6 @@ wanted_seen (wanted.Places name source) = Places name.now source.now
 wanted_seen (wanted.Json name) = Json name.now
 wanted_seen (wanted.JsonWithStates name chart) = JsonWithStates name.now chart.now
 wanted_seen (wanted.Drawing name) = Drawing name.now
-wanted_seen (wanted.Compiled from) = Compiled from.now
 wanted_seen (wanted.Migrated from) = Migrated from.now
 
 abbrev pub seen : Words → Request
@@ -50,6 +49,7 @@ seen (words.Write asked) = Write (wanted_seen asked)
 seen (words.Run name workers) = Run name.now workers.number
 seen (words.RunWithStates name chart) = RunWithStates name.now chart.now
 seen (words.Compile from to) = Compile from.now to.now
+seen (words.WriteCompiled from) = WriteCompiled from.now
 seen (words.Print name) = Print name.now
 seen (words.Migrate from to) = Migrate from.now to.now
 seen (words.Explain name) = Explain name.now
@@ -80,7 +80,7 @@ json_of workers source chart names = None
 
 -- where an image goes: to the file of a name, or, of the name `-`, to the output
 abbrev pub compile_to : List ℕ → List ℕ → Request
-compile_to from to = if bytes_eq to (codes "-") then Write (Compiled from) else Compile from to
+compile_to from to = if bytes_eq to (codes "-") then WriteCompiled from else Compile from to
 
 abbrev pub migrate_to : List ℕ → List ℕ → Request
 migrate_to from to = if bytes_eq to (codes "-") then Write (Migrated from) else Migrate from to
@@ -117,9 +117,12 @@ text_by verb s =
     else if bytes_eq verb (codes "list") then list_of s.workers s.source s.chart s.names
     else asked_plainly verb s.workers s.source s.chart s.names
 
--- what a verb asks for with what is said behind it
+-- what a verb asks for with what is said behind it; a compilation alone is warned of
 abbrev pub request_by : List ℕ → Said → Option Request
-request_by verb s = if s.json then json_by verb s else text_by verb s
+request_by verb s =
+    if s.warns && not (bytes_eq verb (codes "compile")) then None
+    else if s.json then json_by verb s
+    else text_by verb s
 
 -- tests of controllers are asked for by names alone, of which there is one at least
 abbrev pub are_names : List (List ℕ) → Bool
@@ -141,6 +144,12 @@ abbrev pub explains : List (List ℕ) → Bool
 explains [] = false
 explains (verb ∷ words) =
     if bytes_eq verb (codes "test") then false else unwrap_or (option_map (λ s. s.explains) (said_by words)) false
+
+-- whether they ask for warnings
+abbrev pub warns : List (List ℕ) → Bool
+warns [] = false
+warns (verb ∷ words) =
+    if bytes_eq verb (codes "test") then false else unwrap_or (option_map (λ s. s.warns) (said_by words)) false
 
 -- a run is asked for, by lines of ticks or by hand, which alone reads the input
 abbrev pub IsRun : Option Request → Type 0

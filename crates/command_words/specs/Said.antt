@@ -25,6 +25,7 @@ pub record Said : Type 0 where
   pub chart : Option (List ℕ)
   pub explains : Bool
   pub json : Bool
+  pub warns : Bool
   pub names : Names
 
 abbrev pub names_seen : GivenNames → Names
@@ -40,11 +41,12 @@ said_seen s = record {
   chart = option_map (λ name. name.now) s.chart;
   explains = s.explains;
   json = s.json;
+  warns = s.warns;
   names = names_seen s.names;
 }
 
 abbrev pub start : Said
-start = record { next = next.Any; workers = None; source = None; chart = None; explains = false; json = false; names = NoName }
+start = record { next = next.Any; workers = None; source = None; chart = None; explains = false; json = false; warns = false; names = NoName }
 
 abbrev pub hyphen : ℕ
 hyphen = 45
@@ -92,6 +94,9 @@ explained s = if s.explains then None else Some (record s { explains = true })
 abbrev pub in_json : Said → Option Said
 in_json s = if s.json then None else Some (record s { json = true })
 
+abbrev pub warned : Said → Option Said
+warned s = if s.warns then None else Some (record s { warns = true })
+
 abbrev pub named : Said → List ℕ → Option Said
 named s name = option_map (λ names. record s { names = names }) (with_name s.names name)
 
@@ -119,6 +124,7 @@ opened s word =
     else if bytes_eq word (codes "--chart") then Some (record s { next = next.Chart })
     else if bytes_eq word (codes "--explain") then explained s
     else if bytes_eq word (codes "--json") then in_json s
+    else if bytes_eq word (codes "--warn") then warned s
     else if is_option word then valued s word
     else named s word
 

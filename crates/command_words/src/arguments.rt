@@ -3,7 +3,7 @@
 ghost use Rattle.std.specs.Prelude.{◌≡◌, Some, None, IfOk, IfSome, OnErr, map, option_map, string_bytes};
 ghost use Rattle.command_words.specs.Request.{seen, asked, asked_plainly, list_of, request_by, request_of, run_of};
 ghost use Rattle.command_words.specs.Request.{are_names, compile_to, explains, json_by, json_of, migrate_to, test_of};
-ghost use Rattle.command_words.specs.Request.{text_by};
+ghost use Rattle.command_words.specs.Request.{text_by, warns};
 ghost use Rattle.command_words.specs.Said.{names_seen, said_seen};
 ghost use Rattle.command_words.specs.declared.arguments.Unread.TheVariants.{Memory};
 
@@ -34,8 +34,6 @@ pub enum Wanted<'a> {
     JsonWithStates(&'a str, &'a str),
     /// The drawing of the chart in this file, or of the graph of the SCL text.
     Drawing(&'a str),
-    /// The image of the chart or SCL text in this file.
-    Compiled(&'a str),
     /// The image in this file, in version 2 of the layout.
     Migrated(&'a str),
 }
@@ -51,6 +49,8 @@ pub enum Request<'a> {
     RunWithStates(&'a str, &'a str),
     /// Write the image of the chart or SCL text in the first file to the second.
     Compile(&'a str, &'a str),
+    /// Write the image of the chart or SCL text in this file to the output.
+    WriteCompiled(&'a str),
     /// Print the SCL text in this file, or that of the chart in it.
     Print(&'a str),
     /// Write the image in the first file to the second, in version 2 of the layout.
@@ -63,13 +63,15 @@ pub enum Request<'a> {
     Simulate(&'a str),
 }
 
-/// What the words ask for, and whether they want words behind a fault.
+/// What the words ask for, and what is told beside it.
 #[derive(Clone, Copy, Debug, PartialEq, Eq)]
 pub struct Asking<'a> {
     /// What they ask for.
     pub request: Request<'a>,
     /// Whether a fault is told in words too.
     pub explains: bool,
+    /// Whether the warnings of a text that is compiled are told too.
+    pub warns: bool,
 }
 
 /// Why the words ask for nothing that can be done.
@@ -149,7 +151,7 @@ fn compile_to<'a>(from: &'a str, to: &'a str) -> Request<'a>
     ensures { seen result ≡ compile_to from.now to.now }
 {
     match to {
-        "-" => Request::Write(Wanted::Compiled(from)),
+        "-" => Request::WriteCompiled(from),
         to => Request::Compile(from, to),
     }
 }
@@ -217,6 +219,9 @@ fn text_by<'a>(verb: &str, said: &Said<'a>) -> Option<Request<'a>>
 fn request_by<'a>(verb: &str, said: &Said<'a>) -> Option<Request<'a>>
     ensures { option_map seen result ≡ request_by verb.now (said_seen said.now) }
 {
+    if said.warns && verb != "compile" {
+        return None;
+    }
     if said.json {
         json_by(verb, said)
     } else {
@@ -248,11 +253,13 @@ fn test_of<'a>(words: &'a [String]) -> Option<Request<'a>>
 fn asked_by<'a>(verb: &str, said: &Said<'a>) -> Option<Asking<'a>>
     ensures request { option_map (λ a. seen a.request) result ≡ request_by verb.now (said_seen said.now) }
     ensures explains { IfSome result (λ a. a.explains ≡ said.now.explains) }
+    ensures warns { IfSome result (λ a. a.warns ≡ said.now.warns) }
 {
     let request = request_by(verb, said)?;
     Some(Asking {
         request,
         explains: said.explains,
+        warns: said.warns,
     })
 }
 
@@ -260,6 +267,7 @@ fn asked_by<'a>(verb: &str, said: &Said<'a>) -> Option<Asking<'a>>
 fn asked_of<'a>(words: &'a [String]) -> Option<Asking<'a>>
     ensures request { option_map (λ a. seen a.request) result ≡ request_of (map string_bytes words.now) }
     ensures explains { IfSome result (λ a. a.explains ≡ explains (map string_bytes words.now)) }
+    ensures warns { IfSome result (λ a. a.warns ≡ warns (map string_bytes words.now)) }
 {
     let (verb, words) = words.split_first()?;
     if verb.as_str() == "test" {
@@ -267,6 +275,7 @@ fn asked_of<'a>(words: &'a [String]) -> Option<Asking<'a>>
         return Some(Asking {
             request,
             explains: false,
+            warns: false,
         });
     }
     let said = Said::by(words)?;
@@ -288,6 +297,7 @@ fn why_unread(alloc: Global, words: &[String]) -> Result<Unread, AllocError> {
 pub fn read_words<'a>(alloc: Global, words: &'a [String]) -> Result<Asking<'a>, Unread>
     ensures asked { IfOk result (λ a. request_of (map string_bytes words.now) ≡ Some (seen a.request)) }
     ensures explains { IfOk result (λ a. explains (map string_bytes words.now) ≡ a.explains) }
+    ensures warns { IfOk result (λ a. warns (map string_bytes words.now) ≡ a.warns) }
     ensures unread { OnErr result (request_of (map string_bytes words.now) ≡ None) }
 {
     match asked_of(words) {

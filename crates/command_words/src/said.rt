@@ -3,7 +3,8 @@
 ghost use Rattle.std.specs.Prelude.{◌≡◌, map, option_map, string_bytes};
 ghost use Rattle.command_words.specs.Said.{chart_in, names_seen, said_seen, source_in, step, workers_in, workers_named};
 ghost use Rattle.command_words.specs.Said.{by_file, ended, opened, read_on, said_by, start, valued, with_name};
-ghost use Rattle.command_words.specs.Said.{explained, in_json, is_option, named, with_chart, with_source, with_workers};
+ghost use Rattle.command_words.specs.Said.{explained, in_json, is_option, named, warned};
+ghost use Rattle.command_words.specs.Said.{with_chart, with_source, with_workers};
 
 use crate::workers::Workers;
 
@@ -44,6 +45,8 @@ pub(crate) struct Said<'a> {
     pub(crate) explains: bool,
     /// Whether JSON is wanted.
     pub(crate) json: bool,
+    /// Whether warnings are wanted.
+    pub(crate) warns: bool,
     /// The files.
     pub(crate) names: Names<'a>,
 }
@@ -116,6 +119,7 @@ impl<'a> Said<'a> {
             chart: None,
             explains: false,
             json: false,
+            warns: false,
             names: Names::None,
         }
     }
@@ -189,6 +193,18 @@ impl<'a> Said<'a> {
         Some(said)
     }
 
+    // With warnings wanted, which is said once.
+    fn warned(self) -> Option<Said<'a>>
+        ensures { option_map said_seen result ≡ warned (said_seen self.entry) }
+    {
+        if self.warns {
+            return None;
+        }
+        let mut said = self;
+        said.warns = true;
+        Some(said)
+    }
+
     // With one more name.
     fn named(self, name: &'a str) -> Option<Said<'a>>
         ensures { option_map said_seen result ≡ named (said_seen self.entry) name.now }
@@ -239,6 +255,7 @@ impl<'a> Said<'a> {
             "--chart" => Some(self.awaits(Next::Chart)),
             "--explain" => self.explained(),
             "--json" => self.in_json(),
+            "--warn" => self.warned(),
             word if is_option(word) => self.valued(word),
             word => self.named(word),
         }

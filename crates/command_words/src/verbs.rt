@@ -43,6 +43,7 @@ const EXAMPLE: &str = r#"Examples:
 
 const COMPILE_EXAMPLES: &str = r#"Examples:
   sct compile examples/abro.chart abro.image
+  sct compile --warn examples/abro.chart abro.image
   sct compile - - < examples/abro.chart > abro.image"#;
 
 const LIST_EXAMPLES: &str = r#"Examples:
@@ -294,11 +295,18 @@ fn migrate_command<'a>(alloc: Global) -> Result<Command<'a>, AllocError> {
 // The command that takes a text to an image.
 fn compile_command<'a>(alloc: Global) -> Result<Command<'a>, AllocError> {
     let image = file_name(alloc, "image", "IMAGE", WRITTEN);
+    let warn = Arg::new(alloc, "warn")
+        .long("warn")
+        .help(
+            "Tell on standard error what a chart says and most likely does not mean, as `sct explain` does",
+        )
+        .action(ArgAction::SetTrue);
     Command::new(alloc, "compile")
         .about("Compiles a chart or an SCL text to an image")
         .after_help(COMPILE_EXAMPLES)
         .arg(source_name(alloc))?
-        .arg(image)
+        .arg(image)?
+        .arg(warn)
 }
 
 // What can be asked of each verb but one: words behind a fault.

@@ -4,30 +4,70 @@ use Rattle.bytecode.specs.Image.{Image}
 use Rattle.command_files.proofs.Held.{compiled, no_compiled}
 use Rattle.command_files.specs.declared.fault.LoadFault.{LoadFault}
 use Rattle.command_files.specs.declared.fault.LoadFault.TheVariants as load
+use Rattle.compiler.specs.declared.fault.CompileFault.{CompileFault}
+use Rattle.sc_text.specs.declared.read_fault.ReadFault.{ReadFault}
 use Rattle.command_files.specs.Counting.{files_failed}
 use Rattle.sct_command.specs.declared.fault.Fault.{Fault}
 use Rattle.sct_command.specs.declared.fault.Fault.TheVariants as fault
 use Rattle.command_files.specs.Files.{Contents, HasBytes}
+use Rattle.command_files.specs.Images.{FileLacksImage}
 use Rattle.command_files.specs.Sources.{FileLacksCompiled, FileLacksProgram, SpellsImage, BytesLackCompiled}
-use Rattle.sct_command.specs.Explaining.{FindsImage, IsTold, RefusesExplaining, RefusesFound, WritesFound}
+use Rattle.sct_command.specs.Explaining.{FindsImage, IsReport, IsReportOf, RefusesExplaining, RefusesFound, WritesFound, WritesReport}
+use Rattle.sct_command.specs.Inside.Telling.{IsTold}
+use Rattle.sct_command.specs.Writing.{Writes}
 
-told : (files : Option Contents) (name : List ℕ) (old new : Option (List ℕ)) (f : LoadFault) (r : Fault) → FileLacksCompiled files name f
-    → IsTold name f old new r → RefusesExplaining files name old new r
-told files name old new f (fault.Files load.Memory) why is = is
-told files name old new f fault.Write why is = inr (record { fault = f; none = why; told = is })
-told files name old new f (fault.Files (load.Image g)) why (same, some) = (subst (FileLacksCompiled files name) (sym same) why, some)
-told files name old new f (fault.Files (load.Rule g)) why (same, some) = (subst (FileLacksCompiled files name) (sym same) why, some)
-told files name old new f (fault.Files (load.Text g)) why (same, some) = (subst (FileLacksCompiled files name) (sym same) why, some)
-told files name old new f (fault.Files (load.Program g)) why (same, some) = (subst (FileLacksCompiled files name) (sym same) why, some)
-told files name old new f (fault.Files (load.File g)) why (same, some) = (subst (FileLacksCompiled files name) (sym same) why, some)
-told files name old new f (fault.Files (load.Source g)) why (same, some) = (subst (FileLacksCompiled files name) (sym same) why, some)
-told files name old new f (fault.Play g cause) why is = absurd is
-told files name old new f fault.Tests why is = absurd is
+-- what was written of the bytes of a file was written of the file
+report : (files : Option Contents) (name bytes : List ℕ) (f : LoadFault) (old new : Option (List ℕ)) → HasBytes files name bytes
+    → ((text : List ℕ) → IsReport name bytes f text → IsReportOf files name f text) → Writes (IsReport name bytes f) old new
+    → WritesReport files name f old new
+report files name bytes f old new held is_of writes =
+    record { text = writes.text; is = is_of writes.text writes.is; written = writes.written }
+
+told : (files : Option Contents) (name bytes : List ℕ) (old new : Option (List ℕ)) (f : LoadFault) (r : Fault) → HasBytes files name bytes
+    → FileLacksCompiled files name f → IsTold name bytes f old new r → RefusesExplaining files name old new r
+told files name bytes old new f (fault.Files load.Memory) held why is = is
+told files name bytes old new f fault.Write held why is = inr (record { fault = f; none = why; told = is })
+told files name bytes old new f (fault.Files (load.Image g)) held why (same, some) =
+    (subst (FileLacksCompiled files name) (sym same) why, report files name bytes (load.Image g) old new held (λ text is. (bytes, held, is)) some)
+told files name bytes old new f (fault.Files (load.Rule g)) held why (same, some) =
+    (subst (FileLacksCompiled files name) (sym same) why, report files name bytes (load.Rule g) old new held (λ text is. (bytes, held, is)) some)
+told files name bytes old new f (fault.Files (load.Text g)) held why (same, some) =
+    (subst (FileLacksCompiled files name) (sym same) why, report files name bytes (load.Text g) old new held (λ text is. (bytes, held, is)) some)
+told files name bytes old new f (fault.Files (load.Program g)) held why (same, some) =
+    (subst (FileLacksCompiled files name) (sym same) why, report files name bytes (load.Program g) old new held (λ text is. (bytes, held, is)) some)
+told files name bytes old new f (fault.Files (load.File g)) held why (same, some) =
+    (subst (FileLacksCompiled files name) (sym same) why, report files name bytes (load.File g) old new held (λ text is. is.tells) some)
+told files name bytes old new f (fault.Files (load.Source g)) held why (same, some) =
+    (subst (FileLacksCompiled files name) (sym same) why, report files name bytes (load.Source g) old new held (λ text is. (bytes, held, is)) some)
+told files name bytes old new f (fault.Play g cause) held why is = absurd is
+told files name bytes old new f fault.Tests held why is = absurd is
+
+-- a text and a program are never why a file has no image
+no_text : (files : Option Contents) (name : List ℕ) (g : ReadFault) → FileLacksImage files name (load.Text g) → ⊥
+no_text files name g (bytes, held, none) = none
+
+no_program : (files : Option Contents) (name : List ℕ) (g : CompileFault) → FileLacksImage files name (load.Program g) → ⊥
+no_program files name g (bytes, held, none) = none
 
 -- a file that is no source
-pub told_source : (files : Option Contents) (name : List ℕ) (old new : Option (List ℕ)) (f : LoadFault) (r : Fault) → FileLacksProgram files name f
-    → IsTold name f old new r → RefusesExplaining files name old new r
-told_source files name old new f r why is = told files name old new f r (inl why) is
+pub told_source : (files : Option Contents) (name bytes : List ℕ) (old new : Option (List ℕ)) (f : LoadFault) (r : Fault)
+    → FileLacksImage files name f → FileLacksProgram files name f → IsTold name bytes f old new r → RefusesExplaining files name old new r
+told_source files name bytes old new f (fault.Files load.Memory) image program is = is
+told_source files name bytes old new f fault.Write image program is = inr (record { fault = f; none = inl program; told = is })
+told_source files name bytes old new f (fault.Files (load.Image g)) image program (same, some) =
+    absurd (subst (FileLacksProgram files name) (sym same) program)
+told_source files name bytes old new f (fault.Files (load.Rule g)) image program (same, some) =
+    absurd (subst (FileLacksProgram files name) (sym same) program)
+told_source files name bytes old new f (fault.Files (load.Text g)) image program (same, some) =
+    absurd (no_text files name g (subst (FileLacksImage files name) (sym same) image))
+told_source files name bytes old new f (fault.Files (load.Program g)) image program (same, some) =
+    absurd (no_program files name g (subst (FileLacksImage files name) (sym same) image))
+told_source files name bytes old new f (fault.Files (load.File g)) image program (same, some) =
+    (inl (subst (FileLacksProgram files name) (sym same) program), record { text = some.text; is = some.is.tells; written = some.written })
+told_source files name bytes old new f (fault.Files (load.Source g)) image program (same, some) =
+    absurd (subst (FileLacksProgram files name) (sym same) program)
+told_source files name bytes old new f (fault.Play g cause) image program is = absurd is
+told_source files name bytes old new f fault.Tests image program is = absurd is
 
 -- bytes that spell no image
 pub quiet_bytes : (bytes : List ℕ) (f : LoadFault) → BytesLackCompiled bytes f → files_failed f ≡ 0
@@ -41,8 +81,8 @@ quiet_bytes bytes (load.Program g) why = refl
 quiet_bytes bytes (load.Source g) why = refl
 
 pub told_bytes : (files : Option Contents) (name bytes : List ℕ) (old new : Option (List ℕ)) (f : LoadFault) (r : Fault) → HasBytes files name bytes
-    → BytesLackCompiled bytes f → IsTold name f old new r → RefusesExplaining files name old new r
-told_bytes files name bytes old new f r held why is = told files name old new f r (no_compiled files name bytes f held why) is
+    → BytesLackCompiled bytes f → IsTold name bytes f old new r → RefusesExplaining files name old new r
+told_bytes files name bytes old new f r held why is = told files name bytes old new f r held (no_compiled files name bytes f held why) is
 
 -- bytes that spell one
 pub finds : (files : Option Contents) (name bytes : List ℕ) (old new : Option (List ℕ)) (image : Image)

@@ -1,44 +1,58 @@
--- Words that one reason wants are wanted by this or another one; and what makes a refusal.
-use Rattle.std.proofs.Common.{◌≡◌, ℕ, ◌+◌, Bool, true, false, List, Option, None, codes, refl, sym, subst, arith, inl, inr}
+-- Words that one reason wants are wanted by this or another one; what makes a refusal; and what is said beside.
+use Rattle.std.proofs.Common.{◌≡◌, ◌≢◌, ℕ, ◌+◌, Bool, true, false, List, [], ◌∷◌, Option, None, codes, refl, sym, subst, arith, inl, inr}
 use Rattle.std.specs.Prelude.{◌⊎◌, ◌||◌}
 use Rattle.sct_command.specs.declared.fault.Fault.{Fault}
 use Rattle.command_files.specs.declared.fault.LoadFault.TheVariants as load
 use Rattle.command_files.specs.Files.{Contents}
 use Rattle.command_words.specs.Request.{Request}
 use Rattle.sct_command.specs.declared.fault.Fault.TheVariants as fault
-use Rattle.sct_command.specs.Answer.{CountsFiles, IsRefused, Refuses, TellsFault}
+use Rattle.sct_command.specs.Answer.{CountsFiles, IsRefused, Refuses, SaysBeside, SaysOfRefusal, TellsBeside, TellsFault}
+use Rattle.sct_command.specs.Beside.{GoesOut, IsSaid}
 use Rattle.sct_command.specs.Failing.{reads_failed, writes_failed}
+use Rattle.sct_command.specs.Writing.{WritesPart}
 use Rattle.sct_command.specs.Words.{StandsBehind, TellsLines, fault_line}
 
-behind_more : (f : Fault) (a b : Bool) (words : List ℕ) → StandsBehind f a words → StandsBehind f (a || b) words
-behind_more f a b words (inl none) = inl none
-behind_more f true b words (inr (wanted, are)) = inr (refl, are)
-behind_more f false b words (inr (wanted, are)) = (let is : false ≡ true = wanted in absurd cc)
+-- words that are wanted only where these are stand behind the line where these are wanted
+behind_if : (f : Fault) (a b : Bool) (report words : List ℕ) → (a ≡ true → b ≡ true) → StandsBehind f a report words → StandsBehind f b report words
+behind_if f a b report words only (inl is) = inl is
+behind_if f a b report words only (inr (wanted, are)) = inr (only wanted, are)
 
-is_more : (f : Fault) (a b : Bool) (text : List ℕ) → TellsLines f a text ⊎ (text ≡ fault_line (codes "E52"))
-    → TellsLines f (a || b) text ⊎ (text ≡ fault_line (codes "E52"))
-is_more f a b text (inl lines) = inl (record { words = lines.words; behind = behind_more f a b lines.words lines.behind; is = lines.is })
-is_more f a b text (inr memory) = inr memory
+is_if : (f : Fault) (a b : Bool) (report text : List ℕ) → (a ≡ true → b ≡ true) → TellsLines f a report text ⊎ (text ≡ fault_line (codes "E52"))
+    → TellsLines f b report text ⊎ (text ≡ fault_line (codes "E52"))
+is_if f a b report text only (inl lines) =
+    inl (record { words = lines.words; behind = behind_if f a b report lines.words only lines.behind; is = lines.is })
+is_if f a b report text only (inr memory) = inr memory
 
-pub told_more : (f : Fault) (a b : Bool) (old new : Option (List ℕ)) (failures failures' : ℕ) → TellsFault f a old new failures failures'
-    → TellsFault f (a || b) old new failures failures'
-told_more f a b old new failures failures' told =
-    record { text = told.text; is = is_more f a b told.text told.is; grows = told.grows; whole = told.whole }
+pub told_if : (f : Fault) (a b : Bool) (report : List ℕ) (old new : Option (List ℕ)) (failures failures' : ℕ) → (a ≡ true → b ≡ true)
+    → TellsFault f a report old new failures failures' → TellsFault f b report old new failures failures'
+told_if f a b report old new failures failures' only told =
+    record { text = told.text; is = is_if f a b report told.text only told.is; grows = told.grows; whole = told.whole }
+
+more : (a b : Bool) → a ≡ true → (a || b) ≡ true
+more true b is = refl
+more false b is = (let wrong : false ≡ true = is in absurd cc)
+
+pub told_more : (f : Fault) (a b : Bool) (report : List ℕ) (old new : Option (List ℕ)) (failures failures' : ℕ)
+    → TellsFault f a report old new failures failures' → TellsFault f (a || b) report old new failures failures'
+told_more f a b report old new failures failures' told = told_if f a (a || b) report old new failures failures' (more a b) told
 
 pub is_refused : (files files' : Option Contents) (request asked : Option Request) (input old new : Option (List ℕ)) (wanted given : Bool)
-    (missed missed' reads reads' writes writes' : ℕ) (told told' : Option (List ℕ)) (failures failures' : ℕ) (f : Fault)
+    (missed missed' reads reads' writes writes' : ℕ) (report : List ℕ) (told told' : Option (List ℕ)) (failures failures' : ℕ) (f : Fault)
     → request ≡ asked → given ≡ wanted → Refuses files files' asked input old new f → CountsFiles asked f missed missed'
-    → reads' ≡ reads + reads_failed f → writes' ≡ writes + writes_failed f → TellsFault f given told told' failures failures'
+    → reads' ≡ reads + reads_failed f → writes' ≡ writes + writes_failed f → SaysOfRefusal files asked given f report
+    → TellsFault f given report told told' failures failures'
     → IsRefused files files' request input old new wanted missed missed' reads reads' writes writes' told told' failures failures'
-is_refused files files' request asked input old new wanted given missed missed' reads reads' writes writes' told told' failures failures' f same is why counts
-    read write tells =
+is_refused files files' request asked input old new wanted given missed missed' reads reads' writes writes' report told told' failures failures' f same is why
+    counts read write says tells =
     record {
       fault = f;
       why = subst (λ r. Refuses files files' r input old new f) (sym same) why;
       counts = subst (λ r. CountsFiles r f missed missed') (sym same) counts;
       read = read;
       write = write;
-      tells = subst (λ w. TellsFault f w told told' failures failures') is tells;
+      report = report;
+      reported = subst (λ w. SaysOfRefusal files request w f report) is (subst (λ r. SaysOfRefusal files r given f report) (sym same) says);
+      tells = subst (λ w. TellsFault f w report told told' failures failures') is tells;
     }
 
 plus_none : (n : ℕ) → n ≡ n + 0
@@ -47,9 +61,47 @@ plus_none n = omega arith
 -- memory was refused for words that ask for nothing
 pub memory_refused : (files : Option Contents) (request : Option Request) (input old : Option (List ℕ)) (people other : Bool)
     (missed reads writes : ℕ) (told told' : Option (List ℕ)) (failures failures' : ℕ) → request ≡ None
-    → TellsFault (fault.Files load.Memory) people told told' failures failures'
+    → TellsFault (fault.Files load.Memory) people [] told told' failures failures'
     → IsRefused files files request input old old (people || other) missed missed reads reads writes writes told told' failures failures'
 memory_refused files request input old people other missed reads writes told told' failures failures' none tells =
-    is_refused files files request None input old old (people || other) (people || other) missed missed reads reads writes writes told told' failures failures'
-    (fault.Files load.Memory) none refl refl (plus_none missed) (plus_none reads) (plus_none writes)
-    (told_more (fault.Files load.Memory) people other told told' failures failures' tells)
+    is_refused files files request None input old old (people || other) (people || other) missed missed reads reads writes writes [] told told' failures
+    failures' (fault.Files load.Memory) none refl refl (plus_none missed) (plus_none reads) (plus_none writes) refl
+    (told_more (fault.Files load.Memory) people other [] told told' failures failures' tells)
+
+-- the help could not be shown
+pub help_refused : (files : Option Contents) (request : Option Request) (input old new : Option (List ℕ)) (people other : Bool)
+    (missed reads writes writes' : ℕ) (told told' : Option (List ℕ)) (failures failures' : ℕ) → request ≡ None → WritesPart old new
+    → writes' ≡ writes + 1 → TellsFault fault.Write people [] told told' failures failures'
+    → IsRefused files files request input old new (people || other) missed missed reads reads writes writes' told told' failures failures'
+help_refused files request input old new people other missed reads writes writes' told told' failures failures' none part once tells =
+    is_refused files files request None input old new (people || other) (people || other) missed missed reads reads writes writes' [] told told' failures
+    failures' fault.Write none refl part (plus_none missed) (plus_none reads) once refl
+    (told_more fault.Write people other [] told told' failures failures' tells)
+
+-- ---- what is said beside what was done
+
+-- nothing is said where nothing was asked for
+pub nothing_beside : (files : Option Contents) (request : Option Request) (warns : Bool) (old new : Option (List ℕ)) (failures failures' : ℕ)
+    → request ≡ None → new ≡ old → TellsBeside files request warns old new failures failures'
+nothing_beside files request warns old new failures failures' none same =
+    record { said = []; is = subst (λ r. SaysBeside files r warns []) (sym none) refl; goes = same }
+
+pub beside : (files : Option Contents) (request asked : Option Request) (warns given : Bool) (said : List ℕ) (old new : Option (List ℕ))
+    (failures failures' : ℕ) → request ≡ asked → warns ≡ given → SaysBeside files asked given said → IsSaid said old new failures failures'
+    → TellsBeside files request warns old new failures failures'
+beside files request asked warns given said old new failures failures' same is says goes =
+    record {
+      said = said;
+      is = subst (λ w. SaysBeside files request w said) (sym is) (subst (λ r. SaysBeside files r given said) (sym same) says);
+      goes = goes;
+    }
+
+pub said_nothing : (said : List ℕ) (old new : Option (List ℕ)) (failures failures' : ℕ) → said ≡ [] → new ≡ old
+    → IsSaid said old new failures failures'
+said_nothing [] old new failures failures' none same = same
+said_nothing (byte ∷ bytes) old new failures failures' none same = (let is : byte ∷ bytes ≡ [] = none in absurd cc)
+
+pub said_some : (said : List ℕ) (old new : Option (List ℕ)) (failures failures' : ℕ) → said ≢ []
+    → GoesOut said old new failures failures' → IsSaid said old new failures failures'
+said_some [] old new failures failures' some goes = absurd (some refl)
+said_some (byte ∷ bytes) old new failures failures' some goes = goes

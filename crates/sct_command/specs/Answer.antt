@@ -1,5 +1,5 @@
 -- What a command leaves that was done, and what one that was refused.
-use Rattle.std.specs.Prelude.{ℕ, ◌≡◌, ◌+◌, ◌≤◌, ◌⊎◌, codes, Bool, Option, Some, None, List}
+use Rattle.std.specs.Prelude.{ℕ, ◌≡◌, ◌+◌, ◌≤◌, ◌⊎◌, codes, Bool, Option, Some, None, List, []}
 use Rattle.std.specs.Io.KnownBytes.{Appends}
 use Rattle.sc_values.specs.Streams.{GrowsInto}
 use Rattle.bytecode.specs.Image.{Image}
@@ -11,8 +11,9 @@ use Rattle.trace_player.specs.declared.player.PlayFault.{PlayFault}
 use Rattle.command_files.specs.Files.{Contents, Stores}
 use Rattle.command_files.specs.Images.{IsLoaded, FileLacksImage}
 use Rattle.command_texts.specs.Wanted.{IsMadeFor, LacksWanted}
-use Rattle.command_words.specs.Request.{Request, Write, Run, RunWithStates, Compile, Print, Migrate, Explain, Test, Simulate}
-use Rattle.sct_command.specs.Sources.{Compiles, PrintsText, RefusesCompile, RefusesPrinting}
+use Rattle.command_words.specs.Request.{Request, Write, Run, RunWithStates, Compile, WriteCompiled, Print, Migrate, Explain, Test, Simulate}
+use Rattle.sct_command.specs.Beside.{AreWarningsOf, IsSaid, SaysOfFault}
+use Rattle.sct_command.specs.Sources.{AreOfProgram, Compiles, PrintsText, RefusesCompile, RefusesPrinting, RefusesWriting}
 use Rattle.command_files.specs.Storing.{IsNotStored}
 use Rattle.sct_command.specs.Explaining.{FindsImage, RefusesExplaining}
 use Rattle.sct_command.specs.Failing.{files_failed, reads_failed, writes_failed}
@@ -45,7 +46,7 @@ pub record Migrates (files files' : Option Contents) (from to : List ℕ) (old n
   pub written : Appends old new (summary_of image)
 
 -- what was done for a request: a text or the bytes of an image, a whole trace, without active states or with them, an
--- image in a file, a text of SCL, an image in version 2, a summary of what compiles, tests that pass, a controller that
+-- image of a text in a file or on the output, a text of SCL, an image in version 2, a summary of what compiles, tests that pass, a controller that
 -- was stepped, or for none the help
 abbrev pub Does : Option Contents → Option Contents → Option Request → Option (List ℕ) → Option (List ℕ)
     → Option (List ℕ) → Type 0
@@ -53,12 +54,34 @@ Does files files' (Some (Write wanted)) input old new = Writes (IsMadeFor files 
 Does files files' (Some (Run name workers)) input old new = PlaysWhole files name input old new
 Does files files' (Some (RunWithStates name chart)) input old new = PlaysStates files name chart input old new
 Does files files' (Some (Compile from to)) input old new = Compiles files files' from to old new
+Does files files' (Some (WriteCompiled from)) input old new = Writes (AreOfProgram files from) old new
 Does files files' (Some (Print name)) input old new = PrintsText files name old new
 Does files files' (Some (Migrate from to)) input old new = Migrates files files' from to old new
 Does files files' (Some (Explain name)) input old new = FindsImage files name old new
 Does files files' (Some (Test names)) input old new = TestsPass files names old new
 Does files files' (Some (Simulate name)) input old new = Simulates files name
 Does files files' None input old new = WritesText old new
+
+-- ---- what is said beside it
+
+-- beside what was done: the warnings of a text that was compiled, where they are wanted; of anything else nothing
+abbrev pub SaysBeside : Option Contents → Option Request → Bool → List ℕ → Type 0
+SaysBeside files (Some (Compile from to)) warns said = AreWarningsOf files from warns said
+SaysBeside files (Some (WriteCompiled from)) warns said = AreWarningsOf files from warns said
+SaysBeside files request warns said = said ≡ []
+
+-- it went to a sink that counts its failures
+pub record TellsBeside (files : Option Contents) (request : Option Request) (warns : Bool) (old new : Option (List ℕ))
+    (failures failures' : ℕ) : Type 0 where
+  pub said : List ℕ
+  pub is : SaysBeside files request warns said
+  pub goes : IsSaid said old new failures failures'
+
+-- behind the line of a fault: a report of the text that was to be compiled; of anything else nothing
+abbrev pub SaysOfRefusal : Option Contents → Option Request → Bool → Fault → List ℕ → Type 0
+SaysOfRefusal files (Some (Compile from to)) wanted f said = SaysOfFault files from wanted f said
+SaysOfRefusal files (Some (WriteCompiled from)) wanted f said = SaysOfFault files from wanted f said
+SaysOfRefusal files request wanted f said = said ≡ []
 
 -- ---- what was refused
 
@@ -114,6 +137,7 @@ Refuses files files' (Some (Write wanted)) input old new f = RefusesToWrite (IsM
 Refuses files files' (Some (Run name workers)) input old new f = RefusesRun files name input old new f
 Refuses files files' (Some (RunWithStates name chart)) input old new f = RefusesStates files name chart input old new f
 Refuses files files' (Some (Compile from to)) input old new f = RefusesCompile files files' from to old new f
+Refuses files files' (Some (WriteCompiled from)) input old new f = RefusesWriting files from old new f
 Refuses files files' (Some (Print name)) input old new f = RefusesPrinting files name old new f
 Refuses files files' (Some (Migrate from to)) input old new f = RefusesMigration files files' from to old new f
 Refuses files files' (Some (Explain name)) input old new f = RefusesExplaining files name old new f
@@ -123,9 +147,9 @@ Refuses files files' None input old new f = RefusesHelp old new f
 
 -- what is told of this fault, its line with what stands behind it, or the line of memory that was refused for it, went
 -- to a sink that counts its failures: whole, or a beginning of it where the sink failed
-pub record TellsFault (f : Fault) (wanted : Bool) (old new : Option (List ℕ)) (failures failures' : ℕ) : Type 0 where
+pub record TellsFault (f : Fault) (wanted : Bool) (report : List ℕ) (old new : Option (List ℕ)) (failures failures' : ℕ) : Type 0 where
   pub text : List ℕ
-  pub is : TellsLines f wanted text ⊎ (text ≡ fault_line (codes "E52"))
+  pub is : TellsLines f wanted report text ⊎ (text ≡ fault_line (codes "E52"))
   pub grows : GrowsInto old new text
   pub whole : failures' ≡ failures → Appends old new text
 
@@ -146,4 +170,6 @@ pub record IsRefused (files files' : Option Contents) (request : Option Request)
   pub counts : CountsFiles request fault missed missed'
   pub read : reads' ≡ reads + reads_failed fault
   pub write : writes' ≡ writes + writes_failed fault
-  pub tells : TellsFault fault wanted told told' failures failures'
+  pub report : List ℕ
+  pub reported : SaysOfRefusal files request wanted fault report
+  pub tells : TellsFault fault wanted report told told' failures failures'

@@ -1,6 +1,7 @@
 -- What is left where a source text is explained.
 use Rattle.std.specs.Prelude.{ℕ, ◌≡◌, ◌⊎◌, Option, List, ◌++◌, codes}
 use Rattle.std.specs.Io.KnownBytes.{Appends}
+use Rattle.std.specs.Str.{IsUtf8}
 use Rattle.sc_values.specs.Streams.{GrowsInto}
 use Rattle.bytecode.specs.Image.{Image}
 use Rattle.command_files.specs.declared.fault.LoadFault.{LoadFault}
@@ -10,6 +11,7 @@ use Rattle.command_files.specs.Files.{Contents, HasBytes}
 use Rattle.command_files.specs.Sources.{IsCompiledFrom, FileLacksCompiled}
 use Rattle.compiler.specs.FaultText.{fault_text}
 use Rattle.diagnostics.specs.Reports.{Tells, text_fault}
+use Rattle.fault_lists.specs.Reports.{TellsEach}
 use Rattle.warning_texts.specs.Reports as warned
 use Rattle.command_texts.specs.Summary.{summary_of}
 use Rattle.sct_command.specs.Writing.{WritesPart, WritesSome}
@@ -69,10 +71,26 @@ told_fault (load.Program f) = fault_text f
 told_fault (load.File shown) = codes "E64"
 told_fault other = codes "E52"
 
--- a text was written that begins with the name of the file, as it is shown, and tells the fault
-pub record WritesReport (name : List ℕ) (f : LoadFault) (old new : Option (List ℕ)) : Type 0 where
+-- of bytes that are a text with a fault each flaw is told: the report of its fault, and behind it those of the others
+abbrev pub TellsEachFlaw : (name bytes : List ℕ) → LoadFault → (report : List ℕ) → Type 0
+TellsEachFlaw name bytes (load.Text f) report = IsUtf8 bytes → TellsEach name bytes f report
+TellsEachFlaw name bytes other report = Unit {0}
+
+-- what is said of the fault of these bytes: it begins with the name of their file, as it is shown, and tells the fault, and
+-- each flaw of a text
+pub record IsReport (name bytes : List ℕ) (f : LoadFault) (report : List ℕ) : Type 0 where
+  pub tells : Tells (shown_name name) (told_fault f) report
+  pub flaws : TellsEachFlaw (shown_name name) bytes f report
+
+-- what is said of the fault of a file: that of its bytes, where it has some
+abbrev pub IsReportOf : Option Contents → (name : List ℕ) → LoadFault → (report : List ℕ) → Type 0
+IsReportOf files name (load.File shown) report = Tells (shown_name name) (codes "E64") report
+IsReportOf files name f report = (bytes : List ℕ) × HasBytes files name bytes × IsReport name bytes f report
+
+-- that was written
+pub record WritesReport (files : Option Contents) (name : List ℕ) (f : LoadFault) (old new : Option (List ℕ)) : Type 0 where
   pub text : List ℕ
-  pub tells : Tells (shown_name name) (told_fault f) text
+  pub is : IsReportOf files name f text
   pub written : Appends old new text
 
 -- what telling of a fault leaves that is refused
@@ -81,18 +99,10 @@ RefusesTelling old new (fault.Files load.Memory) = new ≡ old
 RefusesTelling old new fault.Write = WritesPart old new
 RefusesTelling old new other = ⊥
 
--- what is left where a fault was to be told, and this one is answered: itself, and a report of it was written; or memory
--- was refused; or the output failed, and took a beginning
-abbrev pub IsTold : List ℕ → LoadFault → Option (List ℕ) → Option (List ℕ) → Fault → Type 0
-IsTold name f old new (fault.Files load.Memory) = (new ≡ old) ⊎ WritesSome old new
-IsTold name f old new fault.Write = WritesPart old new
-IsTold name f old new (fault.Files other) = (other ≡ f) × WritesReport name other old new
-IsTold name f old new other = ⊥
-
 -- what an explanation leaves: the fault for which the file has no image, and a report of it was written; where memory was
 -- refused, some text or nothing; and a beginning where the output failed
 abbrev pub RefusesExplaining : Option Contents → List ℕ → Option (List ℕ) → Option (List ℕ) → Fault → Type 0
 RefusesExplaining files name old new (fault.Files load.Memory) = (new ≡ old) ⊎ WritesSome old new
 RefusesExplaining files name old new fault.Write = FindsImagePart files name old new ⊎ ExplainsPart files name old new
-RefusesExplaining files name old new (fault.Files other) = FileLacksCompiled files name other × WritesReport name other old new
+RefusesExplaining files name old new (fault.Files other) = FileLacksCompiled files name other × WritesReport files name other old new
 RefusesExplaining files name old new other = ⊥

@@ -1,7 +1,9 @@
 pub mod Answer
+pub mod Beside
 pub mod Explaining
 pub mod Failing
 pub mod FaultText
+pub mod Inside
 pub mod Keeping
 pub mod Simulating
 pub mod Sources

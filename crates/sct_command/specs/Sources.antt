@@ -10,6 +10,7 @@ use Rattle.command_files.specs.Files.{Contents, Stores}
 use Rattle.command_files.specs.Sources.{IsCompiledFrom, FileLacksCompiled, FileLacksProgram, IsSource}
 use Rattle.command_files.specs.Storing.{IsNotStored}
 use Rattle.command_texts.specs.Summary.{summary_of}
+use Rattle.sct_command.specs.Writing.{RefusesToWrite}
 use Rattle.sct_command.specs.declared.fault.Fault.{Fault}
 use Rattle.sct_command.specs.declared.fault.Fault.TheVariants as fault
 
@@ -31,6 +32,12 @@ pub record PrintsText (files : Option Contents) (name : List ℕ) (old new : Opt
   pub source : IsSource files name scl
   pub written : Appends old new (text_of scl)
 
+-- the bytes are those of the image of the program in this file, in version 2
+pub record AreOfProgram (files : Option Contents) (name bytes : List ℕ) : Type 0 where
+  pub image : Image
+  pub compiled : IsCompiledFrom files name image
+  pub spelt : Spells 2 bytes image
+
 -- ---- what was refused
 
 -- the image was stored, and a beginning of its summary was written
@@ -49,6 +56,10 @@ RefusesCompile files files' from to old new fault.Write = CompilesPart files fil
 RefusesCompile files files' from to old new (fault.Files f) =
     (FileLacksCompiled files from f ⊎ IsNotStored to f) × (files' ≡ files) × (new ≡ old)
 RefusesCompile files files' from to old new other = ⊥
+
+-- what is left where the image was to be written to the output: nothing was written, but where the output failed
+abbrev pub RefusesWriting : Option Contents → List ℕ → Option (List ℕ) → Option (List ℕ) → Fault → Type 0
+RefusesWriting files from old new f = RefusesToWrite (AreOfProgram files from) (FileLacksCompiled files from) old new f
 
 -- a beginning of the text of the program in this file was written
 pub record PrintsPart (files : Option Contents) (name : List ℕ) (old new : Option (List ℕ)) : Type 0 where

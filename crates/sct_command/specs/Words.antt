@@ -41,16 +41,17 @@ abbrev pub AreWords : Fault → List ℕ → Type 0
 AreWords (fault.Play f (Some c)) words = words ≡ met_words (play_fault_text f) c
 AreWords f words = Tells (codes "sct") (fault_text f) words
 
--- what stands behind the line of a fault: nothing, or, where they are wanted, the words for it
-abbrev pub StandsBehind : Fault → Bool → List ℕ → Type 0
-StandsBehind f wanted words = (words ≡ []) ⊎ ((wanted ≡ true) × AreWords f words)
+-- what stands behind the line of a fault: the report that there is, which may be none, or, where they are wanted, the words
+-- for it
+abbrev pub StandsBehind : Fault → Bool → (report words : List ℕ) → Type 0
+StandsBehind f wanted report words = (words ≡ report) ⊎ ((wanted ≡ true) × AreWords f words)
 
 -- the line that tells a fault of this text
 abbrev pub fault_line : List ℕ → List ℕ
 fault_line text = codes "sct: " ++ (text ++ line_feed ∷ [])
 
 -- the line of a fault, with what stands behind it
-pub record TellsLines (f : Fault) (wanted : Bool) (text : List ℕ) : Type 0 where
+pub record TellsLines (f : Fault) (wanted : Bool) (report text : List ℕ) : Type 0 where
   pub words : List ℕ
-  pub behind : StandsBehind f wanted words
+  pub behind : StandsBehind f wanted report words
   pub is : text ≡ fault_line (fault_text f) ++ words

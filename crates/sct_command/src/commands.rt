@@ -1,9 +1,12 @@
 //! From words to what they ask for.
 
-ghost use Rattle.std.specs.Prelude.{◌≡◌, ◌≤◌, ◌+◌, ◌||◌, Some, None, IfOk, IfErr, OnOk, map, string_bytes};
-ghost use Rattle.command_words.specs.Request.{StoresImage, IsRun, explains, request_of, seen};
+ghost use Rattle.std.specs.Prelude.{◌≡◌, ◌≤◌, ◌+◌, ◌++◌, ◌||◌, [], true, Some, None, map, string_bytes};
+ghost use Rattle.std.specs.Prelude.{IfErr, IfOk, OnOk};
+ghost use Rattle.command_words.specs.Request.{StoresImage, IsRun, explains, request_of, seen, warns};
 ghost use Rattle.sc_values.specs.Streams.{IsNotReadBehind};
 ghost use Rattle.sct_command.specs.Answer.{CountsFiles, Does, Refuses, IsRefused, TellsFault};
+ghost use Rattle.sct_command.specs.Answer.{SaysBeside, SaysOfRefusal, TellsBeside};
+ghost use Rattle.sct_command.specs.Beside.{GoesOut, IsSaid};
 ghost use Rattle.sct_command.specs.declared.fault.Fault.TheVariants as told;
 ghost use Rattle.sct_command.specs.Failing.{reads_failed, writes_failed};
 ghost use Rattle.sct_command.specs.FaultText.{fault_text};
@@ -20,6 +23,7 @@ use crate::run_with_states::run_with_states;
 use crate::simulate::simulate_file;
 use crate::test::test_files;
 use crate::words::behind_line;
+use crate::write_compiled::write_compiled;
 use crate::writing::write_wanted;
 use command_files::{Files, LoadFault};
 use command_words::{Request, Unread, read_words};
@@ -45,8 +49,8 @@ fn line_of(alloc: Global, fault: &Fault) -> Result<String, AllocError>
 }
 
 // The line of a fault, with words behind it where they are wanted.
-fn lines_of(alloc: Global, fault: &Fault, wanted: bool) -> Result<String, AllocError>
-    ensures { IfOk result (λ lines. TellsLines fault.now wanted (string_bytes lines)) }
+fn lines_with_words(alloc: Global, fault: &Fault, wanted: bool) -> Result<String, AllocError>
+    ensures { IfOk result (λ lines. TellsLines fault.now wanted [] (string_bytes lines)) }
 {
     let mut lines = line_of(alloc, fault)?;
     let words = behind_line(alloc, fault, wanted);
@@ -54,18 +58,59 @@ fn lines_of(alloc: Global, fault: &Fault, wanted: bool) -> Result<String, AllocE
     Ok(lines)
 }
 
-// Writes the line of a fault, with words behind it where they are wanted. Where it cannot be written, nothing else can
-// be done.
-fn refuse<X: Sink>(alloc: Global, fault: &Fault, wanted: bool, errors: &mut X) -> u8
+// The line of a fault, with this report behind it.
+fn lines_with_report(alloc: Global, fault: &Fault, report: &str) -> Result<String, AllocError>
+    ensures { IfOk result (λ lines. string_bytes lines ≡ fault_line (fault_text fault.now) ++ report.now) }
+{
+    let mut lines = line_of(alloc, fault)?;
+    lines.push_str(report)?;
+    Ok(lines)
+}
+
+// The line of a fault, with the report of it behind it, or words where there is none and they are wanted.
+fn lines_of(alloc: Global, fault: &Fault, wanted: bool, report: &str) -> Result<String, AllocError>
+    ensures { IfOk result (λ lines. TellsLines fault.now wanted report.now (string_bytes lines)) }
+{
+    if report.is_empty() {
+        return lines_with_words(alloc, fault, wanted);
+    }
+    lines_with_report(alloc, fault, report)
+}
+
+// Writes the line of a fault, with the report of it behind it, or words where they are wanted. Where it cannot be
+// written, nothing else can be done.
+fn refuse<X: Sink>(alloc: Global, fault: &Fault, wanted: bool, report: &str, errors: &mut X) -> u8
     ensures status { result ≡ REFUSED }
-    ensures line { TellsFault fault.now wanted
+    ensures line { TellsFault fault.now wanted report.now
         (X.taken errors.old) (X.taken errors.new) (X.failures errors.old) (X.failures errors.new) }
 {
-    let _ = match lines_of(alloc, fault, wanted) {
+    let _ = match lines_of(alloc, fault, wanted, report) {
         Ok(lines) => write_all(errors, lines.as_bytes()),
         Err(_) => write_all(errors, b"sct: E52\n"),
     };
     REFUSED
+}
+
+// Writes this text. Where it cannot be written, nothing else can be done.
+#[tactic(auto, using(crate::proofs::Taken::taken_whole))]
+fn write_out<X: Sink>(text: &str, errors: &mut X)
+    ensures { GoesOut text.now
+        (X.taken errors.old) (X.taken errors.new) (X.failures errors.old) (X.failures errors.new) }
+{
+    let _ = write_all(errors, text.as_bytes());
+}
+
+// Writes what is said beside what was done.
+#[tactic(auto, using(crate::proofs::Wanted::said_nothing, crate::proofs::Wanted::said_some))]
+fn say<X: Sink>(said: &str, errors: &mut X) -> u8
+    ensures status { result ≡ DONE }
+    ensures said { IsSaid said.now
+        (X.taken errors.old) (X.taken errors.new) (X.failures errors.old) (X.failures errors.new) }
+{
+    if !said.is_empty() {
+        write_out(said, errors);
+    }
+    DONE
 }
 
 // Writes the help that was asked for, or else what is wrong with the words.
@@ -84,7 +129,7 @@ fn show<W: Sink, X: Sink>(
     ensures refused { result ≡ REFUSED → WritesPart (W.taken output.old) (W.taken output.new) }
     ensures failed { result ≡ REFUSED → W.failures output.new ≡ W.failures output.old + 1 }
     ensures told { result ≡ REFUSED
-        → TellsFault told.Write wanted
+        → TellsFault told.Write wanted []
         (X.taken errors.old) (X.taken errors.new) (X.failures errors.old) (X.failures errors.new) }
     ensures misused { result ≡ MISUSED → W.taken output.new ≡ W.taken output.old }
 {
@@ -94,7 +139,7 @@ fn show<W: Sink, X: Sink>(
     }
     match write_all(output, text.as_bytes()) {
         Ok(()) => DONE,
-        Err(_) => refuse(alloc, &Fault::Write, wanted, errors),
+        Err(_) => refuse(alloc, &Fault::Write, wanted, "", errors),
     }
 }
 
@@ -105,16 +150,50 @@ fn wants(are_people: bool, explains: bool) -> bool
     are_people || explains
 }
 
-// Does what is asked for.
+// Whether words are told behind this fault of a request, where they are wanted: what an explanation tells of a file
+// stands on the output.
+fn words_behind(request: Request<'_>, fault: &Fault, wanted: bool) -> bool
+    ensures { result ≡ true → wanted ≡ true }
+{
+    match request {
+        Request::Explain(_) => match fault {
+            Fault::Files(_) => false,
+            _ => wanted,
+        },
+        _ => wanted,
+    }
+}
+
+// Writes the line of the fault of a request, with the report of it behind it, or words where they are wanted.
+fn refuse_request<X: Sink>(
+    alloc: Global,
+    request: Request<'_>,
+    fault: &Fault,
+    wanted: bool,
+    report: &str,
+    errors: &mut X,
+) -> u8
+    ensures status { result ≡ REFUSED }
+    ensures line { TellsFault fault.now wanted report.now
+        (X.taken errors.old) (X.taken errors.new) (X.failures errors.old) (X.failures errors.new) }
+{
+    let behind = words_behind(request, fault, wanted);
+    refuse(alloc, fault, behind, report, errors)
+}
+
+// Does what is asked for, and says what is to be told on the errors.
 fn perform<T: Threads + Wait + Sync, F: Files, R: Source, W: Sink>(
     rt: &T,
     alloc: Global,
     request: Request<'_>,
+    warns: bool,
     wanted: bool,
     files: &mut F,
     input: &mut R,
     output: &mut W,
+    said: &mut String,
 ) -> Result<(), Fault>
+    requires none { string_bytes said.now ≡ [] }
     ensures done { OnOk result (Does (F.contents files.old) (F.contents files.new) (Some (seen request.entry))
         (R.to_come input.old) (W.taken output.old) (W.taken output.new)) }
     ensures refused { IfErr result (Refuses (F.contents files.old) (F.contents files.new) (Some (seen request.entry))
@@ -129,6 +208,10 @@ fn perform<T: Threads + Wait + Sync, F: Files, R: Source, W: Sink>(
     ensures none_missed { OnOk result (F.failures files.new ≡ F.failures files.old) }
     ensures missed { IfErr result (λ fault. CountsFiles (Some (seen request.entry)) fault
         (F.failures files.old) (F.failures files.new)) }
+    ensures beside { OnOk result
+        (SaysBeside (F.contents files.old) (Some (seen request.entry)) warns (string_bytes said.new)) }
+    ensures reported { IfErr result (λ fault. SaysOfRefusal (F.contents files.old) (Some (seen request.entry))
+        wanted fault (string_bytes said.new)) }
 {
     match request {
         Request::Write(asked) => write_wanted(alloc, asked, files, output),
@@ -136,7 +219,12 @@ fn perform<T: Threads + Wait + Sync, F: Files, R: Source, W: Sink>(
         Request::RunWithStates(name, chart) => {
             run_with_states(alloc, name, chart, wanted, files, input, output)
         }
-        Request::Compile(from, to) => compile(alloc, from, to, files, output),
+        Request::Compile(from, to) => {
+            compile(alloc, from, to, warns, wanted, files, output, said)
+        }
+        Request::WriteCompiled(from) => {
+            write_compiled(alloc, from, warns, wanted, files, output, said)
+        }
         Request::Print(name) => print_text(alloc, name, files, output),
         Request::Migrate(from, to) => migrate(alloc, from, to, files, output),
         Request::Explain(name) => explain(alloc, name, files, output),
@@ -147,8 +235,9 @@ fn perform<T: Threads + Wait + Sync, F: Files, R: Source, W: Sink>(
 
 /// The whole program, over its words without its name, files, an input, an output and one for
 /// errors: does what the words ask for, and gives the status. A fault is told by one line for errors, and in words
-/// behind it where people read them or the words ask for that. A run starts threads where it has more than one worker.
-#[tactic(auto, using(crate::proofs::Wanted::told_more))]
+/// behind it where people read them or the words ask for that; the warnings of a text that is compiled are told there
+/// where the words ask for them. A run starts threads where it has more than one worker.
+#[tactic(auto, using(crate::proofs::Wanted::help_refused, crate::proofs::Wanted::nothing_beside, crate::proofs::Wanted::beside))]
 pub fn command<T: Threads + Wait + Sync, F: Files, R: Source, W: Sink, X: Sink>(
     rt: &T,
     alloc: Global,
@@ -164,7 +253,10 @@ pub fn command<T: Threads + Wait + Sync, F: Files, R: Source, W: Sink, X: Sink>(
     ensures done { result ≡ DONE
         → Does (F.contents files.old) (F.contents files.new) (request_of (map string_bytes words.now))
         (R.to_come input.old) (W.taken output.old) (W.taken output.new) }
-    ensures quiet { result ≡ DONE → X.taken errors.new ≡ X.taken errors.old }
+    ensures beside { result ≡ DONE
+        → TellsBeside (F.contents files.old)
+        (request_of (map string_bytes words.now)) (warns (map string_bytes words.now))
+        (X.taken errors.old) (X.taken errors.new) (X.failures errors.old) (X.failures errors.new) }
     ensures none_failed { result ≡ DONE → W.failures output.new ≡ W.failures output.old }
     ensures none_read { result ≡ DONE → R.failures input.new ≡ R.failures input.old }
     ensures none_missed { result ≡ DONE → F.failures files.new ≡ F.failures files.old }
@@ -191,12 +283,31 @@ pub fn command<T: Threads + Wait + Sync, F: Files, R: Source, W: Sink, X: Sink>(
             return show(alloc, text.as_str(), asked, are_people, output, errors);
         }
         Err(Unread::Memory) => {
-            return refuse(alloc, &Fault::Files(LoadFault::Memory), are_people, errors);
+            return refuse(
+                alloc,
+                &Fault::Files(LoadFault::Memory),
+                are_people,
+                "",
+                errors,
+            );
         }
     };
     let wanted = wants(are_people, asked.explains);
-    match perform(rt, alloc, asked.request, wanted, files, input, output) {
-        Ok(()) => DONE,
-        Err(fault) => refuse(alloc, &fault, wanted, errors),
+    let mut said = String::new(alloc);
+    match perform(
+        rt,
+        alloc,
+        asked.request,
+        asked.warns,
+        wanted,
+        files,
+        input,
+        output,
+        &mut said,
+    ) {
+        Ok(()) => say(said.as_str(), errors),
+        Err(fault) => {
+            refuse_request(alloc, asked.request, &fault, wanted, said.as_str(), errors)
+        }
     }
 }

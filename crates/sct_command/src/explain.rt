@@ -2,70 +2,22 @@
 
 ghost use Rattle.std.specs.Prelude.{◌≡◌, ◌+◌, ◌≤◌, IfErr, IfOk, OnOk, string_bytes};
 ghost use Rattle.std.specs.Str.{IsUtf8};
-ghost use Rattle.diagnostics.specs.Reports.{Tells, text_fault};
 ghost use Rattle.command_files.specs.Counting as files_count;
-ghost use Rattle.sct_command.specs.Explaining.{FindsImage, IsTold, RefusesExplaining, RefusesTelling};
-ghost use Rattle.sct_command.specs.Explaining.{IsFound, RefusesFound, WritesFound, WritesReport, told_fault};
+ghost use Rattle.sct_command.specs.Explaining.{FindsImage, RefusesExplaining, RefusesTelling};
+ghost use Rattle.sct_command.specs.Explaining.{IsFound, IsReport, RefusesFound, WritesFound};
+ghost use Rattle.sct_command.specs.Inside.Telling.{IsTold};
+ghost use Rattle.sct_command.specs.Writing.{Writes};
 ghost use Rattle.sct_command.specs.Failing.{files_failed, reads_failed, writes_failed};
 
 use crate::fault::Fault;
+use crate::report::report_of;
+use crate::warnings::warnings_in;
 use bytecode::Image;
-use command_files::{Files, LoadFault, bytes_of, compile_bytes, shown_name, text_of};
+use command_files::{Files, LoadFault, bytes_of, compile_bytes};
 use command_texts::summary_of;
-use diagnostics::{program_fault_explained, text_fault_explained, told_nowhere};
-use sc_text::ReadFault;
 use sc_values::{Sink, write_all};
 use sqlite_items::Boxed;
 use std::alloc::{AllocError, Global};
-use std::str;
-use warning_texts::warnings_told;
-
-// What is said of bytes that are no text.
-fn without_text(alloc: Global, name: &str, fault: &ReadFault) -> Result<String, AllocError>
-    ensures { IfOk result (λ report. Tells name.now (text_fault fault.now) (string_bytes report)) }
-{
-    match fault {
-        ReadFault::Text(broken, _) => {
-            let number = broken.number();
-            let fault = format!(in alloc; "E0{number}")?;
-            told_nowhere(
-                alloc,
-                name,
-                fault.as_str(),
-                "the bytes of this file are no text\nhelp: save it as UTF-8",
-            )
-        }
-        ReadFault::Memory => told_nowhere(alloc, name, "E52", "memory was refused"),
-    }
-}
-
-// What is said of the fault of these bytes.
-fn explanation(
-    alloc: Global,
-    name: &str,
-    bytes: &[u8],
-    fault: &LoadFault,
-) -> Result<String, AllocError>
-    ensures { IfOk result (λ report. Tells name.now (told_fault fault.now) (string_bytes report)) }
-{
-    match fault {
-        LoadFault::Text(fault) => match text_of(bytes) {
-            Ok(text) => text_fault_explained(alloc, name, text, fault),
-            Err(_) => without_text(alloc, name, fault),
-        },
-        LoadFault::Program(fault) => match text_of(bytes) {
-            Ok(text) => program_fault_explained(alloc, name, text, fault),
-            Err(_) => program_fault_explained(alloc, name, "", fault),
-        },
-        LoadFault::File(_) => told_nowhere(
-            alloc,
-            name,
-            "E64",
-            "the file cannot be read\nhelp: look at its name, and at who may read it",
-        ),
-        _ => told_nowhere(alloc, name, "E52", "memory was refused"),
-    }
-}
 
 // Writes what is to be said of the fault of these bytes, which are those of the file of this name.
 fn tell<W: Sink>(
@@ -75,15 +27,15 @@ fn tell<W: Sink>(
     fault: &LoadFault,
     output: &mut W,
 ) -> Result<(), Fault>
-    ensures told { OnOk result (WritesReport name.now fault.now (W.taken output.old) (W.taken output.new)) }
+    ensures told { OnOk result
+        (Writes (IsReport name.now bytes.now fault.now) (W.taken output.old) (W.taken output.new)) }
     ensures refused { IfErr result (RefusesTelling (W.taken output.old) (W.taken output.new)) }
     ensures missed { IfErr result (λ fault. files_failed fault ≡ 0) }
     ensures none_failed { OnOk result (W.failures output.new ≡ W.failures output.old) }
     ensures failed { IfErr result (λ fault. W.failures output.new ≡ W.failures output.old + writes_failed fault) }
     ensures unread { IfErr result (λ fault. reads_failed fault ≡ 0) }
 {
-    let name = shown_name(alloc, name)?;
-    let text = explanation(alloc, name.as_str(), bytes, fault)?;
+    let text = report_of(alloc, name, bytes, fault)?;
     match write_all(output, text.as_bytes()) {
         Ok(()) => Ok(()),
         Err(_) => Err(Fault::Write),
@@ -98,7 +50,7 @@ fn refused<W: Sink>(
     fault: LoadFault,
     output: &mut W,
 ) -> Fault
-    ensures told { IsTold name.now fault (W.taken output.old) (W.taken output.new) result }
+    ensures told { IsTold name.now bytes.now fault (W.taken output.old) (W.taken output.new) result }
     ensures failed { W.failures output.new ≡ W.failures output.old + writes_failed result }
     ensures unread { reads_failed result ≡ 0 }
     ensures missed { files_failed result ≤ files_count.files_failed fault }
@@ -109,24 +61,12 @@ fn refused<W: Sink>(
     }
 }
 
-// These bytes as text.
-fn text_in(bytes: &[u8]) -> &str
-    requires { IsUtf8 bytes.now }
-    ensures { result.now ≡ bytes.now }
-{
-    match str::from_utf8(bytes) {
-        Ok(text) => text,
-        Err(_) => "",
-    }
-}
-
 // What is said of an image of the text that is in the file of this name.
 fn found_said(alloc: Global, name: &str, bytes: &[u8], image: &Image) -> Result<String, AllocError>
     requires { IsUtf8 bytes.now }
     ensures { IfOk result (λ text. IsFound name.now bytes.now image.now (string_bytes text)) }
 {
-    let shown = shown_name(alloc, name)?;
-    let warnings = warnings_told(alloc, shown.as_str(), text_in(bytes))?;
+    let warnings = warnings_in(alloc, name, bytes)?;
     let mut text = summary_of(alloc, image)?;
     text.push_str(warnings.as_str())?;
     Ok(text)

@@ -11,11 +11,15 @@ mod fault_text;
 mod keep;
 mod migrate;
 mod print;
+mod report;
 mod run;
 mod run_with_states;
 mod simulate;
+mod source_image;
 mod test;
+mod warnings;
 mod words;
+mod write_compiled;
 mod writing;
 
 pub use command_files::{FileFault, Files, HostFiles, LoadFault, load_verified, one_line};

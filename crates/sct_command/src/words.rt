@@ -1,6 +1,6 @@
 //! What is said of a fault in words.
 
-ghost use Rattle.std.specs.Prelude.{◌≡◌, IfOk, codes, string_bytes};
+ghost use Rattle.std.specs.Prelude.{◌≡◌, [], IfOk, codes, string_bytes};
 ghost use Rattle.command_files.specs.FaultText.{fault_text};
 ghost use Rattle.diagnostics.specs.Reports.{Tells};
 ghost use Rattle.trace_player.specs.FaultText.{play_fault_text};
@@ -156,7 +156,7 @@ fn words_for(alloc: Global, fault: &Fault) -> Result<String, AllocError>
 
 /// What stands behind the line of a fault: the words for it where they are wanted and memory is there for them.
 pub(crate) fn behind_line(alloc: Global, fault: &Fault, wanted: bool) -> String
-    ensures { StandsBehind fault.now wanted (string_bytes result) }
+    ensures { StandsBehind fault.now wanted [] (string_bytes result) }
 {
     if wanted {
         if let Ok(words) = words_for(alloc, fault) {

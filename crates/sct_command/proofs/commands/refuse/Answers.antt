@@ -6,7 +6,7 @@ use Rattle.sct_command.proofs.commands.refuse.Goals as goal
 pub returns-in-Ok-clause-line : goal.returns-in-Ok-clause-line
 returns-in-Ok-clause-line g c = record {
   text = c.as_bytes.result.now;
-  is = inl (subst (TellsLines c.args.fault.now c.args.wanted) (sym c.as_bytes.ensures.value) c.in-Ok.ensures);
+  is = inl (subst (TellsLines c.args.fault.now c.args.wanted c.args.report.now) (sym c.as_bytes.ensures.value) c.in-Ok.ensures);
   grows = c.write_all.ensures.some;
   whole = λ none. taken_whole c.write_all.result _ _ _ c.write_all.ensures.ok c.write_all.ensures.failed none;
 }

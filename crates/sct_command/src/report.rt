@@ -1,0 +1,89 @@
+//! What is said of the fault for which a text has no image.
+
+ghost use Rattle.std.specs.Prelude.{◌≡◌, IfOk, string_bytes};
+ghost use Rattle.std.specs.Str.{IsUtf8};
+ghost use Rattle.diagnostics.specs.Reports.{Tells, text_fault};
+ghost use Rattle.fault_lists.specs.Reports.{TellsEach};
+ghost use Rattle.sct_command.specs.Explaining.{IsReport, TellsEachFlaw, told_fault};
+
+use command_files::{LoadFault, shown_name, text_of};
+use diagnostics::{program_fault_explained, told_nowhere};
+use fault_lists::faults_explained;
+use sc_text::ReadFault;
+use std::alloc::{AllocError, Global};
+use std::str;
+
+// What is said of bytes that are no text.
+fn without_text(alloc: Global, name: &str, fault: &ReadFault) -> Result<String, AllocError>
+    ensures { IfOk result (λ report. Tells name.now (text_fault fault.now) (string_bytes report)) }
+{
+    match fault {
+        ReadFault::Text(broken, _) => {
+            let number = broken.number();
+            let fault = format!(in alloc; "E0{number}")?;
+            told_nowhere(
+                alloc,
+                name,
+                fault.as_str(),
+                "the bytes of this file are no text\nhelp: save it as UTF-8",
+            )
+        }
+        ReadFault::Memory => told_nowhere(alloc, name, "E52", "memory was refused"),
+    }
+}
+
+// What is said of the fault of these bytes, where they are a text each flaw of it.
+fn flaws_told(
+    alloc: Global,
+    name: &str,
+    bytes: &[u8],
+    fault: &ReadFault,
+) -> Result<String, AllocError>
+    ensures tells { IfOk result (λ report. Tells name.now (text_fault fault.now) (string_bytes report)) }
+    ensures flaws { IfOk result (λ report.
+        IsUtf8 bytes.now → TellsEach name.now bytes.now fault.now (string_bytes report)) }
+{
+    match str::from_utf8(bytes) {
+        Ok(text) => faults_explained(alloc, name, text, fault),
+        Err(_) => without_text(alloc, name, fault),
+    }
+}
+
+// What is said of the fault of these bytes.
+fn explanation(
+    alloc: Global,
+    name: &str,
+    bytes: &[u8],
+    fault: &LoadFault,
+) -> Result<String, AllocError>
+    ensures tells { IfOk result (λ report. Tells name.now (told_fault fault.now) (string_bytes report)) }
+    ensures flaws { IfOk result (λ report. TellsEachFlaw name.now bytes.now fault.now (string_bytes report)) }
+{
+    match fault {
+        LoadFault::Text(fault) => flaws_told(alloc, name, bytes, fault),
+        LoadFault::Program(fault) => match text_of(bytes) {
+            Ok(text) => program_fault_explained(alloc, name, text, fault),
+            Err(_) => program_fault_explained(alloc, name, "", fault),
+        },
+        LoadFault::File(_) => told_nowhere(
+            alloc,
+            name,
+            "E64",
+            "the file cannot be read\nhelp: look at its name, and at who may read it",
+        ),
+        _ => told_nowhere(alloc, name, "E52", "memory was refused"),
+    }
+}
+
+/// What is said of the fault of these bytes, which are those of the file of this name. Err: memory was refused.
+pub(crate) fn report_of(
+    alloc: Global,
+    name: &str,
+    bytes: &[u8],
+    fault: &LoadFault,
+) -> Result<String, AllocError>
+    ensures { IfOk result (λ report. IsReport name.now bytes.now fault.now (string_bytes report)) }
+{
+    let shown = shown_name(alloc, name)?;
+    explanation(alloc, shown.as_str(), bytes, fault)
+}

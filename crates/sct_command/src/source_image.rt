@@ -1,0 +1,55 @@
+//! The image of a text, or a report of why it has none.
+
+ghost use Rattle.std.specs.Prelude.{◌≡◌, [], IfErr, IfOk, OnOk, string_bytes};
+ghost use Rattle.command_files.specs.Sources.{SpellsImage};
+ghost use Rattle.sct_command.specs.Inside.Held.{IsHeldReport, LacksImage};
+
+use crate::report::report_of;
+use command_files::{LoadFault, compile_bytes};
+use sqlite_items::Boxed;
+use std::alloc::Global;
+use verifier::Verified;
+
+// Says a report of the fault of these bytes, where words are wanted and memory is there for them.
+fn say_report(
+    alloc: Global,
+    name: &str,
+    bytes: &[u8],
+    fault: &LoadFault,
+    wanted: bool,
+    said: &mut String,
+)
+    requires none { string_bytes said.now ≡ [] }
+    ensures { IsHeldReport name.now bytes.now wanted fault.now (string_bytes said.new) }
+{
+    if wanted {
+        if let Ok(report) = report_of(alloc, name, bytes, fault) {
+            *said = report;
+        }
+    }
+}
+
+/// The image of the text that these bytes are, which are those of the file of this name. Err: why there is none, of
+/// which a report is `said` where words are wanted and memory is there for them.
+#[tactic(auto, using(crate::proofs::Compiled::lacks_image))]
+pub(crate) fn image_told(
+    alloc: Global,
+    name: &str,
+    bytes: &[u8],
+    wanted: bool,
+    said: &mut String,
+) -> Result<Boxed<Verified>, LoadFault>
+    requires none { string_bytes said.now ≡ [] }
+    ensures spelt { IfOk result (SpellsImage bytes.now) }
+    ensures lacks { IfErr result (LacksImage bytes.now) }
+    ensures quiet { OnOk result (string_bytes said.new ≡ []) }
+    ensures reported { IfErr result (λ fault. IsHeldReport name.now bytes.now wanted fault (string_bytes said.new)) }
+{
+    match compile_bytes(alloc, bytes) {
+        Ok(image) => Ok(Boxed::new(alloc, image)?),
+        Err(fault) => {
+            say_report(alloc, name, bytes, &fault, wanted, said);
+            Err(fault)
+        }
+    }
+}
