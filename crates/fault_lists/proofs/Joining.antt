@@ -104,5 +104,7 @@ memory_so name text fault report e tells =
 pub some_so : (name text told : List ℕ) → TellsFlaws name text told → TellsFurther name text told
 some_so name text told tells = inl tells
 
-pub none_so : (name text told : List ℕ) (fault : ReadFault) → IsDraftFault text fault → told ≡ [] → TellsFurther name text told
-none_so name text told fault undrafted nothing = inr (record { fault = fault; undrafted = undrafted; nothing = nothing })
+pub none_so : (name text told : List ℕ) (b : Broken) (at : ℕ) → IsDraftFault text (read.Text b at) → told ≡ []
+    → TellsFurther name text told
+none_so name text told b at undrafted nothing =
+    inr (record { broken = b; at = at; undrafted = undrafted; nothing = nothing })

@@ -2,6 +2,7 @@
 use Rattle.std.specs.Prelude.{ℕ, ◌≡◌, ◌⊎◌, List, [], ◌∷◌, ◌++◌, codes, drop}
 use Rattle.std.specs.Fmt.{decimal}
 use Rattle.sc_text.specs.FaultText.{broken_number}
+use Rattle.sc_text.specs.declared.read_fault.Broken.{Broken}
 use Rattle.sc_text.specs.declared.read_fault.ReadFault.{ReadFault}
 use Rattle.sc_text.specs.declared.read_fault.ReadFault.TheVariants as read
 use Rattle.drafts.specs.declared.flaw.Flaw.{Flaw}
@@ -28,8 +29,9 @@ pub record TellsFlaws (name text told : List ℕ) : Type 0 where
 
 -- the text spells no chart, and nothing is told
 pub record TellsNone (text told : List ℕ) : Type 0 where
-  pub fault : ReadFault
-  pub undrafted : IsDraftFault text fault
+  pub broken : Broken
+  pub at : ℕ
+  pub undrafted : IsDraftFault text (read.Text broken at)
   pub nothing : told ≡ []
 
 -- what is told of a text behind its fault
