@@ -15,7 +15,7 @@ use Rattle.core_charts.specs.Rules.{IsState, IsRegion, AreRegions}
 use Rattle.sc_text.proofs.AddedNames.{added_is_named}
 use Rattle.sc_text.proofs.EachItem.{Each, each_at}
 use Rattle.abort_expansion.specs.declared.flags.Flags.{Flags}
-use Rattle.abort_expansion.specs.declared.places.Places.{Places}
+use Rattle.abort_expansion.specs.declared.places.RegionPlaces.{RegionPlaces}
 use Rattle.abort_expansion.specs.Flags.{one, watching_name, abandoned_name, monitor_name}
 use Rattle.abort_expansion.specs.Superstates.{simple, simple_transitions, monitor, monitor_transitions, abandoned}
 use Rattle.abort_expansion.specs.Expansion.{state_piece}
@@ -46,13 +46,13 @@ one_shape name low high begins s stands_for h = record {
 
 -- ---- simple states
 
-simple_named : (is_final : Bool) (name : List ℕ) (own : List Transition) (around : List Flags) (to : Places) (begins : Bool)
+simple_named : (is_final : Bool) (name : List ℕ) (own : List Transition) (around : List Flags) (to : RegionPlaces) (begins : Bool)
     → IsNamed name begins (simple is_final name own around to begins)
 simple_named true name own around to begins = rolled_named name begins true [] []
 simple_named false name own around to begins = rolled_named name begins false [] (simple_transitions around to own)
 
 simple_state_keeps : (declared variables : List Variable) (levels m n : ℕ) (is_final : Bool) (name : List ℕ) (own : List Transition) (around : List Flags)
-    (to : Places) (begins : Bool)
+    (to : RegionPlaces) (begins : Bool)
     → IsText name → Each (InText declared variables m false) own → IsScene variables m n around to
     → IsState features.Core variables (AreRegions features.Core variables levels) n (simple is_final name own around to begins)
 simple_state_keeps declared variables levels m n true name own around to begins text h scene =

@@ -12,10 +12,10 @@ use Rattle.core_charts.specs.Rules.{IsState, IsTransition, AreRegions, has_regio
 use Rattle.core_charts.specs.Aborts.{has_strong, has_weak, has_aborts}
 use Rattle.sc_text.proofs.EachItem.{Each}
 use Rattle.abort_expansion.specs.declared.flags.Flags.{Flags}
-use Rattle.abort_expansion.specs.declared.places.Places.{Places}
-use Rattle.abort_expansion.specs.declared.pieces.Numbers.{Numbers}
+use Rattle.abort_expansion.specs.declared.places.RegionPlaces.{RegionPlaces}
+use Rattle.abort_expansion.specs.declared.pieces.NextNumbers.{NextNumbers}
 use Rattle.abort_expansion.specs.declared.pieces.Regions.{Regions}
-use Rattle.abort_expansion.specs.declared.pieces.States.{States}
+use Rattle.abort_expansion.specs.declared.pieces.StatePieces.{StatePieces}
 use Rattle.abort_expansion.specs.Flags.{one, is_there, flag_count, aborts_around, weak_around}
 use Rattle.abort_expansion.specs.Transitions.{led}
 use Rattle.abort_expansion.specs.Pieces.{superstates_in, variables_in, beside}
@@ -55,7 +55,7 @@ added_lower s high m n those is h = record {
 }
 
 staying_shape : (declared variables : List Variable) (levels m high : ℕ) (name : List ℕ) (regions : List Region) (own : List Transition) (around : List Flags)
-    (to : Places) (begins : Bool) (at : Numbers)
+    (to : RegionPlaces) (begins : Bool) (at : NextNumbers)
     → IsSuperstate declared variables levels m name regions own → has_aborts own ≡ false → aborts_around around ≡ false
     → high ≡ suc at.superstate + superstates_in (map piece_of_region regions) → high ≤ 2 ^ 64
     → HasShape (name ∷ []) at.superstate high 1 (one begins) (sized regions own around) (as_it_is name own (inside_of regions own around at) to begins at)
@@ -77,7 +77,7 @@ staying_shape declared variables levels m high name regions own around to begins
     }
 
 staying_keeps : (declared variables : List Variable) (levels m n : ℕ) (name : List ℕ) (regions : List Region) (own : List Transition) (around : List Flags)
-    (to : Places) (begins : Bool) (at : Numbers)
+    (to : RegionPlaces) (begins : Bool) (at : NextNumbers)
     → IsSuperstate declared variables levels m name regions own → has_regions regions ≡ true → has_aborts own ≡ false → aborts_around around ≡ false
     → suc at.superstate + superstates_in (map piece_of_region regions) ≤ 2 ^ 64
     → IsScene variables m n around to → Located variables at.variable (inside_of regions own around at).variables
@@ -108,7 +108,7 @@ staying_keeps declared variables levels m n name regions own around to begins at
 -- ---- either way
 
 either_shape : (b : Bool) (declared variables : List Variable) (levels m high : ℕ) (name : List ℕ) (regions : List Region) (own : List Transition)
-    (around : List Flags) (to : Places) (place : ℕ) (begins : Bool) (at : Numbers)
+    (around : List Flags) (to : RegionPlaces) (place : ℕ) (begins : Bool) (at : NextNumbers)
     → stays around own ≡ b → IsSuperstate declared variables levels m name regions own
     → high ≡ suc at.superstate + superstates_in (map piece_of_region regions) → high ≤ 2 ^ 64
     → HasShape (name ∷ []) at.superstate high (if b then 1 else if is_prepared around own then 3 else 2) (one begins) (sized regions own around)
@@ -121,8 +121,8 @@ either_shape true declared variables levels m high name regions own around to pl
 either_shape false declared variables levels m high name regions own around to place begins at stay h is small =
     split_shape (is_prepared around own) declared variables levels m high name regions own around to place begins at h is small
 
-located_either : (c : Bool) (variables : List Variable) (regions : List Region) (own : List Transition) (around : List Flags) (name : List ℕ) (to : Places)
-    (place : ℕ) (begins : Bool) (at : Numbers)
+located_either : (c : Bool) (variables : List Variable) (regions : List Region) (own : List Transition) (around : List Flags) (name : List ℕ) (to : RegionPlaces)
+    (place : ℕ) (begins : Bool) (at : NextNumbers)
     → Located variables at.variable
     (if c
     then beside (prepared (length regions) own (mine own around at) to place begins at)
@@ -133,7 +133,7 @@ located_either true variables regions own around name to place begins at h = h
 located_either false variables regions own around name to place begins at h = h
 
 either_keeps : (b : Bool) (declared variables : List Variable) (levels m n : ℕ) (name : List ℕ) (regions : List Region) (own : List Transition)
-    (around : List Flags) (to : Places) (place : ℕ) (begins : Bool) (at : Numbers)
+    (around : List Flags) (to : RegionPlaces) (place : ℕ) (begins : Bool) (at : NextNumbers)
     → stays around own ≡ b → IsSuperstate declared variables levels m name regions own → has_regions regions ≡ true
     → suc at.superstate + superstates_in (map piece_of_region regions) ≤ 2 ^ 64
     → IsScene variables m n around to → place + (if b then 1 else if is_prepared around own then 3 else 2) ≤ n
@@ -168,7 +168,7 @@ pub superstate_piece_keeps : (declared variables : List Variable) (levels m : �
     (state_piece (record { name = name; is_initial = is_initial; is_final = is_final; regions = map piece_of_region (r ∷ rs); transitions = own }))
 superstate_piece_keeps declared variables levels m is_initial is_final name r rs own h =
     let regions : List Region = r ∷ rs in
-    let Over : ℕ → List Flags → Places → ℕ → Bool → Numbers → States =
+    let Over : ℕ → List Flags → RegionPlaces → ℕ → Bool → NextNumbers → StatePieces =
     λ n around to place begins at. superstate_over name n own around (mine own around at) (inside_of regions own around at) to place begins at in
     let same : length regions ≡ length (map piece_of_region regions) = sym (as_many regions) in
     record {

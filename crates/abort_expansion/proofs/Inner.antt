@@ -9,7 +9,7 @@ use Rattle.core_charts.specs.Rules.{IsRegion, AreRegions, has_regions}
 use Rattle.core_charts.specs.Aborts.{has_strong, has_weak}
 use Rattle.sc_text.proofs.EachItem.{Each, each_append, each_at}
 use Rattle.abort_expansion.specs.declared.flags.Flags.{Flags}
-use Rattle.abort_expansion.specs.declared.pieces.Numbers.{Numbers}
+use Rattle.abort_expansion.specs.declared.pieces.NextNumbers.{NextNumbers}
 use Rattle.abort_expansion.specs.declared.pieces.Regions.{Regions}
 use Rattle.abort_expansion.specs.Flags.{flags_of, flag_count, given, is_there, one, weak_around, declarations}
 use Rattle.abort_expansion.specs.Pieces.{superstates_in, variables_in}
@@ -32,11 +32,11 @@ weak_inside around weak own x =
     ∙ ap (λ b. weak_around around || b) (there_or_none (has_weak own) (x + one (has_strong own)))
 
 -- the regions of a superstate whose number is s, of which the text has these
-abbrev pub inside_of : List Region → List Transition → List Flags → Numbers → Regions
+abbrev pub inside_of : List Region → List Transition → List Flags → NextNumbers → Regions
 inside_of regions own around at =
     inside_superstate (map piece_of_region regions) own around (flags_of (weak_around around) own at.variable) at
 
-pub inside_added : (variables : List Variable) (levels : ℕ) (regions : List Region) (own : List Transition) (around : List Flags) (at : Numbers)
+pub inside_added : (variables : List Variable) (levels : ℕ) (regions : List Region) (own : List Transition) (around : List Flags) (at : NextNumbers)
     → RegionsKeep variables levels regions → suc at.superstate + superstates_in (map piece_of_region regions) ≤ 2 ^ 64
     → AreAdded (suc at.superstate) (suc at.superstate + superstates_in (map piece_of_region regions))
     (variables_in (weak_around around || has_weak own) (map piece_of_region regions)) (inside_of regions own around at).variables
@@ -48,7 +48,7 @@ inside_added variables levels regions own around at h small =
     (weak_inside around (weak_around around) own at.variable)
     (regions_added variables levels regions (around ++ flags ∷ []) flags.counter (within (weak_around around) own at) h small)
 
-pub inside_keeps : (variables : List Variable) (levels : ℕ) (regions : List Region) (own : List Transition) (around : List Flags) (at : Numbers)
+pub inside_keeps : (variables : List Variable) (levels : ℕ) (regions : List Region) (own : List Transition) (around : List Flags) (at : NextNumbers)
     → RegionsKeep variables levels regions → suc at.superstate + superstates_in (map piece_of_region regions) ≤ 2 ^ 64
     → Each (AreFlags variables) around → AreFlags variables (flags_of (weak_around around) own at.variable)
     → Located variables (at.variable + flag_count (weak_around around) own) (inside_of regions own around at).variables
@@ -58,14 +58,14 @@ inside_keeps variables levels regions own around at h small each flags located =
     regions_keep variables levels regions (around ++ mine ∷ []) mine.counter (within (weak_around around) own at) h small
     (each_append (AreFlags variables) around (mine ∷ []) each (flags, tt)) flags.counter located
 
-pub inside_named : (variables : List Variable) (levels : ℕ) (regions : List Region) (own : List Transition) (around : List Flags) (at : Numbers)
+pub inside_named : (variables : List Variable) (levels : ℕ) (regions : List Region) (own : List Transition) (around : List Flags) (at : NextNumbers)
     → RegionsKeep variables levels regions → region_names (inside_of regions own around at).regions ≡ region_names regions
 inside_named variables levels regions own around at h =
     let mine : Flags = flags_of (weak_around around) own at.variable in
     regions_named variables levels regions (around ++ mine ∷ []) mine.counter (within (weak_around around) own at) h
 
 -- the variables of a superstate that is split, and of what is inside it
-pub all_added : (variables : List Variable) (levels : ℕ) (regions : List Region) (own : List Transition) (around : List Flags) (at : Numbers)
+pub all_added : (variables : List Variable) (levels : ℕ) (regions : List Region) (own : List Transition) (around : List Flags) (at : NextNumbers)
     → RegionsKeep variables levels regions → suc at.superstate + superstates_in (map piece_of_region regions) ≤ 2 ^ 64
     → AreAdded at.superstate (suc at.superstate + superstates_in (map piece_of_region regions))
     (flag_count (weak_around around) own + variables_in (weak_around around || has_weak own) (map piece_of_region regions))

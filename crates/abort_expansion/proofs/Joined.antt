@@ -10,10 +10,10 @@ use Rattle.core_charts.specs.declared.region.Region.TheViews.{out-Region, out-St
 use Rattle.core_charts.specs.Rules.{IsState, IsRegion, AreRegions}
 use Rattle.sc_text.proofs.EachItem.{Each, each_append, each_more}
 use Rattle.abort_expansion.specs.declared.flags.Flags.{Flags}
-use Rattle.abort_expansion.specs.declared.places.Places.{Places}
-use Rattle.abort_expansion.specs.declared.pieces.Numbers.{Numbers}
+use Rattle.abort_expansion.specs.declared.places.RegionPlaces.{RegionPlaces}
+use Rattle.abort_expansion.specs.declared.pieces.NextNumbers.{NextNumbers}
 use Rattle.abort_expansion.specs.declared.pieces.Regions.{Regions}
-use Rattle.abort_expansion.specs.declared.pieces.States.{States}
+use Rattle.abort_expansion.specs.declared.pieces.StatePieces.{StatePieces}
 use Rattle.abort_expansion.specs.Flags.{one, aborts_around, weak_around}
 use Rattle.abort_expansion.specs.Pieces.{RegionPiece, StatePiece, beside, expanded_regions, superstates_in, variables_in, past_region}
 use Rattle.abort_expansion.specs.Expansion.{piece_of_region, piece_of_state, expanded_states, superstates_among, variables_among, widths, past_state}
@@ -29,7 +29,7 @@ abbrev pub initial_in : List State → ℕ
 initial_in states = count (λ s. (out-State s).is_initial) states
 
 -- states that come of some with these names
-pub record HasShape (texts : List (List ℕ)) (low high width initial size : ℕ) (made : States) : Type 0 where
+pub record HasShape (texts : List (List ℕ)) (low high width initial size : ℕ) (made : StatePieces) : Type 0 where
   pub wide : length made.states ≡ width
   pub begins : initial_in made.states ≡ initial
   pub called : Each (IsCalled texts 105 low high) (names_of made.states)
@@ -63,7 +63,7 @@ called_cross ts us low mid high xs ys small h k cross a b =
     each_more (IsCalled ts 105 low mid) (Unlike ys) xs
     (λ x g. each_more (IsCalled us 105 mid high) (λ y. x ≢ y) ys (λ y f. called_apart ts us 105 low mid high small h k cross x y g f) b) a
 
-pub both_shapes : (ts us : List (List ℕ)) (low mid high v w width i j initial m n size : ℕ) (a b : States)
+pub both_shapes : (ts us : List (List ℕ)) (low mid high v w width i j initial m n size : ℕ) (a b : StatePieces)
     → low ≤ mid → mid ≤ high → high ≤ 2 ^ 64 → width ≡ v + w → initial ≡ i + j → size ≡ m + n
     → Each IsText ts → Each IsText us → Each (Unlike us) ts
     → HasShape ts low mid v i m a → HasShape us mid high w j n b → HasShape (ts ++ us) low high width initial size (beside a b)
@@ -89,7 +89,7 @@ both_shapes ts us low mid high v w width i j initial m n size a b first last sma
 -- ---- states
 
 -- where a region's states are, of which the text has `m`, and expansion leaves `n`
-pub record IsScene (variables : List Variable) (m n : ℕ) (around : List Flags) (to : Places) : Type 0 where
+pub record IsScene (variables : List Variable) (m n : ℕ) (around : List Flags) (to : RegionPlaces) : Type 0 where
   pub flags : Each (AreFlags variables) around
   pub left : IsTrue (aborts_around around) → to.left < n
   pub places : ArePlaces variables m n to
@@ -97,10 +97,10 @@ pub record IsScene (variables : List Variable) (m n : ℕ) (around : List Flags)
 -- a state of this name, in a region whose text has `m` states, with regions inside that nest this many levels deep at most
 pub record StateKeeps (variables : List Variable) (levels m : ℕ) (name : List ℕ) (p : StatePiece) : Type 0 where
   pub least : (around : List Flags) → 1 ≤ p.width around
-  pub shape : (around : List Flags) (to : Places) (place : ℕ) (begins : Bool) (at : Numbers) → at.superstate + p.superstates ≤ 2 ^ 64
+  pub shape : (around : List Flags) (to : RegionPlaces) (place : ℕ) (begins : Bool) (at : NextNumbers) → at.superstate + p.superstates ≤ 2 ^ 64
       → HasShape (name ∷ []) at.superstate (at.superstate + p.superstates) (p.width around) (one begins) (p.variables (weak_around around))
       (p.made around to place begins at)
-  pub keeps : (n : ℕ) (around : List Flags) (to : Places) (place : ℕ) (begins : Bool) (at : Numbers) → at.superstate + p.superstates ≤ 2 ^ 64
+  pub keeps : (n : ℕ) (around : List Flags) (to : RegionPlaces) (place : ℕ) (begins : Bool) (at : NextNumbers) → at.superstate + p.superstates ≤ 2 ^ 64
       → IsScene variables m n around to → place + p.width around ≤ n → Located variables at.variable (p.made around to place begins at).variables
       → Each (IsState features.Core variables (AreRegions features.Core variables levels) n) (p.made around to place begins at).states
 
@@ -118,7 +118,7 @@ no_shape low high = record { wide = refl; begins = refl; called = tt; apart = tt
 abbrev pieces_of : List State → List StatePiece
 pieces_of states = map piece_of_state states
 
-pub states_shape : (variables : List Variable) (levels m : ℕ) (states : List State) (anew : Bool) (around : List Flags) (to : Places) (place : ℕ) (at : Numbers)
+pub states_shape : (variables : List Variable) (levels m : ℕ) (states : List State) (anew : Bool) (around : List Flags) (to : RegionPlaces) (place : ℕ) (at : NextNumbers)
     → AllKeep variables levels m states → Each IsText (names_of states) → Apart (names_of states)
     → at.superstate + superstates_among (pieces_of states) ≤ 2 ^ 64
     → HasShape (names_of states) at.superstate (at.superstate + superstates_among (pieces_of states)) (widths (pieces_of states) around)
@@ -127,7 +127,7 @@ states_shape variables levels m [] anew around to place at h texts apart small =
 states_shape variables levels m (s ∷ states) anew around to place at h texts apart small =
     let p : StatePiece = piece_of_state s in
     let rest : List StatePiece = pieces_of states in
-    let next : Numbers = past_state (weak_around around) p at in
+    let next : NextNumbers = past_state (weak_around around) p at in
     let mid : ℕ = at.superstate + p.superstates in
     let first : HasShape ((out-State s).name ∷ []) at.superstate mid (p.width around) (one (p.is_initial && not anew)) (p.variables (weak_around around))
     (p.made around to place (p.is_initial && not anew) at) =
@@ -147,8 +147,8 @@ states_shape variables levels m (s ∷ states) anew around to place at h texts a
     (p.made around to place (p.is_initial && not anew) at) (expanded_states anew rest around to (place + p.width around) next)
     (omega arith) (omega arith) (omega (arith, small)) refl refl refl (texts.0, tt) texts.1 (apart.0, tt) first later)
 
-pub states_keep : (variables : List Variable) (levels m n : ℕ) (states : List State) (anew : Bool) (around : List Flags) (to : Places) (place : ℕ)
-    (at : Numbers)
+pub states_keep : (variables : List Variable) (levels m n : ℕ) (states : List State) (anew : Bool) (around : List Flags) (to : RegionPlaces) (place : ℕ)
+    (at : NextNumbers)
     → AllKeep variables levels m states → at.superstate + superstates_among (pieces_of states) ≤ 2 ^ 64
     → IsScene variables m n around to → place + widths (pieces_of states) around ≤ n
     → Located variables at.variable (expanded_states anew (pieces_of states) around to place at).variables
@@ -157,9 +157,9 @@ states_keep variables levels m n [] anew around to place at h small scene within
 states_keep variables levels m n (s ∷ states) anew around to place at h small scene within located =
     let p : StatePiece = piece_of_state s in
     let rest : List StatePiece = pieces_of states in
-    let next : Numbers = past_state (weak_around around) p at in
-    let a : States = p.made around to place (p.is_initial && not anew) at in
-    let b : States = expanded_states anew rest around to (place + p.width around) next in
+    let next : NextNumbers = past_state (weak_around around) p at in
+    let a : StatePieces = p.made around to place (p.is_initial && not anew) at in
+    let b : StatePieces = expanded_states anew rest around to (place + p.width around) next in
     let size : length a.variables
     ≡ p.variables (weak_around around) = (h.0.shape around to place (p.is_initial && not anew) at (omega (arith, small))).added.many in
     each_append (IsState features.Core variables (AreRegions features.Core variables levels) n) a.states b.states
@@ -172,10 +172,10 @@ states_keep variables levels m n (s ∷ states) anew around to place at h small 
 
 -- a region of this name, in which regions nest this many levels deep at most
 pub record RegionKeeps (variables : List Variable) (levels : ℕ) (name : List ℕ) (p : RegionPiece) : Type 0 where
-  pub named : (around : List Flags) (counter : Option ℕ) (at : Numbers) → map (λ r. (out-Region r).name) (p.made around counter at).regions ≡ name ∷ []
-  pub added : (around : List Flags) (counter : Option ℕ) (at : Numbers) → at.superstate + p.superstates ≤ 2 ^ 64
+  pub named : (around : List Flags) (counter : Option ℕ) (at : NextNumbers) → map (λ r. (out-Region r).name) (p.made around counter at).regions ≡ name ∷ []
+  pub added : (around : List Flags) (counter : Option ℕ) (at : NextNumbers) → at.superstate + p.superstates ≤ 2 ^ 64
       → AreAdded at.superstate (at.superstate + p.superstates) (p.variables (weak_around around)) (p.made around counter at).variables
-  pub keeps : (around : List Flags) (counter : Option ℕ) (at : Numbers) → at.superstate + p.superstates ≤ 2 ^ 64
+  pub keeps : (around : List Flags) (counter : Option ℕ) (at : NextNumbers) → at.superstate + p.superstates ≤ 2 ^ 64
       → Each (AreFlags variables) around → IsFlagIfAny variables counter → Located variables at.variable (p.made around counter at).variables
       → Each (IsRegion features.Core variables (AreRegions features.Core variables levels)) (p.made around counter at).regions
 
@@ -185,19 +185,19 @@ RegionsKeep variables levels regions = Each (λ r. RegionKeeps variables levels 
 abbrev pub region_names : List Region → List (List ℕ)
 region_names regions = map (λ r. (out-Region r).name) regions
 
-pub regions_named : (variables : List Variable) (levels : ℕ) (regions : List Region) (around : List Flags) (counter : Option ℕ) (at : Numbers)
+pub regions_named : (variables : List Variable) (levels : ℕ) (regions : List Region) (around : List Flags) (counter : Option ℕ) (at : NextNumbers)
     → RegionsKeep variables levels regions
     → region_names (expanded_regions (map piece_of_region regions) around counter at).regions ≡ region_names regions
 regions_named variables levels [] around counter at h = refl
 regions_named variables levels (r ∷ regions) around counter at h =
     let p : RegionPiece = piece_of_region r in
-    let next : Numbers = past_region (weak_around around) p at in
+    let next : NextNumbers = past_region (weak_around around) p at in
     let rest : Regions = expanded_regions (map piece_of_region regions) around counter next in
     map-append (λ r. (out-Region r).name) (p.made around counter at).regions rest.regions
     ∙ ap (λ names. names ++ region_names rest.regions) (h.0.named around counter at)
     ∙ ap (λ names. (out-Region r).name ∷ names) (regions_named variables levels regions around counter next h.1)
 
-pub regions_added : (variables : List Variable) (levels : ℕ) (regions : List Region) (around : List Flags) (counter : Option ℕ) (at : Numbers)
+pub regions_added : (variables : List Variable) (levels : ℕ) (regions : List Region) (around : List Flags) (counter : Option ℕ) (at : NextNumbers)
     → RegionsKeep variables levels regions → at.superstate + superstates_in (map piece_of_region regions) ≤ 2 ^ 64
     → AreAdded at.superstate (at.superstate + superstates_in (map piece_of_region regions)) (variables_in (weak_around around) (map piece_of_region regions))
     (expanded_regions (map piece_of_region regions) around counter at).variables
@@ -205,7 +205,7 @@ regions_added variables levels [] around counter at h small = none_added at.supe
 regions_added variables levels (r ∷ regions) around counter at h small =
     let p : RegionPiece = piece_of_region r in
     let rest : List RegionPiece = map piece_of_region regions in
-    let next : Numbers = past_region (weak_around around) p at in
+    let next : NextNumbers = past_region (weak_around around) p at in
     let mid : ℕ = at.superstate + p.superstates in
     let end : mid + superstates_in rest ≡ at.superstate + (p.superstates + superstates_in rest) = omega arith in
     subst
@@ -217,7 +217,7 @@ regions_added variables levels (r ∷ regions) around counter at h small =
     (omega arith) (omega arith) (omega (arith, small)) refl (h.0.added around counter at (omega (arith, small)))
     (regions_added variables levels regions around counter next h.1 (omega (arith, small))))
 
-pub regions_keep : (variables : List Variable) (levels : ℕ) (regions : List Region) (around : List Flags) (counter : Option ℕ) (at : Numbers)
+pub regions_keep : (variables : List Variable) (levels : ℕ) (regions : List Region) (around : List Flags) (counter : Option ℕ) (at : NextNumbers)
     → RegionsKeep variables levels regions → at.superstate + superstates_in (map piece_of_region regions) ≤ 2 ^ 64
     → Each (AreFlags variables) around → IsFlagIfAny variables counter
     → Located variables at.variable (expanded_regions (map piece_of_region regions) around counter at).variables
@@ -226,7 +226,7 @@ pub regions_keep : (variables : List Variable) (levels : ℕ) (regions : List Re
 regions_keep variables levels [] around counter at h small flags counted located = tt
 regions_keep variables levels (r ∷ regions) around counter at h small flags counted located =
     let p : RegionPiece = piece_of_region r in
-    let next : Numbers = past_region (weak_around around) p at in
+    let next : NextNumbers = past_region (weak_around around) p at in
     let a : Regions = p.made around counter at in
     let b : Regions = expanded_regions (map piece_of_region regions) around counter next in
     let size : length a.variables ≡ p.variables (weak_around around) = (h.0.added around counter at (omega (arith, small))).many in

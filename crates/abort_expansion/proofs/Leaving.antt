@@ -19,7 +19,7 @@ use Rattle.core_charts.specs.Rules.{IsEffect, IsState, IsTransition, AreRegions,
 use Rattle.core_charts.specs.Tests.{is_join, is_strong, is_weak, at_once, strong_aborts, weak_aborts, terminations}
 use Rattle.sc_text.proofs.EachItem.{Each, each_append, each_at, each_more}
 use Rattle.abort_expansion.specs.declared.flags.Flags.{Flags}
-use Rattle.abort_expansion.specs.declared.places.Places.{Places}
+use Rattle.abort_expansion.specs.declared.places.RegionPlaces.{RegionPlaces}
 use Rattle.abort_expansion.specs.Flags.{preparation_name, continuation_name, is_there, aborts_around, weak_around}
 use Rattle.abort_expansion.specs.Transitions.{is_number, put, on, go, strong_checks, weak_checks, led, led_by, answers, raising}
 use Rattle.abort_expansion.specs.Superstates.{simple_transitions, preparation, continuation, closing, joined_or_left, monitor_transitions, all_ended}
@@ -82,7 +82,7 @@ ended_in variables levels n name begins named =
 
 -- ---- transitions as they stand in the text
 
-pub led_keeps : (variables : List Variable) (m n : ℕ) (at : Places) (f : Features) (declared : List Variable) (super : Bool) (t : Transition)
+pub led_keeps : (variables : List Variable) (m n : ℕ) (at : RegionPlaces) (f : Features) (declared : List Variable) (super : Bool) (t : Transition)
     → ArePlaces variables m n at → IsTaken variables m t → IsTransition f declared m super t → IsTrue (allows features.Core t.kind)
     → IsTransition features.Core variables n super (led at t)
 led_keeps variables m n at f declared super t places taken h allowed = record {
@@ -106,7 +106,7 @@ allowed_by_go kind.Strong h = absurd cc
 allowed_by_go kind.Weak h = absurd cc
 allowed_by_go kind.Join h = refl
 
-pub simple_transitions_go : (declared variables : List Variable) (m n : ℕ) (around : List Flags) (at : Places) (own : List Transition)
+pub simple_transitions_go : (declared variables : List Variable) (m n : ℕ) (around : List Flags) (at : RegionPlaces) (own : List Transition)
     → Each (AreFlags variables) around → (IsTrue (aborts_around around) → at.left < n) → ArePlaces variables m n at
     → Each (InText declared variables m false) own → Each (Goes variables n) (simple_transitions around at own)
 simple_transitions_go declared variables m n around at own flags within places h =
@@ -120,7 +120,7 @@ simple_transitions_go declared variables m n around at own flags within places h
 
 -- ---- preparation, continuation and monitor
 
-pub preparation_keeps : (variables : List Variable) (levels m n s : ℕ) (flags : Flags) (regions : ℕ) (own : List Transition) (at : Places) (fork : ℕ)
+pub preparation_keeps : (variables : List Variable) (levels m n s : ℕ) (flags : Flags) (regions : ℕ) (own : List Transition) (at : RegionPlaces) (fork : ℕ)
     (begins : Bool)
     → IsNameIn languages.Scl (preparation_name s) → AreFlags variables flags → ArePlaces variables m n at → Each (IsTaken variables m) own → fork < n
     → IsState features.Core variables (AreRegions features.Core variables levels) n (preparation s flags regions own at fork begins)
@@ -153,7 +153,7 @@ weak_is_abort : (around : List Flags) → IsTrue (weak_around around) → IsTrue
 weak_is_abort [] h = absurd cc
 weak_is_abort (f ∷ around) h = or_more (is_there f.strong) (is_there f.weak) (weak_around around) (aborts_around around) (weak_is_abort around) h
 
-joined_or_left_goes : (variables : List Variable) (m n : ℕ) (at : Places) (counter : Option ℕ) (join : Transition)
+joined_or_left_goes : (variables : List Variable) (m n : ℕ) (at : RegionPlaces) (counter : Option ℕ) (join : Transition)
     → at.left < n → IsFlagIfAny variables counter → ArePlaces variables m n at → IsTaken variables m join
     → Each (Goes variables n) (joined_or_left at counter join)
 joined_or_left_goes variables m n at (Some x) join within flag places taken = (
@@ -163,7 +163,7 @@ joined_or_left_goes variables m n at (Some x) join within flag places taken = (
 joined_or_left_goes variables m n at None join within flag places taken =
     (go_goes variables n true None [] at.left (no_trigger variables) tt within, tt)
 
-ended_or_left : (variables : List Variable) (m n : ℕ) (weak : Bool) (flags : Flags) (at : Places) (join : Transition)
+ended_or_left : (variables : List Variable) (m n : ℕ) (weak : Bool) (flags : Flags) (at : RegionPlaces) (join : Transition)
     → (IsTrue weak → at.left < n) → AreFlags variables flags → ArePlaces variables m n at → IsTaken variables m join
     → Each (Goes variables n) (if weak then joined_or_left at flags.counter join else led_by at None join ∷ [])
 ended_or_left variables m n true flags at join within h places taken =
@@ -171,14 +171,14 @@ ended_or_left variables m n true flags at join within h places taken =
 ended_or_left variables m n false flags at join within h places taken =
     (led_by_goes variables m n at None join places taken (no_trigger variables), tt)
 
-closing_goes : (variables : List Variable) (m n : ℕ) (around : List Flags) (flags : Flags) (at : Places) (joins : List Transition)
+closing_goes : (variables : List Variable) (m n : ℕ) (around : List Flags) (flags : Flags) (at : RegionPlaces) (joins : List Transition)
     → Each (AreFlags variables) around → (IsTrue (aborts_around around) → at.left < n) → AreFlags variables flags → ArePlaces variables m n at
     → Each (IsTaken variables m) joins → Each (Goes variables n) (closing around flags at joins)
 closing_goes variables m n around flags at [] each within h places taken = weak_checks_go variables n at.left true around each within
 closing_goes variables m n around flags at (join ∷ others) each within h places taken =
     ended_or_left variables m n (weak_around around) flags at join (λ weak. within (weak_is_abort around weak)) h places taken.0
 
-pub continuation_keeps : (variables : List Variable) (levels m n s : ℕ) (around : List Flags) (flags : Flags) (at : Places) (own : List Transition)
+pub continuation_keeps : (variables : List Variable) (levels m n s : ℕ) (around : List Flags) (flags : Flags) (at : RegionPlaces) (own : List Transition)
     → IsNameIn languages.Scl (continuation_name s) → Each (AreFlags variables) around → (IsTrue (aborts_around around) → at.left < n)
     → AreFlags variables flags → ArePlaces variables m n at → Each (IsTaken variables m) own
     → IsState features.Core variables (AreRegions features.Core variables levels) n (continuation s around flags at own)

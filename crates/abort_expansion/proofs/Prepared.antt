@@ -12,8 +12,8 @@ use Rattle.core_charts.specs.Aborts.{has_aborts}
 use Rattle.sc_text.proofs.AddedNames.{added_is_named}
 use Rattle.sc_text.proofs.EachItem.{Each}
 use Rattle.abort_expansion.specs.declared.flags.Flags.{Flags}
-use Rattle.abort_expansion.specs.declared.places.Places.{Places}
-use Rattle.abort_expansion.specs.declared.pieces.Numbers.{Numbers}
+use Rattle.abort_expansion.specs.declared.places.RegionPlaces.{RegionPlaces}
+use Rattle.abort_expansion.specs.declared.pieces.NextNumbers.{NextNumbers}
 use Rattle.abort_expansion.specs.declared.pieces.Regions.{Regions}
 use Rattle.abort_expansion.specs.Flags.{one, weak_around, declarations, preparation_name, continuation_name}
 use Rattle.abort_expansion.specs.Pieces.{superstates_in, beside}
@@ -36,7 +36,7 @@ first_begins false true n is none = absurd cc
 first_begins false false n is none = none
 
 prepared_shape : (declared variables : List Variable) (levels m high : ℕ) (name : List ℕ) (regions : List Region) (own : List Transition) (around : List Flags)
-    (to : Places) (place : ℕ) (begins : Bool) (at : Numbers)
+    (to : RegionPlaces) (place : ℕ) (begins : Bool) (at : NextNumbers)
     → IsSuperstate declared variables levels m name regions own → high ≡ suc at.superstate + superstates_in (map piece_of_region regions) → high ≤ 2 ^ 64
     → HasShape (name ∷ []) at.superstate high 3 (one begins) (sized regions own around)
     (beside (prepared (length regions) own (mine own around at) to place begins at)
@@ -75,7 +75,7 @@ prepared_shape declared variables levels m high name regions own around to place
 
 -- how many states it becomes, by whether it is prepared
 pub split_shape : (prepare : Bool) (declared variables : List Variable) (levels m high : ℕ) (name : List ℕ) (regions : List Region) (own : List Transition)
-    (around : List Flags) (to : Places) (place : ℕ) (begins : Bool) (at : Numbers)
+    (around : List Flags) (to : RegionPlaces) (place : ℕ) (begins : Bool) (at : NextNumbers)
     → IsSuperstate declared variables levels m name regions own → high ≡ suc at.superstate + superstates_in (map piece_of_region regions) → high ≤ 2 ^ 64
     → HasShape (name ∷ []) at.superstate high (if prepare then 3 else 2) (one begins) (sized regions own around)
     (if prepare
@@ -87,13 +87,13 @@ split_shape true declared variables levels m high name regions own around to pla
 split_shape false declared variables levels m high name regions own around to place begins at h is small =
     forked_shape declared variables levels m high name regions own around to place begins at h is small
 
-abbrev pub AreLocated : (variables : List Variable) (regions : List Region) (own : List Transition) (around : List Flags) (at : Numbers) → Type 0
+abbrev pub AreLocated : (variables : List Variable) (regions : List Region) (own : List Transition) (around : List Flags) (at : NextNumbers) → Type 0
 AreLocated variables regions own around at =
     Located variables at.variable (declarations at.superstate (mine own around at) ++ (inside_of regions own around at).variables)
 
 -- a split superstate needs the same variables, prepared or not
 pub split_keeps : (prepare : Bool) (declared variables : List Variable) (levels m n : ℕ) (name : List ℕ) (regions : List Region) (own : List Transition)
-    (around : List Flags) (to : Places) (place : ℕ) (begins : Bool) (at : Numbers)
+    (around : List Flags) (to : RegionPlaces) (place : ℕ) (begins : Bool) (at : NextNumbers)
     → IsSuperstate declared variables levels m name regions own → has_regions regions ≡ true
     → suc at.superstate + superstates_in (map piece_of_region regions) ≤ 2 ^ 64
     → IsScene variables m n around to → place + (if prepare then 3 else 2) ≤ n → AreLocated variables regions own around at

@@ -8,7 +8,7 @@ use Rattle.core_charts.specs.declared.region.Region.TheViews.{out-State}
 use Rattle.core_charts.specs.Rules.{IsState, AreRegions}
 use Rattle.sc_text.proofs.AddedNames.{added_is_named}
 use Rattle.sc_text.proofs.EachItem.{Each, each_more}
-use Rattle.abort_expansion.specs.declared.pieces.States.{States}
+use Rattle.abort_expansion.specs.declared.pieces.StatePieces.{StatePieces}
 use Rattle.abort_expansion.specs.Flags.{one, first_name, abandoned_name}
 use Rattle.abort_expansion.specs.Transitions.{go, on, count_down}
 use Rattle.abort_expansion.specs.Pieces.{beside}
@@ -35,7 +35,7 @@ abandoned_named = rolled_named abandoned_name false true [] []
 pub left_names : names_of (abandoned ∷ []) ≡ abandoned_name ∷ []
 left_names = ap (λ name. name ∷ []) abandoned_named.name_is
 
-pub with_left : (b : Bool) (texts : List (List ℕ)) (low high : ℕ) (made : States) → Each IsText texts
+pub with_left : (b : Bool) (texts : List (List ℕ)) (low high : ℕ) (made : StatePieces) → Each IsText texts
     → Each (IsCalled texts 105 low high) (names_of made.states)
     → Apart (names_of made.states) → Apart (names_of (beside made (left_behind b)).states)
 with_left true texts low high made h called apart =
@@ -81,7 +81,7 @@ first_size true counter target number = refl
 first_size false counter target number = refl
 
 -- they need no variables
-pub same_variables : (a b : Bool) (counter : Option ℕ) (target number : ℕ) (made : States)
+pub same_variables : (a b : Bool) (counter : Option ℕ) (target number : ℕ) (made : StatePieces)
     → made.variables ≡ (beside (new_initial a counter target number) (beside made (left_behind b))).variables
 same_variables true true counter target number made = sym (append-nil made.variables)
 same_variables true false counter target number made = sym (append-nil made.variables)

@@ -10,8 +10,8 @@ use Rattle.core_charts.specs.declared.region.Region.TheViews.{roll-State, roll-R
 use Rattle.core_charts.specs.Rules.{IsState, IsRegion, AreRegions}
 use Rattle.sc_text.proofs.EachItem.{Each, each_append, each_more}
 use Rattle.abort_expansion.specs.declared.flags.Flags.{Flags}
-use Rattle.abort_expansion.specs.declared.pieces.Numbers.{Numbers}
-use Rattle.abort_expansion.specs.declared.pieces.States.{States}
+use Rattle.abort_expansion.specs.declared.pieces.NextNumbers.{NextNumbers}
+use Rattle.abort_expansion.specs.declared.pieces.StatePieces.{StatePieces}
 use Rattle.abort_expansion.specs.Flags.{one, first_name, abandoned_name, aborts_around, weak_around}
 use Rattle.abort_expansion.specs.Transitions.{go, on, count_down}
 use Rattle.abort_expansion.specs.Pieces.{StatePiece, beside}
@@ -32,11 +32,11 @@ abbrev pieces_of : List State → List StatePiece
 pieces_of states = map piece_of_state states
 
 -- the states of the text, expanded, in a region that begins anew or not
-abbrev inner_states : Bool → List State → List Flags → Option ℕ → Numbers → States
+abbrev inner_states : Bool → List State → List Flags → Option ℕ → NextNumbers → StatePieces
 inner_states anew states around counter at =
     expanded_states anew (pieces_of states) around (region_places (pieces_of states) around counter (one anew)) (one anew) at
 
-abbrev whole_region : Bool → List State → List Flags → Option ℕ → Numbers → States
+abbrev whole_region : Bool → List State → List Flags → Option ℕ → NextNumbers → StatePieces
 whole_region anew states around counter at = region_over anew (pieces_of states) around counter (one anew) at
 
 initial_counted : (anew : Bool) (states : List State) → initial_in states ≡ 1 → one anew + initial_of anew (pieces_of states) ≡ 1
@@ -56,7 +56,7 @@ pub record AreStates (variables : List Variable) (levels : ℕ) (states : List S
   pub apart : Apart (names_of states)
   pub initial : initial_in states ≡ 1
 
-inner_shape : (variables : List Variable) (levels : ℕ) (states : List State) (anew : Bool) (around : List Flags) (counter : Option ℕ) (at : Numbers)
+inner_shape : (variables : List Variable) (levels : ℕ) (states : List State) (anew : Bool) (around : List Flags) (counter : Option ℕ) (at : NextNumbers)
     → AreStates variables levels states → at.superstate + superstates_among (pieces_of states) ≤ 2 ^ 64
     → HasShape (names_of states) at.superstate (at.superstate + superstates_among (pieces_of states)) (widths (pieces_of states) around)
     (initial_of anew (pieces_of states)) (variables_among (weak_around around) (pieces_of states)) (inner_states anew states around counter at)
@@ -64,7 +64,7 @@ inner_shape variables levels states anew around counter at h small =
     states_shape variables levels (length states) states anew around (region_places (pieces_of states) around counter (one anew))
     (one anew) at h.keep h.texts h.apart small
 
-region_added : (variables : List Variable) (levels : ℕ) (states : List State) (anew : Bool) (around : List Flags) (counter : Option ℕ) (at : Numbers)
+region_added : (variables : List Variable) (levels : ℕ) (states : List State) (anew : Bool) (around : List Flags) (counter : Option ℕ) (at : NextNumbers)
     → AreStates variables levels states → at.superstate + superstates_among (pieces_of states) ≤ 2 ^ 64
     → AreAdded at.superstate (at.superstate + superstates_among (pieces_of states)) (variables_among (weak_around around) (pieces_of states))
     (whole_region anew states around counter at).variables
@@ -95,7 +95,7 @@ first_count false counter target number = refl
 first_not_abandoned : first_name ≢ abandoned_name
 first_not_abandoned same = let letters : 105 ≡ 108 = ap letter_of same in absurd (omega (arith, letters))
 
-unlike_rest : (left : Bool) (texts : List (List ℕ)) (low high : ℕ) (made : States) → Each IsText texts
+unlike_rest : (left : Bool) (texts : List (List ℕ)) (low high : ℕ) (made : StatePieces) → Each IsText texts
     → Each (IsCalled texts 105 low high) (names_of made.states)
     → Unlike (names_of (beside made (left_behind left)).states) first_name
 unlike_rest true texts low high made h called =
@@ -110,7 +110,7 @@ unlike_rest false texts low high made h called =
     (each_more (IsCalled texts 105 low high) (λ other. first_name ≢ other) (names_of made.states)
     (λ name g same. called_not_plain texts low high 105 name (omega arith) h g (sym same)) called)
 
-with_first : (b : Bool) (counter : Option ℕ) (target number : ℕ) (rest : States) → Unlike (names_of rest.states) first_name
+with_first : (b : Bool) (counter : Option ℕ) (target number : ℕ) (rest : StatePieces) → Unlike (names_of rest.states) first_name
     → Apart (names_of rest.states) → Apart (names_of (beside (new_initial b counter target number) rest).states)
 with_first true counter target number rest unlike apart =
     (subst (Unlike (names_of rest.states)) (sym (first_named (go true None (on counter count_down) target ∷ [])).name_is) unlike, apart)
@@ -119,7 +119,7 @@ with_first false counter target number rest unlike apart = apart
 -- ---- the region
 
 region_is_kept : (variables : List Variable) (levels : ℕ) (name : List ℕ) (states : List State) (anew : Bool) (around : List Flags) (counter : Option ℕ)
-    (at : Numbers)
+    (at : NextNumbers)
     → begins_anew counter (pieces_of states) ≡ anew → IsText name → AreStates variables levels states
     → at.superstate + superstates_among (pieces_of states) ≤ 2 ^ 64 → Each (AreFlags variables) around → IsFlagIfAny variables counter
     → Located variables at.variable (whole_region anew states around counter at).variables
@@ -129,9 +129,9 @@ region_is_kept variables levels name states anew around counter at is_anew text 
     let left : Bool = aborts_around around in
     let target : ℕ = initial_place (pieces_of states) around (one anew) in
     let number : ℕ = initial_number (pieces_of states) at.state in
-    let made : States = inner_states anew states around counter at in
-    let first : States = new_initial anew counter target number in
-    let rest : States = beside made (left_behind left) in
+    let made : StatePieces = inner_states anew states around counter at in
+    let first : StatePieces = new_initial anew counter target number in
+    let rest : StatePieces = beside made (left_behind left) in
     let all : List State = (whole_region anew states around counter at).states in
     let shape : HasShape (names_of states) at.superstate (at.superstate + superstates_among (pieces_of states)) (widths (pieces_of states) around)
     (initial_of anew (pieces_of states)) (variables_among (weak_around around) (pieces_of states)) made =

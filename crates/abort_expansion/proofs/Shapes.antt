@@ -6,7 +6,7 @@ use Rattle.core_charts.specs.declared.region.Transition.{Transition}
 use Rattle.core_charts.specs.declared.region.Region.TheOpen.{State-F}
 use Rattle.core_charts.specs.declared.region.Region.TheViews.{roll-State, out-State, out-roll-State}
 use Rattle.abort_expansion.specs.declared.flags.Flags.{Flags}
-use Rattle.abort_expansion.specs.declared.places.Places.{Places}
+use Rattle.abort_expansion.specs.declared.places.RegionPlaces.{RegionPlaces}
 use Rattle.abort_expansion.specs.Flags.{preparation_name, continuation_name}
 use Rattle.abort_expansion.specs.Superstates.{preparation, continuation, fork}
 
@@ -21,11 +21,11 @@ rolled_named name begins final regions all =
     let y : State-F Region State = record { name = name; is_initial = begins; is_final = final; regions = regions; transitions = all } in
     record { name_is = ap (λ z. z.name) (out-roll-State y); begins_is = ap (λ z. z.is_initial) (out-roll-State y) }
 
-pub preparation_named : (s : ℕ) (flags : Flags) (regions : ℕ) (own : List Transition) (at : Places) (to : ℕ) (begins : Bool)
+pub preparation_named : (s : ℕ) (flags : Flags) (regions : ℕ) (own : List Transition) (at : RegionPlaces) (to : ℕ) (begins : Bool)
     → IsNamed (preparation_name s) begins (preparation s flags regions own at to begins)
 preparation_named s flags regions own at to begins = rolled_named (preparation_name s) begins false [] _
 
-pub continuation_named : (s : ℕ) (around : List Flags) (flags : Flags) (at : Places) (own : List Transition)
+pub continuation_named : (s : ℕ) (around : List Flags) (flags : Flags) (at : RegionPlaces) (own : List Transition)
     → IsNamed (continuation_name s) false (continuation s around flags at own)
 continuation_named s around flags at own = rolled_named (continuation_name s) false false [] _
 

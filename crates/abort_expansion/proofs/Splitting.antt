@@ -16,8 +16,8 @@ use Rattle.core_charts.specs.Aborts.{has_aborts, has_weak}
 use Rattle.sc_text.proofs.AddedNames.{added_is_named}
 use Rattle.sc_text.proofs.EachItem.{Each, each_append, each_more}
 use Rattle.abort_expansion.specs.declared.flags.Flags.{Flags}
-use Rattle.abort_expansion.specs.declared.places.Places.{Places}
-use Rattle.abort_expansion.specs.declared.pieces.Numbers.{Numbers}
+use Rattle.abort_expansion.specs.declared.places.RegionPlaces.{RegionPlaces}
+use Rattle.abort_expansion.specs.declared.pieces.NextNumbers.{NextNumbers}
 use Rattle.abort_expansion.specs.declared.pieces.Regions.{Regions}
 use Rattle.abort_expansion.specs.Flags.{flags_of, flag_count, one, weak_around, declarations, preparation_name, continuation_name, monitor_name}
 use Rattle.abort_expansion.specs.Pieces.{superstates_in, variables_in}
@@ -132,11 +132,11 @@ abbrev pub sized : List Region → List Transition → List Flags → ℕ
 sized regions own around =
     flag_count (weak_around around) own + variables_in (weak_around around || has_weak own) (map piece_of_region regions)
 
-abbrev pub mine : List Transition → List Flags → Numbers → Flags
+abbrev pub mine : List Transition → List Flags → NextNumbers → Flags
 mine own around at = flags_of (weak_around around) own at.variable
 
 pub forked_shape : (declared variables : List Variable) (levels m high : ℕ) (name : List ℕ) (regions : List Region) (own : List Transition)
-    (around : List Flags) (to : Places) (place : ℕ) (begins : Bool) (at : Numbers)
+    (around : List Flags) (to : RegionPlaces) (place : ℕ) (begins : Bool) (at : NextNumbers)
     → IsSuperstate declared variables levels m name regions own → high ≡ suc at.superstate + superstates_in (map piece_of_region regions) → high ≤ 2 ^ 64
     → HasShape (name ∷ []) at.superstate high 2 (one begins) (sized regions own around)
     (forked name own around (mine own around at) (inside_of regions own around at) to place begins at)
@@ -165,7 +165,7 @@ forked_shape declared variables levels m high name regions own around to place b
     }
 
 pub forked_keeps : (declared variables : List Variable) (levels m n : ℕ) (name : List ℕ) (regions : List Region) (own : List Transition) (around : List Flags)
-    (to : Places) (place : ℕ) (begins : Bool) (at : Numbers)
+    (to : RegionPlaces) (place : ℕ) (begins : Bool) (at : NextNumbers)
     → IsSuperstate declared variables levels m name regions own → has_regions regions ≡ true
     → suc at.superstate + superstates_in (map piece_of_region regions) ≤ 2 ^ 64
     → IsScene variables m n around to → place + 2 ≤ n

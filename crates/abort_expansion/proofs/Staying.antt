@@ -10,7 +10,7 @@ use Rattle.core_charts.specs.Rules.{IsTransition, allows}
 use Rattle.core_charts.specs.Tests.{is_strong, is_weak, is_join}
 use Rattle.core_charts.specs.Aborts.{has_strong, has_weak, has_aborts}
 use Rattle.sc_text.proofs.EachItem.{Each}
-use Rattle.abort_expansion.specs.declared.places.Places.{Places}
+use Rattle.abort_expansion.specs.declared.places.RegionPlaces.{RegionPlaces}
 use Rattle.abort_expansion.specs.Flags.{one, given, flags_of, flag_count, has_join, counts}
 use Rattle.abort_expansion.specs.Transitions.{led}
 use Rattle.abort_expansion.proofs.Lists.{count, count_is}
@@ -65,7 +65,7 @@ allowed_kind kind.Strong h k = absurd cc
 allowed_kind kind.Weak h k = absurd cc
 allowed_kind kind.Join h k = refl
 
-pub led_all_keep : (declared variables : List Variable) (m n : ℕ) (to : Places) (own : List Transition)
+pub led_all_keep : (declared variables : List Variable) (m n : ℕ) (to : RegionPlaces) (own : List Transition)
     → ArePlaces variables m n to → Each (InText declared variables m true) own → has_strong own ≡ false → has_weak own ≡ false
     → Each (IsTransition features.Core variables n true) (map (led to) own)
 led_all_keep declared variables m n to [] places h strong weak = tt
@@ -76,10 +76,10 @@ led_all_keep declared variables m n to (t ∷ own) places h strong weak =
       led_all_keep declared variables m n to own places h.1 first.1 second.1,
     )
 
-same_count : (to : Places) (own : List Transition) → count (λ t. is_join t.kind) (map (led to) own) ≡ count (λ t. is_join t.kind) own
+same_count : (to : RegionPlaces) (own : List Transition) → count (λ t. is_join t.kind) (map (led to) own) ≡ count (λ t. is_join t.kind) own
 same_count to [] = refl
 same_count to (t ∷ own) = ap (λ n. cond (is_join t.kind) (1 + n) n) (same_count to own)
 
-pub joins_led : (to : Places) (own : List Transition) → count_by (λ t. is_join t.kind) own ≤ 1 → count_by (λ t. is_join t.kind) (map (led to) own) ≤ 1
+pub joins_led : (to : RegionPlaces) (own : List Transition) → count_by (λ t. is_join t.kind) own ≤ 1 → count_by (λ t. is_join t.kind) (map (led to) own) ≤ 1
 joins_led to own few =
     omega (arith, few, same_count to own, count_is (λ t. is_join t.kind) own, count_is (λ t. is_join t.kind) (map (led to) own))

@@ -14,7 +14,7 @@ use Rattle.core_charts.specs.declared.region.TransitionKind.TheVariants as kind
 use Rattle.core_charts.specs.Rules.{IsEffect, IsTransition, kinds_of}
 use Rattle.sc_text.proofs.EachItem.{Each, each_append, each_at}
 use Rattle.abort_expansion.specs.declared.flags.Flags.{Flags}
-use Rattle.abort_expansion.specs.declared.places.Places.{Places}
+use Rattle.abort_expansion.specs.declared.places.RegionPlaces.{RegionPlaces}
 use Rattle.abort_expansion.specs.Flags.{local, is_there, aborts_around}
 use Rattle.abort_expansion.specs.Transitions.{is_number, is_raised, number, put, count_down, on, go, check, strong_checks, weak_checks, counting, place_of}
 use Rattle.abort_expansion.specs.Transitions.{led_by, answers, raising}
@@ -147,28 +147,28 @@ pub record IsTaken (variables : List Variable) (m : ℕ) (t : Transition) : Type
   pub target : t.target < m
 
 -- behind expansion the region has `n` states, and each of the text has a place among them
-pub record ArePlaces (variables : List Variable) (m n : ℕ) (at : Places) : Type 0 where
+pub record ArePlaces (variables : List Variable) (m n : ℕ) (at : RegionPlaces) : Type 0 where
   pub counter : IsFlagIfAny variables at.counter
   pub within : (target : ℕ) → target < m → place_of at target < n
 
-counted : (variables : List Variable) (at : Places) (final : Bool) (effects : List Effect) → IsFlagIfAny variables at.counter
+counted : (variables : List Variable) (at : RegionPlaces) (final : Bool) (effects : List Effect) → IsFlagIfAny variables at.counter
     → Each (IsEffect variables) effects → Each (IsEffect variables) (if final then effects ++ on at.counter count_down else effects)
 counted variables at true effects h k =
     each_append (IsEffect variables) effects (on at.counter count_down) k (counting_down_effects variables at.counter h)
 counted variables at false effects h k = k
 
-pub counting_effects : (variables : List Variable) (m n : ℕ) (at : Places) (t : Transition) → ArePlaces variables m n at → IsTaken variables m t
+pub counting_effects : (variables : List Variable) (m n : ℕ) (at : RegionPlaces) (t : Transition) → ArePlaces variables m n at → IsTaken variables m t
     → Each (IsEffect variables) (counting at t.target t.effects)
 counting_effects variables m n at t h k =
     counted variables at (unwrap_or (slice_get at.finals t.target) false) t.effects h.counter k.effects
 
-pub led_by_goes : (variables : List Variable) (m n : ℕ) (at : Places) (trigger : Option Expr) (t : Transition)
+pub led_by_goes : (variables : List Variable) (m n : ℕ) (at : RegionPlaces) (trigger : Option Expr) (t : Transition)
     → ArePlaces variables m n at → IsTaken variables m t → IsTrigger variables trigger → Goes variables n (led_by at trigger t)
 led_by_goes variables m n at trigger t h k tested =
     go_goes variables n true trigger (counting at t.target t.effects) (place_of at t.target)
     tested (counting_effects variables m n at t h k) (h.within t.target k.target)
 
-pub answers_go : (variables : List Variable) (m n : ℕ) (at : Places) (flag : Option ℕ) (i : ℕ) (aborts : List Transition)
+pub answers_go : (variables : List Variable) (m n : ℕ) (at : RegionPlaces) (flag : Option ℕ) (i : ℕ) (aborts : List Transition)
     → ArePlaces variables m n at → IsFlagIfAny variables flag → Each (IsTaken variables m) aborts → Each (Goes variables n) (answers at flag i aborts)
 answers_go variables m n at (Some x) i (t ∷ aborts) h flag each = (
   led_by_goes variables m n at (Some (is_number x i)) t h each.0 (number_trigger variables x i flag),

@@ -11,21 +11,21 @@ use Rattle.core_charts.specs.declared.region.Region.TheFolds.{fold-Region, fold-
 use Rattle.core_charts.specs.Chart.{Chart}
 use Rattle.core_charts.specs.Aborts.{has_weak}
 use Rattle.abort_expansion.specs.declared.flags.Flags.{Flags}
-use Rattle.abort_expansion.specs.declared.places.Places.{Places}
-use Rattle.abort_expansion.specs.declared.pieces.States.{States}
+use Rattle.abort_expansion.specs.declared.places.RegionPlaces.{RegionPlaces}
+use Rattle.abort_expansion.specs.declared.pieces.StatePieces.{StatePieces}
 use Rattle.abort_expansion.specs.declared.pieces.Regions.{Regions}
-use Rattle.abort_expansion.specs.declared.pieces.Numbers.{Numbers}
+use Rattle.abort_expansion.specs.declared.pieces.NextNumbers.{NextNumbers}
 use Rattle.abort_expansion.specs.Flags.{first_name, flag_count, flags_of, one, aborts_around, weak_around}
 use Rattle.abort_expansion.specs.Transitions.{count_down, on, go}
 use Rattle.abort_expansion.specs.Pieces.{beside, RegionPiece, StatePiece, superstates_in, states_in, variables_in, expanded_regions}
 use Rattle.abort_expansion.specs.Superstates.{simple, stays, is_prepared, abandoned, within, superstate_over}
 
 -- what is inside a superstate
-abbrev pub inside_superstate : List RegionPiece → List Transition → List Flags → Flags → Numbers → Regions
+abbrev pub inside_superstate : List RegionPiece → List Transition → List Flags → Flags → NextNumbers → Regions
 inside_superstate regions own around flags at =
     expanded_regions regions (around ++ flags ∷ []) flags.counter (within (weak_around around) own at)
 
-abbrev pub superstate : State-F RegionPiece StatePiece → List Flags → Flags → Places → ℕ → Bool → Numbers → States
+abbrev pub superstate : State-F RegionPiece StatePiece → List Flags → Flags → RegionPlaces → ℕ → Bool → NextNumbers → StatePieces
 superstate s around flags to place begins at =
     superstate_over s.name (length s.regions) s.transitions around flags
     (inside_superstate s.regions s.transitions around flags at) to place begins at
@@ -41,7 +41,7 @@ width false around own = 1
 width true around own =
     if stays around own then 1 else if is_prepared around own then 3 else 2
 
-abbrev pub made : Bool → State-F RegionPiece StatePiece → List Flags → Places → ℕ → Bool → Numbers → States
+abbrev pub made : Bool → State-F RegionPiece StatePiece → List Flags → RegionPlaces → ℕ → Bool → NextNumbers → StatePieces
 made false s around to place begins at =
     record {
       states = simple s.is_final s.name s.transitions around to begins ∷ [];
@@ -76,7 +76,7 @@ abbrev pub widths : List StatePiece → List Flags → ℕ
 widths [] around = 0
 widths (s ∷ states) around = s.width around + widths states around
 
-abbrev pub past_state : Bool → StatePiece → Numbers → Numbers
+abbrev pub past_state : Bool → StatePiece → NextNumbers → NextNumbers
 past_state weak s at =
     record {
       superstate = at.superstate + s.superstates;
@@ -85,7 +85,7 @@ past_state weak s at =
     }
 
 -- the states of a region, of which the initial one is initial still, unless another one was put before them
-abbrev pub expanded_states : Bool → List StatePiece → List Flags → Places → ℕ → Numbers → States
+abbrev pub expanded_states : Bool → List StatePiece → List Flags → RegionPlaces → ℕ → NextNumbers → StatePieces
 expanded_states anew [] around to place at = record { states = []; variables = []; stands_for = [] }
 expanded_states anew (s ∷ states) around to place at =
     beside (s.made around to place (s.is_initial && not anew) at)
@@ -107,7 +107,7 @@ initial_number [] n = n
 initial_number (s ∷ states) n = if s.is_initial then n else initial_number states (n + s.states)
 
 -- the new initial state, which counts down and goes to the one of the text
-abbrev pub new_initial : Bool → Option ℕ → (target number : ℕ) → States
+abbrev pub new_initial : Bool → Option ℕ → (target number : ℕ) → StatePieces
 new_initial true counter target number =
     record {
       states = roll-State (record {
@@ -123,12 +123,12 @@ new_initial true counter target number =
 new_initial false counter target number = record { states = []; variables = []; stands_for = [] }
 
 -- the abandoned state, in regions that superstates with aborts enclose
-abbrev pub left_behind : Bool → States
+abbrev pub left_behind : Bool → StatePieces
 left_behind true = record { states = abandoned ∷ []; variables = []; stands_for = None ∷ [] }
 left_behind false = record { states = []; variables = []; stands_for = [] }
 
 -- where the states of a region are, of which the first one of the text has this place
-abbrev pub region_places : List StatePiece → List Flags → Option ℕ → (begin : ℕ) → Places
+abbrev pub region_places : List StatePiece → List Flags → Option ℕ → (begin : ℕ) → RegionPlaces
 region_places states around counter begin =
     record {
       states = places states around begin;
@@ -138,17 +138,17 @@ region_places states around counter begin =
     }
 
 -- all states of a region: the new initial one, those of the text, and the abandoned one
-abbrev pub region_over : Bool → List StatePiece → List Flags → Option ℕ → (begin : ℕ) → Numbers → States
+abbrev pub region_over : Bool → List StatePiece → List Flags → Option ℕ → (begin : ℕ) → NextNumbers → StatePieces
 region_over anew states around counter begin at =
     beside (new_initial anew counter (initial_place states around begin) (initial_number states at.state))
     (beside (expanded_states anew states around (region_places states around counter begin) begin at)
     (left_behind (aborts_around around)))
 
-abbrev pub inside_region : List StatePiece → List Flags → Option ℕ → Numbers → States
+abbrev pub inside_region : List StatePiece → List Flags → Option ℕ → NextNumbers → StatePieces
 inside_region states around counter at =
     region_over (begins_anew counter states) states around counter (one (begins_anew counter states)) at
 
-abbrev pub named : List ℕ → States → Regions
+abbrev pub named : List ℕ → StatePieces → Regions
 named name inside =
     record {
       regions = roll-Region (record { name = name; states = inside.states }) ∷ [];
@@ -186,7 +186,7 @@ piece_of_state = fold-State RegionPiece StatePiece region_piece state_piece
 -- ---- charts
 
 -- where nothing is expanded yet, behind so many declared variables
-abbrev pub whole : ℕ → Numbers
+abbrev pub whole : ℕ → NextNumbers
 whole declared = record { superstate = 1; variable = declared; state = 0 }
 
 abbrev pub all_expanded : ℕ → List RegionPiece → Regions

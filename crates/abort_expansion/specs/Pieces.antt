@@ -1,14 +1,14 @@
 -- What pieces of a chart become, one beside the other, and how large they are.
 use Rattle.std.specs.Prelude.{ℕ, ◌+◌, Bool, Option, List, [], ◌∷◌, ◌++◌}
 use Rattle.abort_expansion.specs.declared.flags.Flags.{Flags}
-use Rattle.abort_expansion.specs.declared.places.Places.{Places}
-use Rattle.abort_expansion.specs.declared.pieces.States.{States}
+use Rattle.abort_expansion.specs.declared.places.RegionPlaces.{RegionPlaces}
+use Rattle.abort_expansion.specs.declared.pieces.StatePieces.{StatePieces}
 use Rattle.abort_expansion.specs.declared.pieces.Regions.{Regions}
-use Rattle.abort_expansion.specs.declared.pieces.Numbers.{Numbers}
+use Rattle.abort_expansion.specs.declared.pieces.NextNumbers.{NextNumbers}
 use Rattle.abort_expansion.specs.Flags.{weak_around}
 
 -- states with those behind them, and regions
-abbrev pub beside : States → States → States
+abbrev pub beside : StatePieces → StatePieces → StatePieces
 beside a b =
     record {
       states = a.states ++ b.states;
@@ -31,7 +31,7 @@ pub record RegionPiece : Type 0 where
   pub superstates : ℕ
   pub states : ℕ
   pub variables : (weak : Bool) → ℕ
-  pub made : (around : List Flags) → (counter : Option ℕ) → Numbers → Regions
+  pub made : (around : List Flags) → (counter : Option ℕ) → NextNumbers → Regions
 
 -- a state with all that is in it, and how many states it becomes
 pub record StatePiece : Type 0 where
@@ -42,7 +42,7 @@ pub record StatePiece : Type 0 where
   pub variables : (weak : Bool) → ℕ
   pub width : (around : List Flags) → ℕ
   -- from this place on; it is not initial where the region begins elsewhere
-  pub made : (around : List Flags) → Places → (place : ℕ) → (begins : Bool) → Numbers → States
+  pub made : (around : List Flags) → RegionPlaces → (place : ℕ) → (begins : Bool) → NextNumbers → StatePieces
 
 abbrev pub superstates_in : List RegionPiece → ℕ
 superstates_in [] = 0
@@ -56,7 +56,7 @@ abbrev pub variables_in : Bool → List RegionPiece → ℕ
 variables_in weak [] = 0
 variables_in weak (r ∷ regions) = r.variables weak + variables_in weak regions
 
-abbrev pub past_region : Bool → RegionPiece → Numbers → Numbers
+abbrev pub past_region : Bool → RegionPiece → NextNumbers → NextNumbers
 past_region weak r at =
     record {
       superstate = at.superstate + r.superstates;
@@ -65,7 +65,7 @@ past_region weak r at =
     }
 
 -- the regions of a superstate
-abbrev pub expanded_regions : List RegionPiece → List Flags → Option ℕ → Numbers → Regions
+abbrev pub expanded_regions : List RegionPiece → List Flags → Option ℕ → NextNumbers → Regions
 expanded_regions [] around counter at = record { regions = []; variables = []; stands_for = [] }
 expanded_regions (r ∷ regions) around counter at =
     together (r.made around counter at)

@@ -8,10 +8,10 @@ use Rattle.core_charts.specs.declared.region.Region.TheViews.{roll-Region, roll-
 use Rattle.core_charts.specs.Tests.{at_once, strong_aborts, weak_aborts, terminations}
 use Rattle.core_charts.specs.Aborts.{has_aborts}
 use Rattle.abort_expansion.specs.declared.flags.Flags.{Flags}
-use Rattle.abort_expansion.specs.declared.places.Places.{Places}
-use Rattle.abort_expansion.specs.declared.pieces.States.{States}
+use Rattle.abort_expansion.specs.declared.places.RegionPlaces.{RegionPlaces}
+use Rattle.abort_expansion.specs.declared.pieces.StatePieces.{StatePieces}
 use Rattle.abort_expansion.specs.declared.pieces.Regions.{Regions}
-use Rattle.abort_expansion.specs.declared.pieces.Numbers.{Numbers}
+use Rattle.abort_expansion.specs.declared.pieces.NextNumbers.{NextNumbers}
 use Rattle.abort_expansion.specs.Flags.{preparation_name, continuation_name, monitor_name, watching_name, abandoned_name, counts, flag_count, declarations}
 use Rattle.abort_expansion.specs.Flags.{aborts_around, weak_around}
 use Rattle.abort_expansion.specs.Transitions.{is_number, put, on, go, strong_checks, weak_checks, led, led_by, answers, raising}
@@ -21,12 +21,12 @@ use Rattle.abort_expansion.specs.Pieces.{beside}
 -- ---- simple states
 
 -- a simple state that is not final: strong checks, its own transitions, and weak checks, which are immediate
-abbrev pub simple_transitions : List Flags → Places → List Transition → List Transition
+abbrev pub simple_transitions : List Flags → RegionPlaces → List Transition → List Transition
 simple_transitions around at own =
     strong_checks false at.left around ++ map (led at) own ++ weak_checks true at.left around
 
 -- a simple state of this name and these transitions, by whether it is final
-abbrev pub simple : Bool → (name : List ℕ) → List Transition → List Flags → Places → Bool → State
+abbrev pub simple : Bool → (name : List ℕ) → List Transition → List Flags → RegionPlaces → Bool → State
 simple true name own around at begins =
     roll-State (record { name = name; is_initial = begins; is_final = true; regions = []; transitions = [] })
 simple false name own around at begins =
@@ -55,7 +55,7 @@ resets flags regions =
     on flags.strong (λ x. put x 0) ++ on flags.weak (λ x. put x 0) ++ on flags.counter (λ x. put x regions)
 
 -- the preparation state: the immediate strong aborts; then the flags and the counter are set, and the fork is entered
-abbrev pub preparation : (s : ℕ) → Flags → (regions : ℕ) → List Transition → Places → (fork : ℕ) → Bool → State
+abbrev pub preparation : (s : ℕ) → Flags → (regions : ℕ) → List Transition → RegionPlaces → (fork : ℕ) → Bool → State
 preparation s flags regions own at fork begins =
     roll-State
     (record {
@@ -99,18 +99,18 @@ monitor s around flags own =
 
 -- the termination, where weak aborts enclose the superstate: taken if all regions have ended, else the superstate is
 -- left
-abbrev pub joined_or_left : Places → Option ℕ → Transition → List Transition
+abbrev pub joined_or_left : RegionPlaces → Option ℕ → Transition → List Transition
 joined_or_left at (Some x) join = led_by at (Some (is_number x 0)) join ∷ go true None [] at.left ∷ []
 joined_or_left at None join = go true None [] at.left ∷ []
 
 -- what the continuation state does where no flag is raised
-abbrev pub closing : List Flags → Flags → Places → List Transition → List Transition
+abbrev pub closing : List Flags → Flags → RegionPlaces → List Transition → List Transition
 closing around flags at [] = weak_checks true at.left around
 closing around flags at (join ∷ others) =
     if weak_around around then joined_or_left at flags.counter join else led_by at None join ∷ []
 
 -- the continuation state: strong checks, then the aborts by their numbers, strong ones first, and then the termination
-abbrev pub continuation : (s : ℕ) → List Flags → Flags → Places → List Transition → State
+abbrev pub continuation : (s : ℕ) → List Flags → Flags → RegionPlaces → List Transition → State
 continuation s around flags at own =
     roll-State
     (record {
@@ -139,12 +139,12 @@ fork name begins regions target =
     })
 
 -- what is inside a superstate of these numbers: its own number and variables are passed
-abbrev pub within : Bool → List Transition → Numbers → Numbers
+abbrev pub within : Bool → List Transition → NextNumbers → NextNumbers
 within weak own at =
     record { superstate = suc at.superstate; variable = at.variable + flag_count weak own; state = suc at.state }
 
 -- a superstate without aborts that none enclose: as it is, with expanded regions
-abbrev pub as_it_is : (name : List ℕ) → List Transition → Regions → Places → Bool → Numbers → States
+abbrev pub as_it_is : (name : List ℕ) → List Transition → Regions → RegionPlaces → Bool → NextNumbers → StatePieces
 as_it_is name own inside to begins at =
     record {
       states = roll-State (record {
@@ -159,7 +159,7 @@ as_it_is name own inside to begins at =
     }
 
 -- the preparation state alone
-abbrev pub prepared : (regions : ℕ) → List Transition → Flags → Places → ℕ → Bool → Numbers → States
+abbrev pub prepared : (regions : ℕ) → List Transition → Flags → RegionPlaces → ℕ → Bool → NextNumbers → StatePieces
 prepared regions own flags to place begins at =
     record {
       states = preparation at.superstate flags regions own to (suc place) begins ∷ [];
@@ -168,8 +168,8 @@ prepared regions own flags to place begins at =
     }
 
 -- the fork with what is inside it, a monitor's two states among it, and the continuation state
-abbrev pub forked : (name : List ℕ) → List Transition → List Flags → Flags → Regions → Places → ℕ → Bool → Numbers
-    → States
+abbrev pub forked : (name : List ℕ) → List Transition → List Flags → Flags → Regions → RegionPlaces → ℕ → Bool → NextNumbers
+    → StatePieces
 forked name own around flags inside to place begins at =
     record {
       states =
@@ -181,8 +181,8 @@ forked name own around flags inside to place begins at =
     }
 
 -- any other one: the preparation state where it is prepared, the fork, and the continuation state
-abbrev pub split : (name : List ℕ) → (regions : ℕ) → List Transition → List Flags → Flags → Regions → Places → ℕ → Bool
-    → Numbers → States
+abbrev pub split : (name : List ℕ) → (regions : ℕ) → List Transition → List Flags → Flags → Regions → RegionPlaces → ℕ → Bool
+    → NextNumbers → StatePieces
 split name regions own around flags inside to place begins at =
     if is_prepared around own
     then beside (prepared regions own flags to place begins at)
@@ -190,8 +190,8 @@ split name regions own around flags inside to place begins at =
     else forked name own around flags inside to place begins at
 
 -- a superstate of this name, so many regions and these transitions, over what is inside it
-abbrev pub superstate_over : (name : List ℕ) → (regions : ℕ) → List Transition → List Flags → Flags → Regions → Places → ℕ
-    → Bool → Numbers → States
+abbrev pub superstate_over : (name : List ℕ) → (regions : ℕ) → List Transition → List Flags → Flags → Regions → RegionPlaces → ℕ
+    → Bool → NextNumbers → StatePieces
 superstate_over name regions own around flags inside to place begins at =
     if stays around own
     then as_it_is name own inside to begins at

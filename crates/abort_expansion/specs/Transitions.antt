@@ -8,7 +8,7 @@ use Rattle.core_charts.specs.declared.region.Effect.{Effect}
 use Rattle.core_charts.specs.declared.region.Transition.{Transition}
 use Rattle.core_charts.specs.declared.region.TransitionKind.TheVariants as kind
 use Rattle.abort_expansion.specs.declared.flags.Flags.{Flags}
-use Rattle.abort_expansion.specs.declared.places.Places.{Places}
+use Rattle.abort_expansion.specs.declared.places.RegionPlaces.{RegionPlaces}
 
 abbrev pub number : ℕ → Expr
 number n = expr.Literal (value.Int (pos n))
@@ -51,23 +51,23 @@ weak_checks immediate left around = flat_map (λ f. check immediate left f.weak)
 -- ---- transitions to states of the text
 
 -- a transition to a final state counts down, as its last effect
-abbrev pub counting : Places → (target : ℕ) → List Effect → List Effect
+abbrev pub counting : RegionPlaces → (target : ℕ) → List Effect → List Effect
 counting at target effects =
     if unwrap_or (slice_get at.finals target) false then effects ++ on at.counter count_down else effects
 
-abbrev pub place_of : Places → (target : ℕ) → ℕ
+abbrev pub place_of : RegionPlaces → (target : ℕ) → ℕ
 place_of at target = unwrap_or (slice_get at.states target) 0
 
 -- a transition as it stands, to where its target is
-abbrev pub led : Places → Transition → Transition
+abbrev pub led : RegionPlaces → Transition → Transition
 led at t = record t { effects = counting at t.target t.effects; target = place_of at t.target }
 
 -- its effects and target, tested at once by this trigger
-abbrev pub led_by : Places → Option Expr → Transition → Transition
+abbrev pub led_by : RegionPlaces → Option Expr → Transition → Transition
 led_by at trigger t = go true trigger (counting at t.target t.effects) (place_of at t.target)
 
 -- of the aborts of a superstate, from number i on: its effects and target, tested by the flag
-abbrev pub answers : Places → Option ℕ → (i : ℕ) → List Transition → List Transition
+abbrev pub answers : RegionPlaces → Option ℕ → (i : ℕ) → List Transition → List Transition
 answers at (Some x) i (t ∷ aborts) = led_by at (Some (is_number x i)) t ∷ answers at (Some x) (suc i) aborts
 answers at flag i aborts = []
 

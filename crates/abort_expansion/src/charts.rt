@@ -7,7 +7,7 @@ ghost use Rattle.abort_expansion.specs.Expansion.{IsExpandable, expanded, piece_
 
 use crate::counting::regions_size;
 use crate::fault::ExpandFault;
-use crate::pieces::Numbers;
+use crate::pieces::NextNumbers;
 use crate::regions::expanded_regions;
 use crate::state_map::StateMap;
 use core_charts::{Chart, CoreChart, copied_variables};
@@ -58,11 +58,11 @@ fn expanded(alloc: Global, chart: &Chart) -> Result<(CoreChart, StateMap), Alloc
 }
 
 // Where nothing is expanded yet, behind the declared variables. Err: no memory holds so many.
-fn whole(declared: &[Variable]) -> Result<Numbers, AllocError>
+fn whole(declared: &[Variable]) -> Result<NextNumbers, AllocError>
     ensures { IfOk result (λ at. at ≡ whole (length declared.now)) }
 {
     match u32::try_from(declared.len()) {
-        Ok(variable) => Ok(Numbers {
+        Ok(variable) => Ok(NextNumbers {
             superstate: 1,
             variable,
             state: 0,

@@ -7,7 +7,7 @@ ghost use Rattle.abort_expansion.specs.Inside.Sorts.{is_abort_of, aborts_of, is_
 
 use crate::flags::Flags;
 use crate::making::{alone, check, go, is_number, put};
-use crate::places::{Places, copied_trigger};
+use crate::places::{RegionPlaces, copied_trigger};
 use core_charts::{Transition, TransitionKind};
 use sc_graph::VariableId;
 use sqlite_items::Items;
@@ -47,18 +47,18 @@ pub(crate) fn weak_checks(
 
 /// Which aborts are meant.
 #[derive(Clone, Copy, Debug)]
-pub enum Sort {
+pub enum AbortSort {
     Strong,
     Weak,
 }
 
-impl Sort {
+impl AbortSort {
     fn has(self, kind: TransitionKind) -> bool
         ensures { result ≡ is_abort_of self kind }
     {
         match self {
-            Sort::Strong => kind.is_strong(),
-            Sort::Weak => kind.is_weak(),
+            AbortSort::Strong => kind.is_strong(),
+            AbortSort::Weak => kind.is_weak(),
         }
     }
 
@@ -67,8 +67,8 @@ impl Sort {
         ensures { result ≡ is_told_at_once self transition.now }
     {
         match self {
-            Sort::Strong => false,
-            Sort::Weak => transition.immediate,
+            AbortSort::Strong => false,
+            AbortSort::Weak => transition.immediate,
         }
     }
 }
@@ -86,8 +86,8 @@ fn next(number: u16) -> Result<u16, AllocError>
 /// The effects and targets of the aborts of this sort, each tested by its number in the flag.
 pub(crate) fn answers(
     alloc: Global,
-    sort: Sort,
-    at: &Places,
+    sort: AbortSort,
+    at: &RegionPlaces,
     flag: Option<VariableId>,
     own: &[Transition],
 ) -> Result<Items<Transition>, AllocError>
@@ -111,7 +111,7 @@ pub(crate) fn answers(
 /// The triggers of the aborts of this sort, each of which puts its number into the flag.
 pub(crate) fn raising(
     alloc: Global,
-    sort: Sort,
+    sort: AbortSort,
     left: u32,
     flag: Option<VariableId>,
     own: &[Transition],
@@ -137,7 +137,7 @@ pub(crate) fn raising(
 /// The immediate strong aborts, with their triggers.
 pub(crate) fn entry_aborts(
     alloc: Global,
-    at: &Places,
+    at: &RegionPlaces,
     own: &[Transition],
 ) -> Result<Items<Transition>, AllocError>
     ensures { IfOk result (λ made. made ≡ map (λ t. led_by at.now t.trigger t) (at_once (strong_aborts own.now))) }

@@ -6,7 +6,7 @@ ghost use Rattle.abort_expansion.specs.Pieces.{superstates_in, variables_in, pas
 ghost use Rattle.abort_expansion.specs.Expansion.{piece_of_region, piece_of_state, past_state, initial_number};
 
 use crate::flags::{Flags, flag_count, weak_around};
-use crate::pieces::Numbers;
+use crate::pieces::NextNumbers;
 use core_charts::{Region, State, has_weak};
 use std::alloc::AllocError;
 
@@ -105,32 +105,36 @@ pub(crate) fn regions_size(regions: &[Region]) -> Result<Size, AllocError>
     Ok(size)
 }
 
-impl Numbers {
+impl NextNumbers {
     /// Those behind a region. Err: no memory holds so many.
     pub(crate) fn past_region(
         self,
         around: &[Flags],
         region: &Region,
-    ) -> Result<Numbers, AllocError>
+    ) -> Result<NextNumbers, AllocError>
         ensures { IfOk result (λ next. next ≡ past_region (weak_around around.now) (piece_of_region region.now) self) }
     {
         self.past(region_size(weak_around(around), region)?)
     }
 
     /// Those behind a state. Err: no memory holds so many.
-    pub(crate) fn past_state(self, around: &[Flags], state: &State) -> Result<Numbers, AllocError>
+    pub(crate) fn past_state(
+        self,
+        around: &[Flags],
+        state: &State,
+    ) -> Result<NextNumbers, AllocError>
         ensures { IfOk result (λ next. next ≡ past_state (weak_around around.now) (piece_of_state state.now) self) }
     {
         self.past(state_size(weak_around(around), state)?)
     }
 
     // Those behind a piece of this size. Err: no memory holds so many.
-    fn past(self, size: Size) -> Result<Numbers, AllocError>
+    fn past(self, size: Size) -> Result<NextNumbers, AllocError>
         ensures superstate { IfOk result (λ next. next.superstate ≡ self.superstate + size.superstates) }
         ensures variable { IfOk result (λ next. next.variable ≡ self.variable + size.variables) }
         ensures state { IfOk result (λ next. next.state ≡ self.state + size.states) }
     {
-        Ok(Numbers {
+        Ok(NextNumbers {
             superstate: sum(self.superstate, size.superstates)?,
             variable: sum(self.variable, size.variables)?,
             state: sum(self.state, size.states)?,
@@ -138,12 +142,12 @@ impl Numbers {
     }
 
     /// Those inside a superstate, behind its own number and its variables. Err: no memory holds so many.
-    pub(crate) fn within(self, variables: u32) -> Result<Numbers, AllocError>
+    pub(crate) fn within(self, variables: u32) -> Result<NextNumbers, AllocError>
         ensures superstate { IfOk result (λ next. next.superstate ≡ self.superstate + 1) }
         ensures variable { IfOk result (λ next. next.variable ≡ self.variable + variables) }
         ensures state { IfOk result (λ next. next.state ≡ self.state + 1) }
     {
-        Ok(Numbers {
+        Ok(NextNumbers {
             superstate: sum(self.superstate, 1)?,
             variable: sum(self.variable, variables)?,
             state: sum(self.state, 1)?,

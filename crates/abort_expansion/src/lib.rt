@@ -19,6 +19,6 @@ mod superstates;
 pub use charts::expand;
 pub use fault::ExpandFault;
 pub use flags::Flags;
-pub use pieces::{Numbers, Regions, States};
-pub use places::Places;
+pub use pieces::{NextNumbers, Regions, StatePieces};
+pub use places::RegionPlaces;
 pub use state_map::StateMap;

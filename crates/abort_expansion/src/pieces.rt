@@ -8,9 +8,9 @@ use sc_graph::Variable;
 use sqlite_items::Items;
 use std::alloc::AllocError;
 
-/// States that stand side by side in a region.
+/// StatePieces that stand side by side in a region.
 #[derive(Debug, Drop)]
-pub struct States {
+pub struct StatePieces {
     pub states: Items<State>,
     /// The variables that they need.
     pub variables: Items<Variable>,
@@ -30,15 +30,15 @@ pub struct Regions {
 
 /// The numbers that come next: of a superstate, of a variable, of a state of the text.
 #[derive(Clone, Copy, Debug)]
-pub struct Numbers {
+pub struct NextNumbers {
     pub superstate: u32,
     pub variable: u32,
     pub state: u32,
 }
 
-impl States {
+impl StatePieces {
     /// Puts others behind these.
-    pub(crate) fn put(&mut self, more: States) -> Result<(), AllocError>
+    pub(crate) fn put(&mut self, more: StatePieces) -> Result<(), AllocError>
         ensures { OnOk result (self.new ≡ beside self.old more) }
     {
         self.states.append(more.states)?;

@@ -12,7 +12,7 @@ use std::alloc::{AllocError, Global};
 
 /// Where the states of a region are, behind expansion.
 #[derive(Debug, Drop)]
-pub struct Places {
+pub struct RegionPlaces {
     /// Of each state of the text its place.
     pub states: Items<u32>,
     /// Of each state of the text whether it is final.
@@ -23,7 +23,7 @@ pub struct Places {
     pub counter: Option<VariableId>,
 }
 
-impl Places {
+impl RegionPlaces {
     fn place_of(&self, target: u32) -> u32
         ensures { result ≡ place_of self.now target }
     {

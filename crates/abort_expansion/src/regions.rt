@@ -12,8 +12,8 @@ use crate::counting::initial_number;
 use crate::flags::{Flags, aborts_around, flag_count, flags_of, weak_around};
 use crate::making::{alone, counting_down, go};
 use crate::names::first_name;
-use crate::pieces::{Numbers, Regions, States};
-use crate::places::Places;
+use crate::pieces::{NextNumbers, Regions, StatePieces};
+use crate::places::RegionPlaces;
 use crate::states::{abandoned, simple};
 use crate::superstates::{is_prepared, stays, superstate_over};
 use core_charts::{Region, State};
@@ -28,7 +28,7 @@ pub(crate) fn expanded_regions(
     regions: &[Region],
     around: &[Flags],
     counter: Option<VariableId>,
-    at: Numbers,
+    at: NextNumbers,
 ) -> Result<Regions, AllocError>
     ensures { IfOk result (λ made. made ≡ expanded_regions (map piece_of_region regions.now) around.now counter at) }
 {
@@ -52,7 +52,7 @@ fn expanded_region(
     region: &Region,
     around: &[Flags],
     counter: Option<VariableId>,
-    at: Numbers,
+    at: NextNumbers,
 ) -> Result<Regions, AllocError>
     ensures { IfOk result (λ made. made ≡ (piece_of_region region.now).made around.now counter at) }
 {
@@ -78,8 +78,8 @@ fn inside_region(
     states: &[State],
     around: &[Flags],
     counter: Option<VariableId>,
-    at: Numbers,
-) -> Result<States, AllocError>
+    at: NextNumbers,
+) -> Result<StatePieces, AllocError>
     ensures { IfOk result (λ made. made ≡ inside_region (map piece_of_state states.now) around.now counter at) }
 {
     let anew = begins_anew(counter, states);
@@ -101,16 +101,16 @@ fn expanded_states(
     anew: bool,
     states: &[State],
     around: &[Flags],
-    to: &Places,
+    to: &RegionPlaces,
     first: u32,
-    at: Numbers,
-) -> Result<States, AllocError>
+    at: NextNumbers,
+) -> Result<StatePieces, AllocError>
     ensures { IfOk result (λ made. made
         ≡ expanded_states anew (map piece_of_state states.now) around.now to.now first at) }
 {
     let mut here = at;
     let mut place = first;
-    let mut made = States {
+    let mut made = StatePieces {
         states: Items::new(alloc),
         variables: Items::new(alloc),
         stands_for: Items::new(alloc),
@@ -130,17 +130,17 @@ fn expanded_state(
     alloc: Global,
     state: &State,
     around: &[Flags],
-    to: &Places,
+    to: &RegionPlaces,
     place: u32,
     begins: bool,
-    at: Numbers,
-) -> Result<States, AllocError>
+    at: NextNumbers,
+) -> Result<StatePieces, AllocError>
     ensures { IfOk result (λ made. made ≡ (piece_of_state state.now).made around.now to.now place begins at) }
 {
     let own = state.transitions.as_slice();
     if !state.is_superstate() {
         let made = simple(alloc, state.is_final, state.name, own, around, to, begins)?;
-        return Ok(States {
+        return Ok(StatePieces {
             states: alone(alloc, made)?,
             variables: Items::new(alloc),
             stands_for: alone(alloc, Some(at.state))?,
@@ -161,7 +161,7 @@ fn inside_superstate(
     state: &State,
     around: &[Flags],
     flags: Flags,
-    at: Numbers,
+    at: NextNumbers,
 ) -> Result<Regions, AllocError>
     ensures { IfOk result (λ made. made ≡ inside_superstate (map piece_of_region (out-State state.now).regions)
         (out-State state.now).transitions around.now flags at) }
@@ -221,7 +221,7 @@ fn region_places(
     around: &[Flags],
     counter: Option<VariableId>,
     begin: u32,
-) -> Result<Places, AllocError>
+) -> Result<RegionPlaces, AllocError>
     ensures { IfOk result (λ made. made ≡ region_places (map piece_of_state states.now) around.now counter begin) }
 {
     let mut place = begin;
@@ -232,7 +232,7 @@ fn region_places(
         finals.push(state.is_final)?;
         place = past(place, width(state, around))?;
     }
-    Ok(Places {
+    Ok(RegionPlaces {
         states: places,
         finals,
         left: place,
@@ -276,11 +276,11 @@ fn new_initial(
     counter: Option<VariableId>,
     target: u32,
     number: u32,
-) -> Result<States, AllocError>
+) -> Result<StatePieces, AllocError>
     ensures { IfOk result (λ made. made ≡ new_initial anew counter target number) }
 {
     if !anew {
-        return Ok(States {
+        return Ok(StatePieces {
             states: Items::new(alloc),
             variables: Items::new(alloc),
             stands_for: Items::new(alloc),
@@ -298,7 +298,7 @@ fn new_initial(
             transitions,
         },
     )?;
-    Ok(States {
+    Ok(StatePieces {
         states,
         variables: Items::new(alloc),
         stands_for: alone(alloc, Some(number))?,
@@ -306,7 +306,7 @@ fn new_initial(
 }
 
 // The abandoned state, where superstates with aborts enclose the region.
-fn left_behind(alloc: Global, is_there: bool) -> Result<States, AllocError>
+fn left_behind(alloc: Global, is_there: bool) -> Result<StatePieces, AllocError>
     ensures { IfOk result (λ made. made ≡ left_behind is_there) }
 {
     let mut states = Items::new(alloc);
@@ -315,7 +315,7 @@ fn left_behind(alloc: Global, is_there: bool) -> Result<States, AllocError>
         states.push(abandoned(alloc))?;
         stands_for.push(None)?;
     }
-    Ok(States {
+    Ok(StatePieces {
         states,
         variables: Items::new(alloc),
         stands_for,

@@ -6,13 +6,13 @@ ghost use Rattle.abort_expansion.specs.Superstates.{simple, simple_transitions, 
 ghost use Rattle.abort_expansion.specs.Superstates.{monitor, monitor_transitions, continuation, closing};
 ghost use Rattle.abort_expansion.specs.Superstates.{joined_or_left, all_ended, fork};
 
-use crate::checks::{Sort, answers, entry_aborts, raising, strong_checks, weak_checks};
+use crate::checks::{AbortSort, answers, entry_aborts, raising, strong_checks, weak_checks};
 use crate::flags::{Flags, weak_around};
 use crate::making::{alone, go, is_number, put};
 use crate::names::{
     abandoned_name, continuation_name, monitor_name, preparation_name, watching_name,
 };
-use crate::places::Places;
+use crate::places::RegionPlaces;
 use core_charts::{Effect, Region, State, Transition, TransitionKind};
 use sc_graph::VariableId;
 use sc_values::Name;
@@ -26,7 +26,7 @@ pub(crate) fn simple(
     name: Name,
     own: &[Transition],
     around: &[Flags],
-    at: &Places,
+    at: &RegionPlaces,
     begins: bool,
 ) -> Result<State, AllocError>
     ensures { IfOk result (λ made. made ≡ simple is_final name own.now around.now at.now begins) }
@@ -49,7 +49,7 @@ fn simple_transitions(
     alloc: Global,
     own: &[Transition],
     around: &[Flags],
-    at: &Places,
+    at: &RegionPlaces,
 ) -> Result<Items<Transition>, AllocError>
     ensures { IfOk result (λ made. made ≡ simple_transitions around.now at.now own.now) }
 {
@@ -66,7 +66,7 @@ pub(crate) fn preparation(
     flags: Flags,
     regions: u16,
     own: &[Transition],
-    at: &Places,
+    at: &RegionPlaces,
     fork: u32,
     begins: bool,
 ) -> Result<State, AllocError>
@@ -135,8 +135,8 @@ fn monitor_transitions(
     ensures { IfOk result (λ made. made ≡ monitor_transitions around.now flags own.now) }
 {
     let mut made = strong_checks(alloc, false, 1, around)?;
-    made.append(raising(alloc, Sort::Strong, 1, flags.strong, own)?)?;
-    made.append(raising(alloc, Sort::Weak, 1, flags.weak, own)?)?;
+    made.append(raising(alloc, AbortSort::Strong, 1, flags.strong, own)?)?;
+    made.append(raising(alloc, AbortSort::Weak, 1, flags.weak, own)?)?;
     made.append(all_ended(alloc, flags.counter)?)?;
     made.append(weak_checks(alloc, true, 1, around)?)?;
     Ok(made)
@@ -170,7 +170,7 @@ pub(crate) fn monitor(
 
 fn joined_or_left(
     alloc: Global,
-    at: &Places,
+    at: &RegionPlaces,
     counter: Option<VariableId>,
     join: &Transition,
 ) -> Result<Items<Transition>, AllocError>
@@ -189,7 +189,7 @@ fn closing(
     alloc: Global,
     around: &[Flags],
     flags: Flags,
-    at: &Places,
+    at: &RegionPlaces,
     own: &[Transition],
 ) -> Result<Items<Transition>, AllocError>
     ensures { IfOk result (λ made. made ≡ closing around.now flags at.now (terminations own.now)) }
@@ -207,7 +207,7 @@ fn ending(
     alloc: Global,
     around: &[Flags],
     flags: Flags,
-    at: &Places,
+    at: &RegionPlaces,
     join: &Transition,
 ) -> Result<Items<Transition>, AllocError>
     ensures { IfOk result (λ made. made ≡ closing around.now flags at.now (join.now ∷ [])) }
@@ -226,14 +226,14 @@ pub(crate) fn continuation(
     superstate: u32,
     around: &[Flags],
     flags: Flags,
-    at: &Places,
+    at: &RegionPlaces,
     own: &[Transition],
 ) -> Result<State, AllocError>
     ensures { IfOk result (λ made. made ≡ continuation superstate around.now flags at.now own.now) }
 {
     let mut transitions = strong_checks(alloc, true, at.left, around)?;
-    transitions.append(answers(alloc, Sort::Strong, at, flags.strong, own)?)?;
-    transitions.append(answers(alloc, Sort::Weak, at, flags.weak, own)?)?;
+    transitions.append(answers(alloc, AbortSort::Strong, at, flags.strong, own)?)?;
+    transitions.append(answers(alloc, AbortSort::Weak, at, flags.weak, own)?)?;
     transitions.append(closing(alloc, around, flags, at, own)?)?;
     Ok(State {
         name: continuation_name(superstate),

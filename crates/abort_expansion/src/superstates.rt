@@ -9,8 +9,8 @@ ghost use Rattle.abort_expansion.specs.Superstates.{superstate_over, watched, mo
 use crate::flags::{Flags, aborts_around, counts, weak_around};
 use crate::making::alone;
 use crate::names::{counter_name, strong_flag_name, weak_flag_name};
-use crate::pieces::{Numbers, Regions, States};
-use crate::places::Places;
+use crate::pieces::{NextNumbers, Regions, StatePieces};
+use crate::places::RegionPlaces;
 use crate::states::{continuation, fork, monitor, preparation};
 use core_charts::{Region, State, Transition, has_aborts};
 use sc_graph::{Role, Variable};
@@ -76,10 +76,10 @@ fn as_it_is(
     name: Name,
     own: &[Transition],
     inside: Regions,
-    to: &Places,
+    to: &RegionPlaces,
     begins: bool,
-    at: Numbers,
-) -> Result<States, AllocError>
+    at: NextNumbers,
+) -> Result<StatePieces, AllocError>
     ensures { IfOk result (λ made. made ≡ as_it_is name own.now inside to.now begins at) }
 {
     let transitions = to.all_led(alloc, own)?;
@@ -93,7 +93,7 @@ fn as_it_is(
             transitions,
         },
     )?;
-    Ok(States {
+    Ok(StatePieces {
         states,
         variables: inside.variables,
         stands_for: standing(alloc, at.state, inside.stands_for)?,
@@ -105,16 +105,16 @@ fn prepared(
     regions: u16,
     own: &[Transition],
     flags: Flags,
-    to: &Places,
+    to: &RegionPlaces,
     place: u32,
     begins: bool,
-    at: Numbers,
-) -> Result<States, AllocError>
+    at: NextNumbers,
+) -> Result<StatePieces, AllocError>
     ensures { IfOk result (λ made. made ≡ prepared regions own.now flags to.now place begins at) }
 {
     let fork = next(place)?;
     let state = preparation(alloc, at.superstate, flags, regions, own, to, fork, begins)?;
-    Ok(States {
+    Ok(StatePieces {
         states: alone(alloc, state)?,
         variables: Items::new(alloc),
         stands_for: alone(alloc, Some(at.state))?,
@@ -169,11 +169,11 @@ fn forked(
     around: &[Flags],
     flags: Flags,
     inside: Regions,
-    to: &Places,
+    to: &RegionPlaces,
     place: u32,
     begins: bool,
-    at: Numbers,
-) -> Result<States, AllocError>
+    at: NextNumbers,
+) -> Result<StatePieces, AllocError>
     ensures { IfOk result (λ made. made ≡ forked name own.now around.now flags inside to.now place begins at) }
 {
     let mut regions = inside.regions;
@@ -185,7 +185,7 @@ fn forked(
     states.push(continuation(alloc, at.superstate, around, flags, to, own)?)?;
     let mut variables = declarations(alloc, at.superstate, flags)?;
     variables.append(inside.variables)?;
-    Ok(States {
+    Ok(StatePieces {
         states,
         variables,
         stands_for,
@@ -200,11 +200,11 @@ fn split(
     around: &[Flags],
     flags: Flags,
     inside: Regions,
-    to: &Places,
+    to: &RegionPlaces,
     place: u32,
     begins: bool,
-    at: Numbers,
-) -> Result<States, AllocError>
+    at: NextNumbers,
+) -> Result<StatePieces, AllocError>
     ensures { IfOk result (λ made. made ≡ split name regions own.now around.now flags inside to.now place begins at) }
 {
     if !is_prepared(around, own) {
@@ -229,11 +229,11 @@ pub(crate) fn superstate_over(
     around: &[Flags],
     flags: Flags,
     inside: Regions,
-    to: &Places,
+    to: &RegionPlaces,
     place: u32,
     begins: bool,
-    at: Numbers,
-) -> Result<States, AllocError>
+    at: NextNumbers,
+) -> Result<StatePieces, AllocError>
     ensures { IfOk result (λ made. made
         ≡ superstate_over name regions own.now around.now flags inside to.now place begins at) }
 {

@@ -13,7 +13,7 @@ use Rattle.chart_machine.specs.declared.table.Table.{Table}
 use Rattle.chart_machine.specs.Turns.{standing_of, guards, is_guarded}
 use Rattle.chart_machine.specs.Steps.{verdict, access_of, access_of_trigger}
 use Rattle.chart_machine.specs.Machine.{machine}
-use Rattle.abort_expansion.specs.declared.places.Places.{Places}
+use Rattle.abort_expansion.specs.declared.places.RegionPlaces.{RegionPlaces}
 use Rattle.abort_expansion.specs.Transitions.{is_number, led_by, answers}
 use Rattle.tick_laws.proofs.Lists.{same_or_not}
 use Rattle.abort_expansion_laws.specs.Stages.{Entry, Silent, Correspondence, IsSilent}
@@ -101,7 +101,7 @@ module _ (core : Table) (corr : Correspondence) (Told : Configuration → Entry 
 
 -- ---- answers
 
-module _ (corr : Correspondence) (home : ℕ) (places : Places) (values : List Value) (x : ℕ) (silent : IsSilent corr home None (tests x)) where
+module _ (corr : Correspondence) (home : ℕ) (places : RegionPlaces) (values : List Value) (x : ℕ) (silent : IsSilent corr home None (tests x)) where
   one_fails : (number m : ℕ) (u : Transition) → slice_get values x ≡ Some (value_is.Int (pos number)) → number ≢ m →
       (verdict values (led_by places (Some (is_number x m)) u).trigger ≡ Some false)
       × IsSilent corr home None (access_of_trigger (led_by places (Some (is_number x m)) u).trigger)
@@ -143,7 +143,7 @@ module _ (corr : Correspondence) (home : ℕ) (places : Places) (values : List V
       }
 
 -- answers are tested at once
-pub answers_first : (places : Places) (flag : Option ℕ) (aborts rest : List Transition) (m : ℕ) →
+pub answers_first : (places : RegionPlaces) (flag : Option ℕ) (aborts rest : List Transition) (m : ℕ) →
     at_once (answers places flag m aborts ++ rest) ≡ answers places flag m aborts ++ at_once rest
 answers_first places None [] rest m = refl
 answers_first places None (u ∷ aborts) rest m = refl

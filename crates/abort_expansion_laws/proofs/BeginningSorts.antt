@@ -11,7 +11,7 @@ use Rattle.chart_machine.specs.declared.table.Table.{Table}
 use Rattle.chart_machine.specs.Table.{state_at}
 use Rattle.chart_machine.specs.Steps.{to, state_in}
 use Rattle.abort_expansion.specs.declared.flags.Flags.{Flags}
-use Rattle.abort_expansion.specs.declared.places.Places.{Places}
+use Rattle.abort_expansion.specs.declared.places.RegionPlaces.{RegionPlaces}
 use Rattle.abort_expansion.specs.Transitions.{go, led, led_by, count_down}
 use Rattle.abort_expansion.specs.Superstates.{simple_transitions, stays, is_prepared, resets}
 use Rattle.chart_machine_laws.specs.Tree.{around, holder}
@@ -24,7 +24,7 @@ use Rattle.abort_expansion_laws.proofs.StateEntry.{Entry, entry_ends, entry_trie
 use Rattle.abort_expansion_laws.proofs.FreshInside.{Fresh, Begins, NobodyIn, ElsewhereNobody, begins_closed, begins_open}
 
 -- the tests of a preparation are all made on entry
-once_led_by : (places : Places) (ts : List Transition) (last : Transition) → last.immediate ≡ true →
+once_led_by : (places : RegionPlaces) (ts : List Transition) (last : Transition) → last.immediate ≡ true →
     at_once (map (λ t. led_by places t.trigger t) ts ++ last ∷ []) ≡ map (λ t. led_by places t.trigger t) ts ++ last ∷ []
 once_led_by places [] last e = rw (e) refl
 once_led_by places (t ∷ ts) last e = ap (λ zs. led_by places t.trigger t ∷ zs) (once_led_by places ts last e)

@@ -9,7 +9,7 @@ use Rattle.chart_machine.specs.declared.standing.Configuration.{Configuration}
 use Rattle.chart_machine.specs.declared.table.Table.{Table}
 use Rattle.chart_machine.specs.Steps.{to, moved}
 use Rattle.chart_machine.specs.Machine.{machine}
-use Rattle.abort_expansion.specs.declared.places.Places.{Places}
+use Rattle.abort_expansion.specs.declared.places.RegionPlaces.{RegionPlaces}
 use Rattle.abort_expansion.specs.Transitions.{counting}
 use Rattle.abort_expansion_laws.specs.CoreRows.{Images, CoreRows}
 use Rattle.abort_expansion_laws.specs.Related.{Related}
@@ -40,7 +40,7 @@ overwritten r moves begins regions v =
     ap (λ ms. moved ms (slice_set regions r v)) begins.are ∙ (ap (moved begins.others) (set_twice regions r v begins.first) ∙
     ap (λ ms. moved ms regions) (sym begins.are))
 
-pub not_counting : (places : Places) (p : ℕ) (effects : List Effect) → unwrap_or (slice_get places.finals p) false ≡ false → counting places p effects ≡ effects
+pub not_counting : (places : RegionPlaces) (p : ℕ) (effects : List Effect) → unwrap_or (slice_get places.finals p) false ≡ false → counting places p effects ≡ effects
 not_counting places p effects e = rw (e) refl
 
 pub none_counted : (k core : Table) (i : Images) (b : Bool) (counter : Option ℕ) (values : List Value) → b ≡ false → Counts k core i b counter values values

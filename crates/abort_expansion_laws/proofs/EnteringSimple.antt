@@ -6,7 +6,7 @@ use Rattle.core_charts.specs.declared.region.Transition.{Transition}
 use Rattle.core_charts.specs.Tests.{at_once}
 use Rattle.chart_machine.specs.declared.table.Table.{Table}
 use Rattle.abort_expansion.specs.declared.flags.Flags.{Flags}
-use Rattle.abort_expansion.specs.declared.places.Places.{Places}
+use Rattle.abort_expansion.specs.declared.places.RegionPlaces.{RegionPlaces}
 use Rattle.abort_expansion.specs.Transitions.{check, led, strong_checks, weak_checks}
 use Rattle.abort_expansion.specs.Superstates.{simple_transitions}
 use Rattle.abort_expansion_laws.specs.CoreRows.{Images}
@@ -20,12 +20,12 @@ pub once_append : (xs ys : List Transition) → at_once (xs ++ ys) ≡ at_once x
 once_append [] ys = refl
 once_append (x ∷ xs) ys = keep x.immediate x (at_once (xs ++ ys)) (at_once xs) (at_once ys) (once_append xs ys)
 
-keep_led : (b : Bool) (places : Places) (x : Transition) (zs us : List Transition) → zs ≡ map (led places) us →
+keep_led : (b : Bool) (places : RegionPlaces) (x : Transition) (zs us : List Transition) → zs ≡ map (led places) us →
     (if b then led places x ∷ zs else zs) ≡ map (led places) (if b then x ∷ us else us)
 keep_led true places x zs us e = ap (λ vs. led places x ∷ vs) e
 keep_led false places x zs us e = e
 
-pub once_led : (places : Places) (xs : List Transition) → at_once (map (led places) xs) ≡ map (led places) (at_once xs)
+pub once_led : (places : RegionPlaces) (xs : List Transition) → at_once (map (led places) xs) ≡ map (led places) (at_once xs)
 once_led places [] = refl
 once_led places (x ∷ xs) = keep_led x.immediate places x (at_once (map (led places) xs)) (at_once xs) (once_led places xs)
 
@@ -48,7 +48,7 @@ weak_once left (f ∷ flags) =
     once_append (check true left f.weak) (weak_checks true left flags)
     ∙ (ap (λ zs. zs ++ at_once (weak_checks true left flags)) (each_check left f.weak) ∙ ap (λ zs. check true left f.weak ++ zs) (weak_once left flags))
 
-pub simple_once : (flags : List Flags) (places : Places) (all : List Transition) →
+pub simple_once : (flags : List Flags) (places : RegionPlaces) (all : List Transition) →
     at_once (simple_transitions flags places all) ≡ map (led places) (at_once all) ++ weak_checks true places.left flags
 simple_once flags places all =
     once_append (strong_checks false places.left flags ++ map (led places) all) (weak_checks true places.left flags)

@@ -20,7 +20,7 @@ use Rattle.chart_machine.specs.Turns.{standing_of, has_ended, has_work, guards a
 use Rattle.chart_machine.specs.Steps.{to, moved, state_in, access_of}
 use Rattle.chart_machine.specs.Machine.{machine}
 use Rattle.abort_expansion.specs.declared.flags.Flags.{Flags}
-use Rattle.abort_expansion.specs.declared.places.Places.{Places}
+use Rattle.abort_expansion.specs.declared.places.RegionPlaces.{RegionPlaces}
 use Rattle.abort_expansion.specs.Flags.{has_join}
 use Rattle.abort_expansion.specs.Transitions.{check, strong_checks, answers}
 use Rattle.abort_expansion.specs.Superstates.{stays}
@@ -51,7 +51,7 @@ pub no_chosen : (p : Transition → Bool) (xs : List Transition) → list_any p 
 no_chosen p [] e = refl
 no_chosen p (x ∷ xs) e = let both = or_parts (p x) (list_any p xs) e in rw (both.0, no_chosen p xs both.1) refl
 
-pub no_answers : (at_places : Places) (flag : Option ℕ) (n : ℕ) → answers at_places flag n [] ≡ []
+pub no_answers : (at_places : RegionPlaces) (flag : Option ℕ) (n : ℕ) → answers at_places flag n [] ≡ []
 no_answers at_places None n = refl
 no_answers at_places (Some x) n = refl
 

@@ -6,7 +6,7 @@ use Rattle.chart_machine.specs.declared.table.Table.{Table}
 use Rattle.chart_machine.specs.Table.{state_at}
 use Rattle.chart_machine.specs.Steps.{to, state_in}
 use Rattle.abort_expansion.specs.declared.flags.Flags.{Flags}
-use Rattle.abort_expansion.specs.declared.places.Places.{Places}
+use Rattle.abort_expansion.specs.declared.places.RegionPlaces.{RegionPlaces}
 use Rattle.abort_expansion.specs.Transitions.{go, led, led_by, strong_checks, answers}
 use Rattle.abort_expansion.specs.Superstates.{simple_transitions, is_prepared, resets, closing}
 use Rattle.core_charts.specs.Tests.{at_once, strong_aborts, weak_aborts, terminations}
@@ -15,24 +15,24 @@ use Rattle.abort_expansion_laws.specs.CoreRows.{own, joins, simple_row, fork_row
 use Rattle.abort_expansion_laws.specs.CoreRows.{SimpleImage, FinalImage, StayingImage, SplitImage}
 
 -- a preparation, and a continuation, by what stands around them
-abbrev pub preparing : Places → Flags → ℕ → List Transition → ℕ → List Transition
+abbrev pub preparing : RegionPlaces → Flags → ℕ → List Transition → ℕ → List Transition
 preparing places flags regions all fork =
     map (λ t. led_by places t.trigger t) (at_once (strong_aborts all)) ++ go true Rattle.std.proofs.Common.None (resets flags regions) fork ∷ []
 
-abbrev pub continuing : List Flags → Places → Flags → List Transition → List Transition
+abbrev pub continuing : List Flags → RegionPlaces → Flags → List Transition → List Transition
 continuing around places flags all =
     strong_checks true places.left around ++ answers places flags.strong 1 (strong_aborts all) ++ answers places flags.weak 1 (weak_aborts all)
     ++ closing around flags places (terminations all)
 
 module _ (k core : Table) (i : Images) (s : ℕ) where
   -- what is around a state, and its transitions
-  pub record Located (thread : ℕ) (around : List Flags) (places : Places) (all : List Transition) : Type 0 where
+  pub record Located (thread : ℕ) (around : List Flags) (places : RegionPlaces) (all : List Transition) : Type 0 where
     pub thread_is : i.thread_of (holder k s) ≡ thread
     pub flags_are : flags_around k core i (holder k s) ≡ around
     pub places_are : i.places_of (holder k s) ≡ places
     pub own_is : own k s ≡ all
 
-  module _ (thread : ℕ) (around : List Flags) (places : Places) (all : List Transition) (here : Located thread around places all) where
+  module _ (thread : ℕ) (around : List Flags) (places : RegionPlaces) (all : List Transition) (here : Located thread around places all) where
     pub simple_image : (n : ℕ) → i.main_of s ≡ n → i.entry_of s ≡ n → state_at core n ≡ simple_row thread n (simple_transitions around places all) →
         SimpleImage k core i s
     simple_image n main entry row =

@@ -14,10 +14,10 @@ use Rattle.core_charts.specs.Rules.{IsChart, IsRegion, AreRegions, depth_limit}
 use Rattle.sc_text.proofs.EachItem.{each_of}
 use Rattle.sc_text.proofs.EachItem as items
 use Rattle.abort_expansion.specs.declared.flags.Flags.{Flags}
-use Rattle.abort_expansion.specs.declared.places.Places.{Places}
-use Rattle.abort_expansion.specs.declared.pieces.States.{States}
+use Rattle.abort_expansion.specs.declared.places.RegionPlaces.{RegionPlaces}
+use Rattle.abort_expansion.specs.declared.pieces.StatePieces.{StatePieces}
 use Rattle.abort_expansion.specs.declared.pieces.Regions.{Regions}
-use Rattle.abort_expansion.specs.declared.pieces.Numbers.{Numbers}
+use Rattle.abort_expansion.specs.declared.pieces.NextNumbers.{NextNumbers}
 use Rattle.abort_expansion.specs.Flags.{declared, declarations, strong_flag_name, weak_flag_name, counter_name, weak_around, flags_of, aborts_around}
 use Rattle.abort_expansion.specs.Pieces.{RegionPiece, StatePiece, beside, expanded_regions, past_region}
 use Rattle.abort_expansion.specs.Superstates.{stays, is_prepared, as_it_is, prepared, forked, within}
@@ -45,27 +45,27 @@ declarations_local s f =
     (declared_local f.counter (counter_name s))
 
 abbrev RegionLocalBy : RegionPiece → Type 0
-RegionLocalBy x = (flags : List Flags) (counter : Option ℕ) (numbers : Numbers) → AreLocal (x.made flags counter numbers).variables
+RegionLocalBy x = (flags : List Flags) (counter : Option ℕ) (numbers : NextNumbers) → AreLocal (x.made flags counter numbers).variables
 
 abbrev RegionLocal : Region → Type 0
 RegionLocal r = RegionLocalBy (piece_of_region r)
 
 abbrev StateLocalBy : StatePiece → Type 0
 StateLocalBy x =
-    (flags : List Flags) (to : Places) (place : ℕ) (begins : Bool) (numbers : Numbers) → AreLocal (x.made flags to place begins numbers).variables
+    (flags : List Flags) (to : RegionPlaces) (place : ℕ) (begins : Bool) (numbers : NextNumbers) → AreLocal (x.made flags to place begins numbers).variables
 
 abbrev StateLocal : State → Type 0
 StateLocal s = StateLocalBy (piece_of_state s)
 
-side_local : (regions : List Region) → items.Each RegionLocal regions → (flags : List Flags) (counter : Option ℕ) (numbers : Numbers) →
+side_local : (regions : List Region) → items.Each RegionLocal regions → (flags : List Flags) (counter : Option ℕ) (numbers : NextNumbers) →
     AreLocal (expanded_regions (map piece_of_region regions) flags counter numbers).variables
 side_local [] each flags counter numbers = tt
 side_local (r ∷ regions) each flags counter numbers =
     local_append ((piece_of_region r).made flags counter numbers).variables _ (each.0 flags counter numbers)
     (side_local regions each.1 flags counter (past_region (weak_around flags) (piece_of_region r) numbers))
 
-super_local : (name : List ℕ) (n : ℕ) (all : List Transition) (flags : List Flags) (f : Flags) (inside : Regions) (to : Places) (place : ℕ) (begins : Bool)
-    (numbers : Numbers) → AreLocal inside.variables → (s p : Bool) → let made : States =
+super_local : (name : List ℕ) (n : ℕ) (all : List Transition) (flags : List Flags) (f : Flags) (inside : Regions) (to : RegionPlaces) (place : ℕ) (begins : Bool)
+    (numbers : NextNumbers) → AreLocal inside.variables → (s p : Bool) → let made : StatePieces =
     if s
     then as_it_is name all inside to begins numbers
     else (if p
@@ -82,12 +82,12 @@ layer_local : (name : List ℕ) (initial final : Bool) (regions : List Region) (
 layer_local name initial final [] all each flags to place begins numbers = tt
 layer_local name initial final (r ∷ regions) all each flags to place begins numbers =
     let f : Flags = flags_of (weak_around flags) all numbers.variable in
-    let at : Numbers = within (weak_around flags) all numbers in
+    let at : NextNumbers = within (weak_around flags) all numbers in
     super_local name (length (map piece_of_region (r ∷ regions))) all flags f
     (expanded_regions (map piece_of_region (r ∷ regions)) (flags ++ f ∷ []) f.counter at) to place begins numbers
     (side_local (r ∷ regions) each (flags ++ f ∷ []) f.counter at) (stays flags all) (is_prepared flags all)
 
-states_local : (anew : Bool) (states : List State) → items.Each StateLocal states → (flags : List Flags) (to : Places) (place : ℕ) (numbers : Numbers) →
+states_local : (anew : Bool) (states : List State) → items.Each StateLocal states → (flags : List Flags) (to : RegionPlaces) (place : ℕ) (numbers : NextNumbers) →
     AreLocal (expanded_states anew (map piece_of_state states) flags to place numbers).variables
 states_local anew [] each flags to place numbers = tt
 states_local anew (s ∷ states) each flags to place numbers =

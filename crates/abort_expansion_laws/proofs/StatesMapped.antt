@@ -19,10 +19,10 @@ use Rattle.scl_graph_laws.proofs.Segments.{StandAt, stand_from, stand_first, sta
 use Rattle.chart_machine.specs.Table as tables
 use Rattle.chart_machine_laws.proofs.RowsOfPieces.{side_states}
 use Rattle.abort_expansion.specs.declared.flags.Flags.{Flags}
-use Rattle.abort_expansion.specs.declared.places.Places.{Places}
-use Rattle.abort_expansion.specs.declared.pieces.States.{States}
+use Rattle.abort_expansion.specs.declared.places.RegionPlaces.{RegionPlaces}
+use Rattle.abort_expansion.specs.declared.pieces.StatePieces.{StatePieces}
 use Rattle.abort_expansion.specs.declared.pieces.Regions.{Regions}
-use Rattle.abort_expansion.specs.declared.pieces.Numbers.{Numbers}
+use Rattle.abort_expansion.specs.declared.pieces.NextNumbers.{NextNumbers}
 use Rattle.abort_expansion.specs.Flags.{flags_of, weak_around, aborts_around, preparation_name, continuation_name}
 use Rattle.abort_expansion.specs.Pieces.{beside, RegionPiece, StatePiece, superstates_in, states_in, past_region, expanded_regions}
 use Rattle.abort_expansion.specs.Superstates.{stays, is_prepared, as_it_is, prepared, forked, within, monitor, watched, abandoned, simple}
@@ -73,7 +73,7 @@ before_all those n (x ∷ xs) h =
 
 module _ (those : List StateOfText) where
   -- these states stand in the text from here on, and the superstates before them are counted
-  pub record Here (xs : List StateOfText) (at : Numbers) : Type 0 where
+  pub record Here (xs : List StateOfText) (at : NextNumbers) : Type 0 where
     pub stand : StandAt those at.state xs
     pub counted : at.superstate ≡ superstate_number those at.state
 
@@ -82,19 +82,19 @@ module _ (those : List StateOfText) where
     pub many : p.states ≡ length xs
     pub numbered : p.superstates ≡ supers xs
     pub some : (n : ℕ) → StandAt those n xs → (x : StateOfText) × (slice_get those n ≡ Some x)
-    pub mapped : (around : List Flags) (to : Places) (place : ℕ) (begins : Bool) (at : Numbers) → Here xs at →
+    pub mapped : (around : List Flags) (to : RegionPlaces) (place : ℕ) (begins : Bool) (at : NextNumbers) → Here xs at →
         MappedStates those (p.made around to place begins at).states (p.made around to place begins at).stands_for
 
   pub record RegionIsMapped (p : RegionPiece) (xs : List StateOfText) : Type 0 where
     pub many : p.states ≡ length xs
     pub numbered : p.superstates ≡ supers xs
-    pub mapped : (around : List Flags) (counter : Option ℕ) (at : Numbers) → Here xs at →
+    pub mapped : (around : List Flags) (counter : Option ℕ) (at : NextNumbers) → Here xs at →
         MappedRegions those (p.made around counter at).regions (p.made around counter at).stands_for
 
-  here_first : (xs ys : List StateOfText) (at : Numbers) → Here (xs ++ ys) at → Here xs at
+  here_first : (xs ys : List StateOfText) (at : NextNumbers) → Here (xs ++ ys) at → Here xs at
   here_first xs ys at h = record { stand = stand_first those at.state xs ys h.stand; counted = h.counted }
 
-  here_second : (xs ys : List StateOfText) (at next : Numbers) → next.state ≡ at.state + length xs → next.superstate ≡ at.superstate + supers xs →
+  here_second : (xs ys : List StateOfText) (at next : NextNumbers) → next.state ≡ at.state + length xs → next.superstate ≡ at.superstate + supers xs →
       Here (xs ++ ys) at → Here ys next
   here_second xs ys at next state superstate h = record {
     stand = stand_from those (at.state + length xs) next.state ys (sym state) (stand_second those at.state xs ys h.stand);
@@ -120,13 +120,13 @@ module _ (those : List StateOfText) where
   numbered_in (r ∷ regions) h =
       omega (arith, h.0.numbered, numbered_in regions h.1, supers_append (states_of_region r) (all_in (map states_of_region regions)))
 
-  pub regions_mapped : (regions : List Region) → AllMapped regions → (around : List Flags) (counter : Option ℕ) (at : Numbers) →
+  pub regions_mapped : (regions : List Region) → AllMapped regions → (around : List Flags) (counter : Option ℕ) (at : NextNumbers) →
       Here (all_in (map states_of_region regions)) at →
       MappedRegions those (expanded_regions (map piece_of_region regions) around counter at).regions
       (expanded_regions (map piece_of_region regions) around counter at).stands_for
   regions_mapped [] h around counter at here = none_mapped those Region states_of_region tables.piece_of_region
   regions_mapped (r ∷ regions) h around counter at here =
-      let next : Numbers = past_region (weak_around around) (piece_of_region r) at in
+      let next : NextNumbers = past_region (weak_around around) (piece_of_region r) at in
       let own : Regions = (piece_of_region r).made around counter at in
       let rest : Regions = expanded_regions (map piece_of_region regions) around counter next in
       mapped_append those Region states_of_region tables.piece_of_region own.regions rest.regions own.stands_for rest.stands_for
@@ -149,9 +149,9 @@ module _ (those : List StateOfText) where
       (simple_mapped those _ None (watches refl) refl) (simple_mapped those _ None (leaves refl) refl))
 
   -- a superstate of this row, where it stands, over what is inside it
-  module _ (x : StateOfText) (at : Numbers) (there : slice_get those at.state ≡ Some x) (counted : at.superstate ≡ superstate_number those at.state)
+  module _ (x : StateOfText) (at : NextNumbers) (there : slice_get those at.state ≡ Some x) (counted : at.superstate ≡ superstate_number those at.state)
       (super : x.is_superstate ≡ true) (own : List Transition) (around : List Flags) (flags : Flags) (inside : Regions)
-      (mapped : MappedRegions those inside.regions inside.stands_for) (to : Places) where
+      (mapped : MappedRegions those inside.regions inside.stands_for) (to : RegionPlaces) where
     forked_mapped : (place : ℕ) (begins : Bool) → MappedStates those (forked x.name own around flags inside to place begins at).states
         (forked x.name own around flags inside to place begins at).stands_for
     forked_mapped place begins =
@@ -162,7 +162,7 @@ module _ (those : List StateOfText) where
         inside.stands_for more mapped (watched_mapped (has_aborts own) at.superstate around flags own)))
         (simple_mapped those _ (Some at.state) (continues at.state x there super (ap continuation_name counted)) refl)
 
-    superstate_mapped : (stay prepare : Bool) (regions place : ℕ) (begins : Bool) → let made : States =
+    superstate_mapped : (stay prepare : Bool) (regions place : ℕ) (begins : Bool) → let made : StatePieces =
         if stay
         then as_it_is x.name own inside to begins at
         else (if prepare
@@ -171,16 +171,16 @@ module _ (those : List StateOfText) where
     superstate_mapped true prepare regions place begins = state_mapped those _ (Some at.state) inside.stands_for (itself at.state x there refl) mapped
     superstate_mapped false false regions place begins = forked_mapped place begins
     superstate_mapped false true regions place begins =
-        let more : States = forked x.name own around flags inside to (suc place) false at in
+        let more : StatePieces = forked x.name own around flags inside to (suc place) false at in
         mapped_append those State states_of_state tables.piece_of_state (_ ∷ []) more.states (Some at.state ∷ []) more.stands_for
         (simple_mapped those _ (Some at.state) (prepares at.state x there super (ap preparation_name counted)) refl) (forked_mapped (suc place) false)
 
-  simple_made : (x : StateOfText) (at : Numbers) → slice_get those at.state ≡ Some x → (final : Bool) (own : List Transition) (around : List Flags)
-      (to : Places) (begins : Bool) → MappedStates those (simple final x.name own around to begins ∷ []) (Some at.state ∷ [])
+  simple_made : (x : StateOfText) (at : NextNumbers) → slice_get those at.state ≡ Some x → (final : Bool) (own : List Transition) (around : List Flags)
+      (to : RegionPlaces) (begins : Bool) → MappedStates those (simple final x.name own around to begins ∷ []) (Some at.state ∷ [])
   simple_made x at there true own around to begins = simple_mapped those _ (Some at.state) (itself at.state x there refl) refl
   simple_made x at there false own around to begins = simple_mapped those _ (Some at.state) (itself at.state x there refl) refl
 
-  inside_here : (x : StateOfText) (xs : List StateOfText) (at next : Numbers) → x.is_superstate ≡ true → next.state ≡ suc at.state →
+  inside_here : (x : StateOfText) (xs : List StateOfText) (at next : NextNumbers) → x.is_superstate ≡ true → next.state ≡ suc at.state →
       next.superstate ≡ suc at.superstate → Here (x ∷ xs) at → Here xs next
   inside_here x xs at next super state superstate h = record {
     stand = stand_from those (suc at.state) next.state xs (sym state) h.stand.1;
@@ -213,7 +213,7 @@ module _ (those : List StateOfText) where
     mapped = λ around to place begins at here. made_mapped regions all around to place begins at here;
   }
     where
-      made_mapped : (regions : List Region) → AllMapped regions → (around : List Flags) (to : Places) (place : ℕ) (begins : Bool) (at : Numbers) →
+      made_mapped : (regions : List Region) → AllMapped regions → (around : List Flags) (to : RegionPlaces) (place : ℕ) (begins : Bool) (at : NextNumbers) →
           Here (record { name = name; is_superstate = is_some (map states_of_region regions) } ∷ all_in (map states_of_region regions)) at →
           MappedStates those ((state_piece (layer_of name initial final regions own)).made around to place begins at).states
           ((state_piece (layer_of name initial final regions own)).made around to place begins at).stands_for
@@ -249,16 +249,16 @@ module _ (those : List StateOfText) where
   numbered_among (s ∷ states) h =
       omega (arith, h.0.numbered, numbered_among states h.1, supers_append (states_of_state s) (all_in (map states_of_state states)))
 
-  states_mapped : (anew : Bool) (states : List State) → EachMapped states → (around : List Flags) (to : Places) (place : ℕ) (at : Numbers) →
+  states_mapped : (anew : Bool) (states : List State) → EachMapped states → (around : List Flags) (to : RegionPlaces) (place : ℕ) (at : NextNumbers) →
       Here (all_in (map states_of_state states)) at →
       MappedStates those (expanded_states anew (map piece_of_state states) around to place at).states
       (expanded_states anew (map piece_of_state states) around to place at).stands_for
   states_mapped anew [] h around to place at here = none_mapped those State states_of_state tables.piece_of_state
   states_mapped anew (s ∷ states) h around to place at here =
       let p : StatePiece = piece_of_state s in
-      let next : Numbers = past_state (weak_around around) p at in
-      let own : States = p.made around to place (p.is_initial && not anew) at in
-      let rest : States = expanded_states anew (map piece_of_state states) around to (place + p.width around) next in
+      let next : NextNumbers = past_state (weak_around around) p at in
+      let own : StatePieces = p.made around to place (p.is_initial && not anew) at in
+      let rest : StatePieces = expanded_states anew (map piece_of_state states) around to (place + p.width around) next in
       mapped_append those State states_of_state tables.piece_of_state own.states rest.states own.stands_for rest.stands_for
       (h.0.mapped around to place (p.is_initial && not anew) at (here_first (states_of_state s) (all_in (map states_of_state states)) at here))
       (states_mapped anew states h.1 around to (place + p.width around) next
@@ -301,16 +301,16 @@ module _ (those : List StateOfText) where
   begins_where (Some x) pieces h = h
   begins_where None pieces h = absurd cc
 
-  inside_mapped : (states : List State) → EachMapped states → (around : List Flags) (counter : Option ℕ) (begin : ℕ) (at : Numbers) →
+  inside_mapped : (states : List State) → EachMapped states → (around : List Flags) (counter : Option ℕ) (begin : ℕ) (at : NextNumbers) →
       Here (all_in (map states_of_state states)) at →
       let pieces : List StatePiece = map piece_of_state states in
-      let made : States = region_over (begins_anew counter pieces) pieces around counter begin at in MappedStates those made.states made.stands_for
+      let made : StatePieces = region_over (begins_anew counter pieces) pieces around counter begin at in MappedStates those made.states made.stands_for
   inside_mapped states h around counter begin at here =
       let pieces : List StatePiece = map piece_of_state states in
       let anew : Bool = begins_anew counter pieces in
-      let first : States = new_initial anew counter (initial_place pieces around begin) (initial_number pieces at.state) in
-      let text : States = expanded_states anew pieces around (region_places pieces around counter begin) begin at in
-      let last : States = left_behind (aborts_around around) in
+      let first : StatePieces = new_initial anew counter (initial_place pieces around begin) (initial_number pieces at.state) in
+      let text : StatePieces = expanded_states anew pieces around (region_places pieces around counter begin) begin at in
+      let last : StatePieces = left_behind (aborts_around around) in
       mapped_append those State states_of_state tables.piece_of_state first.states (text.states ++ last.states) first.stands_for
       (text.stands_for ++ last.stands_for)
       (new_initial_mapped anew counter (initial_place pieces around begin) (initial_number pieces at.state)

@@ -26,12 +26,12 @@ use Rattle.abort_expansion_laws.proofs.StageReached.{Stage}
 use Rattle.abort_expansion_laws.proofs.ImageSteps.{pair, ImageStep, image_segment}
 use Rattle.abort_expansion_laws.proofs.KnownVariables.{Stepped, stepped, present_there, trigger_known}
 use Rattle.chart_machine.specs.Turns.{inside}
-use Rattle.abort_expansion.specs.declared.places.Places.{Places}
+use Rattle.abort_expansion.specs.declared.places.RegionPlaces.{RegionPlaces}
 use Rattle.abort_expansion.specs.Transitions.{on, count_down, counting, place_of}
 use Rattle.abort_expansion_laws.proofs.TestFails.{tested_is, IsTrying, trying_back, no_front, watch_other, trying_no_inside}
 use Rattle.abort_expansion_laws.proofs.CoreSteps.{takes}
 
-pub counting_first : (places : Places) (target : ℕ) (e : Effect) (es : List Effect) → counting places target (e ∷ es) ≡ e ∷ counting places target es
+pub counting_first : (places : RegionPlaces) (target : ℕ) (e : Effect) (es : List Effect) → counting places target (e ∷ es) ≡ e ∷ counting places target es
 counting_first places target e es = by_case (unwrap_or (slice_get places.finals target) false) (on places.counter count_down)
   where
     by_case : (b : Bool) (more : List Effect) → (if b then (e ∷ es) ++ more else e ∷ es) ≡ e ∷ (if b then es ++ more else es)

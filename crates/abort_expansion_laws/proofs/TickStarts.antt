@@ -63,7 +63,7 @@ some_kept P (t ∷ ts) e = by_own (P t) refl e (λ rest. some_kept P ts rest)
         skipped = rw (is) refl
 
 -- leading somewhere keeps the sort
-pub led_kept : (P : Transition → Bool) (places : Rattle.abort_expansion.specs.declared.places.Places.Places) → ((t : Transition) → P (led places t) ≡ P t) →
+pub led_kept : (P : Transition → Bool) (places : Rattle.abort_expansion.specs.declared.places.RegionPlaces.RegionPlaces) → ((t : Transition) → P (led places t) ≡ P t) →
     (ts : List Transition) → filter P (map (led places) ts) ≡ map (led places) (filter P ts)
 led_kept P places same [] = refl
 led_kept P places same (t ∷ ts) = by_own (P t) refl (led_kept P places same ts)
@@ -243,7 +243,7 @@ module _ (k core : Table) (i : Images) (rows : CoreRows k core i) (flat : FlatRo
       state_of s super = ⊎_elim (λ lt. lt) (λ past. absurd (super (Rattle.chart_machine_laws.proofs.ChartTables.no_regions_past k s past)))
           (Rattle.chart_machine_laws.proofs.ChartTables.within_or_past s (length k.states))
 
-      closing_led : (places : Rattle.abort_expansion.specs.declared.places.Places.Places) (ts : List Transition) →
+      closing_led : (places : Rattle.abort_expansion.specs.declared.places.RegionPlaces.RegionPlaces) (ts : List Transition) →
           closing_tests (map (led places) ts) ≡ map (led places) (closing_tests ts)
       closing_led places ts =
           ap (λ zs. zs ++ terminations (map (led places) ts)) (led_kept (λ t. is_weak t.kind) places (λ t. refl) ts) ∙
@@ -307,7 +307,7 @@ module _ (k core : Table) (i : Images) (rows : CoreRows k core i) (flat : FlatRo
       state_of s super = ⊎_elim (λ lt. lt) (λ past. absurd (super (Rattle.chart_machine_laws.proofs.ChartTables.no_regions_past k s past)))
           (Rattle.chart_machine_laws.proofs.ChartTables.within_or_past s (length k.states))
 
-      after_none : (zs : List Transition) (a b : Option ℕ) (places : Rattle.abort_expansion.specs.declared.places.Places.Places) →
+      after_none : (zs : List Transition) (a b : Option ℕ) (places : Rattle.abort_expansion.specs.declared.places.RegionPlaces.RegionPlaces) →
           zs ++ Rattle.abort_expansion.specs.Transitions.answers places a 1 [] ++ Rattle.abort_expansion.specs.Transitions.answers places b 1 [] ≡ zs
       after_none zs None None places = append-nil (zs ++ []) ∙ append-nil zs
       after_none zs None (Some y) places = append-nil (zs ++ []) ∙ append-nil zs

@@ -18,10 +18,10 @@ use Rattle.chart_machine.specs.Table.{come_to}
 use Rattle.chart_machine.specs.Steps.{state_in, to}
 use Rattle.core_charts.specs.Tests.{at_once, strong_aborts, first_closing_tests}
 use Rattle.abort_expansion.specs.declared.flags.Flags.{Flags}
-use Rattle.abort_expansion.specs.declared.places.Places.{Places}
-use Rattle.abort_expansion.specs.declared.pieces.States.{States}
+use Rattle.abort_expansion.specs.declared.places.RegionPlaces.{RegionPlaces}
+use Rattle.abort_expansion.specs.declared.pieces.StatePieces.{StatePieces}
 use Rattle.abort_expansion.specs.declared.pieces.Regions.{Regions}
-use Rattle.abort_expansion.specs.declared.pieces.Numbers.{Numbers}
+use Rattle.abort_expansion.specs.declared.pieces.NextNumbers.{NextNumbers}
 use Rattle.abort_expansion.specs.Flags.{flag_count, flags_of, weak_around, declarations, continuation_name}
 use Rattle.core_charts.specs.Aborts.{has_aborts, has_weak}
 use Rattle.abort_expansion.specs.Pieces.{expanded_regions, variables_in}
@@ -49,7 +49,7 @@ use Rattle.abort_expansion_laws.proofs.AddedMonitors.{none_first, first_around, 
 use Rattle.abort_expansion_laws.proofs.EnteredAlike.{AreEntered, watcher_enters, OpensAlike}
 
 module _ (name : List ℕ) (initial : Bool) (r : Region) (others : List Region) (all : List Transition) (walks : Each RegionWalks (r ∷ others))
-    (flags : List Flags) (places : Places) (numbers : Numbers) (a b : TablePosition) (next place : ℕ) (begins : Bool) (entry : ℕ) where
+    (flags : List Flags) (places : RegionPlaces) (numbers : NextNumbers) (a b : TablePosition) (next place : ℕ) (begins : Bool) (entry : ℕ) where
   abbrev pub regions : List Region
   regions = r ∷ others
 
@@ -59,7 +59,7 @@ module _ (name : List ℕ) (initial : Bool) (r : Region) (others : List Region) 
   abbrev pub f : Flags
   f = flags_of weak all numbers.variable
 
-  abbrev pub inside_at : Numbers
+  abbrev pub inside_at : NextNumbers
   inside_at = within weak all numbers
 
   abbrev pub inside : Regions
@@ -91,7 +91,7 @@ module _ (name : List ℕ) (initial : Bool) (r : Region) (others : List Region) 
   pub regions_are : map table_of_region core_regions ≡ ps ++ ms
   regions_are = map-append table_of_region inside.regions monitors
 
-  abbrev pub made : States
+  abbrev pub made : StatePieces
   made = forked name all flags f inside places place begins numbers
 
   abbrev pub fork_state : State

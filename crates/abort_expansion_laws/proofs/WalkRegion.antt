@@ -21,10 +21,10 @@ use Rattle.chart_machine_laws.proofs.RowsOfPieces.{Holds, IsSized, AllSized, reg
 use Rattle.chart_machine_laws.proofs.TableTrees.{OnceInitial}
 use Rattle.scl_graph_laws.proofs.Segments.{StandAt, stand_from, stand_first, stand_second, stand_all}
 use Rattle.abort_expansion.specs.declared.flags.Flags.{Flags}
-use Rattle.abort_expansion.specs.declared.places.Places.{Places}
-use Rattle.abort_expansion.specs.declared.pieces.States.{States}
+use Rattle.abort_expansion.specs.declared.places.RegionPlaces.{RegionPlaces}
+use Rattle.abort_expansion.specs.declared.pieces.StatePieces.{StatePieces}
 use Rattle.abort_expansion.specs.declared.pieces.Regions.{Regions}
-use Rattle.abort_expansion.specs.declared.pieces.Numbers.{Numbers}
+use Rattle.abort_expansion.specs.declared.pieces.NextNumbers.{NextNumbers}
 use Rattle.abort_expansion.specs.Flags.{weak_around, aborts_around, one}
 use Rattle.abort_expansion.specs.Pieces.{RegionPiece, StatePiece}
 use Rattle.abort_expansion.specs.Expansion.{piece_of_region, region_piece, state_piece, expanded_states, places, states_among}
@@ -56,7 +56,7 @@ sized_states (s ∷ states) walks = (walks.0.counts.sized, sized_states states w
 -- ---- the region
 
 module _ (name : List ℕ) (s : State) (others : List State) (walks : Each StateWalks (s ∷ others)) (once_chart : OnceInitial (pieces_of (s ∷ others)))
-    (has_chart : HasInitial (pieces_of (s ∷ others))) (flags : List Flags) (counter : Option ℕ) (numbers : Numbers) (a b : TablePosition) where
+    (has_chart : HasInitial (pieces_of (s ∷ others))) (flags : List Flags) (counter : Option ℕ) (numbers : NextNumbers) (a b : TablePosition) where
   abbrev states : List State
   states = s ∷ others
 
@@ -72,7 +72,7 @@ module _ (name : List ℕ) (s : State) (others : List State) (walks : Each State
   abbrev begin : ℕ
   begin = one anew
 
-  abbrev spots : Places
+  abbrev spots : RegionPlaces
   spots = region_places xs flags counter begin
 
   abbrev target : ℕ
@@ -81,13 +81,13 @@ module _ (name : List ℕ) (s : State) (others : List State) (walks : Each State
   abbrev number : ℕ
   number = initial_number xs numbers.state
 
-  abbrev news : States
+  abbrev news : StatePieces
   news = new_initial anew counter target number
 
-  abbrev text : States
+  abbrev text : StatePieces
   text = expanded_states anew xs flags spots begin numbers
 
-  abbrev lefts : States
+  abbrev lefts : StatePieces
   lefts = left_behind (aborts_around flags)
 
   abbrev all_states : List State
@@ -451,7 +451,7 @@ among_counts (s ∷ states) walks = omega (arith, walks.0.counts.states, among_c
 
 walk_states_of : (name : List ℕ) (s : State) (others : List State) → Each StateWalks (s ∷ others) → OnceInitial (pieces_of (s ∷ others)) →
     HasInitial (pieces_of (s ∷ others)) →
-    (flags : List Flags) (counter : Option ℕ) (numbers : Numbers) (a b : TablePosition) →
+    (flags : List Flags) (counter : Option ℕ) (numbers : NextNumbers) (a b : TablePosition) →
     RegionsWalk ((table_region_piece (record { name = name; states = pieces_of (s ∷ others) })).parts a)
     (table_region_piece (record { name = name; states = pieces_of (s ∷ others) })).states (a.region ∷ [])
     ((region_piece (record { name = name; states = expanded_pieces (s ∷ others) })).made flags counter numbers)
@@ -460,7 +460,7 @@ walk_states_of name s others walks once has flags counter numbers a b = walk_ope
 
 abbrev RegionWalksBy : Piece → RegionPiece → Type 0
 RegionWalksBy p x =
-    (flags : List Flags) (counter : Option ℕ) (numbers : Numbers) (a b : TablePosition) →
+    (flags : List Flags) (counter : Option ℕ) (numbers : NextNumbers) (a b : TablePosition) →
     RegionsWalk (p.parts a) p.states (a.region ∷ []) (x.made flags counter numbers) (x.variables (weak_around flags)) flags counter numbers a b
 
 pub walk_region : (r : Region) (s : State) (others : List State) → (out-Region r).states ≡ s ∷ others → Each StateWalks (s ∷ others) →

@@ -9,7 +9,7 @@ use Rattle.chart_machine_laws.proofs.RowsOfPieces.{Holds, AllSized}
 use Rattle.scl_graph_laws.proofs.Segments.{stand_from, stand_first, stand_second}
 use Rattle.abort_expansion.specs.declared.flags.Flags.{Flags}
 use Rattle.abort_expansion.specs.declared.pieces.Regions.{Regions}
-use Rattle.abort_expansion.specs.declared.pieces.Numbers.{Numbers}
+use Rattle.abort_expansion.specs.declared.pieces.NextNumbers.{NextNumbers}
 use Rattle.abort_expansion.specs.Flags.{weak_around}
 use Rattle.abort_expansion.specs.Pieces.{expanded_regions, variables_in, past_region}
 use Rattle.abort_expansion.specs.Pieces.{states_in as expanded_states_in}
@@ -49,7 +49,7 @@ fits_to w a n o b m l x v z e f g h =
 
 -- ---- what stands somewhere, in two parts
 
-module _ (w : World) (numbers : Numbers) (a b : ℕ) (xs ys : List (Option ℕ)) (first second : Part) where
+module _ (w : World) (numbers : NextNumbers) (a b : ℕ) (xs ys : List (Option ℕ)) (first second : Part) where
   abbrev pub both_parts : Part
   both_parts = record { states = first.states ++ second.states; owners = first.owners ++ second.owners }
 
@@ -63,7 +63,7 @@ module _ (w : World) (numbers : Numbers) (a b : ℕ) (xs ys : List (Option ℕ))
         numbered = h.numbered;
       }
 
-  pub entries_second : (next : Numbers) (c d : ℕ) → a + length first.states ≡ c → b + length xs ≡ d → numbers.variable + length first.owners ≡ next.variable →
+  pub entries_second : (next : NextNumbers) (c d : ℕ) → a + length first.states ≡ c → b + length xs ≡ d → numbers.variable + length first.owners ≡ next.variable →
       next.state ≡ c → Entries w numbers a b (xs ++ ys) both_parts → Entries w next c d ys second
   entries_second next c d e f g numbered h =
       record {
@@ -101,7 +101,7 @@ side_none flags counter numbers a b =
     }
 
 module _ (r : Region) (regions : List Region) (walks : RegionWalks r) (rest_walks : SideWalks regions) (flags : List Flags) (counter : Option ℕ)
-    (numbers : Numbers) (a b : TablePosition) where
+    (numbers : NextNumbers) (a b : TablePosition) where
   abbrev p : Piece
   p = table_of_region r
 
@@ -111,7 +111,7 @@ module _ (r : Region) (regions : List Region) (walks : RegionWalks r) (rest_walk
   abbrev ps : List Piece
   ps = map table_of_region one.regions
 
-  abbrev next : Numbers
+  abbrev next : NextNumbers
   next = past_region (weak_around flags) (piece_of_region r) numbers
 
   abbrev more : Regions

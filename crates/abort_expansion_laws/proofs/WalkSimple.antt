@@ -12,8 +12,8 @@ use Rattle.chart_machine.specs.declared.table.Table.{Table}
 use Rattle.chart_machine.specs.declared.table.TablePosition.{TablePosition}
 use Rattle.chart_machine.specs.Table.{Piece, state_at, region_at, states_in, piece_of_state as table_of_state, state_piece as table_state_piece}
 use Rattle.abort_expansion.specs.declared.flags.Flags.{Flags}
-use Rattle.abort_expansion.specs.declared.places.Places.{Places}
-use Rattle.abort_expansion.specs.declared.pieces.Numbers.{Numbers}
+use Rattle.abort_expansion.specs.declared.places.RegionPlaces.{RegionPlaces}
+use Rattle.abort_expansion.specs.declared.pieces.NextNumbers.{NextNumbers}
 use Rattle.abort_expansion.specs.Flags.{has_join}
 use Rattle.core_charts.specs.Aborts.{has_aborts}
 use Rattle.abort_expansion.specs.Superstates.{simple_transitions, simple}
@@ -49,7 +49,7 @@ region_there k (suc r) s ss e =
     let wrong : [] ≡ s ∷ ss = sym none ∙ e in absurd cc) (within_or_past r (length k.regions))
 
 -- what is around a state of a region
-pub located : (w : World) (a b : TablePosition) (flags : List Flags) (places : Places) (s : ℕ) (all : List Transition) → InRegion w a b flags places →
+pub located : (w : World) (a b : TablePosition) (flags : List Flags) (places : RegionPlaces) (s : ℕ) (all : List Transition) → InRegion w a b flags places →
     holder w.k s ≡ a.holder → own w.k s ≡ all → Located w.k w.core (images_of w) s b.holder flags places all
 located w a b flags places s all region held owned =
     record {
@@ -90,16 +90,16 @@ module _ (name : List ℕ) (begins ends : Bool) (all : List Transition) where
 
 -- ---- the walk
 
-abbrev image_here : Places → ℕ → StateImage
+abbrev image_here : RegionPlaces → ℕ → StateImage
 image_here places n =
     record { main = n; entry = n; behind = n; flags = no_flags; watcher = 0; watching = n; watched = n; places = places; stays_on = false }
 
-abbrev made_one : State → Numbers → Rattle.abort_expansion.specs.declared.pieces.States.States
+abbrev made_one : State → NextNumbers → Rattle.abort_expansion.specs.declared.pieces.StatePieces.StatePieces
 made_one s numbers = record { states = s ∷ []; variables = []; stands_for = Some numbers.state ∷ [] }
 
 module _ (name : List ℕ) (initial : Bool) (all : List Transition) (plain : (has_aborts all ≡ false) × (has_join all ≡ false)) (flags : List Flags)
-    (places : Places) (begins : Bool)
-    (numbers : Numbers) (a b : TablePosition) (next place : ℕ) where
+    (places : RegionPlaces) (begins : Bool)
+    (numbers : NextNumbers) (a b : TablePosition) (next place : ℕ) where
   abbrev chart_piece : Bool → Piece
   chart_piece final = table_state_piece (record { name = name; is_initial = initial; is_final = final; regions = []; transitions = all })
 

@@ -14,9 +14,9 @@ use Rattle.chart_machine.specs.Table.{Piece, states_in, past_states, next_behind
 use Rattle.chart_machine.specs.Table.{region_piece as table_region_piece, state_piece as table_state_piece}
 use Rattle.chart_machine.specs.Table.{state_at}
 use Rattle.abort_expansion.specs.declared.flags.Flags.{Flags}
-use Rattle.abort_expansion.specs.declared.places.Places.{Places}
-use Rattle.abort_expansion.specs.declared.pieces.States.{States}
-use Rattle.abort_expansion.specs.declared.pieces.Numbers.{Numbers}
+use Rattle.abort_expansion.specs.declared.places.RegionPlaces.{RegionPlaces}
+use Rattle.abort_expansion.specs.declared.pieces.StatePieces.{StatePieces}
+use Rattle.abort_expansion.specs.declared.pieces.NextNumbers.{NextNumbers}
 use Rattle.abort_expansion.specs.Flags.{has_join, preparation_name}
 use Rattle.core_charts.specs.Aborts.{has_aborts}
 use Rattle.abort_expansion.specs.Pieces.{RegionPiece, StatePiece, beside}
@@ -36,7 +36,7 @@ use Rattle.abort_expansion_laws.proofs.WalkStaying.{walk_staying}
 use Rattle.abort_expansion_laws.proofs.WalkFork as forks
 
 module _ (name : List ℕ) (initial : Bool) (r : Region) (others : List Region) (all : List Transition) (walks : Each RegionWalks (r ∷ others))
-    (few : length (map piece_of_region (r ∷ others)) < 2147483648) (flags : List Flags) (places : Places) (numbers : Numbers) (a b : TablePosition)
+    (few : length (map piece_of_region (r ∷ others)) < 2147483648) (flags : List Flags) (places : RegionPlaces) (numbers : NextNumbers) (a b : TablePosition)
     (next place : ℕ) (begins : Bool) where
   abbrev regions : List Region
   regions = r ∷ others
@@ -96,10 +96,10 @@ module _ (name : List ℕ) (initial : Bool) (r : Region) (others : List Region) 
   abbrev later_next : ℕ
   later_next = next_behind first_piece next
 
-  abbrev fork_made : States
+  abbrev fork_made : StatePieces
   fork_made = forks.made name initial r others all walks flags places numbers a later later_next (suc place) false b.state
 
-  abbrev both_made : States
+  abbrev both_made : StatePieces
   both_made = beside (prepared n all (forks.f name initial r others all walks flags places numbers a b next place begins b.state) places place begins numbers)
       fork_made
 

@@ -11,9 +11,9 @@ use Rattle.chart_machine_laws.proofs.RowsOfPieces.{Holds, AllSized}
 use Rattle.chart_machine_laws.proofs.TableTrees.{NoneInitial, OnceInitial}
 use Rattle.scl_graph_laws.proofs.Segments.{StandAt, stand_from, stand_first, stand_second}
 use Rattle.abort_expansion.specs.declared.flags.Flags.{Flags}
-use Rattle.abort_expansion.specs.declared.places.Places.{Places}
-use Rattle.abort_expansion.specs.declared.pieces.States.{States}
-use Rattle.abort_expansion.specs.declared.pieces.Numbers.{Numbers}
+use Rattle.abort_expansion.specs.declared.places.RegionPlaces.{RegionPlaces}
+use Rattle.abort_expansion.specs.declared.pieces.StatePieces.{StatePieces}
+use Rattle.abort_expansion.specs.declared.pieces.NextNumbers.{NextNumbers}
 use Rattle.abort_expansion.specs.Flags.{weak_around}
 use Rattle.abort_expansion.specs.Pieces.{StatePiece, beside}
 use Rattle.abort_expansion.specs.Expansion.{piece_of_state, expanded_states, past_state, places, widths, variables_among}
@@ -35,7 +35,7 @@ EachPlace w r core_states (s ∷ numbers) (q ∷ at) (x ∷ finals) =
     ((slice_get core_states q ≡ Some (w.image s).entry) × (is_final w.k s ≡ x) × (holder w.k s ≡ r)) × EachPlace w r core_states numbers at finals
 EachPlace w r core_states numbers at finals = ⊥
 
-abbrev pub FirstFits : World → ℕ → Places → List ℕ → Type 0
+abbrev pub FirstFits : World → ℕ → RegionPlaces → List ℕ → Type 0
 FirstFits w t to [] = Unit {0}
 FirstFits w t to (s ∷ numbers) = (holder w.core (w.image s).main ≡ t) × ((w.image s).places ≡ to)
 
@@ -43,7 +43,7 @@ abbrev pub BeginsWith : ℕ → List State → List (Option ℕ) → Type 0
 BeginsWith n [] stands_for = Unit {0}
 BeginsWith n (s ∷ states) stands_for = (more : List (Option ℕ)) × (stands_for ≡ Some n ∷ more)
 
-pub record StatesStand (w : World) (states : List State) (made : States) (place : ℕ) (numbers : Numbers) (a b : TablePosition) (next core_next : ℕ)
+pub record StatesStand (w : World) (states : List State) (made : StatePieces) (place : ℕ) (numbers : NextNumbers) (a b : TablePosition) (next core_next : ℕ)
     (more : List Piece) (part : Part) : Type 0 where
   pub chart : InRegionAt w.k (pieces_of states) next a
   pub once_chart : OnceInitial (pieces_of states)
@@ -53,7 +53,7 @@ pub record StatesStand (w : World) (states : List State) (made : States) (place 
   pub entries : Entries w numbers a.state b.state made.stands_for part
   pub placed : StandAt (region_at w.core b.holder).states place (state_numbers (pieces_of made.states) b.state)
 
-pub record StatesWalk (states : List State) (anew : Bool) (made : States) (flags : List Flags) (to : Places) (place : ℕ) (numbers : Numbers)
+pub record StatesWalk (states : List State) (anew : Bool) (made : StatePieces) (flags : List Flags) (to : RegionPlaces) (place : ℕ) (numbers : NextNumbers)
     (a b : TablePosition) (next core_next : ℕ) : Type 0 where
   pub part : Part
   pub core_sized : AllSized (pieces_of made.states)
@@ -118,7 +118,7 @@ once_both : (b : Bool) (xs ys : List Piece) → (b ≡ false → NoneInitial xs)
 once_both true xs ys none once none_more once_more = once_append xs ys once (none_more refl)
 once_both false xs ys none once none_more once_more = none_once xs ys (none refl) once_more
 
-pub region_moved : (w : World) (a b : TablePosition) (flags : List Flags) (to : Places) (s r u q : ℕ) → InRegion w a b flags to →
+pub region_moved : (w : World) (a b : TablePosition) (flags : List Flags) (to : RegionPlaces) (s r u q : ℕ) → InRegion w a b flags to →
     InRegion w (record a { state = s; region = r }) (record b { state = u; region = q }) flags to
 region_moved w a b flags to s r u q h =
     record {
@@ -133,7 +133,7 @@ region_moved w a b flags to s r u q h =
 
 abbrev pub StatesWalks : Bool → List State → Type 0
 StatesWalks anew states =
-    (flags : List Flags) (to : Places) (place : ℕ) (numbers : Numbers) (a b : TablePosition) (next core_next : ℕ) →
+    (flags : List Flags) (to : RegionPlaces) (place : ℕ) (numbers : NextNumbers) (a b : TablePosition) (next core_next : ℕ) →
     StatesWalk states anew (expanded_states anew (expanded_pieces states) flags to place numbers) flags to place numbers a b next core_next
 
 walk_none : (anew : Bool) → StatesWalks anew []
@@ -158,8 +158,8 @@ walk_none anew flags to place numbers a b next core_next =
     }
 
 -- one state, and those behind it
-module _ (anew : Bool) (s : State) (states : List State) (walks : StateWalks s) (rest_walks : StatesWalks anew states) (flags : List Flags) (to : Places)
-    (place : ℕ) (numbers : Numbers) (a b : TablePosition) (next core_next : ℕ) where
+module _ (anew : Bool) (s : State) (states : List State) (walks : StateWalks s) (rest_walks : StatesWalks anew states) (flags : List Flags) (to : RegionPlaces)
+    (place : ℕ) (numbers : NextNumbers) (a b : TablePosition) (next core_next : ℕ) where
   abbrev p : Piece
   p = table_of_state s
 
@@ -169,7 +169,7 @@ module _ (anew : Bool) (s : State) (states : List State) (walks : StateWalks s) 
   abbrev begins : Bool
   begins = x.is_initial && not anew
 
-  abbrev one : States
+  abbrev one : StatePieces
   one = x.made flags to place begins numbers
 
   abbrev own_at : TablePosition
@@ -184,13 +184,13 @@ module _ (anew : Bool) (s : State) (states : List State) (walks : StateWalks s) 
   abbrev ps : List Piece
   ps = pieces_of one.states
 
-  abbrev later : Numbers
+  abbrev later : NextNumbers
   later = past_state (weak_around flags) x numbers
 
   abbrev later_place : ℕ
   later_place = place + x.width flags
 
-  abbrev more_states : States
+  abbrev more_states : StatePieces
   more_states = expanded_states anew (expanded_pieces states) flags to later_place later
 
   abbrev qs : List Piece
@@ -205,7 +205,7 @@ module _ (anew : Bool) (s : State) (states : List State) (walks : StateWalks s) 
   rest : StatesWalk states anew more_states flags to later_place later rest_at rest_core (next_behind p next) (next_past ps core_next)
   rest = rest_walks flags to later_place later rest_at rest_core (next_behind p next) (next_past ps core_next)
 
-  abbrev made : States
+  abbrev made : StatePieces
   made = beside one more_states
 
   abbrev part : Part

@@ -16,10 +16,10 @@ use Rattle.chart_machine.specs.declared.table.TablePosition.{TablePosition}
 use Rattle.chart_machine.specs.Table.{Piece, state_at, states_in, region_numbers, side_by_side, state_piece, come_to}
 use Rattle.chart_machine.specs.Table.{within as table_within, piece_of_region as table_of_region, piece_of_state as table_of_state}
 use Rattle.abort_expansion.specs.declared.flags.Flags.{Flags}
-use Rattle.abort_expansion.specs.declared.places.Places.{Places}
-use Rattle.abort_expansion.specs.declared.pieces.States.{States}
+use Rattle.abort_expansion.specs.declared.places.RegionPlaces.{RegionPlaces}
+use Rattle.abort_expansion.specs.declared.pieces.StatePieces.{StatePieces}
 use Rattle.abort_expansion.specs.declared.pieces.Regions.{Regions}
-use Rattle.abort_expansion.specs.declared.pieces.Numbers.{Numbers}
+use Rattle.abort_expansion.specs.declared.pieces.NextNumbers.{NextNumbers}
 use Rattle.abort_expansion.specs.Flags.{has_join, counts, one}
 use Rattle.core_charts.specs.Aborts.{has_strong, has_weak, has_aborts}
 use Rattle.abort_expansion.specs.Flags.{given, flag_count, flags_of, weak_around, aborts_around, is_there}
@@ -79,14 +79,14 @@ has_none flags all stay =
     and_false true = refl
     and_false false = refl
 
-led_none : (P : Transition → Bool) (places : Places) → ((t : Transition) → P (led places t) ≡ P t) → (all : List Transition) → list_any P all ≡ false →
+led_none : (P : Transition → Bool) (places : RegionPlaces) → ((t : Transition) → P (led places t) ≡ P t) → (all : List Transition) → list_any P all ≡ false →
     filter P (map (led places) all) ≡ []
 led_none P places same [] e = refl
 led_none P places same (t ∷ all) e =
     let both = either (P t) (list_any P all) e in rw (same t ∙ both.0) (led_none P places same all both.1)
 
 module _ (name : List ℕ) (initial : Bool) (r : Region) (others : List Region) (all : List Transition) (walks : Each RegionWalks (r ∷ others))
-    (flags : List Flags) (places : Places) (numbers : Numbers) (a b : TablePosition) (next place : ℕ) (begins : Bool) (stay : stays flags all ≡ true)
+    (flags : List Flags) (places : RegionPlaces) (numbers : NextNumbers) (a b : TablePosition) (next place : ℕ) (begins : Bool) (stay : stays flags all ≡ true)
     (few : length (map piece_of_region (r ∷ others)) < 2147483648) where
   abbrev regions : List Region
   regions = r ∷ others
@@ -97,7 +97,7 @@ module _ (name : List ℕ) (initial : Bool) (r : Region) (others : List Region) 
   abbrev f : Flags
   f = flags_of weak all numbers.variable
 
-  abbrev inside_at : Numbers
+  abbrev inside_at : NextNumbers
   inside_at = within weak all numbers
 
   abbrev inside : Regions
@@ -117,7 +117,7 @@ module _ (name : List ℕ) (initial : Bool) (r : Region) (others : List Region) 
   abbrev ps : List Piece
   ps = map table_of_region inside.regions
 
-  abbrev made : States
+  abbrev made : StatePieces
   made = as_it_is name all inside places begins numbers
 
   abbrev core_all : List Transition

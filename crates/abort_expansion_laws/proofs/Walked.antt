@@ -9,7 +9,7 @@ use Rattle.chart_machine.specs.Table.{state_at, region_at, region_numbers, piece
 use Rattle.chart_machine.specs.Steps.{state_in, to}
 use Rattle.chart_machine.specs.declared.standing.Standing.TheVariants as at
 use Rattle.abort_expansion.specs.declared.flags.Flags.{Flags}
-use Rattle.abort_expansion.specs.declared.places.Places.{Places}
+use Rattle.abort_expansion.specs.declared.places.RegionPlaces.{RegionPlaces}
 use Rattle.abort_expansion.specs.Flags.{has_join, flags_of, weak_around, local}
 use Rattle.core_charts.specs.Aborts.{has_aborts}
 use Rattle.abort_expansion.specs.Superstates.{stays, monitor_transitions}
@@ -27,7 +27,7 @@ pub record StateImage : Type 0 where
   pub watcher : ℕ
   pub watching : ℕ
   pub watched : ℕ
-  pub places : Places
+  pub places : RegionPlaces
   -- one that stays as it is has nothing behind it
   pub stays_on : Bool
 
@@ -42,7 +42,7 @@ pub record World : Type 0 where
 abbrev pub no_flags : Flags
 no_flags = record { strong = None; weak = None; counter = None }
 
-abbrev pub nowhere : Places
+abbrev pub nowhere : RegionPlaces
 nowhere = record { states = []; finals = []; left = 0; counter = None }
 
 -- the thread of a region is that of its first state; numbers without a region have threads that the core has not
@@ -54,7 +54,7 @@ abbrev pub thread_by : World → List ℕ → ℕ → ℕ
 thread_by w [] r = past_thread w.core r
 thread_by w (s ∷ states) r = holder w.core (w.image s).main
 
-abbrev pub places_by : World → List ℕ → Places
+abbrev pub places_by : World → List ℕ → RegionPlaces
 places_by w [] = nowhere
 places_by w (s ∷ states) = (w.image s).places
 
@@ -191,7 +191,7 @@ module _ (w : World) where
     pub super : IsSuper w.k (w.of_flag x)
 
   -- where the states of a region stand, and those of its thread
-  pub record InRegion (a b : TablePosition) (flags : List Flags) (places : Places) : Type 0 where
+  pub record InRegion (a b : TablePosition) (flags : List Flags) (places : RegionPlaces) : Type 0 where
     pub region : RegionFits a.holder
     pub thread : i.thread_of a.holder ≡ b.holder
     pub around_chart : around w.k a.holder ≡ a.around

@@ -12,10 +12,10 @@ use Rattle.chart_machine_laws.proofs.RowsOfPieces.{Holds, IsSized, AllSized}
 use Rattle.chart_machine_laws.proofs.TableTrees.{NoneInitial, OnceInitial}
 use Rattle.scl_graph_laws.proofs.Segments.{StandAt}
 use Rattle.abort_expansion.specs.declared.flags.Flags.{Flags}
-use Rattle.abort_expansion.specs.declared.places.Places.{Places}
-use Rattle.abort_expansion.specs.declared.pieces.States.{States}
+use Rattle.abort_expansion.specs.declared.places.RegionPlaces.{RegionPlaces}
+use Rattle.abort_expansion.specs.declared.pieces.StatePieces.{StatePieces}
 use Rattle.abort_expansion.specs.declared.pieces.Regions.{Regions}
-use Rattle.abort_expansion.specs.declared.pieces.Numbers.{Numbers}
+use Rattle.abort_expansion.specs.declared.pieces.NextNumbers.{NextNumbers}
 use Rattle.abort_expansion.specs.Flags.{weak_around}
 use Rattle.abort_expansion.specs.Pieces.{StatePiece, expanded_regions, variables_in}
 use Rattle.abort_expansion.specs.Expansion.{piece_of_region, piece_of_state}
@@ -44,14 +44,14 @@ module _ (w : World) where
     pub owners : Range (OwnerFits w) x v
 
   -- where the rows, the entries and the variables of something stand that is made
-  pub record Entries (numbers : Numbers) (a b : ℕ) (stands_for : List (Option ℕ)) (part : Part) : Type 0 where
+  pub record Entries (numbers : NextNumbers) (a b : ℕ) (stands_for : List (Option ℕ)) (part : Part) : Type 0 where
     pub mapped : ValuesAt w.m b stands_for
     pub images : ValuesAt w.image a part.states
     pub owned : ValuesAt w.of_flag numbers.variable part.owners
     pub low : length w.k.variables ≤ numbers.variable
     pub numbered : numbers.state ≡ a
 
-  pub record StateStands (p : Piece) (made : States) (flags : List Flags) (places : Places) (place : ℕ) (numbers : Numbers) (a b : TablePosition) (next : ℕ)
+  pub record StateStands (p : Piece) (made : StatePieces) (flags : List Flags) (places : RegionPlaces) (place : ℕ) (numbers : NextNumbers) (a b : TablePosition) (next : ℕ)
       (more : List Piece) (part : Part) : Type 0 where
     pub chart : Holds w.k a (p.parts a)
     pub core : InRegionAt w.core (pieces_of made.states ++ more) next b
@@ -61,7 +61,7 @@ module _ (w : World) where
     pub region : InRegion w a b flags places
     pub placed : StandAt (region_at w.core b.holder).states place (state_numbers (pieces_of made.states) b.state)
 
-  pub record RegionsStand (chart : SubtreeRows) (made : Regions) (flags : List Flags) (counter : Option ℕ) (numbers : Numbers) (a b : TablePosition)
+  pub record RegionsStand (chart : SubtreeRows) (made : Regions) (flags : List Flags) (counter : Option ℕ) (numbers : NextNumbers) (a b : TablePosition)
       (part : Part) : Type 0 where
     pub chart_rows : Holds w.k a chart
     pub core : Holds w.core b (side_by_side (map table_of_region made.regions) b)
@@ -73,8 +73,8 @@ module _ (w : World) where
 
 -- ---- a state, as its piece in the table and what it becomes
 
-pub record StateWalk (p : Piece) (made : States) (variables : ℕ) (final : Bool) (width : ℕ) (flags : List Flags) (places : Places) (place : ℕ)
-    (begins : Bool) (numbers : Numbers) (a b : TablePosition) (next : ℕ) : Type 0 where
+pub record StateWalk (p : Piece) (made : StatePieces) (variables : ℕ) (final : Bool) (width : ℕ) (flags : List Flags) (places : RegionPlaces) (place : ℕ)
+    (begins : Bool) (numbers : NextNumbers) (a b : TablePosition) (next : ℕ) : Type 0 where
   pub image : StateImage
   pub inner : List StateImage
   pub owners : List ℕ
@@ -101,7 +101,7 @@ pub record StateWalk (p : Piece) (made : States) (variables : ℕ) (final : Bool
 
 abbrev pub StateWalksBy : Piece → StatePiece → Type 0
 StateWalksBy p x =
-    (flags : List Flags) (places : Places) (place : ℕ) (begins : Bool) (numbers : Numbers) (a b : TablePosition) (next : ℕ) →
+    (flags : List Flags) (places : RegionPlaces) (place : ℕ) (begins : Bool) (numbers : NextNumbers) (a b : TablePosition) (next : ℕ) →
     StateWalk p (x.made flags places place begins numbers) (x.variables (weak_around flags)) x.is_final (x.width flags) flags places place begins numbers a b
     next
 
@@ -118,7 +118,7 @@ pub record StateWalks (s : State) : Type 0 where
 -- ---- regions
 
 pub record RegionsWalk (chart : SubtreeRows) (states : ℕ) (chart_numbers : List ℕ) (made : Regions) (variables : ℕ) (flags : List Flags)
-    (counter : Option ℕ) (numbers : Numbers) (a b : TablePosition) : Type 0 where
+    (counter : Option ℕ) (numbers : NextNumbers) (a b : TablePosition) : Type 0 where
   pub part : Part
   pub core_sized : AllSized (map table_of_region made.regions)
   pub core_many : states_in (map table_of_region made.regions) ≡ length made.stands_for
@@ -133,7 +133,7 @@ pub record RegionsWalk (chart : SubtreeRows) (states : ℕ) (chart_numbers : Lis
       Fits w a.state (a.state + states) b.state (b.state + states_in (map table_of_region made.regions)) numbers.variable (numbers.variable + variables)
 
 pub record RegionWalks (r : Region) : Type 0 where
-  pub walks : (flags : List Flags) (counter : Option ℕ) (numbers : Numbers) (a b : TablePosition) →
+  pub walks : (flags : List Flags) (counter : Option ℕ) (numbers : NextNumbers) (a b : TablePosition) →
       RegionsWalk ((table_of_region r).parts a) (table_of_region r).states (a.region ∷ []) ((piece_of_region r).made flags counter numbers)
       ((piece_of_region r).variables (weak_around flags)) flags counter numbers a b
   pub states : (piece_of_region r).states ≡ (table_of_region r).states
@@ -141,7 +141,7 @@ pub record RegionWalks (r : Region) : Type 0 where
 
 abbrev pub SideWalks : List Region → Type 0
 SideWalks regions =
-    (flags : List Flags) (counter : Option ℕ) (numbers : Numbers) (a b : TablePosition) →
+    (flags : List Flags) (counter : Option ℕ) (numbers : NextNumbers) (a b : TablePosition) →
     RegionsWalk (side_by_side (map table_of_region regions) a) (states_in (map table_of_region regions)) (region_numbers (map table_of_region regions) a.region)
     (expanded_regions (map piece_of_region regions) flags counter numbers) (variables_in (weak_around flags) (map piece_of_region regions)) flags counter
     numbers a b

@@ -16,7 +16,7 @@ use Rattle.chart_machine.specs.Table.{state_at, region_at}
 use Rattle.chart_machine.specs.Turns.{has_ended}
 use Rattle.chart_machine.specs.Steps.{to, state_in}
 use Rattle.abort_expansion.specs.declared.flags.Flags.{Flags}
-use Rattle.abort_expansion.specs.declared.places.Places.{Places}
+use Rattle.abort_expansion.specs.declared.places.RegionPlaces.{RegionPlaces}
 use Rattle.abort_expansion.specs.Flags.{aborts_around}
 use Rattle.abort_expansion.specs.Transitions.{go, place_of, led, led_by, strong_checks, answers}
 use Rattle.abort_expansion.specs.Superstates.{simple_transitions, stays, is_prepared, resets, monitor_transitions, closing}
@@ -67,7 +67,7 @@ fork_row thread n regions all opened =
 pub record Images : Type 0 where
   -- of a region: its thread, and where the places of its states are
   pub thread_of : ℕ → ℕ
-  pub places_of : ℕ → Places
+  pub places_of : ℕ → RegionPlaces
   -- of a state: where the thread stands in it, where transitions to it lead, and what follows its fork
   pub main_of : ℕ → ℕ
   pub entry_of : ℕ → ℕ

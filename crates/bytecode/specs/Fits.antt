@@ -15,7 +15,8 @@ use Rattle.sc_graph.specs.declared.program.Step.TheVariants as step
 use Rattle.sc_graph.specs.Limits.{count_limit, child_count_limit, no_parent}
 use Rattle.bytecode.specs.declared.rows.ThreadRow.{ThreadRow}
 use Rattle.bytecode.specs.declared.rows.NodeRow.{NodeRow}
-use Rattle.bytecode.specs.Image.{Image, HasLengths}
+use Rattle.bytecode.specs.Image.{Image}
+use Rattle.sc_graph.specs.Tables.{HasLengths}
 use Rattle.bytecode.specs.Codes.{division_version}
 use Rattle.bytecode.specs.Layout.{rows_of_threads, rows_of_nodes}
 

@@ -1,7 +1,7 @@
 //! Images: a program with its certificate.
 
 ghost use Rattle.std.specs.Prelude.{◌≡◌, ◌↔◌, IsSome, IfSome};
-ghost use Rattle.bytecode.specs.Image.{HasLengths};
+ghost use Rattle.sc_graph.specs.Tables.{HasLengths};
 
 use sc_graph::{Program, Tables};
 use std::marker::Model;
@@ -14,7 +14,8 @@ pub struct Image {
 }
 
 impl Model for Image {
-    ghost use Rattle.bytecode.specs.Image.{Image, HasLengths};
+    ghost use Rattle.bytecode.specs.Image.{Image};
+    ghost use Rattle.sc_graph.specs.Tables.{HasLengths};
 
     ghost Value = { Image };
 

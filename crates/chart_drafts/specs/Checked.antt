@@ -1,6 +1,6 @@
 -- What a text is that spells a chart without flaws, and what is wrong with another one.
 use Rattle.std.specs.Prelude.{ℕ, ◌≡◌, ◌⊎◌, List, []}
-use Rattle.sc_text.specs.declared.read_fault.Broken.{Broken}
+use Rattle.sc_text.specs.declared.read_fault.FaultKind.{FaultKind}
 use Rattle.sc_text.specs.declared.read_fault.ReadFault.{ReadFault}
 use Rattle.sc_text.specs.declared.read_fault.ReadFault.TheVariants as fault
 use Rattle.drafts.specs.First.{IsFirst}
@@ -14,7 +14,7 @@ pub record IsSound (text : List ℕ) (draft : DraftChart) : Type 0 where
   pub flawless : chart_flaws draft ≡ []
 
 -- the text spells a chart, and this is the first of the flaws of its draft
-pub record IsFlawed (text : List ℕ) (b : Broken) (at : ℕ) : Type 0 where
+pub record IsFlawed (text : List ℕ) (b : FaultKind) (at : ℕ) : Type 0 where
   pub draft : DraftChart
   pub drafted : IsDraft text draft
   pub first : IsFirst (chart_flaws draft) (record { broken = b; at = at })

@@ -2,7 +2,7 @@
 -- their names, a transition at its word.
 use Rattle.std.specs.Prelude.{ℕ, zero, suc, ◌+◌, nat_eq, Bool, true, false, not, ◌&&◌, ◌||◌, Option, Some, None, List, [], ◌∷◌, ◌++◌, map, count_by}
 use Rattle.sc_values.specs.declared.value.Kind.TheVariants as kind
-use Rattle.sc_text.specs.declared.read_fault.Broken.TheVariants as broken
+use Rattle.sc_text.specs.declared.read_fault.FaultKind.TheVariants as broken
 use Rattle.drafts.specs.declared.flaw.Flaw.{Flaw}
 use Rattle.core_charts.specs.Rules.{depth_limit, effect_text_limit, fits_state, region_text_limit, state_text_limit, transition_text_limit}
 use Rattle.core_charts.specs.Tests.{is_join}

@@ -5,7 +5,7 @@ use Rattle.grammar.specs.Read.{Flaw}
 use Rattle.grammar.specs.Fault.{Fault}
 use Rattle.sc_text.specs.declared.language.Language.TheVariants as language
 use Rattle.sc_text.specs.declared.token.Token.{Token}
-use Rattle.sc_text.specs.declared.read_fault.Broken.{Broken}
+use Rattle.sc_text.specs.declared.read_fault.FaultKind.{FaultKind}
 use Rattle.sc_text.specs.declared.read_fault.ReadFault.{ReadFault}
 use Rattle.sc_text.specs.declared.read_fault.ReadFault.TheVariants as fault
 use Rattle.sc_text.specs.Tokens.{AreTokens, IsFirstFault}
@@ -20,7 +20,7 @@ pub record IsDraft (text : List ℕ) (draft : DraftChart) : Type 0 where
   pub spelled : spells (chart_text 0) tokens draft
 
 -- the text is cut into tokens, which spell no chart: at this place they can't go on
-pub record IsGrammarFault (text : List ℕ) (b : Broken) (at : ℕ) : Type 0 where
+pub record IsGrammarFault (text : List ℕ) (b : FaultKind) (at : ℕ) : Type 0 where
   pub tokens : List Token
   pub cut : AreTokens language.Chart 0 text tokens
   pub flaw : Flaw

@@ -1,7 +1,7 @@
 //! What is wrong with states and regions, which stand in one another.
 
 ghost use Rattle.std.specs.Prelude.{◌≡◌, [], OnOk, IfOk, false, count_by};
-ghost use Rattle.sc_text.specs.declared.read_fault.Broken.TheVariants as broken;
+ghost use Rattle.sc_text.specs.declared.read_fault.FaultKind.TheVariants as broken;
 ghost use Rattle.core_charts.specs.Rules.{state_text_limit};
 ghost use Rattle.drafts.specs.Flaws.{flaw_if, is_full, is_repeated};
 ghost use Rattle.drafts.specs.Told.{told_behind};
@@ -14,7 +14,7 @@ use crate::names::Names;
 use crate::transition_flaws::transition_flaws;
 use core_charts::{REGION_LIMIT, STATE_LIMIT};
 use drafts::{Flaw, Scope, is_full, note_told};
-use sc_text::Broken;
+use sc_text::FaultKind;
 use sc_values::Name;
 use sqlite_items::Items;
 use std::alloc::{AllocError, Global};
@@ -40,9 +40,9 @@ pub(crate) fn region_flaws(
     for (at, region) in regions.iter().enumerate() {
         let named = region.named;
         let is_repeated = names.is_repeated(at, named.name);
-        note_told(alloc, found, is_repeated, Broken::Repeated, named.at)?;
+        note_told(alloc, found, is_repeated, FaultKind::Repeated, named.at)?;
         let is_past = is_full(REGION_LIMIT, at);
-        note_told(alloc, found, is_past, Broken::Limit, named.at)?;
+        note_told(alloc, found, is_past, FaultKind::Limit, named.at)?;
         initial_flaws(alloc, region, found)?;
         let states = region.states.as_slice();
         state_flaws(alloc, scope, levels - 1, states, found)?;
@@ -84,7 +84,7 @@ fn deeper_flaws(
 {
     match regions {
         [] => Ok(()),
-        [region, ..] => note_told(alloc, found, true, Broken::Limit, region.named.at),
+        [region, ..] => note_told(alloc, found, true, FaultKind::Limit, region.named.at),
     }
 }
 
@@ -103,9 +103,9 @@ fn place_flaws(
 {
     let named = state.named;
     let is_repeated = names.is_repeated(at, named.name);
-    note_told(alloc, found, is_repeated, Broken::Repeated, named.at)?;
+    note_told(alloc, found, is_repeated, FaultKind::Repeated, named.at)?;
     let is_past = is_full(STATE_LIMIT, at);
-    note_told(alloc, found, is_past, Broken::Limit, named.at)
+    note_told(alloc, found, is_past, FaultKind::Limit, named.at)
 }
 
 fn final_flaws(alloc: Global, state: &DraftState, found: &mut Items<Flaw>) -> Result<(), AllocError>
@@ -113,7 +113,7 @@ fn final_flaws(alloc: Global, state: &DraftState, found: &mut Items<Flaw>) -> Re
 {
     let is_bare = state.regions.is_empty() && state.transitions.is_empty();
     let is_broken = state.is_final && !is_bare;
-    note_told(alloc, found, is_broken, Broken::Rule, state.named.at)
+    note_told(alloc, found, is_broken, FaultKind::Rule, state.named.at)
 }
 
 fn own_transition_flaws(
@@ -147,7 +147,7 @@ fn initial_flaws(
     ensures { OnOk result (found.new ≡ told_behind found.old (initial_flaws region.now)) }
 {
     let count = initial_count(region.states.as_slice());
-    note_told(alloc, found, count != 1, Broken::Rule, region.named.at)
+    note_told(alloc, found, count != 1, FaultKind::Rule, region.named.at)
 }
 
 fn initial_count(states: &[DraftState]) -> usize

@@ -10,7 +10,7 @@ use crate::draft::{DraftEffect, DraftTransition};
 use crate::names::Names;
 use core_charts::{EFFECT_LIMIT, TRANSITION_LIMIT, TransitionKind};
 use drafts::{Flaw, Scope, is_full, note_told};
-use sc_text::Broken;
+use sc_text::FaultKind;
 use sc_values::Kind;
 use sqlite_items::Items;
 use std::alloc::{AllocError, Global};
@@ -32,7 +32,7 @@ pub(crate) fn transition_flaws(
     let mut is_behind_join = false;
     for (at, transition) in transitions.iter().enumerate() {
         let is_past = is_full(TRANSITION_LIMIT, at);
-        note_told(alloc, found, is_past, Broken::Limit, transition.at)?;
+        note_told(alloc, found, is_past, FaultKind::Limit, transition.at)?;
         kind_flaws(alloc, is_superstate, is_behind_join, transition, found)?;
         trigger_flaws(alloc, scope, transition, found)?;
         effect_flaws(alloc, scope, transition.effects.as_slice(), found)?;
@@ -41,7 +41,7 @@ pub(crate) fn transition_flaws(
             alloc,
             found,
             is_unknown,
-            Broken::Unknown,
+            FaultKind::Unknown,
             transition.target.at,
         )?;
         is_behind_join = is_past_join(is_behind_join, transition);
@@ -68,7 +68,7 @@ fn kind_flaws(
 {
     let is_second = transition.kind.is_join() && is_behind_join;
     let is_broken = !fits_state(is_superstate, transition.kind) || is_second;
-    note_told(alloc, found, is_broken, Broken::Rule, transition.at)
+    note_told(alloc, found, is_broken, FaultKind::Rule, transition.at)
 }
 
 // Simple states have transitions by `go`, superstates aborts and terminations.
@@ -107,7 +107,7 @@ fn effect_flaws(
 {
     for (at, effect) in effects.iter().enumerate() {
         let is_past = is_full(EFFECT_LIMIT, at);
-        note_told(alloc, found, is_past, Broken::Limit, effect.variable.at)?;
+        note_told(alloc, found, is_past, FaultKind::Limit, effect.variable.at)?;
         scope.tell_assignment(alloc, effect.variable, &effect.value, found)?;
     }
     Ok(())

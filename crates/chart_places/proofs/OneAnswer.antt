@@ -1,7 +1,7 @@
 -- A text has one draft, and so one chart with its places, or a fault.
 use Rattle.std.proofs.Common.{◌≡◌, ℕ, List, refl, sym, ◌∙◌, ap}
 use Rattle.sc_text.specs.declared.language.Language.TheVariants as language
-use Rattle.sc_text.specs.declared.read_fault.Broken.{Broken}
+use Rattle.sc_text.specs.declared.read_fault.FaultKind.{FaultKind}
 use Rattle.sc_text.specs.declared.read_fault.ReadFault.TheVariants as fault
 use Rattle.sc_text.proofs.OneReading.{one_phrase}
 use Rattle.core_charts.specs.Chart.{Chart}
@@ -24,7 +24,7 @@ one_chart text c d p q a b =
     let same : a.draft ≡ b.draft = one_draft text a.draft b.draft a.drafted b.drafted in
     (a.spelled ∙ ap chart_of same ∙ sym b.spelled, a.placed ∙ ap places_of same ∙ sym b.placed)
 
-pub no_fault : (text : List ℕ) (c : Chart) (p : Places) (b : Broken) (at : ℕ) → IsPlaced text c p → ¬ IsTextFault text (fault.Text b at)
+pub no_fault : (text : List ℕ) (c : Chart) (p : Places) (b : FaultKind) (at : ℕ) → IsPlaced text c p → ¬ IsTextFault text (fault.Text b at)
 no_fault text c p b at h =
     reading.no_fault text (chart_of h.draft) b at
     (record { draft = h.draft; drafted = h.drafted; flawless = h.flawless; spelled = refl })

@@ -3,14 +3,14 @@ use Rattle.std.proofs.Common.{◌≡◌, ℕ, map}
 use Rattle.chart_drafts.specs.declared.draft.DraftRegion.{DraftRegion}
 use Rattle.chart_drafts.specs.declared.draft.DraftRegion.TheViews.{out-DraftRegion}
 use Rattle.chart_drafts.specs.declared.draft.DraftRegion.TheFolds.{fold_out-DraftRegion}
-use Rattle.chart_places.specs.declared.places.Rows.{Rows}
+use Rattle.chart_places.specs.declared.places.PlaceRows.{PlaceRows}
 use Rattle.chart_places.specs.declared.scenes.Scenes.{Scenes}
 use Rattle.chart_places.specs.Places.{all, beside, in_region, in_state, of_region, of_state, region}
 use Rattle.chart_places.specs.Scenes as scene
 
 pub region_is : (r : DraftRegion) →
     of_region r ≡ beside (region (out-DraftRegion r).named.at) (all (map of_state (out-DraftRegion r).states))
-region_is r = fold_out-DraftRegion Rows Rows in_region in_state r
+region_is r = fold_out-DraftRegion PlaceRows PlaceRows in_region in_state r
 
 pub scenes_in_region : (r : DraftRegion) →
     scene.of_region r ≡ scene.in_row (map scene.of_state (out-DraftRegion r).states) (out-DraftRegion r).named.at

@@ -20,7 +20,7 @@ use Rattle.chart_drafts.specs.declared.draft.DraftState.{DraftState}
 use Rattle.chart_drafts.specs.Flaws.{state_names}
 use Rattle.chart_reader.specs.Resolved.{effect_of, region_of, state_of, transition_of}
 use Rattle.chart_reader.proofs.Looking as looking
-use Rattle.chart_places.specs.declared.places.Rows.{Rows}
+use Rattle.chart_places.specs.declared.places.PlaceRows.{PlaceRows}
 use Rattle.chart_places.specs.Laws.{word_of}
 use Rattle.chart_places.specs.Places as place
 use Rattle.chart_places.specs.Places.{all, beside, in_region, in_state, nothing, of_effects}
@@ -55,7 +55,7 @@ module _ (Good : Token → Type 0) where
     pub effects : Every IsEffectPut t.effects
 
   -- these are the places of these elements, over variables of these names
-  pub record Told (variables : List (List ℕ)) (places : Rows) (own : Contents) : Type 0 where
+  pub record Told (variables : List (List ℕ)) (places : PlaceRows) (own : Contents) : Type 0 where
     pub regions : Pairs NameHas places.regions own.regions
     pub states : Pairs NameHas places.states own.states
     pub transitions : Pairs TransitionHas places.transitions own.transitions
@@ -68,7 +68,7 @@ module _ (Good : Token → Type 0) where
   IsRegionPut r = (variables : List (List ℕ)) → Told variables (place.of_region r) (of_one_region (region_of variables r))
 
   module _ (variables : List (List ℕ)) where
-    told_both : (x y : Rows) (a b : Contents) → Told variables x a → Told variables y b → Told variables (beside x y) (both a b)
+    told_both : (x y : PlaceRows) (a b : Contents) → Told variables x a → Told variables y b → Told variables (beside x y) (both a b)
     told_both x y a b h k =
         record {
           regions = pairs_append NameHas x.regions y.regions a.regions b.regions h.regions k.regions;
@@ -145,7 +145,7 @@ module _ (Good : Token → Type 0) where
       (in_regions (map (region_of variables) (out-DraftState s).regions)) =
       state_parts (state_of variables names s)
       ∙ ap (λ parts. both (state_alone parts.name parts.transitions) (in_regions parts.regions)) (looking.state_out variables names s) in
-      subst (λ x. Told variables x (of_one_state (state_of variables names s))) (sym (fold_out-DraftState Rows Rows in_region in_state s))
+      subst (λ x. Told variables x (of_one_state (state_of variables names s))) (sym (fold_out-DraftState PlaceRows PlaceRows in_region in_state s))
       (subst (Told variables _) (sym is)
       (told_both variables _ _ _ _ (alone_told variables names s named own) (regions_told variables (out-DraftState s).regions inside)))
 
@@ -156,7 +156,7 @@ module _ (Good : Token → Type 0) where
       ≡ both (region_alone (out-DraftRegion r).named.name)
       (in_states (map (state_of variables (state_names (out-DraftRegion r).states)) (out-DraftRegion r).states)) =
       region_parts (region_of variables r) ∙ ap (λ parts. both (region_alone parts.name) (in_states parts.states)) (looking.region_out variables r) in
-      subst (λ x. Told variables x (of_one_region (region_of variables r))) (sym (fold_out-DraftRegion Rows Rows in_region in_state r))
+      subst (λ x. Told variables x (of_one_region (region_of variables r))) (sym (fold_out-DraftRegion PlaceRows PlaceRows in_region in_state r))
       (subst (Told variables _) (sym is)
       (told_both variables _ _ _ _ (one_region_told variables (out-DraftRegion r).named named)
       (states_told variables names (out-DraftRegion r).states states)))

@@ -2,7 +2,7 @@
 -- place.
 use Rattle.std.specs.Prelude.{ℕ, ◌≡◌, ◌<◌, Some, List, map, length, slice_get}
 use Rattle.sc_text.specs.declared.language.Language.TheVariants as language
-use Rattle.sc_text.specs.declared.read_fault.Broken.{Broken}
+use Rattle.sc_text.specs.declared.read_fault.FaultKind.{FaultKind}
 use Rattle.sc_text.specs.declared.read_fault.ReadFault.TheVariants as fault
 use Rattle.sc_text.specs.declared.token.Token.{Token}
 use Rattle.sc_text.specs.declared.token.TokenKind.{TokenKind}
@@ -72,5 +72,5 @@ PlacesTellTexts = (text : List ℕ) (d : DraftChart) → IsDraft text d → Tell
 -- each text has one answer: one chart with one place for each of its elements, or a fault, and not both
 pub record PlacedTextsHaveOneAnswer : Type 0 where
   pub one_chart : (text : List ℕ) (c d : Chart) (p q : Places) → IsPlaced text c p → IsPlaced text d q → (c ≡ d) × (p ≡ q)
-  pub no_fault : (text : List ℕ) (c : Chart) (p : Places) (b : Broken) (at : ℕ) → IsPlaced text c p →
+  pub no_fault : (text : List ℕ) (c : Chart) (p : Places) (b : FaultKind) (at : ℕ) → IsPlaced text c p →
       ¬ IsTextFault text (fault.Text b at)

@@ -10,17 +10,17 @@ use Rattle.chart_drafts.specs.declared.draft.DraftRegion.TheOpen.{DraftRegion-F,
 use Rattle.chart_drafts.specs.declared.draft.DraftRegion.TheFolds.{fold-DraftRegion, fold-DraftState}
 use Rattle.chart_drafts.specs.declared.draft.DraftState.{DraftState}
 use Rattle.chart_drafts.specs.declared.draft.DraftChart.{DraftChart}
-use Rattle.chart_places.specs.declared.places.Rows.{Rows}
+use Rattle.chart_places.specs.declared.places.PlaceRows.{PlaceRows}
 use Rattle.chart_places.specs.declared.places.Places.{Places}
 use Rattle.chart_places.specs.declared.scenes.Scene.{Scene}
 use Rattle.chart_places.specs.Scenes.{scenes_of}
 
 -- ---- rows of places, one sort beside the other
 
-abbrev pub nothing : Rows
+abbrev pub nothing : PlaceRows
 nothing = record { regions = []; states = []; transitions = []; effects = [] }
 
-abbrev pub beside : Rows → Rows → Rows
+abbrev pub beside : PlaceRows → PlaceRows → PlaceRows
 beside a b =
     record {
       regions = a.regions ++ b.regions;
@@ -29,18 +29,18 @@ beside a b =
       effects = a.effects ++ b.effects;
     }
 
-abbrev pub all : List Rows → Rows
+abbrev pub all : List PlaceRows → PlaceRows
 all [] = nothing
 all (a ∷ others) = beside a (all others)
 
-abbrev pub region : ℕ → Rows
+abbrev pub region : ℕ → PlaceRows
 region at = record { regions = at ∷ []; states = []; transitions = []; effects = [] }
 
-abbrev pub state : ℕ → Rows
+abbrev pub state : ℕ → PlaceRows
 state at = record { regions = []; states = at ∷ []; transitions = []; effects = [] }
 
 -- a transition with its effects
-abbrev pub transition : ℕ → List ℕ → Rows
+abbrev pub transition : ℕ → List ℕ → PlaceRows
 transition at effects = record { regions = []; states = []; transitions = at ∷ []; effects = effects }
 
 -- ---- transitions
@@ -48,23 +48,23 @@ transition at effects = record { regions = []; states = []; transitions = at ∷
 abbrev pub of_effects : List DraftEffect → List ℕ
 of_effects effects = map (λ e. e.variable.at) effects
 
-abbrev pub of_transition : DraftTransition → Rows
+abbrev pub of_transition : DraftTransition → PlaceRows
 of_transition t = transition t.at (of_effects t.effects)
 
 -- ---- states and regions, with all that is in them
 
 -- a state with its transitions, and then what is inside it
-abbrev pub in_state : DraftState-F Rows Rows → Rows
+abbrev pub in_state : DraftState-F PlaceRows PlaceRows → PlaceRows
 in_state s = beside (beside (state s.named.at) (all (map of_transition s.transitions))) (all s.regions)
 
-abbrev pub in_region : DraftRegion-F Rows Rows → Rows
+abbrev pub in_region : DraftRegion-F PlaceRows PlaceRows → PlaceRows
 in_region r = beside (region r.named.at) (all r.states)
 
-abbrev pub of_region : DraftRegion → Rows
-of_region = fold-DraftRegion Rows Rows in_region in_state
+abbrev pub of_region : DraftRegion → PlaceRows
+of_region = fold-DraftRegion PlaceRows PlaceRows in_region in_state
 
-abbrev pub of_state : DraftState → Rows
-of_state = fold-DraftState Rows Rows in_region in_state
+abbrev pub of_state : DraftState → PlaceRows
+of_state = fold-DraftState PlaceRows PlaceRows in_region in_state
 
 abbrev pub places_of : DraftChart → Places
 places_of d = record { chart = d.named.at; rows = all (map of_region d.regions); scenes = scenes_of d }

@@ -8,7 +8,7 @@ mod rows;
 mod scenes;
 
 pub use laws::{placed_texts_have_one_answer, places_tell_texts};
-pub use places::{Places, Rows};
+pub use places::{PlaceRows, Places};
 pub use read::{Placed, read_placed};
 pub use rows::places_of;
 pub use scenes::{Scene, Scenes, scenes_of};

@@ -11,7 +11,7 @@ use std::alloc::{AllocError, Global};
 /// Where elements of a chart stand in its text, of each sort in the order of their numbers: regions and states at their
 /// names, transitions at their words, and effects at their variables.
 #[derive(Debug, Drop)]
-pub struct Rows {
+pub struct PlaceRows {
     pub regions: Items<usize>,
     pub states: Items<usize>,
     pub transitions: Items<usize>,
@@ -22,16 +22,16 @@ pub struct Rows {
 #[derive(Debug, Drop)]
 pub struct Places {
     pub chart: usize,
-    pub rows: Rows,
+    pub rows: PlaceRows,
     pub scenes: Scenes,
 }
 
-impl Rows {
+impl PlaceRows {
     /// Of no element yet.
-    pub(crate) fn none(alloc: Global) -> Rows
+    pub(crate) fn none(alloc: Global) -> PlaceRows
         ensures { result ≡ nothing }
     {
-        Rows {
+        PlaceRows {
             regions: Items::new(alloc),
             states: Items::new(alloc),
             transitions: Items::new(alloc),

@@ -4,7 +4,7 @@ ghost use Rattle.std.specs.Prelude.{◌≡◌, ◌++◌, IfOk, map};
 ghost use Rattle.chart_places.specs.Places.{all, beside, of_effects, of_region, of_state, of_transition};
 ghost use Rattle.chart_places.specs.Places.{places_of, region};
 
-use crate::places::{Places, Rows};
+use crate::places::{PlaceRows, Places};
 use crate::scenes::scenes_of;
 use chart_drafts::{DraftChart, DraftEffect, DraftRegion, DraftState, DraftTransition};
 use sqlite_items::Items;
@@ -14,7 +14,7 @@ use std::alloc::{AllocError, Global};
 pub fn places_of(alloc: Global, draft: &DraftChart) -> Result<Places, AllocError>
     ensures { IfOk result (λ places. places ≡ places_of draft.now) }
 {
-    let mut rows = Rows::none(alloc);
+    let mut rows = PlaceRows::none(alloc);
     put_regions(draft.regions.as_slice(), &mut rows)?;
     let scenes = scenes_of(alloc, draft)?;
     Ok(Places {
@@ -26,7 +26,7 @@ pub fn places_of(alloc: Global, draft: &DraftChart) -> Result<Places, AllocError
 
 // Puts those of regions, with all that is in them, behind the others.
 #[cycle(draft)]
-fn put_regions(regions: &[DraftRegion], rows: &mut Rows) -> Result<(), AllocError>
+fn put_regions(regions: &[DraftRegion], rows: &mut PlaceRows) -> Result<(), AllocError>
     ensures { IfOk result (λ _. rows.new ≡ beside rows.old (all (map of_region regions.now))) }
 {
     for region in regions {
@@ -37,7 +37,7 @@ fn put_regions(regions: &[DraftRegion], rows: &mut Rows) -> Result<(), AllocErro
 
 #[cycle(draft)]
 #[tactic(auto, using(crate::proofs::Parts::region_is))]
-fn put_region(region: &DraftRegion, rows: &mut Rows) -> Result<(), AllocError>
+fn put_region(region: &DraftRegion, rows: &mut PlaceRows) -> Result<(), AllocError>
     ensures { IfOk result (λ _. rows.new ≡ beside rows.old (of_region region.now)) }
 {
     put_region_over(region.named.at, region.states.as_slice(), rows)
@@ -45,7 +45,11 @@ fn put_region(region: &DraftRegion, rows: &mut Rows) -> Result<(), AllocError>
 
 // Puts those of a region of these states, which stands there, behind the others.
 #[cycle(draft)]
-fn put_region_over(place: usize, states: &[DraftState], rows: &mut Rows) -> Result<(), AllocError>
+fn put_region_over(
+    place: usize,
+    states: &[DraftState],
+    rows: &mut PlaceRows,
+) -> Result<(), AllocError>
     ensures { IfOk result (λ _. rows.new ≡ beside rows.old (beside (region place) (all (map of_state states.now)))) }
 {
     rows.put_region(place)?;
@@ -54,7 +58,7 @@ fn put_region_over(place: usize, states: &[DraftState], rows: &mut Rows) -> Resu
 
 // Puts those of states, with all that is in them, behind the others.
 #[cycle(draft)]
-fn put_states(states: &[DraftState], rows: &mut Rows) -> Result<(), AllocError>
+fn put_states(states: &[DraftState], rows: &mut PlaceRows) -> Result<(), AllocError>
     ensures { IfOk result (λ _. rows.new ≡ beside rows.old (all (map of_state states.now))) }
 {
     for state in states {
@@ -64,7 +68,7 @@ fn put_states(states: &[DraftState], rows: &mut Rows) -> Result<(), AllocError>
 }
 
 #[cycle(draft)]
-fn put_state(state: &DraftState, rows: &mut Rows) -> Result<(), AllocError>
+fn put_state(state: &DraftState, rows: &mut PlaceRows) -> Result<(), AllocError>
     ensures { IfOk result (λ _. rows.new ≡ beside rows.old (of_state state.now)) }
 {
     rows.put_state(state.named.at)?;
@@ -73,7 +77,7 @@ fn put_state(state: &DraftState, rows: &mut Rows) -> Result<(), AllocError>
 }
 
 // Puts those of transitions and their effects behind the others.
-fn put_transitions(transitions: &[DraftTransition], rows: &mut Rows) -> Result<(), AllocError>
+fn put_transitions(transitions: &[DraftTransition], rows: &mut PlaceRows) -> Result<(), AllocError>
     ensures { IfOk result (λ _. rows.new ≡ beside rows.old (all (map of_transition transitions.now))) }
 {
     for transition in transitions {

@@ -1,7 +1,7 @@
 -- What is read, and what is told, is the one answer that the text has.
 use Rattle.std.proofs.Common.{◌≡◌, ◌⊎◌, ℕ, List, refl, sym, ◌∙◌, ap, inl, inr}
 use Rattle.std.specs.Prelude.{Ok, Err}
-use Rattle.sc_text.specs.declared.read_fault.Broken.{Broken}
+use Rattle.sc_text.specs.declared.read_fault.FaultKind.{FaultKind}
 use Rattle.sc_text.specs.declared.read_fault.ReadFault.{ReadFault}
 use Rattle.sc_text.specs.declared.read_fault.ReadFault.TheVariants as fault
 use Rattle.core_charts.specs.Chart.{Chart}
@@ -14,7 +14,7 @@ use Rattle.chart_reader.proofs.OneAnswer as one
 pub one_chart : (text : List ℕ) (c d : Chart) → IsRead text c → IsRead text d → c ≡ d
 one_chart text c d a b = a.spelled ∙ ap chart_of (one.one_draft text a.draft b.draft a.drafted b.drafted) ∙ sym b.spelled
 
-pub no_fault : (text : List ℕ) (c : Chart) (b : Broken) (at : ℕ) → IsRead text c → ¬ IsTextFault text (fault.Text b at)
+pub no_fault : (text : List ℕ) (c : Chart) (b : FaultKind) (at : ℕ) → IsRead text c → ¬ IsTextFault text (fault.Text b at)
 no_fault text c b at read = one.no_fault text read.draft b at read.drafted read.flawless
 
 pub read_exactly : (text : List ℕ) (c : Chart) → IsRead text c → IsExact text (Ok c)
@@ -24,7 +24,7 @@ only_memory : (text : List ℕ) (f : ReadFault) → IsTextFault text f → (c : 
 only_memory text (fault.Text b at) told c read = absurd (no_fault text c b at read told)
 only_memory text fault.Memory told c read = refl
 
-this_or_memory : (text : List ℕ) (f : ReadFault) → IsTextFault text f → (b : Broken) (at : ℕ) → IsTextFault text (fault.Text b at)
+this_or_memory : (text : List ℕ) (f : ReadFault) → IsTextFault text f → (b : FaultKind) (at : ℕ) → IsTextFault text (fault.Text b at)
     → (f ≡ fault.Text b at) ⊎ (f ≡ fault.Memory)
 this_or_memory text (fault.Text c place) told b at other =
     let same = one.one_fault text c b place at told other in inl (ap (λ x. fault.Text x place) same.0 ∙ ap (fault.Text b) same.1)

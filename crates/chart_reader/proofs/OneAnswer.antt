@@ -1,7 +1,7 @@
 -- A text has one answer: one draft, or one fault, and not both.
 use Rattle.std.proofs.Common.{◌≡◌, ℕ, List, [], length, sym, ◌∙◌, ap, subst, inl, inr}
 use Rattle.sc_text.specs.declared.language.Language.TheVariants as language
-use Rattle.sc_text.specs.declared.read_fault.Broken.{Broken}
+use Rattle.sc_text.specs.declared.read_fault.FaultKind.{FaultKind}
 use Rattle.sc_text.specs.declared.read_fault.ReadFault.TheVariants as fault
 use Rattle.sc_text.specs.Reading.{broken_by, place_of}
 use Rattle.sc_text.proofs.OneCut as cut
@@ -18,11 +18,11 @@ use Rattle.chart_drafts.proofs.Deepens.{is_language}
 pub one_draft : (text : List ℕ) (d e : DraftChart) → IsDraft text d → IsDraft text e → d ≡ e
 one_draft text d e a b = one_phrase language.Chart chart_text is_language text a.tokens b.tokens a.cut b.cut d e a.spelled b.spelled
 
-no_draft_fault : (text : List ℕ) (d : DraftChart) (b : Broken) (at : ℕ) → IsDraft text d → ¬ IsDraftFault text (fault.Text b at)
+no_draft_fault : (text : List ℕ) (d : DraftChart) (b : FaultKind) (at : ℕ) → IsDraft text d → ¬ IsDraftFault text (fault.Text b at)
 no_draft_fault text d b at a (inl f) = cut.no_fault language.Chart text a.tokens b at a.cut f
 no_draft_fault text d b at a (inr f) = no_stop language.Chart chart_text is_language text a.tokens f.tokens a.cut f.cut d f.flaw f.rest a.spelled f.faulty
 
-one_draft_fault : (text : List ℕ) (b c : Broken) (at place : ℕ) → IsDraftFault text (fault.Text b at) → IsDraftFault text (fault.Text c place)
+one_draft_fault : (text : List ℕ) (b c : FaultKind) (at place : ℕ) → IsDraftFault text (fault.Text b at) → IsDraftFault text (fault.Text c place)
     → (b ≡ c) × (at ≡ place)
 one_draft_fault text b c at place (inl f) (inl h) = cut.one_fault language.Chart text b c at place f h
 one_draft_fault text b c at place (inl f) (inr h) = absurd (cut.no_fault language.Chart text h.tokens b at h.cut f)
@@ -31,12 +31,12 @@ one_draft_fault text b c at place (inr f) (inr h) =
     let s = one_stop language.Chart chart_text is_language text f.tokens h.tokens f.cut h.cut f.flaw h.flaw f.rest h.rest f.faulty h.faulty in
     (f.breaks ∙ ap broken_by s.flaws ∙ sym h.breaks, f.place ∙ ap (place_of (length text)) s.rests ∙ sym h.place)
 
-pub no_fault : (text : List ℕ) (d : DraftChart) (b : Broken) (at : ℕ) → IsDraft text d → chart_flaws d ≡ [] → ¬ IsTextFault text (fault.Text b at)
+pub no_fault : (text : List ℕ) (d : DraftChart) (b : FaultKind) (at : ℕ) → IsDraft text d → chart_flaws d ≡ [] → ¬ IsTextFault text (fault.Text b at)
 no_fault text d b at a none (inl f) = no_draft_fault text d b at a f
 no_fault text d b at a none (inr f) =
     no_first b at (chart_flaws f.draft) (ap chart_flaws (one_draft text f.draft d f.drafted a) ∙ none) f.first
 
-pub one_fault : (text : List ℕ) (b c : Broken) (at place : ℕ) → IsTextFault text (fault.Text b at) → IsTextFault text (fault.Text c place)
+pub one_fault : (text : List ℕ) (b c : FaultKind) (at place : ℕ) → IsTextFault text (fault.Text b at) → IsTextFault text (fault.Text c place)
     → (b ≡ c) × (at ≡ place)
 one_fault text b c at place (inl f) (inl h) = one_draft_fault text b c at place f h
 one_fault text b c at place (inl f) (inr h) = absurd (no_draft_fault text h.draft b at h.drafted f)

@@ -25,7 +25,7 @@ use Rattle.core_charts.specs.Tests.{at_once}
 use Rattle.chart_warnings.specs.Names.{Entry, joined, entered, when_initial, region_transitions, state_transitions, within_region, within_state}
 use Rattle.chart_warnings.specs.Names.{region_entry, state_entry, entry_of_region, entry_of_state}
 use Rattle.chart_warnings.specs.Warnings.{left_for, led_to}
-use Rattle.chart_warnings.specs.declared.names.Way.{Way}
+use Rattle.chart_warnings.specs.declared.names.Mention.{Mention}
 use Rattle.chart_warnings.specs.Inside.Marks.{marked, Tells, variables_of, variables_step, is_besides, all_by, by_transition}
 
 -- ---- marks of two lists
@@ -38,7 +38,7 @@ pub marked_filtered : (p : ℕ → Bool) (xs ys : List ℕ) (marks : List Bool) 
     marked (filter p (xs ++ ys)) marks ≡ marked (filter p ys) (marked (filter p xs) marks)
 marked_filtered p xs ys marks = ap (λ zs. marked zs marks) (filter-append p xs ys) ∙ marked_append (filter p xs) (filter p ys) marks
 
-pub marked_within : (w : Way) (some others : List Transition) (marks : List Bool) →
+pub marked_within : (w : Mention) (some others : List Transition) (marks : List Bool) →
     marked (all_by w (some ++ others)) marks ≡ marked (all_by w others) (marked (all_by w some) marks)
 marked_within w some others marks =
     ap (λ zs. marked zs marks) (flat_map-append (by_transition w) some others) ∙ marked_append (all_by w some) (all_by w others) marks
@@ -131,7 +131,7 @@ tells_marked xs count = record {
 split_at : {A : Type 0} (xs : List A) (i : ℕ) (x : A) → i < length xs → x ≡ get_or xs i x → drop i xs ≡ x ∷ drop (i + 1) xs
 split_at xs i x less is = rw add-one (drop-cons xs i x less ∙ ap (λ y. y ∷ drop (suc i) xs) (sym is))
 
-pub both_marked : (w : Way) (some others whole : List Transition) (first second third : List Bool) →
+pub both_marked : (w : Mention) (some others whole : List Transition) (first second third : List Bool) →
     second ≡ marked (all_by w some) first → third ≡ marked (all_by w others) second → whole ≡ some ++ others →
     third ≡ marked (all_by w whole) first
 both_marked w some others whole first second third one two is =
@@ -146,7 +146,7 @@ listed_marked f xs i x marks new done less is more before =
     ∙ ap (λ ys. marked (flat_map f ys) marks) (sym (split_at xs i x less is))
     ∙ before
 
-pub piece_marked : {X : Type 0} (w : Way) (f : X → List Transition) (xs : List X) (i : ℕ) (x : X) (marks new done : List Bool) →
+pub piece_marked : {X : Type 0} (w : Mention) (f : X → List Transition) (xs : List X) (i : ℕ) (x : X) (marks new done : List Bool) →
     i < length xs → x ≡ get_or xs i x → new ≡ marked (all_by w (f x)) marks →
     marked (all_by w (joined (map f (drop i xs)))) marks ≡ done →
     marked (all_by w (joined (map f (drop (i + 1) xs)))) new ≡ done
@@ -155,7 +155,7 @@ piece_marked w f xs i x marks new done less is more before =
     (marked (all_by w (joined (map f (drop (i + 1) xs)))) new) more refl (ap (λ ys. joined (map f ys)) (split_at xs i x less is))
     ∙ before
 
-pub entry_marked : (w : Way) (xs : List State) (i : ℕ) (s : State) (marks new done : List Bool) →
+pub entry_marked : (w : Mention) (xs : List State) (i : ℕ) (s : State) (marks new done : List Bool) →
     i < length xs → s ≡ get_or xs i s → new ≡ marked (all_by w (when_initial (entry_of_state s))) marks →
     marked (all_by w (entered (map entry_of_state (drop i xs)))) marks ≡ done →
     marked (all_by w (entered (map entry_of_state (drop (i + 1) xs)))) new ≡ done
@@ -166,7 +166,7 @@ entry_marked w xs i s marks new done less is more before =
     (ap (λ ys. entered (map entry_of_state ys)) (split_at xs i s less is))
     ∙ before
 
-pub immediate_marked : (w : Way) (ts : List Transition) (i : ℕ) (t : Transition) (marks new done : List Bool) →
+pub immediate_marked : (w : Mention) (ts : List Transition) (i : ℕ) (t : Transition) (marks new done : List Bool) →
     i < length ts → t ≡ get_or ts i t → t.immediate ≡ true → new ≡ marked (by_transition w t) marks →
     marked (all_by w (at_once (drop i ts))) marks ≡ done → marked (all_by w (at_once (drop (i + 1) ts))) new ≡ done
 immediate_marked w ts i t marks new done less is so more before =
@@ -178,7 +178,7 @@ immediate_marked w ts i t marks new done less is so more before =
     ∙ ap (λ us. marked (all_by w us) marks) (sym split)
     ∙ before
 
-pub delayed_marked : (w : Way) (ts : List Transition) (i : ℕ) (t : Transition) (marks new done : List Bool) →
+pub delayed_marked : (w : Mention) (ts : List Transition) (i : ℕ) (t : Transition) (marks new done : List Bool) →
     i < length ts → t ≡ get_or ts i t → t.immediate ≡ false → new ≡ marks →
     marked (all_by w (at_once (drop i ts))) marks ≡ done → marked (all_by w (at_once (drop (i + 1) ts))) new ≡ done
 delayed_marked w ts i t marks new done less is so more before =

@@ -8,7 +8,7 @@ ghost use Rattle.chart_warnings.specs.Warnings.{entry_at};
 ghost use Rattle.chart_warnings.specs.Inside.Marks.{Tells, all_by, marked};
 
 use crate::marks::unmarked;
-use crate::names::{Way, mark_transition, mark_transitions};
+use crate::names::{Mention, mark_transition, mark_transitions};
 use core_charts::{Region, State, Transition};
 use std::alloc::{AllocError, Global};
 
@@ -16,7 +16,7 @@ use std::alloc::{AllocError, Global};
 pub(crate) fn named_within(
     alloc: Global,
     count: usize,
-    way: Way,
+    way: Mention,
     regions: &[Region],
 ) -> Result<Vec<bool>, AllocError>
     ensures { IfOk result (λ marks. Tells (all_by way (within regions.now)) count marks.items) }
@@ -28,7 +28,7 @@ pub(crate) fn named_within(
 
 #[cycle(within)]
 #[tactic(auto, using(crate::proofs::Marking::marked_within))]
-fn mark_regions(way: Way, regions: &[Region], marks: &mut Vec<bool>)
+fn mark_regions(way: Mention, regions: &[Region], marks: &mut Vec<bool>)
     ensures { marks.new.items ≡ marked (all_by way (joined (map within_region regions.now))) marks.old.items }
 {
     for region in regions {
@@ -38,7 +38,7 @@ fn mark_regions(way: Way, regions: &[Region], marks: &mut Vec<bool>)
 
 #[cycle(within)]
 #[tactic(auto, using(crate::proofs::Marking::marked_within))]
-fn mark_states(way: Way, states: &[State], marks: &mut Vec<bool>)
+fn mark_states(way: Mention, states: &[State], marks: &mut Vec<bool>)
     ensures { marks.new.items ≡ marked (all_by way (joined (map within_state states.now))) marks.old.items }
 {
     for state in states {
@@ -48,7 +48,7 @@ fn mark_states(way: Way, states: &[State], marks: &mut Vec<bool>)
 
 #[cycle(within)]
 #[tactic(auto, using(crate::proofs::Marking::marked_within))]
-fn mark_state(way: Way, state: &State, marks: &mut Vec<bool>)
+fn mark_state(way: Mention, state: &State, marks: &mut Vec<bool>)
     ensures { marks.new.items ≡ marked (all_by way (within_state state.now)) marks.old.items }
 {
     mark_regions(way, state.regions.as_slice(), marks);
@@ -57,7 +57,7 @@ fn mark_state(way: Way, state: &State, marks: &mut Vec<bool>)
 
 /// Marks the variables that immediate transitions name in this way, of the state at this place and of all that is
 /// entered with it, if there is such a state.
-pub(crate) fn mark_target(way: Way, states: &[State], target: u32, marks: &mut Vec<bool>)
+pub(crate) fn mark_target(way: Mention, states: &[State], target: u32, marks: &mut Vec<bool>)
     ensures { marks.new.items ≡ marked (all_by way (entry_at (slice_get states.now target))) marks.old.items }
 {
     match states.get(target as usize) {
@@ -69,7 +69,7 @@ pub(crate) fn mark_target(way: Way, states: &[State], target: u32, marks: &mut V
 // Marks the variables that immediate transitions name in this way, of a state and of all that is entered with it.
 #[cycle(entry)]
 #[tactic(auto, using(crate::proofs::Marking::marked_within))]
-fn mark_entry(way: Way, state: &State, marks: &mut Vec<bool>)
+fn mark_entry(way: Mention, state: &State, marks: &mut Vec<bool>)
     ensures { marks.new.items ≡ marked (all_by way (entry_of_state state.now).transitions) marks.old.items }
 {
     mark_immediate(way, state.transitions.as_slice(), marks);
@@ -78,7 +78,7 @@ fn mark_entry(way: Way, state: &State, marks: &mut Vec<bool>)
 
 #[cycle(entry)]
 #[tactic(auto, using(crate::proofs::Marking::marked_within))]
-fn mark_entered(way: Way, regions: &[Region], marks: &mut Vec<bool>)
+fn mark_entered(way: Mention, regions: &[Region], marks: &mut Vec<bool>)
     ensures { marks.new.items ≡ marked (all_by way (joined (map entry_of_region regions.now))) marks.old.items }
 {
     for region in regions {
@@ -88,7 +88,7 @@ fn mark_entered(way: Way, regions: &[Region], marks: &mut Vec<bool>)
 
 #[cycle(entry)]
 #[tactic(auto, using(crate::proofs::Marking::marked_within))]
-fn mark_initial(way: Way, states: &[State], marks: &mut Vec<bool>)
+fn mark_initial(way: Mention, states: &[State], marks: &mut Vec<bool>)
     ensures { marks.new.items ≡ marked (all_by way (entered (map entry_of_state states.now))) marks.old.items }
 {
     for state in states {
@@ -99,7 +99,7 @@ fn mark_initial(way: Way, states: &[State], marks: &mut Vec<bool>)
 }
 
 #[tactic(auto, using(crate::proofs::Marking::marked_within))]
-fn mark_immediate(way: Way, transitions: &[Transition], marks: &mut Vec<bool>)
+fn mark_immediate(way: Mention, transitions: &[Transition], marks: &mut Vec<bool>)
     ensures { marks.new.items ≡ marked (all_by way (at_once transitions.now)) marks.old.items }
 {
     for transition in transitions {

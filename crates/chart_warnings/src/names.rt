@@ -11,7 +11,7 @@ use sc_values::Expr;
 
 /// In which way a transition names a variable.
 #[derive(Clone, Copy, Debug, PartialEq, Eq)]
-pub enum Way {
+pub enum Mention {
     /// It needs its value, in its trigger or for another variable.
     Asked,
     /// It sets it.
@@ -24,7 +24,7 @@ pub enum Way {
 
 /// Marks the variables that these transitions name in this way.
 #[tactic(auto, using(crate::proofs::Marking::marked_append))]
-pub(crate) fn mark_transitions(way: Way, transitions: &[Transition], marks: &mut Vec<bool>)
+pub(crate) fn mark_transitions(way: Mention, transitions: &[Transition], marks: &mut Vec<bool>)
     ensures { marks.new.items ≡ marked (all_by way transitions.now) marks.old.items }
 {
     for transition in transitions {
@@ -34,7 +34,7 @@ pub(crate) fn mark_transitions(way: Way, transitions: &[Transition], marks: &mut
 
 /// Marks the variables that a transition names in this way.
 #[tactic(auto, using(crate::proofs::Marking::marked_append))]
-pub(crate) fn mark_transition(way: Way, transition: &Transition, marks: &mut Vec<bool>)
+pub(crate) fn mark_transition(way: Mention, transition: &Transition, marks: &mut Vec<bool>)
     ensures { marks.new.items ≡ marked (by_transition way transition.now) marks.old.items }
 {
     mark_trigger(way, &transition.trigger, marks);
@@ -42,11 +42,11 @@ pub(crate) fn mark_transition(way: Way, transition: &Transition, marks: &mut Vec
 }
 
 #[tactic(auto, using(crate::proofs::Marking::all_read))]
-fn mark_trigger(way: Way, trigger: &Option<Expr>, marks: &mut Vec<bool>)
+fn mark_trigger(way: Mention, trigger: &Option<Expr>, marks: &mut Vec<bool>)
     ensures { marks.new.items ≡ marked (by_trigger way trigger.now) marks.old.items }
 {
     match way {
-        Way::Asked => match trigger {
+        Mention::Asked => match trigger {
             Some(condition) => mark_reads(condition, None, marks),
             None => {}
         },
@@ -55,7 +55,7 @@ fn mark_trigger(way: Way, trigger: &Option<Expr>, marks: &mut Vec<bool>)
 }
 
 #[tactic(auto, using(crate::proofs::Marking::marked_append))]
-fn mark_effects(way: Way, effects: &[Effect], marks: &mut Vec<bool>)
+fn mark_effects(way: Mention, effects: &[Effect], marks: &mut Vec<bool>)
     ensures { marks.new.items ≡ marked (flat_map (by_effect way) effects.now) marks.old.items }
 {
     for effect in effects {
@@ -64,19 +64,19 @@ fn mark_effects(way: Way, effects: &[Effect], marks: &mut Vec<bool>)
 }
 
 #[tactic(auto, using(crate::proofs::Marking::others_read))]
-fn mark_effect(way: Way, effect: &Effect, marks: &mut Vec<bool>)
+fn mark_effect(way: Mention, effect: &Effect, marks: &mut Vec<bool>)
     ensures { marks.new.items ≡ marked (by_effect way effect.now) marks.old.items }
 {
     let variable = effect.variable;
     match way {
-        Way::Asked => mark_reads(&effect.value, Some(variable), marks),
-        Way::Set => mark(marks, variable as usize),
-        Way::Switched => {
+        Mention::Asked => mark_reads(&effect.value, Some(variable), marks),
+        Mention::Set => mark(marks, variable as usize),
+        Mention::Switched => {
             if !is_rest(&effect.value) {
                 mark(marks, variable as usize);
             }
         }
-        Way::Counted => {
+        Mention::Counted => {
             if effect.value.reads(variable) {
                 mark(marks, variable as usize);
             }

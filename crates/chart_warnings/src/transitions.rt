@@ -7,12 +7,12 @@ ghost use Rattle.chart_warnings.specs.Names.{within};
 ghost use Rattle.chart_warnings.specs.Warnings.{comes_with, ends, is_output, of_kind, of_outputs, of_regions};
 ghost use Rattle.chart_warnings.specs.Warnings.{of_transitions};
 ghost use Rattle.chart_warnings.specs.Inside.Marks.{Tells, all_by, marked};
-ghost use Rattle.chart_warnings.specs.declared.names.Way.TheVariants as way;
+ghost use Rattle.chart_warnings.specs.declared.names.Mention.TheVariants as way;
 
 use crate::forestalling::is_forestalled;
 use crate::inside::{mark_target, named_within};
 use crate::marks::{is_marked, unmarked};
-use crate::names::{Way, mark_transition};
+use crate::names::{Mention, mark_transition};
 use crate::warning::{Warning, warn_where};
 use core_charts::{Region, State, Transition, TransitionKind};
 use sc_graph::{Role, Variable};
@@ -72,8 +72,8 @@ impl<'a> Scene<'a> {
         let count = self.variables.len();
         let regions = self.state.regions.as_slice();
         Ok(Inside {
-            switched: named_within(alloc, count, Way::Switched, regions)?,
-            counted: named_within(alloc, count, Way::Counted, regions)?,
+            switched: named_within(alloc, count, Mention::Switched, regions)?,
+            counted: named_within(alloc, count, Mention::Counted, regions)?,
         })
     }
 
@@ -140,8 +140,8 @@ impl<'a> Scene<'a> {
             (length self.entry.variables.now) marks.items) }
     {
         let mut marks = unmarked(alloc, self.variables.len())?;
-        mark_transition(Way::Set, transition, &mut marks);
-        mark_target(Way::Set, self.states, transition.target, &mut marks);
+        mark_transition(Mention::Set, transition, &mut marks);
+        mark_target(Mention::Set, self.states, transition.target, &mut marks);
         Ok(marks)
     }
 

@@ -6,7 +6,7 @@ ghost use Rattle.chart_warnings.specs.Warnings.{of_role, of_variables};
 
 use crate::inside::named_within;
 use crate::marks::is_marked;
-use crate::names::Way;
+use crate::names::Mention;
 use crate::warning::{Warning, warn_where};
 use core_charts::Region;
 use sc_graph::{Role, Variable};
@@ -22,8 +22,8 @@ pub(crate) fn warn_of_variables(
 ) -> Result<(), AllocError>
     ensures { OnOk result (warnings.new ≡ warnings.old ++ of_variables (within regions.now) 0 variables.now) }
 {
-    let asked = named_within(alloc, variables.len(), Way::Asked, regions)?;
-    let set = named_within(alloc, variables.len(), Way::Set, regions)?;
+    let asked = named_within(alloc, variables.len(), Mention::Asked, regions)?;
+    let set = named_within(alloc, variables.len(), Mention::Set, regions)?;
     for (number, variable) in variables.iter().enumerate() {
         let is_asked = is_marked(&asked, number);
         let is_set = is_marked(&set, number);

@@ -13,7 +13,7 @@ use crate::files::Files;
 use crate::load::bytes_of;
 use chart_reader::read_chart;
 use compiler::scl_of_chart;
-use sc_text::{Broken, Language, ReadFault, language_of};
+use sc_text::{FaultKind, Language, ReadFault, language_of};
 use scl::Scl;
 use scl_reader::read_scl;
 use std::alloc::Global;
@@ -67,7 +67,7 @@ pub fn text_of(bytes: &[u8]) -> Result<&str, LoadFault>
 {
     match str::from_utf8(bytes) {
         Ok(text) => Ok(text),
-        Err(_) => Err(LoadFault::Text(ReadFault::Text(Broken::Token, 0))),
+        Err(_) => Err(LoadFault::Text(ReadFault::Text(FaultKind::Token, 0))),
     }
 }
 

@@ -19,10 +19,10 @@ use Rattle.core_charts.specs.Aborts.{has_strong, has_weak, has_aborts, some_of, 
 use Rattle.core_charts.specs.Aborts.{region_has_aborts, state_has_aborts, chart_has_aborts}
 use Rattle.node_states.specs.Nodes as row
 use Rattle.abort_expansion.specs.declared.flags.Flags.{Flags}
-use Rattle.abort_expansion.specs.declared.places.Places.{Places}
-use Rattle.abort_expansion.specs.declared.pieces.States.{States}
+use Rattle.abort_expansion.specs.declared.places.RegionPlaces.{RegionPlaces}
+use Rattle.abort_expansion.specs.declared.pieces.StatePieces.{StatePieces}
 use Rattle.abort_expansion.specs.declared.pieces.Regions.{Regions}
-use Rattle.abort_expansion.specs.declared.pieces.Numbers.{Numbers}
+use Rattle.abort_expansion.specs.declared.pieces.NextNumbers.{NextNumbers}
 use Rattle.abort_expansion.specs.Flags.{flags_of, has_join, given, one, is_there, aborts_around, weak_around}
 use Rattle.abort_expansion.specs.Transitions.{led, counting, place_of, check, strong_checks, weak_checks, on, count_down}
 use Rattle.abort_expansion.specs.Pieces.{RegionPiece, StatePiece, beside, together, expanded_regions, states_in, past_region}
@@ -92,32 +92,32 @@ with_initial s begins = roll-State (record {
   transitions = (out-State s).transitions;
 })
 
-abbrev as_state : State → Bool → ℕ → ℕ → States
+abbrev as_state : State → Bool → ℕ → ℕ → StatePieces
 as_state s begins n count = record { states = with_initial s begins ∷ []; variables = []; stands_for = numbers_from n count }
 
 record RegionStays (r : Region) : Type 0 where
-  made : (around : List Flags) → Each HasNone around → (at : Numbers) →
+  made : (around : List Flags) → Each HasNone around → (at : NextNumbers) →
       (piece_of_region r).made around None at ≡ as_region r at.state (piece_of_region r).states
   states : (piece_of_region r).states ≡ (row.piece_of_region r).states
 
-abbrev StaysTo : Places → State → Type 0
+abbrev StaysTo : RegionPlaces → State → Type 0
 StaysTo to s = Each (λ t. led to t ≡ t) (out-State s).transitions
 
 record StateStays (s : State) : Type 0 where
-  made : (around : List Flags) → Each HasNone around → (to : Places) → StaysTo to s → (place : ℕ) (begins : Bool) (at : Numbers) →
+  made : (around : List Flags) → Each HasNone around → (to : RegionPlaces) → StaysTo to s → (place : ℕ) (begins : Bool) (at : NextNumbers) →
       (piece_of_state s).made around to place begins at ≡ as_state s begins at.state (piece_of_state s).states
   width : (around : List Flags) → Each HasNone around → (piece_of_state s).width around ≡ 1
   initial : (piece_of_state s).is_initial ≡ (out-State s).is_initial
   states : (piece_of_state s).states ≡ (row.piece_of_state s).states
 
 -- regions side by side
-all_stay : (regions : List Region) → Each RegionStays regions → (around : List Flags) → Each HasNone around → (at : Numbers) →
+all_stay : (regions : List Region) → Each RegionStays regions → (around : List Flags) → Each HasNone around → (at : NextNumbers) →
     expanded_regions (map piece_of_region regions) around None at
     ≡ record { regions = regions; variables = []; stands_for = numbers_from at.state (states_in (map piece_of_region regions)) }
 all_stay [] each around none at = refl
 all_stay (r ∷ regions) each around none at =
     let p : RegionPiece = piece_of_region r in
-    let next : Numbers = past_region (weak_around around) p at in
+    let next : NextNumbers = past_region (weak_around around) p at in
     ap (λ x. together x (expanded_regions (map piece_of_region regions) around None next)) (each.0.made around none at)
     ∙ ap (λ x. together (as_region r at.state p.states) x) (all_stay regions each.1 around none next)
     ∙ ap (λ xs. record { regions = r ∷ regions; variables = []; stands_for = xs })
@@ -136,14 +136,14 @@ module _ (name : List ℕ) (is_initial is_final : Bool) (regions : List Region) 
   abbrev opened : List Region → State-F RegionPiece StatePiece
   opened rs = record { name = name; is_initial = is_initial; is_final = is_final; regions = map piece_of_region rs; transitions = all }
 
-  abbrev of_regions : Bool → Bool → List Region → ℕ → ℕ → States
+  abbrev of_regions : Bool → Bool → List Region → ℕ → ℕ → StatePieces
   of_regions begins final rs n count = record {
     states = roll-State (record { name = name; is_initial = begins; is_final = final; regions = rs; transitions = all }) ∷ [];
     variables = [];
     stands_for = numbers_from n count;
   }
 
-  simple_stays : (final : Bool) → (final ≡ true → all ≡ []) → (around : List Flags) → Each HasNone around → (to : Places) → Each (λ t. led to t ≡ t) all →
+  simple_stays : (final : Bool) → (final ≡ true → all ≡ []) → (around : List Flags) → Each HasNone around → (to : RegionPlaces) → Each (λ t. led to t ≡ t) all →
       (begins : Bool) → simple final name all around to begins
       ≡ roll-State (record { name = name; is_initial = begins; is_final = final; regions = []; transitions = all })
   simple_stays true empty around plain to stay begins =
@@ -164,8 +164,8 @@ module _ (name : List ℕ) (is_initial is_final : Bool) (regions : List Region) 
       ap (λ b. flags_of b all x) (none_weak_around around plain) ∙ no_flags_by (has_strong all) (has_weak all) (has_join all) x none
 
   -- with regions
-  module _ (r : Region) (rs : List Region) (are : regions ≡ r ∷ rs) (around : List Flags) (plain : Each HasNone around) (to : Places)
-      (stay : Each (λ t. led to t ≡ t) all) (place : ℕ) (begins : Bool) (at : Numbers) where
+  module _ (r : Region) (rs : List Region) (are : regions ≡ r ∷ rs) (around : List Flags) (plain : Each HasNone around) (to : RegionPlaces)
+      (stay : Each (λ t. led to t ≡ t) all) (place : ℕ) (begins : Bool) (at : NextNumbers) where
     abbrev flags : Flags
     flags = flags_of (weak_around around) all at.variable
 
@@ -196,8 +196,8 @@ module _ (name : List ℕ) (is_initial is_final : Bool) (regions : List Region) 
           stands_for = numbers_from at.state (suc (states_in (map piece_of_region (r ∷ rs))));
         }) (map_same (led to) all stay)
 
-  state_made : (rs : List Region) → regions ≡ rs → (around : List Flags) → Each HasNone around → (to : Places) → Each (λ t. led to t ≡ t) all → (place : ℕ)
-      (begins : Bool) (at : Numbers) →
+  state_made : (rs : List Region) → regions ≡ rs → (around : List Flags) → Each HasNone around → (to : RegionPlaces) → Each (λ t. led to t ≡ t) all → (place : ℕ)
+      (begins : Bool) (at : NextNumbers) →
       (state_piece (opened rs)).made around to place begins at ≡ of_regions begins is_final rs at.state (suc (states_in (map piece_of_region rs)))
   state_made [] are around plain to stay place begins at =
       ap (λ s. record { states = s ∷ []; variables = []; stands_for = Some at.state ∷ [] })
@@ -241,13 +241,13 @@ and_true : (b : Bool) → (b && true) ≡ b
 and_true true = refl
 and_true false = refl
 
-states_stay : (states : List State) → Each StateStays states → (around : List Flags) → Each HasNone around → (to : Places) → Each (StaysTo to) states →
-    (place : ℕ) (at : Numbers) → expanded_states false (map piece_of_state states) around to place at
+states_stay : (states : List State) → Each StateStays states → (around : List Flags) → Each HasNone around → (to : RegionPlaces) → Each (StaysTo to) states →
+    (place : ℕ) (at : NextNumbers) → expanded_states false (map piece_of_state states) around to place at
     ≡ record { states = states; variables = []; stands_for = numbers_from at.state (states_among (map piece_of_state states)) }
 states_stay [] each around plain to stay place at = refl
 states_stay (s ∷ states) each around plain to stay place at =
     let p : StatePiece = piece_of_state s in
-    let next : Numbers = past_state (weak_around around) p at in
+    let next : NextNumbers = past_state (weak_around around) p at in
     let begins : (p.is_initial && true) ≡ (out-State s).is_initial = and_true p.is_initial ∙ each.0.initial in
     let here : p.made around to place (p.is_initial && true) at ≡ record { states = s ∷ []; variables = []; stands_for = numbers_from at.state p.states } =
     each.0.made around plain to stay.0 place (p.is_initial && true) at
@@ -273,7 +273,7 @@ place_at (s ∷ states) each around plain place (suc i) less =
     place_at states each.1 around plain (place + (piece_of_state s).width around) i (omega (arith, less)) ∙ ap Some same
 
 -- a transition leads where it led
-led_same : (to : Places) → to.counter ≡ None → (t : Transition) → place_of to t.target ≡ t.target → led to t ≡ t
+led_same : (to : RegionPlaces) → to.counter ≡ None → (t : Transition) → place_of to t.target ≡ t.target → led to t ≡ t
 led_same to none t same =
     ap (λ n. record t { effects = counting to t.target t.effects; target = n }) same
     ∙ ap (λ es. record t { effects = es }) (counts (unwrap_or (slice_get to.finals t.target) false))
@@ -297,7 +297,7 @@ module _ (variables : List Variable) (AreInside : List Region → Type 0) (r : R
   abbrev states : List State
   states = (out-Region r).states
 
-  abbrev to : List Flags → Places
+  abbrev to : List Flags → RegionPlaces
   to around = region_places (map piece_of_state states) around None 0
 
   leads : (around : List Flags) → Each HasNone around → Each (StaysTo (to around)) states
@@ -306,7 +306,7 @@ module _ (variables : List Variable) (AreInside : List Region → Type 0) (r : R
       (λ j t there. led_same (to around) refl t
       (ap (λ o. unwrap_or o 0) (place_at states each around plain 0 t.target ((rules.states i s at).transitions j t there).target) ∙ no_more t.target)))
 
-  inside_stays : (around : List Flags) → Each HasNone around → (at : Numbers) → inside_region (map piece_of_state states) around None at
+  inside_stays : (around : List Flags) → Each HasNone around → (at : NextNumbers) → inside_region (map piece_of_state states) around None at
       ≡ record { states = states; variables = []; stands_for = numbers_from at.state (states_among (map piece_of_state states)) }
   inside_stays around plain at =
       ap (λ x. beside (record { states = []; variables = []; stands_for = [] })
@@ -317,7 +317,7 @@ module _ (variables : List Variable) (AreInside : List Region → Type 0) (r : R
       (append-nil states)
       ∙ ap (λ ns. record { states = states; variables = []; stands_for = ns }) (append-nil (numbers_from at.state (states_among (map piece_of_state states))))
 
-  region_made : (around : List Flags) → Each HasNone around → (at : Numbers) →
+  region_made : (around : List Flags) → Each HasNone around → (at : NextNumbers) →
       (piece_of_region r).made around None at ≡ as_region r at.state (piece_of_region r).states
   region_made around plain at =
       subst (λ (p : RegionPiece). p.made around None at ≡ as_region r at.state p.states)

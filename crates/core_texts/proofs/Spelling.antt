@@ -3,7 +3,7 @@ use Rattle.std.proofs.Common.{◌≡◌, ◌↔◌, IsTrue, ℕ, Bool, true, fal
 use Rattle.core_charts.specs.declared.features.Features.TheVariants as features
 use Rattle.core_charts.specs.Chart.{Chart}
 use Rattle.core_charts.specs.Rules.{IsChart}
-use Rattle.sc_text.specs.declared.read_fault.Broken.{Broken}
+use Rattle.sc_text.specs.declared.read_fault.FaultKind.{FaultKind}
 use Rattle.sc_text.specs.declared.read_fault.ReadFault.{ReadFault}
 use Rattle.sc_text.specs.declared.read_fault.ReadFault.TheVariants as fault
 use Rattle.abort_expansion.specs.Expansion.{IsExpandable, expanded}
@@ -19,7 +19,7 @@ is_spelled text read chart true is exact same = subst (IsRead text) (same.0 refl
 is_spelled text read chart false is exact same = λ other. absurd (let e : false ≡ true = same.1 (exact.spelled chart other) in cc)
 
 -- where a text has a fault, it spells no chart
-pub is_unread : (text : List ℕ) (chart : Chart) (f : ReadFault) (b : Broken) (at : ℕ) → IsExact text (Err f) → f ≡ fault.Text b at →
+pub is_unread : (text : List ℕ) (chart : Chart) (f : ReadFault) (b : FaultKind) (at : ℕ) → IsExact text (Err f) → f ≡ fault.Text b at →
     ¬ IsRead text chart
 is_unread text chart f b at exact told is =
     absurd (let e : f ≡ fault.Memory = exact.spelled chart is in let g : f ≡ fault.Text b at = told in cc)

@@ -4,7 +4,7 @@ use Rattle.std.proofs.Common.{count_by, refl, sym, ◌∙◌, ap, arith}
 use Rattle.std.specs.Cmp.{unsigned_Decides}
 use Rattle.std.proofs.lemmas.List.{take_more, take-append-drop}
 use Rattle.std.proofs.lemmas.List.Sums.{sum_by-append, count_by_more_yes, count_by_more_no, count_by-le-length}
-use Rattle.diagnostics.specs.declared.spots.Spot.{Spot}
+use Rattle.diagnostics.specs.declared.spots.LineColumn.{LineColumn}
 use Rattle.diagnostics.specs.Spots.{IsSpot, is_line_feed, begins_character, has_line_feed, last_of, last_line, line_behind, column_behind}
 
 has_with : (bytes : List ℕ) (byte : ℕ) → is_line_feed byte ≡ true → has_line_feed (bytes ++ byte ∷ []) ≡ true
@@ -99,7 +99,7 @@ column_fits bytes i =
 
 -- ---- as a place
 
-module _ (bytes : List ℕ) (i d : ℕ) (spot next : Spot) (within : i < length bytes) (is : IsSpot (take i bytes) spot) where
+module _ (bytes : List ℕ) (i d : ℕ) (spot next : LineColumn) (within : i < length bytes) (is : IsSpot (take i bytes) spot) where
   pub more_line : is_line_feed (get_or bytes i d) ≡ true → next.line ≡ spot.line + 1 → next.column ≡ 1 → IsSpot (take (i + 1) bytes) next
   more_line feed line column =
       record {

@@ -1,7 +1,7 @@
 -- Lines and columns of a text, each from 1. Columns count characters, and a tab is one.
 use Rattle.std.specs.Prelude.{ℕ, ◌≡◌, ◌+◌, ◌==◌, nat_le, Bool, true, false, not, ◌&&◌, ◌||◌, List, [], ◌∷◌, ◌++◌, take, count_by, codes}
 use Rattle.std.specs.Fmt.{decimal}
-use Rattle.diagnostics.specs.declared.spots.Spot.{Spot}
+use Rattle.diagnostics.specs.declared.spots.LineColumn.{LineColumn}
 
 abbrev pub is_line_feed : ℕ → Bool
 is_line_feed byte = byte == 10
@@ -32,7 +32,7 @@ abbrev pub column_behind : List ℕ → ℕ
 column_behind before = 1 + count_by begins_character (last_line before)
 
 -- the place behind these bytes
-pub record IsSpot (before : List ℕ) (spot : Spot) : Type 0 where
+pub record IsSpot (before : List ℕ) (spot : LineColumn) : Type 0 where
   pub line : spot.line ≡ line_behind before
   pub column : spot.column ≡ column_behind before
 

@@ -25,4 +25,4 @@ mod words;
 pub use lines::{marked_line, name_at};
 pub use program_report::program_fault_explained;
 pub use report::{explained, spot_text, text_fault_explained, told_nowhere};
-pub use spots::{Spot, spot_of};
+pub use spots::{LineColumn, spot_of};

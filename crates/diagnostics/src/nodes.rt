@@ -2,7 +2,7 @@
 
 use crate::edges::{name_of, written};
 use crate::lines::{margin, marked_line, name_at};
-use crate::spots::Spot;
+use crate::spots::LineColumn;
 use node_sources::{Origin, Part, Positions, Sources};
 use sc_graph::{NodeId, Program, Step};
 use sc_values::Name;
@@ -46,9 +46,9 @@ impl<'a> Shown<'a> {
     }
 
     /// The place of an origin.
-    pub(crate) fn spot(&self, origin: Origin) -> Spot {
+    pub(crate) fn spot(&self, origin: Origin) -> LineColumn {
         let position = self.positions.position(origin.at);
-        Spot {
+        LineColumn {
             line: position.line,
             column: position.column,
         }

@@ -7,13 +7,13 @@ ghost use Rattle.diagnostics.specs.Reports.{Tells, TellsAt, TellsPlace, text_fau
 ghost use Rattle.diagnostics.specs.Spots.{place_shown};
 
 use crate::lines::marked_line;
-use crate::spots::{Spot, spot_of};
+use crate::spots::{LineColumn, spot_of};
 use crate::words::words_of;
-use sc_text::{Broken, ReadFault};
+use sc_text::{FaultKind, ReadFault};
 use std::alloc::{AllocError, Global};
 
 /// A place as it stands behind the name of a file: its line and its column. Err: memory was refused.
-pub fn spot_text(alloc: Global, spot: Spot) -> Result<String, AllocError>
+pub fn spot_text(alloc: Global, spot: LineColumn) -> Result<String, AllocError>
     ensures { IfOk result (λ text.
         string_bytes text ≡ codes ":" ++ (decimal spot.line ++ (codes ":" ++ decimal spot.column))) }
 {
@@ -38,7 +38,7 @@ pub fn explained(
     alloc: Global,
     name: &str,
     text: &str,
-    broken: Broken,
+    broken: FaultKind,
     at: usize,
 ) -> Result<String, AllocError>
     ensures begins { IfOk result (λ report.

@@ -5,21 +5,21 @@ ghost use Rattle.diagnostics.specs.Spots.{begins_character, IsSpot};
 
 /// A place in a text: its line and its column, each from 1. Columns count characters; a tab is one.
 #[derive(Clone, Copy, Debug, PartialEq, Eq)]
-pub struct Spot {
+pub struct LineColumn {
     pub line: usize,
     pub column: usize,
 }
 
-impl Spot {
+impl LineColumn {
     // The place behind a character that stands here.
-    pub(crate) fn behind(self, letter: char) -> Spot {
+    pub(crate) fn behind(self, letter: char) -> LineColumn {
         if letter == '\n' {
-            Spot {
+            LineColumn {
                 line: self.line.saturating_add(1),
                 column: 1,
             }
         } else {
-            Spot {
+            LineColumn {
                 line: self.line,
                 column: self.column.saturating_add(1),
             }
@@ -28,7 +28,7 @@ impl Spot {
 }
 
 /// Where a text begins.
-pub(crate) const START: Spot = Spot { line: 1, column: 1 };
+pub(crate) const START: LineColumn = LineColumn { line: 1, column: 1 };
 
 // Whether a character begins by this byte.
 fn begins_character(byte: u8) -> bool
@@ -40,7 +40,7 @@ fn begins_character(byte: u8) -> bool
 /// The place of the byte of this number, from 0; of the end, where the text has no more than that.
 // The place behind one byte more of a text.
 #[tactic(auto, using(crate::proofs::LineColumns::line_fits, crate::proofs::LineColumns::column_fits))]
-fn behind_byte(spot: Spot, text: &[u8], i: usize) -> Spot
+fn behind_byte(spot: LineColumn, text: &[u8], i: usize) -> LineColumn
     requires within { i < length text.now }
     requires is { IsSpot (take i text.now) spot }
     ensures { IsSpot (take (i + 1) text.now) result }
@@ -48,11 +48,11 @@ fn behind_byte(spot: Spot, text: &[u8], i: usize) -> Spot
     let byte = text[i];
     if byte == b'\n' {
         let line = spot.line + 1;
-        return Spot { line, column: 1 };
+        return LineColumn { line, column: 1 };
     }
     if begins_character(byte) {
         let column = spot.column + 1;
-        return Spot {
+        return LineColumn {
             line: spot.line,
             column,
         };
@@ -61,7 +61,7 @@ fn behind_byte(spot: Spot, text: &[u8], i: usize) -> Spot
 }
 
 /// The place of the byte of this number, from 0; of the end, where the text has no more than that.
-pub fn spot_of(text: &str, at: usize) -> Spot
+pub fn spot_of(text: &str, at: usize) -> LineColumn
     ensures { IsSpot (take at text.now) result }
 {
     let bytes = text.as_bytes();

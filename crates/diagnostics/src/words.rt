@@ -7,7 +7,7 @@ use crate::lines::name_at;
 use crate::rule_words::{repeated_words, rule_words};
 use crate::spellings::for_sign;
 use crate::unknown_words::unknown_words;
-use sc_text::Broken;
+use sc_text::FaultKind;
 use std::alloc::{AllocError, Global};
 
 /// A fault of a text in words: what is wrong, and what helps, which is empty where nothing is known to.
@@ -66,20 +66,20 @@ fn token_words(alloc: Global, text: &str, at: usize) -> Result<Words, AllocError
 pub(crate) fn words_of(
     alloc: Global,
     text: &str,
-    broken: Broken,
+    broken: FaultKind,
     at: usize,
 ) -> Result<Words, AllocError> {
     match broken {
-        Broken::Token => token_words(alloc, text, at),
-        Broken::Grammar => grammar_words(alloc, text, at),
-        Broken::Unknown => unknown_words(alloc, text, at),
-        Broken::Repeated => repeated_words(alloc, text, at),
-        Broken::Kind => Words::of(
+        FaultKind::Token => token_words(alloc, text, at),
+        FaultKind::Grammar => grammar_words(alloc, text, at),
+        FaultKind::Unknown => unknown_words(alloc, text, at),
+        FaultKind::Repeated => repeated_words(alloc, text, at),
+        FaultKind::Kind => Words::of(
             alloc,
             "the expression that begins here has another kind than its place wants, or an operator has an operand of the wrong one",
             "truth values and numbers do not mix: write `x != 0` for a test of a number",
         ),
-        Broken::Rule => rule_words(alloc, text, at),
-        Broken::Limit => limit_words(alloc, text, at),
+        FaultKind::Rule => rule_words(alloc, text, at),
+        FaultKind::Limit => limit_words(alloc, text, at),
     }
 }

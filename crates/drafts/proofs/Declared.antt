@@ -10,7 +10,7 @@ use Rattle.sc_graph.specs.Limits.{variable_limit, output_limit}
 use Rattle.sc_graph.specs.Size.{is_output}
 use Rattle.sc_graph.specs.declared.program.Variable.{Variable}
 use Rattle.sc_text.specs.declared.language.Language.{Language}
-use Rattle.sc_text.specs.declared.read_fault.Broken.TheVariants as broken
+use Rattle.sc_text.specs.declared.read_fault.FaultKind.TheVariants as broken
 use Rattle.sc_text.specs.Parts.{IsNameIn, AreVariables, are_distinct}
 use Rattle.drafts.specs.declared.flaw.Flaw.{Flaw}
 use Rattle.drafts.specs.declared.parts.Declaration.{Declaration}

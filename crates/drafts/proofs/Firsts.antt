@@ -2,8 +2,8 @@
 use Rattle.std.proofs.Common.{◌≡◌, ℕ, zero, suc, ◌+◌, ◌*◌, ◌≤◌, ◌<◌, Bool, true, false, Option, Some, None, List, [], ◌∷◌, ◌++◌, ◌⊎◌, inl, inr, ⊎_elim, refl}
 use Rattle.std.proofs.Common.{ap, subst, arith, slice_get, if◌then◌else◌}
 use Rattle.std.proofs.lemmas.Bool.Decides.{nat_tests}
-use Rattle.sc_text.specs.declared.read_fault.Broken.{Broken}
-use Rattle.sc_text.specs.declared.read_fault.Broken.TheVariants as broken
+use Rattle.sc_text.specs.declared.read_fault.FaultKind.{FaultKind}
+use Rattle.sc_text.specs.declared.read_fault.FaultKind.TheVariants as broken
 use Rattle.sc_text.specs.FaultText.{broken_number}
 use Rattle.drafts.specs.declared.flaw.Flaw.{Flaw}
 use Rattle.drafts.specs.First.{comes_before, IsFirst}
@@ -15,7 +15,7 @@ behind_both found (x ∷ xs) ys = behind_both (Some (earlier found x)) xs ys
 
 -- ---- the order of flaws
 
-small : (b : Broken) → broken_number b ≤ 7
+small : (b : FaultKind) → broken_number b ≤ 7
 small broken.Token = omega arith
 small broken.Grammar = omega arith
 small broken.Unknown = omega arith

@@ -6,7 +6,7 @@ use Rattle.sc_values.specs.declared.value.Kind.{Kind}
 use Rattle.sc_graph.specs.Limits.{variable_limit, output_limit}
 use Rattle.sc_graph.specs.Size.{is_output}
 use Rattle.sc_text.specs.declared.operation.TextOperation.{TextOperation}
-use Rattle.sc_text.specs.declared.read_fault.Broken.TheVariants as broken
+use Rattle.sc_text.specs.declared.read_fault.FaultKind.TheVariants as broken
 use Rattle.sc_text.specs.Phrases.{Phrase}
 use Rattle.drafts.specs.declared.flaw.Flaw.{Flaw}
 use Rattle.drafts.specs.declared.parts.TextExpression.{TextExpression}

@@ -13,8 +13,8 @@ use Rattle.sc_values.specs.Code.{trees, only, tree_of, IsWithinLimits}
 use Rattle.sc_values.specs.Limits.{operation_limit, operand_limit, load_limit}
 use Rattle.sc_values.proofs.Spelling.{tree_of-spells}
 use Rattle.sc_text.specs.declared.operation.TextOperation.TheVariants as text
-use Rattle.sc_text.specs.declared.read_fault.Broken.{Broken}
-use Rattle.sc_text.specs.declared.read_fault.Broken.TheVariants as broken
+use Rattle.sc_text.specs.declared.read_fault.FaultKind.{FaultKind}
+use Rattle.sc_text.specs.declared.read_fault.FaultKind.TheVariants as broken
 use Rattle.sc_text.specs.Phrases.{Phrase}
 use Rattle.sc_text.specs.Parts.{IsExpression}
 use Rattle.sc_text.specs.Writable.{is_writable_operation}
@@ -37,7 +37,7 @@ pub none_second : {A : Type 0} (xs ys : List A) → xs ++ ys ≡ [] → ys ≡ [
 none_second [] ys e = e
 none_second (x ∷ xs) ys e = absurd cc
 
-pub no_flaw : (b : Bool) (broken : Broken) (at : ℕ) → flaw_if b broken at ≡ [] → b ≡ false
+pub no_flaw : (b : Bool) (broken : FaultKind) (at : ℕ) → flaw_if b broken at ≡ [] → b ≡ false
 no_flaw false b at e = refl
 no_flaw true b at e = absurd cc
 

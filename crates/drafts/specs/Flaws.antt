@@ -15,15 +15,15 @@ use Rattle.sc_graph.specs.declared.program.Role.{Role}
 use Rattle.sc_graph.specs.declared.program.Role.TheVariants as role
 use Rattle.sc_text.specs.declared.operation.TextOperation.{TextOperation}
 use Rattle.sc_text.specs.declared.operation.TextOperation.TheVariants as text
-use Rattle.sc_text.specs.declared.read_fault.Broken.{Broken}
-use Rattle.sc_text.specs.declared.read_fault.Broken.TheVariants as broken
+use Rattle.sc_text.specs.declared.read_fault.FaultKind.{FaultKind}
+use Rattle.sc_text.specs.declared.read_fault.FaultKind.TheVariants as broken
 use Rattle.sc_text.specs.Phrases.{Phrase}
 use Rattle.drafts.specs.declared.flaw.Flaw.{Flaw}
 use Rattle.drafts.specs.declared.parts.Named.{Named}
 use Rattle.drafts.specs.declared.parts.TextExpression.{TextExpression}
 use Rattle.drafts.specs.declared.parts.Declaration.{Declaration}
 
-abbrev pub flaw_if : Bool → Broken → ℕ → List Flaw
+abbrev pub flaw_if : Bool → FaultKind → ℕ → List Flaw
 flaw_if false b at = []
 flaw_if true b at = record { broken = b; at = at } ∷ []
 

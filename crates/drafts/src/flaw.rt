@@ -5,12 +5,12 @@ ghost use Rattle.drafts.specs.First.{comes_before};
 ghost use Rattle.drafts.specs.Flaws.{flaw_if, is_full};
 ghost use Rattle.drafts.specs.Inside.{earlier, first_behind};
 
-use sc_text::Broken;
+use sc_text::FaultKind;
 
 /// A flaw of a draft: what is broken, and its place in the text.
 #[derive(Clone, Copy, Debug)]
 pub struct Flaw {
-    pub broken: Broken,
+    pub broken: FaultKind,
     pub at: usize,
 }
 
@@ -24,7 +24,7 @@ impl Flaw {
 }
 
 /// Where something is broken, the first of the flaw and the one found so far.
-pub fn note_if(first: &mut Option<Flaw>, is_broken: bool, broken: Broken, at: usize)
+pub fn note_if(first: &mut Option<Flaw>, is_broken: bool, broken: FaultKind, at: usize)
     ensures { first.new ≡ first_behind first.old (flaw_if is_broken broken at) }
 {
     if is_broken {

@@ -4,7 +4,7 @@ ghost use Rattle.std.specs.Prelude.{◌≡◌, ◌∷◌, ◌&&◌, IfOk, OnOk, 
 ghost use Rattle.std.specs.List.{list_all};
 ghost use Rattle.sc_graph.specs.Limits.{variable_limit, output_limit};
 ghost use Rattle.sc_graph.specs.Size.{is_output};
-ghost use Rattle.sc_text.specs.declared.read_fault.Broken.TheVariants as broken;
+ghost use Rattle.sc_text.specs.declared.read_fault.FaultKind.TheVariants as broken;
 ghost use Rattle.drafts.specs.Flaws.{flaw_if, is_full, is_repeated, variable_flaws, variable_names};
 ghost use Rattle.drafts.specs.Flaws.{variable_named, is_among, unknown_one, unknown_names, has_known_name};
 ghost use Rattle.drafts.specs.Flaws.{kind_named, kinds_behind, is_of_kind, is_of_other_kind, expression_flaws};
@@ -18,7 +18,7 @@ use crate::index::Index;
 use crate::kinds::Kinds;
 use crate::parts::{Declaration, Named, TextExpression};
 use sc_graph::{OUTPUT_LIMIT, Role, VARIABLE_LIMIT};
-use sc_text::{Broken, TextOperation};
+use sc_text::{FaultKind, TextOperation};
 use sc_values::{Kind, Name};
 use sqlite_items::Items;
 use std::alloc::{AllocError, Global};
@@ -86,11 +86,11 @@ impl<'a> Scope<'a> {
     {
         let named = variable.named;
         let is_repeated = self.index.is_repeated(at, named.name);
-        note_if(first, is_repeated, Broken::Repeated, named.at);
+        note_if(first, is_repeated, FaultKind::Repeated, named.at);
         let is_past = is_full(VARIABLE_LIMIT, at);
-        note_if(first, is_past, Broken::Limit, named.at);
+        note_if(first, is_past, FaultKind::Limit, named.at);
         let is_past = variable.role.is_output() && is_full(OUTPUT_LIMIT, outputs);
-        note_if(first, is_past, Broken::Limit, named.at);
+        note_if(first, is_past, FaultKind::Limit, named.at);
     }
 
     /// The flaws of an expression where one of this kind is wanted; None: of any kind. Err: memory was refused.
@@ -108,11 +108,11 @@ impl<'a> Scope<'a> {
         let operations = expression.operations.as_slice();
         self.unknown_names(operations, first);
         let is_other = self.is_of_other_kind(alloc, wanted, operations)?;
-        note_if(first, is_other, Broken::Kind, expression.start);
+        note_if(first, is_other, FaultKind::Kind, expression.start);
         note_if(
             first,
             passes_limits(operations),
-            Broken::Limit,
+            FaultKind::Limit,
             expression.start,
         );
         Ok(())
@@ -133,11 +133,11 @@ impl<'a> Scope<'a> {
     {
         match self.variable(target.name) {
             Some(variable) => {
-                note_if(first, is_input(variable.role), Broken::Rule, target.at);
+                note_if(first, is_input(variable.role), FaultKind::Rule, target.at);
                 self.expression(alloc, Some(variable.kind), value, first)
             }
             None => {
-                note_if(first, true, Broken::Unknown, target.at);
+                note_if(first, true, FaultKind::Unknown, target.at);
                 self.expression(alloc, None, value, first)
             }
         }
@@ -167,7 +167,7 @@ impl<'a> Scope<'a> {
         match operation {
             TextOperation::Load(name, at) => {
                 let is_unknown = !self.is_known(*name);
-                note_if(first, is_unknown, Broken::Unknown, *at);
+                note_if(first, is_unknown, FaultKind::Unknown, *at);
             }
             _ => {}
         }

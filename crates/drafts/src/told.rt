@@ -7,7 +7,7 @@ ghost use Rattle.drafts.specs.Told.{inserted, told_behind, told_limit};
 ghost use Rattle.drafts.specs.Inside.{placed};
 
 use crate::flaw::Flaw;
-use sc_text::Broken;
+use sc_text::FaultKind;
 use sqlite_items::Items;
 use std::alloc::{AllocError, Global};
 
@@ -20,7 +20,7 @@ pub fn note_told(
     alloc: Global,
     found: &mut Items<Flaw>,
     is_broken: bool,
-    broken: Broken,
+    broken: FaultKind,
     at: usize,
 ) -> Result<(), AllocError>
     ensures { OnOk result (found.new ≡ told_behind found.old (flaw_if is_broken broken at)) }

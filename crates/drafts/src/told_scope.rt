@@ -3,7 +3,7 @@
 ghost use Rattle.std.specs.Prelude.{◌≡◌, ◌&&◌, OnOk};
 ghost use Rattle.sc_graph.specs.Limits.{variable_limit, output_limit};
 ghost use Rattle.sc_graph.specs.Size.{is_output};
-ghost use Rattle.sc_text.specs.declared.read_fault.Broken.TheVariants as broken;
+ghost use Rattle.sc_text.specs.declared.read_fault.FaultKind.TheVariants as broken;
 ghost use Rattle.drafts.specs.Flaws.{assigned_flaws, expression_flaws, flaw_if, is_among, is_full};
 ghost use Rattle.drafts.specs.Flaws.{is_repeated, unknown_names, unknown_one, variable_flaws, variable_named};
 ghost use Rattle.drafts.specs.Flaws.{variable_names};
@@ -15,7 +15,7 @@ use crate::parts::{Declaration, Named, TextExpression};
 use crate::scope::{Scope, is_input};
 use crate::told::note_told;
 use sc_graph::{OUTPUT_LIMIT, VARIABLE_LIMIT};
-use sc_text::{Broken, TextOperation};
+use sc_text::{FaultKind, TextOperation};
 use sc_values::Kind;
 use sqlite_items::Items;
 use std::alloc::{AllocError, Global};
@@ -60,11 +60,11 @@ impl<'a> Scope<'a> {
     {
         let named = variable.named;
         let is_repeated = self.index.is_repeated(at, named.name);
-        note_told(alloc, found, is_repeated, Broken::Repeated, named.at)?;
+        note_told(alloc, found, is_repeated, FaultKind::Repeated, named.at)?;
         let is_past = is_full(VARIABLE_LIMIT, at);
-        note_told(alloc, found, is_past, Broken::Limit, named.at)?;
+        note_told(alloc, found, is_past, FaultKind::Limit, named.at)?;
         let is_past = variable.role.is_output() && is_full(OUTPUT_LIMIT, outputs);
-        note_told(alloc, found, is_past, Broken::Limit, named.at)
+        note_told(alloc, found, is_past, FaultKind::Limit, named.at)
     }
 
     /// Tells the flaws of an expression where one of this kind is wanted; None: of any kind. Err: memory was refused.
@@ -82,9 +82,9 @@ impl<'a> Scope<'a> {
         let operations = expression.operations.as_slice();
         self.tell_unknown_names(alloc, operations, found)?;
         let is_other = self.is_of_other_kind(alloc, wanted, operations)?;
-        note_told(alloc, found, is_other, Broken::Kind, expression.start)?;
+        note_told(alloc, found, is_other, FaultKind::Kind, expression.start)?;
         let is_past = passes_limits(operations);
-        note_told(alloc, found, is_past, Broken::Limit, expression.start)?;
+        note_told(alloc, found, is_past, FaultKind::Limit, expression.start)?;
         Ok(())
     }
 
@@ -104,11 +104,11 @@ impl<'a> Scope<'a> {
         match self.variable(target.name) {
             Some(variable) => {
                 let is_written = is_input(variable.role);
-                note_told(alloc, found, is_written, Broken::Rule, target.at)?;
+                note_told(alloc, found, is_written, FaultKind::Rule, target.at)?;
                 self.tell_expression(alloc, Some(variable.kind), value, found)
             }
             None => {
-                note_told(alloc, found, true, Broken::Unknown, target.at)?;
+                note_told(alloc, found, true, FaultKind::Unknown, target.at)?;
                 self.tell_expression(alloc, None, value, found)
             }
         }
@@ -142,7 +142,7 @@ impl<'a> Scope<'a> {
         match operation {
             TextOperation::Load(name, at) => {
                 let is_unknown = !self.is_known(*name);
-                note_told(alloc, found, is_unknown, Broken::Unknown, *at)
+                note_told(alloc, found, is_unknown, FaultKind::Unknown, *at)
             }
             _ => Ok(()),
         }

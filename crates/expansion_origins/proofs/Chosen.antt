@@ -14,7 +14,7 @@ use Rattle.chart_elements.specs.declared.element.Element.TheVariants as element
 use Rattle.chart_elements.specs.declared.numbers.Numbers.{Numbers}
 use Rattle.chart_elements.specs.Elements.{Contents, all_effects}
 use Rattle.chart_elements.specs.Numbers.{behind_transition, effects}
-use Rattle.abort_expansion.specs.declared.places.Places.{Places}
+use Rattle.abort_expansion.specs.declared.places.RegionPlaces.{RegionPlaces}
 use Rattle.abort_expansion.specs.Flags.{given, is_there}
 use Rattle.abort_expansion.specs.Transitions.{answers, count_down, counting, go, is_number, led, led_by, on, put, raising}
 use Rattle.expansion_origins.specs.declared.origins.Origins.{Origins}
@@ -30,7 +30,7 @@ use Rattle.expansion_origins.proofs.Coming.{Comes, Pairs, both_come, moves, none
 -- ---- one that does as one of the text does
 
 -- a region ends in the same states, and is counted or not
-pub record EndAlike (to : Places) (ends : Ends) : Type 0 where
+pub record EndAlike (to : RegionPlaces) (ends : Ends) : Type 0 where
   pub finals : to.finals ≡ ends.finals
   pub counts : is_there to.counter ≡ ends.counts
 
@@ -55,7 +55,7 @@ counting_come all own m n h small false counter true e =
 counting_come all own m n h small false counter false e =
     subst (λ os. Pairs (EffectFrom all) os own) (sym (append-nil (effects own m))) (effects_come all own m h)
 
-pub taken_comes : (all : Contents) (to : Places) (ends : Ends) (x t : Transition) (at : Numbers) → EndAlike to ends →
+pub taken_comes : (all : Contents) (to : RegionPlaces) (ends : Ends) (x t : Transition) (at : Numbers) → EndAlike to ends →
     x.effects ≡ counting to t.target t.effects → slice_get all.transitions at.transition ≡ Some t →
     At (all_effects all.transitions) at.effect t.effects → Comes all (moves (x ∷ [])) (taken ends t at)
 taken_comes all to ends x t at alike is there h =
@@ -151,7 +151,7 @@ entry_chosen (t ∷ own) =
     by false immediate a b e = e
 
 -- transitions as they stand
-pub led_come : (all : Contents) (to : Places) (ends : Ends) (own : List Transition) (at : Numbers) → EndAlike to ends → Owned all at own →
+pub led_come : (all : Contents) (to : RegionPlaces) (ends : Ends) (own : List Transition) (at : Numbers) → EndAlike to ends → Owned all at own →
     Comes all (moves (map (led to) own)) (chosen choice.All (taken ends) own at)
 led_come all to ends own at alike h =
     subst (λ ts. Comes all (moves (map (led to) ts)) (chosen choice.All (taken ends) own at)) (all_chosen own)
@@ -160,7 +160,7 @@ led_come all to ends own at alike h =
     (λ i t here there k. taken_comes all to ends (led to t) t here alike refl there k) own 0 at h)
 
 -- those at entry
-pub entry_come : (all : Contents) (to : Places) (ends : Ends) (own : List Transition) (at : Numbers) → EndAlike to ends → Owned all at own →
+pub entry_come : (all : Contents) (to : RegionPlaces) (ends : Ends) (own : List Transition) (at : Numbers) → EndAlike to ends → Owned all at own →
     Comes all (moves (map (λ t. led_by to t.trigger t) (at_once (strong_aborts own)))) (chosen choice.AtEntry (taken ends) own at)
 entry_come all to ends own at alike h =
     subst (λ ts. Comes all (moves (map (λ t. led_by to t.trigger t) ts)) (chosen choice.AtEntry (taken ends) own at)) (entry_chosen own)
@@ -169,7 +169,7 @@ entry_come all to ends own at alike h =
     (λ i t here there k. taken_comes all to ends (led_by to t.trigger t) t here alike refl there k) own 0 at h)
 
 -- the answers to aborts of a sort
-pub answers_come : (all : Contents) (to : Places) (ends : Ends) (s : Sort) (x i : ℕ) (own : List Transition) (at : Numbers) → EndAlike to ends →
+pub answers_come : (all : Contents) (to : RegionPlaces) (ends : Ends) (s : Sort) (x i : ℕ) (own : List Transition) (at : Numbers) → EndAlike to ends →
     Owned all at own → Comes all (moves (answers to (given (list_any (λ t. is_of s t.kind) own) x) i (filter (λ t. is_of s t.kind) own)))
     (chosen (choice.Of s) (taken ends) own at)
 answers_come all to ends s x i own at alike h = by (list_any (λ t. is_of s t.kind) own) refl

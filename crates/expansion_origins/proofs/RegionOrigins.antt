@@ -13,10 +13,10 @@ use Rattle.chart_elements.specs.declared.numbers.Numbers.{Numbers}
 use Rattle.chart_elements.specs.Elements.{Contents}
 use Rattle.chart_elements.specs.Numbers.{within_state}
 use Rattle.abort_expansion.specs.declared.flags.Flags.{Flags}
-use Rattle.abort_expansion.specs.declared.places.Places.{Places}
-use Rattle.abort_expansion.specs.declared.pieces.Numbers as old
+use Rattle.abort_expansion.specs.declared.places.RegionPlaces.{RegionPlaces}
+use Rattle.abort_expansion.specs.declared.pieces.NextNumbers as old
 use Rattle.abort_expansion.specs.declared.pieces.Regions.{Regions}
-use Rattle.abort_expansion.specs.declared.pieces.States.{States}
+use Rattle.abort_expansion.specs.declared.pieces.StatePieces.{StatePieces}
 use Rattle.abort_expansion.specs.Flags.{abandoned_name, counts, first_name, flags_of, given, is_there, one}
 use Rattle.abort_expansion.specs.Flags as flags
 use Rattle.abort_expansion.specs.Transitions.{count_down, go}
@@ -43,7 +43,7 @@ use Rattle.expansion_origins.proofs.SuperstateOrigins.{of_inside, of_those, supe
 pub record RegionTells (r : Region) : Type 0 where
   pub passes : Passes (of_one_region r) (piece_of_region r).behind
   pub many : (at : Numbers) → ((piece_of_region r).behind at).state ≡ at.state + (exp.piece_of_region r).states
-  pub comes : (all : Contents) (fs : List Flags) (bs : List Around) (counter : Option ℕ) (counts : Bool) (at : Numbers) (before : old.Numbers) →
+  pub comes : (all : Contents) (fs : List Flags) (bs : List Around) (counter : Option ℕ) (counts : Bool) (at : Numbers) (before : old.NextNumbers) →
       before.state ≡ at.state → is_there counter ≡ counts → Encloses all fs bs → Placed all at (of_one_region r) →
       Comes all (of_inside ((exp.piece_of_region r).made fs counter before)) ((piece_of_region r).origins bs counts at)
 
@@ -53,8 +53,8 @@ pub record StateTells (s : State) : Type 0 where
   pub passes : Passes (of_one_state s) (piece_of_state s).behind
   pub many : (at : Numbers) → ((piece_of_state s).behind at).state ≡ at.state + (exp.piece_of_state s).states
   pub here : (all : Contents) (at : Numbers) → Placed all at (of_one_state s) → at.state < length all.states
-  pub comes : (all : Contents) (fs : List Flags) (bs : List Around) (to : Places) (ends : Ends) (place : ℕ) (begins : Bool) (at : Numbers)
-      (before : old.Numbers) → before.state ≡ at.state → Within all fs bs to ends → Placed all at (of_one_state s) →
+  pub comes : (all : Contents) (fs : List Flags) (bs : List Around) (to : RegionPlaces) (ends : Ends) (place : ℕ) (begins : Bool) (at : Numbers)
+      (before : old.NextNumbers) → before.state ≡ at.state → Within all fs bs to ends → Placed all at (of_one_state s) →
       Comes all (of_those ((exp.piece_of_state s).made fs to place begins before)) ((piece_of_state s).origins bs ends at)
 
 -- ---- regions side by side
@@ -72,7 +72,7 @@ regions_many (r ∷ regions) each at =
     omega (arith, regions_many regions each.1 ((piece_of_region r).behind at), each.0.many at)
 
 pub regions_come : (all : Contents) (fs : List Flags) (bs : List Around) (counter : Option ℕ) (counts : Bool) (regions : List Region) →
-    Each RegionTells regions → (at : Numbers) (before : old.Numbers) → before.state ≡ at.state → is_there counter ≡ counts → Encloses all fs bs →
+    Each RegionTells regions → (at : Numbers) (before : old.NextNumbers) → before.state ≡ at.state → is_there counter ≡ counts → Encloses all fs bs →
     Placed all at (in_regions regions) →
     Comes all (of_inside (pieces.expanded_regions (map exp.piece_of_region regions) fs counter before))
     (all_regions (map piece_of_region regions) bs counts at)
@@ -81,7 +81,7 @@ regions_come all fs bs counter counts (r ∷ regions) each at before same counte
     let e : pieces.RegionPiece = exp.piece_of_region r in
     let p : RegionPiece = piece_of_region r in
     let a : Regions = e.made fs counter before in
-    let next : old.Numbers = pieces.past_region (flags.weak_around fs) e before in
+    let next : old.NextNumbers = pieces.past_region (flags.weak_around fs) e before in
     let b : Regions = pieces.expanded_regions (map exp.piece_of_region regions) fs counter next in
     let x : Origins = p.origins bs counts at in
     let y : Origins = all_regions (map piece_of_region regions) bs counts (p.behind at) in
@@ -104,8 +104,8 @@ old_state is_initial is_final name regions own =
     exp.state_piece
     (record { name = name; is_initial = is_initial; is_final = is_final; regions = map exp.piece_of_region regions; transitions = own })
 
-pub state_comes : (all : Contents) (fs : List Flags) (bs : List Around) (to : Places) (ends : Ends) (is_initial is_final : Bool) (name : List ℕ)
-    (regions : List Region) (own : List Transition) (place : ℕ) (begins : Bool) (at : Numbers) (before : old.Numbers) →
+pub state_comes : (all : Contents) (fs : List Flags) (bs : List Around) (to : RegionPlaces) (ends : Ends) (is_initial is_final : Bool) (name : List ℕ)
+    (regions : List Region) (own : List Transition) (place : ℕ) (begins : Bool) (at : Numbers) (before : old.NextNumbers) →
     Each RegionTells regions → before.state ≡ at.state → Within all fs bs to ends → Placed all at (both (state_alone name own) (in_regions regions)) →
     Comes all (of_those ((old_state is_initial is_final name regions own).made fs to place begins before))
     (state_origins is_final (map piece_of_region regions) own bs ends at)
@@ -128,7 +128,7 @@ state_comes all fs bs to ends is_initial is_final name regions own place begins 
         let t : Stated all name at own = stated whole placed in
         let weak : Bool = flags.weak_around fs in
         let f : Flags = flags_of weak own before.variable in
-        let next : old.Numbers = made.within weak own before in
+        let next : old.NextNumbers = made.within weak own before in
         let passes : Passes (state_alone name own) (within_state own) = within_pass name own in
         let moved : next.state ≡ (within_state own at).state = omega (arith, same, passes.state at) in
         let counted : is_there f.counter ≡ counts (weak_around bs) own =
@@ -155,8 +155,8 @@ pub states_many : (states : List State) → Each StateTells states → (at : Num
 states_many [] each at = omega arith
 states_many (s ∷ states) each at = omega (arith, states_many states each.1 ((piece_of_state s).behind at), each.0.many at)
 
-states_come : (all : Contents) (fs : List Flags) (bs : List Around) (to : Places) (ends : Ends) (anew : Bool) (states : List State) →
-    Each StateTells states → (place : ℕ) (at : Numbers) (before : old.Numbers) → before.state ≡ at.state → Within all fs bs to ends →
+states_come : (all : Contents) (fs : List Flags) (bs : List Around) (to : RegionPlaces) (ends : Ends) (anew : Bool) (states : List State) →
+    Each StateTells states → (place : ℕ) (at : Numbers) (before : old.NextNumbers) → before.state ≡ at.state → Within all fs bs to ends →
     Placed all at (in_states states) →
     Comes all (of_those (exp.expanded_states anew (map exp.piece_of_state states) fs to place before))
     (all_states (map piece_of_state states) bs ends at)
@@ -164,9 +164,9 @@ states_come all fs bs to ends anew [] each place at before same h placed = none_
 states_come all fs bs to ends anew (s ∷ states) each place at before same h placed =
     let e : pieces.StatePiece = exp.piece_of_state s in
     let p : StatePiece = piece_of_state s in
-    let a : States = e.made fs to place (e.is_initial && not anew) before in
-    let next : old.Numbers = exp.past_state (flags.weak_around fs) e before in
-    let b : States = exp.expanded_states anew (map exp.piece_of_state states) fs to (place + e.width fs) next in
+    let a : StatePieces = e.made fs to place (e.is_initial && not anew) before in
+    let next : old.NextNumbers = exp.past_state (flags.weak_around fs) e before in
+    let b : StatePieces = exp.expanded_states anew (map exp.piece_of_state states) fs to (place + e.width fs) next in
     let x : Origins = p.origins bs ends at in
     let y : Origins = all_states (map piece_of_state states) bs ends (p.behind at) in
     let moved : next.state ≡ (p.behind at).state = omega (arith, same, each.0.many at) in
@@ -270,7 +270,7 @@ some_of_anew false states h = absurd cc
 -- ---- the states of a region
 
 pub inside_comes : (all : Contents) (fs : List Flags) (bs : List Around) (counter : Option ℕ) (counts : Bool) (states : List State) →
-    Each StateTells states → (region : ℕ) (at : Numbers) (before : old.Numbers) → before.state ≡ at.state → is_there counter ≡ counts →
+    Each StateTells states → (region : ℕ) (at : Numbers) (before : old.NextNumbers) → before.state ≡ at.state → is_there counter ≡ counts →
     Encloses all fs bs → Placed all at (in_states states) → region < length all.regions →
     Comes all (of_those (exp.inside_region (map exp.piece_of_state states) fs counter before))
     (inside_region (map piece_of_state states) bs counts (element.Region region) at)
@@ -279,12 +279,12 @@ inside_comes all fs bs counter counts states each region at before same counted 
     let ours : List StatePiece = map piece_of_state states in
     let anew : Bool = exp.begins_anew counter olds in
     let begin : ℕ = one anew in
-    let to : Places = exp.region_places olds fs counter begin in
+    let to : RegionPlaces = exp.region_places olds fs counter begin in
     let ends : Ends = record { finals = map (λ s. s.is_final) ours; counts = counts } in
     let number : ℕ = initial_number ours at in
-    let first : States = exp.new_initial anew counter (exp.initial_place olds fs begin) (exp.initial_number olds before.state) in
-    let middle : States = exp.expanded_states anew olds fs to begin before in
-    let last : States = exp.left_behind (flags.aborts_around fs) in
+    let first : StatePieces = exp.new_initial anew counter (exp.initial_place olds fs begin) (exp.initial_number olds before.state) in
+    let middle : StatePieces = exp.expanded_states anew olds fs to begin before in
+    let last : StatePieces = exp.left_behind (flags.aborts_around fs) in
     let x : Origins = new_initial (begins_anew counts ours) (element.State number) in
     let y : Origins = all_states ours bs ends at in
     let z : Origins = left_behind (aborts_around bs) (element.Region region) in

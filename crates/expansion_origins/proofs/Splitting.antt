@@ -10,7 +10,7 @@ use Rattle.chart_elements.specs.declared.element.Element.TheVariants as element
 use Rattle.chart_elements.specs.declared.numbers.Numbers.{Numbers}
 use Rattle.chart_elements.specs.Elements.{Contents}
 use Rattle.abort_expansion.specs.declared.flags.Flags.{Flags}
-use Rattle.abort_expansion.specs.declared.places.Places.{Places}
+use Rattle.abort_expansion.specs.declared.places.RegionPlaces.{RegionPlaces}
 use Rattle.abort_expansion.specs.Flags.{counts, flags_of, given, one, preparation_name}
 use Rattle.abort_expansion.specs.Flags as flags
 use Rattle.abort_expansion.specs.Transitions.{go, led, led_by, on, put, strong_checks, weak_checks}
@@ -35,7 +35,7 @@ pub record Stated (all : Contents) (name : List ℕ) (at : Numbers) (own : List 
   pub owned : Owned all at own
 
 -- what it becomes is within the same superstates, and ends in the same states
-pub record Within (all : Contents) (fs : List Flags) (bs : List Around) (to : Places) (ends : Ends) : Type 0 where
+pub record Within (all : Contents) (fs : List Flags) (bs : List Around) (to : RegionPlaces) (ends : Ends) : Type 0 where
   pub encloses : Encloses all fs bs
   pub alike : EndAlike to ends
 
@@ -76,7 +76,7 @@ move_comes all t n bare small = record {
 
 -- ---- simple states
 
-pub simple_comes : (all : Contents) (fs : List Flags) (bs : List Around) (to : Places) (ends : Ends) (final : Bool) (name : List ℕ)
+pub simple_comes : (all : Contents) (fs : List Flags) (bs : List Around) (to : RegionPlaces) (ends : Ends) (final : Bool) (name : List ℕ)
     (own : List Transition) (begins : Bool) (at : Numbers) → Within all fs bs to ends → Stated all name at own →
     Comes all (of_states (made.simple final name own fs to begins ∷ []) (Some at.state ∷ [])) (origin.simple final own bs ends at)
 simple_comes all fs bs to ends true name own begins at h s =
@@ -134,7 +134,7 @@ effects_of_one all t n os small is h =
       stands = refl;
     })
 
-pub preparation_comes : (all : Contents) (fs : List Flags) (bs : List Around) (to : Places) (ends : Ends) (name : List ℕ) (s x regions : ℕ)
+pub preparation_comes : (all : Contents) (fs : List Flags) (bs : List Around) (to : RegionPlaces) (ends : Ends) (name : List ℕ) (s x regions : ℕ)
     (own : List Transition) (fork : ℕ) (begins : Bool) (at : Numbers) → Within all fs bs to ends → Stated all name at own →
     Comes all
     (of_states (made.preparation s (flags_of (flags.weak_around fs) own x) regions own to fork begins ∷ []) (Some at.state ∷ []))

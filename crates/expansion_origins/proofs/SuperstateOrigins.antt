@@ -12,10 +12,10 @@ use Rattle.chart_elements.specs.declared.numbers.Numbers.{Numbers}
 use Rattle.chart_elements.specs.Numbers.{behind_transition}
 use Rattle.chart_elements.specs.Elements.{Contents}
 use Rattle.abort_expansion.specs.declared.flags.Flags.{Flags}
-use Rattle.abort_expansion.specs.declared.places.Places.{Places}
-use Rattle.abort_expansion.specs.declared.pieces.Numbers as old
+use Rattle.abort_expansion.specs.declared.places.RegionPlaces.{RegionPlaces}
+use Rattle.abort_expansion.specs.declared.pieces.NextNumbers as old
 use Rattle.abort_expansion.specs.declared.pieces.Regions.{Regions}
-use Rattle.abort_expansion.specs.declared.pieces.States.{States}
+use Rattle.abort_expansion.specs.declared.pieces.StatePieces.{StatePieces}
 use Rattle.abort_expansion.specs.Flags.{abandoned_name, continuation_name, counts, flags_of, given, has_join, is_there, monitor_name, one, watching_name}
 use Rattle.abort_expansion.specs.Flags as flags
 use Rattle.abort_expansion.specs.Transitions.{answers, go, is_number, led, led_by, raising, strong_checks, weak_checks}
@@ -122,7 +122,7 @@ monitor_comes all fs bs weak s x own at h owned =
 abbrev pub IsCounted : List Flags → Option ℕ → List Transition → Type 0
 IsCounted fs counter own = flags.weak_around fs ≡ true → has_join own ≡ true → is_there counter ≡ true
 
-joined_comes : (all : Contents) (to : Places) (ends : Ends) (counter : Option ℕ) (t : Transition) (own : List Transition) (at : Numbers) →
+joined_comes : (all : Contents) (to : RegionPlaces) (ends : Ends) (counter : Option ℕ) (t : Transition) (own : List Transition) (at : Numbers) →
     EndAlike to ends → Owned all at (t ∷ own) → at.state < length all.states → is_there counter ≡ true →
     Comes all (moves (made.joined_or_left to counter t)) (beside (taken ends t at) (origin.transition (element.State at.state) []))
 joined_comes all to ends None t own at alike owned small h = absurd cc
@@ -132,13 +132,13 @@ joined_comes all to ends (Some x) t own at alike owned small h =
     (taken_comes all to ends (led_by to (Some (is_number x 0)) t) t at alike refl owned.transitions.0 (owned_effects all at t own owned))
     (move_comes all (go true None [] to.left) at.state refl small)
 
-plain_comes : (all : Contents) (to : Places) (ends : Ends) (t : Transition) (own : List Transition) (at : Numbers) → EndAlike to ends →
+plain_comes : (all : Contents) (to : RegionPlaces) (ends : Ends) (t : Transition) (own : List Transition) (at : Numbers) → EndAlike to ends →
     Owned all at (t ∷ own) → Comes all (moves (led_by to None t ∷ [])) (beside (taken ends t at) nothing)
 plain_comes all to ends t own at alike owned =
     both_come all (moves (led_by to None t ∷ [])) none (taken ends t at) nothing
     (taken_comes all to ends (led_by to None t) t at alike refl owned.transitions.0 (owned_effects all at t own owned)) (none_comes all)
 
-closing_comes : (all : Contents) (fs : List Flags) (bs : List Around) (to : Places) (ends : Ends) (f : Flags) (own : List Transition) (at : Numbers) →
+closing_comes : (all : Contents) (fs : List Flags) (bs : List Around) (to : RegionPlaces) (ends : Ends) (f : Flags) (own : List Transition) (at : Numbers) →
     Within all fs bs to ends → at.state < length all.states → Owned all at own → IsCounted fs f.counter own →
     Comes all (moves (made.closing fs f to (terminations own))) (origin.closing own bs ends at)
 closing_comes all fs bs to ends f [] at h small owned counted = weak_come all true to.left fs bs h.encloses
@@ -169,7 +169,7 @@ counter_given true false true z w j = refl
 counter_given true false false z w j = absurd cc
 counter_given false aborts weak z w j = absurd cc
 
-pub continuation_comes : (all : Contents) (fs : List Flags) (bs : List Around) (to : Places) (ends : Ends) (name : List ℕ) (s x : ℕ)
+pub continuation_comes : (all : Contents) (fs : List Flags) (bs : List Around) (to : RegionPlaces) (ends : Ends) (name : List ℕ) (s x : ℕ)
     (own : List Transition) (at : Numbers) → Within all fs bs to ends → Stated all name at own →
     Comes all (of_states (made.continuation s fs (flags_of (flags.weak_around fs) own x) to own ∷ []) (Some at.state ∷ []))
     (origin.continuation own bs ends at)
@@ -199,7 +199,7 @@ continuation_comes all fs bs to ends name s x own at h t =
 
 -- ---- the whole of a superstate, over what is inside it
 
-abbrev pub of_those : States → Made
+abbrev pub of_those : StatePieces → Made
 of_those m = of_states m.states m.stands_for
 
 abbrev pub of_inside : Regions → Made
@@ -227,8 +227,8 @@ fork_comes all fs bs weak name s x target own begins inside within at h t come =
     (both_come all (of_inside inside) (of_regions watched (monitor_stands (has_aborts own))) within monitored come
     (monitor_comes all fs bs weak s x own at h t.owned)))))
 
-forked_comes : (all : Contents) (fs : List Flags) (bs : List Around) (to : Places) (ends : Ends) (name : List ℕ) (x place : ℕ)
-    (own : List Transition) (begins : Bool) (inside : Regions) (within : Origins) (at : Numbers) (before : old.Numbers) →
+forked_comes : (all : Contents) (fs : List Flags) (bs : List Around) (to : RegionPlaces) (ends : Ends) (name : List ℕ) (x place : ℕ)
+    (own : List Transition) (begins : Bool) (inside : Regions) (within : Origins) (at : Numbers) (before : old.NextNumbers) →
     before.state ≡ at.state → Within all fs bs to ends → Stated all name at own → Comes all (of_inside inside) within →
     Comes all (of_those (made.forked name own fs (flags_of (flags.weak_around fs) own x) inside to place begins before))
     (origin.forked own bs ends within at)
@@ -240,7 +240,7 @@ forked_comes all fs bs to ends name x place own begins inside within at before s
     let first : State = made.fork name begins (inside.regions ++ watched) (suc place) in
     let second : State = made.continuation s fs f to own in
     let stands : List (Option ℕ) = Some at.state ∷ (inside.stands_for ++ monitor_stands (has_aborts own)) in
-    let m : States = made.forked name own fs f inside to place begins before in
+    let m : StatePieces = made.forked name own fs f inside to place begins before in
     let told : stands ++ Some at.state ∷ [] ≡ m.stands_for =
     ap (λ n. Some n ∷ (inside.stands_for ++ monitor_stands (has_aborts own) ++ Some n ∷ [])) (sym same) in
     comes_as all (of_states (first ∷ second ∷ []) (stands ++ Some at.state ∷ [])) (of_those m) (origin.forked own bs ends within at) refl refl refl
@@ -250,8 +250,8 @@ forked_comes all fs bs to ends name x place own begins inside within at before s
     (origin.continuation own bs ends at) (fork_comes all fs bs weak name s x (suc place) own begins inside within at h.encloses t come)
     (continuation_comes all fs bs to ends name s x own at h t)))
 
-as_it_is_comes : (all : Contents) (to : Places) (ends : Ends) (name : List ℕ) (own : List Transition) (begins : Bool) (inside : Regions)
-    (within : Origins) (at : Numbers) (before : old.Numbers) → before.state ≡ at.state → EndAlike to ends → Stated all name at own →
+as_it_is_comes : (all : Contents) (to : RegionPlaces) (ends : Ends) (name : List ℕ) (own : List Transition) (begins : Bool) (inside : Regions)
+    (within : Origins) (at : Numbers) (before : old.NextNumbers) → before.state ≡ at.state → EndAlike to ends → Stated all name at own →
     Comes all (of_inside inside) within →
     Comes all (of_those (made.as_it_is name own inside to begins before)) (origin.as_it_is own ends within at)
 as_it_is_comes all to ends name own begins inside within at before same alike t come =
@@ -264,8 +264,8 @@ as_it_is_comes all to ends name own begins inside within at before same alike t 
     (beside mine within) (itself_comes all name at.state t.named)
     (both_come all (moves (map (led to) own)) (of_inside inside) mine within (led_come all to ends own at alike t.owned) come)))
 
-split_comes : (all : Contents) (fs : List Flags) (bs : List Around) (to : Places) (ends : Ends) (name : List ℕ) (regions x place : ℕ)
-    (own : List Transition) (begins : Bool) (inside : Regions) (within : Origins) (at : Numbers) (before : old.Numbers) →
+split_comes : (all : Contents) (fs : List Flags) (bs : List Around) (to : RegionPlaces) (ends : Ends) (name : List ℕ) (regions x place : ℕ)
+    (own : List Transition) (begins : Bool) (inside : Regions) (within : Origins) (at : Numbers) (before : old.NextNumbers) →
     before.state ≡ at.state → Within all fs bs to ends → Stated all name at own → Comes all (of_inside inside) within →
     Comes all (of_those (made.split name regions own fs (flags_of (flags.weak_around fs) own x) inside to place begins before))
     (origin.split own bs ends within at)
@@ -283,8 +283,8 @@ split_comes all fs bs to ends name regions x place own begins inside within at b
         else made.forked name own fs f inside to place begins before))
         (beside (if c then origin.preparation own bs ends at else nothing) (origin.forked own bs ends within at))
     over true true e =
-        let p : States = made.prepared regions own f to place begins before in
-        let m : States = made.forked name own fs f inside to (suc place) false before in
+        let p : StatePieces = made.prepared regions own f to place begins before in
+        let m : StatePieces = made.forked name own fs f inside to (suc place) false before in
         states_join all p.states m.states p.stands_for m.stands_for
         (beside (origin.preparation own bs ends at) (origin.forked own bs ends within at))
         (both_come all (of_those p) (of_those m) (origin.preparation own bs ends at) (origin.forked own bs ends within at)
@@ -295,8 +295,8 @@ split_comes all fs bs to ends name regions x place own begins inside within at b
     over true false e = absurd cc
     over false true e = absurd cc
 
-pub superstate_comes : (all : Contents) (fs : List Flags) (bs : List Around) (to : Places) (ends : Ends) (name : List ℕ) (regions x place : ℕ)
-    (own : List Transition) (begins : Bool) (inside : Regions) (within : Origins) (at : Numbers) (before : old.Numbers) →
+pub superstate_comes : (all : Contents) (fs : List Flags) (bs : List Around) (to : RegionPlaces) (ends : Ends) (name : List ℕ) (regions x place : ℕ)
+    (own : List Transition) (begins : Bool) (inside : Regions) (within : Origins) (at : Numbers) (before : old.NextNumbers) →
     before.state ≡ at.state → Within all fs bs to ends → Stated all name at own → Comes all (of_inside inside) within →
     Comes all (of_those (made.superstate_over name regions own fs (flags_of (flags.weak_around fs) own x) inside to place begins before))
     (origin.superstate_over own bs ends within at)

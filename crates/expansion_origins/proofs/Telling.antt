@@ -18,7 +18,7 @@ use Rattle.chart_elements.specs.Elements.{Contents, all_effects, contents}
 use Rattle.chart_elements.proofs.Pieces.{in_regions, in_states, of_one_region, of_one_state, placed_whole, region_alone, region_parts, region_passes}
 use Rattle.chart_elements.proofs.Pieces.{state_alone, state_parts, within_pass}
 use Rattle.chart_elements.specs.Numbers.{first, within_region, within_state}
-use Rattle.abort_expansion.specs.declared.pieces.States.{States}
+use Rattle.abort_expansion.specs.declared.pieces.StatePieces.{StatePieces}
 use Rattle.abort_expansion.specs.Pieces as pieces
 use Rattle.abort_expansion.specs.Expansion.{expansion, state_map}
 use Rattle.abort_expansion.specs.Expansion as exp
@@ -111,7 +111,7 @@ region_tells variables levels inner r h =
           ap (λ p. (p.behind at).state) mine ∙ states_many states each (within_region at) ∙ sym (ap (λ p. at.state + p.states) theirs);
       comes = λ all fs bs counter counts at before same counted encloses placed.
           let known : Placed all at (both head rest) = subst (Placed all at) held placed in
-          let inside : States = exp.inside_region (map exp.piece_of_state states) fs counter before in
+          let inside : StatePieces = exp.inside_region (map exp.piece_of_state states) fs counter before in
           let within : Origins = inside_region (map piece_of_state states) bs counts (element.Region at.region) (within_region at) in
           subst (λ p. Comes all (of_inside ((exp.piece_of_region r).made fs counter before)) (p.origins bs counts at)) (sym mine)
           (subst (λ p. Comes all (of_inside (p.made fs counter before)) (beside (origin.region (element.Region at.region)) within)) (sym theirs)

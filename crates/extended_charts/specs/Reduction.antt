@@ -5,7 +5,7 @@ use Rattle.core_charts.specs.declared.features.Features.TheVariants as features
 use Rattle.core_charts.specs.Chart.{Chart}
 use Rattle.core_charts.specs.Rules.{IsChart}
 use Rattle.extended_charts.specs.declared.extended.ExtendedChart.{ExtendedChart}
-use Rattle.extended_charts.specs.declared.rows.Rows.{Rows}
+use Rattle.extended_charts.specs.declared.rows.AuthorRows.{AuthorRows}
 use Rattle.extended_charts.specs.declared.fault.ReduceFault.{ReduceFault}
 use Rattle.extended_charts.specs.declared.fault.ReduceFault.TheVariants as fault
 use Rattle.extended_charts.specs.Constants.{without_constants}
@@ -32,7 +32,7 @@ abbrev pub reduced : ExtendedChart → Chart
 reduced c = chart_of (with_entry c)
 
 -- what is made of an extended chart: the chart, and which of its states and transitions are the author's
-pub record IsReduction (c : ExtendedChart) (made : Chart) (rows : Rows) : Type 0 where
+pub record IsReduction (c : ExtendedChart) (made : Chart) (rows : AuthorRows) : Type 0 where
   pub chart_is : made ≡ reduced c
   pub rows_are : rows ≡ rows_of (with_entry c).regions
 

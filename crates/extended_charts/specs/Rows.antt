@@ -3,7 +3,7 @@
 use Rattle.std.specs.Prelude.{ℕ, suc, Bool, true, false, Option, Some, None, List, [], ◌∷◌, ◌++◌, map, if◌then◌else◌}
 use Rattle.core_charts.specs.declared.region.Effect.{Effect}
 use Rattle.chart_elements.specs.Elements.{row}
-use Rattle.extended_charts.specs.declared.rows.Rows.{Rows}
+use Rattle.extended_charts.specs.declared.rows.AuthorRows.{AuthorRows}
 use Rattle.extended_charts.specs.declared.extended.ExtendedRegion.{ExtendedRegion}
 use Rattle.extended_charts.specs.declared.extended.ExtendedState.{ExtendedState}
 use Rattle.extended_charts.specs.declared.extended.ExtendedRegion.TheOpen.{ExtendedRegion-F, ExtendedState-F}
@@ -47,7 +47,7 @@ numbers n [] = []
 numbers n (true ∷ marks) = Some n ∷ numbers (suc n) marks
 numbers n (false ∷ marks) = None ∷ numbers n marks
 
-abbrev pub rows_of : List ExtendedRegion → Rows
+abbrev pub rows_of : List ExtendedRegion → AuthorRows
 rows_of regions =
     record {
       states = numbers 0 (row (map states_in_region regions));

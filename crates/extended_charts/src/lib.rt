@@ -24,4 +24,4 @@ pub use fault::ReduceFault;
 pub use initial::with_settings;
 pub use reduction::reduce;
 pub use registers::with_registers;
-pub use rows::{Rows, rows_of};
+pub use rows::{AuthorRows, rows_of};

@@ -12,7 +12,7 @@ use crate::extended::{Declared, ExtendedChart};
 use crate::fault::ReduceFault;
 use crate::initial::with_settings;
 use crate::registers::with_registers;
-use crate::rows::{Rows, rows_of};
+use crate::rows::{AuthorRows, rows_of};
 use core_charts::Chart;
 use sc_graph::Variable;
 use sqlite_items::Items;
@@ -20,7 +20,7 @@ use std::alloc::{AllocError, Global};
 
 /// The chart to which an extended chart is reduced, and which of its parts are the author's. `Limit`: it would break a
 /// rule or a limit of charts.
-pub fn reduce(alloc: Global, chart: &ExtendedChart) -> Result<(Chart, Rows), ReduceFault>
+pub fn reduce(alloc: Global, chart: &ExtendedChart) -> Result<(Chart, AuthorRows), ReduceFault>
     ensures { MatchResult result (λ made. IsReduction chart.now made.0 made.1) (LacksChart chart.now) }
 {
     let left = with_entry(alloc, chart)?;

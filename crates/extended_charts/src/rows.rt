@@ -15,19 +15,19 @@ use std::alloc::{AllocError, Global};
 /// Of each state and each transition of a reduced chart, in the order of its text, the number of the author's, if it is
 /// one of his.
 #[derive(Debug, Drop)]
-pub struct Rows {
+pub struct AuthorRows {
     pub states: Items<Option<u32>>,
     pub transitions: Items<Option<u32>>,
 }
 
 /// Which states and transitions are the author's, where these regions are left without entry actions. Err: memory was
 /// refused.
-pub fn rows_of(alloc: Global, regions: &[ExtendedRegion]) -> Result<Rows, AllocError>
+pub fn rows_of(alloc: Global, regions: &[ExtendedRegion]) -> Result<AuthorRows, AllocError>
     ensures { IfOk result (λ rows. rows ≡ rows_of regions.now) }
 {
     let states = states_in_regions(alloc, regions)?;
     let transitions = transitions_in_regions(alloc, regions)?;
-    Ok(Rows {
+    Ok(AuthorRows {
         states: numbers(alloc, states.as_slice())?,
         transitions: numbers(alloc, transitions.as_slice())?,
     })

@@ -8,7 +8,7 @@ use Rattle.sc_text.specs.FaultText.{broken_number}
 use Rattle.sc_text.specs.declared.read_fault.ReadFault.{ReadFault}
 use Rattle.sc_text.specs.declared.read_fault.ReadFault.TheVariants as read
 use Rattle.drafts.specs.declared.flaw.Flaw.{Flaw}
-use Rattle.sc_text.specs.declared.read_fault.Broken.{Broken}
+use Rattle.sc_text.specs.declared.read_fault.FaultKind.{FaultKind}
 use Rattle.drafts.specs.Told.{told_of}
 use Rattle.chart_drafts.specs.declared.draft.DraftChart.{DraftChart}
 use Rattle.chart_drafts.specs.Flaws.{chart_flaws}
@@ -91,7 +91,7 @@ pub all_so : (name text : List ℕ) (fault : ReadFault) (first others report : L
 all_so name text fault first others report tells further is =
     record { first = first; others = others; is = is; tells = tells; further = further }
 
-pub each_so : (name text : List ℕ) (fault : ReadFault) (b : Broken) (at : ℕ) (report : List ℕ) → fault ≡ read.Text b at
+pub each_so : (name text : List ℕ) (fault : ReadFault) (b : FaultKind) (at : ℕ) (report : List ℕ) → fault ≡ read.Text b at
     → TellsAll name text fault report → TellsEach name text fault report
 each_so name text fault b at report e all =
     subst (λ (f : ReadFault). TellsEach name text f report) (sym e) (subst (λ (f : ReadFault). TellsAll name text f report) e all)
@@ -104,7 +104,7 @@ memory_so name text fault report e tells =
 pub some_so : (name text told : List ℕ) → TellsFlaws name text told → TellsFurther name text told
 some_so name text told tells = inl tells
 
-pub none_so : (name text told : List ℕ) (b : Broken) (at : ℕ) → IsDraftFault text (read.Text b at) → told ≡ []
+pub none_so : (name text told : List ℕ) (b : FaultKind) (at : ℕ) → IsDraftFault text (read.Text b at) → told ≡ []
     → TellsFurther name text told
 none_so name text told b at undrafted nothing =
     inr (record { broken = b; at = at; undrafted = undrafted; nothing = nothing })

@@ -2,7 +2,7 @@
 use Rattle.std.specs.Prelude.{ℕ, ◌≡◌, ◌⊎◌, List, [], ◌∷◌, ◌++◌, codes, drop}
 use Rattle.std.specs.Fmt.{decimal}
 use Rattle.sc_text.specs.FaultText.{broken_number}
-use Rattle.sc_text.specs.declared.read_fault.Broken.{Broken}
+use Rattle.sc_text.specs.declared.read_fault.FaultKind.{FaultKind}
 use Rattle.sc_text.specs.declared.read_fault.ReadFault.{ReadFault}
 use Rattle.sc_text.specs.declared.read_fault.ReadFault.TheVariants as read
 use Rattle.drafts.specs.declared.flaw.Flaw.{Flaw}
@@ -29,7 +29,7 @@ pub record TellsFlaws (name text told : List ℕ) : Type 0 where
 
 -- the text spells no chart, and nothing is told
 pub record TellsNone (text told : List ℕ) : Type 0 where
-  pub broken : Broken
+  pub broken : FaultKind
   pub at : ℕ
   pub undrafted : IsDraftFault text (read.Text broken at)
   pub nothing : told ≡ []

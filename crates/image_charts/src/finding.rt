@@ -12,7 +12,7 @@ use chart_reader::read_chart;
 use command_files::{LoadFault, shown_name};
 use compiled_charts::compile_chart;
 use core_charts::Chart;
-use sc_text::{Broken, ReadFault};
+use sc_text::{FaultKind, ReadFault};
 use std::alloc::{AllocError, Global};
 use std::str;
 use verifier::Verified;
@@ -26,7 +26,7 @@ pub fn chart_in(alloc: Global, bytes: &[u8]) -> Result<Chart, ReadFault>
 {
     match str::from_utf8(bytes) {
         Ok(text) => read_chart(alloc, text),
-        Err(_) => Err(ReadFault::Text(Broken::Token, 0)),
+        Err(_) => Err(ReadFault::Text(FaultKind::Token, 0)),
     }
 }
 

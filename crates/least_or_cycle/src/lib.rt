@@ -10,4 +10,4 @@ mod rule;
 pub use cycles::{cycle, cycle_along, cycle_through};
 pub use graph::Graph;
 pub use rising::least;
-pub use rule::Rule;
+pub use rule::NumberRule;

@@ -5,13 +5,13 @@ ghost use Rattle.std.specs.Prelude.{Contains, Some, None};
 ghost use Rattle.least_or_cycle.specs.Least.{Exceeds, IsLeast, IsWithin, Keeps};
 ghost use Rattle.least_or_cycle.specs.Inside.Rising.{Became, IsUnder};
 
-use crate::rule::Rule;
+use crate::rule::NumberRule;
 use std::alloc::{AllocError, Global};
 
 /// The least table of `count` numbers that keeps a rule. None: no table within `top` keeps it. The
 /// order is a hint, for speed alone: the table is raised first at its places, in this order, by the
 /// parts that the rule finds fast. Err: memory was refused.
-pub fn least<R: Rule>(
+pub fn least<R: NumberRule>(
     alloc: Global,
     rule: &R,
     count: u16,
@@ -38,7 +38,7 @@ pub fn least<R: Rule>(
 }
 
 // Raises a table at these places in turn by parts of what the rule asks. False: no table within the top keeps the rule.
-fn raise_parts<R: Rule>(rule: &R, table: &mut [u32], top: u32, order: &[u16]) -> bool
+fn raise_parts<R: NumberRule>(rule: &R, table: &mut [u32], top: u32, order: &[u16]) -> bool
     requires { IsUnder (R.keeps rule.now) top table.old }
     ensures long { length table.new ≡ length table.old }
     ensures under { MatchBool result (IsUnder (R.keeps rule.now) top table.new)
@@ -53,7 +53,7 @@ fn raise_parts<R: Rule>(rule: &R, table: &mut [u32], top: u32, order: &[u16]) ->
 }
 
 // Raises a table at a place by a part of what the rule asks there. False: no table within the top keeps the rule.
-fn raise_part<R: Rule>(rule: &R, table: &mut [u32], place: u16, top: u32) -> bool
+fn raise_part<R: NumberRule>(rule: &R, table: &mut [u32], place: u16, top: u32) -> bool
     requires { IsUnder (R.keeps rule.now) top table.old }
     ensures long { length table.new ≡ length table.old }
     ensures under { MatchBool result (IsUnder (R.keeps rule.now) top table.new)
@@ -86,7 +86,7 @@ enum Raise {
 }
 
 // Raises a table of zeros to the least one. False: no table within the top keeps the rule.
-fn rises<R: Rule>(rule: &R, table: &mut [u32], count: u16, top: u32, order: &[u16]) -> bool
+fn rises<R: NumberRule>(rule: &R, table: &mut [u32], count: u16, top: u32, order: &[u16]) -> bool
     requires count { length table.old ≡ count }
     requires under { IsUnder (R.keeps rule.now) top table.old }
     ensures { MatchBool result (IsLeast (R.keeps rule.now) (length table.old) table.new
@@ -105,7 +105,7 @@ fn rises<R: Rule>(rule: &R, table: &mut [u32], count: u16, top: u32, order: &[u1
 }
 
 // Raises a table at these places in turn. False: no table within the top keeps the rule.
-fn raise_along<R: Rule>(rule: &R, table: &mut [u32], top: u32, order: &[u16]) -> bool
+fn raise_along<R: NumberRule>(rule: &R, table: &mut [u32], top: u32, order: &[u16]) -> bool
     requires { IsUnder (R.keeps rule.now) top table.old }
     ensures { MatchBool result (IsUnder (R.keeps rule.now) top table.new × (sum table.old ≤ sum table.new))
         (Exceeds (R.keeps rule.now) (length table.old) top) }
@@ -120,7 +120,7 @@ fn raise_along<R: Rule>(rule: &R, table: &mut [u32], top: u32, order: &[u16]) ->
 }
 
 // Raises a table at each of its places.
-fn raise_all<R: Rule>(rule: &R, table: &mut [u32], count: u16, top: u32) -> Raise
+fn raise_all<R: NumberRule>(rule: &R, table: &mut [u32], count: u16, top: u32) -> Raise
     requires count { length table.old ≡ count }
     requires under { IsUnder (R.keeps rule.now) top table.old }
     ensures { Became (R.keeps rule.now) top (λ n. n < length table.old) table.old table.new result }
@@ -137,7 +137,7 @@ fn raise_all<R: Rule>(rule: &R, table: &mut [u32], count: u16, top: u32) -> Rais
 }
 
 // Raises a table at a place to what the rule asks there.
-fn raise_at<R: Rule>(rule: &R, table: &mut [u32], place: u16, top: u32) -> Raise
+fn raise_at<R: NumberRule>(rule: &R, table: &mut [u32], place: u16, top: u32) -> Raise
     requires { IsUnder (R.keeps rule.now) top table.old }
     ensures { Became (R.keeps rule.now) top (λ n. n ≡ place) table.old table.new result }
 {

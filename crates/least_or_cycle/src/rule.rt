@@ -6,7 +6,7 @@ ghost use Rattle.least_or_cycle.specs.Least.{IsNeeded, IsPart, Keeps};
 use std::alloc::{AllocError, Global};
 
 /// A rule about tables of numbers, of which each place asks that its number is great enough.
-pub trait Rule {
+pub trait NumberRule {
     ghost keeps: { Self → (ℕ → ℕ) → ℕ → Type 0 };
 
     /// What the rule asks for a place, given the rest of the table.

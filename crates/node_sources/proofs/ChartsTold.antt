@@ -21,7 +21,7 @@ use Rattle.graph_origins.specs.Origins.{node_origins}
 use Rattle.lowering_origins.specs.Origins.{point_origins}
 use Rattle.expansion_origins.specs.Origins.{expansion_origins}
 use Rattle.sc_text.specs.declared.language.Language.TheVariants as language
-use Rattle.sc_text.specs.declared.read_fault.Broken.{Broken}
+use Rattle.sc_text.specs.declared.read_fault.FaultKind.{FaultKind}
 use Rattle.sc_text.specs.declared.read_fault.ReadFault.TheVariants as fault
 use Rattle.chart_drafts.specs.Checked.{IsTextFault}
 use Rattle.chart_drafts.proofs.ShapedDrafts.{draft_is_shaped}
@@ -133,7 +133,7 @@ no_core text c p is none = record { chart = c; places = p; placed = is; none = i
 pub no_graph : (text : List ℕ) (c : Chart) (p : Places) (scl : Scl) → IsPlaced text c p → IsSclOf c scl → IsGraphless scl → ChartHasNone text
 no_graph text c p scl is lowers none = record { chart = c; places = p; placed = is; none = inr (scl, lowers, none) }
 
-pub faulty : (text : List ℕ) (b : Broken) (at : ℕ) → IsTextFault text (fault.Text b at) → NoneIn language.Chart text
+pub faulty : (text : List ℕ) (b : FaultKind) (at : ℕ) → IsTextFault text (fault.Text b at) → NoneIn language.Chart text
 faulty text b at h = inl (record { broken = b; at = at; is = h })
 
 pub read : {E : Type 0} (text : List ℕ) (r : Result (Option Sources) E) →

@@ -20,7 +20,7 @@ use Rattle.lowering_origins.specs.Origins.{point_origins}
 use Rattle.expansion_origins.specs.Origins.{expansion_origins}
 use Rattle.node_elements.specs.Origins.{through}
 use Rattle.node_sources.specs.declared.origin.Origin.{Origin}
-use Rattle.node_sources.specs.declared.statements.Spot.{Spot}
+use Rattle.node_sources.specs.declared.statements.StatementPlace.{StatementPlace}
 use Rattle.node_sources.specs.Labels.{ChartLabel, IsLabel, SclLabel, label_at, label_origin}
 use Rattle.node_sources.specs.SclOrigins.{at_first, spots_of}
 
@@ -68,7 +68,7 @@ chart_labelled text c p scl name k core elements (Some o) placed lowers label sa
       ∙ ap (λ es. label_origin p (slice_get es k)) (sym made) ∙ sym is;
 }
 
-pub scl_labelled : (text : List ℕ) (d : Draft) (tokens : List Token) (scl : Scl) (name : List ℕ) (k : ℕ) (spots : List Spot) (r : Option Origin) →
+pub scl_labelled : (text : List ℕ) (d : Draft) (tokens : List Token) (scl : Scl) (name : List ℕ) (k : ℕ) (spots : List StatementPlace) (r : Option Origin) →
     IsFlawless text d → AreTokens language.Scl 0 text tokens → IsProgramOf d scl → IsLabel scl name k → spots ≡ spots_of tokens d.statements →
     r ≡ at_first (slice_get spots k) → IfSome r (SclLabel text name)
 scl_labelled text d tokens scl name k spots None drafted cut spelled label made is = tt

@@ -15,7 +15,7 @@ use Rattle.graph_origins.specs.Laws.{IsDone, IsSecond, OriginsTellNodes, TellsNo
 use Rattle.graph_origins.specs.Origins.{node_origins}
 use Rattle.graph_origins.specs.Points.{Point, Assigns, Marks, Jumps, Pauses, Tests, Forks, Ends, text_points}
 use Rattle.node_sources.specs.declared.origin.Origin.{Origin}
-use Rattle.node_sources.specs.declared.statements.Spot.{Spot}
+use Rattle.node_sources.specs.declared.statements.StatementPlace.{StatementPlace}
 use Rattle.node_sources.specs.SclLaws.{NodeTold, OriginStands, PointStands, SecondStands, SourcesTellScl}
 use Rattle.node_sources.specs.SclOrigins.{at_first, at_second, point_origin, spots_of, statement_at}
 use Rattle.node_sources.specs.Sources.{SclSources}
@@ -38,7 +38,7 @@ module _ (text : List ℕ) (names : List (List ℕ)) where
   second_stands (Tests e) s at is h = absurd is
   second_stands Ends s at is h = absurd is
 
-  origin_stands : (spots : List Spot) (points : List Point) → Stand text names spots points → (from : NodeOrigin) (s : Step) →
+  origin_stands : (spots : List StatementPlace) (points : List Point) → Stand text names spots points → (from : NodeOrigin) (s : Step) →
       IsDone points from s → (o : Origin) → point_origin spots from ≡ Some o → OriginStands text names points from o.at
   origin_stands spots points all (node.First n) s done o is =
       let many : length spots ≡ length points = as_many text names spots points all in
@@ -66,7 +66,7 @@ module _ (tell : OriginsTellNodes) (text : List ℕ) (q : Program) (origins : Li
   abbrev nodes : List NodeOrigin
   nodes = node_origins s.scl.body
 
-  abbrev spots : List Spot
+  abbrev spots : List StatementPlace
   spots = spots_of s.tokens s.draft.statements
 
   as_origins : length origins ≡ length nodes

@@ -11,7 +11,7 @@ use Rattle.drafts.specs.Flaws.{variable_names}
 use Rattle.sc_graph.specs.Program.{Program}
 use Rattle.sc_graph.specs.declared.program.Step.{Step}
 use Rattle.sc_text.specs.declared.language.Language.TheVariants as language
-use Rattle.sc_text.specs.declared.read_fault.Broken.{Broken}
+use Rattle.sc_text.specs.declared.read_fault.FaultKind.{FaultKind}
 use Rattle.sc_text.specs.declared.read_fault.ReadFault.TheVariants as fault
 use Rattle.sc_text.specs.declared.token.Token.{Token}
 use Rattle.sc_text.specs.Reading.{place_of}
@@ -33,7 +33,7 @@ use Rattle.graph_origins.specs.Laws.{IsDone, OriginsTellNodes}
 use Rattle.graph_origins.specs.Origins.{node_origins}
 use Rattle.graph_origins.specs.Points.{Ends, in_row as point_row, points_of, text_points}
 use Rattle.node_sources.specs.declared.origin.Origin.{Origin}
-use Rattle.node_sources.specs.declared.statements.Spot.{Spot}
+use Rattle.node_sources.specs.declared.statements.StatementPlace.{StatementPlace}
 use Rattle.node_sources.specs.SclLaws.{OpeningStands}
 use Rattle.node_sources.specs.SclOrigins.{at_first, at_second, in_row, one_place, point_origin, scl_origins, spots_in, spots_of}
 use Rattle.node_sources.specs.declared.sources.Sources.{Sources}
@@ -43,7 +43,7 @@ use Rattle.node_sources.proofs.StatementsPlaced.{Stand, as_many, row_stands, sta
 use Rattle.node_sources.proofs.StatementsSpelled.{Good, text_opened, text_spelled}
 
 -- a point that is there has a spot
-done_there : (spots : List Spot) (body : List Statement) (o : NodeOrigin) (s : Step) → length spots ≡ length (text_points body) →
+done_there : (spots : List StatementPlace) (body : List Statement) (o : NodeOrigin) (s : Step) → length spots ≡ length (text_points body) →
     IsDone (text_points body) o s → IsSome (point_origin spots o)
 done_there spots body (node.First n) s each h =
     let less : n < length (text_points body) = below (text_points body) n h.0 h.1 in
@@ -86,7 +86,7 @@ module _ (text : List ℕ) (d : Draft) (is : IsFlawless text d) (tokens : List T
       subst (λ body. Stand text names (spots_of tokens d.statements) (text_points body)) (sym spelled.body)
       (subst (λ ss. Stand text names (spots_of tokens ss) (text_points (statements_of names ss))) (sym same) whole)
 
-  pub each_located : OriginsTellNodes → (spots : List Spot) → spots ≡ spots_of tokens d.statements → (nodes : List NodeOrigin) →
+  pub each_located : OriginsTellNodes → (spots : List StatementPlace) → spots ≡ spots_of tokens d.statements → (nodes : List NodeOrigin) →
       nodes ≡ node_origins scl.body → (k : ℕ) (o : NodeOrigin) → slice_get nodes k ≡ Some o → IsSome (point_origin spots o)
   each_located tell spots made nodes from k o h =
       let many : length (spots_of tokens d.statements) ≡ length (text_points scl.body) =
@@ -97,7 +97,7 @@ module _ (text : List ℕ) (d : Draft) (is : IsFlawless text d) (tokens : List T
       let n : Item (program_of (numbered scl)).nodes k = item_below (program_of (numbered scl)).nodes k small in
       done_there spots scl.body o n.item.step (ap length made ∙ many) ((tell scl).done k o n.item stands n.there)
 
-  pub origins_are : (spots : List Spot) → spots ≡ spots_of tokens d.statements → (nodes : List NodeOrigin) → nodes ≡ node_origins scl.body →
+  pub origins_are : (spots : List StatementPlace) → spots ≡ spots_of tokens d.statements → (nodes : List NodeOrigin) → nodes ≡ node_origins scl.body →
       (origins : List Origin) → map Some origins ≡ map (point_origin spots) nodes → map Some origins ≡ scl_origins tokens d.statements scl.body
   origins_are spots made nodes from origins each =
       each ∙ ap (λ spots. map (point_origin spots) nodes) made ∙ ap (map (point_origin (spots_of tokens d.statements))) from
@@ -120,10 +120,10 @@ pub no_graph : (text : List ℕ) (d : Draft) (scl : Scl) → IsFlawless text d �
 no_graph text d scl is spelled none = record { draft = d; drafted = is; scl = scl; spelled = spelled; none = none }
 
 -- a text with a fault, as one that is not cut into tokens
-pub faulty : (text : List ℕ) (b : Broken) (at : ℕ) → IsTextFault text (fault.Text b at) → NoneIn language.Scl text
+pub faulty : (text : List ℕ) (b : FaultKind) (at : ℕ) → IsTextFault text (fault.Text b at) → NoneIn language.Scl text
 faulty text b at h = inl (record { broken = b; at = at; is = h })
 
-pub not_cut : (text : List ℕ) (b : Broken) (at : ℕ) → IsFirstFault language.Scl 0 text b at → NoneIn language.Scl text
+pub not_cut : (text : List ℕ) (b : FaultKind) (at : ℕ) → IsFirstFault language.Scl 0 text b at → NoneIn language.Scl text
 not_cut text b at h = inl (record { broken = b; at = at; is = inl (inl h) })
 
 pub read : {E : Type 0} (text : List ℕ) (r : Result (Option Sources) E) →
@@ -134,7 +134,7 @@ read text (Ok None) h = inr h
 read text (Ok (Some s)) h = h
 
 -- each of these has an origin
-pub not_missing : (spots : List Spot) (nodes : List NodeOrigin) (k : ℕ) (d : NodeOrigin) (r : Option Origin) →
+pub not_missing : (spots : List StatementPlace) (nodes : List NodeOrigin) (k : ℕ) (d : NodeOrigin) (r : Option Origin) →
     ((k : ℕ) (n : NodeOrigin) → slice_get nodes k ≡ Some n → IsSome (point_origin spots n)) → k < length nodes →
     r ≡ point_origin spots (slice_index_or nodes k d) → r ≡ None → ⊥
 not_missing spots nodes k d r all less is none =

@@ -14,7 +14,7 @@ use Rattle.scl_drafts.specs.declared.statement.TextStatement.TheVariants as writ
 use Rattle.scl_drafts.specs.declared.statement.TextStatement.TheFolds.{fold-roll-TextStatement}
 use Rattle.graph_origins.specs.Points.{Point, Assigns, Marks, Jumps, Pauses, Tests, Forks, points, points_of}
 use Rattle.graph_origins.specs.Points.{in_branches as point_branches, in_row as point_row}
-use Rattle.node_sources.specs.declared.statements.Spot.{Spot}
+use Rattle.node_sources.specs.declared.statements.StatementPlace.{StatementPlace}
 use Rattle.node_sources.specs.SclOrigins.{branch_spots, in_branches, in_row, one_place, spots, spots_in}
 
 -- ---- points
@@ -42,24 +42,24 @@ fork_points branches = ap points_of (sym (rolls-Fork branches)) ∙ fold-roll-St
 
 pub assign_spots : (target : Named) (value : TextExpression) → spots_in (written.Assign target value) ≡ one_place target.at ∷ []
 assign_spots target value =
-    ap spots_in (sym (written.rolls-Assign target value)) ∙ fold-roll-TextStatement (List Spot) spots (text.Assign target value)
+    ap spots_in (sym (written.rolls-Assign target value)) ∙ fold-roll-TextStatement (List StatementPlace) spots (text.Assign target value)
 
 pub label_spots : (label : Named) → spots_in (written.Label label) ≡ one_place label.at ∷ []
-label_spots label = ap spots_in (sym (written.rolls-Label label)) ∙ fold-roll-TextStatement (List Spot) spots (text.Label label)
+label_spots label = ap spots_in (sym (written.rolls-Label label)) ∙ fold-roll-TextStatement (List StatementPlace) spots (text.Label label)
 
 pub goto_spots : (label : Named) → spots_in (written.Goto label) ≡ one_place label.at ∷ []
-goto_spots label = ap spots_in (sym (written.rolls-Goto label)) ∙ fold-roll-TextStatement (List Spot) spots (text.Goto label)
+goto_spots label = ap spots_in (sym (written.rolls-Goto label)) ∙ fold-roll-TextStatement (List StatementPlace) spots (text.Goto label)
 
 pub pause_spots : (at : ℕ) → spots_in (written.Pause at) ≡ one_place at ∷ []
-pause_spots at = ap spots_in (sym (written.rolls-Pause at)) ∙ fold-roll-TextStatement (List Spot) spots (text.Pause at)
+pause_spots at = ap spots_in (sym (written.rolls-Pause at)) ∙ fold-roll-TextStatement (List StatementPlace) spots (text.Pause at)
 
 pub if_spots : (at : ℕ) (test : TextExpression) (a b : List TextStatement) →
     spots_in (written.If at test a b) ≡ one_place at ∷ in_row (map spots_in a) ++ in_row (map spots_in b)
 if_spots at test a b =
-    ap spots_in (sym (written.rolls-If at test a b)) ∙ fold-roll-TextStatement (List Spot) spots (text.If at test a b)
+    ap spots_in (sym (written.rolls-If at test a b)) ∙ fold-roll-TextStatement (List StatementPlace) spots (text.If at test a b)
 
 pub fork_spots : (b : ℕ × List TextStatement) (branches : List (ℕ × List TextStatement)) (join : ℕ) →
     spots_in (written.Fork (b ∷ branches) join) ≡ record { first = b.0; second = join } ∷ in_branches (branch_spots (b ∷ branches))
 fork_spots b branches join =
     ap spots_in (sym (written.rolls-Fork (b ∷ branches) join))
-    ∙ fold-roll-TextStatement (List Spot) spots (text.Fork (b ∷ branches) join)
+    ∙ fold-roll-TextStatement (List StatementPlace) spots (text.Fork (b ∷ branches) join)

@@ -13,7 +13,7 @@ use Rattle.scl_drafts.specs.Statements.{AfterName, Becomes, IsLabel, Statements,
 use Rattle.scl_reader.specs.Resolved.{branches_of, statement_of, statements_of}
 use Rattle.scl_reader.proofs.Looking.{of_assign, of_fork, of_goto, of_if, of_label, of_pause}
 use Rattle.graph_origins.specs.Points.{Point, Assigns, Marks, Jumps, Pauses, Tests, Forks, Ends, in_branches as point_branches, in_row as point_row, points_of}
-use Rattle.node_sources.specs.declared.statements.Spot.{Spot}
+use Rattle.node_sources.specs.declared.statements.StatementPlace.{StatementPlace}
 use Rattle.node_sources.specs.SclLaws.{NameStands, OpeningStands, PointStands, WordStands}
 use Rattle.node_sources.specs.SclOrigins.{branch_spots, in_branches, in_row, one_place, spots_in}
 use Rattle.node_sources.proofs.StatementPoints.{assign_points, assign_spots, fork_points, fork_spots, goto_points, goto_spots}
@@ -26,29 +26,29 @@ module _ (text : List ℕ) (names : List (List ℕ)) where
   SecondOf Forks at = WordStands text word.Join at
   SecondOf other at = Unit {0}
 
-  abbrev pub SpotStands : Spot → Point → Type 0
+  abbrev pub SpotStands : StatementPlace → Point → Type 0
   SpotStands s p = PointStands text names p s.first × SecondOf p s.second
 
   -- as many spots as points, and each spot at the tokens of its point
-  abbrev pub Stand : List Spot → List Point → Type 0
+  abbrev pub Stand : List StatementPlace → List Point → Type 0
   Stand [] [] = Unit {0}
   Stand (s ∷ spots) (p ∷ points) = SpotStands s p × Stand spots points
   Stand spots points = ⊥
 
-  pub stand_both : (spots more : List Spot) (points others : List Point) → Stand spots points → Stand more others →
+  pub stand_both : (spots more : List StatementPlace) (points others : List Point) → Stand spots points → Stand more others →
       Stand (spots ++ more) (points ++ others)
   stand_both [] more [] others h k = k
   stand_both [] more (p ∷ points) others h k = absurd h
   stand_both (s ∷ spots) more [] others h k = absurd h
   stand_both (s ∷ spots) more (p ∷ points) others h k = (h.0, stand_both spots more points others h.1 k)
 
-  pub as_many : (spots : List Spot) (points : List Point) → Stand spots points → length spots ≡ length points
+  pub as_many : (spots : List StatementPlace) (points : List Point) → Stand spots points → length spots ≡ length points
   as_many [] [] h = refl
   as_many [] (p ∷ points) h = absurd h
   as_many (s ∷ spots) [] h = absurd h
   as_many (s ∷ spots) (p ∷ points) h = ap suc (as_many spots points h.1)
 
-  pub stand_at : (spots : List Spot) (points : List Point) → Stand spots points → (n : ℕ) (s : Spot) (p : Point) → slice_get spots n ≡ Some s →
+  pub stand_at : (spots : List StatementPlace) (points : List Point) → Stand spots points → (n : ℕ) (s : StatementPlace) (p : Point) → slice_get spots n ≡ Some s →
       slice_get points n ≡ Some p → SpotStands s p
   stand_at [] points h n s p i j = absurd cc
   stand_at (t ∷ spots) [] h n s p i j = absurd h
@@ -67,7 +67,7 @@ module _ (text : List ℕ) (names : List (List ℕ)) where
   abbrev pub IsBranchPut : ℕ × Statements → Type 0
   IsBranchPut b = OpeningStands text b.0 × Every IsPut b.1
 
-  put_as : (s : TextStatement) (spots : List Spot) (points : List Point) → spots_in s ≡ spots → points_of (statement_of names s) ≡ points →
+  put_as : (s : TextStatement) (spots : List StatementPlace) (points : List Point) → spots_in s ≡ spots → points_of (statement_of names s) ≡ points →
       Stand spots points → IsPut s
   put_as s spots points e f h =
       subst (λ x. Stand x (points_of (statement_of names s))) (sym e) (subst (Stand spots) (sym f) h)

@@ -13,20 +13,20 @@ use Rattle.graph_origins.specs.declared.origin.NodeOrigin.TheVariants as node
 use Rattle.graph_origins.specs.Origins.{node_origins}
 use Rattle.node_sources.specs.declared.origin.Origin.{Origin}
 use Rattle.node_sources.specs.declared.origin.Part.TheVariants as part
-use Rattle.node_sources.specs.declared.statements.Spot.{Spot}
+use Rattle.node_sources.specs.declared.statements.StatementPlace.{StatementPlace}
 
 -- ---- statements
 
 -- a statement, or the end of a thread, both of whose nodes come from one place
-abbrev pub one_place : ℕ → Spot
+abbrev pub one_place : ℕ → StatementPlace
 one_place at = record { first = at; second = at }
 
-abbrev pub in_row : List (List Spot) → List Spot
+abbrev pub in_row : List (List StatementPlace) → List StatementPlace
 in_row [] = []
 in_row (s ∷ rows) = s ++ in_row rows
 
 -- the branches of a fork, each with the end of its thread
-abbrev pub in_branches : List (ℕ × List (List Spot)) → List Spot
+abbrev pub in_branches : List (ℕ × List (List StatementPlace)) → List StatementPlace
 in_branches [] = []
 in_branches (b ∷ branches) = in_row b.1 ++ one_place b.0 ∷ in_branches branches
 
@@ -35,7 +35,7 @@ abbrev pub opening : {A : Type 0} → List (ℕ × A) → ℕ
 opening [] = 0
 opening (b ∷ branches) = b.0
 
-abbrev pub spots : TextStatement-F (List Spot) → List Spot
+abbrev pub spots : TextStatement-F (List StatementPlace) → List StatementPlace
 spots (text.Assign target value) = one_place target.at ∷ []
 spots (text.Label label) = one_place label.at ∷ []
 spots (text.Goto label) = one_place label.at ∷ []
@@ -44,14 +44,14 @@ spots (text.If at test first second) = one_place at ∷ in_row first ++ in_row s
 spots (text.Fork branches join) = record { first = opening branches; second = join } ∷ in_branches branches
 
 -- the spots of the points of a statement
-abbrev pub spots_in : TextStatement → List Spot
-spots_in = fold-TextStatement (List Spot) spots
+abbrev pub spots_in : TextStatement → List StatementPlace
+spots_in = fold-TextStatement (List StatementPlace) spots
 
-abbrev pub branch_spots : List (ℕ × List TextStatement) → List (ℕ × List (List Spot))
+abbrev pub branch_spots : List (ℕ × List TextStatement) → List (ℕ × List (List StatementPlace))
 branch_spots branches = map (λ b. (b.0, map spots_in b.1)) branches
 
 -- the spots of all points of a text: its statements, and the end of the first thread, which the first token opens
-abbrev pub spots_of : List Token → List TextStatement → List Spot
+abbrev pub spots_of : List Token → List TextStatement → List StatementPlace
 spots_of tokens statements = in_row (map spots_in statements) ++ one_place (place_of 0 tokens) ∷ []
 
 -- ---- nodes
@@ -59,15 +59,15 @@ spots_of tokens statements = in_row (map spots_in statements) ++ one_place (plac
 abbrev pub statement_at : ℕ → Origin
 statement_at at = record { at = at; part = part.Statement; region = None; state = None }
 
-abbrev pub at_first : Option Spot → Option Origin
+abbrev pub at_first : Option StatementPlace → Option Origin
 at_first (Some s) = Some (statement_at s.first)
 at_first None = None
 
-abbrev pub at_second : Option Spot → Option Origin
+abbrev pub at_second : Option StatementPlace → Option Origin
 at_second (Some s) = Some (statement_at s.second)
 at_second None = None
 
-abbrev pub point_origin : List Spot → NodeOrigin → Option Origin
+abbrev pub point_origin : List StatementPlace → NodeOrigin → Option Origin
 point_origin spots (node.First n) = at_first (slice_get spots n)
 point_origin spots (node.Second n) = at_second (slice_get spots n)
 

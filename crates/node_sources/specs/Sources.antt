@@ -3,7 +3,7 @@ use Rattle.std.specs.Prelude.{ℕ, ◌≡◌, ◌⊎◌, Some, List, map}
 use Rattle.sc_graph.specs.Program.{Program}
 use Rattle.sc_text.specs.declared.language.Language.{Language}
 use Rattle.sc_text.specs.declared.language.Language.TheVariants as language
-use Rattle.sc_text.specs.declared.read_fault.Broken.{Broken}
+use Rattle.sc_text.specs.declared.read_fault.FaultKind.{FaultKind}
 use Rattle.sc_text.specs.declared.read_fault.ReadFault.{ReadFault}
 use Rattle.sc_text.specs.declared.read_fault.ReadFault.TheVariants as fault
 use Rattle.sc_text.specs.declared.token.Token.{Token}
@@ -63,7 +63,7 @@ pub record AreSources (text : List ℕ) (p : Program) (origins : List Origin) : 
 
 -- it has a fault
 pub record IsFaulty (IsFault : ReadFault → Type 0) : Type 0 where
-  pub broken : Broken
+  pub broken : FaultKind
   pub at : ℕ
   pub is : IsFault (fault.Text broken at)
 

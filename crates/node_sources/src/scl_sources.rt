@@ -12,7 +12,7 @@ ghost use Rattle.node_sources.specs.Sources.{NoneIn, SclHasNone, SclSources};
 use crate::graphs::graph;
 use crate::origin::Origin;
 use crate::sources::Sources;
-use crate::statements::{Spot, spots_of};
+use crate::statements::{StatementPlace, spots_of};
 use graph_origins::{NodeOrigin, node_origins, origins_tell_nodes};
 use sc_text::{Language, ReadFault, Token, tokens};
 use scl::Scl;
@@ -22,7 +22,7 @@ use sqlite_items::{Items, at};
 use std::alloc::{AllocError, Global};
 
 /// The origin of the first node of the point of this number, where the points stand there.
-pub(crate) fn first_origin(spots: &[Spot], number: usize) -> Option<Origin>
+pub(crate) fn first_origin(spots: &[StatementPlace], number: usize) -> Option<Origin>
     ensures { result ≡ at_first (slice_get spots.now number) }
 {
     match at(spots, number) {
@@ -32,7 +32,7 @@ pub(crate) fn first_origin(spots: &[Spot], number: usize) -> Option<Origin>
 }
 
 // The origin of a node that comes from a point, where the points stand there.
-fn point_origin(spots: &[Spot], node: NodeOrigin) -> Option<Origin>
+fn point_origin(spots: &[StatementPlace], node: NodeOrigin) -> Option<Origin>
     ensures { result ≡ point_origin spots.now node }
 {
     match node {
@@ -47,7 +47,7 @@ fn point_origin(spots: &[Spot], node: NodeOrigin) -> Option<Origin>
 // The origins of nodes, each of which comes from a point that is there.
 fn origins_at(
     alloc: Global,
-    spots: &[Spot],
+    spots: &[StatementPlace],
     nodes: &[NodeOrigin],
 ) -> Result<Items<Origin>, AllocError>
     requires { (k : ℕ) (n : NodeOrigin) → slice_get nodes.now k ≡ Some n → IsSome (point_origin spots.now n) }

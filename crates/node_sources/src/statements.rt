@@ -12,16 +12,16 @@ use std::alloc::{AllocError, Global};
 /// Where a statement, or the end of a thread, stands: the place of its only node or of its first one, and that of its
 /// second one.
 #[derive(Clone, Copy, Debug)]
-pub struct Spot {
+pub struct StatementPlace {
     pub first: usize,
     pub second: usize,
 }
 
 // Puts a spot at one place behind others.
-fn put_place(spots: &mut Items<Spot>, place: usize) -> Result<(), AllocError>
+fn put_place(spots: &mut Items<StatementPlace>, place: usize) -> Result<(), AllocError>
     ensures { OnOk result (spots.new ≡ spots.old ++ one_place place ∷ []) }
 {
-    spots.push(Spot {
+    spots.push(StatementPlace {
         first: place,
         second: place,
     })
@@ -29,7 +29,10 @@ fn put_place(spots: &mut Items<Spot>, place: usize) -> Result<(), AllocError>
 
 // Puts the spots of statements behind others.
 #[cycle(spots)]
-fn put_row(statements: &[TextStatement], spots: &mut Items<Spot>) -> Result<(), AllocError>
+fn put_row(
+    statements: &[TextStatement],
+    spots: &mut Items<StatementPlace>,
+) -> Result<(), AllocError>
     ensures { OnOk result (spots.new ≡ spots.old ++ in_row (map spots_in statements.now)) }
 {
     for statement in statements {
@@ -40,7 +43,10 @@ fn put_row(statements: &[TextStatement], spots: &mut Items<Spot>) -> Result<(), 
 
 #[cycle(spots)]
 #[tactic(auto, using(crate::proofs::Branches::opening_of_spots))]
-fn put_statement(statement: &TextStatement, spots: &mut Items<Spot>) -> Result<(), AllocError>
+fn put_statement(
+    statement: &TextStatement,
+    spots: &mut Items<StatementPlace>,
+) -> Result<(), AllocError>
     ensures { OnOk result (spots.new ≡ spots.old ++ spots_in statement.now) }
 {
     match statement {
@@ -59,7 +65,7 @@ fn put_statement(statement: &TextStatement, spots: &mut Items<Spot>) -> Result<(
             put_row(second.as_slice(), spots)
         }
         TextStatement::Fork { branches, join } => {
-            spots.push(Spot {
+            spots.push(StatementPlace {
                 first: opening(branches.as_slice()),
                 second: *join,
             })?;
@@ -88,7 +94,7 @@ pub(crate) fn spots_of(
     alloc: Global,
     tokens: &[Token],
     statements: &[TextStatement],
-) -> Result<Items<Spot>, AllocError>
+) -> Result<Items<StatementPlace>, AllocError>
     ensures { IfOk result (λ spots. spots ≡ spots_of tokens.now statements.now) }
 {
     let mut spots = Items::new(alloc);

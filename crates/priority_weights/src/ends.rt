@@ -5,7 +5,7 @@ ghost use Rattle.least_or_cycle.specs.Least.{IsLeast};
 ghost use Rattle.sc_graph.specs.Program.{entry_of};
 ghost use Rattle.priority_weights.specs.Inside.Entries.{BitKept, bits, entry_bit, entry_bits, step_bit};
 
-use least_or_cycle::{Rule, least};
+use least_or_cycle::{NumberRule, least};
 use sc_graph::{NodeId, Program, Step, ThreadId};
 use std::alloc::{AllocError, Global};
 
@@ -30,7 +30,7 @@ struct BitRule<'a> {
     program: &'a Program,
 }
 
-impl<'a> Rule for BitRule<'a> {
+impl<'a> NumberRule for BitRule<'a> {
     ghost keeps = { λ rule q n. BitKept rule.program.now q n };
 
     fn need(&self, table: &[u32], place: u16) -> u64 {

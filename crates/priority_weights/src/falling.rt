@@ -5,7 +5,7 @@ ghost use Rattle.least_or_cycle.specs.Least.{IsLeast, IsWithin};
 ghost use Rattle.least_or_cycle.specs.Walks.{Falls, IsCycle};
 ghost use Rattle.priority_weights.specs.Inside.Falling.{IsFalling};
 
-use least_or_cycle::{Graph, Rule, cycle, cycle_along, least};
+use least_or_cycle::{Graph, NumberRule, cycle, cycle_along, least};
 use sc_graph::NodeId;
 use std::alloc::{AllocError, Global};
 
@@ -29,13 +29,13 @@ pub(crate) struct Hints<'a> {
 /// The least table, of as many numbers as there are nodes, that falls along the edges of a graph; or a cycle
 /// along them. The suspects are asked first: where they lie on a cycle, numbers would rise to the top before
 /// they told so. Err: memory was refused.
-pub(crate) fn table_or_cycle<G: Graph + Rule>(
+pub(crate) fn table_or_cycle<G: Graph + NumberRule>(
     alloc: Global,
     graph: &G,
     count: u16,
     hints: Hints,
 ) -> Result<Falling, AllocError>
-    requires { (q : ℕ → ℕ) (m : ℕ) → G.Rule.keeps graph.now q m ↔ Falls (G.Graph.leads graph.now) q m }
+    requires { (q : ℕ → ℕ) (m : ℕ) → G.NumberRule.keeps graph.now q m ↔ Falls (G.Graph.leads graph.now) q m }
     ensures { IfOk result (IsFalling (G.Graph.leads graph.now) count) }
 {
     match cycle_along(alloc, graph, count, hints.suspects, hints.order)? {

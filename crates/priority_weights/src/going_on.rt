@@ -13,7 +13,7 @@ ghost use Rattle.priority_weights.specs.Inside.Next.{GoesOnBy, LeadsOn, join_at_
 use crate::ends::entry_bits;
 use crate::falling::{Falling, Hints, table_or_cycle};
 use crate::next::{asked_by_next, ranked_next};
-use least_or_cycle::{Graph, Rule};
+use least_or_cycle::{Graph, NumberRule};
 use program_edges::{NextNodes, successors};
 use sc_graph::{NodeId, Program, Step};
 use std::alloc::{AllocError, Global};
@@ -93,7 +93,7 @@ impl<'a> GoingOn<'a> {
     }
 }
 
-impl<'a> Rule for GoingOn<'a> {
+impl<'a> NumberRule for GoingOn<'a> {
     ghost keeps = { λ on. Falls (LeadsOn on.program.now (slice_index on.ends.now)) };
 
     fn need(&self, table: &[u32], place: u16) -> u64 {

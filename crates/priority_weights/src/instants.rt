@@ -8,7 +8,7 @@ ghost use Rattle.sc_graph.specs.Valid.{IsFormed};
 ghost use Rattle.priority_weights.specs.Inside.Next.{IsAsked, IsRanked};
 
 use crate::next::{asked_by, asked_by_next, is_ranked};
-use program_edges::{Wanted, children_of, find_instant, next_nodes};
+use program_edges::{Sought, children_of, find_instant, next_nodes};
 use sc_graph::{Links, NodeId, Program, ThreadId};
 
 /// What the instantaneous edges from a node ask for.
@@ -64,7 +64,7 @@ struct Ranked<'a> {
     below: u64,
 }
 
-impl<'a> Wanted for Ranked<'a> {
+impl<'a> Sought for Ranked<'a> {
     ghost wants = { λ r. IsRanked r.ranks.now r.below };
 
     fn is_wanted(&self, node: NodeId) -> bool {

@@ -12,7 +12,7 @@ use crate::instants::{asked_by_instants, ranked_instant};
 use crate::kept::{instants_kept, protocol_kept};
 use crate::protocol::{asked_by_one, asked_by_protocol, ranked_behind};
 use conflict_edges::Edges;
-use least_or_cycle::{Graph, Rule};
+use least_or_cycle::{Graph, NumberRule};
 use sc_graph::{Links, NodeId, Program};
 use std::alloc::{AllocError, Global};
 use std::marker::Model;
@@ -62,7 +62,7 @@ impl<'a> Model for Order<'a> {
     ghost invariant = { λ o. IsOrdered o.program.now o.links o.edges.now };
 }
 
-impl<'a> Rule for Order<'a> {
+impl<'a> NumberRule for Order<'a> {
     ghost keeps = { λ p. Falls (InOrder p) };
 
     fn need(&self, table: &[u32], place: u16) -> u64 {

@@ -13,7 +13,7 @@ ghost use Rattle.priority_weights.specs.Inside.Next.{LeadsOn};
 
 use crate::ends::entry_bits;
 use crate::next::entry;
-use least_or_cycle::{Rule, least};
+use least_or_cycle::{NumberRule, least};
 use sc_graph::{NodeId, Program, Step, ThreadId};
 use std::alloc::{AllocError, Global};
 use std::marker::Model;
@@ -60,7 +60,7 @@ impl<'a> Model for WeightRule<'a> {
     ghost invariant = { λ r. IsFormed r.program.now };
 }
 
-impl<'a> Rule for WeightRule<'a> {
+impl<'a> NumberRule for WeightRule<'a> {
     ghost keeps = { λ r. WeightKept r.0 (bits (slice_index r.1)) };
 
     fn need(&self, table: &[u32], place: u16) -> u64 {

@@ -1,14 +1,14 @@
 //! Which outputs a tick ends with.
 use crate::shows::{are, end_with, expect};
 use bytecode::Image;
-use samples::{Declared, Small, X, Y, ends, image_of, thread_of};
+use samples::{NamedVariable, Small, X, Y, ends, image_of, thread_of};
 use sc_graph::Role;
 use sc_values::Kind;
 use std::alloc::Global;
 use std::test::Fail;
 use verifier::{Verified, verify};
 
-const DECLARED: [Declared; 4] = [
+const DECLARED: [NamedVariable; 4] = [
     Y,
     (b'a', Kind::Int, Role::Local),
     X,

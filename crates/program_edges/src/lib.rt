@@ -17,5 +17,5 @@ pub use concurrency::are_concurrent;
 pub use conflicts::find_conflict;
 pub use next::{NextNodes, children_of, next_nodes, successors};
 pub use node_lists::NodeLists;
-pub use search::{Wanted, find_instant};
+pub use search::{Sought, find_instant};
 pub use users::{Use, Users};

@@ -10,7 +10,7 @@ use crate::next::{NextNodes, children_of, next_nodes};
 use sc_graph::{Links, NodeId, Program, ThreadId};
 
 /// Which nodes are looked for.
-pub trait Wanted {
+pub trait Sought {
     ghost wants: { Self → ℕ → Type 0 };
 
     /// Whether it is such a node.
@@ -19,7 +19,7 @@ pub trait Wanted {
 }
 
 /// A node that is wanted, to which an instantaneous edge leads from a node. None: there is none.
-pub fn find_instant<W: Wanted>(
+pub fn find_instant<W: Sought>(
     program: &Program,
     links: &Links,
     node: NodeId,
@@ -40,7 +40,7 @@ pub fn find_instant<W: Wanted>(
 }
 
 // One of these nodes that is wanted.
-fn find_next<W: Wanted>(nodes: NextNodes, wanted: &W) -> Option<NodeId>
+fn find_next<W: Sought>(nodes: NextNodes, wanted: &W) -> Option<NodeId>
     ensures { MatchOption result ((n : ℕ) → IsNext nodes n → ¬ W.wants wanted.now n)
         (λ n. IsNext nodes n × W.wants wanted.now n) }
 {
@@ -51,7 +51,7 @@ fn find_next<W: Wanted>(nodes: NextNodes, wanted: &W) -> Option<NodeId>
 }
 
 // A node where one of these threads begins, that is wanted.
-fn find_entry<W: Wanted>(program: &Program, children: &[ThreadId], wanted: &W) -> Option<NodeId>
+fn find_entry<W: Sought>(program: &Program, children: &[ThreadId], wanted: &W) -> Option<NodeId>
     ensures { MatchOption result ((n : ℕ) → IsEntry program.now children.now n → ¬ W.wants wanted.now n)
         (λ n. IsEntry program.now children.now n × W.wants wanted.now n) }
 {
@@ -64,7 +64,7 @@ fn find_entry<W: Wanted>(program: &Program, children: &[ThreadId], wanted: &W) -
 }
 
 // The node, if there is one and it is wanted.
-fn the_wanted<W: Wanted>(node: Option<NodeId>, wanted: &W) -> Option<NodeId>
+fn the_wanted<W: Sought>(node: Option<NodeId>, wanted: &W) -> Option<NodeId>
     ensures { MatchOption result ((n : ℕ) → node ≡ Some n → ¬ W.wants wanted.now n)
         (λ n. (node ≡ Some n) × W.wants wanted.now n) }
 {

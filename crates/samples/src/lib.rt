@@ -10,7 +10,8 @@ mod spelled;
 pub use large::{assignments, branches, inits, thousand_threads};
 pub use making::{image_of, image_over, variables};
 pub use rows::{
-    Branch, Declared, Gives, INPUT, Row, Small, TRUTH, Word, X, Y, ends, stays, thread_of,
+    Branch, CodeWord, Gives, INPUT, NamedVariable, NodeRow, Small, TRUTH, X, Y, ends, stays,
+    thread_of,
 };
 pub use small::{
     counter, init_and_update, init_update_read, inits_by_a_negated_literal, inits_by_one_literal,

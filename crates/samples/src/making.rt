@@ -1,6 +1,6 @@
 //! Images, made of rows.
 
-use crate::rows::{Branch, Declared, Gives, Row, Small, Word};
+use crate::rows::{Branch, CodeWord, Gives, NamedVariable, NodeRow, Small};
 use bytecode::Image;
 use sc_graph::{Node, Program, Step, Tables, Thread, ThreadId, Variable, VariableId};
 use sc_values::{BinaryOperator, Code, Name, Operation, UnaryOperator, Value};
@@ -48,17 +48,17 @@ fn with_operands(operations: &[Operation; 33], count: usize) -> Result<Code, Fai
     Ok(Code::from_operations(used).ok_or("a code")?)
 }
 
-fn operation(word: Word) -> Operation {
+fn operation(word: CodeWord) -> Operation {
     match word {
-        Word::Literal(value) => Operation::Literal(value),
-        Word::Load(x) => Operation::Load(x),
-        Word::Negate => Operation::Unary(UnaryOperator::Negate),
-        Word::Not => Operation::Unary(UnaryOperator::Not),
-        Word::Binary(f) => Operation::Binary(f),
+        CodeWord::Literal(value) => Operation::Literal(value),
+        CodeWord::Load(x) => Operation::Load(x),
+        CodeWord::Negate => Operation::Unary(UnaryOperator::Negate),
+        CodeWord::Not => Operation::Unary(UnaryOperator::Not),
+        CodeWord::Binary(f) => Operation::Binary(f),
     }
 }
 
-fn spelt(words: &[Option<Word>; 3]) -> Result<Code, Fail> {
+fn spelt(words: &[Option<CodeWord>; 3]) -> Result<Code, Fail> {
     let mut used = [Operation::Load(0); 3];
     let mut count = 0;
     for word in words {
@@ -115,7 +115,7 @@ fn step(alloc: Global, small: Small) -> Result<Step, Fail> {
 }
 
 /// The variables of these letters.
-pub fn variables(alloc: Global, declared: &[Declared]) -> Result<Items<Variable>, Fail> {
+pub fn variables(alloc: Global, declared: &[NamedVariable]) -> Result<Items<Variable>, Fail> {
     let mut variables = Items::new(alloc);
     for (letter, kind, role) in declared {
         variables.push(Variable {
@@ -131,7 +131,7 @@ fn program(
     alloc: Global,
     variables: Items<Variable>,
     branches: &[Branch],
-    rows: &[Row],
+    rows: &[NodeRow],
 ) -> Result<Program, Fail> {
     let mut threads = Items::new(alloc);
     for branch in branches {
@@ -150,7 +150,12 @@ fn program(
     Ok(Program::of(variables, threads, nodes)?)
 }
 
-fn tables(alloc: Global, branches: &[Branch], rows: &[Row], budget: u32) -> Result<Tables, Fail> {
+fn tables(
+    alloc: Global,
+    branches: &[Branch],
+    rows: &[NodeRow],
+    budget: u32,
+) -> Result<Tables, Fail> {
     let mut tables = Tables {
         priorities: Items::new(alloc),
         weights: Items::new(alloc),
@@ -174,7 +179,7 @@ pub fn image_over(
     alloc: Global,
     variables: Items<Variable>,
     branches: &[Branch],
-    rows: &[Row],
+    rows: &[NodeRow],
     budget: u32,
 ) -> Result<Image, Fail> {
     let program = program(alloc, variables, branches, rows)?;
@@ -185,9 +190,9 @@ pub fn image_over(
 /// The same, over variables with names of one letter.
 pub fn image_of(
     alloc: Global,
-    declared: &[Declared],
+    declared: &[NamedVariable],
     branches: &[Branch],
-    rows: &[Row],
+    rows: &[NodeRow],
     budget: u32,
 ) -> Result<Image, Fail> {
     image_over(alloc, variables(alloc, declared)?, branches, rows, budget)

@@ -5,7 +5,7 @@ use sc_values::{BinaryOperator, Combination, Kind, Value};
 
 /// An operation of a code, none a division.
 #[derive(Clone, Copy)]
-pub enum Word {
+pub enum CodeWord {
     Literal(Value),
     Load(VariableId),
     Negate,
@@ -23,7 +23,7 @@ pub enum Gives {
     Sum(usize),
     /// The sum of so many loads of a variable, with two operands at most.
     Loads(VariableId, usize),
-    Spells([Option<Word>; 3]),
+    Spells([Option<CodeWord>; 3]),
 }
 
 /// A step of a small program.
@@ -43,7 +43,7 @@ pub enum Small {
 
 /// A node with its entries in the tables.
 #[derive(Clone, Copy)]
-pub struct Row {
+pub struct NodeRow {
     pub owner: ThreadId,
     pub priority: u16,
     pub weight: u16,
@@ -60,23 +60,23 @@ pub struct Branch {
 }
 
 /// A variable with a name of one letter.
-pub type Declared = (u8, Kind, Role);
+pub type NamedVariable = (u8, Kind, Role);
 
 /// An integer that is an output.
-pub const X: Declared = (b'x', Kind::Int, Role::Output);
+pub const X: NamedVariable = (b'x', Kind::Int, Role::Output);
 
 /// Another one.
-pub const Y: Declared = (b'y', Kind::Int, Role::Output);
+pub const Y: NamedVariable = (b'y', Kind::Int, Role::Output);
 
 /// An integer that is an input.
-pub const INPUT: Declared = (b'a', Kind::Int, Role::Input);
+pub const INPUT: NamedVariable = (b'a', Kind::Int, Role::Input);
 
 /// A truth value that is neither.
-pub const TRUTH: Declared = (b'b', Kind::Bool, Role::Local);
+pub const TRUTH: NamedVariable = (b'b', Kind::Bool, Role::Local);
 
 /// A node from which its thread may end in this tick.
-pub fn ends(owner: ThreadId, priority: u16, weight: u16, step: Small) -> Row {
-    Row {
+pub fn ends(owner: ThreadId, priority: u16, weight: u16, step: Small) -> NodeRow {
+    NodeRow {
         owner,
         priority,
         weight,
@@ -86,8 +86,8 @@ pub fn ends(owner: ThreadId, priority: u16, weight: u16, step: Small) -> Row {
 }
 
 /// A node from which its thread does not end in this tick.
-pub fn stays(owner: ThreadId, priority: u16, weight: u16, step: Small) -> Row {
-    Row {
+pub fn stays(owner: ThreadId, priority: u16, weight: u16, step: Small) -> NodeRow {
+    NodeRow {
         owner,
         priority,
         weight,

@@ -1,7 +1,7 @@
 //! Images of small programs.
 
 use crate::making::image_of;
-use crate::rows::{Declared, Gives, Small, TRUTH, Word, X, Y, ends, stays, thread_of};
+use crate::rows::{CodeWord, Gives, NamedVariable, Small, TRUTH, X, Y, ends, stays, thread_of};
 use bytecode::Image;
 use sc_graph::{NodeId, Role, VariableId};
 use sc_values::{Combination, Kind, Value};
@@ -42,7 +42,7 @@ fn of_two(alloc: Global, priority: u16, first: Small, second: Small) -> Result<I
 // The same over other variables.
 fn of_two_over(
     alloc: Global,
-    declared: &[Declared],
+    declared: &[NamedVariable],
     priority: u16,
     first: Small,
     second: Small,
@@ -101,7 +101,11 @@ pub fn inits_by_two_literals(alloc: Global) -> Result<Image, Fail> {
 
 /// `fork { x = -1; } par { x = -1; } join;`, which is not valid: each is a literal with a negation
 pub fn inits_by_a_negated_literal(alloc: Global) -> Result<Image, Fail> {
-    let negated = Gives::Spells([Some(Word::Literal(Value::Int(1))), Some(Word::Negate), None]);
+    let negated = Gives::Spells([
+        Some(CodeWord::Literal(Value::Int(1))),
+        Some(CodeWord::Negate),
+        None,
+    ]);
     of_two(
         alloc,
         0,

@@ -11,7 +11,7 @@ use Rattle.sc_text.specs.declared.word.Word.{Word}
 use Rattle.sc_text.specs.declared.sign.Sign.{Sign}
 use Rattle.sc_text.specs.declared.piece.Piece.TheVariants as piece
 use Rattle.sc_text.specs.declared.token.TokenKind.TheVariants as kind
-use Rattle.sc_text.specs.declared.read_fault.Broken.TheVariants as broken
+use Rattle.sc_text.specs.declared.read_fault.FaultKind.TheVariants as broken
 use Rattle.sc_text.specs.declared.language.Language.{Language}
 use Rattle.sc_text.specs.Words.{word_text}
 use Rattle.sc_text.specs.Pieces.{is_word_byte}

@@ -4,8 +4,8 @@ use Rattle.std.specs.Prelude.{Option, Some, None}
 use Rattle.sc_text.specs.declared.token.Token.{Token}
 use Rattle.sc_text.specs.declared.token.TokenKind.{TokenKind}
 use Rattle.sc_text.specs.declared.language.Language.{Language}
-use Rattle.sc_text.specs.declared.read_fault.Broken.{Broken}
-use Rattle.sc_text.specs.declared.read_fault.Broken.TheVariants as broken
+use Rattle.sc_text.specs.declared.read_fault.FaultKind.{FaultKind}
+use Rattle.sc_text.specs.declared.read_fault.FaultKind.TheVariants as broken
 use Rattle.sc_text.specs.Pieces.{IsLongest, BeginsNone}
 use Rattle.sc_text.specs.Tokens.{AreTokens, no_more, passes, token, IsFirstFault, no_piece, refused, behind_passed, behind_token}
 use Rattle.sc_text.proofs.Faces.{no_empty}
@@ -15,7 +15,7 @@ use Rattle.sc_text.proofs.OneMeaning.{goes_on, is_refused, meaning, spelled_mean
 -- what comes of cutting a text
 data Cut : Type 0 where
   whole : List Token → Cut
-  stopped : Broken → ℕ → Cut
+  stopped : FaultKind → ℕ → Cut
 
 abbrev behind : ℕ → Option TokenKind → Cut → Cut
 behind at None c = c
@@ -28,7 +28,7 @@ data Cuts (l : Language) : (at : ℕ) → List ℕ → Cut → Type 0 where
   goes : (at : ℕ) (piece rest : List ℕ) (m : Option TokenKind) (c : Cut) → IsLongest piece rest → meaning l piece ≡ goes_on m
       → Cuts l (at + length piece) rest c → Cuts l at (piece ++ rest) (behind at m c)
   begins_none : (at first : ℕ) (rest : List ℕ) → BeginsNone (first ∷ rest) → Cuts l at (first ∷ rest) (stopped broken.Token at)
-  stops : (at : ℕ) (piece rest : List ℕ) (b : Broken) → IsLongest piece rest → meaning l piece ≡ is_refused b
+  stops : (at : ℕ) (piece rest : List ℕ) (b : FaultKind) → IsLongest piece rest → meaning l piece ≡ is_refused b
       → Cuts l at (piece ++ rest) (stopped b at)
 
 some_piece : (piece rest : List ℕ) → IsLongest piece rest → [] ≡ piece ++ rest → ⊥
@@ -80,7 +80,7 @@ tokens_cut l at text tokens (passes a piece rest more long is cut) =
 tokens_cut l at text tokens (token a piece rest k more long is cut) =
     goes at piece rest (Some k) (whole more) long (spelled_means l piece k long.is_piece is) (tokens_cut l (at + length piece) rest more cut)
 
-fault_cut : (l : Language) (at : ℕ) (text : List ℕ) (b : Broken) (place : ℕ) → IsFirstFault l at text b place → Cuts l at text (stopped b place)
+fault_cut : (l : Language) (at : ℕ) (text : List ℕ) (b : FaultKind) (place : ℕ) → IsFirstFault l at text b place → Cuts l at text (stopped b place)
 fault_cut l at text b place (no_piece a first rest none) = begins_none at first rest none
 fault_cut l at text b place (refused a piece rest x long is) = stops at piece rest b long (refused_means l piece b long.is_piece is)
 fault_cut l at text b place (behind_passed a piece rest x later long is cut) =
@@ -94,13 +94,13 @@ one_list l text tokens others a b =
     one_cut l 0 text text (whole tokens) (whole others) (tokens_cut l 0 text tokens a) (tokens_cut l 0 text others b) refl in
     cc
 
-pub no_fault : (l : Language) (text : List ℕ) (tokens : List Token) (b : Broken) (place : ℕ) → AreTokens l 0 text tokens → ¬ IsFirstFault l 0 text b place
+pub no_fault : (l : Language) (text : List ℕ) (tokens : List Token) (b : FaultKind) (place : ℕ) → AreTokens l 0 text tokens → ¬ IsFirstFault l 0 text b place
 no_fault l text tokens b place a f =
     let same : whole tokens ≡ stopped b place =
     one_cut l 0 text text (whole tokens) (stopped b place) (tokens_cut l 0 text tokens a) (fault_cut l 0 text b place f) refl in
     cc
 
-pub one_fault : (l : Language) (text : List ℕ) (b c : Broken) (at place : ℕ) → IsFirstFault l 0 text b at → IsFirstFault l 0 text c place
+pub one_fault : (l : Language) (text : List ℕ) (b c : FaultKind) (at place : ℕ) → IsFirstFault l 0 text b at → IsFirstFault l 0 text c place
     → (b ≡ c) × (at ≡ place)
 one_fault l text b c at place f g =
     let same : stopped b at ≡ stopped c place =

@@ -16,8 +16,8 @@ use Rattle.sc_text.specs.declared.token.TokenKind.{TokenKind}
 use Rattle.sc_text.specs.declared.token.TokenKind.TheVariants as kind
 use Rattle.sc_text.specs.declared.language.Language.{Language}
 use Rattle.sc_text.specs.declared.language.Language.TheVariants as language
-use Rattle.sc_text.specs.declared.read_fault.Broken.{Broken}
-use Rattle.sc_text.specs.declared.read_fault.Broken.TheVariants as broken
+use Rattle.sc_text.specs.declared.read_fault.FaultKind.{FaultKind}
+use Rattle.sc_text.specs.declared.read_fault.FaultKind.TheVariants as broken
 use Rattle.sc_text.specs.Words.{word_text, sign_text}
 use Rattle.sc_text.specs.Pieces.{IsPiece, is_blank, slash}
 use Rattle.sc_text.specs.Tokens.{allows, has_idle_zero, number_limit, written, IsReserved, Spells, a_sign, a_word, a_name, a_number, IsPassed}
@@ -28,7 +28,7 @@ use Rattle.sc_text.proofs.Faces.{no_empty, no_slashes, signed}
 pub data Meaning : Type 0 where
   -- a token, or nothing where it is passed
   goes_on : Option TokenKind → Meaning
-  is_refused : Broken → Meaning
+  is_refused : FaultKind → Meaning
 
 -- ---- the first of some things that is spelled so
 
@@ -318,7 +318,7 @@ passed_means l piece (a_comment rest is) =
     of_others l slash (slash ∷ rest) refl refl
     ∙ ap by_sign (none_spelled sign_text signs (slash ∷ slash ∷ rest) (λ s e. no_slashes s rest (sym e)))
 
-pub refused_means : (l : Language) (piece : List ℕ) (b : Broken) → IsPiece piece → IsRefused l piece b → meaning l piece ≡ is_refused b
+pub refused_means : (l : Language) (piece : List ℕ) (b : FaultKind) → IsPiece piece → IsRefused l piece b → meaning l piece ≡ is_refused b
 refused_means l piece b p (under_bar first rest i a) =
     of_letters l first rest i
     ∙ ap (λ x. by_letters x (nat_lt name_limit (length (first ∷ rest))) (first ∷ rest) (spelled_so word_text words (first ∷ rest))) a

@@ -5,7 +5,7 @@ use Rattle.std.proofs.Math.Seq.{take-length}
 use Rattle.std.specs.Prelude.{Option, Some, None, MatchOption}
 use Rattle.sc_text.specs.declared.token.Token.{Token}
 use Rattle.sc_text.specs.declared.token.TokenKind.{TokenKind}
-use Rattle.sc_text.specs.declared.read_fault.Broken.{Broken}
+use Rattle.sc_text.specs.declared.read_fault.FaultKind.{FaultKind}
 use Rattle.sc_text.specs.declared.language.Language.{Language}
 use Rattle.sc_text.specs.Tokens as scanned
 use Rattle.sc_text.specs.Tokens.{AreTokens, IsFirstFault, IsPassed, IsRefused, Spells, written_behind}
@@ -26,18 +26,18 @@ module _ (l : Language) (at n : ℕ) (text : List ℕ) (c : Cuts text n) where
       subst (λ t. AreTokens l at t (record { kind = k; at = at } ∷ tokens)) (take-append-drop n text)
       (scanned.token at (take n text) (drop n text) k tokens c.piece s (subst (λ m. AreTokens l m (drop n text) tokens) (sym long) a))
 
-  pub fault_passed : (b : Broken) (place : ℕ) → IsPassed (take n text) → IsFirstFault l (at + n) (drop n text) b place → IsFirstFault l at text b place
+  pub fault_passed : (b : FaultKind) (place : ℕ) → IsPassed (take n text) → IsFirstFault l (at + n) (drop n text) b place → IsFirstFault l at text b place
   fault_passed b place p a =
       subst (λ t. IsFirstFault l at t b place) (take-append-drop n text)
       (scanned.behind_passed at (take n text) (drop n text) b place c.piece p (subst (λ m. IsFirstFault l m (drop n text) b place) (sym long) a))
 
-  pub fault_more : (k : TokenKind) (b : Broken) (place : ℕ) → Spells l (take n text) k → IsFirstFault l (at + n) (drop n text) b place
+  pub fault_more : (k : TokenKind) (b : FaultKind) (place : ℕ) → Spells l (take n text) k → IsFirstFault l (at + n) (drop n text) b place
       → IsFirstFault l at text b place
   fault_more k b place s a =
       subst (λ t. IsFirstFault l at t b place) (take-append-drop n text)
       (scanned.behind_token at (take n text) (drop n text) k b place c.piece s (subst (λ m. IsFirstFault l m (drop n text) b place) (sym long) a))
 
-  pub fault_here : (b : Broken) → IsRefused l (take n text) b → IsFirstFault l at text b at
+  pub fault_here : (b : FaultKind) → IsRefused l (take n text) b → IsFirstFault l at text b at
   fault_here b r =
       subst (λ t. IsFirstFault l at t b at) (take-append-drop n text) (scanned.refused at (take n text) (drop n text) b c.piece r)
 
@@ -49,7 +49,7 @@ written_grows n (digit ∷ digits) =
     omega arith
 
 -- where no step is made, the first fault is here
-pub fault_at : (l : Language) (at : ℕ) (text : List ℕ) (b : Broken) → 0 < length text → IsNoStep l text b → IsFirstFault l at text b at
+pub fault_at : (l : Language) (at : ℕ) (text : List ℕ) (b : FaultKind) → 0 < length text → IsNoStep l text b → IsFirstFault l at text b at
 fault_at l at text b some (refused n other c r) = fault_here l at n text c other r
 fault_at l at [] b some (nothing h) = absurd (omega arith)
 fault_at l at (first ∷ rest) b some (nothing h) = scanned.no_piece at first rest h
@@ -73,12 +73,12 @@ module _ (l : Language) (at n : ℕ) (bytes : List ℕ) (k : Option TokenKind) (
       subst (λ t. AreTokens l 0 bytes t) (sym (append_assoc tokens (token_at at k) more))
       (done (token_at at k ++ more) (kept_tokens k g more (subst (λ t. AreTokens l (at + n) t more) (sym behind) a)))
 
-  kept_fault : (o : Option TokenKind) → MatchOption o (IsPassed (take n (drop at bytes))) (λ t. Spells l (take n (drop at bytes)) t) → (b : Broken) (place : ℕ)
+  kept_fault : (o : Option TokenKind) → MatchOption o (IsPassed (take n (drop at bytes))) (λ t. Spells l (take n (drop at bytes)) t) → (b : FaultKind) (place : ℕ)
       → IsFirstFault l (at + n) (drop n (drop at bytes)) b place → IsFirstFault l at (drop at bytes) b place
   kept_fault None h b place a = fault_passed l at n (drop at bytes) c b place h a
   kept_fault (Some t) h b place a = fault_more l at n (drop at bytes) c t b place h a
 
-  pub step_fault : (b : Broken) (place : ℕ) → (IsFirstFault l at (drop at bytes) b place → IsFirstFault l 0 bytes b place)
+  pub step_fault : (b : FaultKind) (place : ℕ) → (IsFirstFault l at (drop at bytes) b place → IsFirstFault l 0 bytes b place)
       → IsFirstFault l (at + n) (drop (at + n) bytes) b place → IsFirstFault l 0 bytes b place
   step_fault b place faulty a = faulty (kept_fault k g b place (subst (λ t. IsFirstFault l (at + n) t b place) (sym behind) a))
 

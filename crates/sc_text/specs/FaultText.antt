@@ -1,12 +1,12 @@
 -- How a reader's fault is printed.
 use Rattle.std.specs.Prelude.{ℕ, List, ◌++◌, codes}
 use Rattle.std.specs.Fmt.{decimal}
-use Rattle.sc_text.specs.declared.read_fault.Broken.{Broken}
-use Rattle.sc_text.specs.declared.read_fault.Broken.TheVariants as broken
+use Rattle.sc_text.specs.declared.read_fault.FaultKind.{FaultKind}
+use Rattle.sc_text.specs.declared.read_fault.FaultKind.TheVariants as broken
 use Rattle.sc_text.specs.declared.read_fault.ReadFault.{ReadFault}
 use Rattle.sc_text.specs.declared.read_fault.ReadFault.TheVariants as fault
 
-abbrev pub broken_number : Broken → ℕ
+abbrev pub broken_number : FaultKind → ℕ
 broken_number broken.Token = 1
 broken_number broken.Grammar = 2
 broken_number broken.Unknown = 3

@@ -6,8 +6,8 @@ use Rattle.sc_text.specs.declared.token.TokenKind.{TokenKind}
 use Rattle.sc_text.specs.declared.token.Token.{Token}
 use Rattle.sc_text.specs.declared.scan.Step.{Step}
 use Rattle.sc_text.specs.declared.language.Language.{Language}
-use Rattle.sc_text.specs.declared.read_fault.Broken.{Broken}
-use Rattle.sc_text.specs.declared.read_fault.Broken.TheVariants as broken
+use Rattle.sc_text.specs.declared.read_fault.FaultKind.{FaultKind}
+use Rattle.sc_text.specs.declared.read_fault.FaultKind.TheVariants as broken
 use Rattle.sc_text.specs.declared.piece.Row.{Row}
 use Rattle.sc_text.specs.declared.piece.Row.TheVariants as row
 use Rattle.sc_text.specs.declared.sign.Sign.{Sign}
@@ -65,9 +65,9 @@ pub record IsStep (l : Language) (text : List ℕ) (step : Step) : Type 0 where
   pub gives : MatchOption step.kind (IsPassed (take step.length text)) (λ k. Spells l (take step.length text) k)
 
 -- no piece at the front, or one that is refused
-pub data IsNoStep (l : Language) (text : List ℕ) : Broken → Type 0 where
+pub data IsNoStep (l : Language) (text : List ℕ) : FaultKind → Type 0 where
   nothing : BeginsNone text → IsNoStep l text broken.Token
-  refused : (n : ℕ) (b : Broken) → Cuts text n → IsRefused l (take n text) b → IsNoStep l text b
+  refused : (n : ℕ) (b : FaultKind) → Cuts text n → IsRefused l (take n text) b → IsNoStep l text b
 
 -- the value of these digits, which is not too large
 pub record IsValue (value : ℤ) (bytes : List ℕ) : Type 0 where
@@ -77,7 +77,7 @@ pub record IsValue (value : ℤ) (bytes : List ℕ) : Type 0 where
 abbrev pub IsNumber : List ℕ → TokenKind → Type 0
 IsNumber bytes k = (l : Language) → Spells l bytes k
 
-abbrev pub IsNoNumber : List ℕ → Broken → Type 0
+abbrev pub IsNoNumber : List ℕ → FaultKind → Type 0
 IsNoNumber bytes b = (l : Language) → IsRefused l bytes b
 
 abbrev pub token_at : ℕ → Option TokenKind → List Token

@@ -6,7 +6,7 @@ use Rattle.grammar.specs.Read.{Flaw, Got, Failed, starts, read, read_all}
 use Rattle.grammar.specs.Fault.{Fault, Told}
 use Rattle.sc_text.specs.declared.token.Token.{Token}
 use Rattle.sc_text.specs.declared.language.Language.{Language}
-use Rattle.sc_text.specs.declared.read_fault.Broken.{Broken}
+use Rattle.sc_text.specs.declared.read_fault.FaultKind.{FaultKind}
 use Rattle.sc_text.specs.Tokens.{AreTokens, IsFirstFault}
 use Rattle.sc_text.specs.Phrases.{Phrase}
 use Rattle.sc_text.specs.Expression.{text_tokens, expression}
@@ -30,6 +30,6 @@ pub record ExpressionsAreTold : Type 0 where
 -- a text has one list of tokens, or one first place where no token stands, and not both
 pub record TextsAreCutOnce : Type 0 where
   pub one_list : (l : Language) (text : List ℕ) (tokens others : List Token) → AreTokens l 0 text tokens → AreTokens l 0 text others → tokens ≡ others
-  pub no_fault : (l : Language) (text : List ℕ) (tokens : List Token) (b : Broken) (at : ℕ) → AreTokens l 0 text tokens → ¬ IsFirstFault l 0 text b at
-  pub one_fault : (l : Language) (text : List ℕ) (b c : Broken) (at place : ℕ) → IsFirstFault l 0 text b at → IsFirstFault l 0 text c place
+  pub no_fault : (l : Language) (text : List ℕ) (tokens : List Token) (b : FaultKind) (at : ℕ) → AreTokens l 0 text tokens → ¬ IsFirstFault l 0 text b at
+  pub one_fault : (l : Language) (text : List ℕ) (b c : FaultKind) (at place : ℕ) → IsFirstFault l 0 text b at → IsFirstFault l 0 text c place
       → (b ≡ c) × (at ≡ place)

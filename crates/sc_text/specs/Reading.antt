@@ -3,14 +3,14 @@ use Rattle.std.specs.Prelude.{ℕ, ◌≡◌, List, [], ◌∷◌, ◌++◌}
 use Rattle.grammar.specs.Read.{Flaw, Wrong, Deep, Outcome, Got, Failed}
 use Rattle.sc_text.specs.declared.token.Token.{Token}
 use Rattle.sc_text.specs.declared.operation.TextOperation.{TextOperation}
-use Rattle.sc_text.specs.declared.read_fault.Broken.{Broken}
-use Rattle.sc_text.specs.declared.read_fault.Broken.TheVariants as broken
+use Rattle.sc_text.specs.declared.read_fault.FaultKind.{FaultKind}
+use Rattle.sc_text.specs.declared.read_fault.FaultKind.TheVariants as broken
 use Rattle.sc_text.specs.declared.read_fault.ReadFault.{ReadFault}
 use Rattle.sc_text.specs.declared.read_fault.ReadFault.TheVariants as fault
 use Rattle.sc_text.specs.Phrases.{Phrase}
 
 -- what is broken where no text goes on so, and where only deeper ones do
-abbrev pub broken_by : Flaw → Broken
+abbrev pub broken_by : Flaw → FaultKind
 broken_by Wrong = broken.Grammar
 broken_by Deep = broken.Limit
 
@@ -20,7 +20,7 @@ place_of end [] = end
 place_of end (t ∷ tokens) = t.at
 
 -- reading fails here
-pub record StopsAt {A : Type 0} (end : ℕ) (o : Outcome Token A) (b : Broken) (at : ℕ) : Type 0 where
+pub record StopsAt {A : Type 0} (end : ℕ) (o : Outcome Token A) (b : FaultKind) (at : ℕ) : Type 0 where
   pub flaw : Flaw
   pub rest : List Token
   pub is : o ≡ Failed flaw rest

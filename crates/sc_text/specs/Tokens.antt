@@ -10,8 +10,8 @@ use Rattle.sc_text.specs.declared.token.TokenKind.TheVariants as kind
 use Rattle.sc_text.specs.declared.token.Token.{Token}
 use Rattle.sc_text.specs.declared.language.Language.{Language}
 use Rattle.sc_text.specs.declared.language.Language.TheVariants as language
-use Rattle.sc_text.specs.declared.read_fault.Broken.{Broken}
-use Rattle.sc_text.specs.declared.read_fault.Broken.TheVariants as broken
+use Rattle.sc_text.specs.declared.read_fault.FaultKind.{FaultKind}
+use Rattle.sc_text.specs.declared.read_fault.FaultKind.TheVariants as broken
 use Rattle.sc_text.specs.declared.read_fault.ReadFault.{ReadFault}
 use Rattle.sc_text.specs.declared.read_fault.ReadFault.TheVariants as fault
 use Rattle.sc_text.specs.Words.{word_text, sign_text}
@@ -58,7 +58,7 @@ pub data IsPassed : List ℕ → Type 0 where
   a_comment : (rest : List ℕ) → IsTrue (list_all stays_in_line rest) → IsPassed (slash ∷ slash ∷ rest)
 
 -- why a piece that looks like a name or a number is none
-pub data IsRefused (l : Language) : List ℕ → Broken → Type 0 where
+pub data IsRefused (l : Language) : List ℕ → FaultKind → Type 0 where
   under_bar : (first : ℕ) (rest : List ℕ) → IsTrue (is_letter first) → IsFalse (allows l first)
       → IsRefused l (first ∷ rest) broken.Token
   long_name : (first : ℕ) (rest : List ℕ) → IsTrue (is_letter first) → IsTrue (allows l first)
@@ -79,14 +79,14 @@ pub data AreTokens (l : Language) : (at : ℕ) → List ℕ → List Token → T
       (record { kind = k; at = at } ∷ tokens)
 
 -- the first place of the text at which no token stands, and what is broken there
-pub data IsFirstFault (l : Language) : (at : ℕ) → List ℕ → Broken → (place : ℕ) → Type 0 where
+pub data IsFirstFault (l : Language) : (at : ℕ) → List ℕ → FaultKind → (place : ℕ) → Type 0 where
   no_piece : (at first : ℕ) (rest : List ℕ) → BeginsNone (first ∷ rest)
       → IsFirstFault l at (first ∷ rest) broken.Token at
-  refused : (at : ℕ) (piece rest : List ℕ) (b : Broken) → IsLongest piece rest → IsRefused l piece b
+  refused : (at : ℕ) (piece rest : List ℕ) (b : FaultKind) → IsLongest piece rest → IsRefused l piece b
       → IsFirstFault l at (piece ++ rest) b at
-  behind_passed : (at : ℕ) (piece rest : List ℕ) (b : Broken) (place : ℕ) → IsLongest piece rest → IsPassed piece →
+  behind_passed : (at : ℕ) (piece rest : List ℕ) (b : FaultKind) (place : ℕ) → IsLongest piece rest → IsPassed piece →
       IsFirstFault l (at + length piece) rest b place → IsFirstFault l at (piece ++ rest) b place
-  behind_token : (at : ℕ) (piece rest : List ℕ) (k : TokenKind) (b : Broken) (place : ℕ) → IsLongest piece rest
+  behind_token : (at : ℕ) (piece rest : List ℕ) (k : TokenKind) (b : FaultKind) (place : ℕ) → IsLongest piece rest
       → Spells l piece k →
       IsFirstFault l (at + length piece) rest b place → IsFirstFault l at (piece ++ rest) b place
 

@@ -7,7 +7,7 @@ ghost use Rattle.sc_text.specs.Classes.{TheWord, TheSign, class_of, same_class};
 ghost use Rattle.sc_text.specs.Expression.{text_tokens};
 ghost use Rattle.sc_text.specs.Reading.{Stops, Takes, place_of, broken_by};
 
-use crate::read_fault::{Broken, ReadFault};
+use crate::read_fault::{FaultKind, ReadFault};
 use crate::sign::Sign;
 use crate::token::{Token, TokenKind};
 use crate::word::Word;
@@ -26,14 +26,14 @@ pub fn place(tokens: &[Token], end: usize) -> usize
 pub fn wrong(tokens: &[Token], end: usize) -> ReadFault
     ensures { result ≡ ReadFault.Text (broken_by Wrong) (place_of end tokens.now) }
 {
-    ReadFault::Text(Broken::Grammar, place(tokens, end))
+    ReadFault::Text(FaultKind::Grammar, place(tokens, end))
 }
 
 /// The fault where only texts that are nested too deep go on with the next token.
 pub fn too_deep(tokens: &[Token], end: usize) -> ReadFault
     ensures { result ≡ ReadFault.Text (broken_by Deep) (place_of end tokens.now) }
 {
-    ReadFault::Text(Broken::Limit, place(tokens, end))
+    ReadFault::Text(FaultKind::Limit, place(tokens, end))
 }
 
 fn is_sign(kind: TokenKind, sign: Sign) -> bool

@@ -23,7 +23,7 @@ pub use language::Language;
 pub use laws::{expressions_are_told, texts_are_cut_once};
 pub use operation::TextOperation;
 pub use parts::{are_distinct, is_expression, is_writable};
-pub use read_fault::{Broken, ReadFault};
+pub use read_fault::{FaultKind, ReadFault};
 pub use scan::tokens;
 pub use sign::Sign;
 pub use token::{Token, TokenKind};

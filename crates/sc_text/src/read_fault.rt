@@ -9,7 +9,7 @@ use std::fmt::{self, Display, Formatter, Write};
 
 /// What is broken at the place of a reader's fault.
 #[derive(Clone, Copy, Debug, PartialEq, Eq)]
-pub enum Broken {
+pub enum FaultKind {
     /// No token stands there, or a chart's name begins with `_`: E01.
     Token,
     /// By the grammar the text can't go on with this token, or may not end: E02.
@@ -26,19 +26,19 @@ pub enum Broken {
     Limit,
 }
 
-impl Broken {
+impl FaultKind {
     /// The number of the fault, from 1 to 7.
     pub fn number(self) -> u8
         ensures { result ≡ broken_number self }
     {
         match self {
-            Broken::Token => 1,
-            Broken::Grammar => 2,
-            Broken::Unknown => 3,
-            Broken::Repeated => 4,
-            Broken::Kind => 5,
-            Broken::Rule => 6,
-            Broken::Limit => 7,
+            FaultKind::Token => 1,
+            FaultKind::Grammar => 2,
+            FaultKind::Unknown => 3,
+            FaultKind::Repeated => 4,
+            FaultKind::Kind => 5,
+            FaultKind::Rule => 6,
+            FaultKind::Limit => 7,
         }
     }
 }
@@ -47,7 +47,7 @@ impl Broken {
 #[derive(Clone, Copy, Debug, PartialEq, Eq)]
 pub enum ReadFault {
     /// What is broken, and the place of its first byte, from 0; at the end of the text its length.
-    Text(Broken, usize),
+    Text(FaultKind, usize),
     /// Memory was refused.
     Memory,
 }

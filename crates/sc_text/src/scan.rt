@@ -10,7 +10,7 @@ ghost use Rattle.sc_text.specs.declared.piece.Piece.TheVariants as piece;
 
 use crate::language::Language;
 use crate::piece::{Piece, longest_piece};
-use crate::read_fault::{Broken, ReadFault};
+use crate::read_fault::{FaultKind, ReadFault};
 use crate::token::{Token, TokenKind};
 use crate::word::Word;
 use sc_values::Name;
@@ -56,7 +56,7 @@ struct Step {
     kind: Option<TokenKind>,
 }
 
-fn next_step(language: Language, text: &[u8]) -> Result<Step, Broken>
+fn next_step(language: Language, text: &[u8]) -> Result<Step, FaultKind>
     requires { 0 < length text.now }
     ensures { MatchResult result (λ step. IsStep language text.now step) (λ broken. IsNoStep language text.now broken) }
 {
@@ -67,12 +67,12 @@ fn next_step(language: Language, text: &[u8]) -> Result<Step, Broken>
                 Err(broken) => Err(broken),
             }
         }
-        None => Err(Broken::Token),
+        None => Err(FaultKind::Token),
     }
 }
 
 // The token that a piece is. None: it is passed over.
-fn kind_of(language: Language, piece: Piece, bytes: &[u8]) -> Result<Option<TokenKind>, Broken>
+fn kind_of(language: Language, piece: Piece, bytes: &[u8]) -> Result<Option<TokenKind>, FaultKind>
     requires { IsMadeOf piece bytes.now }
     ensures { MatchResult result (λ kind. MatchOption kind (IsPassed bytes.now) (λ k. Spells language bytes.now k))
         (λ broken. IsRefused language bytes.now broken) }
@@ -86,7 +86,7 @@ fn kind_of(language: Language, piece: Piece, bytes: &[u8]) -> Result<Option<Toke
     }
 }
 
-fn word_or_name(language: Language, bytes: &[u8]) -> Result<TokenKind, Broken>
+fn word_or_name(language: Language, bytes: &[u8]) -> Result<TokenKind, FaultKind>
     requires { IsMadeOf piece.Word bytes.now }
     ensures { MatchResult result (λ kind. Spells language bytes.now kind)
         (λ broken. IsRefused language bytes.now broken) }
@@ -97,7 +97,7 @@ fn word_or_name(language: Language, bytes: &[u8]) -> Result<TokenKind, Broken>
     }
 }
 
-fn name(language: Language, bytes: &[u8]) -> Result<TokenKind, Broken>
+fn name(language: Language, bytes: &[u8]) -> Result<TokenKind, FaultKind>
     requires made_of { IsMadeOf piece.Word bytes.now }
     requires free { IsFree bytes.now }
     ensures { MatchResult result (λ kind. Spells language bytes.now kind)
@@ -106,23 +106,23 @@ fn name(language: Language, bytes: &[u8]) -> Result<TokenKind, Broken>
     if language.allows(bytes[0]) {
         match Name::from_bytes(bytes) {
             Some(name) => Ok(TokenKind::Name(name)),
-            None => Err(Broken::Limit),
+            None => Err(FaultKind::Limit),
         }
     } else {
-        Err(Broken::Token)
+        Err(FaultKind::Token)
     }
 }
 
-fn number(digits: &[u8]) -> Result<TokenKind, Broken>
+fn number(digits: &[u8]) -> Result<TokenKind, FaultKind>
     requires { IsMadeOf piece.Digits digits.now }
     ensures { MatchResult result (λ kind. IsNumber digits.now kind) (λ broken. IsNoNumber digits.now broken) }
 {
     if has_idle_zero(digits) {
-        return Err(Broken::Token);
+        return Err(FaultKind::Token);
     }
     match value_of(digits) {
         Some(value) => Ok(TokenKind::Number(value)),
-        None => Err(Broken::Limit),
+        None => Err(FaultKind::Limit),
     }
 }
 

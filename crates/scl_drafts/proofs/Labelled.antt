@@ -1,7 +1,7 @@
 -- Going over labels and gotos for what is wrong with them.
 use Rattle.std.proofs.Common.{◌≡◌, ℕ, ◌+◌, ◌≤◌, Option, Some, List, drop, length, slice_get, sym, ◌∙◌, ap}
 use Rattle.std.specs.Prelude.{not}
-use Rattle.sc_text.specs.declared.read_fault.Broken.TheVariants as broken
+use Rattle.sc_text.specs.declared.read_fault.FaultKind.TheVariants as broken
 use Rattle.drafts.specs.declared.flaw.Flaw.{Flaw}
 use Rattle.drafts.specs.declared.parts.Named.{Named}
 use Rattle.drafts.specs.Flaws.{flaw_if, is_among, is_repeated}

@@ -1,6 +1,6 @@
 -- What a text is read into that keeps the rules of SCL, and the fault of one that doesn't.
 use Rattle.std.specs.Prelude.{ℕ, ◌≡◌, ◌⊎◌, List, []}
-use Rattle.sc_text.specs.declared.read_fault.Broken.{Broken}
+use Rattle.sc_text.specs.declared.read_fault.FaultKind.{FaultKind}
 use Rattle.sc_text.specs.declared.read_fault.ReadFault.{ReadFault}
 use Rattle.sc_text.specs.declared.read_fault.ReadFault.TheVariants as fault
 use Rattle.drafts.specs.First.{IsFirst}
@@ -14,7 +14,7 @@ pub record IsFlawless (text : List ℕ) (draft : Draft) : Type 0 where
   pub flawless : scl_flaws draft ≡ []
 
 -- the text has a draft, and this is the first of its flaws
-pub record IsFlawed (text : List ℕ) (b : Broken) (at : ℕ) : Type 0 where
+pub record IsFlawed (text : List ℕ) (b : FaultKind) (at : ℕ) : Type 0 where
   pub draft : Draft
   pub drafted : IsDraft text draft
   pub first : IsFirst (scl_flaws draft) (record { broken = b; at = at })

@@ -3,7 +3,7 @@
 use Rattle.std.specs.Prelude.{ℕ, ◌+◌, not, Some, List, [], ◌∷◌, ◌++◌, map}
 use Rattle.sc_values.specs.declared.value.Kind.TheVariants as kind
 use Rattle.sc_graph.specs.Limits.{child_limit}
-use Rattle.sc_text.specs.declared.read_fault.Broken.TheVariants as broken
+use Rattle.sc_text.specs.declared.read_fault.FaultKind.TheVariants as broken
 use Rattle.drafts.specs.declared.flaw.Flaw.{Flaw}
 use Rattle.drafts.specs.declared.parts.Named.{Named}
 use Rattle.drafts.specs.declared.parts.Declaration.{Declaration}

@@ -5,7 +5,7 @@ ghost use Rattle.drafts.specs.Inside.{first_behind};
 ghost use Rattle.scl_drafts.specs.Flaws.{names, lost, repeated};
 
 use drafts::{Flaw, Index, Named, note_if};
-use sc_text::Broken;
+use sc_text::FaultKind;
 use sc_values::Name;
 use std::alloc::{AllocError, Global};
 
@@ -26,7 +26,7 @@ pub(crate) fn note_lost(
     let index = Index::of(alloc, names.as_slice())?;
     for target in gotos {
         let is_lost = index.place(target.name).is_none();
-        note_if(first, is_lost, Broken::Unknown, target.at);
+        note_if(first, is_lost, FaultKind::Unknown, target.at);
     }
     Ok(())
 }
@@ -44,7 +44,7 @@ pub(crate) fn note_repeated(
     let index = Index::of(alloc, names.as_slice())?;
     for at in 0..labels.len() {
         let is_repeated = index.place(labels[at].name) != Some(at);
-        note_if(first, is_repeated, Broken::Repeated, labels[at].at);
+        note_if(first, is_repeated, FaultKind::Repeated, labels[at].at);
     }
     Ok(())
 }

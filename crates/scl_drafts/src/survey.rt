@@ -10,7 +10,7 @@ use crate::labels::note_lost;
 use crate::statement::TextStatement;
 use drafts::{Flaw, Named, Scope, note_if};
 use sc_graph::CHILD_LIMIT;
-use sc_text::Broken;
+use sc_text::FaultKind;
 use sc_values::Kind;
 use sqlite_items::Items;
 use std::alloc::{AllocError, Global};
@@ -125,7 +125,12 @@ fn note_label(label: &Named, own: &mut Thread, found: &mut Found) -> Result<(), 
 // What is too many at the word of a branch behind so many others.
 #[tactic(auto, using(crate::proofs::Surveyed::branch_noted))]
 fn note_branch(before: usize, at: usize, found: &mut Found)
-    ensures { found.new ≡ found_behind found.old (only_flaws (flaw_if (is_full child_limit before) Broken.Limit at)) }
+    ensures { found.new ≡ found_behind found.old (only_flaws (flaw_if (is_full child_limit before) FaultKind.Limit at)) }
 {
-    note_if(&mut found.first, before >= CHILD_LIMIT, Broken::Limit, at);
+    note_if(
+        &mut found.first,
+        before >= CHILD_LIMIT,
+        FaultKind::Limit,
+        at,
+    );
 }

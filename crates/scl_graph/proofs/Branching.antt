@@ -12,8 +12,8 @@ use Rattle.scl.specs.Block.{Block, End, Assign, Label, Goto, Pause, If, Fork, Br
 use Rattle.scl.specs.Labels.{before}
 use Rattle.scl.specs.Numbering.{Piece, piece, piece_of, in_row, branches_from, beyond}
 use Rattle.scl.specs.Numbering as numbering
-use Rattle.scl_graph.specs.declared.numbers.Counts.{Counts}
-use Rattle.scl_graph.specs.declared.numbers.Numbers.{Numbers}
+use Rattle.scl_graph.specs.declared.numbers.NodeCounts.{NodeCounts}
+use Rattle.scl_graph.specs.declared.numbers.NodeNumbers.{NodeNumbers}
 use Rattle.scl_graph.specs.declared.way.Way.{Way}
 use Rattle.scl_graph.specs.declared.way.Way.TheVariants as leads
 use Rattle.scl_graph.specs.Graph.{way, own, node, end, of_thread, below, among, thread, forked, forked_among}
@@ -34,11 +34,11 @@ before_before (If n e first second rest) k l = ap (If n e first second) (before_
 before_before (Fork n branches rest) k l = ap (Fork n branches) (before_before rest k l)
 
 -- statements stand before what follows them
-pub all_before : (statements : List Statement) (at : numbering.Numbers) (k : Block) → (in_row (map piece_of statements)).made at k
+pub all_before : (statements : List Statement) (at : numbering.NodeNumbers) (k : Block) → (in_row (map piece_of statements)).made at k
     ≡ before ((in_row (map piece_of statements)).made at (End 0)) k
 all_before [] at k = refl
 all_before (s ∷ rest) at k =
-    let next : numbering.Numbers = beyond at (piece_of s).counts in
+    let next : numbering.NodeNumbers = beyond at (piece_of s).counts in
     let others : Block → Block = (in_row (map piece_of rest)).made next in
     let first : Block = (piece_of s).made at (End 0) in
     made_before s at (others k)
@@ -82,18 +82,18 @@ forked_before target t (Fork n branches rest) k =
     ∙ sym (append_assoc (forked_among target t branches) (forked target t rest) (forked target t k))
 
 -- a thread's text, and then its end
-body_is : (statements : List Statement) (at : Numbers) (g : ℕ) → body statements at g
+body_is : (statements : List Statement) (at : NodeNumbers) (g : ℕ) → body statements at g
     ≡ before (text statements at g) (End (at.node + (counts_of_all statements).nodes))
 body_is statements at g = all_before statements (with_goto at g) (End (at.node + (counts_of_all statements).nodes))
 
-pub below_body : (target : Way → ℕ) (statements : List Statement) (at : Numbers) (g : ℕ) → below target (body statements at g)
+pub below_body : (target : Way → ℕ) (statements : List Statement) (at : NodeNumbers) (g : ℕ) → below target (body statements at g)
     ≡ below target (text statements at g)
 below_body target statements at g =
     ap (below target) (body_is statements at g)
     ∙ below_before target (text statements at g) (End (at.node + (counts_of_all statements).nodes))
     ∙ append-nil (below target (text statements at g))
 
-pub forked_body : (target : Way → ℕ) (t : ℕ) (statements : List Statement) (at : Numbers) (g : ℕ) → forked target t (body statements at g)
+pub forked_body : (target : Way → ℕ) (t : ℕ) (statements : List Statement) (at : NodeNumbers) (g : ℕ) → forked target t (body statements at g)
     ≡ forked target t (text statements at g)
 forked_body target t statements at g =
     ap (forked target t) (body_is statements at g)
@@ -101,7 +101,7 @@ forked_body target t statements at g =
     ∙ append-nil (forked target t (text statements at g))
 
 -- a thread is laid: its entry, its nodes, and its end
-pub thread_laid : (target : Way → ℕ) (parent : Option ℕ) (t : ℕ) (statements : List Statement) (at : Numbers) (olds news : List Thread)
+pub thread_laid : (target : Way → ℕ) (parent : Option ℕ) (t : ℕ) (statements : List Statement) (at : NodeNumbers) (olds news : List Thread)
     (old middle new : List Node)
     → news ≡ olds ++ record { parent = parent; entry = target (way_in statements at.node (leads.At (at.node + (counts_of_all statements).nodes))) } ∷ []
     → IsLaid target t statements at (leads.At (at.node + (counts_of_all statements).nodes)) old middle
@@ -130,11 +130,11 @@ thread_laid target parent t statements at olds news old middle new entered laid 
           ∙ ap (λ b. old ++ of_thread target t b) (sym (body_is statements at g));
     }
 
-pub forked_none : (target : Way → ℕ) (t : ℕ) (at : Numbers) (threads : List Thread) (nodes : List Node)
+pub forked_none : (target : Way → ℕ) (t : ℕ) (at : NodeNumbers) (threads : List Thread) (nodes : List Node)
     → AreForkedLaid target t [] at threads threads nodes nodes
 forked_none target t at threads nodes = record { threads = λ g. sym (append-nil threads); nodes = λ g. sym (append-nil nodes) }
 
-pub forked_more : (target : Way → ℕ) (t : ℕ) (s : Statement) (rest : List Statement) (at : Numbers) (x y z : List Thread) (a b c : List Node)
+pub forked_more : (target : Way → ℕ) (t : ℕ) (s : Statement) (rest : List Statement) (at : NodeNumbers) (x y z : List Thread) (a b c : List Node)
     → AreForkedLaid target t (s ∷ []) at x y a b → AreForkedLaid target t rest (past at (counts_of s)) y z b c → AreForkedLaid target t (s ∷ rest) at x z a c
 forked_more target t s rest at x y z a b c one others =
     let first : ℕ → Block = λ g. (piece_of s).made (with_goto at g) (End 0) in
@@ -154,7 +154,7 @@ forked_more target t s rest at x y z a b c one others =
           ∙ ap (λ r. a ++ below target r) (sym (made_before s (with_goto at g) (k g)));
     }
 
-by_piece : (target : Way → ℕ) (t : ℕ) (s : Statement) (at : Numbers) (olds news : List Thread) (old new : List Node) (p : Piece) → piece_of s ≡ p
+by_piece : (target : Way → ℕ) (t : ℕ) (s : Statement) (at : NodeNumbers) (olds news : List Thread) (old new : List Node) (p : Piece) → piece_of s ≡ p
     → ((g : ℕ) → news ≡ olds ++ forked target t (p.made (with_goto at g) (End 0))) → ((g : ℕ) → new ≡ old ++ below target (p.made (with_goto at g) (End 0)))
     → AreForkedLaid target t (s ∷ []) at olds news old new
 by_piece target t s at olds news old new p is h k =
@@ -163,27 +163,27 @@ by_piece target t s at olds news old new p is h k =
       nodes = λ g. k g ∙ ap (λ q. old ++ below target (q.made (with_goto at g) (End 0))) (sym is);
     }
 
-pub forked_assign : (target : Way → ℕ) (t : ℕ) (s : Statement) (at : Numbers) (threads : List Thread) (nodes : List Node) (x : ℕ) (e : Expr)
+pub forked_assign : (target : Way → ℕ) (t : ℕ) (s : Statement) (at : NodeNumbers) (threads : List Thread) (nodes : List Node) (x : ℕ) (e : Expr)
     → s ≡ variant.Assign x e → AreForkedLaid target t (s ∷ []) at threads threads nodes nodes
 forked_assign target t s at threads nodes x e is = by_piece target t s at threads threads nodes nodes (piece (tree.Assign x e))
     (ap piece_of is ∙ piece_of_assign x e) (λ g. sym (append-nil threads)) (λ g. sym (append-nil nodes))
 
-pub forked_label : (target : Way → ℕ) (t : ℕ) (s : Statement) (at : Numbers) (threads : List Thread) (nodes : List Node) (name : List ℕ)
+pub forked_label : (target : Way → ℕ) (t : ℕ) (s : Statement) (at : NodeNumbers) (threads : List Thread) (nodes : List Node) (name : List ℕ)
     → s ≡ variant.Label name → AreForkedLaid target t (s ∷ []) at threads threads nodes nodes
 forked_label target t s at threads nodes name is = by_piece target t s at threads threads nodes nodes (piece (tree.Label name))
     (ap piece_of is ∙ piece_of_label name) (λ g. sym (append-nil threads)) (λ g. sym (append-nil nodes))
 
-pub forked_goto : (target : Way → ℕ) (t : ℕ) (s : Statement) (at : Numbers) (threads : List Thread) (nodes : List Node) (name : List ℕ) → s ≡ variant.Goto name
+pub forked_goto : (target : Way → ℕ) (t : ℕ) (s : Statement) (at : NodeNumbers) (threads : List Thread) (nodes : List Node) (name : List ℕ) → s ≡ variant.Goto name
     → AreForkedLaid target t (s ∷ []) at threads threads nodes nodes
 forked_goto target t s at threads nodes name is = by_piece target t s at threads threads nodes nodes (piece (tree.Goto name))
     (ap piece_of is ∙ piece_of_goto name) (λ g. sym (append-nil threads)) (λ g. sym (append-nil nodes))
 
-pub forked_pause : (target : Way → ℕ) (t : ℕ) (s : Statement) (at : Numbers) (threads : List Thread) (nodes : List Node) → s ≡ variant.Pause
+pub forked_pause : (target : Way → ℕ) (t : ℕ) (s : Statement) (at : NodeNumbers) (threads : List Thread) (nodes : List Node) → s ≡ variant.Pause
     → AreForkedLaid target t (s ∷ []) at threads threads nodes nodes
 forked_pause target t s at threads nodes is = by_piece target t s at threads threads nodes nodes (piece tree.Pause) (ap piece_of is ∙ piece_of_pause)
     (λ g. sym (append-nil threads)) (λ g. sym (append-nil nodes))
 
-pub forked_if : (target : Way → ℕ) (t : ℕ) (s : Statement) (at : Numbers) (x y z : List Thread) (l m n : List Node) (e : Expr) (a b : List Statement)
+pub forked_if : (target : Way → ℕ) (t : ℕ) (s : Statement) (at : NodeNumbers) (x y z : List Thread) (l m n : List Node) (e : Expr) (a b : List Statement)
     → s ≡ variant.If e a b
     → AreForkedLaid target t a (after 1 at) x y l m → AreForkedLaid target t b (past (after 1 at) (counts_of_all a)) y z m n
     → AreForkedLaid target t (s ∷ []) at x z l n
@@ -197,7 +197,7 @@ forked_if target t s at x y z l m n e a b is first second =
     (λ g. second.nodes (h g) ∙ ap (λ r. r ++ below target (q g)) (first.nodes g) ∙ append_assoc l (below target (p g)) (below target (q g))
     ∙ ap (λ r. l ++ r) (sym (append-nil (below target (p g) ++ below target (q g)))))
 
-pub forked_fork : (target : Way → ℕ) (t : ℕ) (s : Statement) (at : Numbers) (olds news : List Thread) (old new : List Node) (branches : List (List Statement))
+pub forked_fork : (target : Way → ℕ) (t : ℕ) (s : Statement) (at : NodeNumbers) (olds news : List Thread) (old new : List Node) (branches : List (List Statement))
     → s ≡ variant.Fork branches
     → AreBranchesLaid target t branches at olds news old new → AreForkedLaid target t (s ∷ []) at olds news old new
 forked_fork target t s at olds news old new branches is laid =
@@ -206,11 +206,11 @@ forked_fork target t s at olds news old new branches is laid =
     (λ g. laid.threads g ∙ ap (λ r. olds ++ r) (sym (append-nil (forked_among target t (made g)))))
     (λ g. laid.nodes g ∙ ap (λ r. old ++ r) (sym (append-nil (among target (made g)))))
 
-pub branches_none : (target : Way → ℕ) (t : ℕ) (at : Numbers) (threads : List Thread) (nodes : List Node)
+pub branches_none : (target : Way → ℕ) (t : ℕ) (at : NodeNumbers) (threads : List Thread) (nodes : List Node)
     → AreBranchesLaid target t [] at threads threads nodes nodes
 branches_none target t at threads nodes = record { threads = λ g. sym (append-nil threads); nodes = λ g. sym (append-nil nodes) }
 
-pub branches_more : (target : Way → ℕ) (t : ℕ) (b : List Statement) (branches : List (List Statement)) (at : Numbers) (w x y z : List Thread)
+pub branches_more : (target : Way → ℕ) (t : ℕ) (b : List Statement) (branches : List (List Statement)) (at : NodeNumbers) (w x y z : List Thread)
     (k l m n : List Node)
     → IsThreadLaid target (Some t) at.thread b (inside at (counts_of_all b)) w x k l
     → AreForkedLaid target at.thread b (inside at (counts_of_all b)) x y l m
@@ -242,11 +242,11 @@ branches_more target t b branches at w x y z k l m n one nested others =
     }
 
 -- a branch and what follows it have room where all have
-pub branch_room : (at : Numbers) (b : List Statement) (branches : List (List Statement)) → HasBranchesRoom at (b ∷ branches)
+pub branch_room : (at : NodeNumbers) (b : List Statement) (branches : List (List Statement)) → HasBranchesRoom at (b ∷ branches)
     → HasBranchRoom at (counts_of_all b)
 branch_room at b branches h = record { thread = omega (arith, h.thread); base = omega (arith, h.base) }
 
-pub inner_room : (at : Numbers) (b : List Statement) (branches : List (List Statement)) → HasBranchesRoom at (b ∷ branches)
+pub inner_room : (at : NodeNumbers) (b : List Statement) (branches : List (List Statement)) → HasBranchesRoom at (b ∷ branches)
     → HasRoom (inside at (counts_of_all b)) (counts_of_all b)
 inner_room at b branches h =
     record {
@@ -256,7 +256,7 @@ inner_room at b branches h =
       base = omega (arith, h.base);
     }
 
-pub further_room : (at : Numbers) (b : List Statement) (branches : List (List Statement)) → HasBranchesRoom at (b ∷ branches)
+pub further_room : (at : NodeNumbers) (b : List Statement) (branches : List (List Statement)) → HasBranchesRoom at (b ∷ branches)
     → HasBranchesRoom (past_branch at (counts_of_all b)) branches
 further_room at b branches h =
     record {
@@ -266,10 +266,10 @@ further_room at b branches h =
     }
 
 -- the branches of a fork have room where the fork has
-pub fork_room : (at : Numbers) (s : Statement) (branches : List (List Statement)) → s ≡ variant.Fork branches → HasRoom at (counts_of s)
+pub fork_room : (at : NodeNumbers) (s : Statement) (branches : List (List Statement)) → s ≡ variant.Fork branches → HasRoom at (counts_of s)
     → HasBranchesRoom at branches
 fork_room at s branches is room =
-    let Fits : Counts → Type 0 = λ c. HasRoom at c in
+    let Fits : NodeCounts → Type 0 = λ c. HasRoom at c in
     let h : HasRoom at (sizes (piece (tree.Fork (map (map piece_of) branches))).counts) = subst Fits
     (ap counts_of is ∙ ap (λ p. sizes p.counts) (piece_of_fork branches)) room in
     record {

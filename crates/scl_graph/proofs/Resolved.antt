@@ -22,7 +22,7 @@ use Rattle.scl_graph.specs.declared.hops.Hop.{Hop}
 use Rattle.scl_graph.specs.declared.hops.Hop.TheVariants as hop
 use Rattle.scl_graph.specs.declared.landing.Landing.{Landing}
 use Rattle.scl_graph.specs.declared.landing.Landing.TheVariants as lands
-use Rattle.scl_graph.specs.declared.numbers.Numbers.{Numbers}
+use Rattle.scl_graph.specs.declared.numbers.NodeNumbers.{NodeNumbers}
 use Rattle.scl_graph.specs.declared.totals.Totals.{Totals}
 use Rattle.scl_graph.specs.declared.way.Way.{Way}
 use Rattle.scl_graph.specs.declared.way.Way.TheVariants as leads
@@ -138,14 +138,14 @@ pub unresolved : (statements : List Statement) (labels : Noted) (table : List Ho
 unresolved statements labels table name h t found = first_loop (root_of statements) labels (labels_stand statements labels h) table t name found
 
 -- the threads and nodes that were laid are those of the program
-pub program_laid : (f : Way → ℕ) (variables : List Variable) (statements : List Statement) (at : Numbers) (ts us : List Thread) (ns ms : List Node)
+pub program_laid : (f : Way → ℕ) (variables : List Variable) (statements : List Statement) (at : NodeNumbers) (ts us : List Thread) (ns ms : List Node)
     → at ≡ small_start (counts_of_all statements)
     → IsThreadLaid f None 0 statements at [] ts [] ns → AreForkedLaid f 0 statements at ts us ns ms
     → record { variables = variables; threads = us; nodes = ms } ≡ program_by f (numbered_of variables statements)
 program_laid f variables statements at ts us ns ms is own lower =
-    let m : Numbers = small_start (counts_of_all statements) in
-    let Own : Numbers → Type 0 = λ n. IsThreadLaid f None 0 statements n [] ts [] ns in
-    let Lower : Numbers → Type 0 = λ n. AreForkedLaid f 0 statements n ts us ns ms in
+    let m : NodeNumbers = small_start (counts_of_all statements) in
+    let Own : NodeNumbers → Type 0 = λ n. IsThreadLaid f None 0 statements n [] ts [] ns in
+    let Lower : NodeNumbers → Type 0 = λ n. AreForkedLaid f 0 statements n ts us ns ms in
     let first : IsThreadLaid f None 0 statements m [] ts [] ns = subst Own is own in
     let others : AreForkedLaid f 0 statements m ts us ns ms = subst Lower is lower in
     let root : Block = body statements m 0 in

@@ -8,7 +8,7 @@ ghost use Rattle.scl_graph.specs.Inside.Tallies.{tally_of};
 
 use crate::fault::GraphFault;
 use crate::laying::lay;
-use crate::numbers::Numbers;
+use crate::numbers::NodeNumbers;
 use crate::tallies::{Tally, known_counts, known_statement_counts};
 use crate::way::{Targets, Way, way_of};
 use sc_graph::{Node, Step, Thread, ThreadId};
@@ -24,7 +24,7 @@ pub(crate) fn lay_forked<T: Targets>(
     statements: &[Statement],
     tallies: &[Tally],
     owner: ThreadId,
-    at: Numbers,
+    at: NodeNumbers,
     targets: &T,
     threads: &mut Vec<Thread>,
     nodes: &mut Vec<Node>,
@@ -53,7 +53,7 @@ fn lay_forked_by<T: Targets>(
     statement: &Statement,
     tally: &Tally,
     owner: ThreadId,
-    at: Numbers,
+    at: NodeNumbers,
     targets: &T,
     threads: &mut Vec<Thread>,
     nodes: &mut Vec<Node>,
@@ -135,7 +135,7 @@ pub(crate) fn lay_thread<T: Targets>(
     tallies: &[Tally],
     parent: Option<ThreadId>,
     thread: ThreadId,
-    at: Numbers,
+    at: NodeNumbers,
     targets: &T,
     threads: &mut Vec<Thread>,
     nodes: &mut Vec<Node>,

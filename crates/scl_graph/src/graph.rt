@@ -10,7 +10,7 @@ ghost use Rattle.scl_graph.specs.Inside.Tallies.{tally_of};
 
 use crate::fault::GraphFault;
 use crate::forking::{lay_forked, lay_thread};
-use crate::numbers::Numbers;
+use crate::numbers::NodeNumbers;
 use crate::resolving::resolve;
 use crate::tallies::{Tally, known_counts, tallies_of};
 use crate::totals::totals_of;
@@ -55,7 +55,7 @@ fn lay_program<T: Targets>(
     requires room { HasRoom (small_start (counts_of_all body.now)) (counts_of_all body.now) }
     ensures { IfOk result (λ p. p ≡ program_by (T.target targets.now) (numbered_of variables.now body.now)) }
 {
-    let at = Numbers {
+    let at = NodeNumbers {
         node: 0,
         thread: 1,
         base: known_counts(body, tallies).nodes + 1,

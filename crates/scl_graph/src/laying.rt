@@ -7,7 +7,7 @@ ghost use Rattle.scl_graph.specs.Inside.Laying.{HasRoom, IsLaid, children};
 ghost use Rattle.scl_graph.specs.Inside.Tallies.{fork_tally, tally_of};
 
 use crate::fault::GraphFault;
-use crate::numbers::Numbers;
+use crate::numbers::NodeNumbers;
 use crate::steps::{lay_assignment, lay_fork, lay_pause, lay_test};
 use crate::tallies::{Tally, known_counts, known_statement_counts};
 use crate::way::{Targets, Way, way_behind, way_of};
@@ -26,7 +26,7 @@ pub(crate) fn lay<T: Targets>(
     statements: &[Statement],
     tallies: &[Tally],
     owner: ThreadId,
-    at: Numbers,
+    at: NodeNumbers,
     behind: &Way,
     targets: &T,
     nodes: &mut Vec<Node>,
@@ -57,7 +57,7 @@ fn lay_statement<T: Targets>(
     statement: &Statement,
     tally: &Tally,
     owner: ThreadId,
-    at: Numbers,
+    at: NodeNumbers,
     behind: &Way,
     targets: &T,
     nodes: &mut Vec<Node>,

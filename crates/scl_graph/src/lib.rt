@@ -21,5 +21,5 @@ mod way;
 pub use counting::counts;
 pub use fault::GraphFault;
 pub use graph::graph_of;
-pub use numbers::{Counts, Numbers};
+pub use numbers::{NodeCounts, NodeNumbers};
 pub use way::Way;

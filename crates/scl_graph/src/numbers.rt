@@ -13,7 +13,7 @@ use sc_graph::{NODE_LIMIT, NodeId, ThreadId};
 
 /// How many nodes of its own thread a text has, how many threads it forks, and how many nodes these have.
 #[derive(Clone, Copy, Debug)]
-pub struct Counts {
+pub struct NodeCounts {
     pub nodes: u16,
     pub threads: u16,
     pub lower: u16,
@@ -21,18 +21,18 @@ pub struct Counts {
 
 /// The numbers that come next: of a node of the thread, of a thread, and of that thread's first node.
 #[derive(Clone, Copy, Debug)]
-pub struct Numbers {
+pub struct NodeNumbers {
     pub node: NodeId,
     pub thread: ThreadId,
     pub base: NodeId,
 }
 
-impl Counts {
+impl NodeCounts {
     // Those of nothing.
-    pub(crate) fn none() -> Counts
+    pub(crate) fn none() -> NodeCounts
         ensures { result ≡ record { nodes = 0; threads = 0; lower = 0 } }
     {
-        Counts {
+        NodeCounts {
             nodes: 0,
             threads: 0,
             lower: 0,
@@ -40,10 +40,10 @@ impl Counts {
     }
 
     // Those of so many nodes.
-    pub(crate) fn nodes(nodes: u16) -> Counts
+    pub(crate) fn nodes(nodes: u16) -> NodeCounts
         ensures { result ≡ record { nodes = nodes; threads = 0; lower = 0 } }
     {
-        Counts {
+        NodeCounts {
             nodes,
             threads: 0,
             lower: 0,
@@ -51,11 +51,11 @@ impl Counts {
     }
 
     // What a branch counts whose text counts this: one thread more, and the node of its end.
-    pub(crate) fn as_branch(self) -> Option<Counts>
+    pub(crate) fn as_branch(self) -> Option<NodeCounts>
         requires { AreSmall self }
         ensures { SomeIff result (AreSmall (as_branch self)) (as_branch self) }
     {
-        let branch = Counts {
+        let branch = NodeCounts {
             nodes: 0,
             threads: self.threads + 1,
             lower: self.nodes + 1 + self.lower,
@@ -64,11 +64,11 @@ impl Counts {
     }
 
     // Those of two texts together. None: one of them is above the limit of nodes.
-    pub(crate) fn plus(self, other: Counts) -> Option<Counts>
+    pub(crate) fn plus(self, other: NodeCounts) -> Option<NodeCounts>
         requires { AreSmall self × AreSmall other }
         ensures { SomeIff result (AreSmall (sum self other)) (sum self other) }
     {
-        let both = Counts {
+        let both = NodeCounts {
             nodes: self.nodes + other.nodes,
             threads: self.threads + other.threads,
             lower: self.lower + other.lower,
@@ -77,11 +77,11 @@ impl Counts {
     }
 
     // Those of two texts together, which are small.
-    pub(crate) fn and(self, other: Counts) -> Counts
+    pub(crate) fn and(self, other: NodeCounts) -> NodeCounts
         requires { AreSmall (sum self other) }
         ensures { result ≡ sum self other }
     {
-        Counts {
+        NodeCounts {
             nodes: self.nodes + other.nodes,
             threads: self.threads + other.threads,
             lower: self.lower + other.lower,
@@ -89,11 +89,11 @@ impl Counts {
     }
 
     // These totals, which are small.
-    pub(crate) fn of(totals: Totals) -> Counts
+    pub(crate) fn of(totals: Totals) -> NodeCounts
         requires { AreSmall (sizes_of totals) }
         ensures { result ≡ sizes_of totals }
     {
-        Counts {
+        NodeCounts {
             nodes: totals.nodes as u16,
             threads: totals.threads as u16,
             lower: totals.lower as u16,
@@ -101,7 +101,7 @@ impl Counts {
     }
 
     // These counts. None: one of them is above the limit of nodes.
-    fn if_small(self) -> Option<Counts>
+    fn if_small(self) -> Option<NodeCounts>
         ensures { SomeIff result (AreSmall self) self }
     {
         let most = NODE_LIMIT as u16;
@@ -113,13 +113,13 @@ impl Counts {
     }
 }
 
-impl Numbers {
+impl NodeNumbers {
     // The numbers behind what counts this.
-    pub(crate) fn past(self, counts: Counts) -> Numbers
+    pub(crate) fn past(self, counts: NodeCounts) -> NodeNumbers
         requires { HasRoom self counts }
         ensures { result ≡ past self counts }
     {
-        Numbers {
+        NodeNumbers {
             node: self.node + counts.nodes,
             thread: self.thread + counts.threads,
             base: self.base + counts.lower,
@@ -127,11 +127,11 @@ impl Numbers {
     }
 
     // The numbers behind one node of the thread.
-    pub(crate) fn after_a_node(self) -> Numbers
+    pub(crate) fn after_a_node(self) -> NodeNumbers
         requires { self.node + 1 ≤ count_limit }
         ensures { result ≡ after 1 self }
     {
-        Numbers {
+        NodeNumbers {
             node: self.node + 1,
             thread: self.thread,
             base: self.base,
@@ -139,11 +139,11 @@ impl Numbers {
     }
 
     // The numbers within a branch whose text counts this, of which the thread is the next one.
-    pub(crate) fn inside(self, counts: Counts) -> Numbers
+    pub(crate) fn inside(self, counts: NodeCounts) -> NodeNumbers
         requires { HasBranchRoom self counts }
         ensures { result ≡ inside self counts }
     {
-        Numbers {
+        NodeNumbers {
             node: self.base,
             thread: self.thread + 1,
             base: self.base + counts.nodes + 1,
@@ -151,11 +151,11 @@ impl Numbers {
     }
 
     // The numbers behind such a branch.
-    pub(crate) fn past_branch(self, counts: Counts) -> Numbers
+    pub(crate) fn past_branch(self, counts: NodeCounts) -> NodeNumbers
         requires { HasBranchRoom self counts }
         ensures { result ≡ past_branch self counts }
     {
-        Numbers {
+        NodeNumbers {
             node: self.node,
             thread: self.thread + counts.threads + 1,
             base: self.base + counts.nodes + 1 + counts.lower,

@@ -11,7 +11,7 @@ ghost use Rattle.scl_graph.specs.Inside.Laying.{children, step_coded};
 
 use crate::counting::counts;
 use crate::fault::GraphFault;
-use crate::numbers::Counts;
+use crate::numbers::NodeCounts;
 use sc_graph::{Node, NodeId, Step, ThreadId, VariableId};
 use sc_values::{Code, CodedAssignment, Expr};
 use scl::Statement;

@@ -7,7 +7,7 @@ ghost use Rattle.scl_graph.specs.Inside.Tallies.{part, sizes_of, tally_of};
 ghost use Rattle.scl_graph.specs.Inside.Totals.{AreCounted, sum, totals_of, totals_of_all};
 ghost use Rattle.scl_graph.specs.declared.tallies.Tally.TheViews.{out-Tally};
 
-use crate::numbers::Counts;
+use crate::numbers::NodeCounts;
 use crate::totals::Totals;
 use scl::Statement;
 use sqlite_items::Items;
@@ -139,13 +139,13 @@ fn total(tallies: &[Tally]) -> Totals
 }
 
 // The same, in the numbers that the graph has room for.
-fn sizes(tallies: &[Tally]) -> Counts
+fn sizes(tallies: &[Tally]) -> NodeCounts
     requires { AreSmall (sizes_of (total tallies.now)) }
     ensures { result ≡ sizes_of (total tallies.now) }
 {
-    let mut counted = Counts::none();
+    let mut counted = NodeCounts::none();
     for tally in tallies {
-        counted = counted.and(Counts::of(tally.totals));
+        counted = counted.and(NodeCounts::of(tally.totals));
     }
     counted
 }
@@ -173,7 +173,7 @@ pub(crate) fn known_statement_totals(_statement: &Statement, tally: &Tally) -> T
 
 /// What these statements count, which is small, by their tallies; and again what is asked for.
 #[tactic(auto, using(crate::proofs::Tallied::total_is))]
-pub(crate) fn known_counts(_statements: &[Statement], tallies: &[Tally]) -> Counts
+pub(crate) fn known_counts(_statements: &[Statement], tallies: &[Tally]) -> NodeCounts
     requires tallied { tallies.now ≡ map tally_of _statements.now }
     requires small { AreSmall (counts_of_all _statements.now) }
     ensures counts { result ≡ counts_of_all _statements.now }
@@ -184,10 +184,10 @@ pub(crate) fn known_counts(_statements: &[Statement], tallies: &[Tally]) -> Coun
 
 /// What a statement counts, which is small, by its tally.
 #[tactic(auto, using(crate::proofs::Tallied::tally_totals))]
-pub(crate) fn known_statement_counts(_statement: &Statement, tally: &Tally) -> Counts
+pub(crate) fn known_statement_counts(_statement: &Statement, tally: &Tally) -> NodeCounts
     requires tallied { tally.now ≡ tally_of _statement.now }
     requires small { AreSmall (counts_of _statement.now) }
     ensures { result ≡ counts_of _statement.now }
 {
-    Counts::of(tally.totals)
+    NodeCounts::of(tally.totals)
 }

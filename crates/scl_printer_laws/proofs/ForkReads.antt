@@ -8,7 +8,7 @@ use Rattle.sc_graph.specs.Limits.{child_limit}
 use Rattle.sc_text.specs.declared.word.Word.TheVariants as word
 use Rattle.sc_text.specs.declared.sign.Sign.TheVariants as sign
 use Rattle.sc_text.specs.declared.token.Token.{Token}
-use Rattle.sc_text.specs.declared.read_fault.Broken.TheVariants as broken
+use Rattle.sc_text.specs.declared.read_fault.FaultKind.TheVariants as broken
 use Rattle.drafts.specs.declared.parts.Declaration.{Declaration}
 use Rattle.drafts.specs.Flaws.{flaw_if, is_full, variable_names}
 use Rattle.drafts.specs.Resolved.{variables_of}

@@ -27,8 +27,8 @@ use Rattle.sc_values.proofs.Spelling.{trees-postorder, tree_of-postorder}
 use Rattle.sc_graph.specs.declared.program.Variable.{Variable}
 use Rattle.sc_text.specs.declared.operation.TextOperation.{TextOperation}
 use Rattle.sc_text.specs.declared.operation.TextOperation.TheVariants as text
-use Rattle.sc_text.specs.declared.read_fault.Broken.{Broken}
-use Rattle.sc_text.specs.declared.read_fault.Broken.TheVariants as broken
+use Rattle.sc_text.specs.declared.read_fault.FaultKind.{FaultKind}
+use Rattle.sc_text.specs.declared.read_fault.FaultKind.TheVariants as broken
 use Rattle.sc_text.specs.Phrases.{Phrase}
 use Rattle.sc_text.specs.Parts.{IsExpression}
 use Rattle.drafts.specs.declared.parts.Declaration.{Declaration}
@@ -45,7 +45,7 @@ use Rattle.scl_printer_laws.proofs.Operands.{AreKnown}
 pub both_empty : {A : Type 0} (xs ys : List A) → xs ≡ [] → ys ≡ [] → xs ++ ys ≡ []
 both_empty xs ys e f = ap (λ zs. zs ++ ys) e ∙ f
 
-pub flaw_none : (b : Bool) (k : Broken) (at : ℕ) → b ≡ false → flaw_if b k at ≡ []
+pub flaw_none : (b : Bool) (k : FaultKind) (at : ℕ) → b ≡ false → flaw_if b k at ≡ []
 flaw_none b k at e = ap (λ c. flaw_if c k at) e
 
 pub not_lower : (a b : ℕ) → b ≤ a → nat_lt a b ≡ false

@@ -1,7 +1,7 @@
 -- What is read, and what is told, is the one answer that the text has.
 use Rattle.std.proofs.Common.{◌≡◌, ◌⊎◌, ℕ, List, refl, sym, ◌∙◌, ap, inl, inr}
 use Rattle.std.specs.Prelude.{Ok, Err}
-use Rattle.sc_text.specs.declared.read_fault.Broken.{Broken}
+use Rattle.sc_text.specs.declared.read_fault.FaultKind.{FaultKind}
 use Rattle.sc_text.specs.declared.read_fault.ReadFault.{ReadFault}
 use Rattle.sc_text.specs.declared.read_fault.ReadFault.TheVariants as fault
 use Rattle.scl.specs.declared.program.Scl.{Scl}
@@ -22,7 +22,7 @@ one_program text p q a b =
       bodies = a.spelled.body ∙ ap (λ d. statements_of (variable_names d.declarations) d.statements) same ∙ sym b.spelled.body;
     }
 
-pub no_fault : (text : List ℕ) (p : Scl) (b : Broken) (at : ℕ) → IsRead text p → ¬ IsTextFault text (fault.Text b at)
+pub no_fault : (text : List ℕ) (p : Scl) (b : FaultKind) (at : ℕ) → IsRead text p → ¬ IsTextFault text (fault.Text b at)
 no_fault text p b at read = one.no_fault text read.draft b at read.drafted read.flawless
 
 pub read_exactly : (text : List ℕ) (p : Scl) → IsRead text p → IsExact text (Ok p)
@@ -32,7 +32,7 @@ only_memory : (text : List ℕ) (f : ReadFault) → IsTextFault text f → (p : 
 only_memory text (fault.Text b at) told p read = absurd (no_fault text p b at read told)
 only_memory text fault.Memory told p read = refl
 
-this_or_memory : (text : List ℕ) (f : ReadFault) → IsTextFault text f → (b : Broken) (at : ℕ) → IsTextFault text (fault.Text b at)
+this_or_memory : (text : List ℕ) (f : ReadFault) → IsTextFault text f → (b : FaultKind) (at : ℕ) → IsTextFault text (fault.Text b at)
     → (f ≡ fault.Text b at) ⊎ (f ≡ fault.Memory)
 this_or_memory text (fault.Text c place) told b at other =
     let same = one.one_fault text c b place at told other in inl (ap (λ x. fault.Text x place) same.0 ∙ ap (fault.Text b) same.1)

@@ -7,7 +7,7 @@ use Rattle.sc_values.specs.declared.value.Kind.TheVariants as kind_is
 use Rattle.sc_values.specs.declared.expression.Expr.{Expr}
 use Rattle.sc_graph.specs.Limits.{child_limit, variable_limit}
 use Rattle.sc_text.specs.declared.language.Language.TheVariants as language
-use Rattle.sc_text.specs.declared.read_fault.Broken.TheVariants as broken
+use Rattle.sc_text.specs.declared.read_fault.FaultKind.TheVariants as broken
 use Rattle.sc_text.specs.Parts.{IsExpression, are_distinct}
 use Rattle.sc_text.specs.Writable.{is_writable_operation}
 use Rattle.drafts.specs.declared.flaw.Flaw.{Flaw}

@@ -12,7 +12,7 @@ use command_files::LoadFault;
 use compiler::CompileFault;
 use diagnostics::{program_fault_explained, told_nowhere};
 use line_causes::{Cause, cause_words};
-use sc_text::{Broken, ReadFault};
+use sc_text::{FaultKind, ReadFault};
 use std::alloc::{AllocError, Global};
 use trace_player::PlayFault;
 
@@ -44,25 +44,25 @@ fn bytes_said(fault: DecodeFault) -> &'static str {
 // What is wrong with a text.
 fn text_said(fault: &ReadFault) -> &'static str {
     match fault {
-        ReadFault::Text(Broken::Token, _) => {
+        ReadFault::Text(FaultKind::Token, _) => {
             "nothing of the language begins at this byte\nhelp: `sct explain` shows the place"
         }
-        ReadFault::Text(Broken::Grammar, _) => {
+        ReadFault::Text(FaultKind::Grammar, _) => {
             "the text cannot go on so at this byte\nhelp: `sct explain` shows the place"
         }
-        ReadFault::Text(Broken::Unknown, _) => {
+        ReadFault::Text(FaultKind::Unknown, _) => {
             "the name at this byte is not declared\nhelp: `sct explain` shows the place"
         }
-        ReadFault::Text(Broken::Repeated, _) => {
+        ReadFault::Text(FaultKind::Repeated, _) => {
             "the name at this byte stands twice\nhelp: `sct explain` shows the place"
         }
-        ReadFault::Text(Broken::Kind, _) => {
+        ReadFault::Text(FaultKind::Kind, _) => {
             "what begins at this byte has another kind than its place wants\nhelp: `sct explain` shows the place"
         }
-        ReadFault::Text(Broken::Rule, _) => {
+        ReadFault::Text(FaultKind::Rule, _) => {
             "a rule of the language is broken at this byte\nhelp: `sct explain` shows the place"
         }
-        ReadFault::Text(Broken::Limit, _) => {
+        ReadFault::Text(FaultKind::Limit, _) => {
             "a limit is passed at this byte\nhelp: `sct explain` shows the place"
         }
         ReadFault::Memory => MEMORY,

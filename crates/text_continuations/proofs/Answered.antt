@@ -2,7 +2,7 @@
 use Rattle.std.proofs.Common.{ℕ, ◌≡◌, ◌⊎◌, inl, inr, List}
 use Rattle.std.specs.Prelude.{Ok, Err}
 use Rattle.sc_text.specs.declared.language.Language.TheVariants as language
-use Rattle.sc_text.specs.declared.read_fault.Broken.{Broken}
+use Rattle.sc_text.specs.declared.read_fault.FaultKind.{FaultKind}
 use Rattle.sc_text.specs.declared.read_fault.ReadFault.TheVariants as fault
 use Rattle.core_charts.specs.Chart.{Chart}
 use Rattle.scl.specs.declared.program.Scl.{Scl}
@@ -12,7 +12,7 @@ use Rattle.chart_reader.specs.Laws as charts_read
 use Rattle.scl_reader.specs.Laws as programs_read
 use Rattle.text_continuations.specs.Inside.{HasFault, HasNoFault}
 
-this_one : (b c : Broken) (at place : ℕ) → (fault.Text b at ≡ fault.Text c place) ⊎ (fault.Text b at ≡ fault.Memory)
+this_one : (b c : FaultKind) (at place : ℕ) → (fault.Text b at ≡ fault.Text c place) ⊎ (fault.Text b at ≡ fault.Memory)
     → (c ≡ b) × (place ≡ at)
 this_one b c at place (inl e) = (cc, cc)
 this_one b c at place (inr e) = absurd (cc)
@@ -20,13 +20,13 @@ this_one b c at place (inr e) = absurd (cc)
 pub chart_none : (text : List ℕ) (c : Chart) → charts_read.IsExact text (Ok c) → HasNoFault language.Chart text
 chart_none text c exact = record { none = λ b at told. exact.faulty b at told }
 
-pub chart_some : (text : List ℕ) (b : Broken) (at : ℕ) → charts.IsTextFault text (fault.Text b at)
+pub chart_some : (text : List ℕ) (b : FaultKind) (at : ℕ) → charts.IsTextFault text (fault.Text b at)
     → charts_read.IsExact text (Err (fault.Text b at)) → HasFault language.Chart text (b, at)
 chart_some text b at told exact = record { has = told; one = λ c place other. this_one b c at place (exact.faulty c place other) }
 
 pub scl_none : (text : List ℕ) (p : Scl) → programs_read.IsExact text (Ok p) → HasNoFault language.Scl text
 scl_none text p exact = record { none = λ b at told. exact.faulty b at told }
 
-pub scl_some : (text : List ℕ) (b : Broken) (at : ℕ) → programs.IsTextFault text (fault.Text b at)
+pub scl_some : (text : List ℕ) (b : FaultKind) (at : ℕ) → programs.IsTextFault text (fault.Text b at)
     → programs_read.IsExact text (Err (fault.Text b at)) → HasFault language.Scl text (b, at)
 scl_some text b at told exact = record { has = told; one = λ c place other. this_one b c at place (exact.faulty c place other) }

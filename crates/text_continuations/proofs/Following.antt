@@ -2,12 +2,12 @@
 use Rattle.std.proofs.Common.{ℕ, ◌≡◌, ◌↔◌, ◌<◌, ◌≤◌, ◌+◌, Bool, true, false, not, Option, Some, None, IsTrue, List, [], length, take, get_or, refl, sym, subst}
 use Rattle.std.proofs.lemmas.List.{take_more, take_all}
 use Rattle.sc_text.specs.declared.language.Language.{Language}
-use Rattle.sc_text.specs.declared.read_fault.Broken.{Broken}
+use Rattle.sc_text.specs.declared.read_fault.FaultKind.{FaultKind}
 use Rattle.sc_text.specs.declared.read_fault.ReadFault.TheVariants as fault
 use Rattle.text_continuations.specs.Continuations.{IsFaultOf, StopsAt, is_of_grammar, AreThose, none, taken, left}
 use Rattle.text_continuations.specs.Inside.{TellsFault, IsStop, Adds, added, kept}
 
-stop_is : (l : Language) (text : List ℕ) (at : ℕ) (o : Option (Broken × ℕ)) → TellsFault l text o → IsStop o at ↔ StopsAt l text at
+stop_is : (l : Language) (text : List ℕ) (at : ℕ) (o : Option (FaultKind × ℕ)) → TellsFault l text o → IsStop o at ↔ StopsAt l text at
 stop_is l text at None tells = (λ stop. absurd stop, λ s. absurd (tells.none s.broken at s.fault))
 stop_is l text at (Some found) tells = (
   λ stop. record {
@@ -18,7 +18,7 @@ stop_is l text at (Some found) tells = (
   λ s. let same = tells.one s.broken at s.fault in (sym same.1, subst (λ b. IsTrue (is_of_grammar b)) same.0 s.of_grammar),
 )
 
-pub follows : (l : Language) (text : List ℕ) (at : ℕ) (o : Option (Broken × ℕ)) (stop : Bool) → TellsFault l text o
+pub follows : (l : Language) (text : List ℕ) (at : ℕ) (o : Option (FaultKind × ℕ)) (stop : Bool) → TellsFault l text o
     → IsTrue stop ↔ IsStop o at → IsTrue (not stop) ↔ (¬ StopsAt l text at)
 follows l text at o true tells is = (λ f. cc, λ free. absurd (free ((stop_is l text at o tells).0 (is.0 refl))))
 follows l text at o false tells is = (λ t stops. let no = is.1 ((stop_is l text at o tells).1 stops) in cc, λ free. cc)

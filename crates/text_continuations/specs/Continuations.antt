@@ -2,8 +2,8 @@
 use Rattle.std.specs.Prelude.{ℕ, ◌+◌, ◌↔◌, Bool, true, false, IsTrue, List, [], ◌∷◌, ◌++◌, length, codes}
 use Rattle.sc_text.specs.declared.language.Language.{Language}
 use Rattle.sc_text.specs.declared.language.Language.TheVariants as language
-use Rattle.sc_text.specs.declared.read_fault.Broken.{Broken}
-use Rattle.sc_text.specs.declared.read_fault.Broken.TheVariants as broken
+use Rattle.sc_text.specs.declared.read_fault.FaultKind.{FaultKind}
+use Rattle.sc_text.specs.declared.read_fault.FaultKind.TheVariants as broken
 use Rattle.sc_text.specs.declared.read_fault.ReadFault.{ReadFault}
 use Rattle.sc_text.specs.declared.read_fault.ReadFault.TheVariants as fault
 use Rattle.sc_text.specs.declared.word.Word.{Word}
@@ -21,14 +21,14 @@ IsFaultOf language.Chart text f = charts.IsTextFault text f
 IsFaultOf language.Scl text f = programs.IsTextFault text f
 
 -- what is broken where a text cannot go on: the grammar, or a limit
-abbrev pub is_of_grammar : Broken → Bool
+abbrev pub is_of_grammar : FaultKind → Bool
 is_of_grammar broken.Grammar = true
 is_of_grammar broken.Limit = true
 is_of_grammar other = false
 
 -- the text cannot go on with what stands at this place: no text of the language does, or only texts that pass a limit
 pub record StopsAt (l : Language) (text : List ℕ) (at : ℕ) : Type 0 where
-  pub broken : Broken
+  pub broken : FaultKind
   pub of_grammar : IsTrue (is_of_grammar broken)
   pub fault : IsFaultOf l text (fault.Text broken at)
 

@@ -7,7 +7,7 @@ ghost use Rattle.text_continuations.specs.Continuations.{is_of_grammar};
 ghost use Rattle.text_continuations.specs.Inside.{Adds, IsStop};
 
 use crate::faults::fault_of;
-use sc_text::{Broken, Language, Sign, Word};
+use sc_text::{FaultKind, Language, Sign, Word};
 use sqlite_items::Items;
 use std::alloc::{AllocError, Global};
 
@@ -94,17 +94,17 @@ pub fn can_follow(
 }
 
 // Whether a text with this broken cannot go on.
-fn is_of_grammar(broken: Broken) -> bool
+fn is_of_grammar(broken: FaultKind) -> bool
     ensures { result ≡ is_of_grammar broken }
 {
     match broken {
-        Broken::Grammar | Broken::Limit => true,
+        FaultKind::Grammar | FaultKind::Limit => true,
         _ => false,
     }
 }
 
 // Whether a text of this fault cannot go on with what stands at a place.
-fn is_stop(fault: Option<(Broken, usize)>, at: usize) -> bool
+fn is_stop(fault: Option<(FaultKind, usize)>, at: usize) -> bool
     ensures { IsTrue result ↔ IsStop fault at }
 {
     match fault {

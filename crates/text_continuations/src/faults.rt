@@ -5,13 +5,13 @@ ghost use Rattle.sc_text.specs.declared.language.Language.TheVariants as languag
 ghost use Rattle.text_continuations.specs.Inside.{TellsFault};
 
 use chart_reader::read_chart;
-use sc_text::{Broken, Language, ReadFault};
+use sc_text::{FaultKind, Language, ReadFault};
 use scl_reader::read_scl;
 use std::alloc::{AllocError, Global};
 
 // The fault of a text as a chart, and its place.
 #[tactic(auto, using(crate::proofs::Answered::chart_none, crate::proofs::Answered::chart_some))]
-fn of_chart(alloc: Global, text: &str) -> Result<Option<(Broken, usize)>, AllocError>
+fn of_chart(alloc: Global, text: &str) -> Result<Option<(FaultKind, usize)>, AllocError>
     ensures { IfOk result (TellsFault language.Chart text.now) }
 {
     match read_chart(alloc, text) {
@@ -23,7 +23,7 @@ fn of_chart(alloc: Global, text: &str) -> Result<Option<(Broken, usize)>, AllocE
 
 // The fault of a text as an SCL program, and its place.
 #[tactic(auto, using(crate::proofs::Answered::scl_none, crate::proofs::Answered::scl_some))]
-fn of_scl(alloc: Global, text: &str) -> Result<Option<(Broken, usize)>, AllocError>
+fn of_scl(alloc: Global, text: &str) -> Result<Option<(FaultKind, usize)>, AllocError>
     ensures { IfOk result (TellsFault language.Scl text.now) }
 {
     match read_scl(alloc, text) {
@@ -38,7 +38,7 @@ pub(crate) fn fault_of(
     alloc: Global,
     language: Language,
     text: &str,
-) -> Result<Option<(Broken, usize)>, AllocError>
+) -> Result<Option<(FaultKind, usize)>, AllocError>
     ensures { IfOk result (TellsFault language text.now) }
 {
     match language {

@@ -6,7 +6,7 @@ ghost use Rattle.sc_graph.specs.Tables.{priority};
 ghost use Rattle.verifier.specs.Inside.Faults.{IsFault};
 ghost use Rattle.verifier.specs.Inside.Linked.{IsLinked};
 
-use program_edges::{Wanted, find_instant};
+use program_edges::{Sought, find_instant};
 use sc_graph::{Links, NodeId, Place, Program, Tables};
 
 /// A place where the rule is broken, where it is.
@@ -29,7 +29,7 @@ struct Higher<'a> {
     than: NodeId,
 }
 
-impl<'a> Wanted for Higher<'a> {
+impl<'a> Sought for Higher<'a> {
     ghost wants = { λ h n. priority h.tables.now h.than < priority h.tables.now n };
 
     fn is_wanted(&self, node: NodeId) -> bool {

@@ -1,7 +1,7 @@
 -- What is told of a text: a report for each warning that its line does not allow.
 use Rattle.std.specs.Prelude.{ℕ, ◌≡◌, ◌⊎◌, IsTrue, List, [], ◌∷◌, ◌++◌, codes, if◌then◌else◌}
 use Rattle.std.specs.List.{flat_map}
-use Rattle.sc_text.specs.declared.read_fault.Broken.{Broken}
+use Rattle.sc_text.specs.declared.read_fault.FaultKind.{FaultKind}
 use Rattle.sc_text.specs.declared.read_fault.ReadFault.TheVariants as fault
 use Rattle.chart_drafts.specs.declared.draft.DraftChart.{DraftChart}
 use Rattle.chart_drafts.specs.Checked.{IsSound, IsTextFault}
@@ -48,7 +48,7 @@ pub record Warns (name text told : List ℕ) : Type 0 where
 
 -- the text spells no such chart, and nothing is told
 pub record IsSilent (text told : List ℕ) : Type 0 where
-  pub broken : Broken
+  pub broken : FaultKind
   pub at : ℕ
   pub faulty : IsTextFault text (fault.Text broken at)
   pub nothing : told ≡ []

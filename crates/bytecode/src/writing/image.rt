@@ -2,7 +2,7 @@
 
 ghost use Rattle.std.specs.Prelude.{◌≡◌, ◌++◌, OnOk, IfOk};
 ghost use Rattle.std.specs.List.{flat_map, AllByRecursion};
-ghost use Rattle.bytecode.specs.Image.{HasLengths};
+ghost use Rattle.sc_graph.specs.Tables.{HasLengths};
 ghost use Rattle.bytecode.specs.Fields.{variable_bytes};
 ghost use Rattle.bytecode.specs.Nodes.{thread_bytes, node_bytes};
 ghost use Rattle.bytecode.specs.Layout.{thread_rows, node_rows};

@@ -8,8 +8,8 @@ use Rattle.sc_values.specs.declared.expression.Expr.TheOpen as tree
 use Rattle.sc_values.specs.declared.expression.Expr.TheFolds.{fold-Expr}
 use Rattle.core_charts.specs.declared.region.Effect.{Effect}
 use Rattle.core_charts.specs.declared.region.Transition.{Transition}
-use Rattle.chart_warnings.specs.declared.names.Way.{Way}
-use Rattle.chart_warnings.specs.declared.names.Way.TheVariants as way
+use Rattle.chart_warnings.specs.declared.names.Mention.{Mention}
+use Rattle.chart_warnings.specs.declared.names.Mention.TheVariants as way
 use Rattle.chart_warnings.specs.Names.{asked_by_effect, set_by_effect, switched_by_effect, counted_by_effect}
 use Rattle.chart_warnings.specs.Names.{asked_by_trigger}
 
@@ -39,18 +39,18 @@ is_besides None x = true
 is_besides (Some y) x = not (nat_eq y x)
 
 -- in a way
-abbrev pub by_effect : Way → Effect → List ℕ
+abbrev pub by_effect : Mention → Effect → List ℕ
 by_effect way.Asked e = asked_by_effect e
 by_effect way.Set e = set_by_effect e
 by_effect way.Switched e = switched_by_effect e
 by_effect way.Counted e = counted_by_effect e
 
-abbrev pub by_trigger : Way → Option Expr → List ℕ
+abbrev pub by_trigger : Mention → Option Expr → List ℕ
 by_trigger way.Asked trigger = asked_by_trigger trigger
 by_trigger other trigger = []
 
-abbrev pub by_transition : Way → Transition → List ℕ
+abbrev pub by_transition : Mention → Transition → List ℕ
 by_transition w t = by_trigger w t.trigger ++ flat_map (by_effect w) t.effects
 
-abbrev pub all_by : Way → List Transition → List ℕ
+abbrev pub all_by : Mention → List Transition → List ℕ
 all_by w transitions = flat_map (by_transition w) transitions

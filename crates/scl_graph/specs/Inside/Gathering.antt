@@ -8,7 +8,7 @@ use Rattle.scl.specs.declared.statement.Statement.TheOpen.{Statement-F}
 use Rattle.scl.specs.declared.statement.Statement.TheOpen as tree
 use Rattle.scl.specs.declared.statement.Statement.TheViews.{out-Statement}
 use Rattle.scl.specs.Block.{Block, End, Assign, Label, Goto, Pause, If, Fork, Branches, NoMore, Branch}
-use Rattle.scl.specs.Numbering.{Numbers, in_row, piece_of, branches_from, thread_body}
+use Rattle.scl.specs.Numbering.{NodeNumbers, in_row, piece_of, branches_from, thread_body}
 use Rattle.scl_graph.specs.Graph.{end}
 use Rattle.scl_graph.specs.declared.spots.Spot.{Spot}
 use Rattle.scl_graph.specs.Inside.Totals.{branches_totals, numbers, totals_of_all}

@@ -13,34 +13,34 @@ use Rattle.scl.specs.declared.statement.Statement.TheViews.{out-Statement}
 use Rattle.scl.specs.Block.{Block, End}
 use Rattle.scl.specs.Numbering.{in_row, piece_of}
 use Rattle.scl.specs.Numbering as numbering
-use Rattle.scl_graph.specs.declared.numbers.Counts.{Counts}
-use Rattle.scl_graph.specs.declared.numbers.Numbers.{Numbers}
+use Rattle.scl_graph.specs.declared.numbers.NodeCounts.{NodeCounts}
+use Rattle.scl_graph.specs.declared.numbers.NodeNumbers.{NodeNumbers}
 use Rattle.scl_graph.specs.declared.way.Way.{Way}
 use Rattle.scl_graph.specs.declared.way.Way.TheVariants as leads
 use Rattle.scl_graph.specs.Graph.{own}
 use Rattle.scl_graph.specs.Counting.{AreSmall, counts_of_all}
 
 -- the numbers, and that of the next goto
-abbrev pub with_goto : Numbers → ℕ → numbering.Numbers
+abbrev pub with_goto : NodeNumbers → ℕ → numbering.NodeNumbers
 with_goto at g = record { node = at.node; thread = at.thread; base = at.base; goto = g }
 
 -- the numbers behind what counts this
-abbrev pub past : Numbers → Counts → Numbers
+abbrev pub past : NodeNumbers → NodeCounts → NodeNumbers
 past at c = record { node = at.node + c.nodes; thread = at.thread + c.threads; base = at.base + c.lower }
 
 -- the numbers behind so many nodes of the thread
-abbrev pub after : ℕ → Numbers → Numbers
+abbrev pub after : ℕ → NodeNumbers → NodeNumbers
 after n at = record { node = n + at.node; thread = at.thread; base = at.base }
 
 -- there are numbers for what counts this
-pub record HasRoom (at : Numbers) (c : Counts) : Type 0 where
+pub record HasRoom (at : NodeNumbers) (c : NodeCounts) : Type 0 where
   pub small : AreSmall c
   pub node : at.node + c.nodes ≤ count_limit
   pub thread : at.thread + c.threads ≤ count_limit
   pub base : at.base + c.lower ≤ count_limit
 
 -- what is to be done from these statements on, up to their end
-abbrev pub text : List Statement → Numbers → ℕ → Block
+abbrev pub text : List Statement → NodeNumbers → ℕ → Block
 text statements at g = (in_row (map piece_of statements)).made (with_goto at g) (End 0)
 
 -- where a thread goes on at a statement whose node has number n, if it has one, and behind which it goes on this way
@@ -69,5 +69,5 @@ step_coded x (coded.Init code) next = step.Assign x code next
 step_coded x (coded.Update f code) next = step.Update x f code next
 
 -- behind the old nodes those of these statements were put
-pub record IsLaid (target : Way → ℕ) (t : ℕ) (statements : List Statement) (at : Numbers) (behind : Way) (old new : List Node) : Type 0 where
+pub record IsLaid (target : Way → ℕ) (t : ℕ) (statements : List Statement) (at : NodeNumbers) (behind : Way) (old new : List Node) : Type 0 where
   pub each : (g : ℕ) → new ≡ old ++ own target t (text statements at g) behind

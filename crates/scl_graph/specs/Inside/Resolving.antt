@@ -12,8 +12,8 @@ use Rattle.scl_graph.specs.declared.fault.GraphFault.TheVariants as fault
 use Rattle.scl_graph.specs.declared.hops.Hop.{Hop}
 use Rattle.scl_graph.specs.declared.spots.Spot.{Spot}
 use Rattle.scl_graph.specs.declared.totals.Totals.{Totals}
-use Rattle.scl_graph.specs.declared.numbers.Counts.{Counts as SmallCounts}
-use Rattle.scl_graph.specs.declared.numbers.Numbers.{Numbers}
+use Rattle.scl_graph.specs.declared.numbers.NodeCounts.{NodeCounts as SmallCounts}
+use Rattle.scl_graph.specs.declared.numbers.NodeNumbers.{NodeNumbers}
 use Rattle.scl_graph.specs.declared.way.Way.{Way}
 use Rattle.scl_graph.specs.declared.way.Way.TheVariants as leads
 use Rattle.scl_graph.specs.Inside.Gathering.{Noted}
@@ -30,7 +30,7 @@ root_of statements = (numbered_of [] statements).root
 abbrev pub start : Totals → Spot
 start c = record { node = 0; thread = 1; base = suc c.nodes; goto = 0 }
 
-abbrev pub small_start : SmallCounts → Numbers
+abbrev pub small_start : SmallCounts → NodeNumbers
 small_start c = record { node = 0; thread = 1; base = suc c.nodes }
 
 -- the number of its last node

@@ -4,7 +4,7 @@ use Rattle.scl.specs.declared.statement.Statement.{Statement}
 use Rattle.scl.specs.declared.statement.Statement.TheOpen.{Statement-F}
 use Rattle.scl.specs.declared.statement.Statement.TheOpen as text
 use Rattle.scl.specs.declared.statement.Statement.TheFolds.{fold-Statement}
-use Rattle.scl_graph.specs.declared.numbers.Counts.{Counts}
+use Rattle.scl_graph.specs.declared.numbers.NodeCounts.{NodeCounts}
 use Rattle.scl_graph.specs.declared.tallies.Tally.{Tally}
 use Rattle.scl_graph.specs.declared.tallies.Tally.TheViews.{out-Tally, roll-Tally}
 use Rattle.scl_graph.specs.declared.totals.Totals.{Totals}
@@ -24,7 +24,7 @@ branches_total [] = of_nodes 0
 branches_total (b ∷ branches) = sum (as_branch (total b)) (branches_total branches)
 
 -- in the numbers that the graph has room for
-abbrev pub sizes_of : Totals → Counts
+abbrev pub sizes_of : Totals → NodeCounts
 sizes_of c = record { nodes = c.nodes; threads = c.threads; lower = c.lower }
 
 abbrev pub tallied : Totals → List (List Tally) → Tally

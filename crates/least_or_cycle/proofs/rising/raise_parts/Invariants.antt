@@ -5,5 +5,5 @@ use Rattle.least_or_cycle.proofs.rising.raise_parts.Given as goal
 abbrev pub invariant-loop-place : goal.invariant-loop-place
 invariant-loop-place g l = record {
   long : length l.table ≡ length l.initial.table;
-  under : IsUnder (g.R.Rule.keeps l.rule) l.top l.table;
+  under : IsUnder (g.R.NumberRule.keeps l.rule) l.top l.table;
 }

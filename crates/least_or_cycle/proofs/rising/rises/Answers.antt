@@ -9,4 +9,4 @@ loop-count-smaller g c =
     let then : sum c.raise_along.new.table < sum c.raise_all.new.table = raised.more in
     let more : sum c.loop-count.table < sum c.raise_all.new.table = omega (arith, first, then) in
     let long : length c.raise_all.new.table ≡ c.args.count = omega arith in
-    sum_left (g.R.Rule.keeps c.args.rule.now) c.args.top c.loop-count.table c.raise_all.new.table c.args.count long raised.under more
+    sum_left (g.R.NumberRule.keeps c.args.rule.now) c.args.top c.loop-count.table c.raise_all.new.table c.args.count long raised.under more

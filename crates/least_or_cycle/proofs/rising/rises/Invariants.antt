@@ -5,7 +5,7 @@ use Rattle.least_or_cycle.proofs.rising.rises.Given as goal
 abbrev pub invariant-loop-count : goal.invariant-loop-count
 invariant-loop-count g l = record {
   long : length l.table ≡ l.count;
-  under : IsUnder (g.R.Rule.keeps l.rule) l.top l.table;
+  under : IsUnder (g.R.NumberRule.keeps l.rule) l.top l.table;
 }
 
 abbrev pub decreases-loop-count : goal.decreases-loop-count

@@ -2,8 +2,8 @@ use Rattle.std.proofs.Common.{ℕ, ◌+◌, List, [], ◌∷◌, ◌++◌, ap, s
 use Rattle.sc_graph.specs.declared.program.Node.{Node}
 use Rattle.sc_graph.specs.declared.program.Thread.{Thread}
 use Rattle.scl.specs.declared.statement.Statement.{Statement}
-use Rattle.scl_graph.specs.declared.numbers.Counts.{Counts}
-use Rattle.scl_graph.specs.declared.numbers.Numbers.{Numbers}
+use Rattle.scl_graph.specs.declared.numbers.NodeCounts.{NodeCounts}
+use Rattle.scl_graph.specs.declared.numbers.NodeNumbers.{NodeNumbers}
 use Rattle.scl_graph.specs.declared.way.Way.{Way}
 use Rattle.scl_graph.specs.declared.way.Way.TheVariants as leads
 use Rattle.scl_graph.specs.Inside.Laying.{IsLaid, way_in}
@@ -14,13 +14,13 @@ pub returns : goal.returns
 returns g c =
     let target : Way → ℕ = g.T.Targets.target c.args.targets.now in
     let body : List Statement = c.args.body.now in
-    let at : Numbers = c.args.at in
+    let at : NodeNumbers = c.args.at in
     let olds : List Thread = c.args.threads.now.items in
     let old : List Node = c.args.nodes.now.items in
     let middle : List Node = c.lay.new.nodes.items in
     let Entered : ℕ → List Thread = λ n. olds ++ record { parent = c.args.parent; entry = n } ∷ [] in
-    let Behind : Counts → Way = λ k. leads.At (at.node + k.nodes) in
-    let Laid : Counts → Type 0 = λ k. IsLaid target c.args.thread body at (Behind k) old middle in
+    let Behind : NodeCounts → Way = λ k. leads.At (at.node + k.nodes) in
+    let Laid : NodeCounts → Type 0 = λ k. IsLaid target c.args.thread body at (Behind k) old middle in
     thread_laid target c.args.parent c.args.thread body at olds c.push.new.self.items old middle c.push-2.new.self.items
     (c.in_ok-push.ensures.items
     ∙ ap Entered (c.target-entry.ensures ∙ ap target (c.way_of.ensures ∙ ap (λ k. way_in body at.node (Behind k)) c.known_counts.ensures.counts)))

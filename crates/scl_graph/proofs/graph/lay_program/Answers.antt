@@ -4,7 +4,7 @@ use Rattle.sc_graph.specs.declared.program.Node.{Node}
 use Rattle.sc_graph.specs.declared.program.Thread.{Thread}
 use Rattle.sc_graph.specs.declared.program.Variable.{Variable}
 use Rattle.scl.specs.declared.statement.Statement.{Statement}
-use Rattle.scl_graph.specs.declared.numbers.Numbers.{Numbers}
+use Rattle.scl_graph.specs.declared.numbers.NodeNumbers.{NodeNumbers}
 use Rattle.scl_graph.specs.declared.way.Way.{Way}
 use Rattle.scl_graph.specs.Counting.{counts_of_all}
 use Rattle.scl_graph.specs.Inside.Forking.{IsThreadLaid}
@@ -19,8 +19,8 @@ returns-in-Ok g c =
     let counts : c.known_counts.result ≡ counts_of_all b = c.known_counts.ensures.counts in
     let nodes : c.known_counts.result.nodes ≡ (counts_of_all b).nodes = ap (λ k. k.nodes) counts in
     let base : c.known_counts.result.nodes + 1 ≡ suc (counts_of_all b).nodes = omega (arith, nodes) in
-    let At : ℕ → Numbers = λ n. record { node = 0; thread = 1; base = n } in
-    let at : Numbers = At (c.known_counts.result.nodes + 1) in
+    let At : ℕ → NodeNumbers = λ n. record { node = 0; thread = 1; base = n } in
+    let at : NodeNumbers = At (c.known_counts.result.nodes + 1) in
     let ts : List Thread = c.lay_thread.new.threads.items in
     let us : List Thread = c.lay_forked.new.threads.items in
     let ns : List Node = c.lay_thread.new.nodes.items in

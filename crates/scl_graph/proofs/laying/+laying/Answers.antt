@@ -5,7 +5,7 @@ use Rattle.sc_graph.specs.declared.program.Node.{Node}
 use Rattle.sc_graph.specs.declared.program.Step.TheVariants as step
 use Rattle.scl.specs.declared.statement.Statement.{Statement}
 use Rattle.scl.specs.declared.statement.Statement.TheViews.{out-Statement}
-use Rattle.scl_graph.specs.declared.numbers.Numbers.{Numbers}
+use Rattle.scl_graph.specs.declared.numbers.NodeNumbers.{NodeNumbers}
 use Rattle.scl_graph.specs.declared.way.Way.{Way}
 use Rattle.scl_graph.specs.Graph.{node}
 use Rattle.scl_graph.specs.Inside.Laying.{HasRoom, IsLaid, after, children, past, way_behind, way_in}
@@ -25,7 +25,7 @@ lay-loop-i-preserved g t c =
     let xs : List Statement = c.args.statements.now in
     let s : Statement = c.index-statements-i.result in
     let rest : List Statement = drop (c.loop-i.i + 1) xs in
-    let here : Numbers = c.loop-i.here in
+    let here : NodeNumbers = c.loop-i.here in
     let behind : Way = c.args.behind.now in
     let before : List Node = c.loop-i.nodes.items in
     let middle : List Node = c.lay_statement.new.nodes.items in
@@ -37,7 +37,7 @@ lay-loop-i-preserved g t c =
     ∙ ap (λ zs. way_behind (out-Statement s) zs c.past-next.result.node c.loop-i.ahead behind) (take_rest xs (c.loop-i.i + 1))
     ∙ ap (λ m. way_behind (out-Statement s) rest m.node c.loop-i.ahead behind) next
     ∙ leads_behind s rest here c.loop-i.ahead behind ahead in
-    let Room : Numbers → Type 0 = λ m. HasRoom m (counts_of_all rest) in
+    let Room : NodeNumbers → Type 0 = λ m. HasRoom m (counts_of_all rest) in
     let Fits : List Statement → Type 0 = λ zs. HasRoom here (counts_of_all zs) in
     let One : Way → Type 0 = λ w. IsLaid target c.args.owner (s ∷ []) here w before middle in
     record {
@@ -45,7 +45,7 @@ lay-loop-i-preserved g t c =
       ahead = leads ∙ ap (λ m. way_in rest m.node behind) (sym next);
       laid = λ new h.
           let Whole : List Statement → Type 0 = λ zs. IsLaid target c.args.owner zs here behind before new in
-          let Others : Numbers → Type 0 = λ m. IsLaid target c.args.owner rest m behind middle new in
+          let Others : NodeNumbers → Type 0 = λ m. IsLaid target c.args.owner rest m behind middle new in
           c.loop-i.invariant.laid new
           (subst Whole (sym split) (laid_more target c.args.owner s rest here behind before middle new (subst One leads c.in_ok-lay_statement.ensures)
           (subst Others next h)));
@@ -64,7 +64,7 @@ lay_statement-returns-in_ok-lay-in-If g t c =
     let target : Way → ℕ = g.T.Targets.target c.args.targets.now in
     let o : ℕ = c.args.owner in
     let s : Statement = c.args.statement.now in
-    let at : Numbers = c.args.at in
+    let at : NodeNumbers = c.args.at in
     let behind : Way = c.args.behind.now in
     let a : List Statement = c.in-If.first in
     let b : List Statement = c.in-If.second in
@@ -89,11 +89,11 @@ lay_statement-returns-in_ok-lay-in-If g t c =
     c.in_ok-lay_test-in-If.ensures
     ∙ ap (λ m. test m c.target-other.result) to_first
     ∙ ap (test (target (way_in a (1 + at.node) behind))) to_second in
-    let FirstAt : Numbers → Type 0 = λ m. IsLaid target o a m behind tested middle in
+    let FirstAt : NodeNumbers → Type 0 = λ m. IsLaid target o a m behind tested middle in
     let FirstOf : List Statement → Type 0 = λ zs. IsLaid target o zs c.after_a_node-inside.result behind tested middle in
     let first : IsLaid target o a (after 1 at) behind tested middle = subst FirstAt inside (subst FirstOf c.as_slice-first.ensures c.in_ok-lay-in-If.ensures) in
     let new : List Node = c.lay-in-If.new.nodes.items in
-    let SecondAt : Numbers → Type 0 = λ m. IsLaid target o b m behind middle new in
+    let SecondAt : NodeNumbers → Type 0 = λ m. IsLaid target o b m behind middle new in
     let SecondOf : List Statement → Type 0 = λ zs. IsLaid target o zs c.past-further.result behind middle new in
     ok_then c.lay-in-If.result
     (λ v. IsLaid target o c.as_slice-second.result.now c.past-further.result behind middle new)
@@ -106,7 +106,7 @@ pub lay_statement-returns-in_ok-forked-in-Fork : goal.lay_statement-returns-in_o
 lay_statement-returns-in_ok-forked-in-Fork g t c =
     let target : Way → ℕ = g.T.Targets.target c.args.targets.now in
     let o : ℕ = c.args.owner in
-    let at : Numbers = c.args.at in
+    let at : NodeNumbers = c.args.at in
     let behind : Way = c.args.behind.now in
     let old : List Node = c.args.nodes.now.items in
     let new : List Node = c.lay_fork.new.nodes.items in

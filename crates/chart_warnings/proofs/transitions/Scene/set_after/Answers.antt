@@ -1,5 +1,5 @@
 use Rattle.std.proofs.Common.{◌≡◌, ◌++◌, ℕ, List, false, length, replicate, slice_get, ap, sym, subst, ◌∙◌}
-use Rattle.chart_warnings.specs.declared.names.Way.TheVariants as way
+use Rattle.chart_warnings.specs.declared.names.Mention.TheVariants as way
 use Rattle.chart_warnings.specs.Warnings.{entry_at}
 use Rattle.chart_warnings.specs.Inside.Marks.{Tells, all_by, by_transition, marked}
 use Rattle.chart_warnings.proofs.Marking.{marked_append, tells_marked}
