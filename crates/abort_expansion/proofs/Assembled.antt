@@ -121,7 +121,8 @@ either_shape true declared variables levels m high name regions own around to pl
 either_shape false declared variables levels m high name regions own around to place begins at stay h is small =
     split_shape (is_prepared around own) declared variables levels m high name regions own around to place begins at h is small
 
-located_either : (c : Bool) (variables : List Variable) (regions : List Region) (own : List Transition) (around : List Flags) (name : List ℕ) (to : RegionPlaces)
+located_either : (c : Bool) (variables : List Variable) (regions : List Region) (own : List Transition) (around : List Flags) (name : List ℕ)
+    (to : RegionPlaces)
     (place : ℕ) (begins : Bool) (at : NextNumbers)
     → Located variables at.variable
     (if c

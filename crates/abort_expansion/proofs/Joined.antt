@@ -118,7 +118,8 @@ no_shape low high = record { wide = refl; begins = refl; called = tt; apart = tt
 abbrev pieces_of : List State → List StatePiece
 pieces_of states = map piece_of_state states
 
-pub states_shape : (variables : List Variable) (levels m : ℕ) (states : List State) (anew : Bool) (around : List Flags) (to : RegionPlaces) (place : ℕ) (at : NextNumbers)
+pub states_shape : (variables : List Variable) (levels m : ℕ) (states : List State) (anew : Bool) (around : List Flags) (to : RegionPlaces)
+    (place : ℕ) (at : NextNumbers)
     → AllKeep variables levels m states → Each IsText (names_of states) → Apart (names_of states)
     → at.superstate + superstates_among (pieces_of states) ≤ 2 ^ 64
     → HasShape (names_of states) at.superstate (at.superstate + superstates_among (pieces_of states)) (widths (pieces_of states) around)

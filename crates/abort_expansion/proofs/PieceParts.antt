@@ -49,7 +49,8 @@ over name regions own around to place begins at =
     let flags : Flags = flags_of (weak_around around) own at.variable in
     superstate_over name (length regions) own around flags (inside_superstate (map piece_of_region regions) own around flags at) to place begins at
 
-superstate_of : (is_initial is_final : Bool) (name : List ℕ) (regions : List Region) (own : List Transition) (around : List Flags) (to : RegionPlaces) (place : ℕ)
+superstate_of : (is_initial is_final : Bool) (name : List ℕ) (regions : List Region) (own : List Transition) (around : List Flags)
+    (to : RegionPlaces) (place : ℕ)
     (begins : Bool) (at : NextNumbers)
     → has_regions regions ≡ true
     → (state_piece (record { name = name; is_initial = is_initial; is_final = is_final; regions = map piece_of_region regions; transitions = own })).made around

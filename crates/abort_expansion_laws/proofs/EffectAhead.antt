@@ -40,7 +40,8 @@ overwritten r moves begins regions v =
     ap (λ ms. moved ms (slice_set regions r v)) begins.are ∙ (ap (moved begins.others) (set_twice regions r v begins.first) ∙
     ap (λ ms. moved ms regions) (sym begins.are))
 
-pub not_counting : (places : RegionPlaces) (p : ℕ) (effects : List Effect) → unwrap_or (slice_get places.finals p) false ≡ false → counting places p effects ≡ effects
+pub not_counting : (places : RegionPlaces) (p : ℕ) (effects : List Effect) → unwrap_or (slice_get places.finals p) false ≡ false →
+    counting places p effects ≡ effects
 not_counting places p effects e = rw (e) refl
 
 pub none_counted : (k core : Table) (i : Images) (b : Bool) (counter : Option ℕ) (values : List Value) → b ≡ false → Counts k core i b counter values values

@@ -64,7 +64,8 @@ side_local (r ∷ regions) each flags counter numbers =
     local_append ((piece_of_region r).made flags counter numbers).variables _ (each.0 flags counter numbers)
     (side_local regions each.1 flags counter (past_region (weak_around flags) (piece_of_region r) numbers))
 
-super_local : (name : List ℕ) (n : ℕ) (all : List Transition) (flags : List Flags) (f : Flags) (inside : Regions) (to : RegionPlaces) (place : ℕ) (begins : Bool)
+super_local : (name : List ℕ) (n : ℕ) (all : List Transition) (flags : List Flags) (f : Flags) (inside : Regions) (to : RegionPlaces) (place : ℕ)
+    (begins : Bool)
     (numbers : NextNumbers) → AreLocal inside.variables → (s p : Bool) → let made : StatePieces =
     if s
     then as_it_is name all inside to begins numbers
@@ -87,7 +88,8 @@ layer_local name initial final (r ∷ regions) all each flags to place begins nu
     (expanded_regions (map piece_of_region (r ∷ regions)) (flags ++ f ∷ []) f.counter at) to place begins numbers
     (side_local (r ∷ regions) each (flags ++ f ∷ []) f.counter at) (stays flags all) (is_prepared flags all)
 
-states_local : (anew : Bool) (states : List State) → items.Each StateLocal states → (flags : List Flags) (to : RegionPlaces) (place : ℕ) (numbers : NextNumbers) →
+states_local : (anew : Bool) (states : List State) → items.Each StateLocal states → (flags : List Flags) (to : RegionPlaces) (place : ℕ)
+    (numbers : NextNumbers) →
     AreLocal (expanded_states anew (map piece_of_state states) flags to place numbers).variables
 states_local anew [] each flags to place numbers = tt
 states_local anew (s ∷ states) each flags to place numbers =

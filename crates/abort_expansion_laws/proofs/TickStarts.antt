@@ -63,7 +63,8 @@ some_kept P (t ∷ ts) e = by_own (P t) refl e (λ rest. some_kept P ts rest)
         skipped = rw (is) refl
 
 -- leading somewhere keeps the sort
-pub led_kept : (P : Transition → Bool) (places : Rattle.abort_expansion.specs.declared.places.RegionPlaces.RegionPlaces) → ((t : Transition) → P (led places t) ≡ P t) →
+pub led_kept : (P : Transition → Bool) (places : Rattle.abort_expansion.specs.declared.places.RegionPlaces.RegionPlaces) → ((t : Transition) →
+    P (led places t) ≡ P t) →
     (ts : List Transition) → filter P (map (led places) ts) ≡ map (led places) (filter P ts)
 led_kept P places same [] = refl
 led_kept P places same (t ∷ ts) = by_own (P t) refl (led_kept P places same ts)

@@ -63,7 +63,8 @@ module _ (w : World) (numbers : NextNumbers) (a b : ℕ) (xs ys : List (Option �
         numbered = h.numbered;
       }
 
-  pub entries_second : (next : NextNumbers) (c d : ℕ) → a + length first.states ≡ c → b + length xs ≡ d → numbers.variable + length first.owners ≡ next.variable →
+  pub entries_second : (next : NextNumbers) (c d : ℕ) → a + length first.states ≡ c → b + length xs ≡ d →
+      numbers.variable + length first.owners ≡ next.variable →
       next.state ≡ c → Entries w numbers a b (xs ++ ys) both_parts → Entries w next c d ys second
   entries_second next c d e f g numbered h =
       record {

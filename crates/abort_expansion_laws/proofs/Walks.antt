@@ -51,7 +51,8 @@ module _ (w : World) where
     pub low : length w.k.variables ≤ numbers.variable
     pub numbered : numbers.state ≡ a
 
-  pub record StateStands (p : Piece) (made : StatePieces) (flags : List Flags) (places : RegionPlaces) (place : ℕ) (numbers : NextNumbers) (a b : TablePosition) (next : ℕ)
+  pub record StateStands (p : Piece) (made : StatePieces) (flags : List Flags) (places : RegionPlaces) (place : ℕ) (numbers : NextNumbers)
+      (a b : TablePosition) (next : ℕ)
       (more : List Piece) (part : Part) : Type 0 where
     pub chart : Holds w.k a (p.parts a)
     pub core : InRegionAt w.core (pieces_of made.states ++ more) next b

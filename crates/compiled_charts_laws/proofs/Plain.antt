@@ -196,7 +196,8 @@ module _ (name : List ℕ) (is_initial is_final : Bool) (regions : List Region) 
           stands_for = numbers_from at.state (suc (states_in (map piece_of_region (r ∷ rs))));
         }) (map_same (led to) all stay)
 
-  state_made : (rs : List Region) → regions ≡ rs → (around : List Flags) → Each HasNone around → (to : RegionPlaces) → Each (λ t. led to t ≡ t) all → (place : ℕ)
+  state_made : (rs : List Region) → regions ≡ rs → (around : List Flags) → Each HasNone around → (to : RegionPlaces) → Each (λ t. led to t ≡ t) all →
+      (place : ℕ)
       (begins : Bool) (at : NextNumbers) →
       (state_piece (opened rs)).made around to place begins at ≡ of_regions begins is_final rs at.state (suc (states_in (map piece_of_region rs)))
   state_made [] are around plain to stay place begins at =

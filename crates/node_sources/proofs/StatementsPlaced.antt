@@ -48,7 +48,8 @@ module _ (text : List ℕ) (names : List (List ℕ)) where
   as_many (s ∷ spots) [] h = absurd h
   as_many (s ∷ spots) (p ∷ points) h = ap suc (as_many spots points h.1)
 
-  pub stand_at : (spots : List StatementPlace) (points : List Point) → Stand spots points → (n : ℕ) (s : StatementPlace) (p : Point) → slice_get spots n ≡ Some s →
+  pub stand_at : (spots : List StatementPlace) (points : List Point) → Stand spots points → (n : ℕ) (s : StatementPlace) (p : Point) →
+      slice_get spots n ≡ Some s →
       slice_get points n ≡ Some p → SpotStands s p
   stand_at [] points h n s p i j = absurd cc
   stand_at (t ∷ spots) [] h n s p i j = absurd h

@@ -73,7 +73,8 @@ module _ (l : Language) (at n : ℕ) (bytes : List ℕ) (k : Option TokenKind) (
       subst (λ t. AreTokens l 0 bytes t) (sym (append_assoc tokens (token_at at k) more))
       (done (token_at at k ++ more) (kept_tokens k g more (subst (λ t. AreTokens l (at + n) t more) (sym behind) a)))
 
-  kept_fault : (o : Option TokenKind) → MatchOption o (IsPassed (take n (drop at bytes))) (λ t. Spells l (take n (drop at bytes)) t) → (b : FaultKind) (place : ℕ)
+  kept_fault : (o : Option TokenKind) → MatchOption o (IsPassed (take n (drop at bytes))) (λ t. Spells l (take n (drop at bytes)) t) →
+      (b : FaultKind) (place : ℕ)
       → IsFirstFault l (at + n) (drop n (drop at bytes)) b place → IsFirstFault l at (drop at bytes) b place
   kept_fault None h b place a = fault_passed l at n (drop at bytes) c b place h a
   kept_fault (Some t) h b place a = fault_more l at n (drop at bytes) c t b place h a

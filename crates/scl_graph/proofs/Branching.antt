@@ -173,7 +173,8 @@ pub forked_label : (target : Way → ℕ) (t : ℕ) (s : Statement) (at : NodeNu
 forked_label target t s at threads nodes name is = by_piece target t s at threads threads nodes nodes (piece (tree.Label name))
     (ap piece_of is ∙ piece_of_label name) (λ g. sym (append-nil threads)) (λ g. sym (append-nil nodes))
 
-pub forked_goto : (target : Way → ℕ) (t : ℕ) (s : Statement) (at : NodeNumbers) (threads : List Thread) (nodes : List Node) (name : List ℕ) → s ≡ variant.Goto name
+pub forked_goto : (target : Way → ℕ) (t : ℕ) (s : Statement) (at : NodeNumbers) (threads : List Thread) (nodes : List Node) (name : List ℕ) →
+    s ≡ variant.Goto name
     → AreForkedLaid target t (s ∷ []) at threads threads nodes nodes
 forked_goto target t s at threads nodes name is = by_piece target t s at threads threads nodes nodes (piece (tree.Goto name))
     (ap piece_of is ∙ piece_of_goto name) (λ g. sym (append-nil threads)) (λ g. sym (append-nil nodes))
@@ -197,7 +198,8 @@ forked_if target t s at x y z l m n e a b is first second =
     (λ g. second.nodes (h g) ∙ ap (λ r. r ++ below target (q g)) (first.nodes g) ∙ append_assoc l (below target (p g)) (below target (q g))
     ∙ ap (λ r. l ++ r) (sym (append-nil (below target (p g) ++ below target (q g)))))
 
-pub forked_fork : (target : Way → ℕ) (t : ℕ) (s : Statement) (at : NodeNumbers) (olds news : List Thread) (old new : List Node) (branches : List (List Statement))
+pub forked_fork : (target : Way → ℕ) (t : ℕ) (s : Statement) (at : NodeNumbers) (olds news : List Thread) (old new : List Node)
+    (branches : List (List Statement))
     → s ≡ variant.Fork branches
     → AreBranchesLaid target t branches at olds news old new → AreForkedLaid target t (s ∷ []) at olds news old new
 forked_fork target t s at olds news old new branches is laid =

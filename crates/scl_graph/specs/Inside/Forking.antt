@@ -43,7 +43,8 @@ pub record IsThreadLaid (target : Way → ℕ) (parent : Option ℕ) (t : ℕ) (
   pub nodes : (g : ℕ) → new ≡ old ++ of_thread target t (body statements at g)
 
 -- behind the old ones the threads that thread t forks in these statements were put, and their nodes
-pub record AreForkedLaid (target : Way → ℕ) (t : ℕ) (statements : List Statement) (at : NodeNumbers) (olds news : List Thread) (old new : List Node) : Type 0 where
+pub record AreForkedLaid (target : Way → ℕ) (t : ℕ) (statements : List Statement) (at : NodeNumbers) (olds news : List Thread)
+    (old new : List Node) : Type 0 where
   pub threads : (g : ℕ) → news ≡ olds ++ forked target t (text statements at g)
   pub nodes : (g : ℕ) → new ≡ old ++ below target (text statements at g)
 
