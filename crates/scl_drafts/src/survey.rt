@@ -5,6 +5,7 @@ ghost use Rattle.sc_graph.specs.Limits.{child_limit};
 ghost use Rattle.drafts.specs.Flaws.{flaw_if, is_full};
 ghost use Rattle.scl_drafts.specs.Flaws.{in_row, thread, only_flaws, part_of, parts_of};
 ghost use Rattle.scl_drafts.specs.Survey.{survey, behind, found_behind, label_part};
+ghost use Rattle.sc_text.specs.declared.read_fault.FaultKind.TheVariants.{Limit};
 
 use crate::labels::note_lost;
 use crate::statement::TextStatement;
@@ -125,7 +126,7 @@ fn note_label(label: &Named, own: &mut Thread, found: &mut Found) -> Result<(), 
 // What is too many at the word of a branch behind so many others.
 #[tactic(auto, using(crate::proofs::Surveyed::branch_noted))]
 fn note_branch(before: usize, at: usize, found: &mut Found)
-    ensures { found.new ≡ found_behind found.old (only_flaws (flaw_if (is_full child_limit before) FaultKind.Limit at)) }
+    ensures { found.new ≡ found_behind found.old (only_flaws (flaw_if (is_full child_limit before) Limit at)) }
 {
     note_if(
         &mut found.first,
