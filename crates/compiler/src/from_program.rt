@@ -27,6 +27,7 @@ pub fn compile_program(alloc: Global, program: Program) -> Result<Verified, Comp
     let tables = least_tables(alloc, &program)?;
     let image = match Image::of(program, tables) {
         Some(image) => image,
+        // least tables have an entry for each node and each thread
         None => unreachable!(),
     };
     match verify(alloc, image) {

@@ -29,6 +29,7 @@ pub fn compile_scl(alloc: Global, scl: &Scl) -> Result<Verified, CompileFault>
         Err(_) => return Err(CompileFault::Graph(GraphFault::Memory)),
     };
     if !formed {
+        // the graph of a program is formed, by its law
         unreachable!();
     }
     compile_program(alloc, program)
