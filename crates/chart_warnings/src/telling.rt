@@ -5,7 +5,7 @@ ghost use Rattle.chart_warnings.specs.Warnings.{count, led_to, told_regions, tol
 ghost use Rattle.chart_warnings.specs.Inside.Marks.{Tells};
 
 use crate::states::{led_to, warn_of_state};
-use crate::transitions::Scene;
+use crate::transitions::StateContext;
 use crate::variables::warn_of_variables;
 use crate::warning::Warning;
 use core_charts::{Chart, DEPTH_LIMIT, Region, State};
@@ -95,7 +95,7 @@ impl Told {
         warn_of_state(states, led, place, number, state, &mut self.warnings)?;
         self.count()?;
         self.tell_regions(alloc, levels, variables, state.regions.as_slice())?;
-        let scene = Scene {
+        let scene = StateContext {
             variables,
             states,
             state,

@@ -21,7 +21,7 @@ use std::alloc::{AllocError, Global};
 
 /// Where a state's transitions stand: the chart's variables, the states of the region, and the state with its number.
 #[derive(Clone, Copy)]
-pub(crate) struct Scene<'a> {
+pub(crate) struct StateContext<'a> {
     pub(crate) variables: &'a [Variable],
     pub(crate) states: &'a [State],
     pub(crate) state: &'a State,
@@ -37,7 +37,7 @@ struct Inside {
     counted: Vec<bool>,
 }
 
-impl<'a> Scene<'a> {
+impl<'a> StateContext<'a> {
     /// The warnings of the state's transitions come behind others.
     pub(crate) fn warn_of_transitions(
         self,

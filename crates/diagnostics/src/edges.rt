@@ -34,7 +34,7 @@ fn begins(program: &Program, threads: &[ThreadId], node: NodeId) -> bool {
 }
 
 // How control flows from a node to another within a tick. None: it does not.
-fn flow(program: &Program, links: &Links, from: NodeId, to: NodeId) -> Option<&'static str> {
+fn flow_words(program: &Program, links: &Links, from: NodeId, to: NodeId) -> Option<&'static str> {
     let step = program.step(from)?;
     let next = next_nodes(program, links, from, step);
     if next.first == Some(to) || next.second == Some(to) {
@@ -75,7 +75,7 @@ pub(crate) fn reason(
     from: NodeId,
     to: NodeId,
 ) -> Result<Option<String>, AllocError> {
-    if let Some(words) = flow(program, links, from, to) {
+    if let Some(words) = flow_words(program, links, from, to) {
         return Ok(Some(String::from_str(alloc, words)?));
     }
     let Some((name, first, second)) = protocol(program, from, to) else {

@@ -35,7 +35,7 @@ fn next_of(walk: &[NodeId], number: usize) -> Option<NodeId> {
 }
 
 // A node of a walk, and why it has to come before the next one.
-fn step_text(
+fn step_line(
     alloc: Global,
     shown: &Shown<'_>,
     links: &Links,
@@ -61,7 +61,7 @@ pub(crate) fn walk_text(
     let links = Links::of(alloc, &shown.program)?;
     let mut text = String::new(alloc);
     for (number, node) in walk.iter().enumerate() {
-        let part = step_text(alloc, shown, &links, walk, number, *node)?;
+        let part = step_line(alloc, shown, &links, walk, number, *node)?;
         text.push_str(part.as_str())?;
     }
     Ok(text)

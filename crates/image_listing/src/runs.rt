@@ -46,7 +46,7 @@ impl Runs {
     }
 
     // Shows a run, or counts its nodes where enough are shown.
-    fn show(&mut self, run: Run) -> Result<(), AllocError> {
+    fn write_run(&mut self, run: Run) -> Result<(), AllocError> {
         if self.shown >= MOST_RUNS {
             let more = u32::from(run.last.saturating_sub(run.first)).saturating_add(1);
             self.left_out = self.left_out.saturating_add(more);
@@ -72,7 +72,7 @@ impl Runs {
                 });
             }
             Some(run) => {
-                self.show(run)?;
+                self.write_run(run)?;
                 self.open = Some(alone);
             }
             None => self.open = Some(alone),
@@ -83,7 +83,7 @@ impl Runs {
     /// Their text. It is empty where there is none.
     pub(crate) fn into_text(mut self) -> Result<String, AllocError> {
         if let Some(run) = self.open {
-            self.show(run)?;
+            self.write_run(run)?;
         }
         let left_out = self.left_out;
         if left_out > 0 {

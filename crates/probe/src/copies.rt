@@ -102,7 +102,7 @@ fn log(writer: &mut Shared, next: Note) -> bool
 
 // Shows the next note. It waits for readers that still read the other copy. Err: memory was refused, and nothing
 // changed.
-fn show<R: Wait>(rt: &R, writer: Shared, next: Note) -> (Shared, Result<(), AllocError>)
+fn put_note<R: Wait>(rt: &R, writer: Shared, next: Note) -> (Shared, Result<(), AllocError>)
     requires idle { drop writer.behind writer.log.items ≡ [] }
     requires next { Extends writer.desk.shown.value next }
     ensures idle { drop result.0.behind result.0.log.items ≡ [] }
@@ -144,7 +144,7 @@ impl Copies {
         ensures { IfOk result (λ c. c ≡ first.now) }
     {
         let writer: Shared = Writer::new(alloc, first.again(), first.again(), SEATS)?;
-        let (writer, done) = show(rt, writer, first.again());
+        let (writer, done) = put_note(rt, writer, first.again());
         match done {
             Ok(()) => Ok(Copies { writer }),
             Err(error) => {
@@ -159,7 +159,7 @@ impl Copies {
         ensures { IfOk result (λ c. c ≡ first.now) }
     {
         let copies = Copies::showing(rt, alloc, first)?;
-        let (copies, done) = copies.show(rt, first.again());
+        let (copies, done) = copies.put(rt, first.again());
         match done {
             Ok(()) => Ok(copies),
             Err(error) => {
@@ -171,13 +171,13 @@ impl Copies {
 
     /// Shows the next note. It waits for readers that still read the other copy. Err: memory was refused, and nothing
     /// changed.
-    pub fn show<R: Wait>(self, rt: &R, next: Note) -> (Copies, Result<(), AllocError>)
+    pub fn put<R: Wait>(self, rt: &R, next: Note) -> (Copies, Result<(), AllocError>)
         requires { Extends self next }
         ensures shown { MatchResult result.1 (λ _. result.0 ≡ next) (λ _. result.0 ≡ self) }
         ensures step { OnOk result.1 (Shows (Some self) self next (Some next)) }
     {
         let Copies { writer } = self;
-        let (writer, done) = show(rt, writer, next);
+        let (writer, done) = put_note(rt, writer, next);
         (Copies { writer }, done)
     }
 

@@ -132,7 +132,7 @@ impl Publisher {
             return Err(AllocError);
         }
         let next = Note::of(end, history.beginning());
-        match show(rt, &mut self.copies, next.again()) {
+        match put_in(rt, &mut self.copies, next.again()) {
             Ok(()) => {
                 self.note = next;
                 self.history = Some(history);
@@ -163,13 +163,13 @@ impl Publisher {
 }
 
 // Shows the next note at the copies. Err: memory was refused, and nothing changed.
-fn show<R: Wait>(rt: &R, place: &mut Option<Copies>, next: Note) -> Result<(), AllocError>
+fn put_in<R: Wait>(rt: &R, place: &mut Option<Copies>, next: Note) -> Result<(), AllocError>
     requires { (shown : Progress) × (place.old ≡ Some shown) × Extends shown next }
     ensures shown { MatchResult result (λ _. place.new ≡ Some next) (λ _. place.new ≡ place.old) }
     ensures step { OnOk result ((shown : Progress) × (place.old ≡ Some shown)
         × Shows (Some shown) shown next (Some next)) }
 {
-    let (copies, done) = place.take().unwrap().show(rt, next);
+    let (copies, done) = place.take().unwrap().put(rt, next);
     put_back(place, copies);
     done
 }

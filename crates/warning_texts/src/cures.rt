@@ -1,14 +1,14 @@
 //! What helps where a warning is told.
 
 use crate::allowance::code_text;
-use crate::scene::Scene;
+use crate::scene::WarnedText;
 use chart_warnings::Warning;
 use std::alloc::{AllocError, Global};
 
 /// What helps, and how to say that it is meant. Err: memory was refused.
 pub(crate) fn cure_of(
     alloc: Global,
-    scene: Scene<'_>,
+    scene: WarnedText<'_>,
     warning: Warning,
 ) -> Result<String, AllocError> {
     let cure = change_of(alloc, scene, warning)?;
@@ -17,7 +17,7 @@ pub(crate) fn cure_of(
 }
 
 // What may be written otherwise.
-fn change_of(alloc: Global, scene: Scene<'_>, warning: Warning) -> Result<String, AllocError> {
+fn change_of(alloc: Global, scene: WarnedText<'_>, warning: Warning) -> Result<String, AllocError> {
     match warning {
         Warning::StaysOn { output, .. } => setting(alloc, scene, output),
         other => String::from_str(alloc, fixed_change(other)),
@@ -25,7 +25,7 @@ fn change_of(alloc: Global, scene: Scene<'_>, warning: Warning) -> Result<String
 }
 
 // That an abort sets an output.
-fn setting(alloc: Global, scene: Scene<'_>, output: usize) -> Result<String, AllocError> {
+fn setting(alloc: Global, scene: WarnedText<'_>, output: usize) -> Result<String, AllocError> {
     let name = scene.variable(alloc, output)?;
     let rest = scene.rest(output);
     format!(in alloc; "set it in the effects of the transition, as `do {name} = {rest}`")

@@ -9,7 +9,7 @@ ghost use Rattle.warning_texts.specs.Reports.{IsReport};
 use crate::allowance::code_text;
 use crate::cures::cure_of;
 use crate::lines::are_lines;
-use crate::scene::Scene;
+use crate::scene::WarnedText;
 use crate::words::cause_of;
 use chart_warnings::Warning;
 use diagnostics::{marked_line, spot_of, spot_text};
@@ -22,7 +22,7 @@ const LINES: usize = 4;
 /// warned of, the line of the text with a mark under the place, and what helps. Err: memory was refused.
 pub(crate) fn report_of(
     alloc: Global,
-    scene: Scene<'_>,
+    scene: WarnedText<'_>,
     warning: Warning,
     at: usize,
 ) -> Result<String, AllocError>
@@ -39,7 +39,7 @@ pub(crate) fn report_of(
 // What is said of a warning behind its code.
 fn said_of(
     alloc: Global,
-    scene: Scene<'_>,
+    scene: WarnedText<'_>,
     warning: Warning,
     at: usize,
 ) -> Result<String, AllocError>

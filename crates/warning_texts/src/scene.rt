@@ -9,14 +9,14 @@ use std::alloc::{AllocError, Global};
 
 /// The shown name of a file, its text, the draft of the text, and the places in it of which warnings speak.
 #[derive(Clone, Copy)]
-pub(crate) struct Scene<'a> {
+pub(crate) struct WarnedText<'a> {
     pub(crate) name: &'a str,
     pub(crate) text: &'a str,
     pub(crate) draft: &'a DraftChart,
     pub(crate) places: &'a ChartPlaces,
 }
 
-impl<'a> Scene<'a> {
+impl<'a> WarnedText<'a> {
     /// The name of a variable. Err: memory was refused.
     pub(crate) fn variable(self, alloc: Global, number: usize) -> Result<String, AllocError> {
         name_at(alloc, self.text, self.places.variable(number))

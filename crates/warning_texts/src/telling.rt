@@ -9,7 +9,7 @@ ghost use Rattle.warning_texts.specs.Inside.Gaining.{Gains};
 use crate::allowance::is_allowed;
 use crate::places::places_of;
 use crate::report::report_of;
-use crate::scene::Scene;
+use crate::scene::WarnedText;
 use chart_drafts::{DraftChart, read_checked};
 use chart_reader::chart_of;
 use chart_warnings::{Warning, warnings_of};
@@ -39,7 +39,7 @@ fn told_of(alloc: Global, name: &str, text: &str, draft: &DraftChart) -> Result<
     let chart = chart_of(alloc, draft)?;
     let warnings = warnings_of(alloc, &chart)?;
     let places = places_of(alloc, draft)?;
-    let scene = Scene {
+    let scene = WarnedText {
         name,
         text,
         draft,
@@ -50,7 +50,11 @@ fn told_of(alloc: Global, name: &str, text: &str, draft: &DraftChart) -> Result<
 
 // The reports of these warnings, one behind the other.
 #[tactic(auto, using(crate::proofs::Joining::begins))]
-fn tell_all(alloc: Global, scene: Scene<'_>, warnings: &[Warning]) -> Result<String, AllocError>
+fn tell_all(
+    alloc: Global,
+    scene: WarnedText<'_>,
+    warnings: &[Warning],
+) -> Result<String, AllocError>
     ensures { IfOk result (λ told. AreReports scene.entry.name.now
         (heads_of scene.entry.text.now scene.entry.places.now warnings.now) (string_bytes told)) }
 {
@@ -65,7 +69,7 @@ fn tell_all(alloc: Global, scene: Scene<'_>, warnings: &[Warning]) -> Result<Str
 #[tactic(auto, using(crate::proofs::Joining::none_gained, crate::proofs::Joining::one_gained))]
 fn tell(
     alloc: Global,
-    scene: Scene<'_>,
+    scene: WarnedText<'_>,
     warning: Warning,
     told: &mut String,
 ) -> Result<(), AllocError>

@@ -1,13 +1,13 @@
 //! Warnings in words.
 
-use crate::scene::Scene;
+use crate::scene::WarnedText;
 use chart_warnings::Warning;
 use std::alloc::{AllocError, Global};
 
 /// What is warned of. Err: memory was refused.
 pub(crate) fn cause_of(
     alloc: Global,
-    scene: Scene<'_>,
+    scene: WarnedText<'_>,
     warning: Warning,
 ) -> Result<String, AllocError> {
     match warning {
@@ -24,7 +24,7 @@ pub(crate) fn cause_of(
 
 fn stays_on(
     alloc: Global,
-    scene: Scene<'_>,
+    scene: WarnedText<'_>,
     state: usize,
     output: usize,
 ) -> Result<String, AllocError> {
@@ -33,40 +33,40 @@ fn stays_on(
     format!(in alloc; "this abort leaves `{output}` as `{state}` has set it")
 }
 
-fn forestalled(alloc: Global, scene: Scene<'_>, state: usize) -> Result<String, AllocError> {
+fn forestalled(alloc: Global, scene: WarnedText<'_>, state: usize) -> Result<String, AllocError> {
     let state = scene.state(alloc, state)?;
     format!(in alloc;
         "this transition of `{state}` is never taken: one without a trigger is taken in its place"
     )
 }
 
-fn unreached(alloc: Global, scene: Scene<'_>, state: usize) -> Result<String, AllocError> {
+fn unreached(alloc: Global, scene: WarnedText<'_>, state: usize) -> Result<String, AllocError> {
     let state = scene.state(alloc, state)?;
     format!(in alloc;
         "nothing leads to `{state}`: it is not initial, and no transition of another state goes there"
     )
 }
 
-fn never_read(alloc: Global, scene: Scene<'_>, variable: usize) -> Result<String, AllocError> {
+fn never_read(alloc: Global, scene: WarnedText<'_>, variable: usize) -> Result<String, AllocError> {
     let variable = scene.variable(alloc, variable)?;
     format!(in alloc;
         "the local variable `{variable}` is never read: no trigger and no other variable needs it"
     )
 }
 
-fn never_set(alloc: Global, scene: Scene<'_>, variable: usize) -> Result<String, AllocError> {
+fn never_set(alloc: Global, scene: WarnedText<'_>, variable: usize) -> Result<String, AllocError> {
     let variable = scene.variable(alloc, variable)?;
     format!(in alloc; "`{variable}` is never set: no effect writes it")
 }
 
-fn never_asked(alloc: Global, scene: Scene<'_>, input: usize) -> Result<String, AllocError> {
+fn never_asked(alloc: Global, scene: WarnedText<'_>, input: usize) -> Result<String, AllocError> {
     let input = scene.variable(alloc, input)?;
     format!(in alloc; "the input `{input}` is never read: no trigger and no effect needs it")
 }
 
 fn never_ended(
     alloc: Global,
-    scene: Scene<'_>,
+    scene: WarnedText<'_>,
     state: usize,
     region: usize,
 ) -> Result<String, AllocError> {
@@ -77,7 +77,7 @@ fn never_ended(
     )
 }
 
-fn never_left(alloc: Global, scene: Scene<'_>, state: usize) -> Result<String, AllocError> {
+fn never_left(alloc: Global, scene: WarnedText<'_>, state: usize) -> Result<String, AllocError> {
     let state = scene.state(alloc, state)?;
     format!(in alloc;
         "`{state}`, in which its region begins, is never left for another state of the region"

@@ -3,7 +3,7 @@ use Rattle.chart_warnings.specs.declared.names.Mention.TheVariants as way
 use Rattle.chart_warnings.specs.Warnings.{entry_at}
 use Rattle.chart_warnings.specs.Inside.Marks.{Tells, all_by, by_transition, marked}
 use Rattle.chart_warnings.proofs.Marking.{marked_append, tells_marked}
-use Rattle.chart_warnings.proofs.transitions.Scene.set_after.Goals as goal
+use Rattle.chart_warnings.proofs.transitions.StateContext.set_after.Goals as goal
 
 pub returns : goal.returns
 returns c =

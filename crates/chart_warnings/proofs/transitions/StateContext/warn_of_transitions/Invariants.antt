@@ -1,7 +1,7 @@
 use Rattle.std.proofs.Common.{◌≡◌, ◌++◌, drop}
 use Rattle.core_charts.specs.declared.region.Region.TheViews.{out-State}
 use Rattle.chart_warnings.specs.Warnings.{of_transitions}
-use Rattle.chart_warnings.proofs.transitions.Scene.warn_of_transitions.Given as goal
+use Rattle.chart_warnings.proofs.transitions.StateContext.warn_of_transitions.Given as goal
 
 abbrev pub invariant-loop-place : goal.invariant-loop-place
 invariant-loop-place l =
