@@ -1,7 +1,7 @@
 use Rattle.std.proofs.Common.{◌≡◌, List, ap, ◌∙◌, drop, fold, [], ◌∷◌, ◌++◌}
 use Rattle.probe.specs.Progress.{Progress}
 use Rattle.probe.proofs.Seats.{shows}
-use Rattle.probe.proofs.copies.show.Goals as goal
+use Rattle.probe.proofs.copies.put_note.Goals as goal
 
 pub publish_as-requires : goal.publish_as-requires
 publish_as-requires g c next is =

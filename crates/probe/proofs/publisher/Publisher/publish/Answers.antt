@@ -7,8 +7,8 @@ use Rattle.probe.proofs.publisher.Publisher.publish.Goals as goal
 pub of-next-requires : goal.of-next-requires
 of-next-requires g c = rw (c.beginning.ensures, c.if-not-add.ensures.added) (last_snoc None c.in-Some.history.rows c.args.end)
 
-pub show-requires : goal.show-requires
-show-requires g c =
+pub put_in-requires : goal.put_in-requires
+put_in-requires g c =
     let note = c.self.inside.note in
     let same : c.in-Some.history ≡ note = subst (λ (h : Option Progress). IsAt h note) (sym c.take.ensures.value ∙ c.in-Some.is) c.self.invariant.1 in
     let next : c.again.result ≡ c.add.new.self = c.again.ensures ∙ (c.of-next.ensures ∙ c.beginning.ensures) in
