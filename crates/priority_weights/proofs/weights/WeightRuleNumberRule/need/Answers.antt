@@ -5,7 +5,7 @@ use Rattle.least_or_cycle.specs.Least.{IsNeeded}
 use Rattle.priority_weights.specs.Inside.Entries.{bits, WeightKept}
 use Rattle.priority_weights.proofs.Rooms.{step_placed}
 use Rattle.priority_weights.proofs.Weighing.{weight_needed}
-use Rattle.priority_weights.proofs.weights.WeightRuleRule.need.Goals as goal
+use Rattle.priority_weights.proofs.weights.WeightRuleNumberRule.need.Goals as goal
 
 pub step_weight-requires : goal.step_weight-requires
 step_weight-requires c = (step_placed c.self.inside.program.now c.self.invariant c.args.place c.in-Some.step.now (sym c.in-Some.ensures)).3

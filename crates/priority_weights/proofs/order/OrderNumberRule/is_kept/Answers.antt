@@ -5,7 +5,7 @@ use Rattle.least_or_cycle.specs.Least.{Keeps}
 use Rattle.least_or_cycle.specs.Walks.{Falls}
 use Rattle.priority_weights.specs.Edges.{InOrder}
 use Rattle.priority_weights.proofs.Ordering.{order_kept}
-use Rattle.priority_weights.proofs.order.OrderRule.is_kept.Goals as goal
+use Rattle.priority_weights.proofs.order.OrderNumberRule.is_kept.Goals as goal
 
 pub returns : goal.returns
 returns c = λ yes.

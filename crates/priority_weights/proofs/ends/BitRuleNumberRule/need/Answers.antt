@@ -1,6 +1,6 @@
 use Rattle.std.proofs.Common.{sym, ◌∙◌}
 use Rattle.priority_weights.proofs.Bits.{bit_asked}
-use Rattle.priority_weights.proofs.ends.BitRuleRule.need.Goals as goal
+use Rattle.priority_weights.proofs.ends.BitRuleNumberRule.need.Goals as goal
 
 pub returns-in-Some : goal.returns-in-Some
 returns-in-Some c =

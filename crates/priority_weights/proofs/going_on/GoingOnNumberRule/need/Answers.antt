@@ -1,7 +1,7 @@
 use Rattle.std.specs.Prelude.{slice_index}
 use Rattle.program_edges.specs.Sorts.{IsNext}
 use Rattle.priority_weights.proofs.GoingOn.{on_needed}
-use Rattle.priority_weights.proofs.going_on.GoingOnRule.need.Goals as goal
+use Rattle.priority_weights.proofs.going_on.GoingOnNumberRule.need.Goals as goal
 
 pub returns : goal.returns
 returns c =

@@ -6,7 +6,7 @@ use Rattle.least_or_cycle.specs.Walks.{Falls}
 use Rattle.priority_weights.specs.Edges.{InOrder}
 use Rattle.priority_weights.specs.Inside.Next.{IsSomeAsked}
 use Rattle.priority_weights.proofs.Ordering.{order_part}
-use Rattle.priority_weights.proofs.order.OrderRule.part.Goals as goal
+use Rattle.priority_weights.proofs.order.OrderNumberRule.part.Goals as goal
 
 pub returns : goal.returns
 returns c =
