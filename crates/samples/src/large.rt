@@ -3,7 +3,7 @@ ghost use Rattle.std.specs.Prelude.{◌<◌, ◌≤◌};
 ghost use Rattle.sc_graph.specs.Limits.{child_limit, node_limit};
 
 use crate::making::image_of;
-use crate::rows::{NodeRow, Small, X, ends, thread_of};
+use crate::rows::{NodeEntry, Small, X, ends, thread_of};
 use crate::small::{put, raise};
 use bytecode::Image;
 use sc_graph::{NodeId, ThreadId};
@@ -107,7 +107,7 @@ pub fn thousand_threads(alloc: Global) -> Result<Image, Fail> {
 
 // The nodes of a thread that forks the threads from one up to another, and then ends.
 fn push_forking(
-    rows: &mut Vec<NodeRow>,
+    rows: &mut Vec<NodeEntry>,
     owner: ThreadId,
     entry: NodeId,
     children: (ThreadId, ThreadId),

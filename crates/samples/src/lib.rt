@@ -10,7 +10,7 @@ mod spelled;
 pub use large::{assignments, branches, inits, thousand_threads};
 pub use making::{image_of, image_over, variables};
 pub use rows::{
-    Branch, CodeWord, Gives, INPUT, NamedVariable, NodeRow, Small, TRUTH, X, Y, ends, stays,
+    Branch, CodeWord, Gives, INPUT, NamedVariable, NodeEntry, Small, TRUTH, X, Y, ends, stays,
     thread_of,
 };
 pub use small::{

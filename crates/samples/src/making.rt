@@ -1,6 +1,6 @@
 //! Images, made of rows.
 
-use crate::rows::{Branch, CodeWord, Gives, NamedVariable, NodeRow, Small};
+use crate::rows::{Branch, CodeWord, Gives, NamedVariable, NodeEntry, Small};
 use bytecode::Image;
 use sc_graph::{Node, Program, Step, Tables, Thread, ThreadId, Variable, VariableId};
 use sc_values::{BinaryOperator, Code, Name, Operation, UnaryOperator, Value};
@@ -131,7 +131,7 @@ fn program(
     alloc: Global,
     variables: Items<Variable>,
     branches: &[Branch],
-    rows: &[NodeRow],
+    rows: &[NodeEntry],
 ) -> Result<Program, Fail> {
     let mut threads = Items::new(alloc);
     for branch in branches {
@@ -153,7 +153,7 @@ fn program(
 fn tables(
     alloc: Global,
     branches: &[Branch],
-    rows: &[NodeRow],
+    rows: &[NodeEntry],
     budget: u32,
 ) -> Result<Tables, Fail> {
     let mut tables = Tables {
@@ -179,7 +179,7 @@ pub fn image_over(
     alloc: Global,
     variables: Items<Variable>,
     branches: &[Branch],
-    rows: &[NodeRow],
+    rows: &[NodeEntry],
     budget: u32,
 ) -> Result<Image, Fail> {
     let program = program(alloc, variables, branches, rows)?;
@@ -192,7 +192,7 @@ pub fn image_of(
     alloc: Global,
     declared: &[NamedVariable],
     branches: &[Branch],
-    rows: &[NodeRow],
+    rows: &[NodeEntry],
     budget: u32,
 ) -> Result<Image, Fail> {
     image_over(alloc, variables(alloc, declared)?, branches, rows, budget)

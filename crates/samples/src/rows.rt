@@ -43,7 +43,7 @@ pub enum Small {
 
 /// A node with its entries in the tables.
 #[derive(Clone, Copy)]
-pub struct NodeRow {
+pub struct NodeEntry {
     pub owner: ThreadId,
     pub priority: u16,
     pub weight: u16,
@@ -75,8 +75,8 @@ pub const INPUT: NamedVariable = (b'a', Kind::Int, Role::Input);
 pub const TRUTH: NamedVariable = (b'b', Kind::Bool, Role::Local);
 
 /// A node from which its thread may end in this tick.
-pub fn ends(owner: ThreadId, priority: u16, weight: u16, step: Small) -> NodeRow {
-    NodeRow {
+pub fn ends(owner: ThreadId, priority: u16, weight: u16, step: Small) -> NodeEntry {
+    NodeEntry {
         owner,
         priority,
         weight,
@@ -86,8 +86,8 @@ pub fn ends(owner: ThreadId, priority: u16, weight: u16, step: Small) -> NodeRow
 }
 
 /// A node from which its thread does not end in this tick.
-pub fn stays(owner: ThreadId, priority: u16, weight: u16, step: Small) -> NodeRow {
-    NodeRow {
+pub fn stays(owner: ThreadId, priority: u16, weight: u16, step: Small) -> NodeEntry {
+    NodeEntry {
         owner,
         priority,
         weight,
