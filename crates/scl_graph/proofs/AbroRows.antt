@@ -3,7 +3,7 @@ use Rattle.std.proofs.Common.{◌≡◌, ℕ, suc, ◌+◌, List, [], ◌∷◌,
 use Rattle.std.specs.Prelude.{codes}
 use Rattle.sc_values.specs.declared.expression.Expr.{Expr}
 use Rattle.scl.specs.declared.statement.Statement.TheOpen as text
-use Rattle.scl.specs.Numbering.{NodeCounts, Piece, piece, in_row}
+use Rattle.scl.specs.Numbering.{Counts, Piece, piece, in_row}
 
 abbrev label : List ℕ → Piece
 label name = piece (text.Label name)
@@ -87,7 +87,7 @@ around e =
     ∷ label (codes "_L25")
     ∷ []
 
-abbrev abro : Expr → NodeCounts
+abbrev abro : Expr → Counts
 abro e = (in_row (fork (around e ∷ []) ∷ [])).counts
 
 abro_nodes : (e : Expr) → suc (abro e).nodes + (abro e).lower ≡ 36

@@ -8,7 +8,7 @@ use Rattle.scl.specs.declared.statement.Statement.TheViews.{out-Statement}
 use Rattle.scl.specs.declared.statement.Statement.TheFolds.{fold_out-Statement, map-Statement}
 use Rattle.scl.specs.Block.{Block, End, Assign, Label, Goto, Pause, If, Fork}
 use Rattle.scl.specs.Labels.{before}
-use Rattle.scl.specs.Numbering.{Piece, NodeNumbers, piece, piece_of}
+use Rattle.scl.specs.Numbering.{Piece, Numbers, piece, piece_of}
 use Rattle.scl_graph.specs.declared.way.Way.{Way}
 use Rattle.scl_graph.specs.Graph.{way, own, node}
 use Rattle.sc_values.specs.Expr.{postorder}
@@ -45,7 +45,7 @@ own_before target t (Fork n branches rest) k behind =
     ap (λ w. own target t (Fork n branches (End 0)) w ++ own target t (before rest k) behind) (way_before rest k behind)
     ∙ ap (λ r. own target t (Fork n branches (End 0)) (way rest (way k behind)) ++ r) (own_before target t rest k behind)
 
-made_at : (y : Statement-F Statement) (at : NodeNumbers) (k : Block) → (piece (map-Statement Statement Piece piece_of y)).made at k
+made_at : (y : Statement-F Statement) (at : Numbers) (k : Block) → (piece (map-Statement Statement Piece piece_of y)).made at k
     ≡ before ((piece (map-Statement Statement Piece piece_of y)).made at (End 0)) k
 made_at (text.Assign x e) at k = refl
 made_at (text.Label name) at k = refl
@@ -55,6 +55,6 @@ made_at (text.If e a b) at k = refl
 made_at (text.Fork branches) at k = refl
 
 -- a statement stands before what follows it
-pub made_before : (s : Statement) (at : NodeNumbers) (k : Block) → (piece_of s).made at k ≡ before ((piece_of s).made at (End 0)) k
+pub made_before : (s : Statement) (at : Numbers) (k : Block) → (piece_of s).made at k ≡ before ((piece_of s).made at (End 0)) k
 made_before s at k = let P : Piece → Type 0 = λ p. p.made at k ≡ before (p.made at (End 0)) k in
     subst P (sym (fold_out-Statement Piece piece s)) (made_at (out-Statement s) at k)

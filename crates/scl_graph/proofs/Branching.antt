@@ -34,11 +34,11 @@ before_before (If n e first second rest) k l = ap (If n e first second) (before_
 before_before (Fork n branches rest) k l = ap (Fork n branches) (before_before rest k l)
 
 -- statements stand before what follows them
-pub all_before : (statements : List Statement) (at : numbering.NodeNumbers) (k : Block) → (in_row (map piece_of statements)).made at k
+pub all_before : (statements : List Statement) (at : numbering.Numbers) (k : Block) → (in_row (map piece_of statements)).made at k
     ≡ before ((in_row (map piece_of statements)).made at (End 0)) k
 all_before [] at k = refl
 all_before (s ∷ rest) at k =
-    let next : numbering.NodeNumbers = beyond at (piece_of s).counts in
+    let next : numbering.Numbers = beyond at (piece_of s).counts in
     let others : Block → Block = (in_row (map piece_of rest)).made next in
     let first : Block = (piece_of s).made at (End 0) in
     made_before s at (others k)

@@ -1,5 +1,5 @@
 -- Many gotos in a row: tables of them, and that as many as there are places come to one place twice.
-use Rattle.std.proofs.Common.{◌≡◌, ℕ, zero, suc, ◌+◌, ◌*◌, ◌≤◌, ◌<◌, Bool, true, false, true≢false, ◌||◌, eqb, List, [], ◌∷◌, map, length, get_or, refl, ap}
+use Rattle.std.proofs.Common.{◌≡◌, ℕ, zero, suc, ◌+◌, ◌≤◌, ◌<◌, Bool, true, false, true≢false, ◌||◌, eqb, List, [], ◌∷◌, map, length, get_or, refl, ap}
 use Rattle.std.proofs.Common.{sym, subst, ◌∙◌, arith}
 use Rattle.std.proofs.Math.ListN.{get_or-map}
 use Rattle.std.specs.List.{IsDistinct, AllByRecursion, list_any}
@@ -8,7 +8,7 @@ use Rattle.std.proofs.lemmas.Map.Keys.{IsDistinct-cons}
 use Rattle.std.proofs.lemmas.Map.Steps.{length-le_from_distinct_below}
 use Rattle.scl_graph.specs.declared.hops.Hop.{Hop}
 use Rattle.scl_graph.specs.declared.hops.Hop.TheVariants as hop
-use Rattle.scl_graph.specs.Inside.Settling.{at_place, further, onward}
+use Rattle.scl_graph.specs.Inside.Settling.{AreNodes, IsSettled, at_place, further, onward}
 
 -- a node stays
 pub onward_node : (hops : List Hop) (m n : ℕ) → onward hops m (hop.Node n) ≡ hop.Node n
@@ -62,6 +62,28 @@ after_doubled hops table next m n h is le =
           ∙ ap (λ u. map (further u) u) h.each
           ∙ map_map (further t) (onward hops k) (onward hops (k + suc k)) hops (λ x. onward_further hops k (onward hops k x)
           ∙ sym (onward_sum hops k (suc k) x));
+    }
+
+nodes_stay : (hops rest : List Hop) (k n : ℕ) → AreNodes (map (onward hops k) rest) → map (onward hops k) rest ≡ map (onward hops (k + n)) rest
+nodes_stay hops [] k n all = refl
+nodes_stay hops (h ∷ rest) k n all = by (onward hops k h) refl (nodes_stay hops rest k n) all
+  where
+    by : (x : Hop) → onward hops k h ≡ x → (AreNodes (map (onward hops k) rest) → map (onward hops k) rest ≡ map (onward hops (k + n)) rest)
+        → AreNodes (x ∷ map (onward hops k) rest) → map (onward hops k) (h ∷ rest) ≡ map (onward hops (k + n)) (h ∷ rest)
+    by (hop.Node m) is further all =
+        let same : onward hops k h ≡ onward hops (k + n) h =
+        is ∙ sym (onward_node hops n m) ∙ sym (ap (onward hops n) is) ∙ sym (onward_sum hops k n h) in
+        ap (λ x. x ∷ map (onward hops k) rest) same ∙ ap (λ xs. onward hops (k + n) h ∷ xs) (further all)
+    by (hop.Goto g p) is further all = absurd all
+
+-- behind nodes stand these nodes
+pub after_nodes : (hops table : List Hop) (m : ℕ) → IsAfter hops table m → AreNodes table → IsSettled hops table
+after_nodes hops table m h all =
+    let k : ℕ = h.gotos in
+    record {
+      gotos = k + length hops;
+      enough = omega arith;
+      each = h.each ∙ nodes_stay hops hops k (length hops) (subst AreNodes h.each all);
     }
 
 -- the places to which so many gotos lead

@@ -1,5 +1,5 @@
 -- What was gathered of a program's labels is what the meaning of SCL says of them.
-use Rattle.std.proofs.Common.{◌≡◌, ℕ, suc, ◌+◌, ◌≤◌, Bool, true, false, Option, Some, None, List, [], ◌∷◌, if◌then◌else◌, refl, ap, sym, subst, ◌∙◌, arith}
+use Rattle.std.proofs.Common.{◌≡◌, ℕ, ◌+◌, Bool, true, false, Option, Some, None, List, if◌then◌else◌, refl, ap, sym, ◌∙◌, arith}
 use Rattle.std.specs.Prelude.{option_map}
 use Rattle.std.specs.Option.{option_or}
 use Rattle.std.specs.Str.{bytes_eq}
@@ -10,7 +10,7 @@ use Rattle.scl.specs.Labels.{label_count_among, or_else}
 use Rattle.scl_graph.specs.Graph.{end, number}
 use Rattle.scl_graph.specs.declared.landing.Landing.{Landing}
 use Rattle.scl_graph.specs.declared.landing.Landing.TheVariants as lands
-use Rattle.scl_graph.specs.Inside.Gathering.{Noted, count_among, label_among, landing, lower_count, lower_label, own_count, own_label, thread_label}
+use Rattle.scl_graph.specs.Inside.Gathering.{count_among, label_among, landing, lower_count, lower_label, own_count, own_label, thread_label}
 use Rattle.scl_graph.proofs.Gathered.{landing_before}
 
 -- what stands where this begins, up to the end of its thread

@@ -1,17 +1,14 @@
 -- Where a program's gotos lead is what the table of its labels says: a goto in it is one that leads back to itself.
-use Rattle.std.proofs.Common.{◌≡◌, ℕ, zero, suc, ◌+◌, ◌≤◌, ◌<◌, Bool, true, false, Option, Some, None, List, [], ◌∷◌, map, length, get_or, slice_get, unwrap_or}
+use Rattle.std.proofs.Common.{◌≡◌, ℕ, zero, suc, ◌+◌, ◌≤◌, ◌<◌, Option, Some, None, List, [], ◌∷◌, map, length, get_or, slice_get, unwrap_or}
 use Rattle.std.proofs.Common.{drop, drop-cons, add-one, append_assoc, ◌++◌, ◌⊎◌, inl, inr, refl, ap, sym, subst, ◌∙◌, arith}
 use Rattle.std.specs.Prelude.{option_map, option_and_then}
-use Rattle.std.specs.Map.{keys_of, values_of}
-use Rattle.std.specs.Str.{bytes_eq}
+use Rattle.std.specs.Map.{keys_of}
 use Rattle.std.specs.Cmp.Lexicographic.{same_text}
 use Rattle.std.proofs.Math.ListN.{get_or-map}
 use Rattle.std.proofs.lemmas.List.{length-map}
-use Rattle.std.proofs.lemmas.Map.Made.{lookup_key_passes}
 use Rattle.std.proofs.lemmas.Map.Entries.{length-keys_of}
 use Rattle.std.proofs.lemmas.Option.{none-some, slice_get-get_or, unwrap_or-slice_get}
-use Rattle.indexmap.proofs.MapLemmas.{Found-position, Missing-position}
-use Rattle.scl.specs.Block.{Block, End, Goto}
+use Rattle.scl.specs.Block.{Block}
 use Rattle.scl.specs.Labels.{Front, Begins, Jumps, behind_label, front, label_count, reached_by}
 use Rattle.scl_graph.specs.Graph.{number, target}
 use Rattle.scl_graph.specs.Loops.{ComesTo, HasNoEmptyLoop, IsEmptyLoop, IsFirstEmptyLoop, at_once, through}
@@ -23,22 +20,21 @@ use Rattle.scl_graph.specs.declared.hops.Hop.TheVariants as hop
 use Rattle.scl_graph.specs.Inside.Gathering.{Noted, find, place_of}
 use Rattle.scl_graph.specs.Inside.Settling.{Best, IsSettled, at_place, further, hop_of, hop_to, hops_of, least, least_name, name_at, node_at, node_behind}
 use Rattle.scl_graph.specs.Inside.Settling.{onward}
-use Rattle.scl_graph.proofs.Circling.{AreBelow, Circles, at_some_place, circle_reached, circles, one_node, onward_further, onward_node, table_at}
+use Rattle.scl_graph.proofs.Circling.{AreBelow, Circles, circle_reached, circles, one_node, onward_further, onward_node, table_at}
 use Rattle.scl_graph.proofs.Fronts.{lands_of, stands, stands_front}
+use Rattle.scl_graph.proofs.Placed.{found_place, nothing, placed}
 use Rattle.scl_graph.proofs.LeastGoto.{least_new, least_stands, nobody, pair_of}
 
 -- the place of a label is that of its name, and there stands what was found of it
 pub place_below : (labels : Noted) (name : List ℕ) (p : ℕ) → place_of labels name ≡ Some p → p < length labels
-place_below labels name p is = (Found-position (bytes_eq name) labels p is).within
+place_below labels name p is = (placed labels name p is).within
 
 pub place_name : (labels : Noted) (name : List ℕ) (p : ℕ) → place_of labels name ≡ Some p → name_at labels p ≡ Some name
 place_name labels name p is =
-    let f : _ = Found-position (bytes_eq name) labels p is in
+    let f : _ = placed labels name p is in
     let within : p < length (keys_of labels) = subst (λ n. p < n) (sym (length-keys_of labels)) f.within in
-    let k : List ℕ = get_or (keys_of labels) p [] in
-    let key : name_at labels p ≡ Some k = slice_get-get_or (keys_of labels) p [] within in
-    let passes : bytes_eq name k ≡ true = lookup_key_passes (bytes_eq name) labels k (f.key ∙ key) in
-    key ∙ ap Some (sym (same_text name k (sym passes)))
+    let key : get_or (keys_of labels) p [] ≡ (get_or labels p nothing).0 = get_or-map (λ e. e.0) labels p nothing in
+    slice_get-get_or (keys_of labels) p [] within ∙ ap Some (key ∙ sym (same_text name (get_or labels p nothing).0 (sym f.equal)))
 
 -- what stands at a place
 hop_there : (labels : Noted) (p : ℕ) → at_place (hops_of labels) p ≡ hop_of labels (unwrap_or (slice_get labels p) ([], lands.Node 0)).1
@@ -69,22 +65,12 @@ pub record StandsAt (labels : Noted) (name : List ℕ) (p : ℕ) : Type 0 where
 
 pub place_stands : (labels : Noted) (name : List ℕ) (p : ℕ) → place_of labels name ≡ Some p → StandsAt labels name p
 place_stands labels name p is =
-    let f : _ = Found-position (bytes_eq name) labels p is in
-    let nobody : List ℕ × Landing = ([], lands.Node 0) in
-    let entry : List ℕ × Landing = get_or labels p nobody in
-    let within : p < length (values_of labels) = subst (λ n. p < n) (sym (length-map labels (λ e. e.1))) f.within in
+    let f : _ = placed labels name p is in
     record {
-      landing = entry.1;
-      found = f.value ∙ slice_get-get_or (values_of labels) p (lands.Node 0) within ∙ ap Some (get_or-map (λ e. e.1) labels p nobody);
-      hop = get_or-map (λ e. hop_of labels e.1) labels p nobody;
+      landing = (get_or labels p nothing).1;
+      found = f.found;
+      hop = get_or-map (λ e. hop_of labels e.1) labels p nothing;
     }
-
-pub found_place : (labels : Noted) (name : List ℕ) (w : Landing) → find labels name ≡ Some w → (p : ℕ) × (place_of labels name ≡ Some p)
-found_place labels name w is = by (place_of labels name) refl
-  where
-    by : (o : Option ℕ) → place_of labels name ≡ o → (p : ℕ) × (place_of labels name ≡ Some p)
-    by None e = absurd (none-some w (sym (Missing-position (bytes_eq name) labels e).value ∙ is))
-    by (Some p) e = (p, e)
 
 missing_place : (labels : Noted) (name : List ℕ) → find labels name ≡ None → place_of labels name ≡ None
 missing_place labels name is = by (place_of labels name) refl

@@ -7,6 +7,7 @@ mod Gathered
 mod GatheredBelow
 mod SpotRooms
 mod Circling
+mod Placed
 mod Fronts
 mod LeastGoto
 mod Leading

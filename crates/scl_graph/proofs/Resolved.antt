@@ -1,10 +1,10 @@
 -- The labels of a program are resolved, and with them its graph is laid.
-use Rattle.std.proofs.Common.{◌≡◌, ℕ, zero, suc, ◌+◌, ◌≤◌, Bool, true, false, Option, Some, None, List, [], ◌∷◌, ◌++◌, map, length, if◌then◌else◌, refl, ap}
-use Rattle.std.proofs.Common.{sym, subst, ◌∙◌, append_assoc, arith}
+use Rattle.std.proofs.Common.{◌≡◌, ℕ, zero, suc, ◌≤◌, Bool, true, false, Option, Some, None, List, [], ◌∷◌, ◌++◌, map, length, if◌then◌else◌, refl, ap}
+use Rattle.std.proofs.Common.{sym, subst, ◌∙◌, arith}
 use Rattle.std.specs.Prelude.{option_map, nat_le}
 use Rattle.std.proofs.lemmas.Bool.Decides.{nat_tests}
 use Rattle.std.proofs.lemmas.Option.{none-some}
-use Rattle.sc_graph.specs.Limits.{count_limit, node_limit, thread_limit}
+use Rattle.sc_graph.specs.Limits.{count_limit}
 use Rattle.sc_graph.specs.Program.{Program}
 use Rattle.sc_graph.specs.declared.program.Node.{Node}
 use Rattle.sc_graph.specs.declared.program.Thread.{Thread}
@@ -13,17 +13,15 @@ use Rattle.scl.specs.declared.program.Scl.{Scl}
 use Rattle.scl.specs.declared.statement.Statement.{Statement}
 use Rattle.scl.specs.Block.{Block}
 use Rattle.scl.specs.Labels.{behind_label, label_count}
-use Rattle.scl.specs.Numbering.{Piece, Numbered, in_row, numbered, numbered_body, piece_of, pieces_of}
-use Rattle.scl_graph.specs.Answers.{FitsImage, IsGraph, LacksGraph, counts_in}
-use Rattle.scl_graph.specs.Counting.{AreSmall, counts_of_all}
+use Rattle.scl.specs.Numbering.{Numbered, in_row, numbered, numbered_body, piece_of, pieces_of}
+use Rattle.scl_graph.specs.Answers.{FitsImage, IsGraph, counts_in}
+use Rattle.scl_graph.specs.Counting.{counts_of_all}
 use Rattle.scl_graph.specs.Graph.{below, forked, of_thread, program_by, program_of, target, thread}
 use Rattle.scl_graph.specs.Loops.{HasNoEmptyLoop, IsFirstEmptyLoop}
 use Rattle.scl_graph.specs.declared.hops.Hop.{Hop}
-use Rattle.scl_graph.specs.declared.hops.Hop.TheVariants as hop
 use Rattle.scl_graph.specs.declared.landing.Landing.{Landing}
 use Rattle.scl_graph.specs.declared.landing.Landing.TheVariants as lands
 use Rattle.scl_graph.specs.declared.numbers.NodeNumbers.{NodeNumbers}
-use Rattle.scl_graph.specs.declared.totals.Totals.{Totals}
 use Rattle.scl_graph.specs.declared.way.Way.{Way}
 use Rattle.scl_graph.specs.declared.way.Way.TheVariants as leads
 use Rattle.scl_graph.specs.Inside.Laying.{HasRoom, text}
@@ -33,7 +31,7 @@ use Rattle.scl_graph.specs.Inside.Settling.{IsSettled, at_place, further, hop_of
 use Rattle.scl_graph.specs.Inside.Resolving.{FitsTotals, IsResolved, last_node, leads_by, numbered_of, root_of, small, small_start, start}
 use Rattle.scl_graph.specs.Inside.Totals.{totals_of_all}
 use Rattle.scl_graph.proofs.Branching.{below_body, forked_body}
-use Rattle.scl_graph.proofs.Circling.{onward_node, table_at}
+use Rattle.scl_graph.proofs.Circling.{table_at}
 use Rattle.scl_graph.proofs.Fronts.{all_labels, stands, thread_stands}
 use Rattle.scl_graph.proofs.Leading.{StandsAt, first_loop, no_loop, node_reached, place_stands}
 

@@ -12,7 +12,7 @@ use Rattle.scl.specs.declared.statement.Statement.TheViews.{roll-Statement}
 use Rattle.scl.specs.declared.statement.Statement.TheFolds.{fold-roll-Statement, ind-Statement, map-Statement}
 use Rattle.scl.specs.Numbering.{Piece, all_branch_counts, in_row, piece, piece_of}
 use Rattle.scl_graph.specs.declared.tallies.Tally.{Tally}
-use Rattle.scl_graph.specs.declared.tallies.Tally.TheViews.{out-Tally, roll-Tally, out-roll-Tally}
+use Rattle.scl_graph.specs.declared.tallies.Tally.TheViews.{out-Tally, out-roll-Tally}
 use Rattle.scl_graph.specs.declared.totals.Totals.{Totals}
 use Rattle.scl_graph.specs.Inside.Totals.{AreCounted, as_branch, branches_totals, sum, totals, totals_of, totals_of_all}
 use Rattle.scl_graph.specs.Inside.Tallies.{branches_total, fork_tally, if_tally, of_nodes, part, tallied, tally, tally_of, total}

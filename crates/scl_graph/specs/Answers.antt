@@ -3,7 +3,7 @@ use Rattle.std.specs.Prelude.{suc, ◌+◌, ◌≡◌, ◌≤◌}
 use Rattle.sc_graph.specs.Limits.{node_limit, thread_limit}
 use Rattle.sc_graph.specs.Program.{Program}
 use Rattle.scl.specs.declared.program.Scl.{Scl}
-use Rattle.scl.specs.Numbering.{NodeCounts, in_row, numbered, pieces_of}
+use Rattle.scl.specs.Numbering.{Counts, in_row, numbered, pieces_of}
 use Rattle.scl_graph.specs.declared.fault.GraphFault.{GraphFault}
 use Rattle.scl_graph.specs.declared.fault.GraphFault.TheVariants as fault
 use Rattle.scl_graph.specs.Graph.{program_of}
@@ -11,11 +11,11 @@ use Rattle.scl_graph.specs.Loops.{HasNoEmptyLoop, IsFirstEmptyLoop}
 
 -- the graph of a text that counts this has no more nodes and threads than an image may: beside those of the text there
 -- are the root's end, and the root
-pub record FitsImage (c : NodeCounts) : Type 0 where
+pub record FitsImage (c : Counts) : Type 0 where
   pub nodes : suc c.nodes + c.lower ≤ node_limit
   pub threads : suc c.threads ≤ thread_limit
 
-abbrev pub counts_in : Scl → NodeCounts
+abbrev pub counts_in : Scl → Counts
 counts_in p = (in_row (pieces_of p.body)).counts
 
 -- this is the graph of the program

@@ -2,7 +2,7 @@
 use Rattle.std.specs.Prelude.{suc, ◌+◌, ◌≤◌, List, map}
 use Rattle.sc_graph.specs.Limits.{node_limit}
 use Rattle.scl.specs.declared.statement.Statement.{Statement}
-use Rattle.scl.specs.Numbering.{NodeCounts as AllCounts, in_row, all_branch_counts, piece_of}
+use Rattle.scl.specs.Numbering.{Counts as AllCounts, in_row, all_branch_counts, piece_of}
 use Rattle.scl_graph.specs.declared.numbers.NodeCounts.{NodeCounts}
 
 -- none of them is above the limit of nodes

@@ -1,8 +1,8 @@
 //! Where gotos lead through labels and gotos alone. A table is doubled: what stands behind m gotos from
 //! each place gives what stands behind 2 m + 1, so that long chains of gotos take few rounds.
 
-ghost use Rattle.std.specs.Prelude.{◌≡◌, None, IfOk, map};
-ghost use Rattle.scl_graph.specs.Inside.Settling.{IsSettled, at_place, better, better_of, further, least};
+ghost use Rattle.std.specs.Prelude.{◌≡◌, None, IfOk, IsTrue, map};
+ghost use Rattle.scl_graph.specs.Inside.Settling.{AreNodes, IsSettled, at_place, better, better_of, further, least};
 
 use std::alloc::{AllocError, Global};
 
@@ -46,7 +46,21 @@ fn doubled(alloc: Global, table: &[Hop]) -> Result<Vec<Hop>, AllocError>
     Ok(next)
 }
 
-/// What stands, for each place, behind as many gotos as there are places, or more.
+// Whether nodes alone stand in a table.
+fn are_nodes(table: &[Hop]) -> bool
+    ensures { IsTrue result → AreNodes table.now }
+{
+    for hop in table {
+        match hop {
+            Hop::Node(_) => {}
+            Hop::Goto { .. } => return false,
+        }
+    }
+    true
+}
+
+/// What stands, for each place, behind as many gotos as there are places, or more. Behind a node stands the node, so
+/// that a table of nodes alone is doubled no further.
 pub(crate) fn settled(alloc: Global, hops: Vec<Hop>) -> Result<Vec<Hop>, AllocError>
     ensures { IfOk result (λ table. IsSettled hops.items table.items) }
 {
@@ -54,6 +68,9 @@ pub(crate) fn settled(alloc: Global, hops: Vec<Hop>) -> Result<Vec<Hop>, AllocEr
     let mut table = hops;
     let mut gotos: usize = 0;
     while gotos < count {
+        if are_nodes(table.as_slice()) {
+            return Ok(table);
+        }
         table = doubled(alloc, table.as_slice())?;
         gotos = gotos.saturating_add(gotos).saturating_add(1);
     }

@@ -11,6 +11,7 @@ mod labels;
 mod landing;
 mod laying;
 mod numbers;
+mod places;
 mod resolving;
 mod spots;
 mod steps;

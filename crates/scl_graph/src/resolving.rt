@@ -12,6 +12,7 @@ use crate::gathering::{gather, gather_forked};
 use crate::hops::{Hop, at_place, least_goto, settled};
 use crate::labels::Labels;
 use crate::landing::Landing;
+use crate::places::Places;
 use crate::spots::Spot;
 use crate::tallies::Tally;
 use crate::totals::Totals;
@@ -24,14 +25,14 @@ use std::alloc::{AllocError, Global};
 /// The labels of a program, and the node behind each.
 #[derive(Drop)]
 pub(crate) struct Resolved {
-    labels: Labels,
+    places: Places,
     table: Vec<Hop>,
 }
 
 impl Targets for Resolved {
     ghost use Rattle.scl_graph.specs.Inside.Resolving.{leads_by};
 
-    ghost target = { λ r w. leads_by r.labels r.table.items w };
+    ghost target = { λ r w. leads_by r.places.labels r.table.items w };
 
     fn target(&self, way: &Way) -> NodeId {
         match way {
@@ -44,9 +45,9 @@ impl Targets for Resolved {
 impl Resolved {
     // The node behind a label.
     fn node_behind(&self, name: &Name) -> u64
-        ensures { result ≡ node_behind self.now.labels self.now.table.items name.now }
+        ensures { result ≡ node_behind self.now.places.labels self.now.table.items name.now }
     {
-        match self.labels.place(name) {
+        match self.places.place(name) {
             Some(place) => node_at(at_place(self.table.as_slice(), place)),
             None => 0,
         }
@@ -86,14 +87,15 @@ pub(crate) fn resolve(
     requires counted { AreCounted (totals_of_all body.now) }
     requires totals { totals ≡ totals_of_all body.now }
     requires tallied { tallies.now ≡ map tally_of body.now }
-    ensures { MatchResult result (λ r. IsResolved body.now (last_node totals) r.labels r.table.items)
+    ensures { MatchResult result (λ r. IsResolved body.now (last_node totals) r.places.labels r.table.items)
         (IsUnresolved body.now) }
 {
     let labels = labels_of(alloc, body, tallies, totals)?;
-    let table = settled(alloc, labels.hops(alloc)?)?;
-    match least_name(&labels, table.as_slice()) {
+    let places = Places::of(alloc, labels, totals.jumps > 0)?;
+    let table = settled(alloc, places.hops(alloc)?)?;
+    match least_name(&places.labels, table.as_slice()) {
         Some(label) => Err(GraphFault::EmptyLoop(label)),
-        None => Ok(Resolved { labels, table }),
+        None => Ok(Resolved { places, table }),
     }
 }
 

@@ -1,14 +1,14 @@
 -- Which labels were gathered of a text, and what stands behind each of them, past other labels.
-use Rattle.std.specs.Prelude.{ℕ, zero, suc, ◌+◌, ◌≡◌, ◌≤◌, Option, Some, None, List, [], ◌∷◌, map, length, position, if◌then◌else◌}
+use Rattle.std.specs.Prelude.{ℕ, suc, ◌+◌, ◌≡◌, ◌≤◌, Option, Some, None, List, [], ◌∷◌, map, length, option_map, if◌then◌else◌}
 use Rattle.std.specs.Option.{option_or}
-use Rattle.std.specs.Map.{lookup, keys_of}
+use Rattle.std.specs.Map.{lookup}
 use Rattle.std.specs.Str.{bytes_eq}
 use Rattle.scl.specs.declared.statement.Statement.{Statement}
 use Rattle.scl.specs.declared.statement.Statement.TheOpen.{Statement-F}
 use Rattle.scl.specs.declared.statement.Statement.TheOpen as tree
 use Rattle.scl.specs.declared.statement.Statement.TheViews.{out-Statement}
 use Rattle.scl.specs.Block.{Block, End, Assign, Label, Goto, Pause, If, Fork, Branches, NoMore, Branch}
-use Rattle.scl.specs.Numbering.{NodeNumbers, in_row, piece_of, branches_from, thread_body}
+use Rattle.scl.specs.Numbering.{in_row, piece_of, branches_from, thread_body}
 use Rattle.scl_graph.specs.Graph.{end}
 use Rattle.scl_graph.specs.declared.spots.Spot.{Spot}
 use Rattle.scl_graph.specs.Inside.Totals.{branches_totals, numbers, totals_of_all}
@@ -46,10 +46,12 @@ Noted = List (List ℕ × Landing)
 abbrev pub find : Noted → List ℕ → Option Landing
 find labels name = lookup (bytes_eq name) labels
 
+-- the place of the first label of this name
 abbrev pub place_of : Noted → List ℕ → Option ℕ
-place_of labels name = position (bytes_eq name) (keys_of labels)
+place_of [] name = None
+place_of (e ∷ labels) name = if bytes_eq name e.0 then Some 0 else option_map suc (place_of labels name)
 
--- this label was noted, if it was not yet there
+-- this label was noted behind the others
 pub record Notes (name : List ℕ) (w : Landing) (old new : Noted) : Type 0 where
   pub each : (other : List ℕ) → find new other ≡ option_or (find old other) (if bytes_eq name other then Some w else None)
   pub count : length new ≤ suc (length old)

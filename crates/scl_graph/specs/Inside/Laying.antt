@@ -21,7 +21,7 @@ use Rattle.scl_graph.specs.Graph.{own}
 use Rattle.scl_graph.specs.Counting.{AreSmall, counts_of_all}
 
 -- the numbers, and that of the next goto
-abbrev pub with_goto : NodeNumbers → ℕ → numbering.NodeNumbers
+abbrev pub with_goto : NodeNumbers → ℕ → numbering.Numbers
 with_goto at g = record { node = at.node; thread = at.thread; base = at.base; goto = g }
 
 -- the numbers behind what counts this

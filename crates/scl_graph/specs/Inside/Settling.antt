@@ -1,12 +1,20 @@
 -- Where gotos lead through labels and gotos alone: each label is a place, at which stands a node, or a goto to a place.
-use Rattle.std.specs.Prelude.{ℕ, zero, suc, ◌+◌, ◌≡◌, ◌≤◌, Bool, Option, Some, None, List, [], ◌∷◌, map, length, get_or, slice_get, option_and_then, nat_lt}
-use Rattle.std.specs.Prelude.{if◌then◌else◌}
+use Rattle.std.specs.Prelude.{ℕ, zero, suc, ◌≡◌, ◌≤◌, Option, Some, None, List, [], ◌∷◌, map, length, get_or, slice_get, option_and_then, nat_lt}
+use Rattle.std.specs.Prelude.{if◌then◌else◌, ⊤}
+use Rattle.std.specs.BTreeMap.{BTreeMap, get}
+use Rattle.std.specs.Cmp.Lexicographic.{slice_cmp}
 use Rattle.std.specs.Map.{keys_of}
+use Rattle.std.specs.Option.{ForSome}
+use Rattle.std.specs.Ordering.{nat_cmp}
 use Rattle.scl_graph.specs.declared.hops.Hop.{Hop}
 use Rattle.scl_graph.specs.declared.hops.Hop.TheVariants as hop
 use Rattle.scl_graph.specs.declared.landing.Landing.{Landing}
 use Rattle.scl_graph.specs.declared.landing.Landing.TheVariants as lands
 use Rattle.scl_graph.specs.Inside.Gathering.{Noted, place_of}
+
+-- in a table of labels, where one was made, stands the place of each
+pub record ArePlaces (labels : Noted) (table : Option (BTreeMap (List ℕ) ℕ)) : Type 0 where
+  pub each : ForSome table (λ t. (name : List ℕ) → get (slice_cmp nat_cmp) t name ≡ place_of labels name)
 
 -- a goto leads to the place of its label, and to node 0 where there is no such label
 abbrev pub hop_to : ℕ → Option ℕ → Hop
@@ -35,6 +43,12 @@ onward hops (suc m) (hop.Goto g p) = onward hops m (at_place hops p)
 abbrev pub further : List Hop → Hop → Hop
 further table (hop.Node n) = hop.Node n
 further table (hop.Goto g p) = at_place table p
+
+-- nodes alone stand here
+abbrev pub AreNodes : List Hop → Type 0
+AreNodes [] = ⊤
+AreNodes (hop.Node n ∷ hops) = AreNodes hops
+AreNodes (hop.Goto g p ∷ hops) = ⊥
 
 -- in the table stands, for each place, what stands behind at least as many gotos as there are places
 pub record IsSettled (hops table : List Hop) : Type 0 where

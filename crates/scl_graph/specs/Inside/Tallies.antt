@@ -1,5 +1,5 @@
 -- What statements count, tallied: of each statement, and of the statements in each of its lists.
-use Rattle.std.specs.Prelude.{ℕ, ◌≡◌, List, [], ◌∷◌, map, slice_get, unwrap_or}
+use Rattle.std.specs.Prelude.{ℕ, List, [], ◌∷◌, slice_get, unwrap_or}
 use Rattle.scl.specs.declared.statement.Statement.{Statement}
 use Rattle.scl.specs.declared.statement.Statement.TheOpen.{Statement-F}
 use Rattle.scl.specs.declared.statement.Statement.TheOpen as text

@@ -1,7 +1,7 @@
 -- What a text counts, and the numbers of its places, in numbers that hold for a text of any length.
 use Rattle.std.specs.Prelude.{ℕ, suc, ◌+◌, ◌≤◌, List, map}
 use Rattle.scl.specs.declared.statement.Statement.{Statement}
-use Rattle.scl.specs.Numbering.{NodeCounts, NodeNumbers, in_row, all_branch_counts, piece_of}
+use Rattle.scl.specs.Numbering.{Counts, Numbers, in_row, all_branch_counts, piece_of}
 use Rattle.scl_graph.specs.declared.totals.Totals.{Totals}
 use Rattle.scl_graph.specs.declared.spots.Spot.{Spot}
 
@@ -22,7 +22,7 @@ abbrev pub sum : Totals → Totals → Totals
 sum a b =
     record { nodes = a.nodes + b.nodes; threads = a.threads + b.threads; lower = a.lower + b.lower; jumps = a.jumps + b.jumps }
 
-abbrev pub totals : NodeCounts → Totals
+abbrev pub totals : Counts → Totals
 totals c = record { nodes = c.nodes; threads = c.threads; lower = c.lower; jumps = c.gotos }
 
 abbrev pub totals_of : Statement → Totals
@@ -37,7 +37,7 @@ as_branch c = record { nodes = 0; threads = suc c.threads; lower = suc c.nodes +
 abbrev pub branches_totals : List (List Statement) → Totals
 branches_totals branches = totals (all_branch_counts (map (λ b. map piece_of b) branches))
 
-abbrev pub numbers : Spot → NodeNumbers
+abbrev pub numbers : Spot → Numbers
 numbers at = record { node = at.node; thread = at.thread; base = at.base; goto = at.goto }
 
 -- the numbers behind what counts this

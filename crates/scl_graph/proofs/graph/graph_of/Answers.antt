@@ -1,4 +1,4 @@
-use Rattle.std.proofs.Common.{rules, ◌≡◌, ◌↔◌, IsTrue, List, ap, sym, subst, ◌∙◌}
+use Rattle.std.proofs.Common.{rules, ◌≡◌, List, ap, subst, ◌∙◌}
 use Rattle.scl.specs.declared.program.Scl.{Scl}
 use Rattle.scl.specs.declared.statement.Statement.{Statement}
 use Rattle.scl_graph.specs.declared.hops.Hop.{Hop}
@@ -24,7 +24,7 @@ returns-then-not-fit_an_image c =
 pub returns-in-Ok : goal.returns-in-Ok
 returns-in-Ok c =
     let p : Scl = c.args.scl.now in
-    let labels : Noted = c.in_ok-targets.targets.labels in
+    let labels : Noted = c.in_ok-targets.targets.places.labels in
     let table : List Hop = c.in_ok-targets.targets.table.items in
     let is : c.in-Some.totals ≡ totals_of_all p.body = c.in-Some.ensures.1 ∙ ap totals_of_all c.as_slice-body.ensures in
     let fits : FitsTotals c.in-Some.totals = search rules in

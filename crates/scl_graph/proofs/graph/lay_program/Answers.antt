@@ -1,4 +1,4 @@
-use Rattle.std.proofs.Common.{◌≡◌, ℕ, zero, suc, ◌+◌, None, List, [], ap, sym, subst, ◌∙◌, arith}
+use Rattle.std.proofs.Common.{◌≡◌, ℕ, suc, ◌+◌, None, List, [], ap, subst, ◌∙◌, arith}
 use Rattle.sc_graph.specs.Program.{Program}
 use Rattle.sc_graph.specs.declared.program.Node.{Node}
 use Rattle.sc_graph.specs.declared.program.Thread.{Thread}
@@ -8,7 +8,6 @@ use Rattle.scl_graph.specs.declared.numbers.NodeNumbers.{NodeNumbers}
 use Rattle.scl_graph.specs.declared.way.Way.{Way}
 use Rattle.scl_graph.specs.Counting.{counts_of_all}
 use Rattle.scl_graph.specs.Inside.Forking.{IsThreadLaid}
-use Rattle.scl_graph.specs.Inside.Resolving.{numbered_of, small_start}
 use Rattle.scl_graph.proofs.Resolved.{program_laid}
 use Rattle.scl_graph.proofs.graph.lay_program.Goals as goal
 
