@@ -5,6 +5,6 @@ pub mod Registers
 pub mod Clocks
 pub mod Initial
 pub mod Entry
-pub mod AuthorRows
+pub mod Rows
 pub mod Reduction
 pub mod FaultText
