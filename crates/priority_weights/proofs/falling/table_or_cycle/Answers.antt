@@ -9,6 +9,6 @@ pub returns-in-Some-2 : goal.returns-in-Some-2
 returns-in-Some-2 g c =
     let least = rw c.in-Some-2.is at c.in_ok-table.ensures.least in
     let P : ℕ → Type 0 = λ top. IsWithin c.args.count top (slice_index c.in-Some-2.table.items) in (
-      least_alike (g.G.Rule.keeps c.args.graph.now) (Falls (g.G.Graph.leads c.args.graph.now)) c.args.count c.in-Some-2.table.items c.requires least,
+      least_alike (g.G.NumberRule.keeps c.args.graph.now) (Falls (g.G.Graph.leads c.args.graph.now)) c.args.count c.in-Some-2.table.items c.requires least,
       subst P c.from.ensures (c.in_ok-table.ensures.within c.in-Some-2.table c.in-Some-2.is),
     )
