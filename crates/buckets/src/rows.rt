@@ -64,11 +64,15 @@ impl Rows {
         })
     }
 
-    /// Puts an item into the row of a class, or into none; it leaves the one where it stood.
+    /// Puts an item into the row of a class, or into none; it leaves the one where it stood. Where it
+    /// stands so already, nothing is done.
     pub fn set(&mut self, item: u16, class: Option<u16>)
         requires { HasRoom self.old item class }
         ensures { self.new ≡ record self.old { classes = slice_set self.old.classes item class } }
     {
+        if self.classes[item as usize] == class {
+            return;
+        }
         self.take_out(item);
         if let Some(class) = class {
             self.put_in(item, class);
