@@ -2,6 +2,7 @@ pub mod Accepted
 mod NotedForks
 mod OwnRoom
 mod Unmoved
+pub mod ShortCodes
 mod LeadingThreads
 mod Opened
 mod InputValues

@@ -58,3 +58,10 @@ pub none_there : (claims : List (Option Claim)) (t : ℕ) → slice_get claims t
 none_there [] t is = absurd cc
 none_there (x ∷ claims) zero is = let same : x ≡ None = cc in ap (λ y. y ∷ claims) (sym same)
 none_there (x ∷ claims) (suc t) is = ap (λ ys. x ∷ ys) (none_there claims t is)
+
+-- where none is counted, none is there
+pub none_counted_there : (claims : List (Option Claim)) (t : ℕ) → count_by is_some claims ≡ 0 → slice_set claims t None ≡ claims
+none_counted_there [] t none = refl
+none_counted_there (Some b ∷ claims) t none = absurd (omega (arith, one_more (Some b) claims, none))
+none_counted_there (None ∷ claims) zero none = refl
+none_counted_there (None ∷ claims) (suc t) none = ap (λ ys. None ∷ ys) (none_counted_there claims t (omega (arith, one_more None claims, none)))

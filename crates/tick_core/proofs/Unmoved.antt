@@ -1,5 +1,6 @@
--- Whom a step leaves as enabled as they were: all but its thread, the parent, and the children that it forks or leaves.
-use Rattle.std.proofs.Common.{◌≡◌, ◌≢◌, ℕ, ◌+◌, ◌<◌, ◌⊎◌, ◌&&◌, Bool, List, [], ◌∷◌, length, length-set, All, Option, Some, None, slice_get, slice_set}
+-- Whom a step leaves as enabled as they were: all but its thread, the parent where the thread ends, and the children that it forks
+-- or leaves.
+use Rattle.std.proofs.Common.{◌≡◌, ◌≢◌, ℕ, ◌+◌, ◌<◌, ◌⊎◌, ◌&&◌, Bool, false, List, [], ◌∷◌, length, length-set, All, Option, Some, None, slice_get, slice_set}
 use Rattle.std.proofs.Common.{Contains, refl, sym, ap, subst, ◌∙◌, inl, inr, ⊎_elim, arith}
 use Rattle.std.specs.List.{list_all}
 use Rattle.buckets.specs.Rows.{Rows}
@@ -24,7 +25,7 @@ use Rattle.tick_laws.proofs.Moves.{IsMoved, moved_other, entering_movers, leavin
 use Rattle.tick_laws.proofs.Sound.{whom, IsIdleChild, fork_of_join}
 use Rattle.tick_core.specs.Claims.{Claim}
 use Rattle.tick_core.specs.Inside.Sorting.{row_at, step_priority, unless_claimed, ready_row, OwnRows, AreSorted, sorted_one, sorted_parent, sorted_all}
-use Rattle.tick_core.specs.Inside.Sorting.{children_at, or_none, children_at_step}
+use Rattle.tick_core.specs.Inside.Sorting.{ended_parent, children_at, or_none, children_at_step}
 
 same_tests : (f g : ℕ → Bool) (ks : List ℕ) → ((k : ℕ) → Contains ks k → f k ≡ g k) → list_all f ks ≡ list_all g ks
 same_tests f g [] each = refl
@@ -53,27 +54,48 @@ module _ (p : Program) (q : Tables) (valid : IsValid p q) (c : Control) (ok : Is
   stands_still : (k : ℕ) → ¬ IsMoved e.moves k → status_of (after e c) k ≡ status_of c k
   stands_still k still = moved_other e.moves c.statuses k still
 
-  -- the children of a thread that is neither the step's nor its parent stand as before
-  child_still : (u k : ℕ) → u ≢ t → parent_of p t ≢ Some u → parent_of p k ≡ Some u → status_of (after e c) k ≡ status_of c k
-  child_still u k other no_parent child =
-      stands_still k (λ moves. ⊎_elim
-      (λ same. no_parent (ap (parent_of p) (sym same) ∙ child))
-      (λ (idle : IsIdleChild p c t k). other (one u t (sym child ∙ idle.parent)))
-      (whom p (valid_formed p q valid) c ok t e does k moves))
+  -- who steps has not ended
+  lives_before : Does p c t e → has_ended (status_of c t) ≡ false
+  lives_before (simple d) = ap has_ended d.at
+  lives_before (forks d) = ap has_ended d.at
+  lives_before (joins d) = ap has_ended d.at
+
+  lives_on : (u : ℕ) (s : Status) → ended_parent p t s ≢ Some u → parent_of p t ≡ Some u → has_ended s ≡ false
+  lives_on u status.Ended no_parent child = absurd (no_parent child)
+  lives_on u status.Absent no_parent child = refl
+  lives_on u (status.At n) no_parent child = refl
+  lives_on u (status.Waiting j) no_parent child = refl
+  lives_on u (status.Paused n) no_parent child = refl
+
+  -- of the children of a thread that is neither the step's, nor its parent where it ends, the same have ended as before
+  child_alike : (u k : ℕ) → u ≢ t → ended_parent p t (status_of (after e c) t) ≢ Some u → parent_of p k ≡ Some u
+      → has_ended (status_of (after e c) k) ≡ has_ended (status_of c k)
+  child_alike u k other no_parent child = go (same_or_not k t)
     where
       one : (a b : ℕ) → Some a ≡ Some b → a ≡ b
       one a b same = cc
 
-  ended_alike : (u j : ℕ) → u ≢ t → parent_of p t ≢ Some u → status_of c u ≡ status.Waiting j → (o : Option (List ℕ)) → joined_at p j ≡ o
-      → all_ended (after e c) o ≡ all_ended c o
+      go : (k ≡ t) ⊎ (k ≢ t) → has_ended (status_of (after e c) k) ≡ has_ended (status_of c k)
+      go (inl same) =
+          ap (λ i. has_ended (status_of (after e c) i)) same
+          ∙ (lives_on u (status_of (after e c) t) no_parent (ap (parent_of p) (sym same) ∙ child)
+          ∙ (sym (lives_before does) ∙ ap (λ i. has_ended (status_of c i)) (sym same)))
+      go (inr another) =
+          ap has_ended (stands_still k (λ moves. ⊎_elim another
+          (λ (idle : IsIdleChild p c t k). other (one u t (sym child ∙ idle.parent)))
+          (whom p (valid_formed p q valid) c ok t e does k moves)))
+
+  ended_alike : (u j : ℕ) → u ≢ t → ended_parent p t (status_of (after e c) t) ≢ Some u → status_of c u ≡ status.Waiting j → (o : Option (List ℕ))
+      → joined_at p j ≡ o → all_ended (after e c) o ≡ all_ended c o
   ended_alike u j other no_parent waits None joined = refl
   ended_alike u j other no_parent waits (Some children) joined =
       let of : JoinOf p j children = join_of p j children joined in
       same_tests (λ k. has_ended (status_of (after e c) k)) (λ k. has_ended (status_of c k)) children
-      (λ k within. ap has_ended (child_still u k other no_parent
-      (child_parent p (valid_formed p q valid) of.fork u children j k (fork_of_join p (valid_formed p q valid) c ok u j children waits of) within)))
+      (λ k within. child_alike u k other no_parent
+      (child_parent p (valid_formed p q valid) of.fork u children j k (fork_of_join p (valid_formed p q valid) c ok u j children waits of) within))
 
-  enabled_alike : (u : ℕ) → u ≢ t → parent_of p t ≢ Some u → (s : Status) → status_of c u ≡ s → status_enabled p (after e c) s ≡ status_enabled p c s
+  enabled_alike : (u : ℕ) → u ≢ t → ended_parent p t (status_of (after e c) t) ≢ Some u → (s : Status) → status_of c u ≡ s
+      → status_enabled p (after e c) s ≡ status_enabled p c s
   enabled_alike u other no_parent (status.At n) is = refl
   enabled_alike u other no_parent (status.Waiting j) is = ended_alike u j other no_parent is (joined_at p j) refl
   enabled_alike u other no_parent status.Absent is = refl
@@ -81,7 +103,8 @@ module _ (p : Program) (q : Tables) (valid : IsValid p q) (c : Control) (ok : Is
   enabled_alike u other no_parent status.Ended is = refl
 
   -- all others can step at the same priority as before
-  alike : (u : ℕ) → u ≢ t → parent_of p t ≢ Some u → ¬ Contains (children_at p (status_of c t)) u → step_priority p q (after e c) u ≡ step_priority p q c u
+  alike : (u : ℕ) → u ≢ t → ended_parent p t (status_of (after e c) t) ≢ Some u → ¬ Contains (children_at p (status_of c t)) u
+      → step_priority p q (after e c) u ≡ step_priority p q c u
   alike u other no_parent no_child =
       let still : status_of (after e c) u ≡ status_of c u = stands_still u (λ moves. ⊎_elim other no_child (moved_child u moves)) in
       let enabled : is_enabled p (after e c) u ≡ is_enabled p c u =
@@ -128,11 +151,19 @@ module _ (row : ℕ → Option ℕ) where
       all_out ks (sorted_one row rows k) u (λ tail. out (contains_tail k u ks tail))
       ∙ one_other rows k u (λ same. out (subst (λ i. Contains (k ∷ ks) i) (sym same) (contains_head k ks)))
 
+pub ended_is_parent : (p : Program) (t : ℕ) (s : Status) (w : ℕ) → ended_parent p t s ≡ Some w → parent_of p t ≡ Some w
+ended_is_parent p t status.Ended w is = is
+ended_is_parent p t status.Absent w is = absurd cc
+ended_is_parent p t (status.At n) w is = absurd cc
+ended_is_parent p t (status.Waiting j) w is = absurd cc
+ended_is_parent p t (status.Paused n) w is = absurd cc
+
 -- after a step, who was sorted anew and who was left stand in the rows of their priorities
 pub sorted_after : (p : Program) (q : Tables) → IsValid p q → (c d : Control) → IsConfiguration p c → (t : ℕ) → t < length p.threads → step p t c ≡ Some d
     → (claims : List (Option Claim)) (rows after_rows : Rows) → AreSorted p q c claims rows →
     after_rows ≡ sorted_all (ready_row p q d (slice_set claims t None)) (children_at p (status_of c t))
-    (sorted_parent (ready_row p q d (slice_set claims t None)) (sorted_one (ready_row p q d (slice_set claims t None)) rows t) (parent_of p t))
+    (sorted_parent (ready_row p q d (slice_set claims t None)) (sorted_one (ready_row p q d (slice_set claims t None)) rows t)
+    (ended_parent p t (status_of d t)))
     → OwnRows p q after_rows → AreSorted p q d (slice_set claims t None) after_rows
 sorted_after p q valid c d ok t t_below stepped claims rows after_rows h is own =
     let found : (e : Effect) × (effect p c t ≡ Some e) × (after e c ≡ d) = map_some (λ (e : Effect). after e c) (effect p c t) d stepped in
@@ -149,17 +180,18 @@ sorted_after p q valid c d ok t t_below stepped claims rows after_rows h is own 
     parent_long None = length-set rows.classes t (row t) ∙ h.own_rows.long
     parent_long (Some w) = length-set (sorted_one row rows t).classes w (row w) ∙ (length-set rows.classes t (row t) ∙ h.own_rows.long)
 
-    own_at : (e : Effect) → Does p c t e → after e c ≡ d → (u : ℕ) → u < length p.threads → parent_of p t ≢ Some u
+    own_at : (e : Effect) → Does p c t e → after e c ≡ d → (u : ℕ) → u < length p.threads → ended_parent p t (status_of d t) ≢ Some u
         → ¬ Contains (children_at p (status_of c t)) u → (u ≡ t) ⊎ (u ≢ t) →
         slice_get (sorted_one row rows t).classes u ≡ Some (row u)
     own_at e does same u below no_parent no_child (inl here) = one_at row rows t u (omega (arith, h.own_rows.long)) here
     own_at e does same u below no_parent no_child (inr other) =
         one_other row rows t u other ∙ (h.each u below ∙ ap Some (ap (λ o. unless_claimed o (step_priority p q c u)) (sym (get_set_other claims t u None other))
-        ∙ ap (unless_claimed (slice_get (slice_set claims t None) u)) (sym (alike p q valid c ok t e does u other no_parent no_child)
+        ∙ ap (unless_claimed (slice_get (slice_set claims t None) u)) (sym (alike p q valid c ok t e does u other
+        (λ some. no_parent (sym (ap (λ x. ended_parent p t (status_of x t)) same) ∙ some)) no_child)
         ∙ ap (λ x. step_priority p q x u) same)))
 
     at_parent : (e : Effect) → Does p c t e → after e c ≡ d → (u : ℕ) → u < length p.threads → ¬ Contains (children_at p (status_of c t)) u → (o : Option ℕ)
-        → parent_of p t ≡ o →
+        → ended_parent p t (status_of d t) ≡ o →
         slice_get (sorted_parent row (sorted_one row rows t) o).classes u ≡ Some (row u)
     at_parent e does same u below no_child None parent = own_at e does same u below (λ some. none_some u (sym parent ∙ some)) no_child (same_or_not u t)
       where
@@ -178,13 +210,13 @@ sorted_after p q valid c d ok t t_below stepped claims rows after_rows h is own 
 
     each : (e : Effect) → Does p c t e → after e c ≡ d → (u : ℕ) → u < length p.threads → Contains (children_at p (status_of c t)) u
         ⊎ ¬ Contains (children_at p (status_of c t)) u →
-        slice_get (sorted_all row (children_at p (status_of c t)) (sorted_parent row (sorted_one row rows t) (parent_of p t))).classes u ≡ Some (row u)
+        slice_get (sorted_all row (children_at p (status_of c t)) (sorted_parent row (sorted_one row rows t) (ended_parent p t (status_of d t)))).classes u ≡ Some (row u)
     each e does same u below (inl child) =
-        all_in row (children_at p (status_of c t)) (sorted_parent row (sorted_one row rows t) (parent_of p t)) u (omega (arith, parent_long (parent_of p t)))
+        all_in row (children_at p (status_of c t)) (sorted_parent row (sorted_one row rows t) (ended_parent p t (status_of d t))) u (omega (arith, parent_long (ended_parent p t (status_of d t))))
         child
     each e does same u below (inr no_child) =
-        all_out row (children_at p (status_of c t)) (sorted_parent row (sorted_one row rows t) (parent_of p t)) u no_child
-        ∙ at_parent e does same u below no_child (parent_of p t) refl
+        all_out row (children_at p (status_of c t)) (sorted_parent row (sorted_one row rows t) (ended_parent p t (status_of d t))) u no_child
+        ∙ at_parent e does same u below no_child (ended_parent p t (status_of d t)) refl
 
 -- the children of a step are threads
 pub children_in : (p : Program) → IsFormed p → (s : Status) → All (λ k. k < length p.threads) (children_at p s)
@@ -222,11 +254,12 @@ pub sorted_after_at : (p : Program) (q : Tables) → IsValid p q → (c d : Cont
     (p' : Program) (q' : Tables) (st : Status) (children : List ℕ) → p' ≡ p → q' ≡ q → st ≡ status_of c t → children ≡ children_at p' st
     → (after_claims : List (Option Claim)) → after_claims ≡ slice_set claims t None →
     after_rows ≡ sorted_all (ready_row p' q' d after_claims) children
-    (sorted_parent (ready_row p' q' d after_claims) (sorted_one (ready_row p' q' d after_claims) rows t) (parent_of p' t)) → OwnRows p' q' after_rows
+    (sorted_parent (ready_row p' q' d after_claims) (sorted_one (ready_row p' q' d after_claims) rows t) (ended_parent p' t (status_of d t))) → OwnRows p' q' after_rows
     → AreSorted p q d after_claims after_rows
 sorted_after_at p q valid c d ok t below stepped claims rows after_rows h p' q' st children p_is q_is st_is children_are after_claims claims_are is own =
     let F : Program → Tables → List ℕ → List (Option Claim)
-    → Rows = λ x y ks o. sorted_all (ready_row x y d o) ks (sorted_parent (ready_row x y d o) (sorted_one (ready_row x y d o) rows t) (parent_of x t)) in
+    → Rows = λ x y ks o. sorted_all (ready_row x y d o) ks (sorted_parent (ready_row x y d o) (sorted_one (ready_row x y d o) rows t)
+    (ended_parent x t (status_of d t))) in
     let own_children : children ≡ children_at p (status_of c t) = children_are ∙ (ap (λ x. children_at x st) p_is ∙ ap (children_at p) st_is) in
     subst (λ o. AreSorted p q d o after_rows) (sym claims_are)
     (sorted_after p q valid c d ok t below stepped claims rows after_rows h

@@ -8,3 +8,4 @@ pub mod Leading
 pub mod Judging
 pub mod Turns
 pub mod Work
+pub mod ShortCodes

@@ -2,13 +2,13 @@
 
 ghost use Rattle.std.specs.Prelude.{◌≡◌, ◌<◌, All, IfOk, length};
 ghost use Rattle.sc_graph.specs.Control.{status_of};
-ghost use Rattle.sc_graph.specs.Program.{Program, parent_of};
+ghost use Rattle.sc_graph.specs.Program.{Program};
 ghost use Rattle.sc_graph.specs.Tick.{IsConfiguration};
 ghost use Rattle.sc_graph.specs.Valid.{IsValid};
 ghost use Rattle.tick_core.specs.Inside.Joins.{FindsForks};
 ghost use Rattle.tick_core.specs.Inside.Living.{CountsLiving};
 ghost use Rattle.tick_core.specs.Inside.Sorting.{OwnRows, AreSorted, step_priority, ready_row, sorted_one};
-ghost use Rattle.tick_core.specs.Inside.Sorting.{sorted_parent, sorted_all, children_at, NodePriorities};
+ghost use Rattle.tick_core.specs.Inside.Sorting.{sorted_parent, ended_parent, sorted_all, children_at, NodePriorities};
 
 use crate::joins::Joins;
 use crate::kept_claim::KeptClaim;
@@ -18,8 +18,8 @@ use sc_graph::{Control, Program, Status, Step, Tables, ThreadId};
 use std::alloc::{AllocError, Global};
 use verifier::Verified;
 
-/// Sorts anew whom a step of a thread can have made enabled or not: the thread, its parent, and the
-/// children whom the step forked or left.
+/// Sorts anew whom a step of a thread can have made enabled or not: the thread, its parent where it has
+/// ended, and the children whom the step forked or left.
 pub(crate) fn sort_after(
     program: &Program,
     tables: &Tables,
@@ -39,15 +39,25 @@ pub(crate) fn sort_after(
     ensures sorted { rows.new ≡ sorted_all (ready_row program.now tables.now control.now claims.now) children.now
         (sorted_parent (ready_row program.now tables.now control.now claims.now)
         (sorted_one (ready_row program.now tables.now control.now claims.now) rows.old thread)
-        (parent_of program.now thread)) }
+        (ended_parent program.now thread (status_of control.now thread))) }
     ensures rows { OwnRows program.now tables.now rows.new }
 {
     sort(program, tables, control, living, claims, rows, thread);
-    if let Some(parent) = program.parent(thread) {
+    if let Some(parent) = ended_parent(program, control, thread) {
         sort(program, tables, control, living, claims, rows, parent);
     }
     sort_all(program, tables, control, living, claims, rows, children);
     rows.settle();
+}
+
+// The parent of a thread that has ended: nobody else waits for it, and it waits for no others.
+fn ended_parent(program: &Program, control: &Control, thread: ThreadId) -> Option<ThreadId>
+    ensures { result ≡ ended_parent program.now thread (status_of control.now thread) }
+{
+    match control.status(thread) {
+        Status::Ended => program.parent(thread),
+        Status::Absent | Status::At(_) | Status::Waiting(_) | Status::Paused(_) => None,
+    }
 }
 
 /// The children whom a step from this status forks or leaves behind.

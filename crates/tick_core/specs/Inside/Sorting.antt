@@ -7,7 +7,7 @@ use Rattle.sc_graph.specs.declared.control.Control.{Control}
 use Rattle.sc_graph.specs.declared.control.Status.{Status}
 use Rattle.sc_graph.specs.declared.control.Status.TheVariants as status
 use Rattle.sc_graph.specs.declared.tables.Tables.{Tables}
-use Rattle.sc_graph.specs.Program.{Program, step_at, owner_of}
+use Rattle.sc_graph.specs.Program.{Program, step_at, owner_of, parent_of}
 use Rattle.sc_graph.specs.Control.{status_of, is_enabled, joined_at}
 use Rattle.sc_graph.specs.Tables.{priority, priority_of}
 use Rattle.tick_core.specs.Claims.{Claim}
@@ -56,7 +56,12 @@ pub record AreSorted (p : Program) (q : Tables) (c : Control) (claims : List (Op
 abbrev pub sorted_one : (ℕ → Option ℕ) → Rows → ℕ → Rows
 sorted_one row rows t = record rows { classes = slice_set rows.classes t (row t) }
 
--- with the parent of a thread put into its row, where it has one
+-- the parent of a thread that has come to stand so, where it has ended
+abbrev pub ended_parent : Program → ℕ → Status → Option ℕ
+ended_parent p t status.Ended = parent_of p t
+ended_parent p t other = None
+
+-- with this parent put into its row, where there is one
 abbrev pub sorted_parent : (ℕ → Option ℕ) → Rows → Option ℕ → Rows
 sorted_parent row rows None = rows
 sorted_parent row rows (Some parent) = sorted_one row rows parent

@@ -175,13 +175,16 @@ impl<'a> TickState<'a> {
 }
 
 /// Closes the claim of a thread, where it has one. So many are open.
-#[tactic(auto, using(crate::proofs::Opened::none_there))]
+#[tactic(auto, using(crate::proofs::Opened::none_there, crate::proofs::Opened::none_counted_there))]
 pub(super) fn close_one(claims: &mut Vec<Option<KeptClaim>>, claimed: &mut usize, thread: ThreadId)
     requires place { thread < length claims.old.items }
     requires counted { claimed.old ≡ count_by is_some claims.old.items }
     ensures closed { claims.new.items ≡ slice_set claims.old.items thread None }
     ensures counted { claimed.new ≡ count_by is_some claims.new.items }
 {
+    if *claimed == 0 {
+        return;
+    }
     if claims[thread as usize].is_some() {
         *claimed -= 1;
         claims[thread as usize] = None;

@@ -18,6 +18,7 @@ ghost use Rattle.tick_core.specs.Inside.Turns.{DropsClaims};
 use crate::history::{Entry, Report};
 use crate::kept_claim::KeptClaim;
 use crate::living::count_after;
+use crate::short_codes::short_value;
 use crate::sorting::{children_at, sort_after, sort_every};
 use crate::state::claiming::close_one;
 use crate::state::{ParkedSpace, TickSpace, TickState};
@@ -189,6 +190,12 @@ pub(crate) fn present_value(
     ensures { result ≡ value_at verified.now.program control.now (status_of control.now thread) }
 {
     let code = code_at(verified.image().program(), control.status(thread))?;
-    let operands = Operands::present(code, control.variables.as_slice());
-    Some(eval(&CheckedCode::known(code, kinds), &operands))
+    let variables = control.variables.as_slice();
+    match short_value(code, variables) {
+        Some(value) => Some(value),
+        None => {
+            let operands = Operands::present(code, variables);
+            Some(eval(&CheckedCode::known(code, kinds), &operands))
+        }
+    }
 }

@@ -19,15 +19,15 @@ pub eval-requires : goal.eval-requires
 eval-requires c =
     let stands = (code_stands _ _ c.args.verified.now.tables _ c.args.thread _ _ _ _ c.requires.valid c.requires.configuration c.requires.kinds
     (c.program.ensures ∙ ap (λ i. i.program) c.image.ensures.value) c.status.ensures (ap option_copied c.in_ok-code.was) c.code_at.ensures) in
-    ap (map kind_of) (c.present-operands.ensures ∙ ap (λ v. loaded_from v c.in_ok-code.code.now) c.as_slice.ensures)
+    ap (map kind_of) (c.present-operands.ensures ∙ ap (λ v. loaded_from v c.in_ok-code.code.now) c.as_slice-variables.ensures)
     ∙ (present_kinds c.args.kinds.now c.in_ok-code.code.now c.args.control.now.variables stands.formed stands.of_kinds ∙ sym c.known.ensures.loads)
 
-pub returns : goal.returns
-returns c =
+pub returns-in-None : goal.returns-in-None
+returns-in-None c =
     let stands = (code_stands _ _ c.args.verified.now.tables _ c.args.thread _ _ _ _ c.requires.valid c.requires.configuration c.requires.kinds
     (c.program.ensures ∙ ap (λ i. i.program) c.image.ensures.value) c.status.ensures (ap option_copied c.in_ok-code.was) c.code_at.ensures) in
     sym (c.eval.ensures.present c.args.control.now.variables
     (c.present-operands.ensures
-    ∙ (ap (λ v. loaded_from v c.in_ok-code.code.now) c.as_slice.ensures ∙ ap (loaded_from c.args.control.now.variables) (sym c.known.ensures.operations))))
+    ∙ (ap (λ v. loaded_from v c.in_ok-code.code.now) c.as_slice-variables.ensures ∙ ap (loaded_from c.args.control.now.variables) (sym c.known.ensures.operations))))
     ∙ (ap (λ code. code_value code c.args.control.now.variables) c.known.ensures.operations
     ∙ ap (option_and_then (λ code. code_value code c.args.control.now.variables)) stands.found)
