@@ -9,6 +9,7 @@ mod InputValues
 mod StartKept
 mod Starts
 mod Counts
+mod NextSteps
 mod LivingChildren
 pub mod Reports
 pub mod Taken

@@ -9,3 +9,4 @@ pub mod Judging
 pub mod Turns
 pub mod Work
 pub mod ShortCodes
+pub mod Onward

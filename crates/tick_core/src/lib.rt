@@ -15,6 +15,7 @@ mod judging;
 mod kept_claim;
 mod leading;
 mod living;
+mod onward;
 mod short_codes;
 mod sorting;
 mod starting;

@@ -1,6 +1,6 @@
 //! One step of a thread.
 
-ghost use Rattle.std.specs.Prelude.{◌≡◌, [], ◌∷◌, map, IsSome, Some, option_map, slice_set};
+ghost use Rattle.std.specs.Prelude.{◌≡◌, [], ◌∷◌, map, IsSome, MatchOption, Some, option_map, slice_set};
 ghost use Rattle.std.specs.Option.{option_copied};
 ghost use Rattle.sc_graph.specs.Program.{entry_of};
 ghost use Rattle.sc_graph.specs.Control.{status_of};
@@ -8,6 +8,7 @@ ghost use Rattle.sc_graph.specs.Steps.{Keep, Put, Combine, enters, moved, after,
 ghost use Rattle.tick_core.specs.Stepping.{code_at};
 ghost use Rattle.tick_core.specs.Inside.Work.{value_of, value_at};
 ghost use Rattle.tick_core.specs.Inside.Joins.{FindsForks};
+ghost use Rattle.tick_core.specs.Inside.Onward.{MovesAt, MovesOn};
 
 use crate::joins::Joins;
 use sc_graph::{Control, NodeId, Program, Status, Step, ThreadId, VariableId};
@@ -39,6 +40,28 @@ pub(crate) fn take_step(
             _ => unreachable!(),
         },
         Status::Absent | Status::Paused(_) | Status::Ended => unreachable!(),
+    }
+}
+
+/// Takes the defined step of a thread that stands at an assignment, an update or a condition, whose code has this
+/// value: nobody else moves. Gives the node at which the thread comes to stand. None: it stands elsewhere, and
+/// nothing is done.
+pub(crate) fn move_on(
+    program: &Program,
+    control: &mut Control,
+    thread: ThreadId,
+    value: Option<Value>,
+) -> Option<NodeId>
+    requires defined { IsSome (step program.now thread control.old) }
+    requires value { value ≡ value_at program.now control.old (status_of control.old thread) }
+    ensures { MatchOption result (control.new ≡ control.old) (MovesOn program.now control.old control.new thread) }
+{
+    match control.status(thread) {
+        Status::At(node) => match program.step(node) {
+            Some(step) => move_on_at(program, control, thread, step, value),
+            None => None,
+        },
+        Status::Absent | Status::Waiting(_) | Status::Paused(_) | Status::Ended => None,
     }
 }
 
@@ -96,6 +119,47 @@ fn take_step_at(
         (Step::Depth { next }, _) => go(control, thread, Status::At(*next)),
         (Step::Exit, _) => go(control, thread, Status::Ended),
         _ => unreachable!(),
+    }
+}
+
+// The step of a thread from such a node. None: it is another one, and nothing is done.
+fn move_on_at(
+    program: &Program,
+    control: &mut Control,
+    thread: ThreadId,
+    step: &Step,
+    value: Option<Value>,
+) -> Option<NodeId>
+    requires defined { IsSome (node_effect program.now control.old thread step.now) }
+    requires value { value ≡ value_of control.old step.now }
+    ensures { MatchOption result (control.new ≡ control.old) (MovesAt program.now control.old control.new thread step.now) }
+{
+    match (step, value) {
+        (Step::Assign { variable, next, .. }, Some(value)) => {
+            assign(control, thread, *variable, value, *next);
+            Some(*next)
+        }
+        (
+            Step::Update {
+                variable,
+                combine,
+                next,
+                ..
+            },
+            Some(value),
+        ) => {
+            update(control, thread, *variable, *combine, value, *next);
+            Some(*next)
+        }
+        (Step::Cond { then, .. }, Some(Value::Bool(true))) => {
+            go(control, thread, Status::At(*then));
+            Some(*then)
+        }
+        (Step::Cond { other, .. }, Some(Value::Bool(false))) => {
+            go(control, thread, Status::At(*other));
+            Some(*other)
+        }
+        _ => None,
     }
 }
 

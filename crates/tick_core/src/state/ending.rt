@@ -17,12 +17,12 @@ ghost use Rattle.tick_core.specs.Inside.Turns.{DropsClaims};
 
 use crate::history::{Entry, Report};
 use crate::kept_claim::KeptClaim;
-use crate::living::count_after;
+use crate::onward::step_on;
 use crate::short_codes::short_value;
-use crate::sorting::{children_at, sort_after, sort_every};
+use crate::sorting::sort_every;
 use crate::state::claiming::close_one;
 use crate::state::{ParkedSpace, TickSpace, TickState};
-use crate::stepping::{code_at, take_step};
+use crate::stepping::code_at;
 use sc_graph::{Control, ThreadId};
 use sc_values::{CheckedCode, Kind, Operands, Value, eval};
 use sqlite_items::Items;
@@ -83,27 +83,18 @@ impl<'a> TickState<'a> {
         requires value { value ≡ value_at self.old.image.program self.old.present (status_of self.old.present thread) }
         ensures { Advances self.old self.new thread worker }
     {
-        let image = self.verified.image();
-        let program = image.program();
-        let children = children_at(&self.joins, program, self.present.status(thread));
-        take_step(&self.joins, program, &mut self.present, thread, value);
-        count_after(
-            &self.joins,
-            program,
-            &self.present,
-            &mut self.living,
-            thread,
-        );
         close_one(&mut self.claims, &mut self.claimed, thread);
-        sort_after(
-            program,
+        let image = self.verified.image();
+        step_on(
+            &self.joins,
+            image.program(),
             image.tables(),
-            &self.present,
-            &self.living,
             &self.claims,
+            &mut self.present,
+            &mut self.living,
             &mut self.rows,
             thread,
-            children,
+            value,
         );
         self.history.push_reserved(Entry { thread, worker });
     }
