@@ -151,13 +151,10 @@ fn move_on_at(
             update(control, thread, *variable, *combine, value, *next);
             Some(*next)
         }
-        (Step::Cond { then, .. }, Some(Value::Bool(true))) => {
-            go(control, thread, Status::At(*then));
-            Some(*then)
-        }
-        (Step::Cond { other, .. }, Some(Value::Bool(false))) => {
-            go(control, thread, Status::At(*other));
-            Some(*other)
+        (Step::Cond { then, other, .. }, Some(Value::Bool(holds))) => {
+            let next = if holds { *then } else { *other };
+            go(control, thread, Status::At(next));
+            Some(next)
         }
         _ => None,
     }
