@@ -1,4 +1,4 @@
-use Rattle.std.proofs.Common.{◌∙◌, Option, Some, ℕ, ap, sym, subst, slice_set}
+use Rattle.std.proofs.Common.{◌∙◌, Some, ℕ, ap, sym, subst, slice_set}
 use Rattle.buckets.specs.Rows.{HasRoom}
 use Rattle.tick_core.proofs.NextSteps.{next_room, moves_on}
 use Rattle.tick_core.proofs.onward.step_on.Goals as goal

@@ -1,4 +1,4 @@
-use Rattle.std.proofs.Common.{◌≡◌, List, [], ◌∷◌, ◌∙◌, sym, ap}
+use Rattle.std.proofs.Common.{[], ◌∷◌, ◌∙◌, sym, ap}
 use Rattle.sc_values.specs.Code.{code_value}
 use Rattle.tick_core.proofs.ShortCodes.{binary_of, gives_value}
 use Rattle.tick_core.proofs.short_codes.value_by_two.Goals as goal
