@@ -14,5 +14,6 @@ pub mod Drafting
 pub mod Shaping
 pub mod ShapedDrafts
 pub mod Labelled
+pub mod AllApart
 pub mod Surveyed
 pub mod Checking

@@ -4,6 +4,7 @@ ghost use Rattle.std.specs.Prelude.{◌≡◌, IfOk, OnOk};
 ghost use Rattle.drafts.specs.Inside.{first_behind};
 ghost use Rattle.scl_drafts.specs.Flaws.{names, lost, repeated};
 
+use crate::apart::are_apart;
 use drafts::{Flaw, Index, Named, note_if};
 use sc_text::FaultKind;
 use sc_values::Name;
@@ -32,8 +33,23 @@ pub(crate) fn note_lost(
 }
 
 /// Notes each label whose name stands before it too. Err: memory was refused.
-#[tactic(auto, using(crate::proofs::Labelled::repeated_step, crate::proofs::Labelled::repeated_over))]
+#[tactic(auto, using(crate::proofs::AllApart::none_repeated))]
 pub(crate) fn note_repeated(
+    alloc: Global,
+    labels: &[Named],
+    first: &mut Option<Flaw>,
+) -> Result<(), AllocError>
+    ensures { OnOk result (first.new ≡ first_behind first.old (repeated (names labels.now) 0 labels.now)) }
+{
+    if are_apart(alloc, labels)? {
+        return Ok(());
+    }
+    note_each_repeated(alloc, labels, first)
+}
+
+// The same, where some may stand twice: each is looked up.
+#[tactic(auto, using(crate::proofs::Labelled::repeated_step, crate::proofs::Labelled::repeated_over))]
+fn note_each_repeated(
     alloc: Global,
     labels: &[Named],
     first: &mut Option<Flaw>,

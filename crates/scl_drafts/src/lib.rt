@@ -1,6 +1,7 @@
 //! Reading SCL text.
 #![tactic(auto)]
 
+mod apart;
 mod checked;
 mod declarations;
 mod draft;
