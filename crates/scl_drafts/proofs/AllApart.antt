@@ -1,5 +1,5 @@
 -- Names are apart whose numbers rise once they are sorted; and labels that are apart have none that stands twice.
-use Rattle.std.proofs.Common.{◌≡◌, ℕ, zero, suc, ◌+◌, ◌-◌, ◌<◌, Bool, true, false, true≢false, Some, List, [], ◌∷◌, map, length, get_or, slice_get, ◌++◌, eqb, refl, sym, subst, ◌∙◌, ap}
+use Rattle.std.proofs.Common.{◌≡◌, ℕ, zero, suc, ◌+◌, ◌-◌, ◌<◌, Bool, true, false, true≢false, Some, List, [], ◌∷◌, map, drop, length, get_or, slice_get, append_assoc, ◌++◌, eqb, refl, sym, subst, ◌∙◌, ap}
 use Rattle.std.proofs.Common.{arith, IsPermutation}
 use Rattle.std.specs.Prelude.{not}
 use Rattle.std.specs.Cmp.{nat_eq_equiv}
@@ -17,6 +17,7 @@ use Rattle.drafts.specs.declared.flaw.Flaw.{Flaw}
 use Rattle.drafts.specs.declared.parts.Named.{Named}
 use Rattle.drafts.specs.Flaws.{first_or, flaw_if, is_at, is_repeated, place_among}
 use Rattle.drafts.proofs.Distinct.{AreFirst, itself}
+use Rattle.drafts.proofs.PartsInOrder.{drop_is}
 use Rattle.scl_drafts.specs.Apart.{AreRising, number_of}
 use Rattle.scl_drafts.specs.Flaws.{names, repeated}
 
@@ -76,6 +77,14 @@ all_first (n ∷ ns) d (suc k) name is =
 pub rising_apart : (ns : List (List ℕ)) (xs ys : List ℕ) → xs ≡ map number_of ns → IsPermutation xs ys → AreRising ys → AreFirst ns
 rising_apart ns xs ys is moved h =
     all_first ns (subst (IsDistinct eqb) is (IsDistinct-IsPermutation eqb nat_eq_equiv.symm ys xs (IsPermutation-sym xs ys moved) (rising_distinct ys h)))
+
+-- the numbers of labels, one behind the other
+pub numbers_step : (all : List Named) (at : ℕ) (l : Named) (old new : List ℕ) → slice_get all at ≡ Some l → new ≡ old ++ number_of l.name ∷ []
+    → new ++ map number_of (names (drop (at + 1) all)) ≡ old ++ map number_of (names (drop at all))
+numbers_step all at l old new e is =
+    ap (λ r. r ++ map number_of (names (drop (at + 1) all))) is
+    ∙ append_assoc old (number_of l.name ∷ []) (map number_of (names (drop (at + 1) all)))
+    ∙ ap (λ q. old ++ map number_of (names q)) (sym (drop_is all at l e))
 
 -- ---- labels that are apart
 

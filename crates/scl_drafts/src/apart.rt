@@ -5,7 +5,7 @@ ghost use Rattle.drafts.proofs.Distinct.{AreFirst};
 ghost use Rattle.scl_drafts.specs.Apart.{AreRising, number_from, number_of};
 ghost use Rattle.scl_drafts.specs.Flaws.{names};
 
-use drafts::Named;
+use crate::name_row::NameRow;
 use sc_values::Name;
 use std::alloc::{AllocError, Global};
 
@@ -13,7 +13,7 @@ const FACTOR: u64 = 11400714819323198485;
 
 /// Whether each label is the first of its name. It may say no where all are: two names may have one number. Err: memory
 /// was refused.
-pub(crate) fn are_apart(alloc: Global, labels: &[Named]) -> Result<bool, AllocError>
+pub(crate) fn are_apart(alloc: Global, labels: &NameRow) -> Result<bool, AllocError>
     ensures { IfOk result (λ are_apart. IsTrue are_apart → AreFirst (names labels.now)) }
 {
     let mut numbers = numbers_of(alloc, labels)?;
@@ -21,12 +21,13 @@ pub(crate) fn are_apart(alloc: Global, labels: &[Named]) -> Result<bool, AllocEr
     Ok(are_rising(numbers.as_slice()))
 }
 
-fn numbers_of(alloc: Global, labels: &[Named]) -> Result<Vec<u64>, AllocError>
+#[tactic(auto, using(crate::proofs::AllApart::numbers_step))]
+fn numbers_of(alloc: Global, labels: &NameRow) -> Result<Vec<u64>, AllocError>
     ensures { IfOk result (λ numbers. numbers.items ≡ map number_of (names labels.now)) }
 {
     let mut numbers = Vec::with_capacity(alloc, labels.len())?;
-    for label in labels {
-        numbers.push(number_of(&label.name))?;
+    for at in 0..labels.len() {
+        numbers.push(number_of(&labels.at(at).name))?;
     }
     Ok(numbers)
 }

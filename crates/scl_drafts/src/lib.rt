@@ -8,6 +8,7 @@ mod draft;
 mod labels;
 mod laws;
 mod name;
+mod name_row;
 mod program;
 mod simple;
 mod statement;

@@ -3,5 +3,5 @@ use Rattle.scl_drafts.specs.Apart.{number_of}
 use Rattle.scl_drafts.specs.Flaws.{names}
 use Rattle.scl_drafts.proofs.apart.numbers_of.Given as goal
 
-abbrev pub invariant-loop-label : goal.invariant-loop-label
-invariant-loop-label l = l.numbers.items ++ map number_of (names (drop l.label-index l.labels)) ≡ map number_of (names l.labels)
+abbrev pub invariant-loop-at : goal.invariant-loop-at
+invariant-loop-at l = l.numbers.items ++ map number_of (names (drop l.at l.labels)) ≡ map number_of (names l.labels)
