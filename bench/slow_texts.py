@@ -1,5 +1,7 @@
 """SCL texts that are small and ordinary to look at, and on which a compiler may spend more than its share: each function
 makes one of about as many nodes as it is given. bench/compile times them beside ordinary ones."""
+import itertools
+
 HEAD = "scl P { input bool A; output int x; output int y; output int z; local int w; "
 OWN = "".join(f"local int v{i}; " for i in range(59))
 MANY = "".join(f"local int v{i}; " for i in range(240))
@@ -68,6 +70,44 @@ def labels_deep(n):
     return labels(n, min(1056, n * 1056 // 2400))
 
 
+def label_row(n):
+    """So many labels in a row, and no goto."""
+    return HEAD + "x = 1; " + "".join(f"L{i}: " for i in range(n)) + "}"
+
+
+def goto_row(n):
+    """So many labels in a row, each behind a goto to the next one."""
+    return HEAD + "x = 1; " + "".join(f"goto L{i + 1}; L{i}: " for i in range(n)) + f"L{n}: }}"
+
+
+def crowded_names(count, bits):
+    """So many names, of six letters each, whose hashes by the toolchain have these last bits in common, both halves joined,
+    so that they fall into one place of a table of 2 ** bits groups, each for nine names."""
+    most, factor = 2 ** 64 - 1, 0x9e3779b97f4a7c15
+
+    def folded(first, second):
+        product = first * second
+        return product & most ^ product >> 64
+
+    names, begin = [], folded(0x243f6a8885a308d3 ^ 6, factor ^ 16)
+    for front in itertools.product("abcdefghijklmnopqrstuvwxyz", repeat=5):
+        state = begin
+        for letter in front:
+            state = folded(state ^ ord(letter) * 0x010101, factor ^ 2)
+        for letter in "abcdefghijklmnopqrstuvwxyz":
+            last = folded(state ^ ord(letter) * 0x010101, factor ^ 2)
+            if (last ^ last >> 32) % 2 ** bits == 0:
+                names.append("".join(front) + letter)
+        if len(names) >= count:
+            return names[:count]
+
+
+def crowded_labels(n):
+    """A goto, and so many labels whose names are chosen to fall into one place of a table that finds them by their hash."""
+    names = crowded_names(n, max(0, -(-n // 9) - 1).bit_length())
+    return HEAD + f"if (A) {{ goto {names[0]}; }} x = 1; " + "".join(f"{name}: " for name in names) + "}"
+
+
 def sums_of_each_other(n):
     """A chart of 60 regions in rings, where two variables are each summed up from the other."""
     k = max(2, n // 295)
@@ -134,3 +174,6 @@ SLOW = [("a loop of one node before a row", loop_before_row), ("a row beside a c
         ("labels within ifs and forks", labels_deep)]
 # What these cost grows with pairs of threads that use one variable, of which there are at most 1,024 threads.
 PAIRS = [("forks by sums and by products in turn", forks_in_turn), ("half of many threads write what the others read", many_threads)]
+# Labels and gotos are no nodes. The names of the last are found by trying, the longer the more there are.
+LABELS = [("labels in a row", label_row), ("a goto to each label", goto_row),
+          ("a goto, and labels that fall into one place of a table", crowded_labels)]

@@ -1,5 +1,5 @@
 -- Going over labels and gotos for what is wrong with them.
-use Rattle.std.proofs.Common.{◌≡◌, ℕ, ◌+◌, ◌≤◌, Option, Some, List, drop, length, slice_get, sym, ◌∙◌, ap}
+use Rattle.std.proofs.Common.{◌≡◌, ℕ, ◌+◌, ◌≤◌, Option, Some, List, [], ◌∷◌, ◌++◌, append_assoc, drop, length, slice_get, sym, ◌∙◌, ap}
 use Rattle.std.specs.Prelude.{not}
 use Rattle.sc_text.specs.declared.read_fault.FaultKind.TheVariants as broken
 use Rattle.drafts.specs.declared.flaw.Flaw.{Flaw}
@@ -8,7 +8,15 @@ use Rattle.drafts.specs.Flaws.{flaw_if, is_among, is_repeated}
 use Rattle.drafts.specs.Inside.{first_behind}
 use Rattle.drafts.proofs.Firsts.{behind_both}
 use Rattle.drafts.proofs.PartsInOrder.{drop_is, drop_past}
-use Rattle.scl_drafts.specs.Flaws.{lost, repeated}
+use Rattle.scl_drafts.specs.Flaws.{lost, names, repeated}
+
+-- the names of labels, one behind the other
+pub names_step : (all : List Named) (at : ℕ) (l : Named) (old new : List (List ℕ)) → slice_get all at ≡ Some l → new ≡ old ++ l.name ∷ []
+    → new ++ names (drop (at + 1) all) ≡ old ++ names (drop at all)
+names_step all at l old new e is =
+    ap (λ r. r ++ names (drop (at + 1) all)) is
+    ∙ append_assoc old (l.name ∷ []) (names (drop (at + 1) all))
+    ∙ ap (λ q. old ++ names q) (sym (drop_is all at l e))
 
 module _ (labels : List (List ℕ)) (all : List Named) (at : ℕ) where
   pub lost_step : (g : Named) (f : Option Flaw) → slice_get all at ≡ Some g

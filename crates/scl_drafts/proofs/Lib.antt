@@ -13,6 +13,8 @@ pub mod Programs
 pub mod Drafting
 pub mod Shaping
 pub mod ShapedDrafts
+pub mod RowsOfNames
 pub mod Labelled
+pub mod AllApart
 pub mod Surveyed
 pub mod Checking

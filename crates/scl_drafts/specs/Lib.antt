@@ -7,3 +7,4 @@ pub mod Inside
 pub mod Flaws
 pub mod Checked
 pub mod Survey
+pub mod Apart

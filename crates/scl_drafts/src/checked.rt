@@ -7,11 +7,11 @@ ghost use Rattle.scl_drafts.specs.Checked.{IsFlawless, IsTextFault};
 
 use crate::draft::Draft;
 use crate::labels::note_repeated;
+use crate::name_row::NameRow;
 use crate::program::read_draft;
 use crate::survey::{Found, survey_thread};
 use drafts::{Flaw, Scope};
 use sc_text::ReadFault;
-use sqlite_items::Items;
 use std::alloc::{AllocError, Global};
 
 /// The draft of a text that keeps the rules of SCL: names are known, variables and labels declared once, kinds
@@ -36,11 +36,12 @@ fn first_flaw(alloc: Global, draft: &Draft) -> Result<Option<Flaw>, AllocError>
 {
     let scope = Scope::of(alloc, draft.declarations.as_slice())?;
     let mut found = Found {
-        labels: Items::new(alloc),
+        labels: NameRow::new(alloc),
         first: None,
     };
     scope.declarations(&mut found.first);
     survey_thread(alloc, &scope, draft.statements.as_slice(), &mut found)?;
-    note_repeated(alloc, found.labels.as_slice(), &mut found.first)?;
-    Ok(found.first)
+    let mut first = found.first;
+    note_repeated(alloc, &found.labels, &mut first)?;
+    Ok(first)
 }

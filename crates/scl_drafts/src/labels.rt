@@ -4,7 +4,9 @@ ghost use Rattle.std.specs.Prelude.{◌≡◌, IfOk, OnOk};
 ghost use Rattle.drafts.specs.Inside.{first_behind};
 ghost use Rattle.scl_drafts.specs.Flaws.{names, lost, repeated};
 
-use drafts::{Flaw, Index, Named, note_if};
+use crate::apart::are_apart;
+use crate::name_row::NameRow;
+use drafts::{Flaw, Index, note_if};
 use sc_text::FaultKind;
 use sc_values::Name;
 use std::alloc::{AllocError, Global};
@@ -13,29 +15,45 @@ use std::alloc::{AllocError, Global};
 #[tactic(auto, using(crate::proofs::Labelled::lost_step, crate::proofs::Labelled::lost_over))]
 pub(crate) fn note_lost(
     alloc: Global,
-    labels: &[Named],
-    gotos: &[Named],
+    labels: &NameRow,
+    gotos: &NameRow,
     first: &mut Option<Flaw>,
 ) -> Result<(), AllocError>
     ensures { OnOk result (first.new ≡ first_behind first.old (lost (names labels.now) gotos.now)) }
 {
-    if gotos.is_empty() {
+    if gotos.len() == 0 {
         return Ok(());
     }
     let names = names(alloc, labels)?;
     let index = Index::of(alloc, names.as_slice())?;
-    for target in gotos {
-        let is_lost = index.place(target.name).is_none();
-        note_if(first, is_lost, FaultKind::Unknown, target.at);
+    for at in 0..gotos.len() {
+        let target = gotos.at(at);
+        let is_known = index.has(target.name);
+        note_if(first, !is_known, FaultKind::Unknown, target.at);
     }
     Ok(())
 }
 
 /// Notes each label whose name stands before it too. Err: memory was refused.
-#[tactic(auto, using(crate::proofs::Labelled::repeated_step, crate::proofs::Labelled::repeated_over))]
+#[tactic(auto, using(crate::proofs::AllApart::none_repeated))]
 pub(crate) fn note_repeated(
     alloc: Global,
-    labels: &[Named],
+    labels: &NameRow,
+    first: &mut Option<Flaw>,
+) -> Result<(), AllocError>
+    ensures { OnOk result (first.new ≡ first_behind first.old (repeated (names labels.now) 0 labels.now)) }
+{
+    if are_apart(alloc, labels)? {
+        return Ok(());
+    }
+    note_each_repeated(alloc, labels, first)
+}
+
+// The same, where some may stand twice: each is looked up.
+#[tactic(auto, using(crate::proofs::Labelled::repeated_step, crate::proofs::Labelled::repeated_over))]
+fn note_each_repeated(
+    alloc: Global,
+    labels: &NameRow,
     first: &mut Option<Flaw>,
 ) -> Result<(), AllocError>
     ensures { OnOk result (first.new ≡ first_behind first.old (repeated (names labels.now) 0 labels.now)) }
@@ -43,18 +61,20 @@ pub(crate) fn note_repeated(
     let names = names(alloc, labels)?;
     let index = Index::of(alloc, names.as_slice())?;
     for at in 0..labels.len() {
-        let is_repeated = index.place(labels[at].name) != Some(at);
-        note_if(first, is_repeated, FaultKind::Repeated, labels[at].at);
+        let label = labels.at(at);
+        let is_repeated = index.is_repeated(at, label.name);
+        note_if(first, is_repeated, FaultKind::Repeated, label.at);
     }
     Ok(())
 }
 
-fn names(alloc: Global, labels: &[Named]) -> Result<Vec<Name>, AllocError>
+#[tactic(auto, using(crate::proofs::Labelled::names_step))]
+fn names(alloc: Global, labels: &NameRow) -> Result<Vec<Name>, AllocError>
     ensures { IfOk result (λ found. found.items ≡ names labels.now) }
 {
     let mut names = Vec::with_capacity(alloc, labels.len())?;
-    for label in labels {
-        names.push(label.name)?;
+    for at in 0..labels.len() {
+        names.push(labels.at(at).name)?;
     }
     Ok(names)
 }

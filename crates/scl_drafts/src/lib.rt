@@ -1,12 +1,14 @@
 //! Reading SCL text.
 #![tactic(auto)]
 
+mod apart;
 mod checked;
 mod declarations;
 mod draft;
 mod labels;
 mod laws;
 mod name;
+mod name_row;
 mod program;
 mod simple;
 mod statement;

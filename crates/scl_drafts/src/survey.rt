@@ -8,60 +8,55 @@ ghost use Rattle.scl_drafts.specs.Survey.{survey, behind, found_behind, label_pa
 ghost use Rattle.sc_text.specs.declared.read_fault.FaultKind.TheVariants.{Limit};
 
 use crate::labels::note_lost;
+use crate::name_row::NameRow;
 use crate::statement::TextStatement;
 use drafts::{Flaw, Named, Scope, note_if};
 use sc_graph::CHILD_LIMIT;
 use sc_text::FaultKind;
 use sc_values::Kind;
-use sqlite_items::Items;
 use std::alloc::{AllocError, Global};
 
 /// The labels and the gotos of one thread.
 #[derive(Drop)]
-struct Thread {
-    labels: Items<Named>,
-    gotos: Items<Named>,
+struct Thread<'a> {
+    labels: NameRow<'a>,
+    gotos: NameRow<'a>,
 }
 
 /// What was found in all threads: their labels in the order of the text, and the first flaw.
 #[derive(Drop)]
-pub(crate) struct Found {
-    pub(crate) labels: Items<Named>,
+pub(crate) struct Found<'a> {
+    pub(crate) labels: NameRow<'a>,
     pub(crate) first: Option<Flaw>,
 }
 
 /// Goes over a whole thread. Err: memory was refused.
 #[cycle(survey)]
-pub(crate) fn survey_thread(
+pub(crate) fn survey_thread<'a>(
     alloc: Global,
     scope: &Scope,
-    body: &[TextStatement],
-    found: &mut Found,
+    body: &'a [TextStatement],
+    found: &mut Found<'a>,
 ) -> Result<(), AllocError>
     ensures { OnOk result (found.new ≡ found_behind found.old
         (thread (in_row (parts_of scope.now.variables.now body.now)))) }
 {
     let mut own = Thread {
-        labels: Items::new(alloc),
-        gotos: Items::new(alloc),
+        labels: NameRow::new(alloc),
+        gotos: NameRow::new(alloc),
     };
     survey_statements(alloc, scope, body, &mut own, found)?;
-    note_lost(
-        alloc,
-        own.labels.as_slice(),
-        own.gotos.as_slice(),
-        &mut found.first,
-    )?;
+    note_lost(alloc, &own.labels, &own.gotos, &mut found.first)?;
     Ok(())
 }
 
 #[cycle(survey)]
-fn survey_statements(
+fn survey_statements<'a>(
     alloc: Global,
     scope: &Scope,
-    statements: &[TextStatement],
-    own: &mut Thread,
-    found: &mut Found,
+    statements: &'a [TextStatement],
+    own: &mut Thread<'a>,
+    found: &mut Found<'a>,
 ) -> Result<(), AllocError>
     ensures { OnOk result (survey own.new found.new ≡ behind (survey own.old found.old)
         (in_row (parts_of scope.now.variables.now statements.now))) }
@@ -73,12 +68,12 @@ fn survey_statements(
 }
 
 #[cycle(survey)]
-fn survey_statement(
+fn survey_statement<'a>(
     alloc: Global,
     scope: &Scope,
-    statement: &TextStatement,
-    own: &mut Thread,
-    found: &mut Found,
+    statement: &'a TextStatement,
+    own: &mut Thread<'a>,
+    found: &mut Found<'a>,
 ) -> Result<(), AllocError>
     ensures { OnOk result (survey own.new found.new ≡ behind (survey own.old found.old)
         (part_of scope.now.variables.now statement.now)) }
@@ -91,7 +86,7 @@ fn survey_statement(
             &mut found.first,
         ),
         TextStatement::Label(label) => note_label(label, own, found),
-        TextStatement::Goto(label) => own.gotos.push(*label),
+        TextStatement::Goto(label) => own.gotos.push(label),
         TextStatement::Pause { at: _ } => Ok(()),
         TextStatement::If {
             at: _,
@@ -115,11 +110,15 @@ fn survey_statement(
     }
 }
 
-fn note_label(label: &Named, own: &mut Thread, found: &mut Found) -> Result<(), AllocError>
+fn note_label<'a>(
+    label: &'a Named,
+    own: &mut Thread<'a>,
+    found: &mut Found<'a>,
+) -> Result<(), AllocError>
     ensures { OnOk result (survey own.new found.new ≡ behind (survey own.old found.old) (label_part label.now)) }
 {
-    own.labels.push(*label)?;
-    found.labels.push(*label)?;
+    own.labels.push(label)?;
+    found.labels.push(label)?;
     Ok(())
 }
 

@@ -1,7 +1,7 @@
 use Rattle.std.proofs.Common.{◌≡◌, ap, ◌∙◌, None, []}
 use Rattle.drafts.specs.Flaws.{variable_flaws, variable_names}
 use Rattle.drafts.specs.Inside.{first_behind}
-use Rattle.scl_drafts.specs.Flaws.{names, repeated, root}
+use Rattle.scl_drafts.specs.Flaws.{root}
 use Rattle.scl_drafts.specs.Survey.{found_behind}
 use Rattle.scl_drafts.proofs.Checking.{all_noted}
 use Rattle.scl_drafts.proofs.checked.first_flaw.Goals as goal
@@ -18,4 +18,4 @@ returns c =
     ∙ ap (λ ls. found_behind (record { labels = ls; first = noted }) (root c.in_ok-scope.scope.variables.now c.as_slice-2.result.now)) c.new.ensures
     ∙ ap (λ xs. found_behind (record { labels = []; first = noted }) (root xs c.as_slice-2.result.now)) variables
     ∙ ap (λ xs. found_behind (record { labels = []; first = noted }) (root d.declarations xs)) c.as_slice-2.ensures)
-    (c.in_ok-note_repeated.ensures ∙ ap (λ xs. first_behind found.first (repeated (names xs) 0 xs)) c.as_slice-3.ensures)
+    c.in_ok-note_repeated.ensures

@@ -50,9 +50,7 @@ survey_thread-returns t c =
     c.in_ok-survey_statements.ensures ∙ ap (λ n. behind (survey n found) (in_row (parts_of V c.args.body.now)))
     (λ i. record { labels = c.new.ensures i; gotos = c.new-2.ensures i }) in
     let told : first ≡ first_behind after.first (lost (names own.labels) own.gotos) =
-    c.in_ok-note_lost.ensures
-    ∙ ap (λ l. first_behind after.first (lost (names l) c.as_slice-2.result.now)) c.as_slice.ensures
-    ∙ ap (λ g. first_behind after.first (lost (names own.labels) g)) c.as_slice-2.ensures in
+    c.in_ok-note_lost.ensures in
     thread_found V c.args.body.now own found after first begun told
 
 pub survey_statement-loop-before-preserved : goal.survey_statement-loop-before-preserved

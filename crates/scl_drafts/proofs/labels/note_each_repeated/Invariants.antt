@@ -1,7 +1,7 @@
 use Rattle.std.proofs.Common.{◌≡◌, drop}
 use Rattle.drafts.specs.Inside.{first_behind}
 use Rattle.scl_drafts.specs.Flaws.{names, repeated}
-use Rattle.scl_drafts.proofs.labels.note_repeated.Given as goal
+use Rattle.scl_drafts.proofs.labels.note_each_repeated.Given as goal
 
 abbrev pub invariant-loop-at : goal.invariant-loop-at
 invariant-loop-at l =

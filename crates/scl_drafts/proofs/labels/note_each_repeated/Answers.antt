@@ -1,0 +1,22 @@
+use Rattle.std.proofs.Common.{◌≡◌, ◌∙◌, ℕ, ◌+◌, List, drop, ap, subst}
+use Rattle.sc_text.specs.declared.read_fault.FaultKind.TheVariants as broken
+use Rattle.drafts.specs.Flaws.{flaw_if, is_repeated}
+use Rattle.drafts.specs.Inside.{IsIndex, first_behind}
+use Rattle.drafts.specs.declared.parts.Named.{Named}
+use Rattle.scl_drafts.specs.Flaws.{names, repeated}
+use Rattle.scl_drafts.proofs.Labelled.{repeated_step}
+use Rattle.scl_drafts.proofs.labels.note_each_repeated.Goals as goal
+
+pub loop-at-preserved : goal.loop-at-preserved
+loop-at-preserved c =
+    let all : List Named = c.args.labels.now in
+    let labels : List (List ℕ) = names all in
+    let at : ℕ = c.loop-at.at in
+    let l : Named = c.at-label.result.now in
+    let is : IsIndex labels c.in_ok-index.index =
+    subst (λ ns. IsIndex ns c.in_ok-index.index) (c.as_slice.ensures.value ∙ c.in_ok-names.ensures) c.in_ok-index.ensures in
+    let again : c.is_repeated-is_repeated.result ≡ is_repeated labels at l.name = c.is_repeated-is_repeated.ensures labels is in
+    ap (λ f. first_behind f (repeated labels (at + 1) (drop (at + 1) all)))
+    (c.note_if.ensures ∙ ap (λ b. first_behind c.loop-at.first (flaw_if b broken.Repeated l.at)) again)
+    ∙ repeated_step labels all at l c.loop-at.first c.at-label.ensures
+    ∙ c.loop-at.invariant
