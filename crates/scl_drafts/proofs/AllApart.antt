@@ -1,5 +1,6 @@
 -- Names are apart whose numbers rise once they are sorted; and labels that are apart have none that stands twice.
-use Rattle.std.proofs.Common.{◌≡◌, ℕ, zero, suc, ◌+◌, ◌-◌, ◌<◌, Bool, true, false, true≢false, Some, List, [], ◌∷◌, map, drop, length, get_or, slice_get, append_assoc, ◌++◌, eqb, refl, sym, subst, ◌∙◌, ap}
+use Rattle.std.proofs.Common.{◌≡◌, ℕ, zero, suc, ◌+◌, ◌-◌, ◌<◌, Bool, true, false, true≢false, Some, List, [], ◌∷◌}
+use Rattle.std.proofs.Common.{map, drop, length, get_or, slice_get, append_assoc, ◌++◌, eqb, refl, sym, subst, ◌∙◌, ap}
 use Rattle.std.proofs.Common.{arith, IsPermutation}
 use Rattle.std.specs.Prelude.{not}
 use Rattle.std.specs.Cmp.{nat_eq_equiv}

@@ -1,5 +1,6 @@
 -- Labels in a row: one more behind them, and the first of a name.
-use Rattle.std.proofs.Common.{◌≡◌, ℕ, zero, suc, ◌+◌, ◌-◌, ◌≤◌, ◌<◌, Bool, true, false, Option, Some, None, List, [], ◌∷◌, ◌++◌, drop, length, get_or, slice_get, cond, refl, ap}
+use Rattle.std.proofs.Common.{◌≡◌, ℕ, zero, suc, ◌+◌, ◌-◌, ◌≤◌, ◌<◌, Bool, true, false, Option, Some, None, List, [], ◌∷◌, ◌++◌}
+use Rattle.std.proofs.Common.{drop, length, get_or, slice_get, cond, refl, ap}
 use Rattle.std.proofs.Common.{sym, subst, ◌∙◌, if◌then◌else◌, arith}
 use Rattle.std.specs.Prelude.{option_map}
 use Rattle.std.specs.Cmp.Lexicographic.{nat_list_eq_equiv}

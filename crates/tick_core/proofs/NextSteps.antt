@@ -15,7 +15,7 @@ use Rattle.sc_graph.specs.Valid.{IsValid}
 use Rattle.tick_laws.proofs.Lists.{get_set_same}
 use Rattle.tick_core.specs.Claims.{Claim}
 use Rattle.tick_core.specs.Inside.Living.{CountsLiving, counted_at}
-use Rattle.tick_core.specs.Inside.Onward.{MovesOn, Steps}
+use Rattle.tick_core.specs.Inside.Onward.{MovesOn, Goes}
 use Rattle.tick_core.specs.Inside.Sorting.{row_at, step_priority, unless_claimed, ready_row, OwnRows, AreSorted, sorted_one, sorted_parent, sorted_all}
 use Rattle.tick_core.specs.Inside.Sorting.{ended_parent, children_at}
 use Rattle.tick_core.proofs.LivingChildren.{counts_after}
@@ -43,7 +43,7 @@ module _ (p : Program) (q : Tables) (valid : IsValid p q) (c d : Control) (ok : 
     next_room = subst (λ (o : Option ℕ). HasRoom rows t o) (row_is claims none) (has_room p q rows own t below d valid still_ok claims)
 
     pub moves_on : IsEnabled p c t → (counts : List ℕ) → CountsLiving p c counts → (after_rows : Rows)
-        → after_rows ≡ record rows { classes = slice_set rows.classes t (Some (priority q n)) } → Steps p q c d t claims rows after_rows counts
+        → after_rows ≡ record rows { classes = slice_set rows.classes t (Some (priority q n)) } → Goes p q c d t claims rows after_rows counts
     moves_on enabled counts counted after_rows after_is =
         record {
           stepped = on.stepped;
@@ -74,7 +74,7 @@ pub steps_anew : (p : Program) (q : Tables) → IsValid p q → (c d : Control) 
     (st : Status) (children : List ℕ) → st ≡ status_of c t → children ≡ children_at p st →
     after_rows ≡ sorted_all (ready_row p q d claims) children
     (sorted_parent (ready_row p q d claims) (sorted_one (ready_row p q d claims) rows t) (ended_parent p t (status_of d t))) → OwnRows p q after_rows
-    → Steps p q c d t claims rows after_rows after_counts
+    → Goes p q c d t claims rows after_rows after_counts
 steps_anew p q valid c d ok t below stepped claims rows after_rows after_counts counted st children st_is children_are is own =
     record {
       stepped = stepped;

@@ -210,9 +210,11 @@ sorted_after p q valid c d ok t t_below stepped claims rows after_rows h is own 
 
     each : (e : Effect) → Does p c t e → after e c ≡ d → (u : ℕ) → u < length p.threads → Contains (children_at p (status_of c t)) u
         ⊎ ¬ Contains (children_at p (status_of c t)) u →
-        slice_get (sorted_all row (children_at p (status_of c t)) (sorted_parent row (sorted_one row rows t) (ended_parent p t (status_of d t)))).classes u ≡ Some (row u)
+        slice_get (sorted_all row (children_at p (status_of c t))
+        (sorted_parent row (sorted_one row rows t) (ended_parent p t (status_of d t)))).classes u ≡ Some (row u)
     each e does same u below (inl child) =
-        all_in row (children_at p (status_of c t)) (sorted_parent row (sorted_one row rows t) (ended_parent p t (status_of d t))) u (omega (arith, parent_long (ended_parent p t (status_of d t))))
+        all_in row (children_at p (status_of c t)) (sorted_parent row (sorted_one row rows t) (ended_parent p t (status_of d t))) u
+        (omega (arith, parent_long (ended_parent p t (status_of d t))))
         child
     each e does same u below (inr no_child) =
         all_out row (children_at p (status_of c t)) (sorted_parent row (sorted_one row rows t) (ended_parent p t (status_of d t))) u no_child
@@ -254,7 +256,8 @@ pub sorted_after_at : (p : Program) (q : Tables) → IsValid p q → (c d : Cont
     (p' : Program) (q' : Tables) (st : Status) (children : List ℕ) → p' ≡ p → q' ≡ q → st ≡ status_of c t → children ≡ children_at p' st
     → (after_claims : List (Option Claim)) → after_claims ≡ slice_set claims t None →
     after_rows ≡ sorted_all (ready_row p' q' d after_claims) children
-    (sorted_parent (ready_row p' q' d after_claims) (sorted_one (ready_row p' q' d after_claims) rows t) (ended_parent p' t (status_of d t))) → OwnRows p' q' after_rows
+    (sorted_parent (ready_row p' q' d after_claims) (sorted_one (ready_row p' q' d after_claims) rows t) (ended_parent p' t (status_of d t)))
+    → OwnRows p' q' after_rows
     → AreSorted p q d after_claims after_rows
 sorted_after_at p q valid c d ok t below stepped claims rows after_rows h p' q' st children p_is q_is st_is children_are after_claims claims_are is own =
     let F : Program → Tables → List ℕ → List (Option Claim)

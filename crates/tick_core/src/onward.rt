@@ -7,7 +7,7 @@ ghost use Rattle.sc_graph.specs.Tick.{IsConfiguration};
 ghost use Rattle.sc_graph.specs.Valid.{IsValid};
 ghost use Rattle.tick_core.specs.Inside.Joins.{FindsForks};
 ghost use Rattle.tick_core.specs.Inside.Living.{CountsLiving};
-ghost use Rattle.tick_core.specs.Inside.Onward.{Steps};
+ghost use Rattle.tick_core.specs.Inside.Onward.{Goes};
 ghost use Rattle.tick_core.specs.Inside.Sorting.{OwnRows};
 ghost use Rattle.tick_core.specs.Inside.Work.{value_at};
 
@@ -43,7 +43,7 @@ pub(crate) fn step_on(
     requires unclaimed { slice_get claims.now thread ≡ Some None }
     requires counts { CountsLiving program.now control.old living.old.items }
     requires rows { OwnRows program.now tables.now rows.old }
-    ensures { Steps program.now tables.now control.old control.new thread claims.now rows.old rows.new living.new.items }
+    ensures { Goes program.now tables.now control.old control.new thread claims.now rows.old rows.new living.new.items }
 {
     match move_on(program, control, thread, value) {
         Some(next) => {
@@ -77,7 +77,7 @@ fn step_anew(
     requires value { value ≡ value_at program.now control.old (status_of control.old thread) }
     requires counts { CountsLiving program.now control.old living.old.items }
     requires rows { OwnRows program.now tables.now rows.old }
-    ensures { Steps program.now tables.now control.old control.new thread claims.now rows.old rows.new living.new.items }
+    ensures { Goes program.now tables.now control.old control.new thread claims.now rows.old rows.new living.new.items }
 {
     let children = children_at(joins, program, control.status(thread));
     take_step(joins, program, control, thread, value);

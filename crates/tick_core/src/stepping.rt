@@ -8,7 +8,7 @@ ghost use Rattle.sc_graph.specs.Steps.{Keep, Put, Combine, enters, moved, after,
 ghost use Rattle.tick_core.specs.Stepping.{code_at};
 ghost use Rattle.tick_core.specs.Inside.Work.{value_of, value_at};
 ghost use Rattle.tick_core.specs.Inside.Joins.{FindsForks};
-ghost use Rattle.tick_core.specs.Inside.Onward.{MovesAt, MovesOn};
+ghost use Rattle.tick_core.specs.Inside.Onward.{MayMoveAt, MovesOn};
 
 use crate::joins::Joins;
 use sc_graph::{Control, NodeId, Program, Status, Step, ThreadId, VariableId};
@@ -132,7 +132,7 @@ fn move_on_at(
 ) -> Option<NodeId>
     requires defined { IsSome (node_effect program.now control.old thread step.now) }
     requires value { value ≡ value_of control.old step.now }
-    ensures { MatchOption result (control.new ≡ control.old) (MovesAt program.now control.old control.new thread step.now) }
+    ensures { MayMoveAt program.now control.old control.new thread step.now result }
 {
     match (step, value) {
         (Step::Assign { variable, next, .. }, Some(value)) => {

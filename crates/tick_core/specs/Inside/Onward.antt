@@ -1,5 +1,5 @@
 -- A step with the rows and counts that it leaves, and the steps that move their own thread alone.
-use Rattle.std.specs.Prelude.{ℕ, ◌≡◌, None, Some, List, [], Option, option_map, slice_set}
+use Rattle.std.specs.Prelude.{ℕ, ◌≡◌, None, Some, List, [], Option, MatchOption, option_map, slice_set}
 use Rattle.buckets.specs.Rows.{Rows}
 use Rattle.sc_graph.specs.declared.program.Step.{Step}
 use Rattle.sc_graph.specs.declared.control.Control.{Control}
@@ -18,6 +18,10 @@ pub record MovesAt (p : Program) (c d : Control) (t : ℕ) (s : Step) (n : ℕ) 
   pub statuses : d.statuses ≡ slice_set c.statuses t (status.At n)
   pub alone : children_of s ≡ []
 
+-- the step of thread t from a node leads it to this node, and moves nobody else; none: nothing is done
+abbrev pub MayMoveAt : Program → Control → Control → ℕ → Step → Option ℕ → Type 0
+MayMoveAt p c d t s next = MatchOption next (d ≡ c) (MovesAt p c d t s)
+
 -- the step of thread t leads it to node n, and moves nobody else
 pub record MovesOn (p : Program) (c d : Control) (t n : ℕ) : Type 0 where
   pub stepped : step p t c ≡ Some d
@@ -26,7 +30,7 @@ pub record MovesOn (p : Program) (c d : Control) (t n : ℕ) : Type 0 where
 
 -- thread t steps: the counts are those of the configuration behind its step, and where the rows were sorted before, with
 -- its claim, so they are after, without one
-pub record Steps (p : Program) (q : Tables) (c d : Control) (t : ℕ) (claims : List (Option Claim)) (rows after_rows : Rows) (after_counts : List ℕ)
+pub record Goes (p : Program) (q : Tables) (c d : Control) (t : ℕ) (claims : List (Option Claim)) (rows after_rows : Rows) (after_counts : List ℕ)
     : Type 0 where
   pub stepped : step p t c ≡ Some d
   pub counts : CountsLiving p d after_counts

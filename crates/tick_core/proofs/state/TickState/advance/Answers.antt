@@ -4,7 +4,7 @@ use Rattle.sc_graph.specs.Steps.{step}
 use Rattle.sc_graph.specs.Tick.{IsConfiguration}
 use Rattle.tick_laws.proofs.Lists.{get_set_same}
 use Rattle.tick_core.specs.Inside.Sorting.{AreSorted}
-use Rattle.tick_core.specs.Inside.Onward.{Steps}
+use Rattle.tick_core.specs.Inside.Onward.{Goes}
 use Rattle.tick_core.proofs.StateKept.{configuration, leads_at, step_is_defined, has_room, has_place, kept_advanced}
 use Rattle.tick_core.proofs.Counts.{open_advanced}
 use Rattle.tick_core.proofs.state.TickState.advance.Goals as goal
@@ -47,11 +47,11 @@ invariant_of-self c =
     let program_is = c.program.ensures ∙ ap (λ i. i.program) c.image-image.ensures.value in
     let tables_is = c.tables.ensures.value ∙ ap (λ i. i.tables) c.image-image.ensures.value in
     let leads = leads_at _ _ c.args.thread c.self.view_is c.requires.leads in
-    let steps : Steps c.self.inside.verified.now.program c.self.inside.verified.now.tables c.self.inside.present c.step_on.new.control c.args.thread
+    let steps : Goes c.self.inside.verified.now.program c.self.inside.verified.now.tables c.self.inside.present c.step_on.new.control c.args.thread
     c.deref.result.now c.self.inside.rows c.step_on.new.rows c.step_on.new.living.items =
-    subst (λ p. Steps p c.self.inside.verified.now.tables c.self.inside.present c.step_on.new.control c.args.thread c.deref.result.now c.self.inside.rows
+    subst (λ p. Goes p c.self.inside.verified.now.tables c.self.inside.present c.step_on.new.control c.args.thread c.deref.result.now c.self.inside.rows
     c.step_on.new.rows c.step_on.new.living.items) program_is
-    (subst (λ q. Steps c.program.result.now q c.self.inside.present c.step_on.new.control c.args.thread c.deref.result.now c.self.inside.rows
+    (subst (λ q. Goes c.program.result.now q c.self.inside.present c.step_on.new.control c.args.thread c.deref.result.now c.self.inside.rows
     c.step_on.new.rows c.step_on.new.living.items) tables_is c.step_on.ensures) in (
       kept_advanced _ c.self.invariant.0 _ c.args.thread c.args.worker leads
           (record {

@@ -28,6 +28,7 @@ returns-in-None c =
     (c.program.ensures ∙ ap (λ i. i.program) c.image.ensures.value) c.status.ensures (ap option_copied c.in_ok-code.was) c.code_at.ensures) in
     sym (c.eval.ensures.present c.args.control.now.variables
     (c.present-operands.ensures
-    ∙ (ap (λ v. loaded_from v c.in_ok-code.code.now) c.as_slice-variables.ensures ∙ ap (loaded_from c.args.control.now.variables) (sym c.known.ensures.operations))))
+    ∙ (ap (λ v. loaded_from v c.in_ok-code.code.now) c.as_slice-variables.ensures
+    ∙ ap (loaded_from c.args.control.now.variables) (sym c.known.ensures.operations))))
     ∙ (ap (λ code. code_value code c.args.control.now.variables) c.known.ensures.operations
     ∙ ap (option_and_then (λ code. code_value code c.args.control.now.variables)) stands.found)
