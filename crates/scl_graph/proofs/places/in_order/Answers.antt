@@ -12,7 +12,7 @@ loop-left-preserved c =
     let label = get_or c.args.labels.now (c.loop-left.left - 1) c.index-labels-left.result in
     let below : c.loop-left.left - 1 < length c.args.labels.now = omega (arith, c.loop-left-test.true, c.loop-left.invariant.within) in
     let is : slice_get c.args.labels.now (c.loop-left.left - 1) ≡ Some label =
-        slice_get-get_or c.args.labels.now (c.loop-left.left - 1) c.index-labels-left.result below in
+    slice_get-get_or c.args.labels.now (c.loop-left.left - 1) c.index-labels-left.result below in
     record {
       within = omega (arith, c.loop-left.invariant.within);
       places = one_before (get (slice_cmp nat_cmp) c.loop-left.table) (get (slice_cmp nat_cmp) c.insert.new.self) c.args.labels.now c.loop-left.left label
