@@ -9,7 +9,7 @@ ghost use Rattle.command_tests.specs.Run.{TriesSome, TriesTests, failed, passed}
 ghost use Rattle.command_tests.specs.Verdict.{Verdict as Seen, verdict_text};
 
 use crate::naming::tests_of;
-use crate::verdict::{Verdict, verdict};
+use crate::verdict::{Verdict, try_test};
 use command_files::{Files, shown_name};
 use controller_tests::beside;
 use std::alloc::{AllocError, Global};
@@ -100,7 +100,7 @@ fn tell_tests<F: Files>(
             failed: 0,
         }),
         Some((name, names)) => {
-            let came = verdict(alloc, name.as_str(), writes, files)?;
+            let came = try_test(alloc, name.as_str(), writes, files)?;
             tell(alloc, name.as_str(), &came, told)?;
             let others = tell_tests(alloc, writes, names, files, told)?;
             Ok(counted(others, &came))

@@ -140,7 +140,7 @@ fn settle<F: Files>(
 /// What the test of this name comes to. Where traces are to be written and nothing stands where its own does, that is
 /// written. Err: memory was refused, and no file changed.
 #[tactic(auto, using(crate::proofs::Verdicts::no_test))]
-pub(crate) fn verdict<F: Files>(
+pub(crate) fn try_test<F: Files>(
     alloc: Global,
     name: &str,
     writes: bool,
