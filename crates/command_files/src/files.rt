@@ -69,8 +69,8 @@ pub trait Files {
         ensures none_failed { OnOk result (failures self.new ≡ failures self.old) }
         ensures failed { IfErr result (λ fault. failures self.new ≡ failures self.old + named_failures fault) };
 
-    /// The names in the folder of this name that are text, in their order. None: there is no folder of the name that can
-    /// be read. Err: memory was refused.
+    /// The names in the folder of this name that are text, in their order. None: there is no folder of the name that
+    /// can be read. Err: memory was refused.
     fn names_in(&mut self, alloc: Global, folder: &str) -> Result<Option<Vec<String>>, AllocError>
         ensures names { IfOk result (λ names. Lists (contents self.old) folder.now
             (option_map (λ names. map string_bytes names.items) names)) }

@@ -109,8 +109,8 @@ fn tell_tests<F: Files>(
 }
 
 /// Tries the tests that words name: plays the ticks beside each, and compares the trace with the one beside it; where
-/// traces are to be written, and nothing stands where one of them does, it writes that. Gives a text that tells of each,
-/// whose last line counts those that pass and those that fail, and how many fail. Err: memory was refused.
+/// traces are to be written, and nothing stands where one of them does, it writes that. Gives a text that tells of
+/// each, whose last line counts those that pass and those that fail, and how many fail. Err: memory was refused.
 #[tactic(auto, using(crate::proofs::Tried::all_tried, crate::proofs::Tried::tried_first, crate::proofs::Tried::tried_untold))]
 pub fn try_tests<F: Files>(
     alloc: Global,

@@ -1,6 +1,6 @@
 -- What the words of a command ask for.
-use Rattle.std.specs.Prelude.{ℕ, ◌≡◌, Bool, true, false, not, ◌&&◌, option_map, if◌then◌else◌, codes, map, string_bytes, unwrap_or, Option, Some, None, List, []}
-use Rattle.std.specs.Prelude.{◌∷◌}
+use Rattle.std.specs.Prelude.{ℕ, ◌≡◌, Bool, true, false, not, ◌&&◌, option_map, if◌then◌else◌, codes, map, string_bytes, unwrap_or, Option, Some, None, List}
+use Rattle.std.specs.Prelude.{[], ◌∷◌}
 use Rattle.std.specs.Option.{option_and_then}
 use Rattle.std.specs.Str.{bytes_eq}
 use Rattle.command_words.specs.Said.{Names, NoName, One, Two, Said, is_option, said_by}

@@ -26,8 +26,8 @@ fn play_line(alloc: Global, session: &mut Session<'_>, line: &[u8]) -> Result<bo
     }
 }
 
-// Plays the ticks of the first lines, so many, from the first tick on. Whether there are so many that can be played. Err:
-// memory was refused.
+// Plays the ticks of the first lines, so many, from the first tick on. Whether there are so many that can be played.
+// Err: memory was refused.
 #[tactic(auto, using(crate::proofs::Replayed::all_played, crate::proofs::Replayed::refused_there, crate::proofs::Replayed::ended_there))]
 fn play_first(
     alloc: Global,

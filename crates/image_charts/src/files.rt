@@ -28,8 +28,8 @@ fn boxed_states(
     Ok(Boxed::new(alloc, states)?)
 }
 
-/// The states of the chart that the bytes of the file of this name spell, whose image this is. None: they are no text, or
-/// one of SCL, which has no states. Err: they are not the chart of the image; or memory was refused.
+/// The states of the chart that the bytes of the file of this name spell, whose image this is. None: they are no text,
+/// or one of SCL, which has no states. Err: they are not the chart of the image; or memory was refused.
 #[tactic(auto, using(crate::proofs::Loading::quiet))]
 pub fn states_in(
     alloc: Global,

@@ -46,8 +46,9 @@ fn held(states: &Option<Boxed<ChartStates>>) -> Option<&ChartStates> {
     }
 }
 
-/// Steps the controller in this file by hand: does what each line of the input says, and answers each line of the input before the next one is read. Err:
-/// there is no program in the file, or it has no image; a line is too long; or the input or the output failed.
+/// Steps the controller in this file by hand: does what each line of the input says, and answers it before the next one
+/// is read. Err: there is no program in the file, or it has no image; a line is too long; or the input or the output
+/// failed.
 #[tactic(auto, using(crate::proofs::Simulated::simulated, crate::proofs::Simulated::stopped))]
 pub(crate) fn simulate_file<F: Files, R: Source, W: Sink>(
     alloc: Global,

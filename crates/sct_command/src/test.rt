@@ -11,8 +11,8 @@ use sc_values::{Sink, write_all};
 use std::alloc::Global;
 
 /// Tries the tests that words name, which are files or folders of them: compiles each text, plays the ticks beside it,
-/// and compares the trace with the one beside it, or, where `writes` and that is missing, writes it. Writes what is told
-/// of each, and last how many there are. Err: some fail; memory was refused; or the output failed.
+/// and compares the trace with the one beside it, or, where `writes` and that is missing, writes it. Tells of each, and
+/// last how many there are. Err: some fail; memory was refused; or the output failed.
 #[tactic(auto, using(crate::proofs::Tests::all_passed, crate::proofs::Tests::some_failed, crate::proofs::Tests::told_in_part))]
 pub(crate) fn test_files<F: Files, W: Sink>(
     alloc: Global,
