@@ -75,7 +75,8 @@ stopped_test writes files name bytes image ticks said has s =
     inr (inl (record { bytes = bytes; image = image; ticks = ticks; has = has; fault = s.fault; stops = s.stops; is = s.is }))
 
 missed_test : (writes : Bool) (files : Option Contents) (name bytes : List ℕ) (image : Image) (ticks wanted said : List ℕ)
-    → HasTicks files name bytes image ticks → HasBytes files (trace_name name) wanted → JudgesOther name bytes image ticks wanted said → FailsTest writes files name said
+    → HasTicks files name bytes image ticks → HasBytes files (trace_name name) wanted → JudgesOther name bytes image ticks wanted said
+    → FailsTest writes files name said
 missed_test writes files name bytes image ticks wanted said has held j =
     inl (record {
       bytes = bytes;
