@@ -13,6 +13,6 @@ pub puts_more : (files middle : Option Contents) (word : List ℕ) (words old ow
 puts_more files middle word words old own between new names same lists is put more =
     record {
       named = named_by word names ++ more.named;
-      are = (names, (more.named, (lists, (subst (λ f. AreNamed f words more.named) same more.are, refl))));
+      are = (names, more.named, lists, subst (λ f. AreNamed f words more.named) same more.are, refl);
       put = more.put ∙ ap (λ xs. xs ++ more.named) put ∙ append_assoc old own more.named ∙ ap (λ xs. old ++ (xs ++ more.named)) is;
     }

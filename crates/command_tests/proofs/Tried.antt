@@ -20,7 +20,7 @@ pub one_tried : (writes : Bool) (old middle new : Option Contents) (name : List 
 one_tried writes old middle new name names before between after verdict passing failing passing' failing' comes put rest passes fails =
     record {
       verdicts = verdict ∷ rest.verdicts;
-      come = (middle, (comes, rest.come));
+      come = (middle, comes, rest.come);
       passes = passes rest.verdicts rest.passes;
       fails = fails rest.verdicts rest.fails;
       put = rest.put ∙ ap (λ xs. xs ++ told names rest.verdicts) put ∙ append_assoc before (verdict_text name verdict) (told names rest.verdicts);
@@ -34,7 +34,7 @@ first_untold writes old new names same = record { first = []; rest = names; cut 
 pub first_told : (writes : Bool) (old new : Option Contents) (name : List ℕ) (names : List (List ℕ)) (verdict : Verdict)
     → ComesTo writes old new name verdict → PutsFirst writes old new (name ∷ names)
 first_told writes old new name names verdict comes =
-    record { first = name ∷ []; rest = names; cut = refl; verdicts = verdict ∷ []; come = (new, (comes, refl)) }
+    record { first = name ∷ []; rest = names; cut = refl; verdicts = verdict ∷ []; come = (new, comes, refl) }
 
 pub more_tried : (writes : Bool) (old middle new : Option Contents) (name : List ℕ) (names : List (List ℕ)) (verdict : Verdict)
     → ComesTo writes old middle name verdict → PutsFirst writes middle new names → PutsFirst writes old new (name ∷ names)
@@ -44,7 +44,7 @@ more_tried writes old middle new name names verdict comes p =
       rest = p.rest;
       cut = ap (λ xs. name ∷ xs) p.cut;
       verdicts = verdict ∷ p.verdicts;
-      come = (middle, (comes, p.come));
+      come = (middle, comes, p.come);
     }
 
 -- ---- all of them

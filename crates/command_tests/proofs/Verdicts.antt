@@ -56,7 +56,7 @@ no_chart name bytes image ticks said line none is = inr (none, inl is)
 
 pub no_states : (name bytes : List ℕ) (image : Image) (ticks said : List ℕ) (line : ℕ) (f : LoadFault) → said ≡ [] → IsNotChartOf name bytes image f
     → IsReal f → TellsActive name bytes image ticks line said
-no_states name bytes image ticks said line f none is real = inr (none, inr (f, (is, real)))
+no_states name bytes image ticks said line f none is real = inr (none, inr (f, is, real))
 
 -- ---- what a comparison comes to
 
@@ -151,7 +151,7 @@ pub not_stored : (files new : Option Contents) (name place said : List ℕ) (f :
 not_stored files new name place said f named free lacks is real same = (
   inr (inr (record {
     fault = f;
-    lacks = inr (inr (subst (λ n. IsNotStored n f) named lacks, (free, refl)));
+    lacks = inr (inr (subst (λ n. IsNotStored n f) named lacks, free, refl));
     real = real;
     is = is;
   })),

@@ -7,8 +7,7 @@ use Rattle.bytecode.specs.Image.{Image}
 use Rattle.trace_player.specs.Trace.{lines_of}
 use Rattle.simulation.specs.History.{History, IsHistory, begun, present}
 use Rattle.simulation.specs.Tree.{active_text}
-use Rattle.controller_tests.specs.Inside.Lines.{Begins}
-use Rattle.controller_tests.specs.Replay.{HasNoTick, LacksTick, StandsBehind, TellsStates, line_of}
+use Rattle.controller_tests.specs.Replay.{LacksTick, TellsStates, line_of}
 use Rattle.simulation.specs.Commands.{GivesNoTick}
 
 take-nil : {A : Type 0} (n : ℕ) → take {A = A} n [] ≡ []

@@ -1,4 +1,4 @@
-use Rattle.std.proofs.Common.{◌≡◌, ◌∙◌, ◌<◌, ◌++◌, ◌∷◌, true, map, option_map, rules, subst, take}
+use Rattle.std.proofs.Common.{◌≡◌, ◌∙◌, ◌<◌, ◌∷◌, true, map, option_map, rules, subst, take}
 use Rattle.trace_player.specs.Trace.{lines_of}
 use Rattle.controller_tests.specs.Inside.Lines.{Begins}
 use Rattle.controller_tests.specs.Replay.{line_of}

@@ -1,4 +1,4 @@
-use Rattle.std.proofs.Common.{◌≡◌, ◌++◌, ◌-◌, ℕ, List, length, map, take}
+use Rattle.std.proofs.Common.{◌≡◌, ◌++◌, ◌-◌, length, map, take}
 use Rattle.trace_player.specs.Trace.{lines_of}
 use Rattle.controller_tests.specs.Replay.{line_of}
 use Rattle.controller_tests.proofs.replay.play_first.Given as goal
