@@ -1,5 +1,6 @@
 -- Tests, one after the other, and what is told of them.
-use Rattle.std.proofs.Common.{◌≡◌, ◌∙◌, ℕ, Bool, Option, List, [], ◌∷◌, ◌++◌, refl, ap, sym, subst, inl, inr, append-nil, append_assoc}
+use Rattle.std.proofs.Common.{◌≡◌, ◌∙◌, ℕ, Bool, Option, List, [], ◌∷◌, ◌++◌, map, refl, ap, sym, subst, inl, inr, append-nil, append_assoc}
+use Rattle.std.proofs.Common.{Result, Ok, Err, OnErr}
 use Rattle.command_files.specs.Files.{Contents}
 use Rattle.command_tests.specs.Inside.Putting.{PutsFirst, PutsTold}
 use Rattle.command_tests.specs.Naming.{AreNamed}
@@ -11,41 +12,56 @@ use Rattle.command_tests.specs.Verdict.{ComesTo, Verdict, verdict_text}
 pub none_tried : (writes : Bool) (files : Option Contents) (text : List ℕ) → PutsTold writes files files [] text text 0 0
 none_tried writes files text = record { verdicts = []; come = refl; passes = refl; fails = refl; put = sym (append-nil text) }
 
-pub one_tried : (writes : Bool) (old middle new : Option Contents) (name : List ℕ) (names : List (List ℕ)) (before between after : List ℕ)
-    (verdict : Verdict) (passing failing passing' failing' : ℕ) → ComesTo writes old middle name verdict → between ≡ before ++ verdict_text name verdict
-    → PutsTold writes middle new names between after passing failing
+pub one_tried : {A : Type 0} (name : A → List ℕ) (words : List A) (word : A) (rest : List A) (writes : Bool) (old middle new : Option Contents)
+    (shown shown' before between after : List ℕ) (verdict : Verdict) (passing failing passing' failing' : ℕ) → words ≡ word ∷ rest → shown ≡ name word
+    → shown' ≡ name word → ComesTo writes old middle shown verdict → between ≡ before ++ verdict_text shown' verdict
+    → PutsTold writes middle new (map name rest) between after passing failing
     → ((verdicts : List Verdict) → passing ≡ passed verdicts → passing' ≡ passed (verdict ∷ verdicts))
     → ((verdicts : List Verdict) → failing ≡ failed verdicts → failing' ≡ failed (verdict ∷ verdicts))
-    → PutsTold writes old new (name ∷ names) before after passing' failing'
-one_tried writes old middle new name names before between after verdict passing failing passing' failing' comes put rest passes fails =
-    record {
-      verdicts = verdict ∷ rest.verdicts;
-      come = (middle, comes, rest.come);
-      passes = passes rest.verdicts rest.passes;
-      fails = fails rest.verdicts rest.fails;
-      put = rest.put ∙ ap (λ xs. xs ++ told names rest.verdicts) put ∙ append_assoc before (verdict_text name verdict) (told names rest.verdicts);
-    }
+    → PutsTold writes old new (map name words) before after passing' failing'
+one_tried name words word rest writes old middle new shown shown' before between after verdict passing failing passing' failing' cut is is' comes put p passes fails =
+    subst (λ ws. PutsTold writes old new (map name ws) before after passing' failing') (sym cut) (record {
+      verdicts = verdict ∷ p.verdicts;
+      come = (middle, subst (λ n. ComesTo writes old middle n verdict) is comes, p.come);
+      passes = passes p.verdicts p.passes;
+      fails = fails p.verdicts p.fails;
+      put = p.put ∙ ap (λ xs. xs ++ told (map name rest) p.verdicts) put
+          ∙ append_assoc before (verdict_text shown' verdict) (told (map name rest) p.verdicts)
+          ∙ ap (λ n. before ++ (verdict_text n verdict ++ told (map name rest) p.verdicts)) is';
+    })
 
 -- ---- where memory is refused
 
 pub first_untold : (writes : Bool) (old new : Option Contents) (names : List (List ℕ)) → new ≡ old → PutsFirst writes old new names
 first_untold writes old new names same = record { first = []; rest = names; cut = refl; verdicts = []; come = same }
 
-pub first_told : (writes : Bool) (old new : Option Contents) (name : List ℕ) (names : List (List ℕ)) (verdict : Verdict)
-    → ComesTo writes old new name verdict → PutsFirst writes old new (name ∷ names)
-first_told writes old new name names verdict comes =
-    record { first = name ∷ []; rest = names; cut = refl; verdicts = verdict ∷ []; come = (new, comes, refl) }
-
-pub more_tried : (writes : Bool) (old middle new : Option Contents) (name : List ℕ) (names : List (List ℕ)) (verdict : Verdict)
-    → ComesTo writes old middle name verdict → PutsFirst writes middle new names → PutsFirst writes old new (name ∷ names)
-more_tried writes old middle new name names verdict comes p =
+pub first_told : {A : Type 0} (name : A → List ℕ) (words : List A) (word : A) (rest : List A) (writes : Bool) (old new : Option Contents) (shown : List ℕ)
+    (verdict : Verdict) → words ≡ word ∷ rest → shown ≡ name word → ComesTo writes old new shown verdict → PutsFirst writes old new (map name words)
+first_told name words word rest writes old new shown verdict cut is comes =
     record {
-      first = name ∷ p.first;
-      rest = p.rest;
-      cut = ap (λ xs. name ∷ xs) p.cut;
-      verdicts = verdict ∷ p.verdicts;
-      come = (middle, comes, p.come);
+      first = name word ∷ [];
+      rest = map name rest;
+      cut = ap (λ ws. map name ws) cut;
+      verdicts = verdict ∷ [];
+      come = (new, subst (λ n. ComesTo writes old new n verdict) is comes, refl);
     }
+
+pub more_tried : {A : Type 0} (name : A → List ℕ) (words : List A) (word : A) (rest : List A) (writes : Bool) (old middle new : Option Contents)
+    (shown : List ℕ) (verdict : Verdict) → words ≡ word ∷ rest → shown ≡ name word → ComesTo writes old middle shown verdict
+    → PutsFirst writes middle new (map name rest) → PutsFirst writes old new (map name words)
+more_tried name words word rest writes old middle new shown verdict cut is comes p =
+    record {
+      first = name word ∷ p.first;
+      rest = p.rest;
+      cut = ap (λ ws. map name ws) cut ∙ ap (λ xs. name word ∷ xs) p.cut;
+      verdicts = verdict ∷ p.verdicts;
+      come = (middle, subst (λ n. ComesTo writes old middle n verdict) is comes, p.come);
+    }
+
+-- what holds of a refusal
+pub of_refusal : {A E : Type 0} (r : Result A E) (P : Type 0) → P → OnErr r P
+of_refusal (Ok a) P holds = tt
+of_refusal (Err e) P holds = holds
 
 -- ---- all of them
 

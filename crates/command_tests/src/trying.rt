@@ -77,7 +77,7 @@ fn tell(alloc: Global, name: &str, verdict: &Verdict, told: &mut String) -> Resu
 }
 
 // Tries tests, and puts what is told of each behind a text.
-#[tactic(auto, using(crate::proofs::Tried::none_tried, crate::proofs::Tried::one_tried, crate::proofs::Tried::first_untold, crate::proofs::Tried::first_told, crate::proofs::Tried::more_tried))]
+#[tactic(auto, using(crate::proofs::Tried::none_tried, crate::proofs::Tried::first_untold))]
 fn tell_tests<F: Files>(
     alloc: Global,
     writes: bool,

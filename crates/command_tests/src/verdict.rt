@@ -41,7 +41,7 @@ fn judge(alloc: Global, name: &str, test: &Test, wanted: &[u8]) -> Result<Verdic
 }
 
 // Compares the trace that the ticks of a test make with the one beside it.
-#[tactic(auto, using(crate::proofs::Verdicts::judged, crate::proofs::Verdicts::unread))]
+#[tactic(auto, using(crate::proofs::Verdicts::judged))]
 fn compare<F: Files>(
     alloc: Global,
     name: &str,
@@ -81,7 +81,7 @@ fn make(alloc: Global, name: &str, test: &Test) -> Result<Result<Vec<u8>, String
 }
 
 // Writes the trace that the ticks of a test make, where nothing stands yet.
-#[tactic(auto, using(crate::proofs::Verdicts::written, crate::proofs::Verdicts::stopped, crate::proofs::Verdicts::not_stored))]
+#[tactic(auto, using(crate::proofs::Verdicts::written, crate::proofs::Verdicts::stopped))]
 fn write<F: Files>(
     alloc: Global,
     name: &str,
@@ -139,7 +139,6 @@ fn settle<F: Files>(
 
 /// What the test of this name comes to. Where traces are to be written and nothing stands where its own does, that is
 /// written. Err: memory was refused, and no file changed.
-#[tactic(auto, using(crate::proofs::Verdicts::no_test))]
 pub(crate) fn try_test<F: Files>(
     alloc: Global,
     name: &str,
