@@ -13,21 +13,21 @@ pub none_tried : (writes : Bool) (files : Option Contents) (text : List ℕ) →
 none_tried writes files text = record { verdicts = []; come = refl; passes = refl; fails = refl; put = sym (append-nil text) }
 
 pub one_tried : {A : Type 0} (name : A → List ℕ) (words : List A) (word : A) (rest : List A) (writes : Bool) (old middle new : Option Contents)
-    (shown shown' before between after : List ℕ) (verdict : Verdict) (passing failing passing' failing' : ℕ) → words ≡ word ∷ rest → shown ≡ name word
-    → shown' ≡ name word → ComesTo writes old middle shown verdict → between ≡ before ++ verdict_text shown' verdict
+    (shown other before between after : List ℕ) (verdict : Verdict) (passing failing passing' failing' : ℕ) → words ≡ word ∷ rest → shown ≡ name word
+    → other ≡ name word → ComesTo writes old middle shown verdict → between ≡ before ++ verdict_text other verdict
     → PutsTold writes middle new (map name rest) between after passing failing
     → ((verdicts : List Verdict) → passing ≡ passed verdicts → passing' ≡ passed (verdict ∷ verdicts))
     → ((verdicts : List Verdict) → failing ≡ failed verdicts → failing' ≡ failed (verdict ∷ verdicts))
     → PutsTold writes old new (map name words) before after passing' failing'
-one_tried name words word rest writes old middle new shown shown' before between after verdict passing failing passing' failing' cut is is' comes put p passes fails =
+one_tried name words word rest writes old middle new shown other before between after v passing failing passing' failing' cut is same comes put p passes fails =
     subst (λ ws. PutsTold writes old new (map name ws) before after passing' failing') (sym cut) (record {
-      verdicts = verdict ∷ p.verdicts;
-      come = (middle, subst (λ n. ComesTo writes old middle n verdict) is comes, p.come);
+      verdicts = v ∷ p.verdicts;
+      come = (middle, subst (λ n. ComesTo writes old middle n v) is comes, p.come);
       passes = passes p.verdicts p.passes;
       fails = fails p.verdicts p.fails;
       put = p.put ∙ ap (λ xs. xs ++ told (map name rest) p.verdicts) put
-          ∙ append_assoc before (verdict_text shown' verdict) (told (map name rest) p.verdicts)
-          ∙ ap (λ n. before ++ (verdict_text n verdict ++ told (map name rest) p.verdicts)) is';
+          ∙ append_assoc before (verdict_text other v) (told (map name rest) p.verdicts)
+          ∙ ap (λ n. before ++ (verdict_text n v ++ told (map name rest) p.verdicts)) same;
     })
 
 -- ---- where memory is refused
