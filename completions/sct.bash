@@ -15,7 +15,7 @@ _sct() {
     case $command in
       compile) options='--warn --explain --help' ;;
       list) options='--source --json --chart --explain --help' ;;
-      test) options='--help' ;;
+      test) options='--write --help' ;;
       run) options='--workers --chart --explain --help' ;;
     esac
     mapfile -t COMPREPLY < <(compgen -W "$options" -- "$word")

@@ -18,6 +18,7 @@ complete -c sct -n '__fish_seen_subcommand_from compile scl core explain dot sim
 complete -c sct -n '__fish_seen_subcommand_from compile scl core explain dot simulate check list run migrate' -l explain -d 'Tell a fault in words'
 complete -c sct -n '__fish_seen_subcommand_from compile scl core explain dot simulate check list run migrate' -F
 complete -c sct -n '__fish_seen_subcommand_from test' -l help -d 'Print help'
+complete -c sct -n '__fish_seen_subcommand_from test' -l write -d 'Write the traces that are missing'
 complete -c sct -n '__fish_seen_subcommand_from test' -F
 complete -c sct -n '__fish_seen_subcommand_from compile' -l warn -d 'Tell warnings on standard error'
 complete -c sct -n '__fish_seen_subcommand_from list' -l source -r -F -d 'The text that it was compiled from'

@@ -130,8 +130,13 @@ class Room:
 
     def store(self, name, data):
         self.files[name] = data
-        with open(os.path.join(self.folder, name), "wb") as file:
+        path = os.path.join(self.folder, name)
+        os.makedirs(os.path.dirname(path), exist_ok=True)
+        with open(path, "wb") as file:
             file.write(data)
+
+    def example(self, example, name=None):
+        self.store(name or os.path.basename(example), read(os.path.join(self.examples, example)))
 
     def image(self, name, body, other=None):
         image = Image(other)
@@ -286,7 +291,7 @@ READERS = {
     "hex": lambda room, name, body: room.store(name, bytes.fromhex("".join(re.sub(r"#.*", "", line) for line in body.split("\n")))),
     "image": lambda room, name, body: room.image(name, body),
     "changed": lambda room, rest, body: room.image(rest.split(" ")[0], body, room.images[rest.split(" ")[2]]),
-    "example": lambda room, rest, body: room.store(os.path.basename(rest.split(" ")[-1]), read(os.path.join(room.examples, rest.split(" ")[0]))),
+    "example": lambda room, rest, body: room.example(*rest.split(" as ")),
     "texts": texts, "images": images, "bytes": changed_files, "lines": lines, "rows": library_rows, "programs": programs,
 }
 

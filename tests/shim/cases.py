@@ -148,6 +148,9 @@ def refused(program):
              Case("a bad field", ["check", "image"], {"image": image[:7] + b"\x09" + image[8:]}),
              Case("an image that is not valid", ["check", "image"], {"image": image[:-4] + b"\x06\0\0\0"}),
              Case("bytes that are no text", ["scl", "source"], {"source": b"scl P { } // \xff"})]
+    test = {f"a.{ending}": bytes_of("examples", f"abro.{ending}") for ending in ("chart", "ticks", "trace")}
+    found += [Case("a test", ["test", "a.chart"], test), Case("tests in a folder", ["test", "."], test),
+              Case("a test that differs", ["test", "a.chart"], {**test, "a.trace": b"{}\n"})]
     for name, last in (("no object", b"[]"), ("no input", b'{"x":1}'), ("no JSON", b'{"A":' + b"[" * 200), ("no end", b"{")):
         found.append(Case(f"a line that is {name}", ["run", "image"], {"image": image}, b"{}\n" + last + b"\n{}\n"))
     for name, text in texts("examples/refused"):

@@ -1,10 +1,13 @@
 //! Files by name: what is read from them, and how they are written.
 
-ghost use Rattle.std.specs.Prelude.{◌≡◌, ◌+◌, ℕ, Option, None, IfOk, IfErr, OnOk, OnErr, IsErrOf};
+ghost use Rattle.std.specs.Prelude.{◌≡◌, ◌+◌, ℕ, Option, None, IfOk, IfErr, IfSome, MatchBool, OnOk, OnErr, IsErrOf};
+ghost use Rattle.std.specs.Prelude.{map, option_map, string_bytes, string_cmp};
+ghost use Rattle.std.specs.List.Sorted.{IsSorted};
 ghost use Rattle.command_files.specs.Counting.{named_failures};
-ghost use Rattle.command_files.specs.Files.{Contents, HasBytes, LacksFile, Stores};
+ghost use Rattle.command_files.specs.Files.{Contents, HasBytes, IsFree, IsTaken, LacksFile, Lists, Stores};
 
-use crate::placing::{Place, place_of, put};
+use crate::listing::names_in;
+use crate::placing::{Place, is_free, place_of, put, put_new};
 use sc_values::Failures;
 use std::alloc::{AllocError, Global};
 use std::rt::Files as SystemFiles;
@@ -30,8 +33,8 @@ impl From<AllocError> for FileFault {
     }
 }
 
-/// The files that the program reads and writes, by name. Contracts may see what they hold, and see how often a name
-/// failed.
+/// The files that the program reads and writes, by name, and the folders that hold them. Contracts may see what they
+/// hold, and see how often a name failed.
 pub trait Files {
     ghost contents: { Self → Option Contents } = { λ _. None };
 
@@ -52,6 +55,28 @@ pub trait Files {
         ensures same { OnErr result (contents self.new ≡ contents self.old) }
         ensures none_failed { OnOk result (failures self.new ≡ failures self.old) }
         ensures failed { IfErr result (λ fault. failures self.new ≡ failures self.old + named_failures fault) };
+
+    /// Whether nothing stands at this name, so that a new file can have it.
+    fn is_free(&self, name: &str) -> bool
+        ensures { MatchBool result (IsFree (contents self.now) name.now) (IsTaken (contents self.now) name.now) };
+
+    /// Makes these bytes a new file of this name. Err: something stands there, or it cannot be written; each file is as
+    /// it was.
+    fn create(&mut self, alloc: Global, name: &str, bytes: &[u8]) -> Result<(), FileFault>
+        ensures stored { OnOk result (Stores (contents self.old) (contents self.new) name.now bytes.now) }
+        ensures was_free { OnOk result (IsFree (contents self.old) name.now) }
+        ensures same { OnErr result (contents self.new ≡ contents self.old) }
+        ensures none_failed { OnOk result (failures self.new ≡ failures self.old) }
+        ensures failed { IfErr result (λ fault. failures self.new ≡ failures self.old + named_failures fault) };
+
+    /// The names in the folder of this name that are text, in their order. None: there is no folder of the name that
+    /// can be read. Err: memory was refused.
+    fn names_in(&mut self, alloc: Global, folder: &str) -> Result<Option<Vec<String>>, AllocError>
+        ensures names { IfOk result (λ names. Lists (contents self.old) folder.now
+            (option_map (λ names. map string_bytes names.items) names)) }
+        ensures sorted { IfOk result (λ names. IfSome names (λ names. IsSorted string_cmp names.items)) }
+        ensures same { contents self.new ≡ contents self.old }
+        ensures none_failed { failures self.new ≡ failures self.old };
 }
 
 // The name that stands for standard input, and the file from which that comes.
@@ -71,13 +96,13 @@ fn read_path(name: &str) -> &str {
 /// The files of the system, of which `-` is standard input where a file is read; and where the one lies that was loaded
 /// last.
 #[derive(Drop)]
-pub struct HostFiles<'a, R: SystemFiles + AllocGlobal, L: Ledger> {
+pub struct HostFiles<'a, R: SystemFiles + AllocGlobal + Clone + Drop, L: Ledger> {
     rt: &'a R,
     loaded: Option<Place>,
     failed: Failures<L>,
 }
 
-impl<'a, R: SystemFiles + AllocGlobal, L: Ledger> HostFiles<'a, R, L> {
+impl<'a, R: SystemFiles + AllocGlobal + Clone + Drop, L: Ledger> HostFiles<'a, R, L> {
     /// The files that this runtime reaches, with the count of their failures so far.
     pub fn new(rt: &'a R, failed: Failures<L>) -> HostFiles<'a, R, L>
         ensures { result.failed ≡ failed }
@@ -109,7 +134,7 @@ pub(crate) fn file_fault(error: io::Error) -> FileFault {
     }
 }
 
-impl<'a, R: SystemFiles + AllocGlobal, L: Ledger> Files for HostFiles<'a, R, L> {
+impl<'a, R: SystemFiles + AllocGlobal + Clone + Drop, L: Ledger> Files for HostFiles<'a, R, L> {
     ghost failures = { λ f. f.failed };
 
     fn load(&mut self, _alloc: Global, name: &str) -> Result<Vec<u8>, FileFault> {
@@ -132,5 +157,23 @@ impl<'a, R: SystemFiles + AllocGlobal, L: Ledger> Files for HostFiles<'a, R, L> 
             Ok(()) => Ok(()),
             Err(fault) => Err(self.counted(fault)),
         }
+    }
+
+    fn is_free(&self, name: &str) -> bool {
+        name != INPUT_NAME && is_free(self.rt, name)
+    }
+
+    fn create(&mut self, _alloc: Global, name: &str, bytes: &[u8]) -> Result<(), FileFault> {
+        if name == INPUT_NAME {
+            return Err(self.counted(FileFault::Named));
+        }
+        match put_new(self.rt, name, bytes) {
+            Ok(()) => Ok(()),
+            Err(error) => Err(self.counted(file_fault(error))),
+        }
+    }
+
+    fn names_in(&mut self, alloc: Global, folder: &str) -> Result<Option<Vec<String>>, AllocError> {
+        names_in(alloc, self.rt, folder)
     }
 }

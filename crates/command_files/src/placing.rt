@@ -196,6 +196,31 @@ fn write_into<R: SystemFiles>(
     Ok(())
 }
 
+/// Whether nothing stands at this name, no symbolic link either.
+pub(crate) fn is_free<R: SystemFiles>(rt: &R, name: &str) -> bool {
+    match fs::symlink_metadata(rt, name) {
+        Ok(_) => false,
+        Err(error) => error.kind() == io::ErrorKind::NotFound,
+    }
+}
+
+/// Makes these bytes a new file of this name. Where something stands there, it is left as it is; where they cannot be
+/// written, no file is left.
+pub(crate) fn put_new<R: SystemFiles>(rt: &R, name: &str, bytes: &[u8]) -> io::Result<()> {
+    let mut options = OpenOptions::new();
+    options.write(true).create_new(true);
+    let mut file = options.open(rt, name)?;
+    let filled = fill(rt, &mut file, name, None, bytes);
+    drop(file);
+    match &filled {
+        Ok(()) => sync_folder(rt, name),
+        Err(_) => {
+            let _ = fs::remove_file(rt, name);
+        }
+    }
+    filled
+}
+
 /// Makes these bytes what is at this name. A regular file, also one to which symbolic links lead, is replaced by a new
 /// one with its owner and its permissions, and is refused where standard output goes to it; what else stands there is
 /// written into.

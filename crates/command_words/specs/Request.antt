@@ -1,6 +1,6 @@
 -- What the words of a command ask for.
-use Rattle.std.specs.Prelude.{ℕ, Bool, true, false, not, ◌&&◌, option_map, if◌then◌else◌, codes, map, string_bytes, unwrap_or, Option, Some, None, List, []}
-use Rattle.std.specs.Prelude.{◌∷◌}
+use Rattle.std.specs.Prelude.{ℕ, ◌≡◌, Bool, true, false, not, ◌&&◌, option_map, if◌then◌else◌, codes, map, string_bytes, unwrap_or, Option, Some, None, List}
+use Rattle.std.specs.Prelude.{[], ◌∷◌}
 use Rattle.std.specs.Option.{option_and_then}
 use Rattle.std.specs.Str.{bytes_eq}
 use Rattle.command_words.specs.Said.{Names, NoName, One, Two, Said, is_option, said_by}
@@ -30,7 +30,7 @@ pub data Request : Type 0 where
   Print : (name : List ℕ) → Request
   Migrate : (from to : List ℕ) → Request
   Explain : (name : List ℕ) → Request
-  Test : (names : List (List ℕ)) → Request
+  Test : (writes : Bool) (names : List (List ℕ)) → Request
   Simulate : (name : List ℕ) → Request
 
 -- a request whose name is text
@@ -53,7 +53,7 @@ seen (words.WriteCompiled from) = WriteCompiled from.now
 seen (words.Print name) = Print name.now
 seen (words.Migrate from to) = Migrate from.now to.now
 seen (words.Explain name) = Explain name.now
-seen (words.Test names) = Test (map string_bytes names.now)
+seen (words.Test writes names) = Test writes (map string_bytes names.now)
 seen (words.Simulate name) = Simulate name.now
 
 -- how many workers a run has where it does not say
@@ -124,14 +124,19 @@ request_by verb s =
     else if s.json then json_by verb s
     else text_by verb s
 
--- tests of controllers are asked for by names alone, of which there is one at least
+-- tests of controllers are asked for by names, of which there is one at least
 abbrev pub are_names : List (List ℕ) → Bool
 are_names [] = true
 are_names (word ∷ words) = not (is_option word) && are_names words
 
+abbrev pub tests_of : Bool → List (List ℕ) → Option Request
+tests_of writes [] = None
+tests_of writes (name ∷ names) = if are_names (name ∷ names) then Some (Test writes (name ∷ names)) else None
+
+-- before the names it may be said that traces that are missing are written
 abbrev pub test_of : List (List ℕ) → Option Request
 test_of [] = None
-test_of (name ∷ names) = if are_names (name ∷ names) then Some (Test (name ∷ names)) else None
+test_of (word ∷ words) = if bytes_eq word (codes "--write") then tests_of true words else tests_of false (word ∷ words)
 
 -- the request of the words behind the program's name
 abbrev pub request_of : List (List ℕ) → Option Request
@@ -158,8 +163,9 @@ IsRun (Some (RunWithStates name chart)) = Unit {0}
 IsRun (Some (Simulate name)) = Unit {0}
 IsRun request = ⊥
 
--- an image is asked for, by compiling or by migration, which alone write a file
-abbrev pub StoresImage : Option Request → Type 0
-StoresImage (Some (Compile from to)) = Unit {0}
-StoresImage (Some (Migrate from to)) = Unit {0}
-StoresImage request = ⊥
+-- files are to be written: an image, by compiling or by migration, or traces that are missing
+abbrev pub WritesFiles : Option Request → Type 0
+WritesFiles (Some (Compile from to)) = Unit {0}
+WritesFiles (Some (Migrate from to)) = Unit {0}
+WritesFiles (Some (Test writes names)) = writes ≡ true
+WritesFiles request = ⊥

@@ -3,7 +3,7 @@
 ghost use Rattle.std.specs.Prelude.{◌≡◌, Some, None, IfOk, IfSome, OnErr, map, option_map, string_bytes};
 ghost use Rattle.command_words.specs.Request.{seen, asked, asked_plainly, list_of, request_by, request_of, run_of};
 ghost use Rattle.command_words.specs.Request.{are_names, compile_to, explains, json_by, json_of, migrate_to, test_of};
-ghost use Rattle.command_words.specs.Request.{text_by, warns};
+ghost use Rattle.command_words.specs.Request.{tests_of, text_by, warns};
 ghost use Rattle.command_words.specs.Said.{names_seen, said_seen};
 ghost use Rattle.command_words.specs.declared.arguments.Unread.TheVariants.{Memory};
 
@@ -57,8 +57,9 @@ pub enum Request<'a> {
     Migrate(&'a str, &'a str),
     /// Tell why the chart or SCL text in this file is refused.
     Explain(&'a str),
-    /// Test the charts and SCL texts in these files, of which there is one at least.
-    Test(&'a [String]),
+    /// Test the charts and SCL texts that these words name, of which there is one at least; and whether the traces that
+    /// are missing are written.
+    Test(bool, &'a [String]),
     /// Step the chart or SCL text in this file by hand.
     Simulate(&'a str),
 }
@@ -239,14 +240,26 @@ fn are_names(words: &[String]) -> bool
     }
 }
 
-// Tests of the files that the words name.
+// Tests of the files and folders that words name.
+fn tests_of<'a>(writes: bool, names: &'a [String]) -> Option<Request<'a>>
+    ensures { option_map seen result ≡ tests_of writes (map string_bytes names.now) }
+{
+    if names.is_empty() || !are_names(names) {
+        return None;
+    }
+    Some(Request::Test(writes, names))
+}
+
+// The same, before which it may be said that traces are written.
 fn test_of<'a>(words: &'a [String]) -> Option<Request<'a>>
     ensures { option_map seen result ≡ test_of (map string_bytes words.now) }
 {
-    if words.is_empty() || !are_names(words) {
-        return None;
+    let (first, names) = words.split_first()?;
+    if first.as_str() == "--write" {
+        tests_of(true, names)
+    } else {
+        tests_of(false, words)
     }
-    Some(Request::Test(words))
 }
 
 // What a verb and the words behind it ask for.

@@ -87,12 +87,16 @@ const TEST_HELP: &str =
   ok examples/abro.chart
   1 passed, 0 failed
 
-Status:
-  0  all passed
-  1  one did not, or could not be tried: the last line on standard error is `sct: E66`
+With --write, a trace that is missing is written, and no other file:
+  wrote examples/abro.trace
 
-Example:
-  sct test examples/abro.chart examples/boxes.chart"#;
+Status:
+  0  none failed
+  1  one did, or could not be tried: the last line on standard error is `sct: E66`
+
+Examples:
+  sct test examples
+  sct test --write examples/abro.chart examples/boxes.chart"#;
 
 // The file that a command writes.
 const WRITTEN: &str = "The file that is written, or - for standard output";
@@ -229,15 +233,20 @@ fn test_command<'a>(alloc: Global) -> Result<Command<'a>, AllocError> {
     let files = Arg::new(alloc, "file")
         .value_name("FILE")
         .help(
-            "Charts or SCL texts: beside NAME.chart, NAME.ticks has the input and NAME.trace what it has to give",
+            "Charts or SCL texts, or folders of them: beside NAME.chart, NAME.ticks has the input and NAME.trace what it has to give",
         )
         .required(true)
         .action(ArgAction::Append)
         .num_args(1..);
+    let write = Arg::new(alloc, "write")
+        .long("write")
+        .help("Before the files: write each trace that is missing, as what the ticks give now")
+        .action(ArgAction::SetTrue);
     Command::new(alloc, "test")
         .about("Plays controllers over their ticks, and compares what they give with their traces")
         .after_help(TEST_HELP)
-        .arg(files)
+        .arg(files)?
+        .arg(write)
 }
 
 // The command that steps.

@@ -3,4 +3,4 @@ mod Cut
 mod Listed
 mod Replayed
 mod Stem
-mod Tested
+pub mod Tested

@@ -4,7 +4,7 @@ use Rattle.std.proofs.Common.{◌∷◌, ◌++◌, String, Global, filter, map, 
 use Rattle.std.proofs.Common.{◌&&◌, codes}
 use Rattle.std.specs.List.{list_any}
 use Rattle.std.specs.Str.{bytes_eq}
-use Rattle.controller_tests.specs.Names.{beside, is_test, is_text}
+use Rattle.controller_tests.specs.Names.{beside, in_folder, is_test, is_text}
 
 -- whether a name is among names, by what these are
 pub among : (name : List ℕ) (names : List (String Global))
@@ -14,16 +14,16 @@ among name (other ∷ names) = ap (λ b. bytes_eq name (string_bytes other) || b
 
 -- the names of tests, in a folder
 abbrev pub tests_from : List ℕ → List (List ℕ) → List (List ℕ) → List (List ℕ)
-tests_from folder all names = map (λ name. folder ++ (47 ∷ name)) (filter (is_test all) names)
+tests_from folder all names = map (in_folder folder) (filter (is_test all) names)
 
 tests_by : (c : Bool) (folder : List ℕ) (all : List (List ℕ)) (name : List ℕ) (names : List (List ℕ)) → is_test all name ≡ c
-    → tests_from folder all (name ∷ names) ≡ cond c ((folder ++ (47 ∷ name)) ∷ tests_from folder all names) (tests_from folder all names)
-tests_by true folder all name names e = ap (λ c. map (λ n. folder ++ (47 ∷ n)) (cond c (name ∷ filter (is_test all) names) (filter (is_test all) names))) e
-tests_by false folder all name names e = ap (λ c. map (λ n. folder ++ (47 ∷ n)) (cond c (name ∷ filter (is_test all) names) (filter (is_test all) names))) e
+    → tests_from folder all (name ∷ names) ≡ cond c (in_folder folder name ∷ tests_from folder all names) (tests_from folder all names)
+tests_by true folder all name names e = ap (λ c. map (in_folder folder) (cond c (name ∷ filter (is_test all) names) (filter (is_test all) names))) e
+tests_by false folder all name names e = ap (λ c. map (in_folder folder) (cond c (name ∷ filter (is_test all) names) (filter (is_test all) names))) e
 
 -- one more is a test
 pub is_one : (folder : List ℕ) (all tests : List (List ℕ)) (name new : List ℕ) (names more : List (List ℕ)) → is_test all name ≡ true
-    → new ≡ folder ++ (47 ∷ name) → more ≡ tests ++ new ∷ []
+    → new ≡ in_folder folder name → more ≡ tests ++ new ∷ []
     → more ++ tests_from folder all names ≡ tests ++ tests_from folder all (name ∷ names)
 is_one folder all tests name new names more is made put =
     ap (λ xs. xs ++ tests_from folder all names) put

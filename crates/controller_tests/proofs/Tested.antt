@@ -57,7 +57,7 @@ passed_exactly image ticks wanted (outcome.Stops fault) is = (λ e. absurd cc, �
 -- ---- what was compared
 
 -- a fault that is no refusal of memory is that of a line
-at_line : (image : Image) (ticks : List ℕ) (fault : PlayFault) → LacksTrace image ticks fault → fault ≢ play_fault.Memory → Stops image ticks fault
+pub at_line : (image : Image) (ticks : List ℕ) (fault : PlayFault) → LacksTrace image ticks fault → fault ≢ play_fault.Memory → Stops image ticks fault
 at_line image ticks (play_fault.Input line) lacks refused = lacks
 at_line image ticks (play_fault.NotJson line) lacks refused = lacks
 at_line image ticks play_fault.Memory lacks refused = absurd (refused refl)

@@ -32,6 +32,10 @@ is_text name = is_some (without (codes ".chart") name) || is_some (without (code
 abbrev pub is_test : List (List ℕ) → List ℕ → Bool
 is_test names name = is_text name && list_any (bytes_eq (beside name (codes ".ticks"))) names
 
+-- a name in a folder, behind that of the folder and a slash
+abbrev pub in_folder : List ℕ → List ℕ → List ℕ
+in_folder folder name = unwrap_or (without (codes "/") folder) folder ++ (47 ∷ name)
+
 -- the names of a folder that are those of tests, in the folder
 abbrev pub tests_in : List ℕ → List (List ℕ) → List (List ℕ)
-tests_in folder names = map (λ name. folder ++ (47 ∷ name)) (filter (is_test names) names)
+tests_in folder names = map (in_folder folder) (filter (is_test names) names)

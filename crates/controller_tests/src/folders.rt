@@ -5,7 +5,7 @@ ghost use Rattle.std.specs.List.{list_any};
 ghost use Rattle.std.specs.Str.{bytes_eq};
 ghost use Rattle.controller_tests.specs.Names.{is_test, is_text, tests_in};
 
-use crate::names::{beside, is_text};
+use crate::names::{beside, in_folder, is_text};
 use std::alloc::{AllocError, Global};
 
 // Whether a file of this name stands among these.
@@ -34,7 +34,7 @@ pub fn tests_in(alloc: Global, folder: &str, names: &[String]) -> Result<Vec<Str
     let mut tests = Vec::new(alloc);
     for name in names {
         if is_test(alloc, name.as_str(), names)? {
-            tests.push(format!(in alloc; "{folder}/{name}")?)?;
+            tests.push(in_folder(alloc, folder, name.as_str())?)?;
         }
     }
     Ok(tests)

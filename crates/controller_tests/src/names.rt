@@ -1,7 +1,7 @@
 //! The names of the files beside a program's text.
 
 ghost use Rattle.std.specs.Prelude.{◌≡◌, IfOk, option_map, string_bytes};
-ghost use Rattle.controller_tests.specs.Names.{beside, is_text, stem, without};
+ghost use Rattle.controller_tests.specs.Names.{beside, in_folder, is_text, stem, without};
 
 use std::alloc::{AllocError, Global};
 
@@ -37,4 +37,12 @@ pub fn beside(alloc: Global, name: &str, ending: &str) -> Result<String, AllocEr
 {
     let stem = stem(name);
     format!(in alloc; "{stem}{ending}")
+}
+
+/// The name of a file in a folder: behind the name of the folder and one slash.
+pub(crate) fn in_folder(alloc: Global, folder: &str, name: &str) -> Result<String, AllocError>
+    ensures { IfOk result (λ path. string_bytes path ≡ in_folder folder.now name.now) }
+{
+    let front = without("/", folder).unwrap_or(folder);
+    format!(in alloc; "{front}/{name}")
 }

@@ -69,3 +69,7 @@ IsNotChartOf name bytes image (fault.Text f) = SpellsNoChart bytes f
 IsNotChartOf name bytes image (fault.Program f) = LacksImage bytes f
 IsNotChartOf name bytes image (fault.Source shown) = (string_bytes shown ≡ shown_name name) × IsOtherChart bytes image
 IsNotChartOf name bytes image other = ⊥
+
+-- the bytes are no text, or one of SCL, which has no states
+abbrev pub IsNoChart : List ℕ → Type 0
+IsNoChart bytes = (¬ IsUtf8 bytes) ⊎ IsIn bytes language.Scl

@@ -1,19 +1,21 @@
 //! An image in one file, and in another its chart.
 
-ghost use Rattle.std.specs.Prelude.{◌≡◌, ◌+◌, IfErr, IfOk, OnOk};
+ghost use Rattle.std.specs.Prelude.{◌≡◌, ◌+◌, IfErr, IfNone, IfOk, IfSome, OnOk};
 ghost use Rattle.command_files.specs.Counting.{files_failed};
-ghost use Rattle.image_charts.specs.Charts.{IsChartOf, IsNotChartOf};
+ghost use Rattle.image_charts.specs.Charts.{IsChartOf, IsNoChart, IsNotChartOf};
 ghost use Rattle.image_charts.specs.Files.{FilesLackStates, HasStates};
 
 use crate::finding::chart_of;
 use crate::states::ChartStates;
 use command_files::{Files, LoadFault, bytes_of, load_verified};
+use sc_text::{Language, language_of};
 use sqlite_items::Boxed;
 use std::alloc::Global;
+use std::str;
 use verifier::Verified;
 
-/// The states of the chart that the bytes of the file of this name spell, in a box, where this is its image.
-pub fn boxed_states(
+// The states of the chart that the bytes of the file of this name spell, in a box, where this is its image.
+fn boxed_states(
     alloc: Global,
     name: &str,
     bytes: &[u8],
@@ -24,6 +26,29 @@ pub fn boxed_states(
 {
     let states = chart_of(alloc, name, bytes, image)?;
     Ok(Boxed::new(alloc, states)?)
+}
+
+/// The states of the chart that the bytes of the file of this name spell, whose image this is. None: they are no text,
+/// or one of SCL, which has no states. Err: they are not the chart of the image; or memory was refused.
+#[tactic(auto, using(crate::proofs::Loading::quiet))]
+pub fn states_in(
+    alloc: Global,
+    name: &str,
+    bytes: &[u8],
+    image: &Verified,
+) -> Result<Option<Boxed<ChartStates>>, LoadFault>
+    ensures found { IfOk result (λ states. IfSome states (IsChartOf bytes.now image.now)) }
+    ensures none { IfOk result (λ states. IfNone states (IsNoChart bytes.now)) }
+    ensures lacks { IfErr result (IsNotChartOf name.now bytes.now image.now) }
+    ensures missed { IfErr result (λ fault. files_failed fault ≡ 0) }
+{
+    let Ok(text) = str::from_utf8(bytes) else {
+        return Ok(None);
+    };
+    match language_of(text) {
+        Language::Chart => Ok(Some(boxed_states(alloc, name, bytes, image)?)),
+        Language::Scl => Ok(None),
+    }
 }
 
 /// The image in one file, and in the other the chart from which it was compiled, with its states, each in a box. Err:

@@ -5,6 +5,6 @@ mod files;
 mod finding;
 mod states;
 
-pub use files::{boxed_states, load_states};
+pub use files::{load_states, states_in};
 pub use finding::{chart_in, chart_of};
 pub use states::ChartStates;

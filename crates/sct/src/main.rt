@@ -51,7 +51,7 @@ struct Streams {
 
 // The command over the system's files and streams.
 fn serve<
-    R: Files + AllocGlobal + Threads + Wait + Sync,
+    R: Files + AllocGlobal + Clone + Drop + Threads + Wait + Sync,
     L: Ledger,
     M: Ledger,
     N: Ledger,

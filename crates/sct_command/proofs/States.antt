@@ -1,21 +1,14 @@
 -- What a run with states leaves of an image and its chart.
 use Rattle.std.proofs.Common.{◌≡◌, ℕ, List, Option, Result, Ok, Err, IfErr, OnOk}
 use Rattle.bytecode.specs.Image.{Image}
-use Rattle.command_files.specs.declared.fault.LoadFault.{LoadFault}
-use Rattle.command_files.specs.Counting.{files_failed}
 use Rattle.command_files.specs.Files.{Contents}
-use Rattle.image_charts.proofs.Loading as charts
-use Rattle.image_charts.specs.Charts.{IsNotChartOf, NamedStates, state_words}
+use Rattle.image_charts.specs.Charts.{NamedStates, state_words}
 use Rattle.image_charts.specs.Files.{HasStates}
 use Rattle.trace_player.specs.Trace.{Good}
 use Rattle.state_traces.specs.Trace.{Plays}
 use Rattle.sct_command.specs.declared.fault.Fault.{Fault}
 use Rattle.sct_command.specs.declared.fault.Fault.TheVariants as fault
 use Rattle.sct_command.specs.TellingStates.{PlaysStates, RefusesStates, RefusesWords}
-
--- no file failed where its bytes are not the chart
-pub quiet : (chart bytes : List ℕ) (image : Image) (f : LoadFault) → IsNotChartOf chart bytes image f → files_failed f ≡ 0
-quiet chart bytes image f not = charts.quiet chart bytes image f not
 
 -- ---- what the player leaves
 

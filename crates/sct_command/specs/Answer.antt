@@ -58,8 +58,8 @@ Does files files' (Some (WriteCompiled from)) input old new = Writes (AreOfProgr
 Does files files' (Some (Print name)) input old new = PrintsText files name old new
 Does files files' (Some (Migrate from to)) input old new = Migrates files files' from to old new
 Does files files' (Some (Explain name)) input old new = FindsImage files name old new
-Does files files' (Some (Test names)) input old new = TestsPass files names old new
-Does files files' (Some (Simulate name)) input old new = Simulates files name
+Does files files' (Some (Test writes words)) input old new = TestsPass writes files files' words old new
+Does files files' (Some (Simulate name)) input old new = Simulates files name input old new
 Does files files' None input old new = WritesText old new
 
 -- ---- what is said beside it
@@ -141,8 +141,8 @@ Refuses files files' (Some (WriteCompiled from)) input old new f = RefusesWritin
 Refuses files files' (Some (Print name)) input old new f = RefusesPrinting files name old new f
 Refuses files files' (Some (Migrate from to)) input old new f = RefusesMigration files files' from to old new f
 Refuses files files' (Some (Explain name)) input old new f = RefusesExplaining files name old new f
-Refuses files files' (Some (Test names)) input old new f = RefusesTests files names old new f
-Refuses files files' (Some (Simulate name)) input old new f = RefusesSimulation files name old new f
+Refuses files files' (Some (Test writes words)) input old new f = RefusesTests writes files files' words old new f
+Refuses files files' (Some (Simulate name)) input old new f = RefusesSimulation files name input old new f
 Refuses files files' None input old new f = RefusesHelp old new f
 
 -- what is told of this fault, its line with what stands behind it, or the line of memory that was refused for it, went
@@ -157,7 +157,7 @@ pub record TellsFault (f : Fault) (wanted : Bool) (report : List ℕ) (old new :
 -- told, and then the output may fail, or memory
 abbrev pub CountsFiles : Option Request → Fault → ℕ → ℕ → Type 0
 CountsFiles (Some (Explain name)) f old new = old + files_failed f ≤ new
-CountsFiles (Some (Test names)) f old new = old + files_failed f ≤ new
+CountsFiles (Some (Test writes words)) f old new = old + files_failed f ≤ new
 CountsFiles request f old new = new ≡ old + files_failed f
 
 -- a request was refused for one fault, of which all that is left tells: the output, how often files, the input and the

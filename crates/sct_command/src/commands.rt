@@ -2,7 +2,7 @@
 
 ghost use Rattle.std.specs.Prelude.{◌≡◌, ◌≤◌, ◌+◌, ◌++◌, ◌||◌, [], true, Some, None, map, string_bytes};
 ghost use Rattle.std.specs.Prelude.{IfErr, IfOk, OnOk};
-ghost use Rattle.command_words.specs.Request.{StoresImage, IsRun, explains, request_of, seen, warns};
+ghost use Rattle.command_words.specs.Request.{WritesFiles, IsRun, explains, request_of, seen, warns};
 ghost use Rattle.sc_values.specs.Streams.{IsNotReadBehind};
 ghost use Rattle.sct_command.specs.Answer.{CountsFiles, Does, Refuses, IsRefused, TellsFault};
 ghost use Rattle.sct_command.specs.Answer.{SaysBeside, SaysOfRefusal, TellsBeside};
@@ -204,7 +204,7 @@ fn perform<T: Threads + Wait + Sync, F: Files, R: Source, W: Sink>(
     ensures failed { IfErr result (λ fault. W.failures output.new ≡ W.failures output.old + writes_failed fault) }
     ensures end { IsNotReadBehind (R.progress input.old) (R.progress input.new) }
     ensures unread { ¬ IsRun (Some (seen request.entry)) → R.to_come input.new ≡ R.to_come input.old }
-    ensures files { ¬ StoresImage (Some (seen request.entry)) → F.contents files.new ≡ F.contents files.old }
+    ensures files { ¬ WritesFiles (Some (seen request.entry)) → F.contents files.new ≡ F.contents files.old }
     ensures none_missed { OnOk result (F.failures files.new ≡ F.failures files.old) }
     ensures missed { IfErr result (λ fault. CountsFiles (Some (seen request.entry)) fault
         (F.failures files.old) (F.failures files.new)) }
@@ -228,7 +228,7 @@ fn perform<T: Threads + Wait + Sync, F: Files, R: Source, W: Sink>(
         Request::Print(name) => print_text(alloc, name, files, output),
         Request::Migrate(from, to) => migrate(alloc, from, to, files, output),
         Request::Explain(name) => explain(alloc, name, files, output),
-        Request::Test(names) => test_files(alloc, names, files, output),
+        Request::Test(writes, words) => test_files(alloc, writes, words, files, output),
         Request::Simulate(name) => simulate_file(alloc, name, files, input, output),
     }
 }
@@ -274,7 +274,7 @@ pub fn command<T: Threads + Wait + Sync, F: Files, R: Source, W: Sink, X: Sink>(
 
     ensures end { IsNotReadBehind (R.progress input.old) (R.progress input.new) }
     ensures unread { ¬ IsRun (request_of (map string_bytes words.now)) → R.to_come input.new ≡ R.to_come input.old }
-    ensures files { ¬ StoresImage (request_of (map string_bytes words.now))
+    ensures files { ¬ WritesFiles (request_of (map string_bytes words.now))
         → F.contents files.new ≡ F.contents files.old }
 {
     let asked = match read_words(alloc, words) {

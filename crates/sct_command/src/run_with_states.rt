@@ -11,7 +11,6 @@ ghost use Rattle.trace_player.specs.Trace.{Good};
 use crate::fault::Fault;
 use crate::run::met;
 use command_files::Files;
-pub(crate) use image_charts::boxed_states;
 use image_charts::{ChartStates, load_states};
 use line_causes::{Lent, OfInput, Recent};
 use sc_values::{Sink, Source};

@@ -3,42 +3,18 @@
 ghost use Rattle.std.specs.Prelude.{◌≡◌, ◌+◌, IfErr, IfOk, OnOk};
 ghost use Rattle.command_files.specs.Counting as files_count;
 ghost use Rattle.command_files.specs.Sources.{IsCompiledFrom};
-ghost use Rattle.image_charts.specs.Charts.{IsNotChartOf};
 ghost use Rattle.sc_values.specs.Streams.{IsNotReadBehind};
 ghost use Rattle.sct_command.specs.Failing.{files_failed, reads_failed, writes_failed};
 ghost use Rattle.sct_command.specs.Simulating.{LacksModel, RefusesSimulation, Simulates};
 
 use crate::fault::Fault;
-use crate::run_with_states::boxed_states;
 use command_files::{Files, LoadFault, bytes_of, compile_bytes};
-use image_charts::ChartStates;
-use sc_text::{Language, language_of};
+use image_charts::{ChartStates, states_in};
 use sc_values::{Sink, Source};
 use simulation::simulate;
 use sqlite_items::Boxed;
 use std::alloc::Global;
-use std::str;
 use verifier::Verified;
-
-// Of a chart its states. Err: the bytes of the file of this name are not the chart of the image; or memory was refused.
-#[tactic(auto, using(crate::proofs::States::quiet))]
-fn states_in(
-    alloc: Global,
-    name: &str,
-    bytes: &[u8],
-    image: &Verified,
-) -> Result<Option<Boxed<ChartStates>>, LoadFault>
-    ensures lacks { IfErr result (IsNotChartOf name.now bytes.now image.now) }
-    ensures missed { IfErr result (λ fault. files_count.files_failed fault ≡ 0) }
-{
-    let Ok(text) = str::from_utf8(bytes) else {
-        return Ok(None);
-    };
-    match language_of(text) {
-        Language::Chart => Ok(Some(boxed_states(alloc, name, bytes, image)?)),
-        Language::Scl => Ok(None),
-    }
-}
 
 // The image of the program in this file, and of a chart its states. Err: there is no program in the file, or it has no
 // image.
@@ -70,8 +46,10 @@ fn held(states: &Option<Boxed<ChartStates>>) -> Option<&ChartStates> {
     }
 }
 
-/// Steps the controller in this file by hand, and answers each line of the input before the next one is read. Err:
-/// there is no program in the file, or it has no image; a line is too long; or the input or the output failed.
+/// Steps the controller in this file by hand: does what each line of the input says, and answers it before the next one
+/// is read. Err: there is no program in the file, or it has no image; a line is too long; or the input or the output
+/// failed.
+#[tactic(auto, using(crate::proofs::Simulated::simulated, crate::proofs::Simulated::stopped))]
 pub(crate) fn simulate_file<F: Files, R: Source, W: Sink>(
     alloc: Global,
     name: &str,
@@ -79,9 +57,10 @@ pub(crate) fn simulate_file<F: Files, R: Source, W: Sink>(
     input: &mut R,
     output: &mut W,
 ) -> Result<(), Fault>
-    ensures done { OnOk result (Simulates (F.contents files.old) name.now) }
-    ensures refused { IfErr result
-        (RefusesSimulation (F.contents files.old) name.now (W.taken output.old) (W.taken output.new)) }
+    ensures done { OnOk result (Simulates (F.contents files.old) name.now
+        (R.to_come input.old) (W.taken output.old) (W.taken output.new)) }
+    ensures refused { IfErr result (RefusesSimulation (F.contents files.old) name.now
+        (R.to_come input.old) (W.taken output.old) (W.taken output.new)) }
     ensures none_read { OnOk result (R.failures input.new ≡ R.failures input.old) }
     ensures read { IfErr result (λ fault. R.failures input.new ≡ R.failures input.old + reads_failed fault) }
     ensures end { IsNotReadBehind (R.progress input.old) (R.progress input.new) }

@@ -1,5 +1,5 @@
 use Rattle.std.proofs.Common.{length}
-use Rattle.sct_command.proofs.test.+tell_tests.Given as goal
+use Rattle.command_tests.proofs.trying.+tell_tests.Given as goal
 
 abbrev pub decreases-tell_tests : goal.decreases-tell_tests
 decreases-tell_tests g l = length l.names.now

@@ -1,0 +1,5 @@
+pub mod Naming
+pub mod States
+pub mod Verdict
+pub mod Run
+pub mod Inside
