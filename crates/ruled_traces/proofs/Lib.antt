@@ -1,0 +1,5 @@
+mod Accepted
+mod Coming
+mod Naming
+mod Playing
+mod Ruled
