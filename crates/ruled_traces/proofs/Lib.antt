@@ -1,5 +1,4 @@
 mod Accepted
 mod Coming
-mod Naming
 mod Playing
 mod Ruled
