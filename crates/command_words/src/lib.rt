@@ -3,6 +3,7 @@
 
 mod arguments;
 mod run_rules;
+mod run_verb;
 mod said;
 mod verbs;
 mod workers;

@@ -1,5 +1,5 @@
 -- What the members of an object give to inputs is accepted: each member has a name of its own.
-use Rattle.std.proofs.Common.{◌≡◌, ◌≢◌, ℕ, zero, suc, ◌<◌, ◌&&◌, ℤ, Bool, true, false, cond, List, [], ◌∷◌, Option, Some, None, option_map}
+use Rattle.std.proofs.Common.{◌≡◌, ◌≢◌, ℕ, zero, suc, ◌<◌, ◌≤◌, length, ◌&&◌, ℤ, Bool, true, false, cond, List, [], ◌∷◌, Option, Some, None, option_map}
 use Rattle.std.proofs.Common.{Ordering, Less, Equal, Greater, refl, sym, ap, subst, ◌∙◌, arith, slice_get, nat_eq}
 use Rattle.std.specs.Bool.{⊤}
 use Rattle.std.specs.Prelude.{option_and_then}
@@ -24,7 +24,7 @@ use Rattle.sc_graph.specs.Program.{Program}
 use Rattle.sc_graph.specs.Tick.{Inputs, AreAccepted}
 use Rattle.trace_lines.specs.Line.{IsObjectOf, given, input_of, inputs_of, int32_of, is_input, is_int32, value_of}
 use Rattle.trace_lines.specs.Lines.{line_limit}
-use Rattle.trace_player.specs.Trace.{GivesInputs}
+use Rattle.trace_player.specs.Trace.{GivesInputs, GivesNoInputs}
 
 abbrev order : List ℕ → List ℕ → Ordering
 order = slice_cmp nat_cmp
@@ -189,11 +189,11 @@ both_of (Some h) None gs e = absurd (none-some gs e)
 both_of (Some h) (Some hs) gs e = (h, hs, refl, refl, same_Some (h ∷ hs) gs e)
 
 -- each of these is a value for an input
-AreGiven : List Variable → Inputs → Type 0
+abbrev AreGiven : List Variable → Inputs → Type 0
 AreGiven variables gs = (i : ℕ) (g : List ℕ × Value) → slice_get gs i ≡ Some g → GivesOne variables g.0 g
 
 -- none of these has this name
-HasNone : List ℕ → Inputs → Type 0
+abbrev HasNone : List ℕ → Inputs → Type 0
 HasNone name gs = (i : ℕ) (g : List ℕ × Value) → slice_get gs i ≡ Some g → name ≢ g.0
 
 given_by : (variables : List Variable) (h : List ℕ × Value) (hs : Inputs) → GivesOne variables h.0 h → AreGiven variables hs
@@ -227,7 +227,7 @@ has_none variables name (member l d ms) gs ahead e =
     let other : name ≢ h.0 = λ is. not_same name l ahead.0 (is ∙ one.named) in
     λ i g at. none_by name h hs other (has_none variables name ms hs ahead.1 both.3) i g (subst (λ (xs : Inputs). slice_get xs i ≡ Some g) (sym both.4) at)
 
-AreApart : Inputs → Type 0
+abbrev AreApart : Inputs → Type 0
 AreApart gs = (i j : ℕ) (a b : List ℕ × Value) → i < j → slice_get gs i ≡ Some a → slice_get gs j ≡ Some b → a.0 ≢ b.0
 
 apart_by : (h : List ℕ × Value) (hs : Inputs) → HasNone h.0 hs → AreApart hs
@@ -251,13 +251,27 @@ are_apart variables (member l d ms) gs sorted e =
     (subst (λ (xs : Inputs). slice_get xs j ≡ Some b) (sym both.4) second)
 
 -- what the members of an object give is accepted
-pub are_accepted : (p : Program) (line : List ℕ) (members : Members) (inputs : Inputs) → IsObjectOf line members → inputs_of p.variables members ≡ Some inputs
+are_accepted : (p : Program) (line : List ℕ) (members : Members) (inputs : Inputs) → IsObjectOf line members → inputs_of p.variables members ≡ Some inputs
     → AreAccepted p inputs
-are_accepted p line members inputs object e =
+are_accepted p line members inputs is e =
     let given = are_given p.variables members inputs e in
     record {
       named = λ i name v at.
           let one : GivesOne p.variables name (name, v) = given i (name, v) at in
           (one.is.place, one.variable, one.is.there, one.is.named, one.is.input, one.kinded);
-      once = are_apart p.variables members inputs (sorted_read line members object.1) e;
+      once = are_apart p.variables members inputs (sorted_read line members is.1) e;
     }
+
+-- what a line gives
+pub gives_inputs : (p : Program) (variables : List Variable) (line : List ℕ) (inputs : Inputs) → variables ≡ p.variables → length line ≤ line_limit
+    → ((members : Members) × IsObjectOf line members × (inputs_of variables members ≡ Some inputs)) → GivesInputs p line inputs
+gives_inputs p variables line inputs same short gives =
+    let given : inputs_of p.variables gives.0 ≡ Some inputs = subst (λ xs. inputs_of xs gives.0 ≡ Some inputs) same gives.2 in
+    record { members = gives.0; short = short; object = gives.1; given = given; accepted = are_accepted p line gives.0 inputs gives.1 given }
+
+-- it gives nothing
+pub gives_none : (p : Program) (variables : List Variable) (line : List ℕ) → variables ≡ p.variables → length line ≤ line_limit
+    → ((members : Members) × IsObjectOf line members × (inputs_of variables members ≡ None)) → GivesNoInputs p line
+gives_none p variables line same short gives =
+    let none : inputs_of p.variables gives.0 ≡ None = subst (λ xs. inputs_of xs gives.0 ≡ None) same gives.2 in
+    record { members = gives.0; short = short; object = gives.1; none = λ inputs given accepted. none-some inputs (sym none ∙ given) }

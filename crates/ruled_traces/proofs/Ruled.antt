@@ -71,9 +71,9 @@ to_plain image from (line ∷ lines) (shown ∷ out) end last alike goes =
 
 pub of_plain : (image : Image) (from : Place) (lines out : List (List ℕ)) (end : End) → from.lines ≡ from.ticks
     → plain.Goes image (next_number from.lines) from.control lines out end → (last : Place) × Goes no_rules image from lines out end last
-of_plain image from [] [] end alike goes = (from, goes, refl)
+of_plain image from [] [] end alike goes = (from, (goes, refl))
 of_plain image from [] (shown ∷ out) end alike goes = absurd goes
-of_plain image from (line ∷ lines) [] end alike goes = (from, ruled_end image.program (next_number from.lines) line end goes, refl)
+of_plain image from (line ∷ lines) [] end alike goes = (from, (ruled_end image.program (next_number from.lines) line end goes, refl))
 of_plain image from (line ∷ lines) (shown ∷ out) end alike goes =
     let d = goes.0 in
     let to : Place = record { lines = next_number from.lines; ticks = next_number from.ticks; control = d } in
@@ -82,7 +82,7 @@ of_plain image from (line ∷ lines) (shown ∷ out) end alike goes =
     let tick : MakesTick no_rules image from line to shown = record { shows = shows; named = λ e. absurd cc; ticks = refl } in
     let makes : Makes no_rules image from line to shown = record { lines = refl; made = inl tick } in
     let rest = of_plain image to lines out end (ap next_number alike) goes.2 in
-    (rest.0, to, makes, rest.1)
+    (rest.0, (to, makes, rest.1))
 
 -- ---- going on
 
@@ -96,14 +96,14 @@ step_counted rules image from n k line to shown none (inr passed) = let some : r
 -- lines are counted from another number on
 counted : (rules : Rules) (image : Image) (from : Place) (n k : ℕ) (lines out : List (List ℕ)) (last : Place) → rules.skips ≡ false
     → Goes rules image (with_lines from n) lines out Good last → (m : ℕ) × Goes rules image (with_lines from k) lines out Good (with_lines last m)
-counted rules image from n k [] [] last none goes = (k, refl, ap (λ at. with_lines at k) goes.1)
+counted rules image from n k [] [] last none goes = (k, (refl, ap (λ at. with_lines at k) goes.1))
 counted rules image from n k [] (shown ∷ out) last none goes = absurd goes
 counted rules image from n k (line ∷ lines) [] last none goes = absurd goes.0
 counted rules image from n k (line ∷ lines) (shown ∷ out) last none goes =
     let to = goes.0 in
     let makes : Makes rules image (with_lines from n) line to shown = goes.1 in
     let rest = counted rules image to to.lines (next_number k) lines out last none goes.2 in
-    (rest.0, with_lines to (next_number k), step_counted rules image from n k line to shown none makes.made, rest.1)
+    (rest.0, (with_lines to (next_number k), step_counted rules image from n k line to shown none makes.made, rest.1))
 
 pub resumed : (rules : Rules) (image : Image) (from middle last : Place) (n : ℕ) (first second out more : List (List ℕ)) → rules.skips ≡ false
     → Goes rules image from first out Good middle → Goes rules image (with_lines middle n) second more Good last
@@ -115,4 +115,4 @@ resumed rules image from middle last n [] second (shown ∷ out) more none goes 
 resumed rules image from middle last n (line ∷ first) second [] more none goes behind = absurd goes.0
 resumed rules image from middle last n (line ∷ first) second (shown ∷ out) more none goes behind =
     let rest = resumed rules image goes.0 middle last n first second out more none goes.2 behind in
-    (rest.0, goes.0, goes.1, rest.1)
+    (rest.0, (goes.0, goes.1, rest.1))

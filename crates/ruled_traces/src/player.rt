@@ -25,10 +25,10 @@ pub fn play_by<S: Source, K: Sink>(
     sink: &mut K,
 ) -> Result<Place, PlayFault>
     requires rests { Rests verified.now.program from.control }
-    ensures whole { IfOk result (λ last. (out : List (List ℕ)) × Plays rules verified.now from.entry
+    ensures whole { IfOk result (λ last. (out : List (List ℕ)) × Plays rules verified.now from
         (S.to_come source.old) (K.taken sink.old) (K.taken sink.new) out Good last) }
     ensures rests { IfOk result (λ last. Rests verified.now.program last.control) }
-    ensures fault { IfErr result (Leaves rules verified.now from.entry
+    ensures fault { IfErr result (Leaves rules verified.now from
         (S.to_come source.old) (K.taken sink.old) (K.taken sink.new)) }
     ensures read { IsErrOf result PlayFault.Read
         → S.failures source.new ≡ S.failures source.old + 1 }

@@ -34,7 +34,7 @@ pub(crate) fn next_number(number: u64) -> u64
 }
 
 // What a line says under these rules.
-#[tactic(auto, using(crate::proofs::Accepted::gives_accepted))]
+#[tactic(auto, using(crate::proofs::Accepted::gives_inputs, crate::proofs::Accepted::gives_none))]
 fn said_by(
     alloc: Global,
     rules: Rules,
@@ -101,9 +101,9 @@ pub(crate) fn react<'x>(
     requires rests { Rests room.program place.control }
     requires short { length line.now ≤ line_limit }
     ensures rests { IfOk result (λ r. Rests room.entry.program r.0.control) }
-    ensures makes { IfOk result (λ r. Makes rules room.entry place.entry line.now r.0 shown.new.items) }
+    ensures makes { IfOk result (λ r. Makes rules room.entry place line.now r.0 shown.new.items) }
     ensures room { IfOk result (λ r. r.1 ≡ room.entry) }
-    ensures fault { IfErr result (Tells rules room.entry.program (next_number place.entry.lines) line.now) }
+    ensures fault { IfErr result (Tells rules room.entry.program (next_number place.lines) line.now) }
 {
     let Place {
         lines,

@@ -59,7 +59,7 @@ pub(crate) fn begin<S: Source, K: Sink>(
     sink: &mut K,
 ) -> Result<Place, PlayFault>
     requires rests { Rests verified.now.program from.control }
-    ensures came { CameTo rules verified.now from.entry
+    ensures came { CameTo rules verified.now from
         (S.to_come source.old) (K.taken sink.old) (K.taken sink.new)
         (S.failures source.old) (S.failures source.new) (K.failures sink.old) (K.failures sink.new)
         (S.progress source.old) (S.progress source.new) result }
@@ -101,7 +101,7 @@ fn go_on<'x, S: Source, K: Sink>(
     requires interface { interface.now ≡ program.now.variables }
     requires rests { Rests room.program from.control }
     requires lines { lines.old ≡ [] }
-    ensures came { CameTo rules room.entry from.entry
+    ensures came { CameTo rules room.entry from
         (S.to_come source.old) (K.taken sink.old) (K.taken sink.new)
         (S.failures source.old) (S.failures source.new) (K.failures sink.old) (K.failures sink.new)
         (S.progress source.old) (S.progress source.new) result }
