@@ -47,12 +47,15 @@ pub record HoldsNone (files : Option Contents) (p : Program) (name : List ℕ) :
   pub held : HasBytes files name bytes
   pub none : HoldNone bytes p
 
--- no place could be had to begin at, for this fault
-abbrev pub LacksPlace : Option Contents → Program → Option (List ℕ) → RunFault → Type 0
-LacksPlace files p from (fault.Files load.Memory) = Unit {0}
-LacksPlace files p (Some name) (fault.Files f) = FileLacksImage files name f
-LacksPlace files p (Some name) (fault.Place shown) = HoldsNone files p name × (string_bytes shown ≡ shown_name name)
-LacksPlace files p from other = ⊥
+-- a file from which a run was to go on holds none, and is shown so
+abbrev pub HoldsNoPlace : Option Contents → Program → Option (List ℕ) → List ℕ → Type 0
+HoldsNoPlace files p None shown = ⊥
+HoldsNoPlace files p (Some name) shown = HoldsNone files p name × (shown ≡ shown_name name)
+
+-- it could not be read, for this fault
+abbrev pub IsUnread : Option Contents → Option (List ℕ) → LoadFault → Type 0
+IsUnread files None f = ⊥
+IsUnread files (Some name) f = FileLacksImage files name f
 
 -- the file of a name has now a text of the place; without a name no file changed
 pub record IsKeptIn (files files' : Option Contents) (name : List ℕ) (place : Place) : Type 0 where

@@ -1,5 +1,5 @@
 -- What a run under rules leaves.
-use Rattle.std.specs.Prelude.{ℕ, ◌≡◌, ◌⊎◌, Option, List}
+use Rattle.std.specs.Prelude.{ℕ, ◌≡◌, ◌⊎◌, Option, List, string_bytes}
 use Rattle.bytecode.specs.Image.{Image}
 use Rattle.command_files.specs.declared.fault.LoadFault.{LoadFault}
 use Rattle.command_files.specs.Files.{Contents}
@@ -11,7 +11,7 @@ use Rattle.ruled_traces.specs.declared.place.Place.{Place}
 use Rattle.ruled_traces.specs.declared.rules.Rules.{Rules}
 use Rattle.ruled_traces.specs.Trace.{Leaves, Plays}
 use Rattle.ruled_runs.specs.Met.{IsMet}
-use Rattle.ruled_runs.specs.Places.{BeginsAt, IsKept, IsNotKept, LacksPlace}
+use Rattle.ruled_runs.specs.Places.{BeginsAt, HoldsNoPlace, IsKept, IsNotKept, IsUnread}
 use Rattle.ruled_runs.specs.declared.fault.RunFault.{RunFault}
 use Rattle.ruled_runs.specs.declared.fault.RunFault.TheVariants as fault
 
@@ -39,11 +39,11 @@ pub record LosesPlace (rules : Rules) (files : Option Contents) (name : List ℕ
   pub plays : Plays rules image first input old new out Good last
   pub lost : IsNotKept save f
 
--- the image in this file could not be had, or not the place at which it goes on, for this fault
-pub record LacksPlaceFor (files : Option Contents) (name : List ℕ) (from : Option (List ℕ)) (f : RunFault) : Type 0 where
+-- by the image in this file no run can go on where another file says, whose name is shown so
+pub record LacksPlace (files : Option Contents) (name : List ℕ) (from : Option (List ℕ)) (shown : List ℕ) : Type 0 where
   pub image : Image
   pub loaded : IsLoaded files name image
-  pub lacks : LacksPlace files image.program from f
+  pub none : HoldsNoPlace files image.program from shown
 
 -- what the player leaves that refuses the input, and the cause that is known of it
 pub record StopsAt (rules : Rules) (files : Option Contents) (name : List ℕ) (from : Option (List ℕ)) (input old new : Option (List ℕ))
@@ -55,18 +55,11 @@ pub record StopsAt (rules : Rules) (files : Option Contents) (name : List ℕ) (
   pub leaves : Leaves rules image first input old new f
   pub met : IsMet rules.strict image.program.variables input f cause
 
--- what the player of an image leaves that refuses an input
-abbrev pub RefusesPlaying : Rules → Image → Place → Option (List ℕ) → Option (List ℕ) → Option (List ℕ) → RunFault → Type 0
-RefusesPlaying rules image first input old new (fault.Play f cause) =
-    Leaves rules image first input old new f × IsMet rules.strict image.program.variables input f cause
-RefusesPlaying rules image first input old new other = ⊥
-
 -- what a run leaves that is refused: no file changed, and nothing was written but what the player left
 abbrev pub RefusesRun : Rules → Option Contents → Option Contents → List ℕ → Option (List ℕ) → Option (List ℕ) → Option (List ℕ) → Option (List ℕ)
     → Option (List ℕ) → RunFault → Type 0
 RefusesRun rules files files' name from save input old new (fault.Play f cause) = StopsAt rules files name from input old new f cause × (files' ≡ files)
 RefusesRun rules files files' name from save input old new (fault.Place shown) =
-    LacksPlaceFor files name from (fault.Place shown) × (files' ≡ files) × (new ≡ old)
+    LacksPlace files name from (string_bytes shown) × (files' ≡ files) × (new ≡ old)
 RefusesRun rules files files' name from save input old new (fault.Files f) =
-    ((FileLacksImage files name f ⊎ LacksPlaceFor files name from (fault.Files f)) × (files' ≡ files) × (new ≡ old))
-    ⊎ (LosesPlace rules files name from save input old new f × (files' ≡ files))
+    ((FileLacksImage files name f ⊎ IsUnread files from f) × (files' ≡ files) × (new ≡ old)) ⊎ (LosesPlace rules files name from save input old new f × (files' ≡ files))

@@ -1,20 +1,20 @@
 //! Where a run begins, and where its place is kept.
 
-ghost use Rattle.std.specs.Prelude.{◌≡◌, ◌+◌, IfErr, IfOk, OnErr, OnOk, option_map};
+ghost use Rattle.std.specs.Prelude.{◌≡◌, ◌+◌, IfErr, IfOk, OnErr, OnOk, Some, option_map};
 ghost use Rattle.command_files.specs.Counting as files_count;
 ghost use Rattle.sc_graph.specs.Tick.{Rests};
 ghost use Rattle.ruled_runs.specs.Failing.{files_failed};
-ghost use Rattle.ruled_runs.specs.Places.{BeginsAt, BeginsIn, IsKept, IsNotKept, LacksPlace, LacksPlaceIn};
+ghost use Rattle.ruled_runs.specs.Places.{BeginsIn, IsKept, IsNotKept, LacksPlaceIn};
 
 use crate::fault::RunFault;
-use command_files::{Files, LoadFault, bytes_of, shown_name, store};
+use command_files::{Files, LoadFault, shown_name, store};
 use control_texts::{Saved, SavedFault, control_in, control_text};
 use ruled_traces::Place;
 use sc_graph::Program;
 use std::alloc::Global;
 
-// The place that these bytes of the file of this name hold.
-fn held_place(
+/// The place that these bytes of the file of this name hold, at which the program can go on.
+pub(crate) fn held_place(
     alloc: Global,
     program: &Program,
     name: &str,
@@ -36,47 +36,6 @@ fn held_place(
         }
         Err(SavedFault::Memory) => Err(RunFault::Files(LoadFault::Memory)),
         Err(SavedFault::Unfit) => Err(RunFault::Place(shown_name(alloc, name)?)),
-    }
-}
-
-// The place in the file of this name.
-#[tactic(auto, using(crate::proofs::Begun::in_file, crate::proofs::Begun::no_file, crate::proofs::Begun::no_place))]
-fn read_place<F: Files>(
-    alloc: Global,
-    files: &mut F,
-    program: &Program,
-    name: &str,
-) -> Result<Place, RunFault>
-    ensures begins { IfOk result (BeginsAt (F.contents files.old) program.now (Some name.now)) }
-    ensures rests { IfOk result (λ place. Rests program.now place.control) }
-    ensures lacks { IfErr result (LacksPlace (F.contents files.old) program.now (Some name.now)) }
-    ensures same { F.contents files.new ≡ F.contents files.old }
-    ensures none_missed { OnOk result (F.failures files.new ≡ F.failures files.old) }
-    ensures missed { IfErr result (λ fault. F.failures files.new ≡ F.failures files.old + files_failed fault) }
-{
-    let bytes = bytes_of(alloc, files, name)?;
-    held_place(alloc, program, name, &bytes)
-}
-
-/// Where a run begins: before the first tick of the program, or at the place that is in a file.
-pub(crate) fn place_from<F: Files>(
-    alloc: Global,
-    files: &mut F,
-    program: &Program,
-    from: Option<&str>,
-) -> Result<Place, RunFault>
-    ensures begins { IfOk result
-        (BeginsAt (F.contents files.old) program.now (option_map (λ name. name.now) from)) }
-    ensures rests { IfOk result (λ place. Rests program.now place.control) }
-    ensures lacks { IfErr result
-        (LacksPlace (F.contents files.old) program.now (option_map (λ name. name.now) from)) }
-    ensures same { F.contents files.new ≡ F.contents files.old }
-    ensures none_missed { OnOk result (F.failures files.new ≡ F.failures files.old) }
-    ensures missed { IfErr result (λ fault. F.failures files.new ≡ F.failures files.old + files_failed fault) }
-{
-    match from {
-        Some(name) => read_place(alloc, files, program, name),
-        None => Ok(Place::at_first(alloc, program)?),
     }
 }
 

@@ -6,7 +6,7 @@ ghost use Rattle.sc_values.specs.Streams.{IsNotReadBehind};
 ghost use Rattle.trace_player.specs.Trace.{Good};
 ghost use Rattle.ruled_traces.specs.Trace.{Plays};
 ghost use Rattle.ruled_runs.specs.Failing.{files_failed, reads_failed, writes_failed};
-ghost use Rattle.ruled_runs.specs.Runs.{RefusesPlaying};
+ghost use Rattle.ruled_runs.specs.Inside.Held.{RefusesPlaying};
 
 use crate::fault::RunFault;
 use crate::met::met;
@@ -32,9 +32,9 @@ fn play_told<'a, R: Source, W: Sink, N: OfInput>(
     requires name { input.ghost_name ≡ N.name }
     requires start { R.to_come input.now ≡ N.start }
     ensures name { result.1.ghost_name ≡ input.entry.ghost_name }
-    ensures done { IfOk result.0 (λ last. (out : List (List ℕ)) × Plays rules image.now from.entry
+    ensures done { IfOk result.0 (λ last. (out : List (List ℕ)) × Plays rules image.now from
         (R.to_come input.entry.now) (W.taken output.old) (W.taken output.new) out Good last) }
-    ensures refused { IfErr result.0 (RefusesPlaying rules image.now from.entry
+    ensures refused { IfErr result.0 (RefusesPlaying rules image.now from
         (R.to_come input.entry.now) (W.taken output.old) (W.taken output.new)) }
     ensures none_read { OnOk result.0 (R.failures result.1.now ≡ R.failures input.entry.now) }
     ensures read { IfErr result.0 (λ fault. R.failures result.1.now
@@ -65,9 +65,9 @@ pub(crate) fn play_from<R: Source, W: Sink>(
     output: &mut W,
 ) -> Result<Place, RunFault>
     requires rests { Rests image.now.program from.control }
-    ensures done { IfOk result (λ last. (out : List (List ℕ)) × Plays rules image.now from.entry
+    ensures done { IfOk result (λ last. (out : List (List ℕ)) × Plays rules image.now from
         (R.to_come input.old) (W.taken output.old) (W.taken output.new) out Good last) }
-    ensures refused { IfErr result (RefusesPlaying rules image.now from.entry
+    ensures refused { IfErr result (RefusesPlaying rules image.now from
         (R.to_come input.old) (W.taken output.old) (W.taken output.new)) }
     ensures none_read { OnOk result (R.failures input.new ≡ R.failures input.old) }
     ensures read { IfErr result (λ fault. R.failures input.new ≡ R.failures input.old + reads_failed fault) }

@@ -17,7 +17,7 @@ use std::alloc::Global;
 /// Plays the input by the image in this file, by the caller's thread alone, by these rules; where words are `wanted`, a
 /// fault of a line tells what was met there. Err: there is no valid image in the file, or no place of it in the one that
 /// has it; why the input was not played to its end; or the place could not be kept where it ended.
-#[tactic(auto, using(crate::proofs::Ruled::refused, crate::proofs::Ruled::reads, crate::proofs::Ruled::writes, crate::proofs::Ruled::missed))]
+#[tactic(auto, using(crate::proofs::Ruled::refused, crate::proofs::Ruled::reads, crate::proofs::Ruled::writes, crate::proofs::Ruled::missed, crate::proofs::Ruled::unchanged))]
 pub(crate) fn run_ruled<F: Files, R: Source, W: Sink>(
     alloc: Global,
     name: &str,
