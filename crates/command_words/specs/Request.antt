@@ -1,6 +1,6 @@
 -- What the words of a command ask for.
-use Rattle.std.specs.Prelude.{ℕ, ◌≡◌, Bool, true, false, not, ◌&&◌, ◌||◌, is_some, option_map, if◌then◌else◌, codes, map, string_bytes, unwrap_or, Option, Some, None, List, []}
-use Rattle.std.specs.Prelude.{◌∷◌}
+use Rattle.std.specs.Prelude.{ℕ, ◌≡◌, Bool, true, false, not, ◌&&◌, ◌||◌, is_some, option_map, if◌then◌else◌, codes, map, string_bytes}
+use Rattle.std.specs.Prelude.{unwrap_or, Option, Some, None, List, [], ◌∷◌}
 use Rattle.std.specs.Option.{option_and_then}
 use Rattle.std.specs.Str.{bytes_eq}
 use Rattle.command_words.specs.Said.{Names, NoName, One, Two, Rules, Said, is_option, rules_seen, said_by}

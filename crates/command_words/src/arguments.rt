@@ -2,7 +2,8 @@
 
 ghost use Rattle.std.specs.Prelude.{◌≡◌, Some, None, IfOk, IfSome, OnErr, map, option_map, string_bytes};
 ghost use Rattle.command_words.specs.Request.{seen, asked, asked_plainly, list_of, request_by, request_of, run_of};
-ghost use Rattle.command_words.specs.Request.{are_names, compile_to, explains, json_by, json_of, migrate_to, test_of, tests_of};
+ghost use Rattle.command_words.specs.Request.{are_names, compile_to, explains, json_by, json_of, migrate_to, test_of};
+ghost use Rattle.command_words.specs.Request.{tests_of};
 ghost use Rattle.command_words.specs.Request.{ruled_by, ruled_of, text_by, warns};
 ghost use Rattle.command_words.specs.Said.{names_seen, said_seen};
 ghost use Rattle.command_words.specs.declared.arguments.Unread.TheVariants.{Memory};

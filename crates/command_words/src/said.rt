@@ -4,7 +4,8 @@ ghost use Rattle.std.specs.Prelude.{◌≡◌, map, option_map, string_bytes};
 ghost use Rattle.command_words.specs.Said.{chart_in, names_seen, said_seen, source_in, step, workers_in, workers_named};
 ghost use Rattle.command_words.specs.Said.{by_file, ended, opened, read_on, said_by, start, valued, with_name};
 ghost use Rattle.command_words.specs.Said.{explained, in_json, is_option, named, warned};
-ghost use Rattle.command_words.specs.Said.{by_rule, from_in, ruled, rules_seen, save_in, with_chart, with_source, with_workers};
+ghost use Rattle.command_words.specs.Said.{by_rule, from_in, ruled, rules_seen, save_in};
+ghost use Rattle.command_words.specs.Said.{with_chart, with_source, with_workers};
 
 use crate::run_rules::RunRules;
 use crate::workers::Workers;

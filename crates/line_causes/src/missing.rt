@@ -56,7 +56,8 @@ fn missing_in(alloc: Global, variables: &[Variable], line: &[u8]) -> Option<Caus
     cause
 }
 
-// The first input that the line of this number does not name. None: it names all, or is not kept, or memory was refused.
+// The first input that the line of this number does not name. None: it names all, or is not kept, or memory was
+// refused.
 fn missing_on<S: Source, N: OfInput>(
     alloc: Global,
     variables: &[Variable],

@@ -17,7 +17,8 @@ use Rattle.ruled_runs.specs.declared.fault.RunFault.TheVariants as fault
 
 -- the whole trace of the input under these rules by the image in this file, from its place on, was written, and the place
 -- was kept where it ended
-pub record RunsBy (rules : Rules) (files files' : Option Contents) (name : List ℕ) (from save : Option (List ℕ)) (input old new : Option (List ℕ)) : Type 0 where
+pub record RunsBy (rules : Rules) (files files' : Option Contents) (name : List ℕ) (from save : Option (List ℕ))
+    (input old new : Option (List ℕ)) : Type 0 where
   pub image : Image
   pub loaded : IsLoaded files name image
   pub first : Place
@@ -62,4 +63,5 @@ RefusesRun rules files files' name from save input old new (fault.Play f cause) 
 RefusesRun rules files files' name from save input old new (fault.Place shown) =
     LacksPlace files name from (string_bytes shown) × (files' ≡ files) × (new ≡ old)
 RefusesRun rules files files' name from save input old new (fault.Files f) =
-    ((FileLacksImage files name f ⊎ IsUnread files from f) × (files' ≡ files) × (new ≡ old)) ⊎ (LosesPlace rules files name from save input old new f × (files' ≡ files))
+    ((FileLacksImage files name f ⊎ IsUnread files from f) × (files' ≡ files) × (new ≡ old))
+    ⊎ (LosesPlace rules files name from save input old new f × (files' ≡ files))

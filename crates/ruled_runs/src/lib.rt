@@ -8,5 +8,5 @@ mod playing;
 mod running;
 
 pub use fault::RunFault;
-pub use running::{RunFiles, run_by};
 pub use ruled_traces::Rules;
+pub use running::{RunFiles, run_by};

@@ -30,7 +30,13 @@ pub(crate) fn met<S: Source, N: OfInput>(
     ensures { IsMet strict image.now.program.variables N.start fault result }
 {
     match line_told(fault) {
-        Some(line) => cause_under(alloc, strict, image.image().program().variables(), recent, line),
+        Some(line) => cause_under(
+            alloc,
+            strict,
+            image.image().program().variables(),
+            recent,
+            line,
+        ),
         None => None,
     }
 }

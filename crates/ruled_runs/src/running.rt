@@ -95,8 +95,8 @@ fn run_first<F: Files, R: Source, W: Sink>(
     )
 }
 
-// Runs the image in a file, from the place on that another one holds. That is read first, so that it may be written when
-// the run ends.
+// Runs the image in a file, from the place on that another one holds. That is read first, so that it may be written
+// when the run ends.
 #[tactic(auto, using(crate::proofs::Ran::no_image, crate::proofs::Ran::no_file, crate::proofs::Ran::no_place, crate::proofs::Ran::next_ran, crate::proofs::Ran::next_refused))]
 fn run_on<F: Files, R: Source, W: Sink>(
     alloc: Global,
@@ -109,8 +109,9 @@ fn run_on<F: Files, R: Source, W: Sink>(
     input: &mut R,
     output: &mut W,
 ) -> Result<(), RunFault>
-    ensures done { OnOk result (RunsBy rules (F.contents files.old) (F.contents files.new) name.now (Some from.now)
-        (option_map (λ name. name.now) save) (R.to_come input.old) (W.taken output.old) (W.taken output.new)) }
+    ensures done { OnOk result (RunsBy rules (F.contents files.old) (F.contents files.new) name.now
+        (Some from.now) (option_map (λ name. name.now) save)
+        (R.to_come input.old) (W.taken output.old) (W.taken output.new)) }
     ensures refused { IfErr result (RefusesRun rules (F.contents files.old) (F.contents files.new) name.now
         (Some from.now) (option_map (λ name. name.now) save)
         (R.to_come input.old) (W.taken output.old) (W.taken output.new)) }
@@ -134,10 +135,10 @@ fn run_on<F: Files, R: Source, W: Sink>(
     )
 }
 
-/// Plays the input by the image in a file, by the caller's thread alone, under these rules: from the place on that is in
-/// another file, where one is named, and keeps the place where it ends, where that is named. Where words are `wanted`, a
-/// fault of a line tells what was met there. Err: there is no valid image in the file, or no place in the other one; why
-/// the input was not played to its end; or the place could not be kept, after it was.
+/// Plays the input by the image in a file, by the caller's thread alone, under these rules: from the place on that is
+/// in another file, where one is named, and keeps the place where it ends, where that is named. Where words are
+/// `wanted`, a fault of a line tells what was met there. Err: there is no valid image in the file, or no place in the
+/// other one; why the input was not played to its end; or the place could not be kept, after it was.
 pub fn run_by<F: Files, R: Source, W: Sink>(
     alloc: Global,
     rules: Rules,

@@ -15,8 +15,8 @@ pub fn without_rules()
         ↔ plain.Trace image lines out end }
 {}
 
-/// Where no line is passed over, a trace and another one that goes on where it ended, whatever it counts its lines from,
-/// make one trace of all their lines, which ends as the other one does.
+/// Where no line is passed over, a trace and another one that goes on where it ended, whatever it counts its lines
+/// from, make one trace of all their lines, which ends as the other one does.
 pub fn resumed_traces()
     ensures { (rules : Rules) (image : Image) (from middle last : Place) (n : ℕ)
         (first second out more : List (List ℕ))

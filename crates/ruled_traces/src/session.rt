@@ -62,11 +62,7 @@ fn said_by(
 
 // One tick from a configuration under inputs that are accepted: the one after it, the number of steps, and the room for
 // the next tick.
-fn tick<'x>(
-    room: TickSpace<'x>,
-    control: Control,
-    inputs: &Inputs,
-) -> (Control, u64, TickSpace<'x>)
+fn tick<'x>(room: TickSpace<'x>, control: Control, inputs: &Inputs) -> (Control, u64, TickSpace<'x>)
     requires rests { Rests room.program control }
     requires accepted { AreAccepted room.program inputs.now }
     ensures rests { Rests room.entry.program result.0 }

@@ -14,9 +14,9 @@ use ruled_runs::{Rules, RunFiles, run_by};
 use sc_values::{Sink, Source};
 use std::alloc::Global;
 
-/// Plays the input by the image in this file, by the caller's thread alone, by these rules; where words are `wanted`, a
-/// fault of a line tells what was met there. Err: there is no valid image in the file, or no place of it in the one that
-/// has it; why the input was not played to its end; or the place could not be kept where it ended.
+/// Plays the input by the image in this file, by the caller's thread alone, by these rules; where words are `wanted`,
+/// a fault of a line tells what was met there. Err: there is no valid image in the file, or no place of it in the one
+/// that has it; why the input was not played to its end; or the place could not be kept where it ended.
 #[tactic(auto, using(crate::proofs::Ruled::refused, crate::proofs::Ruled::reads, crate::proofs::Ruled::writes, crate::proofs::Ruled::missed, crate::proofs::Ruled::unchanged))]
 pub(crate) fn run_ruled<F: Files, R: Source, W: Sink>(
     alloc: Global,
@@ -27,8 +27,8 @@ pub(crate) fn run_ruled<F: Files, R: Source, W: Sink>(
     input: &mut R,
     output: &mut W,
 ) -> Result<(), Fault>
-    ensures done { OnOk result (RunsUnder (F.contents files.old) (F.contents files.new) name.now (rules_seen rules.entry)
-        (R.to_come input.old) (W.taken output.old) (W.taken output.new)) }
+    ensures done { OnOk result (RunsUnder (F.contents files.old) (F.contents files.new) name.now
+        (rules_seen rules.entry) (R.to_come input.old) (W.taken output.old) (W.taken output.new)) }
     ensures refused { IfErr result (RefusesUnder (F.contents files.old) (F.contents files.new) name.now
         (rules_seen rules.entry) (R.to_come input.old) (W.taken output.old) (W.taken output.new)) }
     ensures unchanged { is_some (rules_seen rules.entry).save ≡ false → F.contents files.new ≡ F.contents files.old }

@@ -27,7 +27,8 @@ pub record PlaysAndKeeps (rules : Rules) (image : Image) (first : Place) (files 
   pub kept : IsKept files files' save last
 
 -- it was written, and the place could not be kept
-pub record PlaysAndLoses (rules : Rules) (image : Image) (first : Place) (save : Option (List ℕ)) (input old new : Option (List ℕ)) (f : LoadFault) : Type 0 where
+pub record PlaysAndLoses (rules : Rules) (image : Image) (first : Place) (save : Option (List ℕ))
+    (input old new : Option (List ℕ)) (f : LoadFault) : Type 0 where
   pub out : List (List ℕ)
   pub last : Place
   pub plays : Plays rules image first input old new out Good last

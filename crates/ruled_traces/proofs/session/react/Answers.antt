@@ -14,6 +14,6 @@ returns-in_ok-write_line-in-Gives-clause-makes c =
     subst (Says c.args.rules c.args.program.now c.args.line.now) c.in-Gives.is c.in_ok-inputs.ensures in
     let reacts : Reacts c.args.room inputs c.args.place.control c.tick-control.result.0 c.tick-control.result.1 = search rules in
     let shown : c.write_line.new.line.items
-        ≡ tick_line c.next_number-ticks.result c.tick-control.result.1 (outputs_of c.args.interface.now c.tick-control.result.0.variables) = search rules in
+    ≡ tick_line c.next_number-ticks.result c.tick-control.result.1 (outputs_of c.args.interface.now c.tick-control.result.0.variables) = search rules in
     makes_tick c.args.rules c.args.room c.args.program.now c.args.interface.now c.args.place _ c.args.line.now inputs c.tick-control.result.1
     c.write_line.new.line.items c.requires.program c.requires.interface c.next_number-lines.ensures c.next_number-ticks.ensures says reacts shown
