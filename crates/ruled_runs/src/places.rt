@@ -65,8 +65,8 @@ pub(crate) fn keep_place<F: Files>(
     place: &Place,
 ) -> Result<(), LoadFault>
     ensures kept { OnOk result (IsKept (F.contents files.old) (F.contents files.new)
-        (option_map (λ name. name.now) save) place.now) }
-    ensures fault { IfErr result (IsNotKept (option_map (λ name. name.now) save)) }
+        (option_map (λ name. name.now) save.entry) place.now) }
+    ensures fault { IfErr result (IsNotKept (option_map (λ name. name.now) save.entry)) }
     ensures same { OnErr result (F.contents files.new ≡ F.contents files.old) }
     ensures none_missed { OnOk result (F.failures files.new ≡ F.failures files.old) }
     ensures missed { IfErr result (λ fault. F.failures files.new

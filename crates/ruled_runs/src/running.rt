@@ -42,9 +42,9 @@ fn play_and_keep<F: Files, R: Source, W: Sink>(
 ) -> Result<(), RunFault>
     requires rests { Rests image.now.program first.control }
     ensures done { OnOk result (PlaysAndKeeps rules image.now first (F.contents files.old) (F.contents files.new)
-        (option_map (λ name. name.now) save) (R.to_come input.old) (W.taken output.old) (W.taken output.new)) }
+        (option_map (λ name. name.now) save.entry) (R.to_come input.old) (W.taken output.old) (W.taken output.new)) }
     ensures refused { IfErr result (RefusesKeeping rules image.now first (F.contents files.old) (F.contents files.new)
-        (option_map (λ name. name.now) save) (R.to_come input.old) (W.taken output.old) (W.taken output.new)) }
+        (option_map (λ name. name.now) save.entry) (R.to_come input.old) (W.taken output.old) (W.taken output.new)) }
     ensures none_read { OnOk result (R.failures input.new ≡ R.failures input.old) }
     ensures read { IfErr result (λ fault. R.failures input.new ≡ R.failures input.old + reads_failed fault) }
     ensures end { IsNotReadBehind (R.progress input.old) (R.progress input.new) }
@@ -76,9 +76,9 @@ fn run_first<F: Files, R: Source, W: Sink>(
     output: &mut W,
 ) -> Result<(), RunFault>
     ensures done { OnOk result (RunsBy rules (F.contents files.old) (F.contents files.new) name.now None
-        (option_map (λ name. name.now) save) (R.to_come input.old) (W.taken output.old) (W.taken output.new)) }
+        (option_map (λ name. name.now) save.entry) (R.to_come input.old) (W.taken output.old) (W.taken output.new)) }
     ensures refused { IfErr result (RefusesRun rules (F.contents files.old) (F.contents files.new) name.now None
-        (option_map (λ name. name.now) save) (R.to_come input.old) (W.taken output.old) (W.taken output.new)) }
+        (option_map (λ name. name.now) save.entry) (R.to_come input.old) (W.taken output.old) (W.taken output.new)) }
     ensures none_read { OnOk result (R.failures input.new ≡ R.failures input.old) }
     ensures read { IfErr result (λ fault. R.failures input.new ≡ R.failures input.old + reads_failed fault) }
     ensures end { IsNotReadBehind (R.progress input.old) (R.progress input.new) }
@@ -110,10 +110,10 @@ fn run_on<F: Files, R: Source, W: Sink>(
     output: &mut W,
 ) -> Result<(), RunFault>
     ensures done { OnOk result (RunsBy rules (F.contents files.old) (F.contents files.new) name.now
-        (Some from.now) (option_map (λ name. name.now) save)
+        (Some from.now) (option_map (λ name. name.now) save.entry)
         (R.to_come input.old) (W.taken output.old) (W.taken output.new)) }
     ensures refused { IfErr result (RefusesRun rules (F.contents files.old) (F.contents files.new) name.now
-        (Some from.now) (option_map (λ name. name.now) save)
+        (Some from.now) (option_map (λ name. name.now) save.entry)
         (R.to_come input.old) (W.taken output.old) (W.taken output.new)) }
     ensures none_read { OnOk result (R.failures input.new ≡ R.failures input.old) }
     ensures read { IfErr result (λ fault. R.failures input.new ≡ R.failures input.old + reads_failed fault) }
@@ -148,11 +148,11 @@ pub fn run_by<F: Files, R: Source, W: Sink>(
     input: &mut R,
     output: &mut W,
 ) -> Result<(), RunFault>
-    ensures done { OnOk result (RunsBy rules (F.contents files.old) (F.contents files.new) names.image.now
-        (option_map (λ name. name.now) names.from) (option_map (λ name. name.now) names.save)
+    ensures done { OnOk result (RunsBy rules (F.contents files.old) (F.contents files.new) names.entry.image.now
+        (option_map (λ name. name.now) names.entry.from) (option_map (λ name. name.now) names.entry.save)
         (R.to_come input.old) (W.taken output.old) (W.taken output.new)) }
-    ensures refused { IfErr result (RefusesRun rules (F.contents files.old) (F.contents files.new) names.image.now
-        (option_map (λ name. name.now) names.from) (option_map (λ name. name.now) names.save)
+    ensures refused { IfErr result (RefusesRun rules (F.contents files.old) (F.contents files.new) names.entry.image.now
+        (option_map (λ name. name.now) names.entry.from) (option_map (λ name. name.now) names.entry.save)
         (R.to_come input.old) (W.taken output.old) (W.taken output.new)) }
     ensures none_read { OnOk result (R.failures input.new ≡ R.failures input.old) }
     ensures read { IfErr result (λ fault. R.failures input.new ≡ R.failures input.old + reads_failed fault) }
