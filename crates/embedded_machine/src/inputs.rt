@@ -14,10 +14,7 @@ use std::alloc::{AllocError, Global};
 use tick_core::Inputs;
 
 /// A place for each of the inputs among variables. Err: memory was refused.
-pub(crate) fn room_for_inputs(
-    alloc: Global,
-    variables: &[Variable],
-) -> Result<Inputs, AllocError>
+pub(crate) fn room_for_inputs(alloc: Global, variables: &[Variable]) -> Result<Inputs, AllocError>
     ensures { IfOk result (λ inputs. length inputs ≡ count_inputs variables.now) }
 {
     let mut inputs = Items::new(alloc);
