@@ -16,7 +16,7 @@ _sct() {
       compile) options='--warn --explain --help' ;;
       list) options='--source --json --chart --explain --help' ;;
       test) options='--write --help' ;;
-      run) options='--workers --chart --explain --help' ;;
+      run) options='--workers --chart --strict --skip-bad-lines --from --save --explain --help' ;;
     esac
     mapfile -t COMPREPLY < <(compgen -W "$options" -- "$word")
     return
@@ -28,6 +28,7 @@ _sct() {
   esac
   [[ $before == --source ]] && ending='*.@(chart|scl)'
   [[ $before == --chart ]] && ending='*.chart'
+  [[ $before == --from || $before == --save ]] && ending='*'
   [[ $command == compile && $COMP_CWORD -gt 2 ]] && ending='*.image'
   mapfile -t COMPREPLY < <(shopt -s extglob; compgen -f -X "!$ending" -- "$word"; compgen -d -- "$word")
   compopt -o filenames 2> /dev/null

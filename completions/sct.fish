@@ -26,3 +26,7 @@ complete -c sct -n '__fish_seen_subcommand_from list' -l json -d 'Print a line o
 complete -c sct -n '__fish_seen_subcommand_from list' -l chart -r -F -d 'The chart whose states are told'
 complete -c sct -n '__fish_seen_subcommand_from run' -l workers -x -a '1 2 3 4 5 6 7 8' -d 'How many threads serve'
 complete -c sct -n '__fish_seen_subcommand_from run' -l chart -r -F -d 'The chart whose active states are told'
+complete -c sct -n '__fish_seen_subcommand_from run' -l strict -d 'Each line has to name every input'
+complete -c sct -n '__fish_seen_subcommand_from run' -l skip-bad-lines -d 'A line that gives no inputs is answered and passed over'
+complete -c sct -n '__fish_seen_subcommand_from run' -l from -r -F -d 'The file of the place where it begins'
+complete -c sct -n '__fish_seen_subcommand_from run' -l save -r -F -d 'The file to which the place goes where it ends'

@@ -3,6 +3,7 @@
     import sct
 
     with sct.Machine.of_text(open("examples/abro.chart").read()) as abro:
+        abro.react()  # the first tick enters the chart
         abro.react(A=True)
         assert abro.react(B=True)["O"] is True
 

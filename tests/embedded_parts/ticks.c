@@ -1,5 +1,5 @@
 /* ticks IMAGE COUNT: so many ticks of an image, under inputs that change, and then how many ns a tick took, how often memory
- * was asked for in the ticks, and by how many kB the program grew behind the first tenth of them. */
+ * was asked for in the ticks, and by how many kB the program's own memory grew behind the first tenth of them. */
 #include <sct.h>
 
 #include "../../lib/heap.h"
@@ -29,14 +29,17 @@ struct rattle_tried rattle_realloc(void *at, size_t old_size, size_t size, size_
 
 void rattle_dealloc(void *at) { free(at); }
 
-/* How many kB of memory the program has. */
-static long resident(void) {
-  long size = 0, pages = 0;
-  FILE *file = fopen("/proc/self/statm", "r");
-  if (file == NULL) return 0;
-  if (fscanf(file, "%ld %ld", &size, &pages) != 2) pages = 0;
+/* How many kB of memory the program has for itself, -1 where the system does not tell. Pages of files do not count: of its own
+ * code and of the C library's the system brings in 64 kB at a time, whenever it comes to them. */
+static long own_memory(void) {
+  char line[256];
+  long size = -1;
+  FILE *file = fopen("/proc/self/smaps_rollup", "r");
+  if (file == NULL) return -1;
+  while (fgets(line, sizeof line, file) != NULL)
+    if (sscanf(line, "Anonymous: %ld", &size) == 1) break;
   fclose(file);
-  return pages * 4;
+  return size;
 }
 
 /* Gives each input a value. */
@@ -66,15 +69,16 @@ int main(int count, char **words) {
   length = fread(image, 1, sizeof image, file);
   fclose(file);
   if (sct_open(image, length, &machine, NULL) != SCT_OK) return 1;
+  own_memory(); /* what reading takes is there from now on */
   requests = 0;
   begun = clock();
   for (tick = 0; tick < ticks; tick++) {
     word = word * 1664525u + 1013904223u;
-    if (tick == ticks / 10) before = resident();
+    if (tick == ticks / 10) before = own_memory();
     if (give(machine, word) != SCT_OK || sct_react(machine, NULL) != SCT_OK) return 1;
   }
   printf("%.0f ns a tick, %ld requests for memory, grown by %ld kB\n", (double)(clock() - begun) / CLOCKS_PER_SEC * 1e9 / (double)ticks,
-         requests, resident() - before);
+         requests, own_memory() - before);
   sct_close(machine);
   return 0;
 }

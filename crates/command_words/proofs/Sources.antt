@@ -1,11 +1,11 @@
--- What an option says in one word: the source of `--source=FILE`, the chart of `--chart=FILE`.
+-- What an option says in one word: the source of `--source=FILE`, the chart of `--chart=FILE`, the files of `--from=FILE` and `--save=FILE`.
 use Rattle.std.proofs.Common.{◌≡◌, ◌∙◌, ℕ, List, true, false, refl, sym, ap, subst, codes, drop, length, if◌then◌else◌, Option, Some, None}
 use Rattle.std.specs.Prelude.{option_map, MatchOption, nat_eq}
 use Rattle.std.specs.List.{starts_with}
 use Rattle.std.specs.Str.{IsCharBoundary}
 use Rattle.std.specs.Str.Pattern.{FindsTextPrefix, LacksTextAt, StripsPrefix}
 use Rattle.std.proofs.lemmas.Str.Pattern.{starts_text}
-use Rattle.command_words.specs.Said.{chart_in, source_in}
+use Rattle.command_words.specs.Said.{chart_in, from_in, save_in, source_in}
 use denote.Ref.{Bor}
 
 -- what stands behind an option
@@ -43,3 +43,19 @@ pub chart_said : (word : List ℕ) (r : Option (Bor (List ℕ)))
     → MatchOption r (FindsTextPrefix chart_option word None) (λ x. StripsPrefix (FindsTextPrefix chart_option) word x.now)
     → option_map (λ s. s.now) r ≡ chart_in word
 chart_said word r finds = stripped chart_option word r finds
+
+abbrev from_option : List ℕ
+from_option = codes "--from="
+
+abbrev save_option : List ℕ
+save_option = codes "--save="
+
+pub from_said : (word : List ℕ) (r : Option (Bor (List ℕ)))
+    → MatchOption r (FindsTextPrefix from_option word None) (λ x. StripsPrefix (FindsTextPrefix from_option) word x.now)
+    → option_map (λ s. s.now) r ≡ from_in word
+from_said word r finds = stripped from_option word r finds
+
+pub save_said : (word : List ℕ) (r : Option (Bor (List ℕ)))
+    → MatchOption r (FindsTextPrefix save_option word None) (λ x. StripsPrefix (FindsTextPrefix save_option) word x.now)
+    → option_map (λ s. s.now) r ≡ save_in word
+save_said word r finds = stripped save_option word r finds

@@ -1,9 +1,9 @@
 -- What the words of a command ask for.
-use Rattle.std.specs.Prelude.{ℕ, ◌≡◌, Bool, true, false, not, ◌&&◌, option_map, if◌then◌else◌, codes, map, string_bytes, unwrap_or, Option, Some, None, List}
-use Rattle.std.specs.Prelude.{[], ◌∷◌}
+use Rattle.std.specs.Prelude.{ℕ, ◌≡◌, Bool, true, false, not, ◌&&◌, ◌||◌, is_some, option_map, if◌then◌else◌, codes, map, string_bytes}
+use Rattle.std.specs.Prelude.{unwrap_or, Option, Some, None, List, [], ◌∷◌}
 use Rattle.std.specs.Option.{option_and_then}
 use Rattle.std.specs.Str.{bytes_eq}
-use Rattle.command_words.specs.Said.{Names, NoName, One, Two, Said, is_option, said_by}
+use Rattle.command_words.specs.Said.{Names, NoName, One, Two, Rules, Said, is_option, rules_seen, said_by}
 use Rattle.command_words.specs.declared.arguments.Request.{Request as Words}
 use Rattle.command_words.specs.declared.arguments.Request.TheVariants as words
 use Rattle.command_words.specs.declared.arguments.Wanted.{Wanted as WantedWords}
@@ -20,11 +20,12 @@ pub data Wanted : Type 0 where
   Drawing : (name : List ℕ) → Wanted
   Migrated : (from : List ℕ) → Wanted
 
--- a request, with the name of a file or of two, or of several; a run by so many workers
+-- a request, with the name of a file or of two, or of several; a run by so many workers, or by rules
 pub data Request : Type 0 where
   Write : Wanted → Request
   Run : (name : List ℕ) (workers : ℕ) → Request
   RunWithStates : (name chart : List ℕ) → Request
+  RunBy : (name : List ℕ) (rules : Rules) → Request
   Compile : (from to : List ℕ) → Request
   WriteCompiled : (from : List ℕ) → Request
   Print : (name : List ℕ) → Request
@@ -48,6 +49,7 @@ abbrev pub seen : Words → Request
 seen (words.Write asked) = Write (wanted_seen asked)
 seen (words.Run name workers) = Run name.now workers.number
 seen (words.RunWithStates name chart) = RunWithStates name.now chart.now
+seen (words.RunBy name rules) = RunBy name.now (rules_seen rules)
 seen (words.Compile from to) = Compile from.now to.now
 seen (words.WriteCompiled from) = WriteCompiled from.now
 seen (words.Print name) = Print name.now
@@ -65,6 +67,11 @@ abbrev pub run_of : Option ℕ → Option (List ℕ) → Option (List ℕ) → N
 run_of workers None None (One name) = Some (Run name (unwrap_or workers usual_workers))
 run_of None None (Some chart) (One name) = Some (RunWithStates name chart)
 run_of workers source chart names = None
+
+-- a run of one file by rules
+abbrev pub ruled_of : Option ℕ → Option (List ℕ) → Option (List ℕ) → Rules → Names → Option Request
+ruled_of None None None rules (One name) = Some (RunBy name rules)
+ruled_of workers source chart rules names = None
 
 -- a listing of one file, with a source or without
 abbrev pub list_of : Option ℕ → Option (List ℕ) → Option (List ℕ) → Names → Option Request
@@ -117,10 +124,22 @@ text_by verb s =
     else if bytes_eq verb (codes "list") then list_of s.workers s.source s.chart s.names
     else asked_plainly verb s.workers s.source s.chart s.names
 
+-- rules are said
+abbrev pub has_rules : Rules → Bool
+has_rules r = r.strict || r.skips || is_some r.from || is_some r.save
+
+-- what it asks for by rules: a run alone has some
+abbrev pub ruled_by : List ℕ → Said → Option Request
+ruled_by verb s =
+    if s.json then None
+    else if bytes_eq verb (codes "run") then ruled_of s.workers s.source s.chart s.rules s.names
+    else None
+
 -- what a verb asks for with what is said behind it; a compilation alone is warned of
 abbrev pub request_by : List ℕ → Said → Option Request
 request_by verb s =
     if s.warns && not (bytes_eq verb (codes "compile")) then None
+    else if has_rules s.rules then ruled_by verb s
     else if s.json then json_by verb s
     else text_by verb s
 
@@ -160,12 +179,15 @@ warns (verb ∷ words) =
 abbrev pub IsRun : Option Request → Type 0
 IsRun (Some (Run name workers)) = Unit {0}
 IsRun (Some (RunWithStates name chart)) = Unit {0}
+IsRun (Some (RunBy name rules)) = Unit {0}
 IsRun (Some (Simulate name)) = Unit {0}
 IsRun request = ⊥
 
--- files are to be written: an image, by compiling or by migration, or traces that are missing
+-- files are to be written: an image, by compiling or by migration, the place where a run ends, or traces that are
+-- missing
 abbrev pub WritesFiles : Option Request → Type 0
 WritesFiles (Some (Compile from to)) = Unit {0}
 WritesFiles (Some (Migrate from to)) = Unit {0}
+WritesFiles (Some (RunBy name rules)) = is_some rules.save ≡ true
 WritesFiles (Some (Test writes names)) = writes ≡ true
 WritesFiles request = ⊥

@@ -8,6 +8,7 @@ use Rattle.command_words.specs.declared.said.Names.{Names as GivenNames}
 use Rattle.command_words.specs.declared.said.Names.TheVariants as given
 use Rattle.command_words.specs.declared.said.Next.{Next}
 use Rattle.command_words.specs.declared.said.Next.TheVariants as next
+use Rattle.command_words.specs.declared.run_rules.RunRules.{RunRules as GivenRules}
 use Rattle.command_words.specs.declared.said.Said.{Said as GivenSaid}
 
 -- the names of files: no command has more than two
@@ -15,6 +16,14 @@ pub data Names : Type 0 where
   NoName : Names
   One : List ℕ → Names
   Two : (first second : List ℕ) → Names
+
+-- what is asked of a run: that each line names every input, that lines that give no inputs are passed over, in which file
+-- it begins, and in which the place is kept where it ends
+pub record Rules : Type 0 where
+  pub strict : Bool
+  pub skips : Bool
+  pub from : Option (List ℕ)
+  pub save : Option (List ℕ)
 
 -- what was said so far, and for what the next word is taken: for an option or a name, for the value of an option, or,
 -- behind a `--`, for a name whatever it begins with
@@ -26,12 +35,21 @@ pub record Said : Type 0 where
   pub explains : Bool
   pub json : Bool
   pub warns : Bool
+  pub rules : Rules
   pub names : Names
 
 abbrev pub names_seen : GivenNames → Names
 names_seen given.None = NoName
 names_seen (given.One name) = One name.now
 names_seen (given.Two first second) = Two first.now second.now
+
+abbrev pub rules_seen : GivenRules → Rules
+rules_seen r = record {
+  strict = r.strict;
+  skips = r.skips;
+  from = option_map (λ name. name.now) r.from;
+  save = option_map (λ name. name.now) r.save;
+}
 
 abbrev pub said_seen : GivenSaid → Said
 said_seen s = record {
@@ -42,11 +60,25 @@ said_seen s = record {
   explains = s.explains;
   json = s.json;
   warns = s.warns;
+  rules = rules_seen s.rules;
   names = names_seen s.names;
 }
 
+abbrev pub no_rules : Rules
+no_rules = record { strict = false; skips = false; from = None; save = None }
+
 abbrev pub start : Said
-start = record { next = next.Any; workers = None; source = None; chart = None; explains = false; json = false; warns = false; names = NoName }
+start = record {
+  next = next.Any;
+  workers = None;
+  source = None;
+  chart = None;
+  explains = false;
+  json = false;
+  warns = false;
+  rules = no_rules;
+  names = NoName;
+}
 
 abbrev pub hyphen : ℕ
 hyphen = 45
@@ -73,6 +105,14 @@ source_in word = if starts_with nat_eq word (codes "--source=") then Some (drop 
 abbrev pub chart_in : List ℕ → Option (List ℕ)
 chart_in word = if starts_with nat_eq word (codes "--chart=") then Some (drop 8 word) else None
 
+-- the file that `--from=FILE` says
+abbrev pub from_in : List ℕ → Option (List ℕ)
+from_in word = if starts_with nat_eq word (codes "--from=") then Some (drop 7 word) else None
+
+-- the file that `--save=FILE` says
+abbrev pub save_in : List ℕ → Option (List ℕ)
+save_in word = if starts_with nat_eq word (codes "--save=") then Some (drop 7 word) else None
+
 abbrev pub with_name : Names → List ℕ → Option Names
 with_name NoName name = Some (One name)
 with_name (One first) name = Some (Two first name)
@@ -97,13 +137,40 @@ in_json s = if s.json then None else Some (record s { json = true })
 abbrev pub warned : Said → Option Said
 warned s = if s.warns then None else Some (record s { warns = true })
 
+abbrev pub strictly : Rules → Option Rules
+strictly r = if r.strict then None else Some (record r { strict = true })
+
+abbrev pub skipping : Rules → Option Rules
+skipping r = if r.skips then None else Some (record r { skips = true })
+
+abbrev pub begun_in : Rules → List ℕ → Option Rules
+begun_in r name = if is_some r.from then None else Some (record r { from = Some name })
+
+abbrev pub kept_in : Rules → List ℕ → Option Rules
+kept_in r name = if is_some r.save then None else Some (record r { save = Some name })
+
+abbrev pub ruled : Said → Option Rules → Option Said
+ruled s rules = option_map (λ r. record s { next = next.Any; rules = r }) rules
+
 abbrev pub named : Said → List ℕ → Option Said
 named s name = option_map (λ names. record s { names = names }) (with_name s.names name)
 
--- an option with its value in one word: a source, else a chart; or a number of workers, else a file
+-- an option with its value in one word: a source, else a chart, else where a run begins, else where it is kept; or a number
+-- of workers, else a file
+abbrev pub by_begin : Said → List ℕ → Option (List ℕ) → Option Said
+by_begin s word (Some name) = ruled s (begun_in s.rules name)
+by_begin s word None = option_and_then (λ name. ruled s (kept_in s.rules name)) (save_in word)
+
+abbrev pub by_rule : Said → List ℕ → Option Said
+by_rule s word = by_begin s word (from_in word)
+
+abbrev pub by_chart : Said → List ℕ → Option (List ℕ) → Option Said
+by_chart s word (Some chart) = with_chart s chart
+by_chart s word None = by_rule s word
+
 abbrev pub by_source : Said → List ℕ → Option (List ℕ) → Option Said
 by_source s word (Some source) = with_source s source
-by_source s word None = option_and_then (with_chart s) (chart_in word)
+by_source s word None = by_chart s word (chart_in word)
 
 abbrev pub by_file : Said → List ℕ → Option Said
 by_file s word = by_source s word (source_in word)
@@ -122,6 +189,10 @@ opened s word =
     else if bytes_eq word (codes "--workers") then Some (record s { next = next.Number })
     else if bytes_eq word (codes "--source") then Some (record s { next = next.Source })
     else if bytes_eq word (codes "--chart") then Some (record s { next = next.Chart })
+    else if bytes_eq word (codes "--from") then Some (record s { next = next.From })
+    else if bytes_eq word (codes "--save") then Some (record s { next = next.Save })
+    else if bytes_eq word (codes "--strict") then ruled s (strictly s.rules)
+    else if bytes_eq word (codes "--skip-bad-lines") then ruled s (skipping s.rules)
     else if bytes_eq word (codes "--explain") then explained s
     else if bytes_eq word (codes "--json") then in_json s
     else if bytes_eq word (codes "--warn") then warned s
@@ -133,6 +204,8 @@ taken_for next.Any s word = opened s word
 taken_for next.Number s word = option_and_then (with_workers s) (workers_named word)
 taken_for next.Source s word = if is_option word then None else with_source s word
 taken_for next.Chart s word = if is_option word then None else with_chart s word
+taken_for next.From s word = if is_option word then None else ruled s (begun_in s.rules word)
+taken_for next.Save s word = if is_option word then None else ruled s (kept_in s.rules word)
 taken_for next.Name s word = named s word
 
 -- one more word

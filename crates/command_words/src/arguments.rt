@@ -3,10 +3,12 @@
 ghost use Rattle.std.specs.Prelude.{◌≡◌, Some, None, IfOk, IfSome, OnErr, map, option_map, string_bytes};
 ghost use Rattle.command_words.specs.Request.{seen, asked, asked_plainly, list_of, request_by, request_of, run_of};
 ghost use Rattle.command_words.specs.Request.{are_names, compile_to, explains, json_by, json_of, migrate_to, test_of};
-ghost use Rattle.command_words.specs.Request.{tests_of, text_by, warns};
+ghost use Rattle.command_words.specs.Request.{tests_of};
+ghost use Rattle.command_words.specs.Request.{ruled_by, ruled_of, text_by, warns};
 ghost use Rattle.command_words.specs.Said.{names_seen, said_seen};
 ghost use Rattle.command_words.specs.declared.arguments.Unread.TheVariants.{Memory};
 
+use crate::run_rules::RunRules;
 use crate::said::{Names, Said, is_option};
 use crate::verbs::sct_command;
 use crate::workers::Workers;
@@ -47,6 +49,8 @@ pub enum Request<'a> {
     Run(&'a str, Workers),
     /// Run it, and tell in each line which states are active of the chart in the second file.
     RunWithStates(&'a str, &'a str),
+    /// Run the image in this file by the caller's thread, by these rules.
+    RunBy(&'a str, RunRules<'a>),
     /// Write the image of the chart or SCL text in the first file to the second.
     Compile(&'a str, &'a str),
     /// Write the image of the chart or SCL text in this file to the output.
@@ -115,6 +119,17 @@ fn run_of<'a>(said: &Said<'a>) -> Option<Request<'a>>
             Some(Request::Run(name, workers.unwrap_or(USUAL_WORKERS)))
         }
         (None, None, Some(chart), Names::One(name)) => Some(Request::RunWithStates(name, chart)),
+        _ => None,
+    }
+}
+
+// A run of one file by rules.
+fn ruled_of<'a>(said: &Said<'a>) -> Option<Request<'a>>
+    ensures { option_map seen result ≡ ruled_of (said_seen said.now).workers (said_seen said.now).source
+        (said_seen said.now).chart (said_seen said.now).rules (said_seen said.now).names }
+{
+    match (said.workers, said.source, said.chart, said.names) {
+        (None, None, None, Names::One(name)) => Some(Request::RunBy(name, said.rules)),
         _ => None,
     }
 }
@@ -216,6 +231,19 @@ fn text_by<'a>(verb: &str, said: &Said<'a>) -> Option<Request<'a>>
     }
 }
 
+// What a verb asks for by rules.
+fn ruled_by<'a>(verb: &str, said: &Said<'a>) -> Option<Request<'a>>
+    ensures { option_map seen result ≡ ruled_by verb.now (said_seen said.now) }
+{
+    if said.json {
+        return None;
+    }
+    match verb {
+        "run" => ruled_of(said),
+        _ => None,
+    }
+}
+
 // What a verb asks for with what is said behind it.
 fn request_by<'a>(verb: &str, said: &Said<'a>) -> Option<Request<'a>>
     ensures { option_map seen result ≡ request_by verb.now (said_seen said.now) }
@@ -223,7 +251,9 @@ fn request_by<'a>(verb: &str, said: &Said<'a>) -> Option<Request<'a>>
     if said.warns && verb != "compile" {
         return None;
     }
-    if said.json {
+    if said.rules.are_said() {
+        ruled_by(verb, said)
+    } else if said.json {
         json_by(verb, said)
     } else {
         text_by(verb, said)

@@ -2,9 +2,12 @@
 #![tactic(auto)]
 
 mod arguments;
+mod run_rules;
+mod run_verb;
 mod said;
 mod verbs;
 mod workers;
 
 pub use arguments::{Asking, Request, Unread, Wanted, read_words};
+pub use run_rules::RunRules;
 pub use workers::Workers;

@@ -4,8 +4,10 @@ ghost use Rattle.std.specs.Prelude.{◌≡◌, map, option_map, string_bytes};
 ghost use Rattle.command_words.specs.Said.{chart_in, names_seen, said_seen, source_in, step, workers_in, workers_named};
 ghost use Rattle.command_words.specs.Said.{by_file, ended, opened, read_on, said_by, start, valued, with_name};
 ghost use Rattle.command_words.specs.Said.{explained, in_json, is_option, named, warned};
+ghost use Rattle.command_words.specs.Said.{by_rule, from_in, ruled, rules_seen, save_in};
 ghost use Rattle.command_words.specs.Said.{with_chart, with_source, with_workers};
 
+use crate::run_rules::RunRules;
 use crate::workers::Workers;
 
 /// The names of files: no command has more than two.
@@ -27,6 +29,10 @@ pub(crate) enum Next {
     Source,
     /// The name of a chart.
     Chart,
+    /// The name of the file that has the place where a run begins.
+    From,
+    /// The name of the file to which the place goes where it ends.
+    Save,
     /// A name, whatever it begins with: a `--` stood before.
     Name,
 }
@@ -47,6 +53,8 @@ pub(crate) struct Said<'a> {
     pub(crate) json: bool,
     /// Whether warnings are wanted.
     pub(crate) warns: bool,
+    /// What is asked of a run.
+    pub(crate) rules: RunRules<'a>,
     /// The files.
     pub(crate) names: Names<'a>,
 }
@@ -96,6 +104,22 @@ fn chart_in(word: &str) -> Option<&str>
     word.strip_prefix("--chart=")
 }
 
+// The file that an option says in one word, in which a run begins.
+#[tactic(auto, using(crate::proofs::Sources::from_said))]
+fn from_in(word: &str) -> Option<&str>
+    ensures { option_map (λ s. s.now) result ≡ from_in word.now }
+{
+    word.strip_prefix("--from=")
+}
+
+// The file that an option says in one word, to which its place goes.
+#[tactic(auto, using(crate::proofs::Sources::save_said))]
+fn save_in(word: &str) -> Option<&str>
+    ensures { option_map (λ s. s.now) result ≡ save_in word.now }
+{
+    word.strip_prefix("--save=")
+}
+
 // One more name.
 fn with_name<'a>(names: Names<'a>, name: &'a str) -> Option<Names<'a>>
     ensures { option_map names_seen result ≡ with_name (names_seen names.entry) name.now }
@@ -120,6 +144,7 @@ impl<'a> Said<'a> {
             explains: false,
             json: false,
             warns: false,
+            rules: RunRules::none(),
             names: Names::None,
         }
     }
@@ -215,13 +240,38 @@ impl<'a> Said<'a> {
         Some(said)
     }
 
+    // With these rules of a run, where they can be said.
+    fn ruled(self, rules: Option<RunRules<'a>>) -> Option<Said<'a>>
+        ensures { option_map said_seen result
+            ≡ ruled (said_seen self.entry) (option_map rules_seen rules.entry) }
+    {
+        let rules = rules?;
+        let mut said = self;
+        said.next = Next::Any;
+        said.rules = rules;
+        Some(said)
+    }
+
+    // With an option that says in the same word where a run begins or is kept.
+    fn by_rule(self, word: &'a str) -> Option<Said<'a>>
+        ensures { option_map said_seen result ≡ by_rule (said_seen self.entry) word.now }
+    {
+        match from_in(word) {
+            Some(name) => self.ruled(self.rules.begun_in(name)),
+            None => self.ruled(self.rules.kept_in(save_in(word)?)),
+        }
+    }
+
     // With an option that says a file in the same word.
     fn by_file(self, word: &'a str) -> Option<Said<'a>>
         ensures { option_map said_seen result ≡ by_file (said_seen self.entry) word.now }
     {
         match source_in(word) {
             Some(source) => self.with_source(source),
-            None => self.with_chart(chart_in(word)?),
+            None => match chart_in(word) {
+                Some(chart) => self.with_chart(chart),
+                None => self.by_rule(word),
+            },
         }
     }
 
@@ -253,6 +303,10 @@ impl<'a> Said<'a> {
             "--workers" => Some(self.awaits(Next::Number)),
             "--source" => Some(self.awaits(Next::Source)),
             "--chart" => Some(self.awaits(Next::Chart)),
+            "--from" => Some(self.awaits(Next::From)),
+            "--save" => Some(self.awaits(Next::Save)),
+            "--strict" => self.ruled(self.rules.strictly()),
+            "--skip-bad-lines" => self.ruled(self.rules.skipping()),
             "--explain" => self.explained(),
             "--json" => self.in_json(),
             "--warn" => self.warned(),
@@ -268,9 +322,11 @@ impl<'a> Said<'a> {
         match self.next {
             Next::Any => self.opened(word),
             Next::Number => self.with_workers(workers_named(word.as_bytes())?),
-            Next::Source | Next::Chart if is_option(word) => None,
+            Next::Source | Next::Chart | Next::From | Next::Save if is_option(word) => None,
             Next::Source => self.with_source(word),
             Next::Chart => self.with_chart(word),
+            Next::From => self.ruled(self.rules.begun_in(word)),
+            Next::Save => self.ruled(self.rules.kept_in(word)),
             Next::Name => self.named(word),
         }
     }
@@ -281,7 +337,7 @@ impl<'a> Said<'a> {
     {
         match self.next {
             Next::Any | Next::Name => Some(self),
-            Next::Number | Next::Source | Next::Chart => None,
+            Next::Number | Next::Source | Next::Chart | Next::From | Next::Save => None,
         }
     }
 

@@ -1,5 +1,6 @@
 //! The verbs, with their help, as the library of command lines knows them. It is asked where words ask for nothing.
 
+use crate::run_verb::run_command;
 use clap::{Arg, ArgAction, Command};
 use std::alloc::{AllocError, Global};
 
@@ -34,9 +35,6 @@ const VERBS: [Verb; 11] = [
     Verb::Migrate,
 ];
 
-// What can be said of workers.
-const WORKERS: &[&str] = &["1", "2", "3", "4", "5", "6", "7", "8"];
-
 const EXAMPLE: &str = r#"Examples:
   sct compile examples/abro.scl abro.image
   sct run examples/two_threads.image < examples/two_threads.ticks"#;
@@ -50,24 +48,6 @@ const LIST_EXAMPLES: &str = r#"Examples:
   sct list examples/two_threads.image
   sct list examples/two_threads.image --json
   sct list abro.image --json --chart examples/abro.chart"#;
-
-// What a run reads and prints, and how it ends.
-const RUN_HELP: &str = r#"Input, a line for each tick (an input that is not named is false, or 0):
-  {"left":true,"level":7}
-
-Output, a line for each:
-  {"out":{"x":1,"y":1},"steps":7,"tick":1}
-
-With --chart:
-  {"out":{"x":1,"y":1},"steps":7,"tick":1,"states":["Main.Run"]}
-
-Status:
-  0  the whole input was played
-  1  it was not: a line on standard error, such as `sct: E51 line 2`, says why
-  2  these words ask for nothing
-
-Example:
-  sct run examples/two_threads.image < examples/two_threads.ticks"#;
 
 // What is typed where ticks are played by hand.
 const SIMULATE_HELP: &str = r#"Each line is a tick, or says what to do:
@@ -120,8 +100,8 @@ fn source_name<'a>(alloc: Global) -> Arg<'a> {
     )
 }
 
-// The operand that is an image.
-fn image_name<'a>(alloc: Global) -> Arg<'a> {
+/// The operand that is an image.
+pub(crate) fn image_name<'a>(alloc: Global) -> Arg<'a> {
     file_name(alloc, "image", "IMAGE", "The file of the image")
 }
 
@@ -258,31 +238,6 @@ fn simulate_command<'a>(alloc: Global) -> Result<Command<'a>, AllocError> {
         SIMULATE_HELP,
         source_name(alloc),
     )
-}
-
-// The command that plays.
-fn run_command<'a>(alloc: Global) -> Result<Command<'a>, AllocError> {
-    let workers = Arg::new(alloc, "workers")
-        .long("workers")
-        .value_name("N")
-        .help("How many threads serve, from 1 to 8: the trace is the same for each")
-        .value_parser(WORKERS)
-        .hide_possible_values(true)
-        .default_value("2");
-    let chart = Arg::new(alloc, "chart")
-        .long("chart")
-        .value_name("FILE")
-        .help(
-            "The chart that it was compiled from: each line tells the active states too, and one thread serves",
-        )
-        .action(ArgAction::Set)
-        .conflicts_with("workers")?;
-    Command::new(alloc, "run")
-        .about("Plays standard input to standard output, a tick for each line")
-        .after_help(RUN_HELP)
-        .arg(image_name(alloc))?
-        .arg(workers)?
-        .arg(chart)
 }
 
 // The command over two files.

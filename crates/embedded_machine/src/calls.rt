@@ -64,8 +64,8 @@ fn hold(alloc: Global, handle: &mut MachineHandle, boxed: Box<Machine>)
 }
 
 /// One tick of the machine behind a handle, by the inputs in cells, whose values go into cells; how many steps it
-/// took. Err: there is none; or there are not as many cells as variables, or one of an input holds no value of its
-/// kind; or memory was refused. Nothing has changed then.
+/// took. It takes no memory. Err: there is none; or there are not as many cells as variables, or one of an input holds
+/// no value of its kind. Nothing has changed then.
 pub fn react(
     alloc: Global,
     handle: &mut MachineHandle,
@@ -75,15 +75,14 @@ pub fn react(
     ensures ticked { IfOk result (λ steps.
         TickedHeld inputs.now values.new steps handle.old.machine handle.new.machine) }
     ensures asked { OnOk result (Holds handle.old.machine (AreForTick inputs.now values.old)) }
-    ensures lacks { IfErr result
-        (HeldLacksOrMemory (AreForTick inputs.now values.old) fault.Input handle.old.machine) }
+    ensures lacks { IfErr result (HeldLacks (AreForTick inputs.now values.old) fault.Input handle.old.machine) }
     ensures same { OnErr result (handle.new.machine ≡ handle.old.machine) }
     ensures values { OnErr result (values.new ≡ values.old) }
 {
     let taken = mem::replace(handle, MachineHandle::empty());
     match taken.into_box(alloc) {
         Some(mut boxed) => {
-            let result = react_shown(alloc, boxed.as_mut(), inputs, values);
+            let result = react_shown(boxed.as_mut(), inputs, values);
             hold(alloc, handle, boxed);
             result
         }
@@ -93,7 +92,6 @@ pub fn react(
 
 // One tick of a machine, whose values go into cells.
 fn react_shown(
-    alloc: Global,
     machine: &mut Machine,
     inputs: &[i32],
     values: &mut [i32],
@@ -101,14 +99,14 @@ fn react_shown(
     ensures ticked { IfOk result (λ steps.
         Ticked inputs.now steps machine.old machine.new × ShowValues values.new machine.new) }
     ensures asked { OnOk result (AreForTick inputs.now values.old machine.old) }
-    ensures lacks { IfErr result (LacksOrMemory (AreForTick inputs.now values.old machine.old) fault.Input) }
+    ensures lacks { IfErr result (Lacks (AreForTick inputs.now values.old machine.old) fault.Input) }
     ensures same { OnErr result (machine.new ≡ machine.old) }
     ensures values { OnErr result (values.new ≡ values.old) }
 {
     if values.len() != machine.variable_count() {
         return Err(MachineFault::Input);
     }
-    let steps = machine.react(alloc, inputs)?;
+    let steps = machine.react(inputs)?;
     put_values(machine.control().variables.as_slice(), values);
     Ok(steps)
 }

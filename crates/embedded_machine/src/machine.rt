@@ -4,49 +4,49 @@ ghost use Rattle.std.specs.Prelude.{◌≡◌, IfErr, IfOk, IsTrue, OnErr, OnOk,
 ghost use Rattle.sc_graph.specs.Tick.{AreAccepted, Rests, initial};
 ghost use Rattle.tick_core.specs.Parked.{IsSpaceOf};
 ghost use Rattle.embedded_machine.specs.Cells.{inputs_in};
-ghost use Rattle.embedded_machine.specs.Refusals.{LacksOrMemory, give_inputs};
+ghost use Rattle.embedded_machine.specs.Refusals.{Lacks, give_inputs};
 ghost use Rattle.embedded_machine.specs.declared.fault.MachineFault.TheVariants as fault;
 ghost use Rattle.embedded_machine.specs.Ticks.{IsFirst, Reacts, Ticked};
 
 use crate::fault::MachineFault;
-use crate::inputs::give_all;
+use crate::inputs::{give_all, room_for_inputs};
 use crate::opened::Opened;
+use core::mem::replace_with;
 use sc_graph::Control;
-use sqlite_items::Items;
 use std::alloc::{AllocError, Global};
 use std::marker::Model;
-use std::mem;
 use tick_core::{Inputs, ParkedSpace, TickSpace};
+use verifier::Verified;
 
 /// A machine between two ticks. Contracts see what is opened, and the configuration in which it rests.
 #[derive(Drop)]
 pub struct Machine {
     opened: Opened,
-    control: Control,
-    // those of the last tick, with room for all
-    inputs: Inputs,
-    // of its ticks; there is none in the midst of a tick alone
-    space: Option<ParkedSpace>,
+    carried: Carried,
 }
 
 impl Model for Machine {
-    ghost use Rattle.std.specs.Prelude.{IsSomeAnd};
+    ghost use Rattle.std.specs.Prelude.{◌≡◌, length};
     ghost use Rattle.sc_graph.specs.Tick.{Rests};
     ghost use Rattle.tick_core.specs.Parked.{IsSpaceOf};
+    ghost use Rattle.embedded_machine.specs.Inside.{count_inputs};
     ghost use Rattle.embedded_machine.specs.Ticks.{Resting};
 
     ghost Value = { Resting };
 
-    ghost view = { λ m. record { opened = m.opened; control = m.control } };
+    ghost view = { λ m. record { opened = m.opened; control = m.carried.control } };
 
     ghost invariant = { λ m.
-        Rests m.opened.image.program m.control × IsSomeAnd m.space (IsSpaceOf m.opened.image) };
+        Rests m.opened.image.program m.carried.control × IsSpaceOf m.opened.image m.carried.space
+        × (length m.carried.inputs ≡ count_inputs m.opened.image.program.variables) };
 }
 
-// A tick that is over: the configuration in which it ended, and the space for the next.
-struct Ended {
+// What a tick takes over from the one before: the configuration in which that ended, its inputs, whose places are
+// written anew, and the space.
+#[derive(Drop)]
+struct Carried {
     control: Control,
-    steps: u64,
+    inputs: Inputs,
     space: ParkedSpace,
 }
 
@@ -57,14 +57,14 @@ impl Machine {
     {
         let program = opened.verified().image().program();
         let control = Control::initial(alloc, program)?;
-        let inputs = Vec::with_capacity(alloc, program.variables().len())?;
+        let inputs = room_for_inputs(alloc, program.variables())?;
         let space = TickSpace::of(alloc, opened.verified())?.park();
-        Ok(Machine {
-            opened,
+        let carried = Carried {
             control,
-            inputs: Items::from_vec(inputs),
-            space: Some(space),
-        })
+            inputs,
+            space,
+        };
+        Ok(Machine { opened, carried })
     }
 
     /// What is opened.
@@ -79,7 +79,7 @@ impl Machine {
         ensures shown { result ≡ length self.now.control.variables }
         ensures declared { result ≡ length self.now.opened.image.program.variables }
     {
-        self.control.variables.len()
+        self.carried.control.variables.len()
     }
 
     /// The configuration in which it rests.
@@ -87,34 +87,23 @@ impl Machine {
         ensures value { result.now ≡ self.now.control }
         ensures rests { Rests self.now.opened.image.program result.now }
     {
-        &self.control
+        &self.carried.control
     }
 
-    /// One tick under the inputs of these cells, one for each variable; how many steps it took. Err: there are not as
-    /// many cells, or one of an input holds no value of its kind; or memory was refused. Nothing has changed then. It
-    /// takes no memory.
+    /// One tick under the inputs of these cells, one for each variable; how many steps it took. It takes no memory.
+    /// Err: there are not as many cells, or one of an input holds no value of its kind; nothing has changed then.
     #[tactic(auto, using(crate::proofs::Accepted::cells_accepted))]
-    pub fn react(&mut self, alloc: Global, cells: &[i32]) -> Result<u64, MachineFault>
+    pub fn react(&mut self, cells: &[i32]) -> Result<u64, MachineFault>
         ensures ticked { IfOk result (λ steps. Ticked cells.now steps self.old self.new) }
         ensures given { OnOk result (IsTrue (give_inputs self.old.opened.image.program.variables cells.now)) }
-        ensures lacks { IfErr result (LacksOrMemory
-            (IsTrue (give_inputs self.old.opened.image.program.variables cells.now)) fault.Input) }
+        ensures lacks { IfErr result
+            (Lacks (IsTrue (give_inputs self.old.opened.image.program.variables cells.now)) fault.Input) }
         ensures same { OnErr result (self.new ≡ self.old) }
     {
-        let program = self.opened.verified().image().program();
-        give_all(&mut self.inputs, program.variables(), cells)?;
-        let Some(parked) = self.space.take() else {
-            unreachable!();
-        };
-        let control = mem::replace(&mut self.control, nothing(alloc));
-        let Ended {
-            control,
-            steps,
-            space,
-        } = ticked(parked.with(self.opened.verified()), control, &self.inputs);
-        self.control = control;
-        self.space = Some(space);
-        Ok(steps)
+        let verified = self.opened.verified();
+        let variables = verified.image().program().variables();
+        give_all(&mut self.carried.inputs, variables, cells)?;
+        Ok(replace_with(&mut self.carried, verified, ticked))
     }
 
     /// Puts it into a configuration in which it rests.
@@ -123,36 +112,36 @@ impl Machine {
         ensures opened { self.new.opened ≡ self.old.opened }
         ensures control { self.new.control ≡ control }
     {
-        self.control = control;
+        self.carried.control = control;
     }
 }
 
-// No configuration of any program. It takes no memory.
-fn nothing(alloc: Global) -> Control {
-    Control {
-        variables: Items::new(alloc),
-        statuses: Items::new(alloc),
-    }
-}
-
-// A whole tick.
-fn ticked(space: TickSpace<'_>, control: Control, inputs: &Inputs) -> Ended
-    requires rests { Rests space.program control }
-    requires accepted { AreAccepted space.program inputs.now }
-    ensures rests { Rests space.entry.program result.control }
-    ensures reacts { Reacts space.entry inputs.now control result.control result.steps }
-    ensures space { IsSpaceOf space.entry result.space }
+// A whole tick under the inputs, and how many steps it took.
+fn ticked(carried: Carried, verified: &Verified) -> (Carried, u64)
+    requires rests { Rests verified.now.program carried.control }
+    requires accepted { AreAccepted verified.now.program carried.inputs }
+    requires space { IsSpaceOf verified.now carried.space }
+    ensures rests { Rests verified.now.program result.0.control }
+    ensures reacts { Reacts verified.now carried.inputs carried.control result.0.control result.1 }
+    ensures inputs { result.0.inputs ≡ carried.inputs }
+    ensures space { IsSpaceOf verified.now result.0.space }
 {
-    let mut state = match space.go_on(control, inputs) {
+    let Carried {
+        control,
+        inputs,
+        space,
+    } = carried;
+    let mut state = match space.with(verified).go_on(control, &inputs) {
         Ok(state) => state,
         Err(_) => unreachable!(),
     };
     state.run_alone();
     let steps = state.history().len() as u64;
     let (control, space) = state.hand_over();
-    Ended {
+    let carried = Carried {
         control,
-        steps,
+        inputs,
         space: space.park(),
-    }
+    };
+    (carried, steps)
 }

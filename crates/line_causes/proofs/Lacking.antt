@@ -20,4 +20,5 @@ pub lacking_is : (variables : List Variable) (line : List ℕ) (members : Member
 lacking_is variables line members cause.TooLong object lacking = absurd lacking.meets
 lacking_is variables line members cause.NoObject object lacking = absurd lacking.meets
 lacking_is variables line members (cause.NoInput name) object lacking = record { members = members; object = object; lacking = lacking }
+lacking_is variables line members (cause.Missing name) object lacking = absurd lacking.meets
 lacking_is variables line members (cause.NoValue name kind is) object lacking = record { members = members; object = object; lacking = lacking }

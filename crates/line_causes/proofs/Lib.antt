@@ -1,3 +1,4 @@
 pub mod Behind
 pub mod Given
 pub mod Lacking
+mod Missed

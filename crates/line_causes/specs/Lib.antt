@@ -1,5 +1,6 @@
 pub mod Cause
 pub mod Inside
 pub mod Met
+pub mod Missing
 pub mod Recent
 pub mod Words

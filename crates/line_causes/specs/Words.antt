@@ -36,3 +36,4 @@ cause_words cause.TooLong = codes "longer than 65,536 bytes"
 cause_words cause.NoObject = codes "not a JSON object"
 cause_words (cause.NoInput name) = codes "no input " ++ quoted (string_bytes name)
 cause_words (cause.NoValue name kind is) = value_words (string_bytes name) kind is
+cause_words (cause.Missing name) = codes "no value for input " ++ quoted (string_bytes name)

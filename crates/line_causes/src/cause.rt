@@ -32,4 +32,6 @@ pub enum Cause {
     NoInput(String),
     /// A member of this name has a value that the input's kind does not take.
     NoValue(String, Kind, Met),
+    /// No member names the input of this name.
+    Missing(String),
 }

@@ -70,6 +70,10 @@ pub fn cause_words(alloc: Global, cause: &Cause) -> Result<String, AllocError>
             let name = quoted(alloc, name.as_str())?;
             format!(in alloc; "no input {name}")
         }
+        Cause::Missing(name) => {
+            let name = quoted(alloc, name.as_str())?;
+            format!(in alloc; "no value for input {name}")
+        }
         Cause::NoValue(name, kind, met) => value_words(alloc, name.as_str(), *kind, *met),
     }
 }

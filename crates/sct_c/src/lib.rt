@@ -248,8 +248,9 @@ pub extern "C" fn sct_machine_names(
     }
 }
 
-/// One tick of the machine behind a handle, by the inputs in cells. The values of its variables go into cells. 7: the
-/// cell of an input holds no value of its kind, or there are not as many cells. 1, 2: as `sct_machine_names`.
+/// One tick of the machine behind a handle, by the inputs in cells. The values of its variables go into cells. It takes
+/// no memory. 7: the cell of an input holds no value of its kind, or there are not as many cells. 1: there is no
+/// machine.
 #[unsafe(no_mangle)]
 pub extern "C" fn sct_machine_react(
     alloc: Global,
@@ -262,7 +263,7 @@ pub extern "C" fn sct_machine_react(
         → TickedHeld inputs.now values.new steps.new machine.old.machine machine.new.machine }
     ensures asked { result ≡ pos 0 → Holds machine.old.machine (AreForTick inputs.now values.old) }
     ensures lacks { result ≢ pos 0 → Tells result
-        (HeldLacksOrMemory (AreForTick inputs.now values.old) fault.Input machine.old.machine) }
+        (HeldLacks (AreForTick inputs.now values.old) fault.Input machine.old.machine) }
     ensures same { result ≢ pos 0 → machine.new.machine ≡ machine.old.machine }
     ensures values { result ≢ pos 0 → values.new ≡ values.old }
     ensures steps { result ≢ pos 0 → steps.new ≡ steps.old }

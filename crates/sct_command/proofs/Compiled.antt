@@ -59,6 +59,7 @@ unsaid name bytes wanted (fault.Files f) said none = inl none
 unsaid name bytes wanted (fault.Play f cause) said none = none
 unsaid name bytes wanted fault.Write said none = none
 unsaid name bytes wanted fault.Tests said none = none
+unsaid name bytes wanted (fault.Place shown) said none = none
 
 pub none_said : {T : Type 0} (r : Result T Fault) (name bytes : List ℕ) (wanted : Bool) (said : List ℕ) → OnErr r (said ≡ [])
     → IfErr r (λ f. SaysOfBytes name bytes wanted f said)
@@ -87,6 +88,7 @@ says_of files name bytes wanted (fault.Files f) said held says = reported_of fil
 says_of files name bytes wanted (fault.Play f cause) said held says = says
 says_of files name bytes wanted fault.Write said held says = says
 says_of files name bytes wanted fault.Tests said held says = says
+says_of files name bytes wanted (fault.Place shown) said held says = says
 
 pub reported : {T : Type 0} (r : Result T Fault) (files : Option Contents) (name bytes : List ℕ) (wanted : Bool) (said : List ℕ)
     → HasBytes files name bytes → IfErr r (λ f. SaysOfBytes name bytes wanted f said) → IfErr r (λ f. SaysOfFault files name wanted f said)
@@ -111,6 +113,7 @@ refuses_kept fault.Write bytes image files files' to old new is kept = (image, i
 refuses_kept (fault.Files f) bytes image files files' to old new is kept = (inr kept.0, kept.1, kept.2)
 refuses_kept (fault.Play f cause) bytes image files files' to old new is kept = absurd kept
 refuses_kept fault.Tests bytes image files files' to old new is kept = absurd kept
+refuses_kept (fault.Place shown) bytes image files files' to old new is kept = absurd kept
 
 pub refuses_keeping : {T : Type 0} (r : Result T Fault) (bytes : List ℕ) (image : Image) (files files' : Option Contents) (to : List ℕ)
     (old new : Option (List ℕ)) → SpellsImage bytes image → IfErr r (RefusesKeeping image files files' to old new)
@@ -152,6 +155,7 @@ refuses (fault.Files f) files middle after from to bytes old new same held made 
     (not_compiled files from to bytes f held made.0, made.1 ∙ same, made.2)
 refuses (fault.Play f cause) files middle after from to bytes old new same held made = absurd made
 refuses fault.Tests files middle after from to bytes old new same held made = absurd made
+refuses (fault.Place shown) files middle after from to bytes old new same held made = absurd made
 
 pub refuses_compile : {T : Type 0} (r : Result T Fault) (files middle after : Option Contents) (from to bytes : List ℕ) (old new : Option (List ℕ))
     → middle ≡ files → HasBytes files from bytes → IfErr r (RefusesProgram bytes middle after to old new)
@@ -174,6 +178,7 @@ refuses_image fault.Write bytes image old new is part =
 refuses_image (fault.Files f) bytes image old new is (memory, same) = (subst (LacksImage bytes) (sym memory) tt, same)
 refuses_image (fault.Play f cause) bytes image old new is refused = absurd refused
 refuses_image fault.Tests bytes image old new is refused = absurd refused
+refuses_image (fault.Place shown) bytes image old new is refused = absurd refused
 
 pub refuses_spelling : {T : Type 0} (r : Result T Fault) (bytes : List ℕ) (image : Image) (old new : Option (List ℕ)) → SpellsImage bytes image
     → IfErr r (RefusesToWrite (λ b. Spells 2 b image) IsMemory old new) → IfErr r (RefusesToWrite (IsSpelt bytes) (LacksImage bytes) old new)
@@ -198,6 +203,7 @@ refuses_program fault.Write files from bytes old new held part =
 refuses_program (fault.Files f) files from bytes old new held (none, same) = (file_lacks files from bytes f held none, same)
 refuses_program (fault.Play f cause) files from bytes old new held refused = absurd refused
 refuses_program fault.Tests files from bytes old new held refused = absurd refused
+refuses_program (fault.Place shown) files from bytes old new held refused = absurd refused
 
 pub refuses_writing : {T : Type 0} (r : Result T Fault) (files : Option Contents) (from bytes : List ℕ) (old new : Option (List ℕ))
     → HasBytes files from bytes → IfErr r (RefusesToWrite (IsSpelt bytes) (LacksImage bytes) old new) → IfErr r (RefusesWriting files from old new)

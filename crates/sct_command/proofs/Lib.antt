@@ -1,4 +1,5 @@
 pub mod Compiled
+pub mod Ruled
 pub mod Simulated
 pub mod States
 pub mod Taken

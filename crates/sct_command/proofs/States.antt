@@ -26,6 +26,7 @@ stops files name chart image states input old new (fault.Play f cause) there (le
 stops files name chart image states input old new (fault.Files f) there refuses = absurd refuses
 stops files name chart image states input old new fault.Write there refuses = absurd refuses
 stops files name chart image states input old new fault.Tests there refuses = absurd refuses
+stops files name chart image states input old new (fault.Place shown) there refuses = absurd refuses
 
 pub played : {T : Type 0} (r : Result T Fault) (files : Option Contents) (name chart : List ℕ) (image : Image) (states : NamedStates)
     (input old new : Option (List ℕ)) → HasStates files name chart image states

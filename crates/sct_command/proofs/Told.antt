@@ -41,6 +41,7 @@ told files name bytes old new f (fault.Files (load.Source g)) held why (same, so
     (subst (FileLacksCompiled files name) (sym same) why, report files name bytes (load.Source g) old new held (λ text is. (bytes, held, is)) some)
 told files name bytes old new f (fault.Play g cause) held why is = absurd is
 told files name bytes old new f fault.Tests held why is = absurd is
+told files name bytes old new f (fault.Place shown) held why is = absurd is
 
 -- a text and a program are never why a file has no image
 no_text : (files : Option Contents) (name : List ℕ) (g : ReadFault) → FileLacksImage files name (load.Text g) → ⊥
@@ -68,6 +69,7 @@ told_source files name bytes old new f (fault.Files (load.Source g)) image progr
     absurd (subst (FileLacksProgram files name) (sym same) program)
 told_source files name bytes old new f (fault.Play g cause) image program is = absurd is
 told_source files name bytes old new f fault.Tests image program is = absurd is
+told_source files name bytes old new f (fault.Place shown) image program is = absurd is
 
 -- bytes that spell no image
 pub quiet_bytes : (bytes : List ℕ) (f : LoadFault) → BytesLackCompiled bytes f → files_failed f ≡ 0
@@ -103,3 +105,4 @@ finds_part files name bytes old new image (fault.Files (load.File f)) held is no
 finds_part files name bytes old new image (fault.Files (load.Source f)) held is none = absurd none
 finds_part files name bytes old new image (fault.Play f cause) held is none = absurd none
 finds_part files name bytes old new image fault.Tests held is none = absurd none
+finds_part files name bytes old new image (fault.Place shown) held is none = absurd none

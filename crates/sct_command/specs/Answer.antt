@@ -11,12 +11,13 @@ use Rattle.trace_player.specs.declared.player.PlayFault.{PlayFault}
 use Rattle.command_files.specs.Files.{Contents, Stores}
 use Rattle.command_files.specs.Images.{IsLoaded, FileLacksImage}
 use Rattle.command_texts.specs.Wanted.{IsMadeFor, LacksWanted}
-use Rattle.command_words.specs.Request.{Request, Write, Run, RunWithStates, Compile, WriteCompiled, Print, Migrate, Explain, Test, Simulate}
+use Rattle.command_words.specs.Request.{Request, Write, Run, RunWithStates, RunBy, Compile, WriteCompiled, Print, Migrate, Explain, Test, Simulate}
 use Rattle.sct_command.specs.Beside.{AreWarningsOf, IsSaid, SaysOfFault}
 use Rattle.sct_command.specs.Sources.{AreOfProgram, Compiles, PrintsText, RefusesCompile, RefusesPrinting, RefusesWriting}
 use Rattle.command_files.specs.Storing.{IsNotStored}
 use Rattle.sct_command.specs.Explaining.{FindsImage, RefusesExplaining}
 use Rattle.sct_command.specs.Failing.{files_failed, reads_failed, writes_failed}
+use Rattle.sct_command.specs.Running.{RefusesUnder, RunsUnder}
 use Rattle.sct_command.specs.Simulating.{RefusesSimulation, Simulates}
 use Rattle.command_texts.specs.Summary.{summary_of}
 use Rattle.sct_command.specs.TellingStates.{PlaysStates, RefusesStates}
@@ -45,7 +46,7 @@ pub record Migrates (files files' : Option Contents) (from to : List ℕ) (old n
   pub stored : Stores files files' to bytes
   pub written : Appends old new (summary_of image)
 
--- what was done for a request: a text or the bytes of an image, a whole trace, without active states or with them, an
+-- what was done for a request: a text or the bytes of an image, a whole trace, without active states, with them, or by rules, an
 -- image of a text in a file or on the output, a text of SCL, an image in version 2, a summary of what compiles, tests that pass, a controller that
 -- was stepped, or for none the help
 abbrev pub Does : Option Contents → Option Contents → Option Request → Option (List ℕ) → Option (List ℕ)
@@ -53,6 +54,7 @@ abbrev pub Does : Option Contents → Option Contents → Option Request → Opt
 Does files files' (Some (Write wanted)) input old new = Writes (IsMadeFor files wanted) old new
 Does files files' (Some (Run name workers)) input old new = PlaysWhole files name input old new
 Does files files' (Some (RunWithStates name chart)) input old new = PlaysStates files name chart input old new
+Does files files' (Some (RunBy name rules)) input old new = RunsUnder files files' name rules input old new
 Does files files' (Some (Compile from to)) input old new = Compiles files files' from to old new
 Does files files' (Some (WriteCompiled from)) input old new = Writes (AreOfProgram files from) old new
 Does files files' (Some (Print name)) input old new = PrintsText files name old new
@@ -136,6 +138,7 @@ abbrev pub Refuses : Option Contents → Option Contents → Option Request → 
 Refuses files files' (Some (Write wanted)) input old new f = RefusesToWrite (IsMadeFor files wanted) (LacksWanted files wanted) old new f
 Refuses files files' (Some (Run name workers)) input old new f = RefusesRun files name input old new f
 Refuses files files' (Some (RunWithStates name chart)) input old new f = RefusesStates files name chart input old new f
+Refuses files files' (Some (RunBy name rules)) input old new f = RefusesUnder files files' name rules input old new f
 Refuses files files' (Some (Compile from to)) input old new f = RefusesCompile files files' from to old new f
 Refuses files files' (Some (WriteCompiled from)) input old new f = RefusesWriting files from old new f
 Refuses files files' (Some (Print name)) input old new f = RefusesPrinting files name old new f

@@ -1,5 +1,5 @@
 -- What is printed of a fault: its number, and where it lies.
-use Rattle.std.specs.Prelude.{ℕ, List, codes}
+use Rattle.std.specs.Prelude.{ℕ, List, ◌++◌, codes, string_bytes}
 use Rattle.command_files.specs.FaultText as files_text
 use Rattle.trace_player.specs.FaultText.{play_fault_text}
 use Rattle.sct_command.specs.declared.fault.Fault.{Fault}
@@ -10,3 +10,4 @@ fault_text (fault.Files f) = files_text.fault_text f
 fault_text (fault.Play f cause) = play_fault_text f
 fault_text fault.Write = codes "E63"
 fault_text fault.Tests = codes "E66"
+fault_text (fault.Place shown) = codes "E67 " ++ string_bytes shown

@@ -5,6 +5,7 @@ pub mod Failing
 pub mod FaultText
 pub mod Inside
 pub mod Keeping
+pub mod Running
 pub mod Simulating
 pub mod Sources
 pub mod TellingStates

@@ -19,6 +19,7 @@ use crate::fault::Fault;
 use crate::migrate::migrate;
 use crate::print::print_text;
 use crate::run::run;
+use crate::run_ruled::run_ruled;
 use crate::run_with_states::run_with_states;
 use crate::simulate::simulate_file;
 use crate::test::test_files;
@@ -218,6 +219,9 @@ fn perform<T: Threads + Wait + Sync, F: Files, R: Source, W: Sink>(
         Request::Run(name, workers) => run(rt, alloc, name, workers, wanted, files, input, output),
         Request::RunWithStates(name, chart) => {
             run_with_states(alloc, name, chart, wanted, files, input, output)
+        }
+        Request::RunBy(name, rules) => {
+            run_ruled(alloc, name, rules, wanted, files, input, output)
         }
         Request::Compile(from, to) => {
             compile(alloc, from, to, warns, wanted, files, output, said)

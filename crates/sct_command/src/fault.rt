@@ -2,6 +2,7 @@
 
 use command_files::LoadFault;
 use line_causes::Cause;
+use ruled_runs::RunFault;
 use std::alloc::{AllocError, AllocFailed};
 use trace_player::PlayFault;
 
@@ -16,6 +17,8 @@ pub enum Fault {
     Write,
     /// E66: a test failed.
     Tests,
+    /// E67: the file whose name is shown so holds no place at which the image can go on.
+    Place(String),
 }
 
 impl From<LoadFault> for Fault {
@@ -26,6 +29,21 @@ impl From<LoadFault> for Fault {
 
     fn from(fault: LoadFault) -> Fault {
         Fault::Files(fault)
+    }
+}
+
+impl From<RunFault> for Fault {
+    ghost use Rattle.std.specs.Prelude.{◌≡◌};
+    ghost use Rattle.sct_command.specs.Running.{fault_of_run};
+
+    ghost from_gives = { λ f e. e ≡ fault_of_run f };
+
+    fn from(fault: RunFault) -> Fault {
+        match fault {
+            RunFault::Files(fault) => Fault::Files(fault),
+            RunFault::Place(shown) => Fault::Place(shown),
+            RunFault::Play(fault, cause) => Fault::Play(fault, cause),
+        }
     }
 }
 

@@ -16,6 +16,7 @@ impl fmt::Display for Fault {
             Fault::Play(fault, _) => write!(f, "{fault}"),
             Fault::Write => write!(f, "E63"),
             Fault::Tests => write!(f, "E66"),
+            Fault::Place(shown) => write!(f, "E67 {shown}"),
         }
     }
 }

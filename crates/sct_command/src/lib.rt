@@ -13,6 +13,7 @@ mod migrate;
 mod print;
 mod report;
 mod run;
+mod run_ruled;
 mod run_with_states;
 mod simulate;
 mod source_image;

@@ -1,6 +1,6 @@
 //! What is said of a fault in words.
 
-ghost use Rattle.std.specs.Prelude.{◌≡◌, [], IfOk, codes, string_bytes};
+ghost use Rattle.std.specs.Prelude.{◌≡◌, ◌++◌, [], IfOk, codes, string_bytes};
 ghost use Rattle.command_files.specs.FaultText.{fault_text};
 ghost use Rattle.diagnostics.specs.Reports.{Tells};
 ghost use Rattle.trace_player.specs.FaultText.{play_fault_text};
@@ -88,7 +88,7 @@ fn file_said(fault: &LoadFault) -> &'static str {
 fn play_said(fault: PlayFault) -> &'static str {
     match fault {
         PlayFault::Input(_) => {
-            "a member of this line names no input, or has a value that the input does not take"
+            "a member of this line names no input, or has a value that the input does not take; or, with `--strict`, an input is not named"
         }
         PlayFault::Memory => MEMORY,
         PlayFault::Read => "standard input failed",
@@ -129,6 +129,19 @@ fn line_words(alloc: Global, fault: PlayFault, cause: &Cause) -> Result<String, 
     format!(in alloc; "sct: {fault}: {met}\n")
 }
 
+// The words for a file that holds no place of an image.
+fn place_words(alloc: Global, shown: &str) -> Result<String, AllocError>
+    ensures { IfOk result (λ words. Tells (codes "sct") (codes "E67 " ++ shown.now) (string_bytes words)) }
+{
+    let text = format!(in alloc; "E67 {shown}")?;
+    told_nowhere(
+        alloc,
+        SAYS,
+        text.as_str(),
+        "it holds no place at which this image can go on\nhelp: take what `sct run --save` wrote of the same image",
+    )
+}
+
 // The words for a fault.
 fn words_for(alloc: Global, fault: &Fault) -> Result<String, AllocError>
     ensures { IfOk result (λ words. AreWords fault.now (string_bytes words)) }
@@ -151,6 +164,7 @@ fn words_for(alloc: Global, fault: &Fault) -> Result<String, AllocError>
             "E66",
             "a test failed: standard output tells which",
         ),
+        Fault::Place(shown) => place_words(alloc, shown.as_str()),
     }
 }
 

@@ -1,0 +1,12 @@
+-- Inputs that a line does not name.
+use Rattle.std.proofs.Common.{◌≡◌, ℕ, Bool, true, false, List, Option, Some, None, inl, refl, sym, ap, subst}
+use Rattle.sc_graph.specs.declared.program.Variable.{Variable}
+use Rattle.line_causes.specs.declared.cause.Cause.{Cause}
+use Rattle.line_causes.specs.Met.{IsMetOn}
+use Rattle.line_causes.specs.Missing.{IsMetUnder}
+
+-- what is met on a line is so under any rule
+pub met_under : (strict : Bool) (variables : List Variable) (input : Option (List ℕ)) (number : ℕ) (c : Cause) → IsMetOn variables input number c
+    → IsMetUnder strict variables input number c
+met_under true variables input number c met = inl met
+met_under false variables input number c met = met

@@ -1,0 +1,5 @@
+pub mod Failing
+pub mod Inside
+pub mod Met
+pub mod Places
+pub mod Runs

@@ -1,0 +1,37 @@
+//! Why a run ends.
+
+ghost use Rattle.std.specs.Prelude.{◌≡◌};
+ghost use Rattle.ruled_runs.specs.declared.fault.RunFault.TheVariants.{Files};
+ghost use Rattle.command_files.specs.declared.fault.LoadFault.TheVariants.{Memory};
+
+use command_files::LoadFault;
+use line_causes::Cause;
+use std::alloc::AllocError;
+use trace_player::PlayFault;
+
+/// Why a run ends, or is not begun.
+#[derive(Debug, Drop)]
+pub enum RunFault {
+    /// A file gives no image, or cannot be read or written; or memory was refused.
+    Files(LoadFault),
+    /// E67: the file whose name is shown so holds no place at which the image can go on.
+    Place(String),
+    /// The input was not played to its end; and what was met on the line of which that tells, where it is known.
+    Play(PlayFault, Option<Cause>),
+}
+
+impl From<LoadFault> for RunFault {
+    ghost from_gives = { λ f e. e ≡ Files f };
+
+    fn from(fault: LoadFault) -> RunFault {
+        RunFault::Files(fault)
+    }
+}
+
+impl From<AllocError> for RunFault {
+    ghost from_gives = { λ _ e. e ≡ Files Memory };
+
+    fn from(_error: AllocError) -> RunFault {
+        RunFault::Files(LoadFault::Memory)
+    }
+}

@@ -1,0 +1,5 @@
+mod Accepted
+mod Coming
+mod Made
+mod Playing
+mod Ruled
