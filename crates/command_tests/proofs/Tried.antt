@@ -1,5 +1,5 @@
 -- Tests, one after the other, and what is told of them.
-use Rattle.std.proofs.Common.{◌≡◌, ◌∙◌, ℕ, Bool, Option, List, [], ◌∷◌, ◌++◌, map, refl, ap, sym, subst, inl, inr, append-nil, append_assoc}
+use Rattle.std.proofs.Common.{◌≡◌, ◌∙◌, ℕ, Bool, Option, List, [], ◌∷◌, ◌++◌, map, refl, ap, sym, subst, inr, append-nil, append_assoc}
 use Rattle.std.proofs.Common.{Result, Ok, Err, OnErr}
 use Rattle.command_files.specs.Files.{Contents}
 use Rattle.command_tests.specs.Inside.Putting.{PutsFirst, PutsTold}

@@ -1,6 +1,5 @@
 -- From what was found in files to what a test comes to.
-use Rattle.std.proofs.Common.{◌≡◌, ◌≢◌, ◌∙◌, ℕ, Bool, true, false, Option, List, [], ◌++◌, codes, refl, ap, sym, subst, inl, inr}
-use Rattle.sc_graph.specs.declared.control.Control.{Control}
+use Rattle.std.proofs.Common.{◌≡◌, ◌≢◌, ℕ, Bool, true, Option, List, [], ◌++◌, codes, refl, sym, subst, inl, inr}
 use Rattle.bytecode.specs.Image.{Image}
 use Rattle.command_files.proofs.Held.{no_compiled}
 use Rattle.command_files.specs.declared.fault.LoadFault.{LoadFault}
@@ -11,7 +10,7 @@ use Rattle.command_files.specs.Sources.{BytesLackCompiled, FileLacksProgram}
 use Rattle.command_files.specs.Storing.{IsNotStored}
 use Rattle.command_tests.specs.Inside.Judging.{Judges, JudgesOther, StopsSo}
 use Rattle.command_tests.specs.Inside.Saying.{SaysDifference}
-use Rattle.command_tests.specs.States.{HasNoStates, IsReal, TellsActive, TellsThem}
+use Rattle.command_tests.specs.States.{IsReal, TellsActive, TellsThem}
 use Rattle.command_tests.specs.Verdict.{ComesTo, Failed, FailsTest, HasTicks, LacksTicks, Passed, Verdict, Written, ticks_name, trace_name}
 use Rattle.controller_tests.proofs.Tested as tested
 use Rattle.controller_tests.specs.declared.difference.Difference.{Difference}
