@@ -1,5 +1,5 @@
 -- What a run under rules leaves, in the words of the program.
-use Rattle.std.proofs.Common.{◌≡◌, ◌⊎◌, ℕ, ◌+◌, List, Option, Some, None, Result, Ok, Err, OnOk, IfErr, false, inl, inr, refl}
+use Rattle.std.proofs.Common.{◌≡◌, ◌≢◌, ◌⊎◌, ℕ, ◌+◌, List, Option, Some, None, Result, Ok, Err, OnOk, IfErr, true, inl, inr, refl}
 use Rattle.command_files.specs.Files.{Contents}
 use Rattle.command_words.specs.Said.{Rules as Asked}
 use Rattle.ruled_runs.specs.declared.fault.RunFault.{RunFault}
@@ -47,12 +47,12 @@ missed (run.Play f cause) = refl
 -- where no place is kept, no file changed
 pub unchanged : {T : Type 0} (r : Result T RunFault) (files files' : Option Contents) (name : List ℕ) (rules : Asked) (input old new : Option (List ℕ))
     → OnOk r (RunsBy (line_rules rules) files files' name rules.from rules.save input old new)
-    → IfErr r (RefusesRun (line_rules rules) files files' name rules.from rules.save input old new) → is_some rules.save ≡ false → files' ≡ files
+    → IfErr r (RefusesRun (line_rules rules) files files' name rules.from rules.save input old new) → is_some rules.save ≢ true → files' ≡ files
 unchanged (Ok done) files files' name rules input old new runs refuses none = kept_by rules.save runs.kept none
   where
-    kept_by : (save : Option (List ℕ)) → IsKept files files' save runs.last → is_some save ≡ false → files' ≡ files
+    kept_by : (save : Option (List ℕ)) → IsKept files files' save runs.last → is_some save ≢ true → files' ≡ files
     kept_by None kept none = kept
-    kept_by (Some other) kept none = absurd cc
+    kept_by (Some other) kept none = absurd (none refl)
 unchanged (Err (run.Play f cause)) files files' name rules input old new runs refuses none = refuses.1
 unchanged (Err (run.Place shown)) files files' name rules input old new runs refuses none = refuses.1
 unchanged (Err (run.Files f)) files files' name rules input old new runs (inl refuses) none = refuses.1

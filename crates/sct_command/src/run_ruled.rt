@@ -1,6 +1,6 @@
 //! The verb `run` under rules.
 
-ghost use Rattle.std.specs.Prelude.{◌≡◌, ◌+◌, IfErr, OnOk, false};
+ghost use Rattle.std.specs.Prelude.{◌≡◌, ◌≢◌, ◌+◌, IfErr, OnOk, true};
 ghost use Rattle.std.specs.Option.{is_some};
 ghost use Rattle.command_words.specs.Said.{rules_seen};
 ghost use Rattle.sc_values.specs.Streams.{IsNotReadBehind};
@@ -31,7 +31,7 @@ pub(crate) fn run_ruled<F: Files, R: Source, W: Sink>(
         (rules_seen rules.entry) (R.to_come input.old) (W.taken output.old) (W.taken output.new)) }
     ensures refused { IfErr result (RefusesUnder (F.contents files.old) (F.contents files.new) name.now
         (rules_seen rules.entry) (R.to_come input.old) (W.taken output.old) (W.taken output.new)) }
-    ensures unchanged { is_some (rules_seen rules.entry).save ≡ false → F.contents files.new ≡ F.contents files.old }
+    ensures unchanged { is_some (rules_seen rules.entry).save ≢ true → F.contents files.new ≡ F.contents files.old }
     ensures none_read { OnOk result (R.failures input.new ≡ R.failures input.old) }
     ensures read { IfErr result (λ fault. R.failures input.new ≡ R.failures input.old + reads_failed fault) }
     ensures end { IsNotReadBehind (R.progress input.old) (R.progress input.new) }
