@@ -1,6 +1,5 @@
 -- What one line makes.
-use Rattle.std.proofs.Common.{◌≡◌, ◌∙◌, ℕ, List, inl, sym, ap, subst}
-use Rattle.sc_graph.specs.declared.control.Control.{Control}
+use Rattle.std.proofs.Common.{◌≡◌, ◌∙◌, ℕ, List, inl, ap, subst}
 use Rattle.sc_graph.specs.declared.program.Variable.{Variable}
 use Rattle.sc_graph.specs.Program.{Program}
 use Rattle.sc_graph.specs.Tick.{Inputs}

@@ -1,15 +1,12 @@
 -- Traces under no rules, and traces that go on where another one ended.
 use Rattle.std.proofs.Common.{◌≡◌, ◌⊎◌, ◌<◌, ◌≤◌, ℕ, true, false, List, [], ◌∷◌, ◌++◌, length, inl, inr, refl, sym, ap, subst, ◌∙◌, arith}
 use Rattle.std.proofs.lemmas.Bool.{cases_order}
-use Rattle.serde_json.specs.Data.{Members}
-use Rattle.sc_graph.specs.declared.control.Control.{Control}
 use Rattle.sc_graph.specs.Program.{Program}
 use Rattle.bytecode.specs.Image.{Image}
-use Rattle.trace_lines.specs.Line.{IsObjectOf}
 use Rattle.trace_lines.specs.Lines.{line_limit}
 use Rattle.trace_player.specs.Trace.{End, GivesNoInputs, Good, IsNoObject, NoInputs, NoObject, next_number}
 use Rattle.trace_player.specs.Trace as plain
-use Rattle.ruled_traces.specs.Lines.{IsBad, LacksInput}
+use Rattle.ruled_traces.specs.Lines.{IsBad}
 use Rattle.ruled_traces.specs.Trace.{Ends, EndsAt, Goes, IsPassed, Makes, MakesTick, no_rules, with_lines}
 use Rattle.ruled_traces.specs.declared.answer.Bad.TheVariants as bad
 use Rattle.ruled_traces.specs.declared.place.Place.{Place}

@@ -1,4 +1,4 @@
-use Rattle.std.proofs.Common.{◌≡◌, ℕ, Err, IfNone, IfSome, ap, false, true, subst, sym}
+use Rattle.std.proofs.Common.{◌≡◌, ℕ, Err, IfNone, IfSome, ap, subst, sym}
 use Rattle.serde_json.specs.View.{view}
 use Rattle.sc_graph.specs.declared.control.Control.{Control}
 use Rattle.sc_graph.specs.Tick.{Rests}

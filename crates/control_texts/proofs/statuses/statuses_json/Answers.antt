@@ -1,4 +1,4 @@
-use Rattle.std.proofs.Common.{◌≡◌, ◌<◌, ◌++◌, ◌∷◌, [], length, arith, rules}
+use Rattle.std.proofs.Common.{◌≡◌, ◌<◌, ◌++◌, ◌∷◌, [], length, rules}
 use Rattle.control_texts.specs.Texts.{status_in}
 use Rattle.control_texts.proofs.Lists.{one_behind, deep_behind}
 use Rattle.control_texts.proofs.statuses.statuses_json.Goals as goal

@@ -1,4 +1,4 @@
-use Rattle.std.proofs.Common.{◌≡◌, ◌≢◌, ◌==◌, ◌∷◌, [], false, ap, length, ◌∙◌, sym, rules}
+use Rattle.std.proofs.Common.{◌≡◌, ◌≢◌, ◌==◌, ◌∷◌, [], false, ap, length, ◌∙◌, rules}
 use Rattle.control_texts.proofs.Lists.{waits_more}
 use Rattle.control_texts.proofs.statuses.waits_at.Goals as goal
 

@@ -1,5 +1,4 @@
 use Rattle.std.proofs.Common.{◌≡◌, rules, subst}
-use Rattle.sc_graph.specs.Tick.{Inputs}
 use Rattle.trace_lines.specs.Output.{outputs_of, tick_line}
 use Rattle.trace_player.specs.Trace.{Reacts}
 use Rattle.ruled_traces.specs.Lines.{Gives}
