@@ -1,6 +1,8 @@
 -- The chart of an image: the text that the image was compiled from, and which of the chart's states are active.
 use Rattle.std.specs.Prelude.{ℕ, ◌≡◌, ◌≢◌, ◌⊎◌, List, string_bytes}
 use Rattle.std.specs.Str.{IsUtf8}
+use Rattle.sc_text.specs.declared.language.Language.TheVariants as language
+use Rattle.sc_text.specs.FirstToken.{IsIn}
 use Rattle.sc_text.specs.declared.read_fault.FaultKind.TheVariants as broken
 use Rattle.sc_text.specs.declared.read_fault.ReadFault.{ReadFault}
 use Rattle.sc_text.specs.declared.read_fault.ReadFault.TheVariants as read
