@@ -111,6 +111,13 @@ judged writes files new name place bytes image ticks wanted v named same has hel
     subst (λ f. ComesTo writes files f name v) (sym same)
     (comes_to writes files name bytes image ticks wanted v has (subst (λ n. HasBytes files n wanted) named held) judges)
 
+-- the same, of bytes that are seen again
+pub judged_again : (writes : Bool) (files new : Option Contents) (name place bytes : List ℕ) (image : Image) (ticks wanted seen : List ℕ) (v : Verdict)
+    → place ≡ trace_name name → new ≡ files → HasTicks files name bytes image ticks → HasBytes files place wanted → seen ≡ wanted
+    → Judges name bytes image ticks seen v → ComesTo writes files new name v
+judged_again writes files new name place bytes image ticks wanted seen v named same has held again judges =
+    judged writes files new name place bytes image ticks wanted v named same has held (subst (λ w. Judges name bytes image ticks w v) again judges)
+
 pub unread : (writes : Bool) (files new : Option Contents) (name place said : List ℕ) (f : LoadFault) → place ≡ trace_name name → new ≡ files
     → (writes ≡ true → IsTaken files (trace_name name)) → FileLacksImage files place f
     → said ≡ shown_name name ++ (codes ": " ++ (fault_text f ++ codes "\n")) → IsReal f → ComesTo writes files new name (Failed said)
