@@ -20,7 +20,7 @@ use std::alloc::{AllocError, Global};
 const USUAL_WORKERS: Workers = Workers { number: 2 };
 
 /// A text that is written to the output, or the bytes of an image.
-#[derive(Clone, Copy, Debug, PartialEq, Eq)]
+#[derive(Clone, Copy)]
 pub enum Wanted<'a> {
     /// The summary of the image in this file.
     Summary(&'a str),
@@ -41,7 +41,7 @@ pub enum Wanted<'a> {
 }
 
 /// What the words ask for.
-#[derive(Clone, Copy, Debug, PartialEq, Eq)]
+#[derive(Clone, Copy)]
 pub enum Request<'a> {
     /// Write one text, or one image, to the output.
     Write(Wanted<'a>),
@@ -69,7 +69,7 @@ pub enum Request<'a> {
 }
 
 /// What the words ask for, and what is told beside it.
-#[derive(Clone, Copy, Debug, PartialEq, Eq)]
+#[derive(Clone, Copy)]
 pub struct Asking<'a> {
     /// What they ask for.
     pub request: Request<'a>,
@@ -80,7 +80,7 @@ pub struct Asking<'a> {
 }
 
 /// Why the words ask for nothing that can be done.
-#[derive(Debug, Drop)]
+#[derive(Drop)]
 pub enum Unread {
     /// Memory was refused.
     Memory,

@@ -5,7 +5,7 @@ ghost use Rattle.command_words.specs.Request.{has_rules};
 ghost use Rattle.command_words.specs.Said.{begun_in, kept_in, no_rules, rules_seen, skipping, strictly};
 
 /// What is asked of a run.
-#[derive(Clone, Copy, Debug, PartialEq, Eq)]
+#[derive(Clone, Copy)]
 pub struct RunRules<'a> {
     /// Whether each line has to name every input.
     pub strict: bool,
