@@ -1,5 +1,5 @@
 -- Values in the order of their names, and one more among them.
-use Rattle.std.proofs.Common.{◌≡◌, ℕ, zero, suc, ◌-◌, ◌≤◌, List, [], ◌∷◌, Bool, true, false, cond, length, Some, None, Ordering, Less, Equal, Greater}
+use Rattle.std.proofs.Common.{◌≡◌, ℕ, zero, suc, ◌-◌, ◌≤◌, List, [], ◌∷◌, ◌++◌, Bool, true, false, cond, length, Some, None, Ordering, Less, Equal, Greater}
 use Rattle.std.proofs.Common.{refl, sym, ap, ◌∙◌, arith, slice_get, subst}
 use Rattle.std.specs.Prelude.{insert, slice_set}
 use Rattle.std.specs.Ordering.{nat_cmp, is_eq, is_gt, ordering_reverse, match_ordering}
@@ -9,13 +9,13 @@ use Rattle.std.proofs.lemmas.Slice.Eq.{bytes_eq-Decides}
 use Rattle.sc_values.specs.declared.value.Value.{Value}
 use Rattle.trace_lines.specs.Inside.Ordered.{is_behind, IsBefore, AreInOrder, is_behind_last, place_in, IsNamedAt, with_given}
 
-abbrev order : List ℕ → List ℕ → Ordering
+abbrev pub order : List ℕ → List ℕ → Ordering
 order = slice_cmp nat_cmp
 
-turned : (a b : List ℕ) (o : Ordering) → order a b ≡ o → order b a ≡ ordering_reverse o
+pub turned : (a b : List ℕ) (o : Ordering) → order a b ≡ o → order b a ≡ ordering_reverse o
 turned a b o e = nat_list_cmp_total.antisymm b a ∙ ap ordering_reverse e
 
-behind_is : (o : Ordering) → is_gt o ≡ true → o ≡ Greater
+pub behind_is : (o : Ordering) → is_gt o ≡ true → o ≡ Greater
 behind_is Less e = absurd cc
 behind_is Equal e = absurd cc
 behind_is Greater e = refl
@@ -48,6 +48,25 @@ passed false n m e = absurd cc
 -- a name that is behind one is behind those before it
 behind_both : (name a b : List ℕ) → order a b ≡ Less → order name b ≡ Greater → order name a ≡ Greater
 behind_both name a b less behind = turned a name Less (nat_list_cmp_total.trans a b name less (turned name b Greater behind))
+
+-- a name that is behind the last one is behind the first one
+behind_first : (name : List ℕ) (h : List ℕ × Value) (hs : List (List ℕ × Value)) → AreInOrder (h ∷ hs) → is_behind_last name (h ∷ hs) ≡ true
+    → order name h.0 ≡ Greater
+behind_first name h [] ordered behind = behind_is (order name h.0) behind
+behind_first name h (i ∷ hs) ordered behind = behind_both name h.0 i.0 ordered.0.0 (behind_first name i hs ordered.1 behind)
+
+-- what is behind the last one goes to the end
+pub with_given-last : (g : List ℕ × Value) (hs : List (List ℕ × Value)) → AreInOrder hs → is_behind_last g.0 hs ≡ true → with_given g hs ≡ hs ++ g ∷ []
+with_given-last g [] ordered behind = refl
+with_given-last g (h ∷ []) ordered behind = rw (behind_is (order g.0 h.0) behind) refl
+with_given-last g (h ∷ i ∷ hs) ordered behind =
+    let first : order g.0 h.0 ≡ Greater = behind_first g.0 h (i ∷ hs) ordered behind in
+    rw first (ap (λ is. h ∷ is) (with_given-last g (i ∷ hs) ordered.1 behind))
+
+pub is_behind_last-append : (name : List ℕ) (hs : List (List ℕ × Value)) (g : List ℕ × Value) → is_behind_last name (hs ++ g ∷ []) ≡ is_behind name g.0
+is_behind_last-append name [] g = refl
+is_behind_last-append name (h ∷ []) g = refl
+is_behind_last-append name (h ∷ i ∷ hs) g = is_behind_last-append name (i ∷ hs) g
 
 pub place_in-last : (name : List ℕ) (hs : List (List ℕ × Value)) → AreInOrder hs → is_behind_last name hs ≡ true → place_in name hs ≡ length hs
 place_in-last name [] ordered behind = refl

@@ -1,6 +1,8 @@
 pub mod Ahead
 pub mod Cut
+pub mod Expecting
 pub mod Feeds
+pub mod FirstFeed
 pub mod Given
 pub mod InOrder
 pub mod Placing

@@ -32,7 +32,7 @@ named_by true true a b name rest first later e = let is : a ≡ b = cc in ap (λ
 named_by true false a b name rest first later e = later e
 named_by false same a b name rest first later e = later e
 
-name-input_of : (variables : List Variable) (name : List ℕ) (b : Variable) → input_of variables name ≡ Some b → b.name ≡ name
+pub name-input_of : (variables : List Variable) (name : List ℕ) (b : Variable) → input_of variables name ≡ Some b → b.name ≡ name
 name-input_of [] name b e = absurd cc
 name-input_of (a ∷ variables) name b e =
     named_by (is_input a.role) (pointwise nat_eq a.name name) a b name (input_of variables name) (bytes_eq-Decides a.name name).0

@@ -1,4 +1,5 @@
 -- What private functions alone say of themselves. It is proved, and no public contract rests on what it means.
+pub mod Expected
 pub mod Members
 pub mod Named
 pub mod Ordered

@@ -5,6 +5,7 @@ ghost use Rattle.serde_json.specs.Data.{Members};
 ghost use Rattle.trace_lines.specs.Line.{IsObjectOf, inputs_of};
 ghost use Rattle.trace_lines.specs.Output.{outputs_of, tick_line};
 
+use crate::expected::{Expected, expected_of};
 use crate::inputs::named_inputs;
 use crate::line::{LineFault, inputs_by, object_of};
 use crate::members::{LineRoom, plain_inputs};
@@ -23,12 +24,14 @@ use std::marker::Model;
 pub struct Interface<'a> {
     variables: &'a [Variable],
     inputs: BTreeMap<String, Variable>,
+    expected: Expected,
     outputs: Vec<Row>,
 }
 
 impl<'a> Model for Interface<'a> {
     ghost use Rattle.std.specs.Prelude.{List};
     ghost use Rattle.sc_graph.specs.declared.program.Variable.{Variable};
+    ghost use Rattle.trace_lines.specs.Inside.Expected.{ListsInputs};
     ghost use Rattle.trace_lines.specs.Inside.Named.{NamesInputs};
     ghost use Rattle.trace_lines.specs.Inside.Rows.{ShowsOutputs};
 
@@ -36,7 +39,8 @@ impl<'a> Model for Interface<'a> {
 
     ghost view = { λ i. i.variables.now };
 
-    ghost invariant = { λ i. NamesInputs i.variables.now i.inputs × ShowsOutputs i.variables.now i.outputs.items };
+    ghost invariant = { λ i. NamesInputs i.variables.now i.inputs × ShowsOutputs i.variables.now i.outputs.items
+        × ListsInputs i.variables.now i.expected.inputs.items };
 }
 
 impl<'a> Interface<'a> {
@@ -45,10 +49,12 @@ impl<'a> Interface<'a> {
         ensures { IfOk result (λ interface. interface ≡ variables.now) }
     {
         let inputs = named_inputs(alloc, variables)?;
+        let expected = expected_of(alloc, variables, &inputs)?;
         let outputs = rows_of(alloc, variables)?;
         Ok(Interface {
             variables,
             inputs,
+            expected,
             outputs,
         })
     }
@@ -83,7 +89,7 @@ impl<'a> Interface<'a> {
         ensures input { IsErrOf result LineFault.Input → (members : Members)
             × IsObjectOf line.now members × (inputs_of self.now members ≡ None) }
     {
-        match plain_inputs(alloc, room, self.variables, &self.inputs, line)? {
+        match plain_inputs(alloc, room, self.variables, &self.expected, line)? {
             Some(inputs) => Ok(inputs),
             None => self.read_line(alloc, line),
         }

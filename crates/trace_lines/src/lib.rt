@@ -2,6 +2,8 @@
 //! output shows.
 #![tactic(auto)]
 
+mod expected;
+mod giving;
 mod inputs;
 mod integers;
 mod interface;

@@ -9,6 +9,7 @@ ghost use Rattle.sc_values.specs.Streams.{StaysOpen, IsNotReadBehind};
 ghost use Rattle.trace_lines.specs.Lines.{line_limit, is_feed, has_feed, first_line, after_line, ahead};
 ghost use Rattle.trace_lines.specs.Lines.{TakesLine, IsTooLong};
 
+use memchr::memchr;
 use sc_values::{Failed, Source};
 use std::alloc::{AllocError, Global};
 use std::marker::Model;
@@ -16,7 +17,7 @@ use std::marker::Model;
 /// The most bytes that a line may have.
 pub const LINE_LIMIT: usize = 65_536;
 
-const PIECE: usize = 4_096;
+const PIECE: usize = 16_384;
 
 /// Why there is no next line.
 #[derive(Clone, Copy, Debug, PartialEq, Eq)]
@@ -182,5 +183,5 @@ impl Lines {
 fn feed_in(bytes: &[u8]) -> Option<usize>
     ensures { result ≡ position is_feed bytes.now }
 {
-    bytes.iter().position(|byte| *byte == b'\n')
+    memchr(b'\n', bytes)
 }

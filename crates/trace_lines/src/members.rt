@@ -8,18 +8,20 @@ ghost use Rattle.serde_json.specs.Data.{Members, object};
 ghost use Rattle.serde_json.specs.Find.{as_i64};
 ghost use Rattle.serde_json.specs.Read.{read, number_of};
 ghost use Rattle.trace_lines.specs.Line.{int32_of, IsObjectOf, inputs_of};
-ghost use Rattle.trace_lines.specs.Inside.Named.{NamesInputs};
-ghost use Rattle.trace_lines.specs.Inside.Members.{Spells, GivesFirst, BeginsGiving, GivesAll};
+ghost use Rattle.trace_lines.specs.Inside.Expected.{ListsInputs, GivesFirstTo, BeginsGivingTo};
+ghost use Rattle.trace_lines.specs.Inside.Members.{Spells, GivesAll};
 
+use crate::expected::{Expected, place_of};
+use crate::giving::give;
 use crate::integers::integer_of;
-use crate::line::input_of;
-use crate::ordered::{is_near_end, put};
 use json::{Reader, Scratch, Token};
 use sc_graph::Variable;
 use sc_values::{Kind, Name, Value};
 use sqlite_items::Items;
 use std::alloc::{AllocError, Global};
-use std::collections::BTreeMap;
+
+// A member and the comma or brace behind it have at least as many bytes.
+const SHORTEST_MEMBER: usize = 6;
 
 /// The room that lines are read in: made once, and kept from line to line.
 #[derive(Drop)]
@@ -60,33 +62,37 @@ fn value_of(kind: Kind, token: Token<'_>) -> Option<Value>
     }
 }
 
-// What a member of this name gives, of which the value comes next.
+// What a member of this name gives, of which the value comes next: the value, and the place of the input.
 fn given_first(
     variables: &[Variable],
-    named: &BTreeMap<String, Variable>,
+    expected: &Expected,
+    from: usize,
     name: &str,
     reader: &mut Reader<'_>,
-) -> Option<(Name, Value)>
-    requires { NamesInputs variables.now named.now }
-    ensures { IfSome result (λ g. GivesFirst variables.now name.now reader.old reader.new g) }
+) -> Option<(usize, Value)>
+    requires { ListsInputs variables.now expected.now.inputs.items }
+    ensures { IfSome result
+        (λ p. GivesFirstTo variables.now expected.now.inputs.items name.now reader.old reader.new p) }
 {
-    let input = input_of(named, name)?;
-    let value = value_of(input.kind, reader.next()?)?;
-    Some((input.name, value))
+    let place = place_of(expected, from, name)?;
+    let input = sqlite_items::at(&expected.inputs, place)?;
+    let value = value_of(input.1.kind(), reader.next()?)?;
+    Some((place, value))
 }
 
 // What the next member gives. None: there is none.
 fn next_given(
     variables: &[Variable],
-    named: &BTreeMap<String, Variable>,
+    expected: &Expected,
+    from: usize,
     reader: &mut Reader<'_>,
-) -> Result<Option<(Name, Value)>, Unusual>
-    requires { NamesInputs variables.now named.now }
+) -> Result<Option<(usize, Value)>, Unusual>
+    requires { ListsInputs variables.now expected.now.inputs.items }
     ensures { IfOk result (λ next. MatchOption next (read_key reader.old ≡ Some (None, reader.new))
-        (λ g. BeginsGiving variables.now reader.old reader.new g)) }
+        (λ p. BeginsGivingTo variables.now expected.now.inputs.items reader.old reader.new p)) }
 {
     match reader.next_key() {
-        Ok(Some(name)) => match given_first(variables, named, name, reader) {
+        Ok(Some(name)) => match given_first(variables, expected, from, name, reader) {
             Some(given) => Ok(Some(given)),
             None => Err(Unusual),
         },
@@ -95,24 +101,29 @@ fn next_given(
     }
 }
 
-// What all members give up to the end of the object. None: one is unusual, or they are many, and not in
-// the order of their names.
+// What all members, of which there are no more than `most`, give up to the end of the object. None: one is
+// unusual, or they are many, and not in the order of their names.
 fn all_given(
     alloc: Global,
     variables: &[Variable],
-    named: &BTreeMap<String, Variable>,
+    expected: &Expected,
+    most: usize,
     reader: &mut Reader<'_>,
 ) -> Result<Option<Vec<(Name, Value)>>, AllocError>
-    requires { NamesInputs variables.now named.now }
+    requires { ListsInputs variables.now expected.now.inputs.items }
     ensures { IfOk result (λ all. IfSome all
         (λ found. GivesAll variables.now reader.old reader.new found.items)) }
 {
-    let mut found = Vec::new(alloc);
+    let mut found = Vec::with_capacity(alloc, expected.inputs.len().min(most))?;
+    let mut from = 0;
     'members: loop {
-        match next_given(variables, named, reader) {
-            Ok(Some(given)) if is_near_end(&found, &given.0) => put(&mut found, given)?,
+        match next_given(variables, expected, from, reader) {
+            Ok(Some(given)) => match give(&mut found, &expected.inputs, from, given)? {
+                Some(next) => from = next,
+                None => return Ok(None),
+            },
             Ok(None) => return Ok(Some(found)),
-            Ok(Some(_)) | Err(Unusual) => return Ok(None),
+            Err(Unusual) => return Ok(None),
         }
     }
 }
@@ -128,11 +139,11 @@ fn begins_object(reader: &mut Reader<'_>) -> bool
 fn given_by(
     alloc: Global,
     variables: &[Variable],
-    named: &BTreeMap<String, Variable>,
+    expected: &Expected,
     text: &str,
     scratch: &mut Scratch,
 ) -> Result<Option<Items<(Name, Value)>>, AllocError>
-    requires { NamesInputs variables.now named.now }
+    requires { ListsInputs variables.now expected.now.inputs.items }
     ensures { IfOk result (λ all. IfSome all (λ inputs. (members : Members)
         × (read text.now ≡ Some (object members)) × (inputs_of variables.now members ≡ Some inputs))) }
 {
@@ -140,7 +151,8 @@ fn given_by(
     if !begins_object(&mut reader) {
         return Ok(None);
     }
-    let Some(found) = all_given(alloc, variables, named, &mut reader)? else {
+    let most = text.len() / SHORTEST_MEMBER;
+    let Some(found) = all_given(alloc, variables, expected, most, &mut reader)? else {
         return Ok(None);
     };
     if reader.next().is_some() {
@@ -149,22 +161,22 @@ fn given_by(
     Ok(Some(Items::from_vec(found)))
 }
 
-/// What a line gives to the inputs of these names, which are those among the variables, where it is an
-/// object in which each member gives true, false or an integer. None: it has to be read in another way, as
-/// have many members that are not in the order of their names.
+/// What a line gives to these inputs, which are among the variables, where it is an object in which each
+/// member gives true, false or an integer. None: it has to be read in another way, as have many members
+/// that are not in the order of their names.
 pub(crate) fn plain_inputs(
     alloc: Global,
     room: &mut LineRoom,
     variables: &[Variable],
-    named: &BTreeMap<String, Variable>,
+    expected: &Expected,
     line: &[u8],
 ) -> Result<Option<Items<(Name, Value)>>, AllocError>
-    requires { NamesInputs variables.now named.now }
+    requires { ListsInputs variables.now expected.now.inputs.items }
     ensures { IfOk result (λ all. IfSome all (λ inputs. (members : Members)
         × IsObjectOf line.now members × (inputs_of variables.now members ≡ Some inputs))) }
 {
     match simdutf8::basic::from_utf8(line) {
-        Ok(text) => given_by(alloc, variables, named, text, &mut room.scratch),
+        Ok(text) => given_by(alloc, variables, expected, text, &mut room.scratch),
         Err(_) => Ok(None),
     }
 }

@@ -16,8 +16,8 @@ fn is_behind(name: &Name, other: &Name) -> bool
     name.cmp(other).is_gt()
 }
 
-// Whether this name is behind the last one.
-fn is_behind_last(found: &[(Name, Value)], name: &Name) -> bool
+/// Whether this name is behind the last one.
+pub(crate) fn is_behind_last(found: &[(Name, Value)], name: &Name) -> bool
     ensures { result ≡ is_behind_last name.now found.now }
 {
     match found.last() {
