@@ -142,13 +142,20 @@ def resolved(region, places):
         for s in region.states])
 
 
-def read_chart(text):
-    """The chart that a text spells, or a Fault."""
+def chart_draft_of(text):
+    """What a text spells by the grammar, its name, its declarations and its regions, and the rules that were held against it,
+    with all its flaws; or a Fault."""
     if not is_utf8(text):
         raise Fault(1, 0)
     name, declarations, regions = ChartGrammar(text).chart()
     rules = ChartRules(declarations)
     rules.regions(regions)
+    return name, declarations, regions, rules
+
+
+def read_chart(text):
+    """The chart that a text spells, or a Fault."""
+    name, declarations, regions, rules = chart_draft_of(text)
     tell_first(rules.flaws)
     variables = [Variable(name, role, kind) for role, kind, (_, name, _) in declarations]
     places = {v.name: x for x, v in enumerate(variables)}

@@ -358,16 +358,14 @@ class Rules:
         self.expression(code, start, self.kinds.get(name))
 
     def expression(self, code, start, wanted):
-        """Of the kind that is wanted, or of any."""
+        """Of the kind that is wanted. None: what is assigned is unknown, and of the value no kind is told."""
         unknown = [o[2] for o in code if o[0] == "load" and o[1] not in self.kinds]
         for place in unknown:
             self.flaw(3, place)
         if is_too_large(code):
             self.flaw(7, start)
-        if not unknown:
-            kind = kind_of(code, self.kinds)
-            if kind is None or wanted not in (None, kind):
-                self.flaw(5, start)
+        if wanted and not unknown and kind_of(code, self.kinds) != wanted:
+            self.flaw(5, start)
 
 
 # ---- what a text spells that keeps the rules
@@ -420,13 +418,20 @@ def is_utf8(text):
     return True
 
 
-def read(text):
-    """The program that a text spells, or a Fault."""
+def draft_of(text):
+    """What a text spells by the grammar, its name, its declarations and its statements, and the rules that were held against
+    it, with all its flaws; or a Fault."""
     if not is_utf8(text):
         raise Fault(1, 0)
     name, declarations, body = Grammar(text).program()
     rules = Rules(declarations)
     rules.thread(body)
+    return name, declarations, body, rules
+
+
+def read(text):
+    """The program that a text spells, or a Fault."""
+    name, declarations, body, rules = draft_of(text)
     tell_first(rules.flaws)
     variables = [Variable(name, role, kind) for role, kind, (_, name, _) in declarations]
     return Program(name, variables, resolved(body, {v.name: x for x, v in enumerate(variables)}))

@@ -23,10 +23,10 @@ data Opened : Inner → Inner → Type 1 where
   from_none : (e : Grows Phrase) (i : Inner) → Opened NoMore (Nested (region e i))
   in_each : (r r' : Grows DraftRegion) → Deeper DraftRegion r r' → Opened (Nested r) (Nested r')
 
-name_same : Deeper Named name name
+pub name_same : Deeper Named name name
 name_same = deeper_made _ _ _ _ _ (same_one _)
 
-last_name_same : Deeper Named last_name last_name
+pub last_name_same : Deeper Named last_name last_name
 unfolding last_name
 last_name_same = deeper_made _ _ _ _ _ (deeper_seq _ _ _ _ _ _ name_same (same_one _))
 
@@ -37,26 +37,26 @@ declaration_same =
     (deeper_seq _ _ _ _ _ _ (deeper_made _ _ _ _ _ (same_one _))
     (deeper_seq _ _ _ _ _ _ (deeper_made _ _ _ _ _ (same_one _)) last_name_same))
 
-flag_same : (w : Word) → Deeper Bool (flag w) (flag w)
+pub flag_same : (w : Word) → Deeper Bool (flag w) (flag w)
 unfolding flag
 flag_same w = deeper_made _ _ _ _ _ (deeper_maybe _ _ _ (same_one _))
 
-target_same : Deeper Named target target
+pub target_same : Deeper Named target target
 unfolding target
 target_same = deeper_made _ _ _ _ _ (deeper_seq _ _ _ _ _ _ (same_one _) last_name_same)
 
 module _ (e e' : Grows Phrase) (w : Deeper Phrase e e') where
-  placed_wider : Deeper TextExpression (placed e) (placed e')
+  pub placed_wider : Deeper TextExpression (placed e) (placed e')
   unfolding placed
   placed_wider = deeper_made _ _ _ _ _ (deeper_headed _ _ _ w)
 
-  effect_wider : Deeper DraftEffect (effect e) (effect e')
+  pub effect_wider : Deeper DraftEffect (effect e) (effect e')
   unfolding effect
   effect_wider =
       deeper_made _ _ _ _ _
       (deeper_seq _ _ _ _ _ _ name_same (deeper_made _ _ _ _ _ (deeper_seq _ _ _ _ _ _ (same_one _) placed_wider)))
 
-  effects_wider : Deeper (List DraftEffect) (effects e) (effects e')
+  pub effects_wider : Deeper (List DraftEffect) (effects e) (effects e')
   unfolding effects some_effects next_effect
   effects_wider =
       deeper_made _ _ _ _ _

@@ -13,7 +13,7 @@ use Rattle.sc_text.proofs.Steps.{wrong_at, next_stops}
 use Rattle.chart_drafts.specs.declared.draft.DraftChart.{DraftChart}
 use Rattle.chart_drafts.specs.ChartText.{chart_text}
 use Rattle.chart_drafts.specs.Reading.{IsDraft, IsDraftFault}
-use Rattle.chart_drafts.specs.Inside.{Gives}
+use Rattle.chart_drafts.specs.Phrase.{Gives}
 use Rattle.chart_drafts.proofs.Deepens.{is_language}
 
 -- ---- a chart up to the end of its tokens

@@ -10,7 +10,7 @@ use Rattle.sc_text.specs.Expression.{text_tokens, after, before}
 use Rattle.sc_text.specs.Reading.{Stops, Takes}
 use Rattle.sc_text.proofs.Steps.{wrong_at, one_fails, one_got, next_stops, stops_as}
 use Rattle.chart_drafts.specs.ChartText.{Grows}
-use Rattle.chart_drafts.specs.Inside.{Gives}
+use Rattle.chart_drafts.specs.Phrase.{Gives}
 
 module _ {A B : Type 0} (g : Grows A) (h : Grows B) (text : List Token) where
   pub seq_stops_first : (end : ℕ) (f : ReadFault) → Stops end (read g text) f → Stops end (read (seq g h) text) f

@@ -32,19 +32,19 @@ use Rattle.chart_drafts.specs.ChartText.{region, within, chart, chart_text}
 use Rattle.chart_drafts.specs.Reading.{IsDraft}
 use Rattle.chart_drafts.specs.Shape.{IsWritable, IsTransitionShaped, IsStateShaped, IsRegionShaped, AreRegionsShaped, IsShaped}
 
-abbrev EachChart : {A : Type 0} → Grows A → (A → Type 0) → Type 0
+abbrev pub EachChart : {A : Type 0} → Grows A → (A → Type 0) → Type 0
 EachChart g P = Each {L = text_tokens} (IsWell language.Chart) g P
 
-abbrev IsNamed : Named → Type 0
+abbrev pub IsNamed : Named → Type 0
 IsNamed n = IsNameIn language.Chart n.name
 
-abbrev Whatever : {A : Type 0} → A → Type 0
+abbrev pub Whatever : {A : Type 0} → A → Type 0
 Whatever x = Unit {0}
 
-each_any : {A : Type 0} (g : Grows A) → EachChart g Whatever
+pub each_any : {A : Type 0} (g : Grows A) → EachChart g Whatever
 each_any g = record { holds = λ text x q s. tt }
 
-name_kept : EachChart name IsNamed
+pub name_kept : EachChart name IsNamed
 name_kept = each_made _ _ _ _ _ IsNamed (each_name language.Chart) (λ t h. h)
 
 last_name_kept : EachChart last_name IsNamed
@@ -73,7 +73,7 @@ module _ (e : Grows Phrase) (w : EachChart e CanWrite) where
   unfolding effect
   effect_kept = each_made _ _ _ _ _ (λ x. IsWritable x.value) (each_seq _ _ _ _ _ _ name_kept (each_after _ _ _ placed_kept)) (λ x h. h.1)
 
-  listed_kept : {A : Type 0} (g h : Grows A) (P : A → Type 0) → EachChart g P → EachChart h P → EachChart (listed g h) (Every P)
+  pub listed_kept : {A : Type 0} (g h : Grows A) (P : A → Type 0) → EachChart g P → EachChart h P → EachChart (listed g h) (Every P)
   listed_kept g h P a b = each_made _ _ _ _ _ (Every P) (each_seq _ _ _ _ _ _ a (each_many _ _ _ b)) (λ x h. (h.0, h.1))
 
   none_or_all : {A : Type 0} (P : A → Type 0) (xs : Option (List A)) → OfIt (Every P) xs → Every P (or_none xs)
@@ -86,27 +86,27 @@ module _ (e : Grows Phrase) (w : EachChart e CanWrite) where
       each_made _ _ _ _ _ (Every (λ x. IsWritable x.value))
       (each_maybe _ _ _ (each_after _ _ _ (listed_kept _ _ _ effect_kept (each_after _ _ _ effect_kept)))) (λ xs h. none_or_all _ xs h)
 
-  deed_kept : EachChart (deed e) (λ x. Every (λ f. IsWritable f.value) x.0)
+  pub deed_kept : EachChart (deed e) (λ x. Every (λ f. IsWritable f.value) x.0)
   unfolding deed
   deed_kept = each_as _ _ _ (λ x. Every (λ f. IsWritable f.value) x.0) (each_seq _ _ _ _ _ _ effects_kept (each_any _)) (λ x h. h.0)
 
-  trigger_kept : EachChart (trigger e) (OfIt IsWritable)
+  pub trigger_kept : EachChart (trigger e) (OfIt IsWritable)
   unfolding trigger
   trigger_kept = each_maybe _ _ _ (each_after _ _ _ placed_kept)
 
-  of_it : (o : Option TextExpression) → OfIt IsWritable o → (x : TextExpression) → o ≡ Some x → IsWritable x
+  pub of_it : (o : Option TextExpression) → OfIt IsWritable o → (x : TextExpression) → o ≡ Some x → IsWritable x
   of_it None h x s = absurd (cc)
   of_it (Some y) h x s =
       let same : y ≡ x = cc in
       subst IsWritable same h
 
-  termination_kept : EachChart (termination e) IsTransitionShaped
+  pub termination_kept : EachChart (termination e) IsTransitionShaped
   unfolding termination
   termination_kept =
       each_made _ _ _ _ _ IsTransitionShaped (each_seq _ _ _ _ _ _ (each_any _) deed_kept)
       (λ x h. record { plain_join = λ j. (refl, refl); trigger = of_it None tt; effects = every_at (λ f. IsWritable f.value) x.1.0 h.1 })
 
-  moment_kept : EachChart (moment tested_words) (λ m. m.0 ≢ kind.Join)
+  pub moment_kept : EachChart (moment tested_words) (λ m. m.0 ≢ kind.Join)
   moment_kept =
       each_made _ _ _ _ _ (λ m. m.0 ≢ kind.Join) (each_one tested_words (λ t. tested_by t.kind ≢ kind.Join) (λ t q c. not_join t.kind c)) (λ t h. h)
 
@@ -127,7 +127,7 @@ module _ (e : Grows Phrase) (w : EachChart e CanWrite) where
 
   -- ---- states and regions
 
-  none_shaped : (n : ℕ) → AreRegionsShaped n []
+  pub none_shaped : (n : ℕ) → AreRegionsShaped n []
   none_shaped zero = refl
   none_shaped (suc n) = λ i r s. absurd (cc)
 
@@ -155,7 +155,7 @@ module _ (e : Grows Phrase) (w : EachChart e CanWrite) where
   body_kept n i f =
       each_either _ _ _ _ (each_made _ _ _ _ _ (InsideShaped n) (each_any _) (λ t h. (none_shaped n, tt))) (each_after _ _ _ (inside_kept n i f))
 
-  state_shaped : (n : ℕ) (is_initial is_final : Bool) (called : Named) (x : List DraftRegion × List DraftTransition) → IsNamed called → InsideShaped n x
+  pub state_shaped : (n : ℕ) (is_initial is_final : Bool) (called : Named) (x : List DraftRegion × List DraftTransition) → IsNamed called → InsideShaped n x
       → IsStateShaped (AreRegionsShaped n) (state_of is_initial is_final called x)
   state_shaped n is_initial is_final called x h i =
       let is = out-roll-DraftState (record { is_initial = is_initial; is_final = is_final; named = called; regions = x.0; transitions = x.1 }) in
@@ -166,7 +166,7 @@ module _ (e : Grows Phrase) (w : EachChart e CanWrite) where
             (every_at IsTransitionShaped x.1 i.1);
       }
 
-  region_shaped : (n : ℕ) (called : Named) (inner : List DraftState) → IsNamed called → Every (IsStateShaped (AreRegionsShaped n)) inner
+  pub region_shaped : (n : ℕ) (called : Named) (inner : List DraftState) → IsNamed called → Every (IsStateShaped (AreRegionsShaped n)) inner
       → IsRegionShaped (AreRegionsShaped n) (region_of called inner)
   region_shaped n called inner h i =
       let is = out-roll-DraftRegion (record { named = called; states = inner }) in
@@ -197,7 +197,7 @@ module _ (e : Grows Phrase) (w : EachChart e CanWrite) where
   within_fits zero = none_more
   within_fits (suc n) = nested n _ (region_kept n (within e n) (within_fits n))
 
-  first_there : {A : Type 0} (x : A) (xs : List A) → x ∷ xs ≢ []
+  pub first_there : {A : Type 0} (x : A) (xs : List A) → x ∷ xs ≢ []
   first_there x xs same = cc
 
   chart_kept : EachChart (chart e (within e 31)) IsShaped

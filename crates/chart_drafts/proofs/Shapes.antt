@@ -14,7 +14,7 @@ use Rattle.chart_drafts.specs.ChartText.{Grows, the_word, the_sign, name, last_n
 use Rattle.chart_drafts.specs.ChartText.{effects, target, trigger, deed, termination, tested_words, tested, transition, transition_first, leaving, listed}
 use Rattle.chart_drafts.specs.ChartText.{Inner, NoMore, Nested, bare, inside, simple, body, state_first, state, states, region, within, chart, chart_text}
 
-abbrev IsExpression : Grows Phrase → Type 0
+abbrev pub IsExpression : Grows Phrase → Type 0
 IsExpression e = Is e expression_first expression_tails
 
 -- what begins the end of a state
@@ -43,11 +43,11 @@ declaration_is =
     (shaped_seq _ _ _ _ _ _ _ _ _ _ (shaped_made _ _ _ _ _ _ _ (shaped_one _ refl)) last_name_is refl)
     refl)
 
-flag_is : (w : Word) → Shaped (flag w) true (the_word w) (the_word w)
+pub flag_is : (w : Word) → Shaped (flag w) true (the_word w) (the_word w)
 unfolding flag
 flag_is w = shaped_made _ _ _ _ _ _ _ (shaped_maybe _ _ _ _ (shaped_one _ refl))
 
-target_is : Shaped target false (the_sign sign.Arrow) []
+pub target_is : Shaped target false (the_sign sign.Arrow) []
 unfolding target
 target_is = shaped_made _ _ _ _ _ _ _ (shaped_seq _ _ _ _ _ _ _ _ _ _ (shaped_one _ refl) last_name_is refl)
 
@@ -55,11 +55,11 @@ simple_is : Shaped simple false (the_sign sign.Semicolon) []
 simple_is = shaped_made _ _ _ _ _ _ _ (shaped_one _ refl)
 
 module _ (e : Grows Phrase) (h : IsExpression e) where
-  placed_is : Shaped (placed e) false expression_first expression_tails
+  pub placed_is : Shaped (placed e) false expression_first expression_tails
   unfolding placed
   placed_is = shaped_made _ _ _ _ _ _ _ (shaped_headed _ _ _ _ h)
 
-  effect_is : Shaped (effect e) false (AName ∷ []) expression_tails
+  pub effect_is : Shaped (effect e) false (AName ∷ []) expression_tails
   unfolding effect
   effect_is =
       shaped_made _ _ _ _ _ _ _
@@ -71,7 +71,7 @@ module _ (e : Grows Phrase) (h : IsExpression e) where
   unfolding next_effect
   next_effect_is = shaped_made _ _ _ _ _ _ _ (shaped_seq _ _ _ _ _ _ _ _ _ _ (shaped_one _ refl) effect_is refl)
 
-  effects_is : Shaped (effects e) true (the_word word.Do) (TheWord word.Do ∷ TheSign sign.Comma ∷ expression_tails)
+  pub effects_is : Shaped (effects e) true (the_word word.Do) (TheWord word.Do ∷ TheSign sign.Comma ∷ expression_tails)
   unfolding effects some_effects
   effects_is =
       shaped_made _ _ _ _ _ _ _
@@ -82,12 +82,12 @@ module _ (e : Grows Phrase) (h : IsExpression e) where
       (shaped_seq _ _ _ _ _ _ _ _ _ _ effect_is (shaped_many _ _ _ _ next_effect_is refl) refl))
       refl)))
 
-  trigger_is : Shaped (trigger e) true (the_word word.If) (TheWord word.If ∷ expression_tails)
+  pub trigger_is : Shaped (trigger e) true (the_word word.If) (TheWord word.If ∷ expression_tails)
   unfolding trigger
   trigger_is =
       shaped_maybe _ _ _ _ (shaped_made _ _ _ _ _ _ _ (shaped_seq _ _ _ _ _ _ _ _ _ _ (shaped_one _ refl) placed_is refl))
 
-  deed_is : Shaped (deed e) false (TheWord word.Do ∷ TheSign sign.Arrow ∷ []) []
+  pub deed_is : Shaped (deed e) false (TheWord word.Do ∷ TheSign sign.Arrow ∷ []) []
   unfolding deed
   deed_is = shaped_seq _ _ _ _ _ _ _ _ _ _ effects_is target_is refl
 

@@ -9,10 +9,6 @@ use Rattle.sc_text.specs.Expression.{text_tokens}
 use Rattle.drafts.specs.Parts.{name_of}
 use Rattle.chart_drafts.specs.ChartText.{Grows}
 
--- a phrase was read, and the text goes on at the rest
-pub record Gives {A : Type 0} (o : Outcome Token A) (x : A) (rest : List Token) : Type 0 where
-  pub is : o ≡ Got x rest
-
 -- some phrases of a row were read; so many more may follow, each beginning with a token of these classes
 pub record IsGoing {A : Type 0} (o : Outcome Token (List A)) (g : Grows A) (ks : List Class) (found : List A) (left : ℕ) (rest : List Token) : Type 0 where
   pub begins : first g ≡ ks

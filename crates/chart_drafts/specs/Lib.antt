@@ -2,6 +2,7 @@ pub mod Draft
 pub mod ChartText
 pub mod Flaws
 pub mod Inside
+pub mod Phrase
 pub mod Laws
 pub mod Reading
 pub mod Shape

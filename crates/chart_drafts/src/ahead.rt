@@ -12,12 +12,12 @@ use sc_text::{ReadFault, Sign, Token, Word};
 
 /// The tokens that are still to be read. The functions that read take what they read off the front.
 #[derive(Drop)]
-pub(crate) struct Ahead<'a> {
-    pub(crate) tokens: &'a [Token],
+pub struct Ahead<'a> {
+    pub tokens: &'a [Token],
 }
 
 /// Takes this sign off the front. Err: another token is there.
-pub(crate) fn skip_sign(ahead: &mut Ahead, end: usize, sign: Sign) -> Result<(), ReadFault>
+pub fn skip_sign(ahead: &mut Ahead, end: usize, sign: Sign) -> Result<(), ReadFault>
     ensures { MatchResult result
         (λ _. Takes (read (one {L = text_tokens} (the_sign sign)) ahead.old.tokens.now) ahead.new.tokens.now)
         (λ fault. Stops end (read (one {L = text_tokens} (the_sign sign)) ahead.old.tokens.now) fault) }
@@ -27,7 +27,7 @@ pub(crate) fn skip_sign(ahead: &mut Ahead, end: usize, sign: Sign) -> Result<(),
 }
 
 /// Takes this word off the front. Err: another token is there.
-pub(crate) fn skip_word(ahead: &mut Ahead, end: usize, word: Word) -> Result<(), ReadFault>
+pub fn skip_word(ahead: &mut Ahead, end: usize, word: Word) -> Result<(), ReadFault>
     ensures { MatchResult result
         (λ _. Takes (read (one {L = text_tokens} (the_word word)) ahead.old.tokens.now) ahead.new.tokens.now)
         (λ fault. Stops end (read (one {L = text_tokens} (the_word word)) ahead.old.tokens.now) fault) }

@@ -1,6 +1,6 @@
 //! Reading a chart, and telling the flaws of its draft.
 
-ghost use Rattle.std.specs.Prelude.{◌≡◌, None, IfOk, IfErr, slice_get};
+ghost use Rattle.std.specs.Prelude.{◌≡◌, None, IfOk, IfErr};
 ghost use Rattle.drafts.specs.Told.{told_of};
 ghost use Rattle.drafts.specs.Inside.{first_behind};
 ghost use Rattle.chart_drafts.specs.Flaws.{chart_flaws};
@@ -10,7 +10,7 @@ use crate::draft::DraftChart;
 use crate::region_flaws::region_flaws;
 use crate::whole::read_draft;
 use core_charts::DEPTH_LIMIT;
-use drafts::{Flaw, Scope};
+use drafts::{Flaw, Scope, first_told};
 use sc_text::ReadFault;
 use sqlite_items::Items;
 use std::alloc::{AllocError, Global};
@@ -29,21 +29,11 @@ pub fn read_checked(alloc: Global, text: &str) -> Result<DraftChart, ReadFault>
     }
 }
 
-#[tactic(auto, using(drafts::proofs::ToldInOrder::first_is))]
 fn first_flaw(alloc: Global, draft: &DraftChart) -> Result<Option<Flaw>, AllocError>
     ensures { IfOk result (λ first. first ≡ first_behind None (chart_flaws draft.now)) }
 {
     let told = told_flaws(alloc, draft)?;
-    Ok(first_of(told.as_slice()))
-}
-
-fn first_of(told: &[Flaw]) -> Option<Flaw>
-    ensures { result ≡ slice_get told.now 0 }
-{
-    match told {
-        [] => None,
-        [first, ..] => Some(*first),
-    }
+    Ok(first_told(told.as_slice()))
 }
 
 /// The flaws of a draft that are told: the first twenty, in the order of the text. Err: memory was refused.

@@ -6,7 +6,7 @@ ghost use Rattle.sc_text.specs.Expression.{text_tokens, expression};
 ghost use Rattle.sc_text.specs.Reading.{Stops};
 ghost use Rattle.chart_drafts.specs.ChartText.{state_first, listed, inside, body, state, states, region, braced};
 ghost use Rattle.chart_drafts.specs.ChartText.{within};
-ghost use Rattle.chart_drafts.specs.Inside.{Gives};
+ghost use Rattle.chart_drafts.specs.Phrase.{Gives};
 
 use crate::ahead::{Ahead, skip_sign};
 use crate::draft::{DraftRegion, DraftState, DraftTransition};
@@ -106,8 +106,8 @@ fn states(
     Ok(found)
 }
 
-// Whether a state is next.
-fn state_follows(tokens: &[Token]) -> bool
+/// Whether a state is next.
+pub fn state_follows(tokens: &[Token]) -> bool
     ensures { result ≡ starts text_tokens state_first tokens.now }
 {
     word_follows(tokens, Word::Initial)

@@ -96,8 +96,9 @@ fn trigger_flaws(
     }
 }
 
+/// Tells the flaws of some effects. Err: memory was refused.
 #[tactic(auto, using(crate::proofs::Flawed::effects_over))]
-fn effect_flaws(
+pub fn effect_flaws(
     alloc: Global,
     scope: &Scope,
     effects: &[DraftEffect],

@@ -8,7 +8,7 @@ ghost use Rattle.sc_text.specs.Reading.{Stops};
 ghost use Rattle.chart_drafts.specs.ChartText.{the_sign, declaration, placed, effect, next_effect, some_effects};
 ghost use Rattle.chart_drafts.specs.ChartText.{effects, target, trigger, deed, termination, tested, transition_first};
 ghost use Rattle.chart_drafts.specs.ChartText.{transition, leaving};
-ghost use Rattle.chart_drafts.specs.Inside.{Gives};
+ghost use Rattle.chart_drafts.specs.Phrase.{Gives};
 
 use crate::ahead::{Ahead, skip_sign};
 use crate::draft::{DraftEffect, DraftTransition};
@@ -57,9 +57,9 @@ fn declaration(ahead: &mut Ahead, end: usize) -> Result<Declaration, ReadFault>
     Ok(Declaration { role, kind, named })
 }
 
-// An expression with its place.
+/// An expression with its place.
 #[tactic(auto, using(crate::proofs::Pieces::placed_stops, crate::proofs::Pieces::placed_gives))]
-fn placed(alloc: Global, ahead: &mut Ahead, end: usize) -> Result<TextExpression, ReadFault>
+pub fn placed(alloc: Global, ahead: &mut Ahead, end: usize) -> Result<TextExpression, ReadFault>
     ensures { MatchResult result
         (λ x. Gives (read (placed (expression 0)) ahead.old.tokens.now) x ahead.new.tokens.now)
         (λ fault. Stops end (read (placed (expression 0)) ahead.old.tokens.now) fault) }
@@ -70,9 +70,9 @@ fn placed(alloc: Global, ahead: &mut Ahead, end: usize) -> Result<TextExpression
     Ok(TextExpression { start, operations })
 }
 
-// What a variable becomes.
+/// What a variable becomes.
 #[tactic(auto, using(crate::proofs::Parts::after_stops_first, crate::proofs::Parts::after_stops_second, crate::proofs::Parts::after_gives))]
-fn value(alloc: Global, ahead: &mut Ahead, end: usize) -> Result<TextExpression, ReadFault>
+pub fn value(alloc: Global, ahead: &mut Ahead, end: usize) -> Result<TextExpression, ReadFault>
     ensures { MatchResult result
         (λ x. Gives (read (after (the_sign Sign.Becomes) (placed
         (expression 0))) ahead.old.tokens.now) x ahead.new.tokens.now)
@@ -105,8 +105,9 @@ fn next_effect(alloc: Global, ahead: &mut Ahead, end: usize) -> Result<DraftEffe
     Ok(effect)
 }
 
+/// The assignments behind the word `do`.
 #[tactic(auto, using(crate::proofs::Pieces::effects_go, crate::proofs::Pieces::no_first_effect, crate::proofs::RowReading::going_ends, crate::proofs::RowReading::going_over, crate::proofs::RowReading::going_stops, crate::proofs::RowReading::going_on))]
-fn some_effects(
+pub fn some_effects(
     alloc: Global,
     ahead: &mut Ahead,
     end: usize,
@@ -154,8 +155,9 @@ fn target(ahead: &mut Ahead, end: usize) -> Result<Named, ReadFault>
     Ok(target)
 }
 
+/// The condition of a transition, where it has one.
 #[tactic(auto, using(crate::proofs::Pieces::trigger_missing, crate::proofs::Pieces::trigger_there, crate::proofs::Pieces::trigger_stops))]
-fn trigger(
+pub fn trigger(
     alloc: Global,
     ahead: &mut Ahead,
     end: usize,
@@ -172,9 +174,9 @@ fn trigger(
     Ok(Some(condition))
 }
 
-// What is done, and where a transition leads.
+/// What is done, and where a transition leads.
 #[tactic(auto, using(crate::proofs::Parts::seq_stops_first, crate::proofs::Parts::seq_stops_second, crate::proofs::Parts::seq_gives), unfolding(crate::specs::ChartText::deed))]
-fn deed(
+pub fn deed(
     alloc: Global,
     ahead: &mut Ahead,
     end: usize,
@@ -188,8 +190,13 @@ fn deed(
     Ok((effects, target))
 }
 
+/// A transition that is taken when all regions have ended.
 #[tactic(auto, using(crate::proofs::Pieces::termination_made, crate::proofs::Parts::made_stops, crate::proofs::Parts::seq_stops_first, crate::proofs::Parts::seq_stops_second), unfolding(crate::specs::ChartText::termination))]
-fn termination(alloc: Global, ahead: &mut Ahead, end: usize) -> Result<DraftTransition, ReadFault>
+pub fn termination(
+    alloc: Global,
+    ahead: &mut Ahead,
+    end: usize,
+) -> Result<DraftTransition, ReadFault>
     ensures { MatchResult result
         (λ x. Gives (read (termination (expression 0)) ahead.old.tokens.now) x ahead.new.tokens.now)
         (λ fault. Stops end (read (termination (expression 0)) ahead.old.tokens.now) fault) }

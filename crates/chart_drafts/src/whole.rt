@@ -7,7 +7,7 @@ ghost use Rattle.sc_text.specs.Expression.{expression};
 ghost use Rattle.sc_text.specs.Reading.{Stops};
 ghost use Rattle.chart_drafts.specs.ChartText.{listed, declaration, region, braced, within, chart_text};
 ghost use Rattle.chart_drafts.specs.Reading.{IsDraft, IsDraftFault};
-ghost use Rattle.chart_drafts.specs.Inside.{Gives};
+ghost use Rattle.chart_drafts.specs.Phrase.{Gives};
 
 use crate::ahead::{Ahead, skip_sign};
 use crate::draft::{DraftChart, DraftRegion};

@@ -9,7 +9,8 @@ ghost use Rattle.chart_drafts.specs.Draft.{tested_by};
 ghost use Rattle.drafts.specs.Parts.{role_of, kind_of};
 ghost use Rattle.chart_drafts.specs.ChartText.{the_word, roles, kinds, tested_words, name, last_name, declared_role};
 ghost use Rattle.chart_drafts.specs.ChartText.{declared_kind, moment, flag};
-ghost use Rattle.chart_drafts.specs.Inside.{Gives, IsNameOf};
+ghost use Rattle.chart_drafts.specs.Inside.{IsNameOf};
+ghost use Rattle.chart_drafts.specs.Phrase.{Gives};
 
 use crate::ahead::{Ahead, skip_sign, skip_word};
 use core_charts::TransitionKind;
@@ -20,7 +21,7 @@ use sc_text::{ReadFault, Sign, Token, TokenKind, Word};
 use sc_values::{Kind, Name};
 
 /// A name with its place.
-pub(crate) fn name(ahead: &mut Ahead, end: usize) -> Result<Named, ReadFault>
+pub fn name(ahead: &mut Ahead, end: usize) -> Result<Named, ReadFault>
     ensures { MatchResult result
         (λ x. Gives (read name ahead.old.tokens.now) x ahead.new.tokens.now)
         (λ fault. Stops end (read name ahead.old.tokens.now) fault) }
@@ -61,7 +62,7 @@ pub(crate) fn last_name(ahead: &mut Ahead, end: usize) -> Result<Named, ReadFaul
 
 /// A word and the name behind it.
 #[tactic(auto, using(crate::proofs::Parts::after_stops_first, crate::proofs::Parts::after_stops_second, crate::proofs::Parts::after_gives))]
-pub(crate) fn title(ahead: &mut Ahead, end: usize, word: Word) -> Result<Named, ReadFault>
+pub fn title(ahead: &mut Ahead, end: usize, word: Word) -> Result<Named, ReadFault>
     ensures { MatchResult result
         (λ x. Gives (read (after (the_word word) name) ahead.old.tokens.now) x ahead.new.tokens.now)
         (λ fault. Stops end (read (after (the_word word) name) ahead.old.tokens.now) fault) }
@@ -73,7 +74,7 @@ pub(crate) fn title(ahead: &mut Ahead, end: usize, word: Word) -> Result<Named, 
 
 /// What a variable is declared as.
 #[tactic(auto, using(crate::proofs::Parts::token_fails, crate::proofs::Parts::token_gives))]
-pub(crate) fn declared_role(ahead: &mut Ahead, end: usize) -> Result<Role, ReadFault>
+pub fn declared_role(ahead: &mut Ahead, end: usize) -> Result<Role, ReadFault>
     ensures { MatchResult result
         (λ x. Gives (read declared_role ahead.old.tokens.now) x ahead.new.tokens.now)
         (λ fault. Stops end (read declared_role ahead.old.tokens.now) fault) }
@@ -92,7 +93,7 @@ pub(crate) fn declared_role(ahead: &mut Ahead, end: usize) -> Result<Role, ReadF
 }
 
 /// Whether a declaration is next.
-pub(crate) fn role_follows(tokens: &[Token]) -> bool
+pub fn role_follows(tokens: &[Token]) -> bool
     ensures { result ≡ starts text_tokens roles tokens.now }
 {
     word_follows(tokens, Word::Input)
@@ -112,7 +113,7 @@ fn role_of(kind: TokenKind) -> Role
 
 /// The kind of which a variable is declared.
 #[tactic(auto, using(crate::proofs::Parts::token_fails, crate::proofs::Parts::token_gives))]
-pub(crate) fn declared_kind(ahead: &mut Ahead, end: usize) -> Result<Kind, ReadFault>
+pub fn declared_kind(ahead: &mut Ahead, end: usize) -> Result<Kind, ReadFault>
     ensures { MatchResult result
         (λ x. Gives (read declared_kind ahead.old.tokens.now) x ahead.new.tokens.now)
         (λ fault. Stops end (read declared_kind ahead.old.tokens.now) fault) }
@@ -167,10 +168,7 @@ pub(crate) fn join_word(ahead: &mut Ahead, end: usize) -> Result<(TransitionKind
 
 /// The word of another transition, and its place.
 #[tactic(auto, using(crate::proofs::Parts::token_fails, crate::proofs::Parts::token_gives))]
-pub(crate) fn tested_word(
-    ahead: &mut Ahead,
-    end: usize,
-) -> Result<(TransitionKind, usize), ReadFault>
+pub fn tested_word(ahead: &mut Ahead, end: usize) -> Result<(TransitionKind, usize), ReadFault>
     ensures { MatchResult result
         (λ x. Gives (read (moment tested_words) ahead.old.tokens.now) x ahead.new.tokens.now)
         (λ fault. Stops end (read (moment tested_words) ahead.old.tokens.now) fault) }
@@ -189,7 +187,7 @@ pub(crate) fn tested_word(
 }
 
 /// Whether the word of a transition other than a termination is next.
-pub(crate) fn tested_word_follows(tokens: &[Token]) -> bool
+pub fn tested_word_follows(tokens: &[Token]) -> bool
     ensures { result ≡ starts text_tokens tested_words tokens.now }
 {
     word_follows(tokens, Word::Go)
@@ -210,7 +208,7 @@ fn tested_by(kind: TokenKind) -> TransitionKind
 
 /// Whether this word is next. It is taken off the front.
 #[tactic(auto, using(crate::proofs::Pieces::flag_there, crate::proofs::Pieces::flag_missing))]
-pub(crate) fn flag(ahead: &mut Ahead, word: Word) -> bool
+pub fn flag(ahead: &mut Ahead, word: Word) -> bool
     ensures { Gives (read (flag word) ahead.old.tokens.now) result ahead.new.tokens.now }
 {
     if !word_follows(ahead.tokens, word) {

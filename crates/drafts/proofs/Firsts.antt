@@ -1,5 +1,5 @@
 -- The first of some flaws is found by going over them.
-use Rattle.std.proofs.Common.{◌≡◌, ℕ, zero, suc, ◌+◌, ◌*◌, ◌≤◌, ◌<◌, Bool, true, false, Option, Some, None, List, [], ◌∷◌, ◌++◌, ◌⊎◌, inl, inr, ⊎_elim, refl}
+use Rattle.std.proofs.Common.{◌≡◌, ℕ, zero, suc, ◌+◌, ◌*◌, ◌≤◌, ◌<◌, Bool, true, false, Some, None, List, [], ◌∷◌, ◌⊎◌, inl, inr, ⊎_elim, refl}
 use Rattle.std.proofs.Common.{ap, subst, arith, slice_get, if◌then◌else◌}
 use Rattle.std.proofs.lemmas.Bool.Decides.{nat_tests}
 use Rattle.sc_text.specs.declared.read_fault.FaultKind.{FaultKind}
@@ -7,11 +7,7 @@ use Rattle.sc_text.specs.declared.read_fault.FaultKind.TheVariants as broken
 use Rattle.sc_text.specs.FaultText.{broken_number}
 use Rattle.drafts.specs.declared.flaw.Flaw.{Flaw}
 use Rattle.drafts.specs.First.{comes_before, IsFirst}
-use Rattle.drafts.specs.Inside.{earlier, first_behind}
-
-pub behind_both : (found : Option Flaw) (xs ys : List Flaw) → first_behind found (xs ++ ys) ≡ first_behind (first_behind found xs) ys
-behind_both found [] ys = refl
-behind_both found (x ∷ xs) ys = behind_both (Some (earlier found x)) xs ys
+use Rattle.drafts.specs.Inside.{first_behind}
 
 -- ---- the order of flaws
 

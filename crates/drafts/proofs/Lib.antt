@@ -1,7 +1,7 @@
 pub mod Firsts
 pub mod Indexed
 pub mod PartsInOrder
-pub mod Flawed
+pub mod KnownNames
 pub mod Resolving
 pub mod Kinded
 pub mod Within

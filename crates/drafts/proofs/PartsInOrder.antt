@@ -1,5 +1,4 @@
--- What is kept of some flaws, read from their front, is kept of those of the parts of a draft, one part behind the other. So it is for
--- whatever is kept of flaws: the first one, or all that are told.
+-- What is kept of some flaws, read from their front, is kept of those of the parts of a draft, one part behind the other.
 use Rattle.std.proofs.Common.{◌≡◌, ℕ, zero, suc, ◌+◌, ◌≤◌, Bool, Option, Some, List, [], ◌∷◌, ◌++◌, drop, length, slice_get, refl, sym, ◌∙◌, ap, arith}
 use Rattle.std.specs.Prelude.{◌&&◌}
 use Rattle.sc_values.specs.declared.value.Kind.{Kind}

@@ -1,6 +1,7 @@
 -- Flaws that are told are found by going over them.
-use Rattle.std.proofs.Common.{◌≡◌, ℕ, zero, suc, ◌≤◌, Bool, true, false, Option, Some, None, List, [], ◌∷◌, ◌++◌, refl, sym, ◌∙◌}
+use Rattle.std.proofs.Common.{◌≡◌, ℕ, zero, suc, ◌≤◌, ◌<◌, Bool, true, false, Some, None, List, [], ◌∷◌, ◌++◌, refl, sym, ◌∙◌}
 use Rattle.std.proofs.Common.{ap, arith, take, length, slice_get, if◌then◌else◌}
+use Rattle.std.proofs.lemmas.Option.{slice_get_within}
 use Rattle.drafts.specs.declared.flaw.Flaw.{Flaw}
 use Rattle.drafts.specs.First.{comes_before}
 use Rattle.drafts.specs.Told.{inserted, in_order_with, told_behind, told_limit, told_of}
@@ -32,6 +33,29 @@ module _ {A : Type 0} where
   taken_behind : (n : ℕ) (x : A) (xs : List A) → take n (x ∷ take n xs) ≡ take n (x ∷ xs)
   taken_behind zero x xs = refl
   taken_behind (suc n) x xs = ap (λ ys. x ∷ ys) (taken_less n xs)
+
+-- ---- a flaw that comes before none of as many as are told
+
+abbrev pub ComesBeforeNone : Flaw → List Flaw → Type 0
+ComesBeforeNone f found = (k : ℕ) (g : Flaw) → slice_get found k ≡ Some g → comes_before f g ≡ false
+
+stay_by_case : (f g : Flaw) (xs : List Flaw) (b : Bool) → take (length xs) (inserted f xs) ≡ xs
+    → take (suc (length xs)) (if b then g ∷ inserted f xs else g ∷ xs) ≡ g ∷ xs
+stay_by_case f g xs true e = ap (λ ys. g ∷ ys) e
+stay_by_case f g xs false e = ap (λ ys. g ∷ ys) (taken_whole (length xs) xs (omega arith))
+
+stay : (f : Flaw) (found : List Flaw) → ComesBeforeNone f found → take (length found) (inserted f found) ≡ found
+stay f [] none = refl
+stay f (g ∷ found) none =
+    ap (λ b. take (suc (length found)) (if b then f ∷ (g ∷ found) else (if comes_before g f then g ∷ inserted f found else g ∷ found))) (none 0 g refl)
+    ∙ stay_by_case f g found (comes_before g f) (stay f found (λ k h at. none (suc k) h at))
+
+-- as it is found by going over them, to their end
+pub past_told : (f : Flaw) (found : List Flaw) (i : ℕ) → length found ≡ told_limit → length found ≤ i
+    → ((k : ℕ) (g : Flaw) → k < i → slice_get found k ≡ Some g → comes_before f g ≡ false) → take told_limit (inserted f found) ≡ found
+past_told f found i many over none =
+    ap (λ n. take n (inserted f found)) (sym many)
+    ∙ stay f found (λ k g at. let within = slice_get_within found k g at in none k g (omega (arith, over, within)) at)
 
 -- ---- the others may be taken before a flaw is put at its place, or behind that
 

@@ -1,24 +1,17 @@
-//! What is wrong with the expressions of a draft, held against its variables.
+//! The variables of a draft by their names, and the kinds of its expressions.
 
-ghost use Rattle.std.specs.Prelude.{◌≡◌, ◌∷◌, ◌&&◌, IfOk, OnOk, option_map};
+ghost use Rattle.std.specs.Prelude.{◌≡◌, ◌∷◌, IfOk, option_map};
 ghost use Rattle.std.specs.List.{list_all};
-ghost use Rattle.sc_graph.specs.Limits.{variable_limit, output_limit};
-ghost use Rattle.sc_graph.specs.Size.{is_output};
-ghost use Rattle.sc_text.specs.declared.read_fault.FaultKind.TheVariants as broken;
-ghost use Rattle.drafts.specs.Flaws.{flaw_if, is_full, is_repeated, variable_flaws, variable_names};
-ghost use Rattle.drafts.specs.Flaws.{variable_named, is_among, unknown_one, unknown_names, has_known_name};
-ghost use Rattle.drafts.specs.Flaws.{kind_named, kinds_behind, is_of_kind, is_of_other_kind, expression_flaws};
-ghost use Rattle.drafts.specs.Flaws.{is_input, assigned_flaws};
+ghost use Rattle.drafts.specs.Flaws.{variable_named, variable_names, is_among, has_known_name};
+ghost use Rattle.drafts.specs.Flaws.{kind_named, kinds_behind, is_of_kind, is_of_other_kind, is_input};
 ghost use Rattle.sc_values.specs.Code.{some_if};
-ghost use Rattle.drafts.specs.Inside.{IsIndex, first_behind};
+ghost use Rattle.drafts.specs.Inside.{IsIndex};
 
-use crate::flaw::{Flaw, is_full, note_if};
-use crate::heights::passes_limits;
 use crate::index::Index;
 use crate::kinds::Kinds;
-use crate::parts::{Declaration, Named, TextExpression};
-use sc_graph::{OUTPUT_LIMIT, Role, VARIABLE_LIMIT};
-use sc_text::{FaultKind, TextOperation};
+use crate::parts::Declaration;
+use sc_graph::Role;
+use sc_text::TextOperation;
 use sc_values::{Kind, Name};
 use sqlite_items::Items;
 use std::alloc::{AllocError, Global};
@@ -54,95 +47,6 @@ impl<'a> Scope<'a> {
         }
     }
 
-    /// Notes the flaws of the variables themselves: names that stand twice, and variables and outputs past their
-    /// limits.
-    #[tactic(auto, using(crate::proofs::Flawed::variable_step, crate::proofs::Flawed::variables_over))]
-    pub fn declarations(&self, first: &mut Option<Flaw>)
-        ensures { first.new ≡ first_behind first.old (variable_flaws
-            (variable_names self.now.variables.now) 0 0 self.now.variables.now) }
-    {
-        let mut outputs: usize = 0;
-        for (at, variable) in self.variables.iter().enumerate() {
-            self.declaration(at, outputs, variable, first);
-            if variable.role.is_output() {
-                outputs += 1;
-            }
-        }
-    }
-
-    // The flaws of the variable at this place, before which stand so many outputs.
-    fn declaration(
-        &self,
-        at: usize,
-        outputs: usize,
-        variable: &Declaration,
-        first: &mut Option<Flaw>,
-    )
-        ensures { first.new ≡ first_behind (first_behind (first_behind first.old
-            (flaw_if (is_repeated (variable_names self.now.variables.now) at variable.now.named.name)
-            broken.Repeated variable.now.named.at))
-            (flaw_if (is_full variable_limit at) broken.Limit variable.now.named.at))
-            (flaw_if (is_output variable.now.role && is_full output_limit outputs) broken.Limit variable.now.named.at) }
-    {
-        let named = variable.named;
-        let is_repeated = self.index.is_repeated(at, named.name);
-        note_if(first, is_repeated, FaultKind::Repeated, named.at);
-        let is_past = is_full(VARIABLE_LIMIT, at);
-        note_if(first, is_past, FaultKind::Limit, named.at);
-        let is_past = variable.role.is_output() && is_full(OUTPUT_LIMIT, outputs);
-        note_if(first, is_past, FaultKind::Limit, named.at);
-    }
-
-    /// The flaws of an expression where one of this kind is wanted; None: of any kind. Err: memory was refused.
-    #[tactic(auto, using(crate::proofs::Flawed::expression_noted))]
-    pub fn expression(
-        &self,
-        alloc: Global,
-        wanted: Option<Kind>,
-        expression: &TextExpression,
-        first: &mut Option<Flaw>,
-    ) -> Result<(), AllocError>
-        ensures { OnOk result (first.new ≡ first_behind first.old
-            (expression_flaws self.now.variables.now wanted expression.now)) }
-    {
-        let operations = expression.operations.as_slice();
-        self.unknown_names(operations, first);
-        let is_other = self.is_of_other_kind(alloc, wanted, operations)?;
-        note_if(first, is_other, FaultKind::Kind, expression.start);
-        note_if(
-            first,
-            passes_limits(operations),
-            FaultKind::Limit,
-            expression.start,
-        );
-        Ok(())
-    }
-
-    /// The flaws of an assignment to the variable of this name. Err: memory was refused.
-    #[tactic(auto, using(crate::proofs::Firsts::behind_both))]
-    pub fn assignment(
-        &self,
-        alloc: Global,
-        target: Named,
-        value: &TextExpression,
-        first: &mut Option<Flaw>,
-    ) -> Result<(), AllocError>
-        ensures { OnOk result (first.new ≡ first_behind first.old
-            (assigned_flaws self.now.variables.now
-            (variable_named self.now.variables.now target.name) target value.now)) }
-    {
-        match self.variable(target.name) {
-            Some(variable) => {
-                note_if(first, is_input(variable.role), FaultKind::Rule, target.at);
-                self.expression(alloc, Some(variable.kind), value, first)
-            }
-            None => {
-                note_if(first, true, FaultKind::Unknown, target.at);
-                self.expression(alloc, None, value, first)
-            }
-        }
-    }
-
     /// Whether a variable has this name.
     pub(crate) fn is_known(&self, name: Name) -> bool
         ensures { result ≡ is_among (variable_names self.now.variables.now) name }
@@ -150,30 +54,7 @@ impl<'a> Scope<'a> {
         self.index.has(name)
     }
 
-    #[tactic(auto, using(crate::proofs::Flawed::unknown_step, crate::proofs::Flawed::unknown_over))]
-    fn unknown_names(&self, operations: &[TextOperation], first: &mut Option<Flaw>)
-        ensures { first.new ≡ first_behind first.old (unknown_names
-            (is_among (variable_names self.now.variables.now)) operations.now) }
-    {
-        for operation in operations {
-            self.unknown_name(operation, first);
-        }
-    }
-
-    fn unknown_name(&self, operation: &TextOperation, first: &mut Option<Flaw>)
-        ensures { first.new ≡ first_behind first.old (unknown_one
-            (is_among (variable_names self.now.variables.now)) operation.now) }
-    {
-        match operation {
-            TextOperation::Load(name, at) => {
-                let is_unknown = !self.is_known(*name);
-                note_if(first, is_unknown, FaultKind::Unknown, *at);
-            }
-            _ => {}
-        }
-    }
-
-    #[tactic(auto, using(crate::proofs::Flawed::known_step))]
+    #[tactic(auto, using(crate::proofs::KnownNames::known_step))]
     fn are_known(&self, operations: &[TextOperation]) -> bool
         ensures { result ≡ list_all (has_known_name (is_among (variable_names self.now.variables.now))) operations.now }
     {

@@ -1,10 +1,10 @@
 //! Flaws in the order of the text, the first twenty of them.
 
-ghost use Rattle.std.specs.Prelude.{◌≡◌, ◌∷◌, ◌++◌, IfOk, OnOk, List, Some, take};
+ghost use Rattle.std.specs.Prelude.{◌≡◌, ◌∷◌, ◌++◌, IfOk, IsTrue, OnOk, List, None, Some, take};
 ghost use Rattle.drafts.specs.declared.flaw.Flaw.{Flaw};
 ghost use Rattle.drafts.specs.Flaws.{flaw_if};
-ghost use Rattle.drafts.specs.Told.{inserted, told_behind, told_limit};
-ghost use Rattle.drafts.specs.Inside.{placed};
+ghost use Rattle.drafts.specs.Told.{inserted, told_behind, told_limit, told_of};
+ghost use Rattle.drafts.specs.Inside.{first_behind, placed};
 
 use crate::flaw::Flaw;
 use sc_text::FaultKind;
@@ -15,7 +15,7 @@ use std::alloc::{AllocError, Global};
 pub const TOLD_LIMIT: usize = 20;
 
 /// Where something is broken, puts the flaw at its place among those found so far, of which the first twenty stay. Err:
-/// memory was refused.
+/// memory was refused; none is asked for where twenty are there and the flaw comes before none of them.
 pub fn note_told(
     alloc: Global,
     found: &mut Items<Flaw>,
@@ -25,10 +25,42 @@ pub fn note_told(
 ) -> Result<(), AllocError>
     ensures { OnOk result (found.new ≡ told_behind found.old (flaw_if is_broken broken at)) }
 {
-    if is_broken {
-        *found = noted(alloc, found.as_slice(), Flaw { broken, at })?;
+    if !is_broken {
+        return Ok(());
     }
+    let flaw = Flaw { broken, at };
+    if is_past_told(found.as_slice(), flaw) {
+        return Ok(());
+    }
+    *found = noted(alloc, found.as_slice(), flaw)?;
     Ok(())
+}
+
+// Whether there are as many flaws as are told, and this one comes before none of them.
+#[tactic(auto, using(crate::proofs::ToldInOrder::past_told))]
+fn is_past_told(found: &[Flaw], flaw: Flaw) -> bool
+    ensures { IsTrue result → take told_limit (inserted flaw found.now) ≡ found.now }
+{
+    if found.len() != TOLD_LIMIT {
+        return false;
+    }
+    for other in found {
+        if flaw.comes_before(*other) {
+            return false;
+        }
+    }
+    true
+}
+
+/// Of flaws that are told the first, which is that of all of them. None: there is none.
+#[tactic(auto, using(crate::proofs::ToldInOrder::first_is))]
+pub fn first_told(told: &[Flaw]) -> Option<Flaw>
+    ensures { (flaws : List Flaw) → told.now ≡ told_of flaws → result ≡ first_behind None flaws }
+{
+    match told {
+        [] => None,
+        [first, ..] => Some(*first),
+    }
 }
 
 // Of these flaws and one more the first twenty.

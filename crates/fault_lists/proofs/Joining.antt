@@ -1,5 +1,5 @@
 -- Reports one behind the other.
-use Rattle.std.proofs.Common.{◌≡◌, ◌<◌, ◌≤◌, ◌+◌, ℕ, List, [], ◌∷◌, ◌++◌, append_assoc, append-nil, refl, sym, ◌∙◌, ap, subst, inl, inr}
+use Rattle.std.proofs.Common.{◌≡◌, ◌<◌, ◌≤◌, ◌+◌, ℕ, List, [], ◌∷◌, ◌++◌, append_assoc, append-nil, refl, sym, ◌∙◌, ap, subst}
 use Rattle.std.proofs.Common.{length, get_or, drop, add-one, drop-cons}
 use Rattle.std.proofs.lemmas.List.{drop_all}
 use Rattle.std.specs.Prelude.{codes}
@@ -9,13 +9,9 @@ use Rattle.sc_text.specs.declared.read_fault.ReadFault.{ReadFault}
 use Rattle.sc_text.specs.declared.read_fault.ReadFault.TheVariants as read
 use Rattle.drafts.specs.declared.flaw.Flaw.{Flaw}
 use Rattle.sc_text.specs.declared.read_fault.FaultKind.{FaultKind}
-use Rattle.drafts.specs.Told.{told_of}
-use Rattle.chart_drafts.specs.declared.draft.DraftChart.{DraftChart}
-use Rattle.chart_drafts.specs.Flaws.{chart_flaws}
-use Rattle.chart_drafts.specs.Reading.{IsDraft, IsDraftFault}
 use Rattle.diagnostics.specs.Reports.{Tells, TellsAt, TellsPlace, text_fault}
 use Rattle.diagnostics.specs.Spots.{place_shown}
-use Rattle.fault_lists.specs.Reports.{AreReports, TellsAll, TellsEach, TellsFlaws, TellsFurther}
+use Rattle.fault_lists.specs.Reports.{AreReports, AreTold, TellsAll, TellsEach, TellsFurther}
 use Rattle.fault_lists.specs.Inside.{Goes}
 
 module _ (name text : List ℕ) where
@@ -77,14 +73,10 @@ stands_so name text read.Memory report others t = begins_so name (codes "E52") r
 
 -- ---- what is told of a text, from its parts
 
-pub flaws_so : (name text : List ℕ) (draft : DraftChart) (flaws others : List Flaw) (told : List ℕ) → IsDraft text draft
-    → flaws ≡ told_of (chart_flaws draft) → others ≡ drop 1 flaws → AreReports name text others told → TellsFlaws name text told
-flaws_so name text draft flaws others told drafted all behind reports =
-    record {
-      draft = draft;
-      drafted = drafted;
-      reports = subst (λ (fs : List Flaw). AreReports name text fs told) (behind ∙ ap (λ (fs : List Flaw). drop 1 fs) all) reports;
-    }
+pub further_so : (name text told : List ℕ) (flaws others : List Flaw) → AreTold text flaws → others ≡ drop 1 flaws → AreReports name text others told
+    → TellsFurther name text told
+further_so name text told flaws others are behind reports =
+    record { flaws = flaws; are = are; reports = subst (λ (fs : List Flaw). AreReports name text fs told) behind reports }
 
 pub all_so : (name text : List ℕ) (fault : ReadFault) (first others report : List ℕ) → TellsPlace name text fault first
     → TellsFurther name text others → report ≡ first ++ others → TellsAll name text fault report
@@ -100,11 +92,3 @@ pub memory_so : (name text : List ℕ) (fault : ReadFault) (report : List ℕ) �
     → TellsEach name text fault report
 memory_so name text fault report e tells =
     subst (λ (f : ReadFault). TellsEach name text f report) (sym e) (subst (λ (f : ReadFault). Tells name (text_fault f) report) e tells)
-
-pub some_so : (name text told : List ℕ) → TellsFlaws name text told → TellsFurther name text told
-some_so name text told tells = inl tells
-
-pub none_so : (name text told : List ℕ) (b : FaultKind) (at : ℕ) → IsDraftFault text (read.Text b at) → told ≡ []
-    → TellsFurther name text told
-none_so name text told b at undrafted nothing =
-    inr (record { broken = b; at = at; undrafted = undrafted; nothing = nothing })

@@ -2,14 +2,20 @@
 use Rattle.std.specs.Prelude.{ℕ, ◌≡◌, ◌⊎◌, List, [], ◌∷◌, ◌++◌, codes, drop}
 use Rattle.std.specs.Fmt.{decimal}
 use Rattle.sc_text.specs.FaultText.{broken_number}
+use Rattle.sc_text.specs.FirstToken.{IsIn}
+use Rattle.sc_text.specs.declared.language.Language.{Language}
+use Rattle.sc_text.specs.declared.language.Language.TheVariants as language
 use Rattle.sc_text.specs.declared.read_fault.FaultKind.{FaultKind}
 use Rattle.sc_text.specs.declared.read_fault.ReadFault.{ReadFault}
 use Rattle.sc_text.specs.declared.read_fault.ReadFault.TheVariants as read
 use Rattle.drafts.specs.declared.flaw.Flaw.{Flaw}
 use Rattle.drafts.specs.Told.{told_of}
+use Rattle.scl_drafts.specs.declared.draft.Draft.{Draft}
+use Rattle.scl_drafts.specs.Flaws.{scl_flaws}
+use Rattle.scl_drafts.specs.Draft as programs
 use Rattle.chart_drafts.specs.declared.draft.DraftChart.{DraftChart}
 use Rattle.chart_drafts.specs.Flaws.{chart_flaws}
-use Rattle.chart_drafts.specs.Reading.{IsDraft, IsDraftFault}
+use Rattle.chart_drafts.specs.Reading as charts
 use Rattle.diagnostics.specs.Reports.{Tells, TellsAt, TellsPlace, text_fault}
 use Rattle.diagnostics.specs.Spots.{place_shown}
 
@@ -21,22 +27,45 @@ AreReports name text (f ∷ flaws) told =
     × TellsAt name (place_shown text f.at) (codes "E0" ++ decimal (broken_number f.broken)) report
     × AreReports name text flaws others × (told ≡ report ++ others)
 
--- the text spells a chart, and the reports are those of its flaws that are told, but for the first
-pub record TellsFlaws (name text told : List ℕ) : Type 0 where
+-- the text spells a chart, or an SCL program, and these are the flaws of its draft that are told
+pub record AreOfChart (text : List ℕ) (told : List Flaw) : Type 0 where
   pub draft : DraftChart
-  pub drafted : IsDraft text draft
-  pub reports : AreReports name text (drop 1 (told_of (chart_flaws draft))) told
+  pub drafted : charts.IsDraft text draft
+  pub all : told ≡ told_of (chart_flaws draft)
 
--- the text spells no chart, and nothing is told
-pub record TellsNone (text told : List ℕ) : Type 0 where
+pub record AreOfProgram (text : List ℕ) (told : List Flaw) : Type 0 where
+  pub draft : Draft
+  pub drafted : programs.IsDraft text draft
+  pub all : told ≡ told_of (scl_flaws draft)
+
+-- so of a text of this language
+abbrev pub AreOfDraft : Language → (text : List ℕ) → List Flaw → Type 0
+AreOfDraft language.Chart text told = AreOfChart text told
+AreOfDraft language.Scl text told = AreOfProgram text told
+
+-- why a text of this language has no draft
+abbrev pub IsDraftFault : Language → List ℕ → ReadFault → Type 0
+IsDraftFault language.Chart text f = charts.IsDraftFault text f
+IsDraftFault language.Scl text f = programs.IsDraftFault text f
+
+-- a text of this language has no draft, and no flaws are told
+pub record AreNone (l : Language) (text : List ℕ) (told : List Flaw) : Type 0 where
   pub broken : FaultKind
   pub at : ℕ
-  pub undrafted : IsDraftFault text (read.Text broken at)
-  pub nothing : told ≡ []
+  pub undrafted : IsDraftFault l text (read.Text broken at)
+  pub none : told ≡ []
 
--- what is told of a text behind its fault
-abbrev pub TellsFurther : (name text told : List ℕ) → Type 0
-TellsFurther name text told = TellsFlaws name text told ⊎ TellsNone text told
+-- the flaws of a text that are told, in the language that its first token tells
+pub record AreTold (text : List ℕ) (told : List Flaw) : Type 0 where
+  pub language : Language
+  pub is_in : IsIn text language
+  pub are : AreOfDraft language text told ⊎ AreNone language text told
+
+-- what is told of a text behind its fault: the reports of the flaws that are told, but for the first
+pub record TellsFurther (name text told : List ℕ) : Type 0 where
+  pub flaws : List Flaw
+  pub are : AreTold text flaws
+  pub reports : AreReports name text (drop 1 flaws) told
 
 -- the report of a fault of a text, and behind it what else is told
 pub record TellsAll (name text : List ℕ) (fault : ReadFault) (report : List ℕ) : Type 0 where

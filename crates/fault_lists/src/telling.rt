@@ -2,18 +2,17 @@
 
 ghost use Rattle.std.specs.Prelude.{◌≡◌, IfOk, drop, string_bytes};
 ghost use Rattle.diagnostics.specs.Reports.{Tells, TellsPlace, text_fault};
-ghost use Rattle.chart_drafts.specs.Reading.{IsDraft};
-ghost use Rattle.fault_lists.specs.Reports.{AreReports, TellsAll, TellsEach, TellsFlaws, TellsFurther};
+ghost use Rattle.fault_lists.specs.Reports.{AreReports, TellsAll, TellsEach, TellsFurther};
 
-use chart_drafts::{DraftChart, read_draft, told_flaws};
+use crate::flaws::flaws_of;
 use diagnostics::{explained, text_fault_explained};
 use drafts::Flaw;
 use sc_text::ReadFault;
 use std::alloc::{AllocError, Global};
 
 /// Why a text is refused, for people: the report of its fault, as `text_fault_explained` says it, and, where the text
-/// spells a chart, behind it those of the other flaws of its draft, in the order of the text, twenty in all at most.
-/// Err: memory was refused to the explanation.
+/// spells a chart or an SCL program, behind it those of the other flaws of its draft, in the order of the text, twenty
+/// in all at most. Err: memory was refused to the explanation.
 #[tactic(auto, using(crate::proofs::Joining::each_so, crate::proofs::Joining::memory_so))]
 pub fn faults_explained(
     alloc: Global,
@@ -56,32 +55,11 @@ fn all_explained(
 }
 
 // What is told of a text behind its fault.
-#[tactic(auto, using(crate::proofs::Joining::some_so, crate::proofs::Joining::none_so))]
+#[tactic(auto, using(crate::proofs::Joining::further_so))]
 fn further_told(alloc: Global, name: &str, text: &str) -> Result<String, AllocError>
     ensures { IfOk result (λ told. TellsFurther name.now text.now (string_bytes told)) }
 {
-    match read_draft(alloc, text) {
-        Ok(draft) => {
-            let told = flaws_told(alloc, name, text, &draft)?;
-            Ok(told)
-        }
-        Err(ReadFault::Text(_, _)) => Ok(String::new(alloc)),
-        Err(ReadFault::Memory) => Err(AllocError),
-    }
-}
-
-// The reports of the flaws of this draft of the text that are told, but for the first.
-#[tactic(auto, using(crate::proofs::Joining::flaws_so))]
-fn flaws_told(
-    alloc: Global,
-    name: &str,
-    text: &str,
-    draft: &DraftChart,
-) -> Result<String, AllocError>
-    requires drafted { IsDraft text.now draft.now }
-    ensures { IfOk result (λ told. TellsFlaws name.now text.now (string_bytes told)) }
-{
-    let flaws = told_flaws(alloc, draft)?;
+    let flaws = flaws_of(alloc, text)?;
     let others = behind_first(flaws.as_slice());
     let told = tell_all(alloc, name, text, others)?;
     Ok(told)

@@ -1,11 +1,13 @@
--- The first flaw of a draft is told, or it has none.
+-- The flaws of a draft are told, and the first of them tells of the text, or there is none.
 use Rattle.std.proofs.Common.{◌≡◌, ℕ, Option, Some, None, List, [], ◌++◌, inl, inr, sym, ◌∙◌, ap}
 use Rattle.sc_text.specs.declared.read_fault.ReadFault.{ReadFault}
 use Rattle.sc_text.specs.declared.read_fault.ReadFault.TheVariants as fault
 use Rattle.drafts.specs.declared.flaw.Flaw.{Flaw}
 use Rattle.drafts.specs.Flaws.{variable_names, variable_flaws}
+use Rattle.drafts.specs.Told.{told_behind, told_of}
 use Rattle.drafts.specs.Inside.{first_behind}
-use Rattle.drafts.proofs.Firsts.{behind_both, first_found, none_found}
+use Rattle.drafts.proofs.Firsts.{first_found, none_found}
+use Rattle.drafts.proofs.ToldInOrder.{told_both, told_found}
 use Rattle.scl_drafts.specs.declared.draft.Draft.{Draft}
 use Rattle.scl_drafts.specs.declared.survey.Found.{Found}
 use Rattle.scl_drafts.specs.Draft.{IsDraft, IsDraftFault}
@@ -13,18 +15,19 @@ use Rattle.scl_drafts.specs.Flaws.{Part, names, root, repeated, scl_flaws}
 use Rattle.scl_drafts.specs.Survey.{found_behind}
 use Rattle.scl_drafts.specs.Checked.{IsFlawless, IsTextFault}
 
-pub all_noted : (d : Draft) (noted told : Option Flaw) (after : Found)
-    → noted ≡ first_behind None (variable_flaws (variable_names d.declarations) 0 0 d.declarations)
-    → after ≡ found_behind (record { labels = []; first = noted }) (root d.declarations d.statements)
-    → told ≡ first_behind after.first (repeated (names after.labels) 0 after.labels) → told ≡ first_behind None (scl_flaws d)
-all_noted d noted told after e f g =
+pub all_told : (d : Draft) (noted told : List Flaw) (after : Found)
+    → noted ≡ told_behind [] (variable_flaws (variable_names d.declarations) 0 0 d.declarations)
+    → after ≡ found_behind (record { labels = []; told = noted }) (root d.declarations d.statements)
+    → told ≡ told_behind after.told (repeated (names after.labels) 0 after.labels) → told ≡ told_of (scl_flaws d)
+all_told d noted told after e f g =
     let variables : List Flaw = variable_flaws (variable_names d.declarations) 0 0 d.declarations in
     let p : Part = root d.declarations d.statements in
     g
-    ∙ ap (λ a. first_behind a.first (repeated (names a.labels) 0 a.labels)) f
-    ∙ ap (λ n. first_behind (first_behind n p.flaws) (repeated (names p.all) 0 p.all)) e
-    ∙ sym (behind_both (first_behind None variables) p.flaws (repeated (names p.all) 0 p.all))
-    ∙ sym (behind_both None variables (p.flaws ++ repeated (names p.all) 0 p.all))
+    ∙ ap (λ a. told_behind a.told (repeated (names a.labels) 0 a.labels)) f
+    ∙ ap (λ n. told_behind (told_behind n p.flaws) (repeated (names p.all) 0 p.all)) e
+    ∙ sym (told_both (told_behind [] variables) p.flaws (repeated (names p.all) 0 p.all))
+    ∙ sym (told_both [] variables (p.flaws ++ repeated (names p.all) 0 p.all))
+    ∙ told_found (scl_flaws d)
 
 module _ (text : List ℕ) where
   pub flawless : (d : Draft) (first : Option Flaw) → IsDraft text d → first ≡ first_behind None (scl_flaws d) → first ≡ None → IsFlawless text d

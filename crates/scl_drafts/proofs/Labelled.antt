@@ -1,12 +1,12 @@
 -- Going over labels and gotos for what is wrong with them.
-use Rattle.std.proofs.Common.{◌≡◌, ℕ, ◌+◌, ◌≤◌, Option, Some, List, [], ◌∷◌, ◌++◌, append_assoc, drop, length, slice_get, sym, ◌∙◌, ap}
+use Rattle.std.proofs.Common.{◌≡◌, ℕ, ◌+◌, ◌≤◌, Some, List, [], ◌∷◌, ◌++◌, append_assoc, drop, length, slice_get, sym, ◌∙◌, ap}
 use Rattle.std.specs.Prelude.{not}
 use Rattle.sc_text.specs.declared.read_fault.FaultKind.TheVariants as broken
 use Rattle.drafts.specs.declared.flaw.Flaw.{Flaw}
 use Rattle.drafts.specs.declared.parts.Named.{Named}
 use Rattle.drafts.specs.Flaws.{flaw_if, is_among, is_repeated}
-use Rattle.drafts.specs.Inside.{first_behind}
-use Rattle.drafts.proofs.Firsts.{behind_both}
+use Rattle.drafts.specs.Told.{told_behind}
+use Rattle.drafts.proofs.ToldInOrder.{told_both}
 use Rattle.drafts.proofs.PartsInOrder.{drop_is, drop_past}
 use Rattle.scl_drafts.specs.Flaws.{lost, names, repeated}
 
@@ -19,22 +19,22 @@ names_step all at l old new e is =
     ∙ ap (λ q. old ++ names q) (sym (drop_is all at l e))
 
 module _ (labels : List (List ℕ)) (all : List Named) (at : ℕ) where
-  pub lost_step : (g : Named) (f : Option Flaw) → slice_get all at ≡ Some g
-      → first_behind (first_behind f (flaw_if (not (is_among labels g.name)) broken.Unknown g.at)) (lost labels (drop (at + 1) all))
-      ≡ first_behind f (lost labels (drop at all))
+  pub lost_step : (g : Named) (f : List Flaw) → slice_get all at ≡ Some g
+      → told_behind (told_behind f (flaw_if (not (is_among labels g.name)) broken.Unknown g.at)) (lost labels (drop (at + 1) all))
+      ≡ told_behind f (lost labels (drop at all))
   lost_step g f e =
-      sym (behind_both f (flaw_if (not (is_among labels g.name)) broken.Unknown g.at) (lost labels (drop (at + 1) all)))
-      ∙ ap (λ q. first_behind f (lost labels q)) (sym (drop_is all at g e))
+      sym (told_both f (flaw_if (not (is_among labels g.name)) broken.Unknown g.at) (lost labels (drop (at + 1) all)))
+      ∙ ap (λ q. told_behind f (lost labels q)) (sym (drop_is all at g e))
 
-  pub lost_over : (f : Option Flaw) → length all ≤ at → first_behind f (lost labels (drop at all)) ≡ f
-  lost_over f le = ap (λ q. first_behind f (lost labels q)) (drop_past all at le)
+  pub lost_over : (f : List Flaw) → length all ≤ at → told_behind f (lost labels (drop at all)) ≡ f
+  lost_over f le = ap (λ q. told_behind f (lost labels q)) (drop_past all at le)
 
-  pub repeated_step : (l : Named) (f : Option Flaw) → slice_get all at ≡ Some l
-      → first_behind (first_behind f (flaw_if (is_repeated labels at l.name) broken.Repeated l.at)) (repeated labels (at + 1) (drop (at + 1) all))
-      ≡ first_behind f (repeated labels at (drop at all))
+  pub repeated_step : (l : Named) (f : List Flaw) → slice_get all at ≡ Some l
+      → told_behind (told_behind f (flaw_if (is_repeated labels at l.name) broken.Repeated l.at)) (repeated labels (at + 1) (drop (at + 1) all))
+      ≡ told_behind f (repeated labels at (drop at all))
   repeated_step l f e =
-      sym (behind_both f (flaw_if (is_repeated labels at l.name) broken.Repeated l.at) (repeated labels (at + 1) (drop (at + 1) all)))
-      ∙ ap (λ q. first_behind f (repeated labels at q)) (sym (drop_is all at l e))
+      sym (told_both f (flaw_if (is_repeated labels at l.name) broken.Repeated l.at) (repeated labels (at + 1) (drop (at + 1) all)))
+      ∙ ap (λ q. told_behind f (repeated labels at q)) (sym (drop_is all at l e))
 
-  pub repeated_over : (f : Option Flaw) → length all ≤ at → first_behind f (repeated labels at (drop at all)) ≡ f
-  repeated_over f le = ap (λ q. first_behind f (repeated labels at q)) (drop_past all at le)
+  pub repeated_over : (f : List Flaw) → length all ≤ at → told_behind f (repeated labels at (drop at all)) ≡ f
+  repeated_over f le = ap (λ q. told_behind f (repeated labels at q)) (drop_past all at le)

@@ -1,5 +1,5 @@
 -- Going over the statements of a draft, one piece behind the other.
-use Rattle.std.proofs.Common.{◌≡◌, ℕ, ◌+◌, ◌≤◌, Option, Some, List, [], ◌∷◌, ◌++◌, drop, length, slice_get, refl, sym, ◌∙◌, ap}
+use Rattle.std.proofs.Common.{◌≡◌, ℕ, ◌+◌, ◌≤◌, Some, List, [], ◌∷◌, ◌++◌, drop, length, slice_get, refl, sym, ◌∙◌, ap}
 use Rattle.std.proofs.lemmas.List.{append_assoc, append-nil}
 use Rattle.sc_values.specs.declared.value.Kind.TheVariants as kind
 use Rattle.sc_graph.specs.Limits.{child_limit}
@@ -9,8 +9,8 @@ use Rattle.drafts.specs.declared.parts.Named.{Named}
 use Rattle.drafts.specs.declared.parts.TextExpression.{TextExpression}
 use Rattle.drafts.specs.declared.parts.Declaration.{Declaration}
 use Rattle.drafts.specs.Flaws.{flaw_if, is_full, variable_named, expression_flaws, assigned_flaws}
-use Rattle.drafts.specs.Inside.{first_behind}
-use Rattle.drafts.proofs.Firsts.{behind_both}
+use Rattle.drafts.specs.Told.{told_behind}
+use Rattle.drafts.proofs.ToldInOrder.{told_both}
 use Rattle.drafts.proofs.PartsInOrder.{drop_is, drop_past}
 use Rattle.scl_drafts.specs.declared.statement.TextStatement.{TextStatement}
 use Rattle.scl_drafts.specs.declared.statement.TextStatement.TheOpen as text
@@ -31,32 +31,32 @@ survey_both s p q = λ i.
       labels = sym (append_assoc s.labels p.labels q.labels) i;
       gotos = sym (append_assoc s.gotos p.gotos q.gotos) i;
       all = sym (append_assoc s.all p.all q.all) i;
-      first = behind_both s.first p.flaws q.flaws i;
+      told = told_both s.told p.flaws q.flaws i;
     }
 
 pub survey_nothing : (s : Survey) → behind s nothing ≡ s
 survey_nothing s = λ i.
-    record { labels = append-nil s.labels i; gotos = append-nil s.gotos i; all = append-nil s.all i; first = s.first }
+    record { labels = append-nil s.labels i; gotos = append-nil s.gotos i; all = append-nil s.all i; told = s.told }
 
 pub found_both : (f : Found) (p q : Part) → found_behind f (both p q) ≡ found_behind (found_behind f p) q
 found_both f p q = λ i.
-    record { labels = sym (append_assoc f.labels p.all q.all) i; first = behind_both f.first p.flaws q.flaws i }
+    record { labels = sym (append_assoc f.labels p.all q.all) i; told = told_both f.told p.flaws q.flaws i }
 
 pub found_nothing : (f : Found) → found_behind f nothing ≡ f
-found_nothing f = λ i. record { labels = append-nil f.labels i; first = f.first }
+found_nothing f = λ i. record { labels = append-nil f.labels i; told = f.told }
 
-only_first : (s : Survey) (flaws : List Flaw) → behind s (only_flaws flaws) ≡ record s { first = first_behind s.first flaws }
-only_first s flaws = λ i.
+only_told : (s : Survey) (flaws : List Flaw) → behind s (only_flaws flaws) ≡ record s { told = told_behind s.told flaws }
+only_told s flaws = λ i.
     record {
       labels = append-nil s.labels i;
       gotos = append-nil s.gotos i;
       all = append-nil s.all i;
-      first = first_behind s.first flaws;
+      told = told_behind s.told flaws;
     }
 
-pub branch_noted : (f : Found) (flaws : List Flaw) (first : Option Flaw) → first ≡ first_behind f.first flaws → record { labels = f.labels; first = first }
+pub branch_noted : (f : Found) (flaws : List Flaw) (told : List Flaw) → told ≡ told_behind f.told flaws → record { labels = f.labels; told = told }
     ≡ found_behind f (only_flaws flaws)
-branch_noted f flaws first e = λ i. record { labels = sym (append-nil f.labels) i; first = e i }
+branch_noted f flaws told e = λ i. record { labels = sym (append-nil f.labels) i; told = e i }
 
 -- ---- what each statement is as a piece of the text
 
@@ -87,10 +87,10 @@ module _ (V : List Declaration) where
 -- ---- going over a statement
 
 pub label_noted : (own : Thread) (found : Found) (label : Named) (labels all : List Named) → labels ≡ own.labels ++ label ∷ []
-    → all ≡ found.labels ++ label ∷ [] → survey (record { labels = labels; gotos = own.gotos }) (record { labels = all; first = found.first })
+    → all ≡ found.labels ++ label ∷ [] → survey (record { labels = labels; gotos = own.gotos }) (record { labels = all; told = found.told })
     ≡ behind (survey own found) (label_part label)
 label_noted own found label labels all e g = λ i.
-    record { labels = e i; gotos = sym (append-nil own.gotos) i; all = g i; first = found.first }
+    record { labels = e i; gotos = sym (append-nil own.gotos) i; all = g i; told = found.told }
 
 side_labels : (at : ℕ) (branches : List (ℕ × List Part)) → (side_by_side at branches).labels ≡ []
 side_labels at [] = refl
@@ -110,19 +110,19 @@ side_surveyed own found after at branches e =
       labels = (sym (append-nil own.labels) ∙ ap (λ l. own.labels ++ l) (sym (side_labels at branches))) i;
       gotos = (sym (append-nil own.gotos) ∙ ap (λ l. own.gotos ++ l) (sym (side_gotos at branches))) i;
       all = found.labels ++ (side_by_side at branches).all;
-      first = first_behind found.first (side_by_side at branches).flaws;
+      told = told_behind found.told (side_by_side at branches).flaws;
     })
 
 module _ (V : List Declaration) (own : Thread) (found : Found) (s : TextStatement) where
   behind_it : (p : Part) → part_of V s ≡ p → behind (survey own found) p ≡ behind (survey own found) (part_of V s)
   behind_it p e = ap (behind (survey own found)) (sym e)
 
-  pub assign_surveyed : (target : Named) (value : TextExpression) (first : Option Flaw) → s ≡ statement.Assign target value
-      → first ≡ first_behind found.first (assigned_flaws V (variable_named V target.name) target value)
-      → survey own (record { labels = found.labels; first = first }) ≡ behind (survey own found) (part_of V s)
-  assign_surveyed target value first is e =
-      ap (λ f. survey own (record { labels = found.labels; first = f })) e
-      ∙ sym (only_first (survey own found) (assigned_flaws V (variable_named V target.name) target value))
+  pub assign_surveyed : (target : Named) (value : TextExpression) (told : List Flaw) → s ≡ statement.Assign target value
+      → told ≡ told_behind found.told (assigned_flaws V (variable_named V target.name) target value)
+      → survey own (record { labels = found.labels; told = told }) ≡ behind (survey own found) (part_of V s)
+  assign_surveyed target value told is e =
+      ap (λ f. survey own (record { labels = found.labels; told = f })) e
+      ∙ sym (only_told (survey own found) (assigned_flaws V (variable_named V target.name) target value))
       ∙ behind_it (part V (text.Assign target value)) (ap (part_of V) is ∙ part_of_assign V target value)
 
   pub goto_surveyed : (label : Named) (gotos : List Named) → s ≡ statement.Goto label → gotos ≡ own.gotos ++ label ∷ []
@@ -133,7 +133,7 @@ module _ (V : List Declaration) (own : Thread) (found : Found) (s : TextStatemen
         labels = sym (append-nil own.labels) i;
         gotos = e i;
         all = sym (append-nil found.labels) i;
-        first = found.first;
+        told = found.told;
       })
       ∙ behind_it (part V (text.Goto label)) (ap (part_of V) is ∙ part_of_goto V label)
 
@@ -150,16 +150,16 @@ module _ (V : List Declaration) (own : Thread) (found : Found) (s : TextStatemen
       side_surveyed own found after 0 (branch_parts V branches) e
       ∙ behind_it (side_by_side 0 (branch_parts V branches)) (ap (part_of V) is ∙ part_of_fork V branches join)
 
-  pub if_surveyed : (at : ℕ) (test : TextExpression) (first second : Statements) (noted : Option Flaw) (b c : Survey)
+  pub if_surveyed : (at : ℕ) (test : TextExpression) (first second : Statements) (noted : List Flaw) (b c : Survey)
       → s ≡ statement.If at test first second
-      → noted ≡ first_behind found.first (expression_flaws V (Some kind.Bool) test) → b ≡ behind (survey own (record { labels = found.labels; first = noted }))
+      → noted ≡ told_behind found.told (expression_flaws V (Some kind.Bool) test) → b ≡ behind (survey own (record { labels = found.labels; told = noted }))
       (in_row (parts_of V first)) → c ≡ behind b (in_row (parts_of V second)) → c ≡ behind (survey own found) (part_of V s)
   if_surveyed at test first second noted b c is e f g =
       let flaws : List Flaw = expression_flaws V (Some kind.Bool) test in
       let p : Part = in_row (parts_of V first) in
       let q : Part = in_row (parts_of V second) in
-      let start : survey own (record { labels = found.labels; first = noted }) ≡ behind (survey own found) (only_flaws flaws) =
-      ap (λ n. survey own (record { labels = found.labels; first = n })) e ∙ sym (only_first (survey own found) flaws) in
+      let start : survey own (record { labels = found.labels; told = noted }) ≡ behind (survey own found) (only_flaws flaws) =
+      ap (λ n. survey own (record { labels = found.labels; told = n })) e ∙ sym (only_told (survey own found) flaws) in
       g
       ∙ ap (λ x. behind x q) (f ∙ ap (λ x. behind x p) start)
       ∙ sym (survey_both (behind (survey own found) (only_flaws flaws)) p q)
@@ -198,20 +198,20 @@ module _ (V : List Declaration) where
       ap (λ l. found_behind f (side_by_side at (branch_parts V l))) (drop_past branches at le) ∙ found_nothing f
 
   -- a thread's own labels and gotos, and then its gotos to none of them
-  pub thread_found : (body : Statements) (own : Thread) (found after : Found) (first : Option Flaw) → survey own after
+  pub thread_found : (body : Statements) (own : Thread) (found after : Found) (told : List Flaw) → survey own after
       ≡ behind (survey (record { labels = []; gotos = [] }) found) (in_row (parts_of V body))
-      → first ≡ first_behind after.first (lost (names own.labels) own.gotos) → record { labels = after.labels; first = first }
+      → told ≡ told_behind after.told (lost (names own.labels) own.gotos) → record { labels = after.labels; told = told }
       ≡ found_behind found (thread (in_row (parts_of V body)))
-  thread_found body own found after first e n =
+  thread_found body own found after told e n =
       let p : Part = in_row (parts_of V body) in
       let labels : own.labels ≡ p.labels = ap (λ s. s.labels) e in
       let gotos : own.gotos ≡ p.gotos = ap (λ s. s.gotos) e in
       let all : after.labels ≡ found.labels ++ p.all = ap (λ s. s.all) e in
-      let noted : after.first ≡ first_behind found.first p.flaws = ap (λ s. s.first) e in
-      let told : first ≡ first_behind found.first (p.flaws ++ lost (names p.labels) p.gotos) =
+      let noted : after.told ≡ told_behind found.told p.flaws = ap (λ s. s.told) e in
+      let all_told : told ≡ told_behind found.told (p.flaws ++ lost (names p.labels) p.gotos) =
       n
-      ∙ ap (λ f. first_behind f (lost (names own.labels) own.gotos)) noted
-      ∙ ap (λ l. first_behind (first_behind found.first p.flaws) (lost (names l) own.gotos)) labels
-      ∙ ap (λ g. first_behind (first_behind found.first p.flaws) (lost (names p.labels) g)) gotos
-      ∙ sym (behind_both found.first p.flaws (lost (names p.labels) p.gotos)) in
-      λ i. record { labels = all i; first = told i }
+      ∙ ap (λ f. told_behind f (lost (names own.labels) own.gotos)) noted
+      ∙ ap (λ l. told_behind (told_behind found.told p.flaws) (lost (names l) own.gotos)) labels
+      ∙ ap (λ g. told_behind (told_behind found.told p.flaws) (lost (names p.labels) g)) gotos
+      ∙ sym (told_both found.told p.flaws (lost (names p.labels) p.gotos)) in
+      λ i. record { labels = all i; told = all_told i }

@@ -1,24 +1,24 @@
 -- What functions that look for the flaws of a draft say of themselves. It is proved, and no public contract rests on what
 -- it means.
-use Rattle.std.specs.Prelude.{ℕ, Option, List, [], ◌∷◌, ◌++◌, map}
+use Rattle.std.specs.Prelude.{ℕ, List, [], ◌∷◌, ◌++◌, map}
 use Rattle.drafts.specs.declared.flaw.Flaw.{Flaw}
 use Rattle.drafts.specs.declared.parts.Named.{Named}
 use Rattle.drafts.specs.declared.parts.Declaration.{Declaration}
-use Rattle.drafts.specs.Inside.{first_behind}
+use Rattle.drafts.specs.Told.{told_behind}
 use Rattle.scl_drafts.specs.declared.survey.Thread.{Thread}
 use Rattle.scl_drafts.specs.declared.survey.Found.{Found}
 use Rattle.scl_drafts.specs.Statements.{Statements}
 use Rattle.scl_drafts.specs.Flaws.{Part, nothing, parts_of}
 
--- what is gathered on the way through a thread's text: its labels and its gotos, all labels, and the first flaw
+-- what is gathered on the way through a thread's text: its labels and its gotos, all labels, and the flaws that are told
 pub record Survey : Type 0 where
   pub labels : List Named
   pub gotos : List Named
   pub all : List Named
-  pub first : Option Flaw
+  pub told : List Flaw
 
 abbrev pub survey : Thread → Found → Survey
-survey own found = record { labels = own.labels; gotos = own.gotos; all = found.labels; first = found.first }
+survey own found = record { labels = own.labels; gotos = own.gotos; all = found.labels; told = found.told }
 
 -- the same behind one more piece
 abbrev pub behind : Survey → Part → Survey
@@ -27,12 +27,12 @@ behind s p =
       labels = s.labels ++ p.labels;
       gotos = s.gotos ++ p.gotos;
       all = s.all ++ p.all;
-      first = first_behind s.first p.flaws;
+      told = told_behind s.told p.flaws;
     }
 
 -- what is found in all threads, behind whole threads
 abbrev pub found_behind : Found → Part → Found
-found_behind found p = record { labels = found.labels ++ p.all; first = first_behind found.first p.flaws }
+found_behind found p = record { labels = found.labels ++ p.all; told = told_behind found.told p.flaws }
 
 abbrev pub label_part : Named → Part
 label_part label = record nothing { labels = label ∷ []; all = label ∷ [] }

@@ -1,6 +1,7 @@
-//! Reading a text that keeps the rules.
+//! Reading a text that keeps the rules, and telling the flaws of its draft.
 
 ghost use Rattle.std.specs.Prelude.{◌≡◌, None, IfOk, IfErr};
+ghost use Rattle.drafts.specs.Told.{told_of};
 ghost use Rattle.drafts.specs.Inside.{first_behind};
 ghost use Rattle.scl_drafts.specs.Flaws.{scl_flaws};
 ghost use Rattle.scl_drafts.specs.Checked.{IsFlawless, IsTextFault};
@@ -10,8 +11,9 @@ use crate::labels::note_repeated;
 use crate::name_row::NameRow;
 use crate::program::read_draft;
 use crate::survey::{Found, survey_thread};
-use drafts::{Flaw, Scope};
+use drafts::{Flaw, Scope, first_told};
 use sc_text::ReadFault;
+use sqlite_items::Items;
 use std::alloc::{AllocError, Global};
 
 /// The draft of a text that keeps the rules of SCL: names are known, variables and labels declared once, kinds
@@ -29,19 +31,25 @@ pub fn read_checked(alloc: Global, text: &str) -> Result<Draft, ReadFault>
     }
 }
 
-// The first flaw of a draft. Err: memory was refused.
-#[tactic(auto, using(crate::proofs::Checking::all_noted))]
 fn first_flaw(alloc: Global, draft: &Draft) -> Result<Option<Flaw>, AllocError>
     ensures { IfOk result (λ first. first ≡ first_behind None (scl_flaws draft.now)) }
+{
+    let told = told_flaws(alloc, draft)?;
+    Ok(first_told(told.as_slice()))
+}
+
+/// The flaws of a draft that are told: the first twenty, in the order of the text. Err: memory was refused.
+pub fn told_flaws(alloc: Global, draft: &Draft) -> Result<Items<Flaw>, AllocError>
+    ensures { IfOk result (λ told. told ≡ told_of (scl_flaws draft.now)) }
 {
     let scope = Scope::of(alloc, draft.declarations.as_slice())?;
     let mut found = Found {
         labels: NameRow::new(alloc),
-        first: None,
+        told: Items::new(alloc),
     };
-    scope.declarations(&mut found.first);
+    scope.tell_declarations(alloc, &mut found.told)?;
     survey_thread(alloc, &scope, draft.statements.as_slice(), &mut found)?;
-    let mut first = found.first;
-    note_repeated(alloc, &found.labels, &mut first)?;
-    Ok(first)
+    let mut told = found.told;
+    note_repeated(alloc, &found.labels, &mut told)?;
+    Ok(told)
 }

@@ -1,25 +1,26 @@
 //! Labels that stand twice, and gotos to no label of their thread.
 
 ghost use Rattle.std.specs.Prelude.{◌≡◌, IfOk, OnOk};
-ghost use Rattle.drafts.specs.Inside.{first_behind};
+ghost use Rattle.drafts.specs.Told.{told_behind};
 ghost use Rattle.scl_drafts.specs.Flaws.{names, lost, repeated};
 
 use crate::apart::are_apart;
 use crate::name_row::NameRow;
-use drafts::{Flaw, Index, note_if};
+use drafts::{Flaw, Index, note_told};
 use sc_text::FaultKind;
 use sc_values::Name;
+use sqlite_items::Items;
 use std::alloc::{AllocError, Global};
 
-/// Notes the gotos to none of these labels. Err: memory was refused.
+/// Tells the gotos to none of these labels. Err: memory was refused.
 #[tactic(auto, using(crate::proofs::Labelled::lost_step, crate::proofs::Labelled::lost_over))]
 pub(crate) fn note_lost(
     alloc: Global,
     labels: &NameRow,
     gotos: &NameRow,
-    first: &mut Option<Flaw>,
+    told: &mut Items<Flaw>,
 ) -> Result<(), AllocError>
-    ensures { OnOk result (first.new ≡ first_behind first.old (lost (names labels.now) gotos.now)) }
+    ensures { OnOk result (told.new ≡ told_behind told.old (lost (names labels.now) gotos.now)) }
 {
     if gotos.len() == 0 {
         return Ok(());
@@ -29,24 +30,24 @@ pub(crate) fn note_lost(
     for at in 0..gotos.len() {
         let target = gotos.at(at);
         let is_known = index.has(target.name);
-        note_if(first, !is_known, FaultKind::Unknown, target.at);
+        note_told(alloc, told, !is_known, FaultKind::Unknown, target.at)?;
     }
     Ok(())
 }
 
-/// Notes each label whose name stands before it too. Err: memory was refused.
+/// Tells each label whose name stands before it too. Err: memory was refused.
 #[tactic(auto, using(crate::proofs::AllApart::none_repeated))]
 pub(crate) fn note_repeated(
     alloc: Global,
     labels: &NameRow,
-    first: &mut Option<Flaw>,
+    told: &mut Items<Flaw>,
 ) -> Result<(), AllocError>
-    ensures { OnOk result (first.new ≡ first_behind first.old (repeated (names labels.now) 0 labels.now)) }
+    ensures { OnOk result (told.new ≡ told_behind told.old (repeated (names labels.now) 0 labels.now)) }
 {
     if are_apart(alloc, labels)? {
         return Ok(());
     }
-    note_each_repeated(alloc, labels, first)
+    note_each_repeated(alloc, labels, told)
 }
 
 // The same, where some may stand twice: each is looked up.
@@ -54,16 +55,16 @@ pub(crate) fn note_repeated(
 fn note_each_repeated(
     alloc: Global,
     labels: &NameRow,
-    first: &mut Option<Flaw>,
+    told: &mut Items<Flaw>,
 ) -> Result<(), AllocError>
-    ensures { OnOk result (first.new ≡ first_behind first.old (repeated (names labels.now) 0 labels.now)) }
+    ensures { OnOk result (told.new ≡ told_behind told.old (repeated (names labels.now) 0 labels.now)) }
 {
     let names = names(alloc, labels)?;
     let index = Index::of(alloc, names.as_slice())?;
     for at in 0..labels.len() {
         let label = labels.at(at);
         let is_repeated = index.is_repeated(at, label.name);
-        note_if(first, is_repeated, FaultKind::Repeated, label.at);
+        note_told(alloc, told, is_repeated, FaultKind::Repeated, label.at)?;
     }
     Ok(())
 }

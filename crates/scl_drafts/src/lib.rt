@@ -16,7 +16,7 @@ mod statements;
 mod survey;
 mod value;
 
-pub use checked::read_checked;
+pub use checked::{read_checked, told_flaws};
 pub use draft::Draft;
 pub use laws::{scl_drafts_are_shaped, scl_texts_are_told};
 pub use program::read_draft;

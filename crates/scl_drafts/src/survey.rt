@@ -10,10 +10,11 @@ ghost use Rattle.sc_text.specs.declared.read_fault.FaultKind.TheVariants.{Limit}
 use crate::labels::note_lost;
 use crate::name_row::NameRow;
 use crate::statement::TextStatement;
-use drafts::{Flaw, Named, Scope, note_if};
+use drafts::{Flaw, Named, Scope, note_told};
 use sc_graph::CHILD_LIMIT;
 use sc_text::FaultKind;
 use sc_values::Kind;
+use sqlite_items::Items;
 use std::alloc::{AllocError, Global};
 
 /// The labels and the gotos of one thread.
@@ -23,11 +24,11 @@ struct Thread<'a> {
     gotos: NameRow<'a>,
 }
 
-/// What was found in all threads: their labels in the order of the text, and the first flaw.
+/// What was found in all threads: their labels in the order of the text, and the flaws that are told.
 #[derive(Drop)]
 pub(crate) struct Found<'a> {
     pub(crate) labels: NameRow<'a>,
-    pub(crate) first: Option<Flaw>,
+    pub(crate) told: Items<Flaw>,
 }
 
 /// Goes over a whole thread. Err: memory was refused.
@@ -46,7 +47,7 @@ pub(crate) fn survey_thread<'a>(
         gotos: NameRow::new(alloc),
     };
     survey_statements(alloc, scope, body, &mut own, found)?;
-    note_lost(alloc, &own.labels, &own.gotos, &mut found.first)?;
+    note_lost(alloc, &own.labels, &own.gotos, &mut found.told)?;
     Ok(())
 }
 
@@ -79,12 +80,9 @@ fn survey_statement<'a>(
         (part_of scope.now.variables.now statement.now)) }
 {
     match statement {
-        TextStatement::Assign { target, value } => scope.assignment(
-            alloc,
-            *target,
-            value,
-            &mut found.first,
-        ),
+        TextStatement::Assign { target, value } => {
+            scope.tell_assignment(alloc, *target, value, &mut found.told)
+        }
         TextStatement::Label(label) => note_label(label, own, found),
         TextStatement::Goto(label) => own.gotos.push(label),
         TextStatement::Pause { at: _ } => Ok(()),
@@ -94,7 +92,7 @@ fn survey_statement<'a>(
             first,
             second,
         } => {
-            scope.expression(alloc, Some(Kind::Bool), test, &mut found.first)?;
+            scope.tell_expression(alloc, Some(Kind::Bool), test, &mut found.told)?;
             survey_statements(alloc, scope, first.as_slice(), own, found)?;
             survey_statements(alloc, scope, second.as_slice(), own, found)?;
             Ok(())
@@ -102,7 +100,7 @@ fn survey_statement<'a>(
         TextStatement::Fork { branches, join: _ } => {
             let all = branches.as_slice();
             for (before, branch) in all.iter().enumerate() {
-                note_branch(before, branch.0, found);
+                note_branch(alloc, before, branch.0, found)?;
                 survey_thread(alloc, scope, branch.1.as_slice(), found)?;
             }
             Ok(())
@@ -124,13 +122,11 @@ fn note_label<'a>(
 
 // What is too many at the word of a branch behind so many others.
 #[tactic(auto, using(crate::proofs::Surveyed::branch_noted))]
-fn note_branch(before: usize, at: usize, found: &mut Found)
-    ensures { found.new ≡ found_behind found.old (only_flaws (flaw_if (is_full child_limit before) Limit at)) }
+fn note_branch(alloc: Global, before: usize, at: usize, found: &mut Found) -> Result<(), AllocError>
+    ensures { OnOk result (found.new ≡ found_behind found.old
+        (only_flaws (flaw_if (is_full child_limit before) Limit at))) }
 {
-    note_if(
-        &mut found.first,
-        before >= CHILD_LIMIT,
-        FaultKind::Limit,
-        at,
-    );
+    let is_past = before >= CHILD_LIMIT;
+    note_told(alloc, &mut found.told, is_past, FaultKind::Limit, at)?;
+    Ok(())
 }

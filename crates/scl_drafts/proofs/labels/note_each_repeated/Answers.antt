@@ -1,7 +1,8 @@
 use Rattle.std.proofs.Common.{◌≡◌, ◌∙◌, ℕ, ◌+◌, List, drop, ap, subst}
 use Rattle.sc_text.specs.declared.read_fault.FaultKind.TheVariants as broken
 use Rattle.drafts.specs.Flaws.{flaw_if, is_repeated}
-use Rattle.drafts.specs.Inside.{IsIndex, first_behind}
+use Rattle.drafts.specs.Inside.{IsIndex}
+use Rattle.drafts.specs.Told.{told_behind}
 use Rattle.drafts.specs.declared.parts.Named.{Named}
 use Rattle.scl_drafts.specs.Flaws.{names, repeated}
 use Rattle.scl_drafts.proofs.Labelled.{repeated_step}
@@ -16,7 +17,7 @@ loop-at-preserved c =
     let is : IsIndex labels c.in_ok-index.index =
     subst (λ ns. IsIndex ns c.in_ok-index.index) (c.as_slice.ensures.value ∙ c.in_ok-names.ensures) c.in_ok-index.ensures in
     let again : c.is_repeated-is_repeated.result ≡ is_repeated labels at l.name = c.is_repeated-is_repeated.ensures labels is in
-    ap (λ f. first_behind f (repeated labels (at + 1) (drop (at + 1) all)))
-    (c.note_if.ensures ∙ ap (λ b. first_behind c.loop-at.first (flaw_if b broken.Repeated l.at)) again)
-    ∙ repeated_step labels all at l c.loop-at.first c.at-label.ensures
+    ap (λ f. told_behind f (repeated labels (at + 1) (drop (at + 1) all)))
+    (c.in_ok-note_told.ensures ∙ ap (λ b. told_behind c.loop-at.told (flaw_if b broken.Repeated l.at)) again)
+    ∙ repeated_step labels all at l c.loop-at.told c.at-label.ensures
     ∙ c.loop-at.invariant

@@ -2,7 +2,8 @@ use Rattle.std.proofs.Common.{◌≡◌, ◌∙◌, ℕ, ◌+◌, List, drop, ap
 use Rattle.std.specs.Prelude.{not}
 use Rattle.sc_text.specs.declared.read_fault.FaultKind.TheVariants as broken
 use Rattle.drafts.specs.Flaws.{flaw_if, is_among}
-use Rattle.drafts.specs.Inside.{IsIndex, first_behind}
+use Rattle.drafts.specs.Inside.{IsIndex}
+use Rattle.drafts.specs.Told.{told_behind}
 use Rattle.drafts.specs.declared.parts.Named.{Named}
 use Rattle.scl_drafts.specs.Flaws.{lost, names}
 use Rattle.scl_drafts.proofs.Labelled.{lost_step}
@@ -17,7 +18,7 @@ loop-at-preserved c =
     let is : IsIndex labels c.in_ok-index.index =
     subst (λ ns. IsIndex ns c.in_ok-index.index) (c.as_slice.ensures.value ∙ c.in_ok-names.ensures) c.in_ok-index.ensures in
     let known : c.has-is_known.result ≡ is_among labels g.name = c.has-is_known.ensures labels is in
-    ap (λ f. first_behind f (lost labels (drop (at + 1) all)))
-    (c.note_if.ensures ∙ ap (λ b. first_behind c.loop-at.first (flaw_if (not b) broken.Unknown g.at)) known)
-    ∙ lost_step labels all at g c.loop-at.first c.at-target.ensures
+    ap (λ f. told_behind f (lost labels (drop (at + 1) all)))
+    (c.in_ok-note_told.ensures ∙ ap (λ b. told_behind c.loop-at.told (flaw_if (not b) broken.Unknown g.at)) known)
+    ∙ lost_step labels all at g c.loop-at.told c.at-target.ensures
     ∙ c.loop-at.invariant

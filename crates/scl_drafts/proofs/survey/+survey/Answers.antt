@@ -1,8 +1,8 @@
-use Rattle.std.proofs.Common.{◌≡◌, ◌∙◌, ℕ, Option, Some, List, [], slice_get, refl, sym, ap}
+use Rattle.std.proofs.Common.{◌≡◌, ◌∙◌, ℕ, Some, List, [], slice_get, refl, sym, ap}
 use Rattle.std.proofs.lemmas.Option.{slice_get_read}
 use Rattle.drafts.specs.declared.flaw.Flaw.{Flaw}
 use Rattle.drafts.specs.declared.parts.Declaration.{Declaration}
-use Rattle.drafts.specs.Inside.{first_behind}
+use Rattle.drafts.specs.Told.{told_behind}
 use Rattle.scl_drafts.specs.declared.statement.TextStatement.{TextStatement}
 use Rattle.scl_drafts.specs.declared.survey.Thread.{Thread}
 use Rattle.scl_drafts.specs.declared.survey.Found.{Found}
@@ -28,16 +28,16 @@ survey_statement-returns-in_ok-survey_statements-in-If-2 t c =
     let V : List Declaration = c.args.scope.now.variables.now in
     let own : Thread = c.args.own.now in
     let found : Found = c.args.found.now in
-    let noted : Option Flaw = c.expression.new.first in
+    let noted : List Flaw = c.tell_expression.new.found in
     let half : Survey = survey c.survey_statements.new.own c.survey_statements.new.found in
     let done : Survey = survey c.survey_statements-in-If.new.own c.survey_statements-in-If.new.found in
-    let start : Survey = survey own (record { labels = found.labels; first = noted }) in
+    let start : Survey = survey own (record { labels = found.labels; told = noted }) in
     let first : half ≡ behind start (in_row (parts_of V c.in-If.first)) =
     c.in_ok-survey_statements-in-If.ensures ∙ ap (λ l. behind start (in_row (parts_of V l))) c.as_slice.ensures in
     let second : done ≡ behind half (in_row (parts_of V c.in-If.second)) =
     c.in_ok-survey_statements-in-If-2.ensures ∙ ap (λ l. behind half (in_row (parts_of V l))) c.as_slice-in-If.ensures in
     if_surveyed V own found c.args.statement.now c.in-If.at c.in-If.test c.in-If.first c.in-If.second noted half done c.in-If.is
-    c.in_ok-expression-in-If.ensures first second
+    c.in_ok-tell_expression-in-If.ensures first second
 
 pub survey_thread-returns : goal.survey_thread-returns
 survey_thread-returns t c =
@@ -45,13 +45,12 @@ survey_thread-returns t c =
     let found : Found = c.args.found.now in
     let own : Thread = c.survey_statements.new.own in
     let after : Found = c.survey_statements.new.found in
-    let first : Option Flaw = c.note_lost.new.first in
+    let told : List Flaw = c.note_lost.new.told in
     let begun : survey own after ≡ behind (survey (record { labels = []; gotos = [] }) found) (in_row (parts_of V c.args.body.now)) =
     c.in_ok-survey_statements.ensures ∙ ap (λ n. behind (survey n found) (in_row (parts_of V c.args.body.now)))
     (λ i. record { labels = c.new.ensures i; gotos = c.new-2.ensures i }) in
-    let told : first ≡ first_behind after.first (lost (names own.labels) own.gotos) =
-    c.in_ok-note_lost.ensures in
-    thread_found V c.args.body.now own found after first begun told
+    let lost_told : told ≡ told_behind after.told (lost (names own.labels) own.gotos) = c.in_ok-note_lost.ensures in
+    thread_found V c.args.body.now own found after told begun lost_told
 
 pub survey_statement-loop-before-preserved : goal.survey_statement-loop-before-preserved
 survey_statement-loop-before-preserved t c =
@@ -64,7 +63,7 @@ survey_statement-loop-before-preserved t c =
     let at : slice_get xs i ≡ Some b = slice_get_read xs _ i b refl c.loop-before-test.true c.index-all-before.is in
     let gone : after ≡ found_behind noted (thread (in_row (parts_of V b.1))) =
     c.in_ok-survey_thread-in-Fork.ensures ∙ ap (λ l. found_behind noted (thread (in_row (parts_of V l)))) c.as_slice-in-loop-before.ensures in
-    branch_step V xs i b c.loop-before.found noted after at c.note_branch.ensures gone ∙ c.loop-before.invariant
+    branch_step V xs i b c.loop-before.found noted after at c.in_ok-note_branch-in-Fork.ensures gone ∙ c.loop-before.invariant
 
 pub survey_statement-returns-after-loop-before : goal.survey_statement-returns-after-loop-before
 survey_statement-returns-after-loop-before t c =

@@ -1,0 +1,8 @@
+//! Reading the parts that other texts of charts share: names and words, expressions, effects and triggers.
+
+pub use crate::ahead::{Ahead, skip_sign, skip_word};
+pub use crate::regions::state_follows;
+pub use crate::transitions::{deed, placed, some_effects, termination, trigger, value};
+pub use crate::words::{
+    declared_kind, declared_role, flag, name, role_follows, tested_word, tested_word_follows, title,
+};
