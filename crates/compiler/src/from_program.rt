@@ -6,25 +6,31 @@ ghost use Rattle.compiler.specs.Compiled.{IsCompiled, LacksImage};
 ghost use Rattle.priority_weights.specs.Edges.{HasNoWalk};
 ghost use Rattle.priority_weights.specs.LeastTables.{AreLeast};
 ghost use Rattle.sc_graph.specs.Limits.{budget_limit};
+ghost use Rattle.sc_graph.specs.Links.{Tells};
 ghost use Rattle.sc_graph.specs.Valid.{IsFormed};
 
 use crate::fault::CompileFault;
 use bytecode::Image;
 use conflict_edges::conflicts;
 use priority_weights::tables;
-use sc_graph::{Program, Tables};
+use sc_graph::{Links, Program, Tables};
 use std::alloc::Global;
 use verifier::{Verified, verify};
 
-/// The valid image of a formed program, with its least tables. Err: the first that holds of these: two of its
-/// nodes conflict (E11), flow within one tick closes (E13), instantaneous and protocol edges close (E12), a code
-/// or an assignment breaks its rule (E33, E34); or memory was refused.
-pub fn compile_program(alloc: Global, program: Program) -> Result<Verified, CompileFault>
-    requires { IsFormed program }
+/// The valid image of a formed program, whose links are given, with its least tables. Err: the first that holds of
+/// these: two of its nodes conflict (E11), flow within one tick closes (E13), instantaneous and protocol edges close
+/// (E12), a code or an assignment breaks its rule (E33, E34); or memory was refused.
+pub fn compile_program(
+    alloc: Global,
+    program: Program,
+    links: &Links,
+) -> Result<Verified, CompileFault>
+    requires formed { IsFormed program }
+    requires told { Tells program links.now }
     ensures compiled { IfOk result (IsCompiled program) }
     ensures refused { IfErr result (LacksImage program) }
 {
-    let tables = least_tables(alloc, &program)?;
+    let tables = least_tables(alloc, &program, links)?;
     let image = match Image::of(program, tables) {
         Some(image) => image,
         // least tables have an entry for each node and each thread
@@ -37,15 +43,16 @@ pub fn compile_program(alloc: Global, program: Program) -> Result<Verified, Comp
 }
 
 // The least tables of a program without conflicts and without closed walks.
-fn least_tables(alloc: Global, program: &Program) -> Result<Tables, CompileFault>
-    requires { IsFormed program.now }
+fn least_tables(alloc: Global, program: &Program, links: &Links) -> Result<Tables, CompileFault>
+    requires formed { IsFormed program.now }
+    requires told { Tells program.now links.now }
     ensures least { IfOk result (AreLeast program.now) }
     ensures budget { IfOk result (λ q. q.budget ≤ budget_limit) }
     ensures none { IfOk result (λ _. HasNoConflict program.now) }
     ensures no_walk { IfOk result (λ _. HasNoWalk program.now) }
     ensures refused { IfErr result (LacksImage program.now) }
 {
-    let edges = match conflicts(alloc, program) {
+    let edges = match conflicts(alloc, program, links) {
         Ok(edges) => edges,
         Err(fault) => return Err(CompileFault::Conflict(fault)),
     };

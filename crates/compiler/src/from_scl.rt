@@ -2,6 +2,7 @@
 
 ghost use Rattle.std.specs.Prelude.{◌↔◌, IfErr, IfOk, IsTrue};
 ghost use Rattle.compiler.specs.Texts.{IsImageOf, SclLacksImage};
+ghost use Rattle.sc_graph.specs.Links.{Tells};
 ghost use Rattle.sc_graph.specs.Valid.{IsFormed};
 
 use crate::fault::CompileFault;
@@ -9,7 +10,7 @@ use crate::from_program::compile_program;
 use sc_graph::{Links, Program};
 use scl::Scl;
 use scl_graph::{GraphFault, graph_of};
-use std::alloc::{AllocError, Global};
+use std::alloc::Global;
 use verifier::Verified;
 
 /// The valid image of an SCL program: that of its graph, with the least tables. Err: the first that holds of
@@ -24,21 +25,21 @@ pub fn compile_scl(alloc: Global, scl: &Scl) -> Result<Verified, CompileFault>
         Ok(program) => program,
         Err(fault) => return Err(CompileFault::Graph(fault)),
     };
-    let formed = match is_formed(alloc, &program) {
-        Ok(formed) => formed,
+    let links = match Links::of(alloc, &program) {
+        Ok(links) => links,
         Err(_) => return Err(CompileFault::Graph(GraphFault::Memory)),
     };
-    if !formed {
+    if !is_formed(&program, &links) {
         // the graph of a program is formed, by its law
         unreachable!();
     }
-    compile_program(alloc, program)
+    compile_program(alloc, program, &links)
 }
 
-// Whether a program is formed, in one pass over its nodes.
-fn is_formed(alloc: Global, program: &Program) -> Result<bool, AllocError>
-    ensures { IfOk result (λ formed. IsTrue formed ↔ IsFormed program.now) }
+// Whether a program is formed, by its links.
+fn is_formed(program: &Program, links: &Links) -> bool
+    requires { Tells program.now links.now }
+    ensures { IsTrue result ↔ IsFormed program.now }
 {
-    let links = Links::of(alloc, program)?;
-    Ok(program.size_fault().is_none() && program.structure_fault_with(&links).is_none())
+    program.size_fault().is_none() && program.structure_fault_with(links).is_none()
 }

@@ -5,6 +5,8 @@ ghost use Rattle.std.specs.Prelude.{◌≡◌, ◌↔◌, IfOk, IsTrue, ℕ, Err
 ghost use Rattle.conflict_edges.specs.Followers.{AreFollowers};
 ghost use Rattle.conflict_edges.specs.declared.fault.ConflictFault.TheVariants.{WriteWrite};
 ghost use Rattle.program_edges.specs.Conflicts.{HasNoConflict};
+ghost use Rattle.program_edges.specs.Users.{UsersOf};
+ghost use Rattle.sc_graph.specs.Links.{Tells};
 ghost use Rattle.sc_graph.specs.Protocol.{WriteConflict};
 ghost use Rattle.sc_graph.specs.Threads.{ConcurrentNodes};
 ghost use Rattle.sc_graph.specs.Valid.{IsFormed};
@@ -19,7 +21,7 @@ use std::marker::Model;
 #[derive(Drop)]
 pub struct Edges<'a> {
     program: &'a Program,
-    links: Links,
+    links: &'a Links,
     users: Users,
 }
 
@@ -31,7 +33,7 @@ impl<'a> Model for Edges<'a> {
 
     ghost view = { λ e. e.program.now };
 
-    ghost invariant = { λ e. AreHeld e.program.now e.links e.users };
+    ghost invariant = { λ e. AreHeld e.program.now e.links.now e.users };
 }
 
 /// Nodes of which each that is concurrent with a given one must come after it: those that update the
@@ -42,17 +44,21 @@ pub struct Followers<'a> {
     pub reads: &'a [NodeId],
 }
 
-/// The protocol edges of a formed program. `WriteWrite`: two of its nodes, the smaller first, conflict.
+/// The protocol edges of a formed program, by its links. `WriteWrite`: two of its nodes, the smaller first, conflict.
 /// `Memory`: memory was refused.
-pub fn conflicts<'a>(alloc: Global, program: &'a Program) -> Result<Edges<'a>, ConflictFault>
-    requires { IsFormed program.now }
+pub fn conflicts<'a>(
+    alloc: Global,
+    program: &'a Program,
+    links: &'a Links,
+) -> Result<Edges<'a>, ConflictFault>
+    requires formed { IsFormed program.now }
+    requires told { Tells program.now links.now }
     ensures edges { IfOk result (λ e. e ≡ program.now) }
     ensures none { IfOk result (λ _. HasNoConflict program.now) }
     ensures conflict { (m n : ℕ) → result ≡ Err (WriteWrite m n) → WriteConflict program.now m n }
 {
-    let links = Links::of(alloc, program)?;
     let users = Users::of(alloc, program)?;
-    match find_conflict(alloc, program, &links, &users)? {
+    match find_conflict(alloc, program, links, &users)? {
         Some((m, n)) => Err(ConflictFault::WriteWrite(m, n)),
         None => Ok(Edges {
             program,
@@ -95,11 +101,25 @@ impl<'a> Edges<'a> {
         }
     }
 
+    /// The links of the program.
+    pub fn links(&self) -> &Links
+        ensures { Tells self.now result.now }
+    {
+        self.links
+    }
+
+    /// The nodes that use each variable of the program.
+    pub fn users(&self) -> &Users
+        ensures { UsersOf self.now result.now }
+    {
+        &self.users
+    }
+
     /// Whether two nodes are concurrent.
     pub fn are_concurrent(&self, m: NodeId, n: NodeId) -> bool
         ensures { IsTrue result ↔ ConcurrentNodes self.now m n }
     {
-        are_concurrent(self.program, &self.links, m, n)
+        are_concurrent(self.program, self.links, m, n)
     }
 
     /// Whether a node may be concurrent with another: where not, it is so with none. It costs a step for each thread
@@ -107,6 +127,6 @@ impl<'a> Edges<'a> {
     pub fn has_company(&self, node: NodeId) -> bool
         ensures { (other : ℕ) → ConcurrentNodes self.now node other → IsTrue result }
     {
-        has_company(self.program, &self.links, node)
+        has_company(self.program, self.links, node)
     }
 }

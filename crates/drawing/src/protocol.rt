@@ -106,7 +106,7 @@ pub(crate) fn put_protocol(
     if !is_formed(program, links) {
         return Ok(());
     }
-    match conflicts(alloc, program) {
+    match conflicts(alloc, program, links) {
         Ok(edges) => put_edges(alloc, text, program, &edges),
         Err(ConflictFault::Memory) => Err(AllocError),
         Err(ConflictFault::WriteWrite(first, second)) => {

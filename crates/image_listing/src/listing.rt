@@ -26,7 +26,7 @@ fn head_text(alloc: Global, image: &Image, nodes: u16, head: &str) -> Result<Str
 // What stands behind the nodes.
 fn tail_text(alloc: Global, image: &Verified) -> Result<String, AllocError> {
     let program = image.image().program();
-    match conflicts(alloc, program) {
+    match conflicts(alloc, program, image.links()) {
         Ok(edges) => {
             let lines = edges_text(alloc, program, &edges)?;
             format!(in alloc; "\nprotocol edges\n{lines}")

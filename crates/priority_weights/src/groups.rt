@@ -2,22 +2,27 @@
 
 use crate::arcs::Arcs;
 use crate::branches::Branches;
+use conflict_edges::Edges;
 use program_edges::{NextNodes, Users, children_of, next_nodes};
 use sc_graph::{Links, NodeId, Program, VariableId};
 use std::alloc::{AllocError, Global};
 
 /// Instantaneous and protocol edges. The nodes are those of the program, and behind them those that stand for some of
 /// these: a protocol edge leads over several of them. Err: memory was refused.
-pub(crate) fn order_arcs(alloc: Global, program: &Program) -> Result<Arcs, AllocError> {
-    let links = Links::of(alloc, program)?;
+pub(crate) fn order_arcs(
+    alloc: Global,
+    program: &Program,
+    edges: &Edges,
+) -> Result<Arcs, AllocError> {
+    let links = edges.links();
+    let users = edges.users();
     let mut arcs = Arcs::none(alloc, u32::from(program.node_count()))?;
     for node in 0..program.node_count() {
-        add_instants(program, &links, &mut arcs, node)?;
+        add_instants(program, links, &mut arcs, node)?;
     }
-    let users = Users::of(alloc, program)?;
     let mut branches = Branches::none(alloc, program)?;
     for x in 0..program.variable_count() {
-        add_variable(program, &links, &users, &mut arcs, &mut branches, x)?;
+        add_variable(program, links, users, &mut arcs, &mut branches, x)?;
     }
     Ok(arcs)
 }

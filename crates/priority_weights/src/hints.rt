@@ -10,6 +10,7 @@ use crate::next::entry;
 use crate::reasons::reasons;
 use crate::visit::Visited;
 use crate::ways::{settling_order, way_to};
+use conflict_edges::Edges;
 use program_edges::{children_of, successors};
 use sc_graph::{NodeId, Program, Step};
 use std::alloc::{AllocError, Global};
@@ -46,9 +47,13 @@ impl Search {
     }
 
     /// For the search for a cycle with a protocol edge, and for priorities. Err: memory was refused.
-    pub(crate) fn of_order(alloc: Global, program: &Program) -> Result<Search, AllocError> {
+    pub(crate) fn of_order(
+        alloc: Global,
+        program: &Program,
+        edges: &Edges,
+    ) -> Result<Search, AllocError> {
         let count = program.node_count();
-        let arcs = order_arcs(alloc, program)?;
+        let arcs = order_arcs(alloc, program, edges)?;
         let visited = Visited::of(alloc, &arcs)?;
         match find_joined(&arcs, &visited, count, u32::from(count)) {
             Some(suspect) => Search::back_to(alloc, &arcs, &visited, count, suspect),

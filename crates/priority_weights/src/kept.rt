@@ -12,7 +12,6 @@ use crate::instants::asked_by_instants;
 use crate::next::entry;
 use crate::places::Places;
 use conflict_edges::Edges;
-use program_edges::Users;
 use sc_graph::{Links, NodeId, Program, VariableId};
 use std::alloc::{AllocError, Global};
 
@@ -45,7 +44,7 @@ pub(crate) fn protocol_kept(
     ensures { IfOk result (λ kept. IsTrue kept → ((m n : ℕ) → ProtocolEdge program.now m n
         → slice_index table.now n < slice_index table.now m)) }
 {
-    let users = Users::of(alloc, program)?;
+    let users = edges.users();
     let mut places = Places::none(alloc, program.thread_count())?;
     for x in 0..program.variable_count() {
         let inits = users.inits.of(x);

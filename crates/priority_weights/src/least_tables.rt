@@ -42,7 +42,7 @@ pub fn tables(alloc: Global, program: &Program, edges: &Edges) -> Result<Tables,
         Falling::Cycle(walk) => return Err(TablesFault::InstantLoop(Items::from_vec(walk))),
         Falling::Table(_ranks) => {}
     }
-    let ordered = Search::of_order(alloc, program)?;
+    let ordered = Search::of_order(alloc, program, edges)?;
     let priorities = match priorities(alloc, program, edges, ordered.hints())? {
         Falling::Cycle(walk) => return Err(TablesFault::Cyclic(Items::from_vec(walk))),
         Falling::Table(priorities) => priorities,

@@ -32,10 +32,9 @@ pub(crate) fn priorities(
     requires edges { edges.now ≡ program.now }
     ensures { IfOk result (IsFalling (InOrder program.now) (length program.now.nodes)) }
 {
-    let links = Links::of(alloc, program)?;
     let order = Order {
         program,
-        links,
+        links: edges.links(),
         edges,
         reasons: hints.reasons,
     };
@@ -46,7 +45,7 @@ pub(crate) fn priorities(
 #[derive(Drop)]
 struct Order<'a> {
     program: &'a Program,
-    links: Links,
+    links: &'a Links,
     edges: &'a Edges<'a>,
     reasons: &'a [NodeId],
 }
@@ -59,14 +58,14 @@ impl<'a> Model for Order<'a> {
 
     ghost view = { λ o. o.program.now };
 
-    ghost invariant = { λ o. IsOrdered o.program.now o.links o.edges.now };
+    ghost invariant = { λ o. IsOrdered o.program.now o.links.now o.edges.now };
 }
 
 impl<'a> NumberRule for Order<'a> {
     ghost keeps = { λ p. Falls (InOrder p) };
 
     fn need(&self, table: &[u32], place: u16) -> u64 {
-        asked_by_instants(self.program, &self.links, table, place).max(asked_by_protocol(
+        asked_by_instants(self.program, self.links, table, place).max(asked_by_protocol(
             self.edges, table, place,
         ))
     }
@@ -76,13 +75,13 @@ impl<'a> NumberRule for Order<'a> {
             Some(node) => *node,
             None => place,
         };
-        asked_by_instants(self.program, &self.links, table, place).max(asked_by_one(
+        asked_by_instants(self.program, self.links, table, place).max(asked_by_one(
             self.edges, table, place, reason,
         ))
     }
 
     fn is_kept(&self, alloc: Global, table: &[u32], count: u16) -> Result<bool, AllocError> {
-        if !instants_kept(self.program, &self.links, table, count) {
+        if !instants_kept(self.program, self.links, table, count) {
             return Ok(false);
         }
         let kept = protocol_kept(alloc, self.program, self.edges, table)?;
@@ -94,7 +93,7 @@ impl<'a> Graph for Order<'a> {
     ghost leads = { λ p. InOrder p };
 
     fn towards(&self, ranks: &[u32], node: u16, below: u64) -> Option<u16> {
-        match ranked_instant(self.program, &self.links, ranks, node, below) {
+        match ranked_instant(self.program, self.links, ranks, node, below) {
             Some(found) => Some(found),
             None => ranked_behind(self.edges, ranks, node, below),
         }

@@ -7,6 +7,6 @@ returns-in-Err-clause-refused c = (
   c.in_ok-tables.ensures.none,
   c.in_ok-tables.ensures.no_walk,
   breaks_a_rule (Err c.in-Err.refusal) c.args.program c.in_ok-tables.tables c.in-Some.image c.in-Err.refusal refl
-      c.in-Some.ensures.parts c.requires c.in_ok-tables.ensures.none c.in_ok-tables.ensures.least c.in_ok-tables.ensures.budget
+      c.in-Some.ensures.parts c.requires.formed c.in_ok-tables.ensures.none c.in_ok-tables.ensures.least c.in_ok-tables.ensures.budget
       c.in-Err.ensures.broken,
 )

@@ -12,7 +12,7 @@ returns-in-Some-Assign c =
     (sym c.in-Some-Assign.ensures ∙ ap Some c.in-Some-Assign.field-0-is) in
     let P : Program → Type 0 = λ q. AreFollowers q c.args.node (record { updates = c.of.result; reads = c.of-in-Some-Assign.result }) in
     subst P c.self.view_is
-    (after_init p c.self.inside.links c.self.inside.users c.args.node x _ c.self.invariant init c.of.ensures c.of-in-Some-Assign.ensures)
+    (after_init p c.self.inside.links.now c.self.inside.users c.args.node x _ c.self.invariant init c.of.ensures c.of-in-Some-Assign.ensures)
 
 pub returns-in-Some-Update : goal.returns-in-Some-Update
 returns-in-Some-Update c =
@@ -22,5 +22,5 @@ returns-in-Some-Update c =
     (sym c.in-Some-Update.ensures ∙ ap Some c.in-Some-Update.field-0-is) in
     let P : Program → Type 0 = λ q. AreFollowers q c.args.node (record { updates = c.nobody.result; reads = c.of-in-Some-Update.result }) in
     subst P c.self.view_is
-    (after_update p c.self.inside.links c.self.inside.users c.args.node x _ c.self.invariant update c.nobody.ensures
+    (after_update p c.self.inside.links.now c.self.inside.users c.args.node x _ c.self.invariant update c.nobody.ensures
     c.of-in-Some-Update.ensures)
