@@ -9,53 +9,76 @@ use Rattle.sc_graph.specs.declared.tables.Tables.{Tables}
 use Rattle.sc_graph.specs.Program.{Program}
 use Rattle.sc_graph.specs.Control.{status_of, status_enabled, IsEnabled}
 use Rattle.sc_graph.specs.Steps.{step}
-use Rattle.sc_graph.specs.Tables.{priority, priority_of}
+use Rattle.sc_graph.specs.Tables.{priority_of}
 use Rattle.sc_graph.specs.Tick.{IsConfiguration}
 use Rattle.sc_graph.specs.Valid.{IsValid}
 use Rattle.tick_laws.proofs.Lists.{get_set_same}
 use Rattle.tick_core.specs.Claims.{Claim}
 use Rattle.tick_core.specs.Inside.Living.{CountsLiving, counted_at}
-use Rattle.tick_core.specs.Inside.Onward.{MovesOn, Goes}
+use Rattle.tick_core.specs.Inside.Onward.{IsOwnAffair, own_row, MovesAlone, Goes}
 use Rattle.tick_core.specs.Inside.Sorting.{row_at, step_priority, unless_claimed, ready_row, OwnRows, AreSorted, sorted_one, sorted_parent, sorted_all}
 use Rattle.tick_core.specs.Inside.Sorting.{ended_parent, children_at}
 use Rattle.tick_core.proofs.LivingChildren.{counts_after}
 use Rattle.tick_core.proofs.OwnRoom.{has_room, kept_one}
 use Rattle.tick_core.proofs.Unmoved.{sorted_after, sorted_after_at, stays_configuration}
 
--- a step that moves its own thread alone
-module _ (p : Program) (q : Tables) (valid : IsValid p q) (c d : Control) (ok : IsConfiguration p c) (t : ℕ) (below : t < length p.threads) (n : ℕ)
-    (on : MovesOn p c d t n) where
-  stands : status_of d t ≡ status.At n
+-- who comes to stand so is counted with nobody, and has no parent that waits for one less
+same_counts : (p : Program) (d : Control) (counts : List ℕ) (t : ℕ) (st : Status) → IsOwnAffair st → counted_at p d counts t st ≡ counts
+same_counts p d counts t (status.At n) own = refl
+same_counts p d counts t (status.Paused n) own = refl
+same_counts p d counts t status.Absent own = absurd own
+same_counts p d counts t (status.Waiting j) own = absurd own
+same_counts p d counts t status.Ended own = absurd own
+
+no_parent : (p : Program) (t : ℕ) (st : Status) → IsOwnAffair st → ended_parent p t st ≡ None
+no_parent p t (status.At n) own = refl
+no_parent p t (status.Paused n) own = refl
+no_parent p t status.Absent own = absurd own
+no_parent p t (status.Waiting j) own = absurd own
+no_parent p t status.Ended own = absurd own
+
+row_at_own : (p : Program) (q : Tables) (d : Control) (st : Status) → IsOwnAffair st → row_at (status_enabled p d st) (priority_of q st) ≡ own_row q st
+row_at_own p q d (status.At n) own = refl
+row_at_own p q d (status.Paused n) own = refl
+row_at_own p q d status.Absent own = absurd own
+row_at_own p q d (status.Waiting j) own = absurd own
+row_at_own p q d status.Ended own = absurd own
+
+-- a step that concerns its own thread alone
+module _ (p : Program) (q : Tables) (valid : IsValid p q) (c d : Control) (ok : IsConfiguration p c) (t : ℕ) (below : t < length p.threads) (st : Status)
+    (stepped : step p t c ≡ Some d) (on : MovesAlone p c d t st) where
+  stands : status_of d t ≡ st
   stands =
       ap (λ xs. unwrap_or (slice_get xs t) status.Absent) on.statuses
-      ∙ ap (λ (o : Option Status). unwrap_or o status.Absent) (get_set_same c.statuses t (status.At n) (omega (arith, below, ok.threads)))
+      ∙ ap (λ (o : Option Status). unwrap_or o status.Absent) (get_set_same c.statuses t st (omega (arith, below, ok.threads)))
 
   still_ok : IsConfiguration p d
-  still_ok = stays_configuration p q valid c d ok t on.stepped
+  still_ok = stays_configuration p q valid c d ok t stepped
 
-  row_is : (claims : List (Option Claim)) → slice_get claims t ≡ Some None → ready_row p q d claims t ≡ Some (priority q n)
+  row_is : (claims : List (Option Claim)) → slice_get claims t ≡ Some None → ready_row p q d claims t ≡ own_row q st
   row_is claims none =
-      ap (λ o. unless_claimed o (step_priority p q d t)) none ∙ ap (λ s. row_at (status_enabled p d s) (priority_of q s)) stands
+      ap (λ o. unless_claimed o (step_priority p q d t)) none
+      ∙ (ap (λ s. row_at (status_enabled p d s) (priority_of q s)) stands ∙ row_at_own p q d st on.own)
 
   module _ (claims : List (Option Claim)) (none : slice_get claims t ≡ Some None) (rows : Rows) (own : OwnRows p q rows) where
     -- the row of the node has room for it
-    pub next_room : HasRoom rows t (Some (priority q n))
+    pub next_room : HasRoom rows t (own_row q st)
     next_room = subst (λ (o : Option ℕ). HasRoom rows t o) (row_is claims none) (has_room p q rows own t below d valid still_ok claims)
 
     pub moves_on : IsEnabled p c t → (counts : List ℕ) → CountsLiving p c counts → (after_rows : Rows)
-        → after_rows ≡ record rows { classes = slice_set rows.classes t (Some (priority q n)) } → Goes p q c d t claims rows after_rows counts
+        → after_rows ≡ record rows { classes = slice_set rows.classes t (own_row q st) } → Goes p q c d t claims rows after_rows counts
     moves_on enabled counts counted after_rows after_is =
         record {
-          stepped = on.stepped;
-          counts = counts_after p q valid c d ok t below on.stepped enabled counts counts counted p (status_of d t) refl refl
-              (sym (ap (counted_at p d counts t) stands));
+          stepped = stepped;
+          counts = counts_after p q valid c d ok t below stepped enabled counts counts counted p (status_of d t) refl refl
+              (sym (ap (counted_at p d counts t) stands ∙ same_counts p d counts t st on.own));
           sorted = λ before h is. subst (λ xs. AreSorted p q d xs after_rows) (sym is)
-              (sorted_after p q valid c d ok t below on.stepped before rows after_rows h (sorted_so before is)
+              (sorted_after p q valid c d ok t below stepped before rows after_rows h (sorted_so before is)
               (subst (OwnRows p q) (sym (after_is ∙ one_is claims none)) (kept_one p q rows own t below d valid still_ok claims)));
         }
       where
         one_is : (xs : List (Option Claim)) → slice_get xs t ≡ Some None
-            → record rows { classes = slice_set rows.classes t (Some (priority q n)) } ≡ sorted_one (ready_row p q d xs) rows t
+            → record rows { classes = slice_set rows.classes t (own_row q st) } ≡ sorted_one (ready_row p q d xs) rows t
         one_is xs free = ap (λ (o : Option ℕ). record rows { classes = slice_set rows.classes t o }) (sym (row_is xs free))
 
         sorted_so : (before : List (Option Claim)) → claims ≡ slice_set before t None →
@@ -65,7 +88,7 @@ module _ (p : Program) (q : Tables) (valid : IsValid p q) (c d : Control) (ok : 
         sorted_so before is =
             let row : ℕ → Option ℕ = ready_row p q d (slice_set before t None) in
             after_is ∙ (one_is (slice_set before t None) (sym (ap (λ xs. slice_get xs t) is) ∙ none)
-            ∙ (sym (ap (λ s. sorted_parent row (sorted_one row rows t) (ended_parent p t s)) stands)
+            ∙ (sym (ap (sorted_parent row (sorted_one row rows t)) (ap (ended_parent p t) stands ∙ no_parent p t st on.own))
             ∙ sym (ap (λ ks. sorted_all row ks (sorted_parent row (sorted_one row rows t) (ended_parent p t (status_of d t)))) on.alone)))
 
 -- any step

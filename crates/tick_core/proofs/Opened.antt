@@ -1,6 +1,6 @@
 -- How many claims are open, counted.
 use Rattle.std.proofs.Common.{◌≡◌, ◌≢◌, ℕ, zero, suc, ◌+◌, ◌<◌, ◌⊎◌, List, [], ◌∷◌, length, Option, Some, None, slice_get, slice_set}
-use Rattle.std.proofs.Common.{refl, sym, ap, inl, inr, arith}
+use Rattle.std.proofs.Common.{refl, sym, ap, inl, inr, ⊎_elim, arith}
 use Rattle.std.specs.Prelude.{count_by, is_some}
 use Rattle.std.proofs.lemmas.List.Sums.{sum_by-cons}
 use Rattle.buckets.proofs.Lists.{count_set, counts_one}
@@ -58,6 +58,10 @@ pub none_there : (claims : List (Option Claim)) (t : ℕ) → slice_get claims t
 none_there [] t is = absurd cc
 none_there (x ∷ claims) zero is = let same : x ≡ None = cc in ap (λ y. y ∷ claims) (sym same)
 none_there (x ∷ claims) (suc t) is = ap (λ ys. x ∷ ys) (none_there claims t is)
+
+-- where none is counted, no place holds one
+pub none_counted_at : (claims : List (Option Claim)) (t : ℕ) → count_by is_some claims ≡ 0 → t < length claims → slice_get claims t ≡ Some None
+none_counted_at claims t none below = ⊎_elim (λ is. is) (λ opened. absurd (none_open claims none t opened.0 opened.1)) (open_or_not claims t below)
 
 -- where none is counted, none is there
 pub none_counted_there : (claims : List (Option Claim)) (t : ℕ) → count_by is_some claims ≡ 0 → slice_set claims t None ≡ claims

@@ -6,7 +6,6 @@ ghost use Rattle.sc_graph.specs.Tick.{AreAccepted};
 ghost use Rattle.tick_core.specs.Inside.Given.{HasOwnNames, Gives, IsGiven};
 
 use crate::guesses::Guesses;
-use crate::inputs::place_of;
 use sc_graph::Program;
 use sc_values::{Name, Value};
 use std::alloc::{AllocError, Global};
@@ -84,8 +83,7 @@ fn take_all(
     let variables = program.variables();
     for at in 0..inputs.len() {
         let input = &inputs[at];
-        let guess = guesses.place(variables, &input.0, at);
-        let Some(place) = place_of(variables, input, guess) else {
+        let Some(place) = guesses.place_of(variables, input, at) else {
             return false;
         };
         if is_given(values, place) {

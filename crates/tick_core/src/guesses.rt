@@ -1,12 +1,16 @@
 //! Guesses of where an input stands among the variables.
 
+ghost use Rattle.std.specs.Prelude.{MatchOption};
+ghost use Rattle.tick_core.specs.Inside.Inputs.{IsForAt, NamesInput};
+
+use crate::inputs::{is_for_at, place_of};
 use sc_graph::{Role, Variable};
-use sc_values::Name;
+use sc_values::{Name, Value};
 use std::alloc::{AllocError, Global};
 use std::collections::BTreeMap;
 
-/// Where the inputs of a program stand among its variables, by their names. What it answers is a guess:
-/// who asks compares the variable with what is looked for, and no contract rests on it.
+/// Where the inputs of a program stand among its variables, by their names. What it holds is a guess: each place is
+/// compared with what is looked for, and no contract rests on it.
 #[derive(Drop)]
 pub(crate) struct Guesses {
     by_name: BTreeMap<Name, usize>,
@@ -22,20 +26,20 @@ impl Guesses {
         Ok(Guesses { by_name, in_order })
     }
 
-    /// Where the input of this name is likely to stand, which is given as the one at this place among all
-    /// that are given. Lines give their inputs in the order of names, and often all of them.
-    pub(crate) fn place(&self, variables: &[Variable], name: &Name, at: usize) -> Option<usize> {
+    /// The variable that an input is for, which is given as the one at this place among all that are given; None where
+    /// it is for none. Lines give their inputs in the order of names, and often all of them.
+    pub(crate) fn place_of(
+        &self,
+        variables: &[Variable],
+        input: &(Name, Value),
+        at: usize,
+    ) -> Option<usize>
+        ensures { MatchOption result (¬ NamesInput variables.now input.now) (IsForAt variables.now input.now) }
+    {
         match self.in_order.get(at) {
-            Some(place) if has_name(variables, *place, name) => Some(*place),
-            _ => self.by_name.get(name).copied(),
+            Some(place) if is_for_at(variables, input, *place) => Some(*place),
+            _ => place_of(variables, input, self.by_name.get(&input.0).copied()),
         }
-    }
-}
-
-fn has_name(variables: &[Variable], place: usize, name: &Name) -> bool {
-    match variables.get(place) {
-        Some(variable) => variable.name == *name,
-        None => false,
     }
 }
 

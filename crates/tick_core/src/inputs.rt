@@ -69,8 +69,8 @@ fn place_among(variables: &[Variable], input: &(Name, Value)) -> Option<usize>
     None
 }
 
-// Whether this input is for the variable at this place.
-fn is_for_at(variables: &[Variable], input: &(Name, Value), place: usize) -> bool
+/// Whether this input is for the variable at this place.
+pub(crate) fn is_for_at(variables: &[Variable], input: &(Name, Value), place: usize) -> bool
     ensures { IsTrue result ↔ (IsForAt variables.now input.now place) }
 {
     match variables.get(place) {

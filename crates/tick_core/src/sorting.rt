@@ -1,13 +1,13 @@
 //! The rows of ready threads, sorted anew after a step.
 
-ghost use Rattle.std.specs.Prelude.{◌≡◌, ◌<◌, All, IfOk, length};
+ghost use Rattle.std.specs.Prelude.{◌≡◌, ◌<◌, All, IfOk, count_by, is_some, length};
 ghost use Rattle.sc_graph.specs.Control.{status_of};
 ghost use Rattle.sc_graph.specs.Program.{Program};
 ghost use Rattle.sc_graph.specs.Tick.{IsConfiguration};
 ghost use Rattle.sc_graph.specs.Valid.{IsValid};
 ghost use Rattle.tick_core.specs.Inside.Joins.{FindsForks};
 ghost use Rattle.tick_core.specs.Inside.Living.{CountsLiving};
-ghost use Rattle.tick_core.specs.Inside.Sorting.{OwnRows, AreSorted, step_priority, ready_row, sorted_one};
+ghost use Rattle.tick_core.specs.Inside.Sorting.{AreOpen, OwnRows, AreSorted, step_priority, ready_row, sorted_one};
 ghost use Rattle.tick_core.specs.Inside.Sorting.{sorted_parent, ended_parent, sorted_all, children_at, NodePriorities};
 
 use crate::joins::Joins;
@@ -26,11 +26,13 @@ pub(crate) fn sort_after(
     control: &Control,
     living: &[usize],
     claims: &[Option<KeptClaim>],
+    claimed: usize,
     rows: &mut Rows,
     thread: ThreadId,
     children: &[ThreadId],
 )
     requires counts { CountsLiving program.now control.now living.now }
+    requires opened { AreOpen program.now claims.now claimed }
     requires valid { IsValid program.now tables.now }
     requires configuration { IsConfiguration program.now control.now }
     requires place { thread < length program.now.threads }
@@ -42,11 +44,17 @@ pub(crate) fn sort_after(
         (ended_parent program.now thread (status_of control.now thread))) }
     ensures rows { OwnRows program.now tables.now rows.new }
 {
-    sort(program, tables, control, living, claims, rows, thread);
+    sort(
+        program, tables, control, living, claims, claimed, rows, thread,
+    );
     if let Some(parent) = ended_parent(program, control, thread) {
-        sort(program, tables, control, living, claims, rows, parent);
+        sort(
+            program, tables, control, living, claims, claimed, rows, parent,
+        );
     }
-    sort_all(program, tables, control, living, claims, rows, children);
+    sort_all(
+        program, tables, control, living, claims, claimed, rows, children,
+    );
     rows.settle();
 }
 
@@ -84,10 +92,12 @@ fn sort_all(
     control: &Control,
     living: &[usize],
     claims: &[Option<KeptClaim>],
+    claimed: usize,
     rows: &mut Rows,
     threads: &[ThreadId],
 )
     requires counts { CountsLiving program.now control.now living.now }
+    requires opened { AreOpen program.now claims.now claimed }
     requires valid { IsValid program.now tables.now }
     requires configuration { IsConfiguration program.now control.now }
     requires places { All (λ t. t < length program.now.threads) threads.now }
@@ -97,7 +107,9 @@ fn sort_all(
     ensures rows { OwnRows program.now tables.now rows.new }
 {
     for thread in threads {
-        sort(program, tables, control, living, claims, rows, *thread);
+        sort(
+            program, tables, control, living, claims, claimed, rows, *thread,
+        );
     }
 }
 
@@ -109,10 +121,12 @@ pub(crate) fn sort(
     control: &Control,
     living: &[usize],
     claims: &[Option<KeptClaim>],
+    claimed: usize,
     rows: &mut Rows,
     thread: ThreadId,
 )
     requires counts { CountsLiving program.now control.now living.now }
+    requires opened { AreOpen program.now claims.now claimed }
     requires valid { IsValid program.now tables.now }
     requires configuration { IsConfiguration program.now control.now }
     requires place { thread < length program.now.threads }
@@ -120,21 +134,28 @@ pub(crate) fn sort(
     ensures sorted { rows.new ≡ sorted_one (ready_row program.now tables.now control.now claims.now) rows.old thread }
     ensures rows { OwnRows program.now tables.now rows.new }
 {
-    let row = ready_row(tables, control, living, claims, thread);
+    let row = ready_row(tables, control, living, claims, claimed, thread);
     rows.set(thread, row);
 }
 
-// The priority at which a thread is ready; None where it isn't enabled, or has an open claim.
+// The priority at which a thread is ready; None where it isn't enabled, or has an open claim. Where no claim is
+// open, none is looked at: they lie far apart.
 fn ready_row(
     tables: &Tables,
     control: &Control,
     living: &[usize],
     claims: &[Option<KeptClaim>],
+    claimed: usize,
     thread: ThreadId,
 ) -> Option<u16>
+    requires counted { claimed ≡ count_by is_some claims.now }
+    requires place { thread < length claims.now }
     ensures { (p : Program) → CountsLiving p control.now living.now
         → result ≡ ready_row p tables.now control.now claims.now thread }
 {
+    if claimed == 0 {
+        return step_priority(tables, control, living, thread);
+    }
     match claims.get(thread as usize) {
         Some(None) => step_priority(tables, control, living, thread),
         _ => None,
@@ -171,16 +192,20 @@ pub(crate) fn sort_every(
     control: &Control,
     living: &[usize],
     claims: &[Option<KeptClaim>],
+    claimed: usize,
     rows: &mut Rows,
 )
     requires counts { CountsLiving program.now control.now living.now }
+    requires opened { AreOpen program.now claims.now claimed }
     requires valid { IsValid program.now tables.now }
     requires configuration { IsConfiguration program.now control.now }
     requires rows { OwnRows program.now tables.now rows.old }
     ensures { AreSorted program.now tables.now control.now claims.now rows.new }
 {
     for thread in 0..program.thread_count() {
-        sort(program, tables, control, living, claims, rows, thread);
+        sort(
+            program, tables, control, living, claims, claimed, rows, thread,
+        );
     }
     rows.settle();
 }

@@ -298,6 +298,7 @@ impl<'a> TickSpace<'a> {
             &present,
             &living,
             &claims,
+            0,
             &mut rows,
         );
         TickState {

@@ -1,6 +1,6 @@
 //! One step of a thread.
 
-ghost use Rattle.std.specs.Prelude.{◌≡◌, [], ◌∷◌, map, IsSome, MatchOption, Some, option_map, slice_set};
+ghost use Rattle.std.specs.Prelude.{◌≡◌, [], ◌∷◌, map, IsSome, IfSome, Some, option_map, slice_set};
 ghost use Rattle.std.specs.Option.{option_copied};
 ghost use Rattle.sc_graph.specs.Program.{entry_of};
 ghost use Rattle.sc_graph.specs.Control.{status_of};
@@ -8,25 +8,27 @@ ghost use Rattle.sc_graph.specs.Steps.{Keep, Put, Combine, enters, moved, after,
 ghost use Rattle.tick_core.specs.Stepping.{code_at};
 ghost use Rattle.tick_core.specs.Inside.Work.{value_of, value_at};
 ghost use Rattle.tick_core.specs.Inside.Joins.{FindsForks};
-ghost use Rattle.tick_core.specs.Inside.Onward.{MayMoveAt, MovesOn};
+ghost use Rattle.tick_core.specs.Inside.Onward.{MovesAloneAt, MovesAlone};
 
 use crate::joins::Joins;
 use sc_graph::{Control, NodeId, Program, Status, Step, ThreadId, VariableId};
 use sc_values::{Code, Combination, Value};
 use sqlite_items::Items;
 
-/// Takes the defined step of a thread, whose code has this value over the present variables.
+/// Takes the defined step of a thread, whose code has this value over the present variables. Gives where the thread
+/// comes to stand where nobody else is concerned. None: it forks or leaves others, or ends.
 pub(crate) fn take_step(
     joins: &Joins,
     program: &Program,
     control: &mut Control,
     thread: ThreadId,
     value: Option<Value>,
-)
+) -> Option<Status>
     requires forks { FindsForks program.now joins.now }
     requires defined { IsSome (step program.now thread control.old) }
     requires value { value ≡ value_at program.now control.old (status_of control.old thread) }
-    ensures { step program.now thread control.old ≡ Some control.new }
+    ensures stepped { step program.now thread control.old ≡ Some control.new }
+    ensures alone { IfSome result (MovesAlone program.now control.old control.new thread) }
 {
     match control.status(thread) {
         Status::At(node) => match program.step(node) {
@@ -36,32 +38,11 @@ pub(crate) fn take_step(
         Status::Waiting(join) => match (joins.joined(program, join), program.step(join)) {
             (Some(children), Some(Step::Join { next })) => {
                 leave(control, thread, children, *next);
+                None
             }
             _ => unreachable!(),
         },
         Status::Absent | Status::Paused(_) | Status::Ended => unreachable!(),
-    }
-}
-
-/// Takes the defined step of a thread that stands at an assignment, an update or a condition, whose code has this
-/// value: nobody else moves. Gives the node at which the thread comes to stand. None: it stands elsewhere, and
-/// nothing is done.
-pub(crate) fn move_on(
-    program: &Program,
-    control: &mut Control,
-    thread: ThreadId,
-    value: Option<Value>,
-) -> Option<NodeId>
-    requires defined { IsSome (step program.now thread control.old) }
-    requires value { value ≡ value_at program.now control.old (status_of control.old thread) }
-    ensures { MatchOption result (control.new ≡ control.old) (MovesOn program.now control.old control.new thread) }
-{
-    match control.status(thread) {
-        Status::At(node) => match program.step(node) {
-            Some(step) => move_on_at(program, control, thread, step, value),
-            None => None,
-        },
-        Status::Absent | Status::Waiting(_) | Status::Paused(_) | Status::Ended => None,
     }
 }
 
@@ -81,63 +62,24 @@ pub(crate) fn code_at(program: &Program, status: Status) -> Option<&Code>
     }
 }
 
+// The step of a thread from a node, as of `take_step`.
 fn take_step_at(
     program: &Program,
     control: &mut Control,
     thread: ThreadId,
     step: &Step,
     value: Option<Value>,
-)
+) -> Option<Status>
     requires defined { IsSome (node_effect program.now control.old thread step.now) }
     requires value { value ≡ value_of control.old step.now }
-    ensures { option_map (λ e. after e control.old) (node_effect program.now control.old thread step.now)
+    ensures stepped { option_map (λ e. after e control.old) (node_effect program.now control.old thread step.now)
         ≡ Some control.new }
+    ensures alone { IfSome result (MovesAloneAt control.old control.new thread step.now) }
 {
     match (step, value) {
         (Step::Assign { variable, next, .. }, Some(value)) => {
             assign(control, thread, *variable, value, *next);
-        }
-        (
-            Step::Update {
-                variable,
-                combine,
-                next,
-                ..
-            },
-            Some(value),
-        ) => update(control, thread, *variable, *combine, value, *next),
-        (Step::Cond { then, .. }, Some(Value::Bool(true))) => {
-            go(control, thread, Status::At(*then));
-        }
-        (Step::Cond { other, .. }, Some(Value::Bool(false))) => {
-            go(control, thread, Status::At(*other));
-        }
-        (Step::Fork { children, join }, _) => {
-            fork(program, control, thread, children.as_slice(), *join);
-        }
-        (Step::Surf { depth }, _) => go(control, thread, Status::Paused(*depth)),
-        (Step::Depth { next }, _) => go(control, thread, Status::At(*next)),
-        (Step::Exit, _) => go(control, thread, Status::Ended),
-        _ => unreachable!(),
-    }
-}
-
-// The step of a thread from such a node. None: it is another one, and nothing is done.
-fn move_on_at(
-    program: &Program,
-    control: &mut Control,
-    thread: ThreadId,
-    step: &Step,
-    value: Option<Value>,
-) -> Option<NodeId>
-    requires defined { IsSome (node_effect program.now control.old thread step.now) }
-    requires value { value ≡ value_of control.old step.now }
-    ensures { MayMoveAt program.now control.old control.new thread step.now result }
-{
-    match (step, value) {
-        (Step::Assign { variable, next, .. }, Some(value)) => {
-            assign(control, thread, *variable, value, *next);
-            Some(*next)
+            Some(Status::At(*next))
         }
         (
             Step::Update {
@@ -149,14 +91,30 @@ fn move_on_at(
             Some(value),
         ) => {
             update(control, thread, *variable, *combine, value, *next);
-            Some(*next)
+            Some(Status::At(*next))
         }
         (Step::Cond { then, other, .. }, Some(Value::Bool(holds))) => {
             let next = if holds { *then } else { *other };
             go(control, thread, Status::At(next));
-            Some(next)
+            Some(Status::At(next))
         }
-        _ => None,
+        (Step::Surf { depth }, _) => {
+            go(control, thread, Status::Paused(*depth));
+            Some(Status::Paused(*depth))
+        }
+        (Step::Depth { next }, _) => {
+            go(control, thread, Status::At(*next));
+            Some(Status::At(*next))
+        }
+        (Step::Fork { children, join }, _) => {
+            fork(program, control, thread, children.as_slice(), *join);
+            None
+        }
+        (Step::Exit, _) => {
+            go(control, thread, Status::Ended);
+            None
+        }
+        _ => unreachable!(),
     }
 }
 

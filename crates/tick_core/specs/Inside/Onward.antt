@@ -1,32 +1,61 @@
--- A step with the rows and counts that it leaves, and the steps that move their own thread alone.
-use Rattle.std.specs.Prelude.{ℕ, ◌≡◌, None, Some, List, [], Option, MatchOption, option_map, slice_set}
+-- A step with the rows and counts that it leaves, and the steps that concern their own thread alone.
+use Rattle.std.specs.Prelude.{ℕ, ◌≡◌, ◌<◌, IsSome, None, Some, List, [], Option, length, slice_get, slice_set}
 use Rattle.buckets.specs.Rows.{Rows}
+use Rattle.sc_values.specs.declared.value.Value.{Value}
 use Rattle.sc_graph.specs.declared.program.Step.{Step}
 use Rattle.sc_graph.specs.declared.control.Control.{Control}
+use Rattle.sc_graph.specs.declared.control.Status.{Status}
 use Rattle.sc_graph.specs.declared.control.Status.TheVariants as status
 use Rattle.sc_graph.specs.declared.tables.Tables.{Tables}
 use Rattle.sc_graph.specs.Program.{Program}
-use Rattle.sc_graph.specs.Control.{status_of}
-use Rattle.sc_graph.specs.Steps.{after, node_effect, step}
+use Rattle.sc_graph.specs.Control.{status_of, IsEnabled}
+use Rattle.sc_graph.specs.Steps.{step}
+use Rattle.sc_graph.specs.Tables.{priority}
+use Rattle.sc_graph.specs.Tick.{IsConfiguration}
+use Rattle.sc_graph.specs.Valid.{IsValid}
 use Rattle.tick_core.specs.Claims.{Claim}
+use Rattle.tick_core.specs.Inside.Joins.{FindsForks}
 use Rattle.tick_core.specs.Inside.Living.{CountsLiving}
-use Rattle.tick_core.specs.Inside.Sorting.{AreSorted, children_of, children_at}
+use Rattle.tick_core.specs.Inside.Sorting.{AreOpen, OwnRows, AreSorted, children_of, children_at}
+use Rattle.tick_core.specs.Inside.Work.{value_at}
 
--- the step of thread t from a node leads it to node n, and moves nobody else
-pub record MovesAt (p : Program) (c d : Control) (t : ℕ) (s : Step) (n : ℕ) : Type 0 where
-  pub stepped : option_map (λ e. after e c) (node_effect p c t s) ≡ Some d
-  pub statuses : d.statuses ≡ slice_set c.statuses t (status.At n)
+-- at a node, or paused: nobody else's count or row hangs on it
+abbrev pub IsOwnAffair : Status → Type 0
+IsOwnAffair (status.At n) = Unit {0}
+IsOwnAffair (status.Paused d) = Unit {0}
+IsOwnAffair other = ⊥
+
+-- the row of a thread that stands at a node; who is paused stands in none
+abbrev pub own_row : Tables → Status → Option ℕ
+own_row q (status.At n) = Some (priority q n)
+own_row q other = None
+
+-- the step of thread t from a node leads it here, and concerns nobody else
+pub record MovesAloneAt (c d : Control) (t : ℕ) (s : Step) (st : Status) : Type 0 where
+  pub statuses : d.statuses ≡ slice_set c.statuses t st
+  pub own : IsOwnAffair st
   pub alone : children_of s ≡ []
 
--- the step of thread t from a node leads it to this node, and moves nobody else; none: nothing is done
-abbrev pub MayMoveAt : Program → Control → Control → ℕ → Step → Option ℕ → Type 0
-MayMoveAt p c d t s next = MatchOption next (d ≡ c) (MovesAt p c d t s)
-
--- the step of thread t leads it to node n, and moves nobody else
-pub record MovesOn (p : Program) (c d : Control) (t n : ℕ) : Type 0 where
-  pub stepped : step p t c ≡ Some d
-  pub statuses : d.statuses ≡ slice_set c.statuses t (status.At n)
+-- the step of thread t leads it here, and concerns nobody else
+pub record MovesAlone (p : Program) (c d : Control) (t : ℕ) (st : Status) : Type 0 where
+  pub statuses : d.statuses ≡ slice_set c.statuses t st
+  pub own : IsOwnAffair st
   pub alone : children_at p (status_of c t) ≡ []
+
+-- thread t may step from here, without a claim, and its code has this value; counts and rows are those of the program
+pub record MayStep (p : Program) (q : Tables) (joins : List (Option ℕ)) (c : Control) (t : ℕ) (value : Option Value) (claims : List (Option Claim))
+    (claimed : ℕ) (counts : List ℕ) (rows : Rows) : Type 0 where
+  pub forks : FindsForks p joins
+  pub valid : IsValid p q
+  pub configuration : IsConfiguration p c
+  pub place : t < length p.threads
+  pub enabled : IsEnabled p c t
+  pub defined : IsSome (step p t c)
+  pub value_is : value ≡ value_at p c (status_of c t)
+  pub unclaimed : slice_get claims t ≡ Some None
+  pub opened : AreOpen p claims claimed
+  pub counted : CountsLiving p c counts
+  pub own_rows : OwnRows p q rows
 
 -- thread t steps: the counts are those of the configuration behind its step, and where the rows were sorted before, with
 -- its claim, so they are after, without one

@@ -1,5 +1,6 @@
 -- Threads in rows by the priority at which they can step, and be claimed.
 use Rattle.std.specs.Prelude.{ℕ, ◌≡◌, ◌<◌, Bool, true, false, Option, Some, None, List, [], ◌∷◌, length, slice_get, slice_index, slice_set}
+use Rattle.std.specs.Prelude.{count_by, is_some}
 use Rattle.buckets.specs.Rows.{Rows, IsIn, HasRooms}
 use Rattle.sc_graph.specs.declared.program.Step.{Step}
 use Rattle.sc_graph.specs.declared.program.Step.TheVariants as step
@@ -46,6 +47,11 @@ unless_claimed other row = None
 -- the priority at which thread t is ready; None where it isn't enabled, or has an open claim
 abbrev pub ready_row : Program → Tables → Control → List (Option Claim) → ℕ → Option ℕ
 ready_row p q c claims t = unless_claimed (slice_get claims t) (step_priority p q c t)
+
+-- each thread has a place for a claim, and so many are open
+pub record AreOpen (p : Program) (claims : List (Option Claim)) (claimed : ℕ) : Type 0 where
+  pub places : length claims ≡ length p.threads
+  pub counted : claimed ≡ count_by is_some claims
 
 -- each ready thread stands in the row of its priority, and no other in any
 pub record AreSorted (p : Program) (q : Tables) (c : Control) (claims : List (Option Claim)) (rows : Rows) : Type 0 where

@@ -149,6 +149,7 @@ impl<'a> TickState<'a> {
             &self.present,
             &self.living,
             &self.claims,
+            self.claimed,
             &mut self.rows,
             thread,
         );

@@ -61,6 +61,7 @@ impl<'a> TickState<'a> {
                 &self.present,
                 &self.living,
                 &self.claims,
+                0,
                 &mut self.rows,
             );
         }
@@ -90,6 +91,7 @@ impl<'a> TickState<'a> {
             image.program(),
             image.tables(),
             &self.claims,
+            self.claimed,
             &mut self.present,
             &mut self.living,
             &mut self.rows,

@@ -1,9 +1,9 @@
 use Rattle.std.proofs.Common.{◌≡◌, ◌<◌, Some, None, length, slice_get, refl, sym, subst, arith}
 use Rattle.std.proofs.lemmas.Option.{slice_get_read, slice_get_within}
-use Rattle.tick_core.specs.Inside.Inputs.{IsForAt}
+use Rattle.tick_core.specs.Inside.Inputs.{IsForAt, NamesInput}
 use Rattle.tick_core.specs.Inside.Given.{Gives, IsGiven}
 use Rattle.tick_core.proofs.Accepted.{accepted_from, accepted_below}
-use Rattle.tick_core.proofs.InputValues.{gives_next, accepted_next, given_twice, not_given, place_within}
+use Rattle.tick_core.proofs.InputValues.{gives_next, accepted_next, given_twice, given_nowhere, not_given, place_within}
 use Rattle.tick_core.proofs.given.take_all.Goals as goal
 
 pub returns-then-is_given-clause-accepted : goal.returns-then-is_given-clause-accepted
@@ -18,6 +18,17 @@ returns-then-is_given-clause-accepted c =
       λ no. absurd cc,
       λ all. absurd (given_twice p c.requires.names c.args.inputs.now l.values.items l.at c.in-Some.place input before.value l.invariant.gives is it before.is
           all),
+    )
+
+pub returns-in_default-clause-accepted : goal.returns-in_default-clause-accepted
+returns-in_default-clause-accepted c =
+    let l = c.loop-at in
+    let p = c.args.program.now in
+    let input = c.index-inputs-at.result in
+    let is : slice_get c.args.inputs.now l.at ≡ Some input = slice_get_read _ _ _ _ refl c.loop-at-test.true c.index-inputs-at.is in
+    let nowhere : ¬ NamesInput p.variables input = subst (λ vs. ¬ NamesInput vs input) c.variables-variables.ensures c.in_default.ensures in (
+      λ no. absurd cc,
+      λ all. absurd (given_nowhere p c.args.inputs.now l.at input is nowhere all),
     )
 
 pub loop-at-preserved : goal.loop-at-preserved

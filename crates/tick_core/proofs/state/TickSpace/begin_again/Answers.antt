@@ -1,11 +1,14 @@
-use Rattle.std.proofs.Common.{◌∙◌, arith, refl, ap, sym, subst}
+use Rattle.std.proofs.Common.{◌∙◌, None, length, arith, refl, ap, sym, subst}
+use Rattle.std.specs.Prelude.{count_by, is_some}
+use Rattle.std.proofs.lemmas.List.{length-map}
 use Rattle.sc_graph.specs.Tick.{IsConfiguration}
 use Rattle.sc_graph.specs.Valid.{IsValid}
 use Rattle.tick_core.specs.State.{BeginsTick}
 use Rattle.tick_core.specs.Inside.Living.{CountsLiving}
-use Rattle.tick_core.specs.Inside.Sorting.{OwnRows}
+use Rattle.tick_core.specs.Inside.Sorting.{AreOpen, OwnRows}
 use Rattle.tick_core.proofs.StateKept.{holds_begun, no_claims_at}
 use Rattle.tick_core.proofs.Counts.{sorted_every_at, none_open_at}
+use Rattle.tick_core.proofs.Opened.{none_counted}
 use Rattle.tick_core.proofs.StartKept.{begins_configuration}
 use Rattle.tick_core.proofs.state.TickSpace.begin_again.Goals as goal
 
@@ -38,6 +41,16 @@ count_every-requires-clause-configuration c =
     subst (λ p. IsConfiguration p c.copy_into.new.to) (sym (c.program-program.ensures ∙ ap (λ i. i.program) c.image-image.ensures.value))
     (subst (IsConfiguration c.self.inside.verified.now.program) (sym c.copy_into.ensures)
     (begins_configuration c.self.inside.verified.now c.args.begun c.image-image.ensures.valid begins))
+
+pub sort_every-requires-clause-opened : goal.sort_every-requires-clause-opened
+sort_every-requires-clause-opened c =
+    subst (λ p. AreOpen p c.deref-2.result.now 0) (sym (c.program-program.ensures ∙ ap (λ i. i.program) c.image-image.ensures.value))
+    (record {
+      places = ap length (c.deref-2.ensures.value ∙ c.self.invariant.no_claim) ∙ length-map c.self.inside.verified.now.program.threads (λ _. None);
+      counted = sym (ap (count_by is_some) c.deref-2.ensures.value
+          ∙ none_counted c.self.inside.room.claims.items
+          (no_claims_at c.self.inside.verified.now.program.threads c.self.inside.room.claims.items c.self.invariant.no_claim));
+    })
 
 pub sort_every-requires-clause-rows : goal.sort_every-requires-clause-rows
 sort_every-requires-clause-rows c =

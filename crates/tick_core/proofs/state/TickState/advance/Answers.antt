@@ -1,10 +1,11 @@
-use Rattle.std.proofs.Common.{◌∙◌, ◌<◌, refl, sym, ap, subst, arith, length, None, slice_get}
-use Rattle.std.specs.Prelude.{IsSome}
-use Rattle.sc_graph.specs.Steps.{step}
-use Rattle.sc_graph.specs.Tick.{IsConfiguration}
+use Rattle.std.proofs.Common.{◌∙◌, length, length-set, refl, sym, ap, subst, arith, None, slice_get}
+use Rattle.std.specs.Prelude.{count_by, is_some}
+use Rattle.sc_graph.specs.Control.{status_of}
 use Rattle.tick_laws.proofs.Lists.{get_set_same}
 use Rattle.tick_core.specs.Inside.Sorting.{AreSorted}
-use Rattle.tick_core.specs.Inside.Onward.{Goes}
+use Rattle.tick_core.specs.Inside.Onward.{MayStep, Goes}
+use Rattle.tick_core.specs.Inside.Work.{value_at}
+use Rattle.tick_core.specs.State.{InTick}
 use Rattle.tick_core.proofs.StateKept.{configuration, leads_at, step_is_defined, has_room, has_place, kept_advanced}
 use Rattle.tick_core.proofs.Counts.{open_advanced}
 use Rattle.tick_core.proofs.state.TickState.advance.Goals as goal
@@ -21,26 +22,32 @@ push_reserved-requires c =
 pub close_one-requires-clause-place : goal.close_one-requires-clause-place
 close_one-requires-clause-place c = has_place _ c.self.invariant.0 c.args.thread (leads_at _ _ c.args.thread c.self.view_is c.requires.leads)
 
-pub step_on-requires-clause-configuration : goal.step_on-requires-clause-configuration
-step_on-requires-clause-configuration c =
-    subst (λ p. IsConfiguration p c.self.inside.present) (sym (c.program.ensures ∙ ap (λ i. i.program) c.image-image.ensures.value))
-    (configuration _ c.self.invariant.0)
-
-pub step_on-requires-clause-place : goal.step_on-requires-clause-place
-step_on-requires-clause-place c =
-    subst (λ p. c.args.thread < length p.threads) (sym (c.program.ensures ∙ ap (λ i. i.program) c.image-image.ensures.value))
-    (omega (arith, has_place _ c.self.invariant.0 c.args.thread (leads_at _ _ c.args.thread c.self.view_is c.requires.leads), c.self.invariant.0.places))
-
-pub step_on-requires-clause-defined : goal.step_on-requires-clause-defined
-step_on-requires-clause-defined c =
-    subst (λ p. IsSome (step p c.args.thread c.self.inside.present)) (sym (c.program.ensures ∙ ap (λ i. i.program) c.image-image.ensures.value))
-    (step_is_defined _ c.self.invariant.0 c.args.thread (leads_at _ _ c.args.thread c.self.view_is c.requires.leads))
-
-pub step_on-requires-clause-unclaimed : goal.step_on-requires-clause-unclaimed
-step_on-requires-clause-unclaimed c =
-    ap (λ xs. slice_get xs c.args.thread) (c.deref.ensures.value ∙ c.close_one.ensures.closed)
-    ∙ get_set_same c.self.inside.claims.items c.args.thread None
-    (has_place _ c.self.invariant.0 c.args.thread (leads_at _ _ c.args.thread c.self.view_is c.requires.leads))
+pub step_on-requires : goal.step_on-requires
+step_on-requires c =
+    let program_is = c.program.ensures ∙ ap (λ i. i.program) c.image-image.ensures.value in
+    let tables_is = c.tables.ensures.value ∙ ap (λ i. i.tables) c.image-image.ensures.value in
+    let leads = leads_at _ _ c.args.thread c.self.view_is c.requires.leads in
+    subst (λ p. MayStep p c.tables.result.now c.self.inside.joins c.self.inside.present c.args.thread c.args.value c.deref.result.now
+    c.close_one.new.claimed c.self.inside.living.items c.self.inside.rows) (sym program_is)
+    (subst (λ q. MayStep c.self.inside.verified.now.program q c.self.inside.joins c.self.inside.present c.args.thread c.args.value c.deref.result.now
+    c.close_one.new.claimed c.self.inside.living.items c.self.inside.rows) (sym tables_is)
+    (record {
+      forks = c.self.invariant.3;
+      valid = c.self.invariant.0.valid;
+      configuration = configuration _ c.self.invariant.0;
+      place = omega (arith, has_place _ c.self.invariant.0 c.args.thread leads, c.self.invariant.0.places);
+      enabled = leads.enabled;
+      defined = step_is_defined _ c.self.invariant.0 c.args.thread leads;
+      value_is = c.requires.value ∙ ap (λ (s : InTick). value_at s.image.program s.present (status_of s.present c.args.thread)) (sym c.self.view_is);
+      unclaimed = ap (λ xs. slice_get xs c.args.thread) (c.deref.ensures.value ∙ c.close_one.ensures.closed)
+          ∙ get_set_same c.self.inside.claims.items c.args.thread None (has_place _ c.self.invariant.0 c.args.thread leads);
+      opened = record {
+        places = ap length (c.deref.ensures.value ∙ c.close_one.ensures.closed) ∙ (length-set _ c.args.thread None ∙ c.self.invariant.0.places);
+        counted = c.close_one.ensures.counted ∙ ap (count_by is_some) (sym c.deref.ensures.value);
+      };
+      counted = c.self.invariant.6;
+      own_rows = c.self.invariant.4.own_rows;
+    }))
 
 pub invariant_of-self : goal.invariant_of-self
 invariant_of-self c =

@@ -1,6 +1,8 @@
-use Rattle.std.proofs.Common.{◌∙◌, length, None, sym, ap, subst, arith}
+use Rattle.std.proofs.Common.{◌∙◌, length, length-set, None, sym, ap, subst, arith}
+use Rattle.std.specs.Prelude.{count_by, is_some}
 use Rattle.sc_graph.specs.Tick.{IsConfiguration}
 use Rattle.tick_core.specs.Inside.Living.{CountsLiving}
+use Rattle.tick_core.specs.Inside.Sorting.{AreOpen}
 use Rattle.tick_core.proofs.StateKept.{configuration, kept_closed_at}
 use Rattle.tick_core.proofs.Counts.{sorted_with_at, open_closed}
 use Rattle.tick_core.proofs.state.TickState.close.Goals as goal
@@ -14,6 +16,14 @@ pub sort-requires-clause-counts : goal.sort-requires-clause-counts
 sort-requires-clause-counts c =
     subst (λ p. CountsLiving p c.self.inside.present c.deref.result.now) (sym (c.program.ensures ∙ ap (λ i. i.program) c.image-image.ensures.value))
     (subst (CountsLiving c.self.inside.verified.now.program c.self.inside.present) (sym c.deref.ensures.value) c.self.invariant.6)
+
+pub sort-requires-clause-opened : goal.sort-requires-clause-opened
+sort-requires-clause-opened c =
+    subst (λ p. AreOpen p c.deref-2.result.now c.close_one.new.claimed) (sym (c.program.ensures ∙ ap (λ i. i.program) c.image-image.ensures.value))
+    (record {
+      places = ap length (c.deref-2.ensures.value ∙ c.close_one.ensures.closed) ∙ (length-set _ c.args.thread None ∙ c.self.invariant.0.places);
+      counted = c.close_one.ensures.counted ∙ ap (count_by is_some) (sym c.deref-2.ensures.value);
+    })
 
 pub invariant_of-self : goal.invariant_of-self
 invariant_of-self c = (

@@ -1,7 +1,10 @@
-use Rattle.std.proofs.Common.{◌∙◌, refl, sym, ap, subst, arith}
+use Rattle.std.proofs.Common.{◌∙◌, length, refl, sym, ap, subst, arith}
+use Rattle.std.specs.Prelude.{count_by, is_some}
 use Rattle.sc_graph.specs.Tick.{IsConfiguration}
 use Rattle.tick_core.specs.Inside.Living.{CountsLiving}
+use Rattle.tick_core.specs.Inside.Sorting.{AreOpen}
 use Rattle.tick_core.specs.Inside.Turns.{DropsClaims}
+use Rattle.tick_core.proofs.Opened.{none_counted}
 use Rattle.tick_core.proofs.StateKept.{configuration, kept_dropped}
 use Rattle.tick_core.proofs.Counts.{sorted_every_at, none_open_at}
 use Rattle.tick_core.proofs.LeadingThreads.{nobody_open}
@@ -16,6 +19,14 @@ pub sort_every-requires-clause-counts : goal.sort_every-requires-clause-counts
 sort_every-requires-clause-counts c =
     subst (λ p. CountsLiving p c.self.inside.present c.deref.result.now) (sym (c.program.ensures ∙ ap (λ i. i.program) c.image-image.ensures.value))
     (subst (CountsLiving c.self.inside.verified.now.program c.self.inside.present) (sym c.deref.ensures.value) c.self.invariant.6)
+
+pub sort_every-requires-clause-opened : goal.sort_every-requires-clause-opened
+sort_every-requires-clause-opened c =
+    subst (λ p. AreOpen p c.deref-then-self-gt0.result.now 0) (sym (c.program.ensures ∙ ap (λ i. i.program) c.image-image.ensures.value))
+    (record {
+      places = ap length c.deref-then-self-gt0.ensures.value ∙ (c.close_all.ensures.length ∙ c.self.invariant.0.places);
+      counted = sym (ap (count_by is_some) c.deref-then-self-gt0.ensures.value ∙ none_counted c.close_all.new.claims.items c.close_all.ensures.none);
+    })
 
 pub invariant_of-self : goal.invariant_of-self
 invariant_of-self c = (

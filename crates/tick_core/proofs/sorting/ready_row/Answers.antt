@@ -1,0 +1,10 @@
+use Rattle.std.proofs.Common.{◌∙◌, sym, ap}
+use Rattle.tick_core.specs.Inside.Sorting.{step_priority, unless_claimed}
+use Rattle.tick_core.proofs.Opened.{none_counted_at}
+use Rattle.tick_core.proofs.sorting.ready_row.Goals as goal
+
+pub returns-then-claimed-eq0 : goal.returns-then-claimed-eq0
+returns-then-claimed-eq0 c = λ p h.
+    c.step_priority.ensures p h
+    ∙ sym (ap (λ o. unless_claimed o (step_priority p c.args.tables.now c.args.control.now c.args.thread))
+    (none_counted_at c.args.claims.now c.args.thread (sym c.requires.counted ∙ c.if-claimed-eq0.true) c.requires.place))
