@@ -14,9 +14,10 @@ use Rattle.trace_player.specs.declared.player.PlayFault.{PlayFault}
 use Rattle.trace_player.specs.declared.player.PlayFault.TheVariants as play_fault
 use Rattle.trace_lines.specs.Lines.{ahead, TakesLine, IsTooLong}
 use Rattle.trace_player.specs.Trace.{End, Good, NoInputs, NoObject, next_number}
+use Rattle.trace_player.specs.Unread.{unread}
 use Rattle.trace_player.proofs.Splits.{Cut, known_lines, cut_known, are_lines, cut_at_end, cut_taken, cut_too_long}
 use Rattle.ruled_traces.specs.Trace.{EndsAt, Makes, Goes, Plays, PlaysFirst, PlaysPart, PlaysUpTo, Leaves}
-use Rattle.ruled_traces.specs.Inside.Faults.{Tells, unread}
+use Rattle.ruled_traces.specs.Inside.Faults.{Tells}
 use Rattle.ruled_traces.specs.declared.place.Place.{Place}
 use Rattle.ruled_traces.specs.declared.rules.Rules.{Rules}
 
@@ -185,17 +186,6 @@ stopped_reacting rules image from start now now' at old new line (play_fault.Not
 stopped_reacting rules image from start now now' at old new line play_fault.Memory a takes tells = stopped rules image from start now at old new a
 stopped_reacting rules image from start now now' at old new line play_fault.Read a takes tells = absurd tells
 stopped_reacting rules image from start now now' at old new line play_fault.Write a takes tells = absurd tells
-
--- a line that could not be had tells of a failed source where the source failed, and never of the sink
-pub unread_read : (f : LinesFault) (k : ℕ) → unread f k ≡ play_fault.Read → f ≡ lines_fault.Read
-unread_read lines_fault.Memory k told = absurd cc
-unread_read lines_fault.Read k told = refl
-unread_read lines_fault.TooLong k told = absurd cc
-
-pub unread_no_write : (f : LinesFault) (k : ℕ) → ¬ (unread f k ≡ play_fault.Write)
-unread_no_write lines_fault.Memory k told = cc
-unread_no_write lines_fault.Read k told = cc
-unread_no_write lines_fault.TooLong k told = cc
 
 -- a fault of one line is none of a stream
 pub tells_no_read : (rules : Rules) (p : Program) (k : ℕ) (line : List ℕ) (f : PlayFault) → Tells rules p k line f → ¬ (f ≡ play_fault.Read)

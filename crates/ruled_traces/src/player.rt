@@ -11,7 +11,7 @@ use crate::rules::Rules;
 use crate::turns::begin;
 use sc_values::{Sink, Source};
 use std::alloc::Global;
-use trace_player::PlayFault;
+use trace_player::{PlayFault, Streams};
 use verifier::Verified;
 
 /// Plays an input to an output as `trace_player::play` does, by the caller's thread alone, under these rules and from
@@ -40,5 +40,6 @@ pub fn play_by<S: Source, K: Sink>(
     ensures not_write { result ≢ Err PlayFault.Write
         → K.failures sink.new ≡ K.failures sink.old }
 {
-    begin(alloc, verified, rules, from, source, sink)
+    let mut streams = Streams { source, sink };
+    begin(alloc, verified, rules, from, &mut streams)
 }

@@ -15,7 +15,7 @@ use sc_graph::Program;
 use std::alloc::{AllocError, Global};
 use tick_core::{BeginFault, Control, Inputs, TickSpace};
 use trace_lines::{Interface, LineFault, LineRoom};
-use trace_player::PlayFault;
+use trace_player::{PlayFault, next_number};
 
 /// What a line says.
 #[derive(Debug, Drop)]
@@ -24,13 +24,6 @@ pub(crate) enum Said {
     Gives(Inputs),
     /// It gives none.
     Lacks(Bad),
-}
-
-/// The number behind this one, which counts up to the greatest.
-pub(crate) fn next_number(number: u64) -> u64
-    ensures { result ≡ next_number number }
-{
-    number.saturating_add(1)
 }
 
 // What a line says under these rules.

@@ -1,68 +1,30 @@
 //! The lines of an input, one after another.
 
-ghost use Rattle.std.specs.Prelude.{◌≡◌, ◌+◌, ◌↔◌, [], true, false, IfOk, IsTrue};
-ghost use Rattle.std.specs.Io.KnownBytes.{Appends};
-ghost use Rattle.sc_values.specs.Streams.{GrowsInto};
+ghost use Rattle.std.specs.Prelude.{◌≡◌, [], IfOk};
 ghost use Rattle.sc_graph.specs.Tick.{Rests};
-ghost use Rattle.ruled_traces.specs.Inside.Faults.{unread};
 ghost use Rattle.ruled_traces.specs.Inside.Playing.{CameTo};
 
 use crate::place::Place;
 use crate::rules::Rules;
-use crate::session::{next_number, react};
+use crate::session::react;
 use sc_graph::Program;
-use sc_values::{Sink, Source, write_all};
 use std::alloc::Global;
 use tick_core::TickSpace;
-use trace_lines::{Interface, LineEnd, LineRoom, Lines, LinesFault};
-use trace_player::PlayFault;
+use trace_lines::{Interface, LineRoom, Lines};
+use trace_player::{Channels, PlayFault, is_last, next_number, unread_line};
 use verifier::Verified;
 
-// The fault where the line of this number could not be had.
-fn unread_line(fault: LinesFault, line: u64) -> PlayFault
-    ensures { result ≡ unread fault line }
-{
-    match fault {
-        LinesFault::Memory => PlayFault::Memory,
-        LinesFault::Read => PlayFault::Read,
-        LinesFault::TooLong => PlayFault::NotJson(line),
-    }
-}
-
-// Whether nothing is to be read behind a line that ends so.
-fn is_last(end: LineEnd) -> bool
-    ensures { IsTrue result ↔ (end ≡ LineEnd.Input) }
-{
-    end == LineEnd::Input
-}
-
-// Writes what is shown of a line. Whether the sink took it whole.
-fn write<K: Sink>(sink: &mut K, shown: &[u8]) -> bool
-    ensures whole { result ≡ true → Appends (K.taken sink.old) (K.taken sink.new) shown.now }
-    ensures none_failed { result ≡ true → K.failures sink.new ≡ K.failures sink.old }
-    ensures some { GrowsInto (K.taken sink.old) (K.taken sink.new) shown.now }
-    ensures failed { result ≡ false → K.failures sink.new ≡ K.failures sink.old + 1 }
-{
-    match write_all(sink, shown) {
-        Ok(()) => true,
-        Err(_) => false,
-    }
-}
-
 /// Makes what is kept from line to line, and plays the lines of an input from a place on.
-pub(crate) fn begin<S: Source, K: Sink>(
+pub(crate) fn begin<P: Channels>(
     alloc: Global,
     verified: &Verified,
     rules: Rules,
     from: Place,
-    source: &mut S,
-    sink: &mut K,
+    channels: &mut P,
 ) -> Result<Place, PlayFault>
     requires rests { Rests verified.now.program from.control }
-    ensures came { CameTo rules verified.now from
-        (S.to_come source.old) (K.taken sink.old) (K.taken sink.new)
-        (S.failures source.old) (S.failures source.new) (K.failures sink.old) (K.failures sink.new)
-        (S.progress source.old) (S.progress source.new) result }
+    ensures came { CameTo rules verified.now from (P.seen channels.old) (P.seen channels.new) result }
+    ensures same { P.names channels.new ≡ P.names channels.old }
     ensures rests { IfOk result (λ last. Rests verified.now.program last.control) }
 {
     let program = verified.image().program();
@@ -79,13 +41,12 @@ pub(crate) fn begin<S: Source, K: Sink>(
         room,
         from,
         &mut lines,
-        source,
-        sink,
+        channels,
     )
 }
 
 // Plays the lines of an input, none of which was read.
-fn go_on<'x, S: Source, K: Sink>(
+fn go_on<'x, P: Channels>(
     alloc: Global,
     rules: Rules,
     program: &Program,
@@ -94,17 +55,14 @@ fn go_on<'x, S: Source, K: Sink>(
     room: TickSpace<'x>,
     from: Place,
     lines: &mut Lines,
-    source: &mut S,
-    sink: &mut K,
+    channels: &mut P,
 ) -> Result<Place, PlayFault>
     requires program { program.now ≡ room.program }
     requires interface { interface.now ≡ program.now.variables }
     requires rests { Rests room.program from.control }
     requires lines { lines.old ≡ [] }
-    ensures came { CameTo rules room.entry from
-        (S.to_come source.old) (K.taken sink.old) (K.taken sink.new)
-        (S.failures source.old) (S.failures source.new) (K.failures sink.old) (K.failures sink.new)
-        (S.progress source.old) (S.progress source.new) result }
+    ensures came { CameTo rules room.entry from (P.seen channels.old) (P.seen channels.new) result }
+    ensures same { P.names channels.new ≡ P.names channels.old }
     ensures rests { IfOk result (λ last. Rests room.entry.program last.control) }
 {
     let mut room = room;
@@ -113,7 +71,7 @@ fn go_on<'x, S: Source, K: Sink>(
     let mut shown = Vec::new(alloc);
     for _turn in 0..u128::MAX {
         let next = next_number(place.lines);
-        let end = match lines.next(&mut line, source) {
+        let end = match channels.next(lines, &mut line) {
             Ok(Some(end)) => end,
             Ok(None) => return Ok(place),
             Err(fault) => return Err(unread_line(fault, next)),
@@ -121,7 +79,7 @@ fn go_on<'x, S: Source, K: Sink>(
         let (after, left) = react(
             alloc, rules, program, interface, line_room, room, place, &line, &mut shown,
         )?;
-        if !write(sink, shown.as_slice()) {
+        if !channels.write(shown.as_slice()) {
             return Err(PlayFault::Write);
         }
         place = after;

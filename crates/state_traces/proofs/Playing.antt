@@ -8,7 +8,6 @@ use Rattle.std.proofs.KnownBytes.{Appends-nil, Appends-trans, prepend_known-nil}
 use Rattle.sc_values.specs.Streams.{GrowsInto}
 use Rattle.sc_graph.specs.declared.control.Control.{Control}
 use Rattle.sc_graph.specs.Tick.{initial}
-use Rattle.sc_graph.specs.Program.{Program}
 use Rattle.bytecode.specs.Image.{Image}
 use Rattle.trace_lines.specs.declared.lines.LinesFault.{LinesFault}
 use Rattle.trace_lines.specs.declared.lines.LinesFault.TheVariants as lines_fault
@@ -16,9 +15,10 @@ use Rattle.trace_player.specs.declared.player.PlayFault.{PlayFault}
 use Rattle.trace_player.specs.declared.player.PlayFault.TheVariants as play_fault
 use Rattle.trace_lines.specs.Lines.{ahead, TakesLine, IsTooLong}
 use Rattle.trace_player.specs.Trace.{End, Good, NoInputs, NoObject, EndsAt, greatest, next_number}
+use Rattle.trace_player.specs.Inside.Faults.{Tells}
+use Rattle.trace_player.specs.Unread.{unread}
 use Rattle.trace_player.proofs.Splits.{Cut, known_lines, cut_known, are_lines, cut_at_end, cut_taken, cut_too_long}
 use Rattle.state_traces.specs.Trace.{Words, Shows, Goes, Trace, Plays, PlaysFirst, PlaysPart, Leaves}
-use Rattle.state_traces.specs.Inside.Faults.{Tells, unread}
 
 -- after the line of number k the configuration is c, and these lines of output were written
 pub record Played (words : Words) (image : Image) (start now : Option (List ℕ)) (k : ℕ) (c : Control) (old new : Option (List ℕ)) : Type 0 where
@@ -180,29 +180,3 @@ stopped_reacting words image start now now' k c old new line (play_fault.NotJson
 stopped_reacting words image start now now' k c old new line play_fault.Memory a takes tells = stopped words image start now k c old new a
 stopped_reacting words image start now now' k c old new line play_fault.Read a takes tells = absurd tells
 stopped_reacting words image start now now' k c old new line play_fault.Write a takes tells = absurd tells
-
--- a line that could not be had tells of a failed source where the source failed, and never of the sink
-pub unread_read : (f : LinesFault) (k : ℕ) → unread f k ≡ play_fault.Read → f ≡ lines_fault.Read
-unread_read lines_fault.Memory k told = absurd cc
-unread_read lines_fault.Read k told = refl
-unread_read lines_fault.TooLong k told = absurd cc
-
-pub unread_no_write : (f : LinesFault) (k : ℕ) → ¬ (unread f k ≡ play_fault.Write)
-unread_no_write lines_fault.Memory k told = cc
-unread_no_write lines_fault.Read k told = cc
-unread_no_write lines_fault.TooLong k told = cc
-
--- a fault of one line is none of a stream
-pub tells_no_read : (p : Program) (k : ℕ) (line : List ℕ) (f : PlayFault) → Tells p k line f → ¬ (f ≡ play_fault.Read)
-tells_no_read p k line (play_fault.Input n) tells is = cc
-tells_no_read p k line play_fault.Memory tells is = cc
-tells_no_read p k line play_fault.Read tells is = tells
-tells_no_read p k line (play_fault.NotJson n) tells is = cc
-tells_no_read p k line play_fault.Write tells is = cc
-
-pub tells_no_write : (p : Program) (k : ℕ) (line : List ℕ) (f : PlayFault) → Tells p k line f → ¬ (f ≡ play_fault.Write)
-tells_no_write p k line (play_fault.Input n) tells is = cc
-tells_no_write p k line play_fault.Memory tells is = cc
-tells_no_write p k line play_fault.Read tells is = cc
-tells_no_write p k line (play_fault.NotJson n) tells is = cc
-tells_no_write p k line play_fault.Write tells is = tells

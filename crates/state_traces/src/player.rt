@@ -9,7 +9,7 @@ use crate::turns::begin;
 use crate::words::Words;
 use sc_values::{Sink, Source};
 use std::alloc::Global;
-use trace_player::PlayFault;
+use trace_player::{PlayFault, Streams};
 use verifier::Verified;
 
 /// Plays an input to an output as `trace_player::play` does, by the caller's thread alone; behind the number of its
@@ -36,5 +36,6 @@ pub fn play_with<S: Source, K: Sink, W: Words>(
     ensures not_write { result ≢ Err PlayFault.Write
         → K.failures sink.new ≡ K.failures sink.old }
 {
-    begin(alloc, verified, words, source, sink)
+    let mut streams = Streams { source, sink };
+    begin(alloc, verified, words, &mut streams)
 }

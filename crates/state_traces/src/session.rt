@@ -5,8 +5,8 @@ ghost use Rattle.std.specs.Result.{IsErrOf};
 ghost use Rattle.sc_graph.specs.Tick.{Rests, AreAccepted};
 ghost use Rattle.trace_lines.specs.Lines.{line_limit};
 ghost use Rattle.trace_player.specs.Trace.{Reacts};
+ghost use Rattle.trace_player.specs.Inside.Faults.{Tells};
 ghost use Rattle.state_traces.specs.Trace.{Shows};
-ghost use Rattle.state_traces.specs.Inside.Faults.{Tells};
 
 use crate::line::write_line;
 use crate::words::Words;

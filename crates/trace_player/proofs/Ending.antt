@@ -6,7 +6,7 @@ use Rattle.bytecode.specs.Image.{Image}
 use Rattle.probe.specs.Outputs.{Outputs}
 use Rattle.trace_player.specs.Trace.{Shows, next_number}
 use Rattle.trace_player.specs.Published.{EndWith, Publishes}
-use Rattle.trace_player.specs.Inside.Playing.{Gains}
+use Rattle.trace_player.specs.Channels.{Gains}
 
 -- after the line of number k the configuration is c, and the ends of the ticks so far were published
 abbrev pub Told : Image → ℕ → Control → List (List ℕ) → List (List ℕ) → Option (List Outputs) → Option (List Outputs) → Type 0

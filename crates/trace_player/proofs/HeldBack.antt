@@ -5,7 +5,6 @@ use Rattle.std.specs.List.{concat}
 use Rattle.std.specs.Io.KnownBytes.{Appends, append_known}
 use Rattle.std.proofs.KnownBytes.{Appends-nil, Appends-trans}
 use Rattle.std.proofs.lemmas.List.{append_cancel_left}
-use Rattle.sc_values.specs.declared.streams.Progress.{Progress}
 use Rattle.sc_values.specs.Streams.{GrowsInto}
 use Rattle.bytecode.specs.Image.{Image}
 use Rattle.probe.specs.Outputs.{Outputs}
@@ -13,11 +12,12 @@ use Rattle.trace_player.specs.declared.player.PlayFault.{PlayFault}
 use Rattle.trace_player.specs.declared.player.PlayFault.TheVariants as play_fault
 use Rattle.trace_player.specs.Trace.{End, Good, NoInputs, NoObject, Trace, AreLinesOf, PlaysPart}
 use Rattle.trace_player.specs.Published.{Publishes, PlaysTo, PlaysFirstTo, PlaysPartTo, LeavesTo}
-use Rattle.trace_player.specs.Inside.HeldBack.{Extends, MakesTick, HoldsBack}
+use Rattle.trace_player.specs.Channels.{Seen, SinkSeen, TakesAll, TakesPart}
+use Rattle.trace_player.specs.Inside.HeldBack.{Extends, MakesTick, HoldsBack, with_held}
 use Rattle.trace_player.specs.Inside.Playing.{CameTo}
-use Rattle.trace_player.proofs.Coming.{came_cut}
+use Rattle.trace_player.proofs.Coming.{came_well, came_off, came_cut}
 use Rattle.trace_player.proofs.Cutting.{part_of, nothing_out}
-use Rattle.trace_player.proofs.Playing.{leaves}
+use Rattle.trace_player.proofs.Failures.{told_on, reads_same, same_end}
 
 pub extends_self : (a : Option (List ℕ)) → Extends a a
 extends_self a = ([], Appends-nil a)
@@ -79,47 +79,43 @@ unknown_left image input new new' rows rows' play_fault.Memory a = unknown_first
 unknown_left image input new new' rows rows' play_fault.Read a = unknown_first image input new new' rows rows' a
 unknown_left image input new new' rows rows' play_fault.Write a = unknown_part image input new new' rows rows' a
 
-unknown : (image : Image) (input new new' : Option (List ℕ)) (rows rows' : Option (List Outputs)) (r r' w w' : ℕ) (p p' : Option Progress)
-    (result : Result ℕ PlayFault)
-    → CameTo image input None new rows rows' r r' w w' p p' result → CameTo image input None new' rows rows' r r' w w' p p' result
-unknown image input new new' rows rows' r r' w w' p p' (Ok k) came =
-    let all = came.published in
-    let plays = unknown_whole image input new new' rows rows' all.out Good all.plays_to in
-    record {
-      whole = (all.out, all.count, plays.plays);
-      fault = tt;
-      published = record { out = all.out; count = all.count; plays_to = plays };
-      published_before = tt;
-      read = came.read;
-      not_read = came.not_read;
-      end = came.end;
-      write = came.write;
-      not_write = came.not_write;
-    }
-unknown image input new new' rows rows' r r' w w' p p' (Err f) came =
-    let left = unknown_left image input new new' rows rows' f came.published_before in
-    record {
-      whole = tt;
-      fault = leaves image input None new' rows rows' f left;
-      published = tt;
-      published_before = left;
-      read = came.read;
-      not_read = came.not_read;
-      end = came.end;
-      write = came.write;
-      not_write = came.not_write;
-    }
+handed_whole : (image : Image) (input old now new : Option (List ℕ)) (held : List ℕ) (rows rows' : Option (List Outputs)) (out : List (List ℕ)) (end : End)
+    → Extends old now → Appends now new held → PlaysTo image input old (append_known now held) rows rows' out end
+    → PlaysTo image input old new rows rows' out end
+handed_whole image input None now new held rows rows' out end grows whole plays =
+    unknown_whole image input (append_known now held) new rows rows' out end plays
+handed_whole image input (Some xs) None new held rows rows' out end grows whole plays = absurd grows.1
+handed_whole image input (Some xs) (Some ys) None held rows rows' out end grows whole plays = absurd whole
+handed_whole image input (Some xs) (Some ys) (Some zs) held rows rows' out end grows whole plays =
+    subst (λ bytes. PlaysTo image input (Some xs) (Some bytes) rows rows' out end) (sym whole) plays
 
-pub handed_on : (image : Image) (input old now new : Option (List ℕ)) (held : List ℕ) (rows rows' : Option (List Outputs)) (r r' w w' : ℕ)
-    (p p' : Option Progress) (result : Result ℕ PlayFault)
-    → Extends old now → Appends now new held → CameTo image input old (append_known now held) rows rows' r r' w w' p p' result
-    → CameTo image input old new rows rows' r r' w w' p p' result
-handed_on image input None now new held rows rows' r r' w w' p p' result grows whole came =
-    unknown image input (append_known now held) new rows rows' r r' w w' p p' result came
-handed_on image input (Some xs) None new held rows rows' r r' w w' p p' result grows whole came = absurd grows.1
-handed_on image input (Some xs) (Some ys) None held rows rows' r r' w w' p p' result grows whole came = absurd whole
-handed_on image input (Some xs) (Some ys) (Some zs) held rows rows' r r' w w' p p' result grows whole came =
-    subst (λ bytes. CameTo image input (Some xs) (Some bytes) rows rows' r r' w w' p p' result) (sym whole) came
+handed_left : (image : Image) (input old now new : Option (List ℕ)) (held : List ℕ) (rows rows' : Option (List Outputs)) (f : PlayFault)
+    → Extends old now → Appends now new held → LeavesTo image input old (append_known now held) rows rows' f → LeavesTo image input old new rows rows' f
+handed_left image input None now new held rows rows' f grows whole left = unknown_left image input (append_known now held) new rows rows' f left
+handed_left image input (Some xs) None new held rows rows' f grows whole left = absurd grows.1
+handed_left image input (Some xs) (Some ys) None held rows rows' f grows whole left = absurd whole
+handed_left image input (Some xs) (Some ys) (Some zs) held rows rows' f grows whole left =
+    subst (λ bytes. LeavesTo image input (Some xs) (Some bytes) rows rows' f) (sym whole) left
+
+pub settled : (image : Image) (before now after : Seen) (held : List ℕ) (result : Result ℕ PlayFault) → Extends before.sink.taken now.sink.taken
+    → TakesAll now.sink after.sink held → after.source ≡ now.source → after.rows ≡ now.rows → CameTo image before (with_held now held) result
+    → CameTo image before after result
+settled image before now after held (Ok k) grows takes source rows came =
+    let all = came.published in
+    came_well image before after k (
+      all.out,
+      all.count,
+      subst (λ rs. PlaysTo image before.source.to_come before.sink.taken after.sink.taken before.rows rs all.out Good) (sym rows)
+          (handed_whole image before.source.to_come before.sink.taken now.sink.taken after.sink.taken held before.rows now.rows all.out Good grows
+          takes.taken all.plays_to),
+    )
+    (told_on before (with_held now held) after (Ok k) source takes.failures came.failures)
+settled image before now after held (Err f) grows takes source rows came =
+    came_off image before after f
+    (subst (λ rs. LeavesTo image before.source.to_come before.sink.taken after.sink.taken before.rows rs f) (sym rows)
+    (handed_left image before.source.to_come before.sink.taken now.sink.taken after.sink.taken held before.rows now.rows f grows takes.taken
+    came.published_before))
+    (told_on before (with_held now held) after (Err f) source takes.failures came.failures)
 
 -- where it took a part of it, the trace is cut
 
@@ -170,13 +166,12 @@ reaches_left image input old new rows rows' play_fault.Memory other a = reaches_
 reaches_left image input old new rows rows' play_fault.Read other a = reaches_first image input old new rows rows' a
 reaches_left image input old new rows rows' play_fault.Write other a = absurd (other refl)
 
-reaches : (image : Image) (input old new : Option (List ℕ)) (rows rows' : Option (List Outputs)) (r r' w w' : ℕ) (p p' : Option Progress)
-    (result : Result ℕ PlayFault)
-    → result ≢ Err play_fault.Write → CameTo image input old new rows rows' r r' w w' p p' result → Reaches image input old new rows rows'
-reaches image input old new rows rows' r r' w w' p p' (Ok k) other came =
-    reaches_whole image input old new rows rows' came.published.out Good came.published.plays_to
-reaches image input old new rows rows' r r' w w' p p' (Err f) other came =
-    reaches_left image input old new rows rows' f (λ e. other (ap Err e)) came.published_before
+reaches : (image : Image) (before after : Seen) (result : Result ℕ PlayFault) → result ≢ Err play_fault.Write → CameTo image before after result
+    → Reaches image before.source.to_come before.sink.taken after.sink.taken before.rows after.rows
+reaches image before after (Ok k) other came =
+    reaches_whole image before.source.to_come before.sink.taken after.sink.taken before.rows after.rows came.published.out Good came.published.plays_to
+reaches image before after (Err f) other came =
+    reaches_left image before.source.to_come before.sink.taken after.sink.taken before.rows after.rows f (λ e. other (ap Err e)) came.published_before
 
 -- where nothing is published, nothing is said of it
 nothing_published : (image : Image) (lines out lines' out' : List (List ℕ)) (rows rows' : Option (List Outputs)) → rows' ≡ None
@@ -216,49 +211,37 @@ part_taken image input (Some xs) (Some ys) (Some zs) held rows rows' grows some 
     subst (λ bytes. PlaysPart image input (Some xs) (Some bytes)) (sym (part.1 ∙ ap (λ bytes. bytes ++ take part.0 held) grows.1))
     (part_of image input xs grows.0 held part.0 a.lines a.rest a.out a.end a.cut a.trace (nothing_out a.out grows.0 held some same) same)
 
-pub cut_off : (image : Image) (input old now new : Option (List ℕ)) (held : List ℕ) (rows rows' : Option (List Outputs)) (r r' w w' w'' : ℕ)
-    (p p' : Option Progress) (result : Result ℕ PlayFault)
-    → CameTo image input old (append_known now held) rows rows' r r' w w' p p' result → HoldsBack image input old now held rows'
-    → (result ≡ Err play_fault.Read → held ≡ []) → (result ≡ Err play_fault.Write → held ≡ []) → held ≢ [] → GrowsInto now new held → w'' ≡ w' + 1
-    → CameTo image input old new rows rows' r r' w w'' p p' (Err play_fault.Write)
-cut_off image input old now new held rows rows' r r' w w' w'' p p' result came holds read write some part failed =
+pub unsettled : (image : Image) (before now after : Seen) (held : List ℕ) (result : Result ℕ PlayFault) → CameTo image before (with_held now held) result
+    → HoldsBack image before now held → (result ≡ Err play_fault.Read → held ≡ []) → (result ≡ Err play_fault.Write → held ≡ []) → held ≢ []
+    → TakesPart now.sink after.sink held → after.source ≡ now.source → after.rows ≡ now.rows → CameTo image before after (Err play_fault.Write)
+unsettled image before now after held result came holds read write some part source rows =
     let no_write : result ≢ Err play_fault.Write = λ e. some (write e) in
-    let a = reaches image input old (append_known now held) rows rows' r r' w w' p p' result no_write came in
-    came_cut image input old new rows rows' r r' w w'' p p'
-    (part_to image input old new rows rows' a.lines a.out (holds.unwatched some) a.publishes
-    (part_taken image input old now new held rows rows' holds.grows some (holds.begun some) part a))
-    (came.not_read (λ e. some (read e)))
-    (failed ∙ ap (λ n. n + 1) (came.not_write no_write))
-    came.end
-
--- the same, as a call tells of it
-
-pub settled : (image : Image) (input old now new : Option (List ℕ)) (held : List ℕ) (rows rows' rows'' : Option (List Outputs)) (r r' r'' w w' w'' : ℕ)
-    (p p' p'' : Option Progress) (result : Result ℕ PlayFault)
-    → Extends old now → Appends now new held → rows'' ≡ rows' → r'' ≡ r' → w'' ≡ w' → p'' ≡ p'
-    → CameTo image input old (append_known now held) rows rows' r r' w w' p p' result → CameTo image input old new rows rows'' r r'' w w'' p p'' result
-settled image input old now new held rows rows' rows'' r r' r'' w w' w'' p p' p'' result grows whole told reads writes progress came =
-    rw (told, reads, writes, progress) (handed_on image input old now new held rows rows' r r' w w' p p' result grows whole came)
-
-pub unsettled : (image : Image) (input old now new : Option (List ℕ)) (held : List ℕ) (rows rows' rows'' : Option (List Outputs)) (r r' r'' w w' w'' : ℕ)
-    (p p' p'' : Option Progress) (result : Result ℕ PlayFault)
-    → CameTo image input old (append_known now held) rows rows' r r' w w' p p' result → HoldsBack image input old now held rows'
-    → (result ≡ Err play_fault.Read → held ≡ []) → (result ≡ Err play_fault.Write → held ≡ []) → held ≢ [] → GrowsInto now new held
-    → rows'' ≡ rows' → r'' ≡ r' → w'' ≡ w' + 1 → p'' ≡ p' → CameTo image input old new rows rows'' r r'' w w'' p p'' (Err play_fault.Write)
-unsettled image input old now new held rows rows' rows'' r r' r'' w w' w'' p p' p'' result came holds read write some part told reads failed progress =
-    rw (told, reads, progress) (cut_off image input old now new held rows rows' r r' w w' w'' p p' result came holds read write some part failed)
+    let a = reaches image before (with_held now held) result no_write came in
+    came_cut image before after
+    (subst (λ rs. PlaysPartTo image before.source.to_come before.sink.taken after.sink.taken before.rows rs) (sym rows)
+    (part_to image before.source.to_come before.sink.taken after.sink.taken before.rows now.rows a.lines a.out (holds.unwatched some) a.publishes
+    (part_taken image before.source.to_come before.sink.taken now.sink.taken after.sink.taken held before.rows now.rows holds.grows some
+    (holds.begun some) part.taken a)))
+    (reads_same now.source after.source source ∙ came.failures.not_read (λ e. some (read e)))
+    (part.failures ∙ ap (λ n. n + 1) (came.failures.not_write no_write))
+    (same_end before.source now.source after.source source came.failures.end)
 
 -- what is held back stays so
-pub holds_on : (image : Image) (input old now new : Option (List ℕ)) (held : List ℕ) (rows rows' : Option (List Outputs)) → new ≡ now → rows' ≡ rows
-    → HoldsBack image input old now held rows → HoldsBack image input old new held rows'
-holds_on image input old now new held rows rows' same told holds = rw (same, told) holds
+pub holds_on : (image : Image) (before now after : Seen) (held : List ℕ) → after.sink ≡ now.sink → after.rows ≡ now.rows → HoldsBack image before now held
+    → HoldsBack image before after held
+holds_on image before now after held sink rows holds =
+    record {
+      grows = subst (λ (s : SinkSeen). Extends before.sink.taken s.taken) (sym sink) holds.grows;
+      begun = holds.begun;
+      unwatched = λ some. rows ∙ holds.unwatched some;
+    }
 
 -- nothing is, behind what was taken in part
-pub lets_go : (image : Image) (input old now new : Option (List ℕ)) (bytes held : List ℕ) (rows : Option (List Outputs)) → Extends old now
-    → GrowsInto now new bytes → held ≡ [] → HoldsBack image input old new held rows
-lets_go image input old now new bytes held rows grows part none =
+pub lets_go : (image : Image) (before now after : Seen) (bytes held : List ℕ) → Extends before.sink.taken now.sink.taken
+    → GrowsInto now.sink.taken after.sink.taken bytes → held ≡ [] → HoldsBack image before after held
+lets_go image before now after bytes held grows part none =
     record {
-      grows = extends_on old now new grows (grown now new bytes part);
+      grows = extends_on before.sink.taken now.sink.taken after.sink.taken grows (grown now.sink.taken after.sink.taken bytes part);
       begun = λ some. absurd (some none);
       unwatched = λ some. absurd (some none);
     }

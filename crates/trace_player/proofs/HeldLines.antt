@@ -14,20 +14,25 @@ use Rattle.trace_lines.specs.Lines.{ahead, TakesLine}
 use Rattle.trace_player.specs.declared.player.PlayFault.{PlayFault}
 use Rattle.trace_player.specs.Trace.{Good, Shows, next_number, Trace, AreLinesOf, PlaysPart}
 use Rattle.trace_player.specs.Published.{Publishes, PlaysPartTo}
+use Rattle.trace_player.specs.Channels.{Seen, SinkSeen, Gains}
 use Rattle.trace_player.specs.Inside.HeldBack.{Extends, MakesTick, HoldsBack}
-use Rattle.trace_player.specs.Inside.Playing.{Gains}
 use Rattle.trace_player.proofs.Cutting.{part_of}
 use Rattle.trace_player.proofs.Ending.{Told}
-use Rattle.trace_player.proofs.HeldBack.{extends_on, none_behind, part_to}
+use Rattle.trace_player.proofs.HeldBack.{extends_self, extends_on, none_behind, part_to}
 use Rattle.trace_player.proofs.Playing.{Played, none_played, so_far, stopped_writing}
 use Rattle.trace_player.proofs.Splits.{known_lines, cut_known, are_lines, cut_taken}
 
 -- nothing was taken, and nothing is held back
-pub none_held : (image : Image) (start old : Option (List ℕ)) (rows : Option (List Outputs)) (lines held : List ℕ) (c : Control) → lines ≡ []
-    → c ≡ initial image.program → held ≡ [] → Played image start (ahead lines start) 0 c old (append_known old held) rows rows
-none_held image start old rows lines held c none first nothing =
-    subst (λ new. Played image start (ahead lines start) 0 c old new rows rows) (sym (ap (append_known old) nothing ∙ none_behind old))
-    (none_played image start old rows lines c none first)
+pub none_held : (image : Image) (at : Seen) (lines held : List ℕ) (c : Control) → lines ≡ [] → c ≡ initial image.program → held ≡ []
+    → Played image at.source.to_come (ahead lines at.source.to_come) 0 c at.sink.taken (append_known at.sink.taken held) at.rows at.rows
+none_held image at lines held c none first nothing =
+    subst (λ new. Played image at.source.to_come (ahead lines at.source.to_come) 0 c at.sink.taken new at.rows at.rows)
+    (sym (ap (append_known at.sink.taken) nothing ∙ none_behind at.sink.taken))
+    (none_played image at.source.to_come at.sink.taken at.rows lines c none first)
+
+pub holds_none : (image : Image) (at : Seen) (held : List ℕ) → held ≡ [] → HoldsBack image at at held
+holds_none image at held nothing =
+    record { grows = extends_self at.sink.taken; begun = λ some. absurd (some nothing); unwatched = λ some. absurd (some nothing) }
 
 first_tick : (image : Image) (input : Option (List ℕ)) (done rest out : List (List ℕ)) → AreLinesOf input (done ++ rest) → Trace image done out Good
     → 0 < length out → MakesTick image input
@@ -38,7 +43,7 @@ first_tick image input (line ∷ done) rest (shown ∷ out) are trace some =
     record { line = line; rest = done ++ rest; cut = are; shown = shown; trace = (trace.0, trace.1, refl) }
 
 -- a line of output was made
-pub has_ticked : (image : Image) (start now : Option (List ℕ)) (k : ℕ) (c : Control) (old new : Option (List ℕ)) (rows rows' : Option (List Outputs))
+has_ticked : (image : Image) (start now : Option (List ℕ)) (k : ℕ) (c : Control) (old new : Option (List ℕ)) (rows rows' : Option (List Outputs))
     → Played image start now k c old new rows rows' → 0 < k → MakesTick image start
 has_ticked image start now k c old new rows rows' a some =
     first_tick image start a.done (known_lines now) a.out
@@ -46,7 +51,7 @@ has_ticked image start now k c old new rows rows' a some =
     (so_far image start now k c old new rows rows' a)
     (omega (arith, a.shown, some))
 
-pub numbers_some : (k : ℕ) → 0 < next_number k
+numbers_some : (k : ℕ) → 0 < next_number k
 numbers_some k = omega arith
 
 -- where nothing is published now, nothing ever was
@@ -109,14 +114,18 @@ stopped_holding image start now now' k c d old taken taken' (x ∷ held) rows ro
     (part_shown image start now now' k c d old taken taken' (x ∷ held) rows rows' line shown a grows takes shows part)
 
 -- a line of output more was written or is held back
-pub holds_more : (image : Image) (start now : Option (List ℕ)) (k : ℕ) (c : Control) (old taken taken' : Option (List ℕ)) (held : List ℕ)
-    (rows rows' : Option (List Outputs))
-    → Played image start now k c old (append_known taken' held) rows rows' → 0 < k → Extends old taken → Extends taken taken'
-    → (held ≢ [] → rows' ≡ None) → HoldsBack image start old taken' held rows'
-holds_more image start now k c old taken taken' held rows rows' a some before grows unwatched =
+pub holds_more : (image : Image) (before at told after : Seen) (held held' : List ℕ) (now : Option (List ℕ)) (k n : ℕ) (c : Control)
+    → Played image before.source.to_come now n c before.sink.taken (append_known after.sink.taken held') before.rows after.rows → n ≡ next_number k
+    → HoldsBack image before at held → told.sink ≡ at.sink → Extends told.sink.taken after.sink.taken → (held' ≢ [] → after.rows ≡ None)
+    → HoldsBack image before after held'
+holds_more image before at told after held held' now k n c played number holds sink grows unwatched =
     record {
-      grows = extends_on old taken taken' before grows;
-      begun = λ _. has_ticked image start now k c old (append_known taken' held) rows rows' a some;
+      grows =
+          extends_on before.sink.taken at.sink.taken after.sink.taken holds.grows
+          (subst (λ (s : SinkSeen). Extends s.taken after.sink.taken) sink grows);
+      begun = λ _.
+          has_ticked image before.source.to_come now n c before.sink.taken (append_known after.sink.taken held') before.rows after.rows played
+          (subst (λ m. 0 < m) (sym number) (numbers_some k));
       unwatched = unwatched;
     }
 

@@ -1,9 +1,11 @@
 pub mod Coming
 pub mod Cutting
 pub mod Ending
+pub mod Failures
 pub mod HeldBack
 pub mod HeldLines
 pub mod OneTrace
 pub mod Playing
 pub mod Splits
 pub mod Took
+pub mod Turning

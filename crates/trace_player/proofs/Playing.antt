@@ -17,10 +17,11 @@ use Rattle.trace_player.specs.declared.player.PlayFault.TheVariants as play_faul
 use Rattle.trace_lines.specs.Lines.{ahead, TakesLine, IsTooLong}
 use Rattle.trace_player.specs.Trace.{End, Good, NoInputs, NoObject, EndsAt, Shows, greatest, next_number, Goes, Trace, Leaves}
 use Rattle.trace_player.specs.Published.{PlaysTo, PlaysFirstTo, PlaysPartTo, LeavesTo}
-use Rattle.trace_player.specs.Inside.Playing.{Gains}
+use Rattle.trace_player.specs.Channels.{Gains}
 use Rattle.probe.specs.Outputs.{Outputs}
 use Rattle.trace_player.proofs.Ending.{Told, none_told, one_told, published, published_so_far}
-use Rattle.trace_player.specs.Inside.Faults.{Tells, unread}
+use Rattle.trace_player.specs.Inside.Faults.{Tells}
+use Rattle.trace_player.specs.Unread.{unread}
 use Rattle.trace_player.proofs.Splits.{Cut, known_lines, cut_known, are_lines, cut_at_end, cut_taken, cut_too_long}
 
 -- after the line of number k the configuration is c, and these lines of output were written and the ends of their ticks

@@ -1,4 +1,6 @@
+pub mod Channels
 pub mod FaultText
 pub mod Trace
 pub mod Published
+pub mod Unread
 pub mod Inside

@@ -1,9 +1,8 @@
 //! Output that is held back while the next line of the input is at hand.
 
-ghost use Rattle.std.specs.Prelude.{◌≡◌, ◌≢◌, ◌+◌, ◌++◌, [], None, true, false};
-ghost use Rattle.std.specs.Io.KnownBytes.{Appends, append_known};
-ghost use Rattle.sc_values.specs.Streams.{GrowsInto};
-ghost use Rattle.trace_player.specs.Inside.HeldBack.{Extends};
+ghost use Rattle.std.specs.Prelude.{◌≡◌, ◌≢◌, ◌++◌, [], None, true, false};
+ghost use Rattle.trace_player.specs.Channels.{TakesAll, TakesPart};
+ghost use Rattle.trace_player.specs.Inside.HeldBack.{Extends, sink_with};
 
 use crate::channels::Channels;
 
@@ -13,16 +12,12 @@ const MOST_HELD: usize = 65_536;
 /// Writes what is held back, and lets go of it. Whether the sink took it whole.
 #[tactic(auto, using(crate::proofs::Took::nothing_taken))]
 pub(crate) fn settle<P: Channels>(channels: &mut P, held: &mut Vec<u8>) -> bool
-    ensures whole { result ≡ true → Appends (P.taken channels.old) (P.taken channels.new) held.old.items }
-    ensures none_failed { result ≡ true → P.failed_writes channels.new ≡ P.failed_writes channels.old }
-    ensures some { result ≡ false → GrowsInto (P.taken channels.old) (P.taken channels.new) held.old.items }
-    ensures failed { result ≡ false → P.failed_writes channels.new ≡ P.failed_writes channels.old + 1 }
+    ensures whole { result ≡ true → TakesAll (P.seen channels.old).sink (P.seen channels.new).sink held.old.items }
+    ensures part { result ≡ false → TakesPart (P.seen channels.old).sink (P.seen channels.new).sink held.old.items }
     ensures held { result ≡ false → held.old.items ≢ [] }
     ensures none { held.new.items ≡ [] }
-    ensures to_come { P.to_come channels.new ≡ P.to_come channels.old }
-    ensures progress { P.progress channels.new ≡ P.progress channels.old }
-    ensures no_read { P.failed_reads channels.new ≡ P.failed_reads channels.old }
-    ensures published { P.published channels.new ≡ P.published channels.old }
+    ensures source { (P.seen channels.new).source ≡ (P.seen channels.old).source }
+    ensures rows { (P.seen channels.new).rows ≡ (P.seen channels.old).rows }
     ensures same { P.names channels.new ≡ P.names channels.old }
 {
     if held.is_empty() {
@@ -47,16 +42,12 @@ fn hold(held: &mut Vec<u8>, shown: &[u8]) -> bool
 // Writes what is held back, and then a line of output. Whether the sink took both whole.
 fn pass_on<P: Channels>(channels: &mut P, held: &mut Vec<u8>, shown: &[u8]) -> bool
     ensures whole { result ≡ true
-        → Appends (P.taken channels.old) (P.taken channels.new) (held.old.items ++ shown.now) }
-    ensures none_failed { result ≡ true → P.failed_writes channels.new ≡ P.failed_writes channels.old }
-    ensures some { result ≡ false
-        → GrowsInto (P.taken channels.old) (P.taken channels.new) (held.old.items ++ shown.now) }
-    ensures failed { result ≡ false → P.failed_writes channels.new ≡ P.failed_writes channels.old + 1 }
+        → TakesAll (P.seen channels.old).sink (P.seen channels.new).sink (held.old.items ++ shown.now) }
+    ensures part { result ≡ false
+        → TakesPart (P.seen channels.old).sink (P.seen channels.new).sink (held.old.items ++ shown.now) }
     ensures none { held.new.items ≡ [] }
-    ensures to_come { P.to_come channels.new ≡ P.to_come channels.old }
-    ensures progress { P.progress channels.new ≡ P.progress channels.old }
-    ensures no_read { P.failed_reads channels.new ≡ P.failed_reads channels.old }
-    ensures published { P.published channels.new ≡ P.published channels.old }
+    ensures source { (P.seen channels.new).source ≡ (P.seen channels.old).source }
+    ensures rows { (P.seen channels.new).rows ≡ (P.seen channels.old).rows }
     ensures same { P.names channels.new ≡ P.names channels.old }
 {
     if !settle(channels, held) {
@@ -74,20 +65,16 @@ pub(crate) fn write_or_hold<P: Channels>(
     shown: &[u8],
     more: bool,
 ) -> bool
-    ensures whole { result ≡ true → Appends (append_known (P.taken channels.old) held.old.items)
-        (append_known (P.taken channels.new) held.new.items) shown.now }
-    ensures grows { result ≡ true → Extends (P.taken channels.old) (P.taken channels.new) }
-    ensures none_failed { result ≡ true → P.failed_writes channels.new ≡ P.failed_writes channels.old }
-    ensures some { result ≡ false
-        → GrowsInto (P.taken channels.old) (P.taken channels.new) (held.old.items ++ shown.now) }
-    ensures failed { result ≡ false → P.failed_writes channels.new ≡ P.failed_writes channels.old + 1 }
+    ensures whole { result ≡ true → TakesAll (sink_with (P.seen channels.old).sink held.old.items)
+        (sink_with (P.seen channels.new).sink held.new.items) shown.now }
+    ensures grows { result ≡ true → Extends (P.seen channels.old).sink.taken (P.seen channels.new).sink.taken }
+    ensures part { result ≡ false
+        → TakesPart (P.seen channels.old).sink (P.seen channels.new).sink (held.old.items ++ shown.now) }
     ensures none { result ≡ false → held.new.items ≡ [] }
     ensures settled { more ≡ false → held.new.items ≡ [] }
-    ensures unwatched { held.new.items ≢ [] → P.published channels.new ≡ None }
-    ensures to_come { P.to_come channels.new ≡ P.to_come channels.old }
-    ensures progress { P.progress channels.new ≡ P.progress channels.old }
-    ensures no_read { P.failed_reads channels.new ≡ P.failed_reads channels.old }
-    ensures published { P.published channels.new ≡ P.published channels.old }
+    ensures unwatched { held.new.items ≢ [] → (P.seen channels.new).rows ≡ None }
+    ensures source { (P.seen channels.new).source ≡ (P.seen channels.old).source }
+    ensures rows { (P.seen channels.new).rows ≡ (P.seen channels.old).rows }
     ensures same { P.names channels.new ≡ P.names channels.old }
 {
     if !hold(held, shown) {

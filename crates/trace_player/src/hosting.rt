@@ -30,11 +30,7 @@ where
     P: Channels,
     requires image { verified.now ≡ J.image }
     requires workers { workers ≤ 8 }
-    ensures came { CameTo J.image (P.to_come channels.old) (P.taken channels.old) (P.taken channels.new)
-        (P.published channels.old) (P.published channels.new)
-        (P.failed_reads channels.old) (P.failed_reads channels.new)
-        (P.failed_writes channels.old) (P.failed_writes channels.new)
-        (P.progress channels.old) (P.progress channels.new) result }
+    ensures came { CameTo J.image (P.seen channels.old) (P.seen channels.new) result }
     ensures same { P.names channels.new ≡ P.names channels.old }
 {
     let (shared, passes) = Shared::<'x, J, G>::open(alloc, verified, gate)?;
@@ -71,11 +67,7 @@ where
     G: Gate + Sync,
     P: Channels,
     ensures name { result.1.ghost_name ≡ channels.entry.ghost_name }
-    ensures came { CameTo J.image (P.to_come channels.entry.now) (P.taken channels.entry.now) (P.taken result.1.now)
-        (P.published channels.entry.now) (P.published result.1.now)
-        (P.failed_reads channels.entry.now) (P.failed_reads result.1.now)
-        (P.failed_writes channels.entry.now) (P.failed_writes result.1.now)
-        (P.progress channels.entry.now) (P.progress result.1.now) result.0 }
+    ensures came { CameTo J.image (P.seen channels.entry.now) (P.seen result.1.now) result.0 }
     ensures same { P.names result.1.now ≡ P.names channels.entry.now }
 {
     thread::scope(
@@ -83,12 +75,7 @@ where
         rt,
         move |scope| -> (Result<u64, PlayFault>, &mut P)
             ensures name { result.1.ghost_name ≡ channels.entry.ghost_name }
-            ensures came { CameTo J.image (P.to_come channels.entry.now)
-                (P.taken channels.entry.now) (P.taken result.1.now)
-                (P.published channels.entry.now) (P.published result.1.now)
-                (P.failed_reads channels.entry.now) (P.failed_reads result.1.now)
-                (P.failed_writes channels.entry.now) (P.failed_writes result.1.now)
-                (P.progress channels.entry.now) (P.progress result.1.now) result.0 }
+            ensures came { CameTo J.image (P.seen channels.entry.now) (P.seen result.1.now) result.0 }
             ensures same { P.names result.1.now ≡ P.names channels.entry.now }
         {
             let result = meet_in(rt, scope, work, channels);
@@ -108,11 +95,7 @@ where
     R: Wait + Sync,
     G: Gate + Sync + 's,
     P: Channels,
-    ensures came { CameTo J.image (P.to_come channels.old) (P.taken channels.old) (P.taken channels.new)
-        (P.published channels.old) (P.published channels.new)
-        (P.failed_reads channels.old) (P.failed_reads channels.new)
-        (P.failed_writes channels.old) (P.failed_writes channels.new)
-        (P.progress channels.old) (P.progress channels.new) result }
+    ensures came { CameTo J.image (P.seen channels.old) (P.seen channels.new) result }
     ensures same { P.names channels.new ≡ P.names channels.old }
 {
     let TraceWork {

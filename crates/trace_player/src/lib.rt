@@ -6,9 +6,12 @@ mod fault_text;
 mod holding;
 mod hosting;
 mod laws;
+mod lines;
 mod player;
 mod session;
 mod turns;
 
+pub use channels::{Channels, Streams};
 pub use laws::one_trace;
+pub use lines::{is_last, next_number, unread_line};
 pub use player::{PlayFault, play, play_to};

@@ -1,46 +1,19 @@
 //! The lines of an input, one after another.
 
-ghost use Rattle.std.specs.Prelude.{◌≡◌, ◌↔◌, [], IsTrue};
-ghost use Rattle.std.specs.Io.KnownBytes.{append_known};
+ghost use Rattle.std.specs.Prelude.{◌≡◌, []};
 ghost use Rattle.sc_graph.specs.Tick.{Rests, initial};
-ghost use Rattle.trace_player.specs.Trace.{next_number};
-ghost use Rattle.trace_player.specs.Inside.Faults.{unread};
-ghost use Rattle.trace_player.specs.Inside.HeldBack.{HoldsBack};
+ghost use Rattle.trace_player.specs.Inside.HeldBack.{HoldsBack, with_held};
 ghost use Rattle.trace_player.specs.Inside.Playing.{CameTo};
 
 use crate::channels::Channels;
 use crate::holding::{settle, write_or_hold};
+use crate::lines::{is_last, next_number, unread_line};
 use crate::player::PlayFault;
 use crate::session::Session;
 use std::sync::Wait;
 use tick_core::{Control, TickSpace};
-use trace_lines::{Interface, LineEnd, LineRoom, Lines, LinesFault};
+use trace_lines::{Interface, LineRoom, Lines};
 use worker_pool::{Gate, OfImage};
-
-// The fault where the line of this number could not be had.
-fn unread_line(fault: LinesFault, line: u64) -> PlayFault
-    ensures { result ≡ unread fault line }
-{
-    match fault {
-        LinesFault::Memory => PlayFault::Memory,
-        LinesFault::Read => PlayFault::Read,
-        LinesFault::TooLong => PlayFault::NotJson(line),
-    }
-}
-
-// The number of the line behind the one of this number, which counts up to the greatest.
-fn next_number(number: u64) -> u64
-    ensures { result ≡ next_number number }
-{
-    number.saturating_add(1)
-}
-
-// Whether nothing is to be read behind a line that ends so.
-fn is_last(end: LineEnd) -> bool
-    ensures { IsTrue result ↔ (end ≡ LineEnd.Input) }
-{
-    end == LineEnd::Input
-}
 
 /// Plays the lines of an input from the first configuration on. When it returns, no tick will be shared any more.
 pub(crate) fn play_lines<'s, 'r: 's, 'x: 's, E: 's, R, J, G, P>(
@@ -52,11 +25,7 @@ where
     J: OfImage + Send + Sync + 's,
     G: Gate + Sync + 's,
     P: Channels,
-    ensures came { CameTo J.image (P.to_come channels.old) (P.taken channels.old) (P.taken channels.new)
-        (P.published channels.old) (P.published channels.new)
-        (P.failed_reads channels.old) (P.failed_reads channels.new)
-        (P.failed_writes channels.old) (P.failed_writes channels.new)
-        (P.progress channels.old) (P.progress channels.new) result }
+    ensures came { CameTo J.image (P.seen channels.old) (P.seen channels.new) result }
     ensures same { P.names channels.new ≡ P.names channels.old }
 {
     let mut session = session;
@@ -75,11 +44,7 @@ where
     J: OfImage + Send + Sync + 's,
     G: Gate + Sync + 's,
     P: Channels,
-    ensures came { CameTo J.image (P.to_come channels.old) (P.taken channels.old) (P.taken channels.new)
-        (P.published channels.old) (P.published channels.new)
-        (P.failed_reads channels.old) (P.failed_reads channels.new)
-        (P.failed_writes channels.old) (P.failed_writes channels.new)
-        (P.progress channels.old) (P.progress channels.new) result }
+    ensures came { CameTo J.image (P.seen channels.old) (P.seen channels.new) result }
     ensures same { P.names channels.new ≡ P.names channels.old }
 {
     let program = session.verified.image().program();
@@ -119,11 +84,7 @@ where
     requires initial { control ≡ initial J.image.program }
     requires rests { Rests J.image.program control }
     requires lines { lines.old ≡ [] }
-    ensures came { CameTo J.image (P.to_come channels.old) (P.taken channels.old) (P.taken channels.new)
-        (P.published channels.old) (P.published channels.new)
-        (P.failed_reads channels.old) (P.failed_reads channels.new)
-        (P.failed_writes channels.old) (P.failed_writes channels.new)
-        (P.progress channels.old) (P.progress channels.new) result }
+    ensures came { CameTo J.image (P.seen channels.old) (P.seen channels.new) result }
     ensures same { P.names channels.new ≡ P.names channels.old }
 {
     let mut held = Vec::new(session.alloc);
@@ -158,15 +119,9 @@ where
     requires rests { Rests J.image.program control }
     requires lines { lines.old ≡ [] }
     requires held { held.old.items ≡ [] }
-    ensures came { CameTo J.image (P.to_come channels.old) (P.taken channels.old)
-        (append_known (P.taken channels.new) held.new.items)
-        (P.published channels.old) (P.published channels.new)
-        (P.failed_reads channels.old) (P.failed_reads channels.new)
-        (P.failed_writes channels.old) (P.failed_writes channels.new)
-        (P.progress channels.old) (P.progress channels.new) result }
+    ensures came { CameTo J.image (P.seen channels.old) (with_held (P.seen channels.new) held.new.items) result }
     ensures same { P.names channels.new ≡ P.names channels.old }
-    ensures holds { HoldsBack J.image (P.to_come channels.old) (P.taken channels.old) (P.taken channels.new)
-        held.new.items (P.published channels.new) }
+    ensures holds { HoldsBack J.image (P.seen channels.old) (P.seen channels.new) held.new.items }
     ensures read { result ≡ Err PlayFault.Read → held.new.items ≡ [] }
     ensures write { result ≡ Err PlayFault.Write → held.new.items ≡ [] }
 {

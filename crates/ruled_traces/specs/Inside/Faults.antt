@@ -1,8 +1,6 @@
 -- What a line says, and what a fault of one line says of it.
 use Rattle.std.specs.Prelude.{ℕ, ⊤, List}
 use Rattle.sc_graph.specs.Program.{Program}
-use Rattle.trace_lines.specs.declared.lines.LinesFault.{LinesFault}
-use Rattle.trace_lines.specs.declared.lines.LinesFault.TheVariants as lines_fault
 use Rattle.trace_player.specs.declared.player.PlayFault.{PlayFault}
 use Rattle.trace_player.specs.declared.player.PlayFault.TheVariants as play_fault
 use Rattle.trace_player.specs.Trace.{NoInputs, NoObject}
@@ -30,9 +28,3 @@ Tells rules p k line (play_fault.Input n) = EndsAt rules p k line (NoInputs n)
 Tells rules p k line (play_fault.NotJson n) = EndsAt rules p k line (NoObject n)
 Tells rules p k line play_fault.Memory = ⊤
 Tells rules p k line other = ⊥
-
--- the fault where line number k could not be had
-abbrev pub unread : LinesFault → ℕ → PlayFault
-unread lines_fault.Memory k = play_fault.Memory
-unread lines_fault.Read k = play_fault.Read
-unread lines_fault.TooLong k = play_fault.NotJson k

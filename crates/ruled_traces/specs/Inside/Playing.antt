@@ -1,22 +1,20 @@
 -- What playing came to: one record of what the player promises.
-use Rattle.std.specs.Prelude.{ℕ, ◌≡◌, ◌≢◌, ◌+◌, Option, Result, Err, List, IfOk, IfErr}
-use Rattle.sc_values.specs.declared.streams.Progress.{Progress}
-use Rattle.sc_values.specs.Streams.{IsNotReadBehind}
+use Rattle.std.specs.Prelude.{ℕ, Result, List, IfOk, IfErr}
 use Rattle.bytecode.specs.Image.{Image}
 use Rattle.trace_player.specs.declared.player.PlayFault.{PlayFault}
-use Rattle.trace_player.specs.declared.player.PlayFault.TheVariants as play_fault
+use Rattle.trace_player.specs.Channels.{Seen, TellsFailures}
 use Rattle.trace_player.specs.Trace.{Good}
 use Rattle.ruled_traces.specs.Trace.{Plays, Leaves}
 use Rattle.ruled_traces.specs.declared.place.Place.{Place}
 use Rattle.ruled_traces.specs.declared.rules.Rules.{Rules}
 
--- the lines of an input were played, from so many failures of the source and the sink to so many
-pub record CameTo (rules : Rules) (image : Image) (from : Place) (input old new : Option (List ℕ))
-    (reads reads' writes writes' : ℕ) (progress progress' : Option Progress) (result : Result Place PlayFault) : Type 0 where
-  pub whole : IfOk result (λ last. (out : List (List ℕ)) × Plays rules image from input old new out Good last)
-  pub fault : IfErr result (Leaves rules image from input old new)
-  pub read : result ≡ Err play_fault.Read → reads' ≡ reads + 1
-  pub not_read : result ≢ Err play_fault.Read → reads' ≡ reads
-  pub end : IsNotReadBehind progress progress'
-  pub write : result ≡ Err play_fault.Write → writes' ≡ writes + 1
-  pub not_write : result ≢ Err play_fault.Write → writes' ≡ writes
+-- the whole input was played from a place on, to the last one
+abbrev pub PlaysWhole : Rules → Image → Place → Seen → Seen → Place → Type 0
+PlaysWhole rules image from before after last =
+    (out : List (List ℕ)) × Plays rules image from before.source.to_come before.sink.taken after.sink.taken out Good last
+
+-- playing came to this result: what was written before it, and what failed
+pub record CameTo (rules : Rules) (image : Image) (from : Place) (before after : Seen) (result : Result Place PlayFault) : Type 0 where
+  pub whole : IfOk result (PlaysWhole rules image from before after)
+  pub fault : IfErr result (Leaves rules image from before.source.to_come before.sink.taken after.sink.taken)
+  pub failures : TellsFailures before after result

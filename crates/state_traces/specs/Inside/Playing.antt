@@ -1,20 +1,18 @@
 -- What playing came to: one record of what the player promises.
-use Rattle.std.specs.Prelude.{ℕ, ◌≡◌, ◌≢◌, ◌+◌, min, Option, Result, Err, List, length, IfOk, IfErr}
-use Rattle.sc_values.specs.declared.streams.Progress.{Progress}
-use Rattle.sc_values.specs.Streams.{IsNotReadBehind}
+use Rattle.std.specs.Prelude.{ℕ, ◌≡◌, min, Result, List, length, IfOk, IfErr}
 use Rattle.bytecode.specs.Image.{Image}
 use Rattle.trace_player.specs.declared.player.PlayFault.{PlayFault}
-use Rattle.trace_player.specs.declared.player.PlayFault.TheVariants as play_fault
+use Rattle.trace_player.specs.Channels.{Seen, TellsFailures}
 use Rattle.trace_player.specs.Trace.{Good, greatest}
 use Rattle.state_traces.specs.Trace.{Words, Plays, Leaves}
 
--- the lines of an input were played, from so many failures of the source and the sink to so many
-pub record CameTo (words : Words) (image : Image) (input old new : Option (List ℕ))
-    (reads reads' writes writes' : ℕ) (progress progress' : Option Progress) (result : Result ℕ PlayFault) : Type 0 where
-  pub whole : IfOk result (λ ticks. (out : List (List ℕ)) × (ticks ≡ min (length out) greatest) × Plays words image input old new out Good)
-  pub fault : IfErr result (Leaves words image input old new)
-  pub read : result ≡ Err play_fault.Read → reads' ≡ reads + 1
-  pub not_read : result ≢ Err play_fault.Read → reads' ≡ reads
-  pub end : IsNotReadBehind progress progress'
-  pub write : result ≡ Err play_fault.Write → writes' ≡ writes + 1
-  pub not_write : result ≢ Err play_fault.Write → writes' ≡ writes
+-- the whole input was played, and made so many ticks
+abbrev pub PlaysWhole : Words → Image → Seen → Seen → ℕ → Type 0
+PlaysWhole words image before after ticks =
+    (out : List (List ℕ)) × (ticks ≡ min (length out) greatest) × Plays words image before.source.to_come before.sink.taken after.sink.taken out Good
+
+-- playing came to this result: what was written before it, and what failed
+pub record CameTo (words : Words) (image : Image) (before after : Seen) (result : Result ℕ PlayFault) : Type 0 where
+  pub whole : IfOk result (PlaysWhole words image before after)
+  pub fault : IfErr result (Leaves words image before.source.to_come before.sink.taken after.sink.taken)
+  pub failures : TellsFailures before after result

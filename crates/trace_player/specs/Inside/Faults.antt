@@ -1,8 +1,6 @@
 -- What a fault of one line says of it.
 use Rattle.std.specs.Prelude.{ℕ, ⊤, List}
 use Rattle.sc_graph.specs.Program.{Program}
-use Rattle.trace_lines.specs.declared.lines.LinesFault.{LinesFault}
-use Rattle.trace_lines.specs.declared.lines.LinesFault.TheVariants as lines_fault
 use Rattle.trace_player.specs.declared.player.PlayFault.{PlayFault}
 use Rattle.trace_player.specs.declared.player.PlayFault.TheVariants as play_fault
 use Rattle.trace_player.specs.Trace.{NoInputs, NoObject, EndsAt}
@@ -13,9 +11,3 @@ Tells p k line (play_fault.Input n) = EndsAt p k line (NoInputs n)
 Tells p k line (play_fault.NotJson n) = EndsAt p k line (NoObject n)
 Tells p k line play_fault.Memory = ⊤
 Tells p k line other = ⊥
-
--- the fault where line number k could not be had
-abbrev pub unread : LinesFault → ℕ → PlayFault
-unread lines_fault.Memory k = play_fault.Memory
-unread lines_fault.Read k = play_fault.Read
-unread lines_fault.TooLong k = play_fault.NotJson k

@@ -8,15 +8,17 @@ use Rattle.ruled_traces.proofs.turns.go_on.Given as goal
 abbrev pub invariant-loop-turn : goal.invariant-loop-turn
 invariant-loop-turn g l = record {
   played :
-      Played l.rules l.fn.room l.fn.from (g.S.Source.to_come l.fn.source) (ahead l.lines (g.S.Source.to_come l.source))
-      l.place (g.K.Sink.taken l.fn.sink) (g.K.Sink.taken l.sink);
+      Played l.rules l.fn.room l.fn.from (g.P.Channels.seen l.fn.channels).source.to_come
+      (ahead l.lines (g.P.Channels.seen l.channels).source.to_come) l.place
+      (g.P.Channels.seen l.fn.channels).sink.taken (g.P.Channels.seen l.channels).sink.taken;
   program : l.program ≡ l.room.program;
-  names : l.interface ≡ l.program.variables;
+  interface : l.interface ≡ l.program.variables;
   rests : Rests l.room.program l.place.control;
   room : l.room ≡ l.fn.room;
-  none_read : g.S.Source.failures l.source ≡ g.S.Source.failures l.fn.source;
-  none_write : g.K.Sink.failures l.sink ≡ g.K.Sink.failures l.fn.sink;
-  going : StaysOpen (g.S.Source.progress l.fn.source) (g.S.Source.progress l.source);
+  none_read : (g.P.Channels.seen l.channels).source.failures ≡ (g.P.Channels.seen l.fn.channels).source.failures;
+  none_write : (g.P.Channels.seen l.channels).sink.failures ≡ (g.P.Channels.seen l.fn.channels).sink.failures;
+  going : StaysOpen (g.P.Channels.seen l.fn.channels).source.progress (g.P.Channels.seen l.channels).source.progress;
+  same : g.P.Channels.names l.channels ≡ g.P.Channels.names l.fn.channels;
 }
 
 abbrev pub decreases-loop-turn : goal.decreases-loop-turn

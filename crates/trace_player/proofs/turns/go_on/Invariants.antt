@@ -1,25 +1,22 @@
 use Rattle.std.proofs.Common.{◌≡◌, ◌-◌, [], false}
-use Rattle.std.specs.Io.KnownBytes.{append_known}
 use Rattle.sc_graph.specs.Tick.{Rests}
 use Rattle.sc_values.specs.Streams.{StaysOpen}
 use Rattle.trace_lines.specs.Lines.{ahead, has_feed}
-use Rattle.trace_player.specs.Inside.HeldBack.{HoldsBack}
-use Rattle.trace_player.proofs.Playing.{Played}
+use Rattle.trace_player.specs.Inside.HeldBack.{HoldsBack, with_held}
+use Rattle.trace_player.proofs.Turning.{PlayedTo}
 use Rattle.trace_player.proofs.turns.go_on.Given as goal
 
 abbrev pub invariant-loop-turn : goal.invariant-loop-turn
 invariant-loop-turn g l = record {
-  played : Played g.J.OfImage.image (g.P.Channels.to_come l.fn.channels) (ahead l.lines (g.P.Channels.to_come l.channels)) l.number l.control
-      (g.P.Channels.taken l.fn.channels) (append_known (g.P.Channels.taken l.channels) l.held.items)
-      (g.P.Channels.published l.fn.channels) (g.P.Channels.published l.channels);
-  holds : HoldsBack g.J.OfImage.image (g.P.Channels.to_come l.fn.channels) (g.P.Channels.taken l.fn.channels) (g.P.Channels.taken l.channels) l.held.items
-      (g.P.Channels.published l.channels);
+  played : PlayedTo g.J.OfImage.image (g.P.Channels.seen l.fn.channels) (with_held (g.P.Channels.seen l.channels) l.held.items)
+      (ahead l.lines (g.P.Channels.seen l.channels).source.to_come) l.number l.control;
+  holds : HoldsBack g.J.OfImage.image (g.P.Channels.seen l.fn.channels) (g.P.Channels.seen l.channels) l.held.items;
   at_hand : has_feed l.lines ≡ false → l.held.items ≡ [];
   rests : Rests g.J.OfImage.image.program l.control;
   room : l.room ≡ g.J.OfImage.image;
-  none_read : g.P.Channels.failed_reads l.channels ≡ g.P.Channels.failed_reads l.fn.channels;
-  none_write : g.P.Channels.failed_writes l.channels ≡ g.P.Channels.failed_writes l.fn.channels;
-  going : StaysOpen (g.P.Channels.progress l.fn.channels) (g.P.Channels.progress l.channels);
+  none_read : (g.P.Channels.seen l.channels).source.failures ≡ (g.P.Channels.seen l.fn.channels).source.failures;
+  none_write : (g.P.Channels.seen l.channels).sink.failures ≡ (g.P.Channels.seen l.fn.channels).sink.failures;
+  going : StaysOpen (g.P.Channels.seen l.fn.channels).source.progress (g.P.Channels.seen l.channels).source.progress;
   same : g.P.Channels.names l.channels ≡ g.P.Channels.names l.fn.channels;
 }
 

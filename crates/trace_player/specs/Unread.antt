@@ -1,18 +1,9 @@
--- What a fault of one line says of it.
-use Rattle.std.specs.Prelude.{ℕ, ⊤, List}
-use Rattle.sc_graph.specs.Program.{Program}
+-- What is told where a line could not be had.
+use Rattle.std.specs.Prelude.{ℕ}
 use Rattle.trace_lines.specs.declared.lines.LinesFault.{LinesFault}
 use Rattle.trace_lines.specs.declared.lines.LinesFault.TheVariants as lines_fault
 use Rattle.trace_player.specs.declared.player.PlayFault.{PlayFault}
 use Rattle.trace_player.specs.declared.player.PlayFault.TheVariants as play_fault
-use Rattle.trace_player.specs.Trace.{NoInputs, NoObject, EndsAt}
-
--- what a fault at line number k tells of it
-abbrev pub Tells : Program → ℕ → List ℕ → PlayFault → Type 0
-Tells p k line (play_fault.Input n) = EndsAt p k line (NoInputs n)
-Tells p k line (play_fault.NotJson n) = EndsAt p k line (NoObject n)
-Tells p k line play_fault.Memory = ⊤
-Tells p k line other = ⊥
 
 -- the fault where line number k could not be had
 abbrev pub unread : LinesFault → ℕ → PlayFault
