@@ -12,3 +12,4 @@ mod transitions;
 pub use chart::chart_of;
 pub use laws::chart_texts_have_one_answer;
 pub use read::read_chart;
+pub use transitions::{effects, trigger};

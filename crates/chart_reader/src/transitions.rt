@@ -54,7 +54,8 @@ fn transition(
     })
 }
 
-fn trigger(
+/// A trigger, over these variables. Err: memory was refused.
+pub fn trigger(
     alloc: Global,
     scope: &Scope,
     text: &Option<TextExpression>,
@@ -69,7 +70,12 @@ fn trigger(
     }
 }
 
-fn effects(alloc: Global, scope: &Scope, texts: &[DraftEffect]) -> Result<Items<Effect>, AllocError>
+/// Effects, over these variables. Err: memory was refused.
+pub fn effects(
+    alloc: Global,
+    scope: &Scope,
+    texts: &[DraftEffect],
+) -> Result<Items<Effect>, AllocError>
     requires { length scope.now.variables.now ≤ variable_limit }
     ensures { IfOk result (λ all. all ≡ map (effect_of (variable_names scope.now.variables.now)) texts.now) }
 {

@@ -14,7 +14,8 @@ use Rattle.chart_elements.specs.Elements.{row}
 use Rattle.extended_charts.specs.Rows.{Marks, before, region_marks, state_marks, transition_marks}
 use Rattle.extended_charts.specs.Rows.{states_in_region, states_in_state, transitions_in_region, transitions_in_state}
 use Rattle.extended_charts.specs.Clocks as clocks
-use Rattle.extended_charts.specs.Clocks.{TimedRegion, TimedState, timed_state, timed_region, all_regions, ask_time, one, noting, timed_by}
+use Rattle.extended_charts.specs.Clocks.{TimedRegion, TimedState, timed_state, timed_region, all_regions, ask_time, noting, timed_by}
+use Rattle.extended_charts.specs.Making.{one}
 
 abbrev parts : ExtendedState → Entered
 parts s =
@@ -37,6 +38,7 @@ pub state_timed : (s : ExtendedState) (now at : ℕ) → (timed_state s).made no
       is_initial = (out-ExtendedState s).is_initial;
       is_final = (out-ExtendedState s).is_final;
       entry = noting (ask_time (out-ExtendedState s).transitions) now at ++ (out-ExtendedState s).entry;
+      exit = (out-ExtendedState s).exit;
       regions =
           all_regions now (at + one (ask_time (out-ExtendedState s).transitions)) (map timed_region (out-ExtendedState s).regions);
       transitions = map (timed_by (reading.Elapsed now at)) (out-ExtendedState s).transitions;

@@ -1,4 +1,16 @@
 pub mod Naming
 pub mod Folded
+pub mod Left
+pub mod HeldStates
 pub mod Handed
+pub mod Emitting
+pub mod ByRules
+pub mod PlainParts
+pub mod PlainValues
+pub mod PlainClocks
+pub mod PlainExits
+pub mod PlainHolds
+pub mod PlainEntry
+pub mod Plain
 mod ReductionRows
+mod ExitRows

@@ -20,6 +20,7 @@ use Rattle.extended_charts.specs.Reading.{elapsed, replaced_step}
 use Rattle.extended_charts.specs.Clocks.{all_states}
 use Rattle.extended_charts.specs.Making.{numbered, always, passing, region}
 use Rattle.extended_charts.specs.Registers.{register_region}
+use Rattle.extended_charts.specs.Signals.{reset, signal_region}
 use Rattle.extended_charts.specs.Initial.{settings}
 use Rattle.extended_charts.specs.Entry.{Entered}
 use Rattle.extended_charts.specs.Entry as entry
@@ -73,6 +74,12 @@ from variable source = record { variable = variable; value = expr.Load source } 
 one_register : register_region 2 (1 ∷ []) ≡ region (codes "registers__1")
     (passing true 0 (from 3 1) 1 ∷ passing false 1 [] 2 ∷ passing true 2 (from 2 3) 3 ∷ passing true 3 [] 0 ∷ [])
 one_register = refl
+
+-- ---- signals: variables 1 and 4 are such
+
+two_signals : signal_region (1 ∷ 4 ∷ []) ≡ region (codes "signals__1")
+    (passing false 0 [] 1 ∷ passing true 1 (reset 1 ∷ []) 2 ∷ passing true 2 (reset 4 ∷ []) 3 ∷ passing true 3 [] 0 ∷ [])
+two_signals = refl
 
 -- ---- initial values: of three variables the second has one that it does not hold anyway
 

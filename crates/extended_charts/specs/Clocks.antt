@@ -1,6 +1,6 @@
 -- The ticks since a state was entered: one more region adds 1 to the time in each tick; a state that asks notes the time as
 -- the first of its entry actions; and in its triggers the time now less that stands for the ticks since.
-use Rattle.std.specs.Prelude.{ℕ, zero, suc, pos, ◌+◌, Bool, true, false, Option, Some, None, List, [], ◌∷◌, ◌++◌, map, length, codes, ◌==◌, if◌then◌else◌}
+use Rattle.std.specs.Prelude.{ℕ, suc, pos, ◌+◌, Bool, true, false, Option, Some, None, List, [], ◌∷◌, ◌++◌, map, length, codes, ◌==◌, if◌then◌else◌}
 use Rattle.std.specs.List.{list_any}
 use Rattle.sc_values.specs.declared.value.Value.TheVariants as value
 use Rattle.sc_values.specs.declared.value.Kind.TheVariants as of_kind
@@ -10,7 +10,6 @@ use Rattle.sc_values.specs.declared.expression.Expr.TheVariants as expr
 use Rattle.sc_values.specs.Assignment.{is_read}
 use Rattle.core_charts.specs.declared.region.Effect.{Effect}
 use Rattle.core_charts.specs.declared.region.Transition.{Transition}
-use Rattle.extended_charts.specs.declared.extended.Declared.{Declared}
 use Rattle.extended_charts.specs.declared.extended.ExtendedChart.{ExtendedChart}
 use Rattle.extended_charts.specs.declared.extended.ExtendedRegion.{ExtendedRegion}
 use Rattle.extended_charts.specs.declared.extended.ExtendedState.{ExtendedState}
@@ -20,7 +19,7 @@ use Rattle.extended_charts.specs.declared.extended.ExtendedRegion.TheFolds.{fold
 use Rattle.extended_charts.specs.declared.reading.Reading.{Reading}
 use Rattle.extended_charts.specs.declared.reading.Reading.TheVariants as reading
 use Rattle.extended_charts.specs.Reading.{elapsed, replaced_trigger}
-use Rattle.extended_charts.specs.Making.{numbered, local, copy, always, made_state, region}
+use Rattle.extended_charts.specs.Making.{one, local, integers, copy, always, made_state, region}
 
 -- ---- who asks
 
@@ -31,10 +30,6 @@ asks_time None = false
 -- whether a trigger of these asks for the ticks since the state was entered
 abbrev pub ask_time : List Transition → Bool
 ask_time transitions = list_any (λ t. asks_time t.trigger) transitions
-
-abbrev pub one : Bool → ℕ
-one true = 1
-one false = 0
 
 -- ---- states and regions: how many of their states ask, and what is made of them, where a variable is the time now, and
 -- others from this one on note at which their states were entered
@@ -83,6 +78,7 @@ state_step s =
         is_initial = s.is_initial;
         is_final = s.is_final;
         entry = noting (ask_time s.transitions) now at ++ s.entry;
+        exit = s.exit;
         regions = all_regions now (at + one (ask_time s.transitions)) s.regions;
         transitions = map (timed_transition now at) s.transitions;
       });
@@ -100,11 +96,6 @@ timed_state = fold-ExtendedState TimedRegion TimedState region_step state_step
 
 -- ---- charts
 
--- the times at which so many states were entered
-abbrev pub times : (count : ℕ) → List Declared
-times zero = []
-times (suc count) = times count ++ local (numbered (codes "at__") (suc count)) of_kind.Int None ∷ []
-
 abbrev pub one_more : (now : ℕ) → Effect
 one_more now =
     record {
@@ -117,11 +108,11 @@ abbrev pub clock_region : (now : ℕ) → ExtendedRegion
 clock_region now =
     region (codes "clock__1") (made_state (codes "tick__1") true [] (always false (one_more now ∷ []) 0 ∷ []) ∷ [])
 
--- of which so many states ask
+-- of which so many states ask, and note the times at which they were entered
 abbrev pub clocked : (clocks : ℕ) → ExtendedChart → ExtendedChart
 clocked count c =
     record c {
-      variables = c.variables ++ local (codes "now__1") of_kind.Int None ∷ times count;
+      variables = c.variables ++ local (codes "now__1") of_kind.Int None ∷ integers (codes "at__") count;
       regions =
           all_regions (length c.variables) (suc (length c.variables)) (map timed_region c.regions) ++
           clock_region (length c.variables) ∷ [];

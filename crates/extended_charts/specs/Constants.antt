@@ -35,6 +35,7 @@ abbrev pub state_step : Reading → ExtendedState-F ExtendedRegion ExtendedState
 state_step r s =
     roll-ExtendedState (record s {
       entry = map (valued_effect r) s.entry;
+      exit = map (valued_effect r) s.exit;
       transitions = map (valued_transition r) s.transitions;
     })
 

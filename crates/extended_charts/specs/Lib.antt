@@ -1,10 +1,14 @@
 pub mod Making
 pub mod Reading
 pub mod Constants
+pub mod Signals
 pub mod Registers
 pub mod Clocks
+pub mod Exits
+pub mod Holds
 pub mod Initial
 pub mod Entry
 pub mod Rows
 pub mod Reduction
 pub mod FaultText
+pub mod Laws

@@ -1,9 +1,10 @@
 -- The names, literals, variables, transitions and states that reductions make. A made name has two underscores inside.
-use Rattle.std.specs.Prelude.{ℕ, suc, pos, ◌==◌, neg_ℤ, int_lt, Bool, true, false, Option, None, List, [], ◌∷◌, ◌++◌, codes, decimal, if◌then◌else◌}
+use Rattle.std.specs.Prelude.{ℕ, zero, suc, pos, ◌==◌, neg_ℤ, int_lt, Bool, true, false, Option, None, List, [], ◌∷◌, ◌++◌, codes, decimal, if◌then◌else◌}
 use Rattle.std.specs.Int.{int_wrap, w32}
 use Rattle.sc_values.specs.declared.value.Value.{Value}
 use Rattle.sc_values.specs.declared.value.Value.TheVariants as value
 use Rattle.sc_values.specs.declared.value.Kind.{Kind}
+use Rattle.sc_values.specs.declared.value.Kind.TheVariants as of_kind
 use Rattle.sc_values.specs.declared.operator.UnaryOperator.TheVariants as unary
 use Rattle.sc_values.specs.declared.expression.Expr.{Expr}
 use Rattle.sc_values.specs.declared.expression.Expr.TheVariants as expr
@@ -19,6 +20,10 @@ use Rattle.extended_charts.specs.declared.extended.ExtendedRegion.TheViews.{roll
 abbrev pub has_some : {A : Type 0} → List A → Bool
 has_some [] = false
 has_some (x ∷ xs) = true
+
+abbrev pub one : Bool → ℕ
+one true = 1
+one false = 0
 
 -- ---- names
 
@@ -37,6 +42,11 @@ literal (value.Int n) =
 abbrev pub local : List ℕ → Kind → Option Value → Declared
 local name k initial =
     record { variable = record { name = name; kind = k; role = role.Local }; initial = initial }
+
+-- as many int variables
+abbrev pub integers : (word : List ℕ) → (count : ℕ) → List Declared
+integers word zero = []
+integers word (suc count) = integers word count ++ local (numbered word (suc count)) of_kind.Int None ∷ []
 
 -- the variable becomes what another is
 abbrev pub copy : (variable from : ℕ) → Effect
@@ -58,6 +68,7 @@ made_state name is_initial regions transitions =
       is_initial = is_initial;
       is_final = false;
       entry = [];
+      exit = [];
       regions = regions;
       transitions = transitions;
     })

@@ -1,13 +1,13 @@
 //! The ticks since a state was entered.
 
-ghost use Rattle.std.specs.Prelude.{◌≡◌, ◌+◌, IfOk, map};
-ghost use Rattle.extended_charts.specs.Clocks.{asks_time, ask_time, one, clocks_in, all_regions, all_states};
+ghost use Rattle.std.specs.Prelude.{◌≡◌, IfOk, map};
+ghost use Rattle.extended_charts.specs.Clocks.{asks_time, ask_time, clocks_in, all_regions, all_states};
 ghost use Rattle.extended_charts.specs.Clocks.{noting, timed_by, timed_region, timed_state};
-ghost use Rattle.extended_charts.specs.Clocks.{times, one_more, clock_region, with_clocks};
+ghost use Rattle.extended_charts.specs.Clocks.{one_more, clock_region, with_clocks};
 
-use crate::extended::{Declared, ELAPSED, ExtendedChart, ExtendedRegion, ExtendedState};
-use crate::making::{alone, always, copy, local, made_state, variable};
-use crate::names::{numbered, plain};
+use crate::extended::{ELAPSED, ExtendedChart, ExtendedRegion, ExtendedState};
+use crate::making::{alone, always, copy, integers, local, made_state, one, sum, variable};
+use crate::names::plain;
 use crate::reading::Reading;
 use chart_elements::next;
 use core_charts::{Effect, Transition, copied_effects};
@@ -31,10 +31,11 @@ pub fn with_clocks(alloc: Global, chart: ExtendedChart) -> Result<ExtendedChart,
     regions.push(clock_region(alloc, now)?)?;
     let mut variables = chart.variables;
     variables.push(local(plain("now__1"), Kind::Int, None))?;
-    variables.append(times(alloc, count)?)?;
+    variables.append(integers(alloc, "at__", count)?)?;
     Ok(ExtendedChart {
         name: chart.name,
         variables,
+        signals: chart.signals,
         befores: chart.befores,
         constants: chart.constants,
         regions,
@@ -56,22 +57,6 @@ fn asks_time(trigger: &Option<Expr>) -> bool
     match trigger {
         Some(condition) => condition.reads(ELAPSED),
         None => false,
-    }
-}
-
-fn one(is_there: bool) -> u32
-    ensures { result ≡ one is_there }
-{
-    if is_there { 1 } else { 0 }
-}
-
-// Err: no memory holds so many.
-fn sum(a: u32, b: u32) -> Result<u32, AllocError>
-    ensures { IfOk result (λ both. both ≡ a + b) }
-{
-    match a.checked_add(b) {
-        Some(both) => Ok(both),
-        None => Err(AllocError),
     }
 }
 
@@ -180,6 +165,7 @@ fn timed_state(
         is_initial: state.is_initial,
         is_final: state.is_final,
         entry,
+        exit: copied_effects(alloc, state.exit.as_slice())?,
         regions: all_regions(alloc, now, inside, state.regions.as_slice())?,
         transitions: timed_transitions(alloc, &reading, own)?,
     })
@@ -228,17 +214,6 @@ fn timed_transition(
         effects: copied_effects(alloc, transition.effects.as_slice())?,
         target: transition.target,
     })
-}
-
-// The times at which so many states were entered.
-fn times(alloc: Global, count: u32) -> Result<Items<Declared>, AllocError>
-    ensures { IfOk result (λ made. made ≡ times count) }
-{
-    let mut made = Items::new(alloc);
-    for before in 0..count {
-        made.push(local(numbered("at__", before + 1), Kind::Int, None))?;
-    }
-    Ok(made)
 }
 
 fn one_more(alloc: Global, now: VariableId) -> Result<Effect, AllocError>

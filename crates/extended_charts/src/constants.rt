@@ -34,6 +34,7 @@ fn valued_chart(
     Ok(ExtendedChart {
         name: chart.name,
         variables: copied_declarations(alloc, chart.variables.as_slice())?,
+        signals: Items::from_slice(alloc, chart.signals.as_slice())?,
         befores: Items::from_slice(alloc, chart.befores.as_slice())?,
         constants: Items::new(alloc),
         regions: valued_regions(alloc, reading, chart.regions.as_slice())?,
@@ -189,6 +190,7 @@ fn valued_state(
         is_initial: state.is_initial,
         is_final: state.is_final,
         entry: valued_effects(alloc, reading, state.entry.as_slice())?,
+        exit: valued_effects(alloc, reading, state.exit.as_slice())?,
         regions: valued_regions(alloc, reading, state.regions.as_slice())?,
         transitions: valued_transitions(alloc, reading, state.transitions.as_slice())?,
     })

@@ -28,6 +28,8 @@ pub struct Constant {
 pub struct ExtendedChart {
     pub name: Name,
     pub variables: Items<Declared>,
+    /// The variables that are signals: false in each tick until they are emitted.
+    pub signals: Items<VariableId>,
     /// The variables of which is asked what they were.
     pub befores: Items<VariableId>,
     pub constants: Items<Constant>,
@@ -53,6 +55,9 @@ pub struct ExtendedState {
     pub is_final: bool,
     /// What is done each time that the state is entered, before it tests anything or enters its regions.
     pub entry: Items<Effect>,
+    /// What is done each time that the state is left, behind what is active in it and before the effects of the
+    /// transition.
+    pub exit: Items<Effect>,
     pub regions: Items<ExtendedRegion>,
     /// In the order of the text. Their targets are places among the states of the region, from 0.
     pub transitions: Items<Transition>,

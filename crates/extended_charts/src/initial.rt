@@ -22,6 +22,7 @@ pub fn with_settings(alloc: Global, chart: ExtendedChart) -> Result<ExtendedChar
     Ok(ExtendedChart {
         name: chart.name,
         variables: chart.variables,
+        signals: chart.signals,
         befores: chart.befores,
         constants: chart.constants,
         regions,

@@ -1,27 +1,37 @@
-//! Extended charts, and their reduction to charts: constants, what variables were in the tick before, the ticks since a
-//! state was entered, initial values and entry actions.
+//! Extended charts, and their reduction to charts: constants, signals, what variables were in the tick before, the
+//! ticks since a state was entered, entry and exit actions, terminations with triggers and initial values.
 #![tactic(auto)]
 
 mod clocks;
 mod constants;
 mod copies;
+mod departures;
 mod entry;
+mod exits;
 mod extended;
 mod fault;
+mod holds;
 mod initial;
+mod laws;
+mod leaving;
 mod making;
 mod names;
 mod reading;
 mod reduction;
 mod registers;
 mod rows;
+mod signals;
 
 pub use clocks::with_clocks;
 pub use constants::without_constants;
 pub use entry::without_entry;
+pub use exits::with_exits;
 pub use extended::{Constant, Declared, ELAPSED, ExtendedChart, ExtendedRegion, ExtendedState};
 pub use fault::ReduceFault;
+pub use holds::with_holds;
 pub use initial::with_settings;
+pub use laws::{charts_stay, signals_are_updated};
 pub use reduction::reduce;
 pub use registers::with_registers;
 pub use rows::{AuthorRows, rows_of};
+pub use signals::{emission, with_signals};

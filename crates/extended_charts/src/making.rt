@@ -1,7 +1,8 @@
 //! The literals, variables, transitions and states that reductions make.
 
-ghost use Rattle.std.specs.Prelude.{◌≡◌, ◌∷◌, [], IfOk};
-ghost use Rattle.extended_charts.specs.Making.{has_some, literal, local, copy, always, made_state};
+ghost use Rattle.std.specs.Prelude.{◌≡◌, ◌≤◌, ◌+◌, ◌∷◌, [], IsTrue, IfOk, length};
+ghost use Rattle.sc_values.specs.Name.{is_name};
+ghost use Rattle.extended_charts.specs.Making.{has_some, one, literal, local, integers, copy, always, made_state};
 ghost use Rattle.extended_charts.specs.Making.{passing, all_passing};
 
 use crate::extended::{Declared, ExtendedRegion, ExtendedState};
@@ -38,6 +39,19 @@ pub(crate) fn local(name: Name, kind: Kind, initial: Option<Value>) -> Declared
         },
         initial,
     }
+}
+
+/// As many int variables: this word, and a number from 1 behind it.
+pub(crate) fn integers(alloc: Global, word: &str, count: u32) -> Result<Items<Declared>, AllocError>
+    requires named { IsTrue (is_name word.now) }
+    requires short { length word.now ≤ 16 }
+    ensures { IfOk result (λ made. made ≡ integers word.now count) }
+{
+    let mut made = Items::new(alloc);
+    for before in 0..count {
+        made.push(local(numbered(word, before + 1), Kind::Int, None))?;
+    }
+    Ok(made)
 }
 
 /// The variable becomes what another is.
@@ -79,6 +93,7 @@ pub(crate) fn made_state(
         is_initial,
         is_final: false,
         entry: Items::new(alloc),
+        exit: Items::new(alloc),
         regions,
         transitions,
     }
@@ -123,6 +138,23 @@ pub(crate) fn has_some<T>(items: &[T]) -> bool
     ensures { result ≡ has_some items.now }
 {
     !items.is_empty()
+}
+
+/// One, where there is something.
+pub(crate) fn one(is_there: bool) -> u32
+    ensures { result ≡ one is_there }
+{
+    if is_there { 1 } else { 0 }
+}
+
+/// A sum. Err: no memory holds so many.
+pub(crate) fn sum(a: u32, b: u32) -> Result<u32, AllocError>
+    ensures { IfOk result (λ both. both ≡ a + b) }
+{
+    match a.checked_add(b) {
+        Some(both) => Ok(both),
+        None => Err(AllocError),
+    }
 }
 
 /// A list of one item.

@@ -8,11 +8,14 @@ ghost use Rattle.extended_charts.specs.Reduction.{with_entry, chart_of, IsReduct
 use crate::clocks::with_clocks;
 use crate::constants::without_constants;
 use crate::entry::without_entry;
+use crate::exits::with_exits;
 use crate::extended::{Declared, ExtendedChart};
 use crate::fault::ReduceFault;
+use crate::holds::with_holds;
 use crate::initial::with_settings;
 use crate::registers::with_registers;
 use crate::rows::{AuthorRows, rows_of};
+use crate::signals::with_signals;
 use core_charts::Chart;
 use sc_graph::Variable;
 use sqlite_items::Items;
@@ -36,9 +39,12 @@ fn with_entry(alloc: Global, chart: &ExtendedChart) -> Result<ExtendedChart, All
     ensures { IfOk result (λ made. made ≡ with_entry chart.now) }
 {
     let valued = without_constants(alloc, chart)?;
-    let registered = with_registers(alloc, valued)?;
+    let signalled = with_signals(alloc, valued)?;
+    let registered = with_registers(alloc, signalled)?;
     let clocked = with_clocks(alloc, registered)?;
-    with_settings(alloc, clocked)
+    let left = with_exits(alloc, clocked)?;
+    let held = with_holds(alloc, left)?;
+    with_settings(alloc, held)
 }
 
 // The chart of one that has nothing but entry actions. None: it breaks a rule or a limit of charts.

@@ -33,6 +33,7 @@ pub fn with_registers(alloc: Global, chart: ExtendedChart) -> Result<ExtendedCha
     Ok(ExtendedChart {
         name: chart.name,
         variables,
+        signals: chart.signals,
         befores: Items::new(alloc),
         constants: chart.constants,
         regions,

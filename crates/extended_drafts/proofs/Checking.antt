@@ -1,0 +1,69 @@
+-- What the first flaw of a draft tells of the text.
+use Rattle.std.proofs.Common.{◌≡◌, ℕ, Option, Some, None, List, [], map, codes, inl, inr, ◌∙◌, ap, sym}
+use Rattle.sc_text.specs.declared.read_fault.ReadFault.{ReadFault}
+use Rattle.sc_text.specs.declared.read_fault.ReadFault.TheVariants as fault
+use Rattle.drafts.specs.declared.flaw.Flaw.{Flaw}
+use Rattle.drafts.specs.declared.parts.Declaration.{Declaration}
+use Rattle.drafts.specs.Told.{told_behind, told_of}
+use Rattle.drafts.specs.Inside.{first_behind}
+use Rattle.drafts.proofs.Firsts.{first_found, none_found}
+use Rattle.drafts.proofs.ToldInOrder.{told_both, told_found}
+use Rattle.drafts.proofs.ToldFlaws.{told_five}
+use Rattle.chart_drafts.specs.declared.draft.DraftRegion.{DraftRegion}
+use Rattle.chart_drafts.specs.Flaws.{chart_flaws}
+use Rattle.extended_drafts.specs.declared.draft.DraftItem.{DraftItem}
+use Rattle.extended_drafts.specs.declared.draft.DraftEntry.{DraftEntry}
+use Rattle.extended_drafts.specs.declared.draft.DraftDelay.{DraftDelay}
+use Rattle.extended_drafts.specs.declared.draft.ExtendedDraft.{ExtendedDraft}
+use Rattle.extended_drafts.specs.Flaws.{joined, word_flaws, plain_variables, item_flaws, entries_flaws, delay_flaws, variable_name_flaws, region_name_flaws}
+use Rattle.extended_drafts.specs.Flaws.{new_flaws, extended_flaws}
+use Rattle.extended_drafts.specs.Reading.{IsExtendedDraft, IsDraftFault}
+use Rattle.extended_drafts.specs.Checked.{IsSound, IsTextFault}
+
+pub undrafted : (text : List ℕ) (f : ReadFault) → IsDraftFault text f → IsTextFault text f
+undrafted text (fault.Text b at) s = inl s
+undrafted text fault.Memory s = tt
+
+pub flawed : (text : List ℕ) (d : ExtendedDraft) (f : Flaw) → IsExtendedDraft text d → Some f ≡ first_behind None (extended_flaws d)
+    → IsTextFault text (fault.Text f.broken f.at)
+flawed text d f s e = inr (record { draft = d; drafted = s; first = first_found (extended_flaws d) f (sym e) })
+
+pub sound : (text : List ℕ) (d : ExtendedDraft) → IsExtendedDraft text d → None ≡ first_behind None (extended_flaws d) → IsSound text d
+sound text d s e = record { drafted = s; flawless = none_found (extended_flaws d) (sym e) }
+
+pub both_told : (d : ExtendedDraft) (f0 f1 : List Flaw) → f0 ≡ told_of (chart_flaws d.core) → f1 ≡ told_behind f0 (new_flaws d)
+    → f1 ≡ told_of (extended_flaws d)
+both_told d f0 f1 e f =
+    f ∙ ap (λ g. told_behind g (new_flaws d)) (e ∙ sym (told_found (chart_flaws d.core)))
+    ∙ sym (told_both [] (chart_flaws d.core) (new_flaws d)) ∙ told_found (extended_flaws d)
+
+-- the flaws of what is new, part by part
+pub new_told : (d : ExtendedDraft) (f a b c e g h : List Flaw) (I : List DraftItem) (P V W : List Declaration) (E : List (List DraftEntry))
+    (D : List (Option DraftDelay)) (R : List DraftRegion) → a ≡ told_behind f (word_flaws (codes "extended") d.word) → I ≡ d.items
+    → P ≡ plain_variables I → b ≡ told_behind a (joined (map (item_flaws P) I)) → V ≡ d.core.variables → E ≡ d.rows.entries
+    → c ≡ told_behind b (joined (map (entries_flaws V) E)) → D ≡ d.rows.delays → e ≡ told_behind c (joined (map (delay_flaws V) D))
+    → W ≡ d.core.variables → g ≡ told_behind e (variable_name_flaws W) → R ≡ d.core.regions → h ≡ told_behind g (joined (map region_name_flaws R))
+    → h ≡ told_behind f (new_flaws d)
+new_told d f a b c e g h I P V W E D R of_a of_I of_P of_b of_V of_E of_c of_D of_e of_W of_g of_R of_h =
+    let first : a ≡ told_behind f (word_flaws (codes "extended") d.word) = of_a in
+    let second : b ≡ told_behind a (joined (map (item_flaws (plain_variables d.items)) d.items)) =
+    of_b ∙ ap (λ x. told_behind a (joined (map (item_flaws x) I))) (of_P ∙ ap plain_variables of_I)
+    ∙ ap (λ x. told_behind a (joined (map (item_flaws (plain_variables d.items)) x))) of_I in
+    let third : c ≡ told_behind b (joined (map (entries_flaws d.core.variables) d.rows.entries)) =
+    of_c ∙ ap (λ x. told_behind b (joined (map (entries_flaws x) E))) of_V
+    ∙ ap (λ x. told_behind b (joined (map (entries_flaws d.core.variables) x))) of_E in
+    let fourth : e ≡ told_behind c (joined (map (delay_flaws d.core.variables) d.rows.delays)) =
+    of_e ∙ ap (λ x. told_behind c (joined (map (delay_flaws x) D))) of_V
+    ∙ ap (λ x. told_behind c (joined (map (delay_flaws d.core.variables) x))) of_D in
+    let fifth : g ≡ told_behind e (variable_name_flaws d.core.variables) = of_g ∙ ap (λ x. told_behind e (variable_name_flaws x)) of_W in
+    let sixth : h ≡ told_behind g (joined (map region_name_flaws d.core.regions)) =
+    of_h ∙ ap (λ x. told_behind g (joined (map region_name_flaws x))) of_R in
+    sixth
+    ∙ ap (λ x. told_behind x (joined (map region_name_flaws d.core.regions)))
+    (fifth ∙ ap (λ x. told_behind x (variable_name_flaws d.core.variables))
+    (fourth ∙ ap (λ x. told_behind x (joined (map (delay_flaws d.core.variables) d.rows.delays)))
+    (third ∙ ap (λ x. told_behind x (joined (map (entries_flaws d.core.variables) d.rows.entries)))
+    (second ∙ ap (λ x. told_behind x (joined (map (item_flaws (plain_variables d.items)) d.items))) first))))
+    ∙ sym (told_five f (word_flaws (codes "extended") d.word) (joined (map (item_flaws (plain_variables d.items)) d.items))
+    (joined (map (entries_flaws d.core.variables) d.rows.entries)) (joined (map (delay_flaws d.core.variables) d.rows.delays))
+    (variable_name_flaws d.core.variables) (joined (map region_name_flaws d.core.regions)))

@@ -1,0 +1,9 @@
+pub mod Shapes
+pub mod Deepens
+pub mod Gathering
+pub mod Pieces
+pub mod Nesting
+pub mod Drafting
+pub mod Told
+pub mod Checking
+pub mod ShapedDrafts

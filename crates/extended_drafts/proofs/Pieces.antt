@@ -1,0 +1,242 @@
+-- What reading gives for each rule of items, entry actions and transitions.
+use Rattle.std.proofs.Common.{◌≡◌, ℕ, ◌-◌, Bool, true, false, Option, Some, None, List, [], ◌∷◌, length, drop, refl, ap, ◌∙◌}
+use Rattle.std.specs.Prelude.{◌||◌}
+use Rattle.sc_values.specs.declared.value.Kind.{Kind}
+use Rattle.sc_graph.specs.declared.program.Role.{Role}
+use Rattle.sc_graph.specs.declared.program.Role.TheVariants as role
+use Rattle.grammar.specs.Grammar.{one, seq, either, maybe, many}
+use Rattle.grammar.specs.Read.{starts, read}
+use Rattle.sc_text.specs.declared.word.Word.TheVariants as word
+use Rattle.sc_text.specs.declared.sign.Sign.TheVariants as sign
+use Rattle.sc_text.specs.declared.token.Token.{Token}
+use Rattle.sc_text.specs.declared.read_fault.ReadFault.{ReadFault}
+use Rattle.sc_text.specs.Classes.{Class, AName, TheWord, class_of, same_class}
+use Rattle.sc_text.specs.Phrases.{Phrase}
+use Rattle.sc_text.specs.Expression.{text_tokens, after, expression}
+use Rattle.sc_text.specs.Reading.{Stops}
+use Rattle.sc_text.proofs.Shapes.{expression_is}
+use Rattle.sc_text.proofs.Steps.{one_taken, stops_as}
+use Rattle.core_charts.specs.declared.region.TransitionKind.{TransitionKind}
+use Rattle.drafts.specs.declared.parts.Named.{Named}
+use Rattle.drafts.specs.declared.parts.TextExpression.{TextExpression}
+use Rattle.chart_drafts.specs.declared.draft.DraftEffect.{DraftEffect}
+use Rattle.chart_drafts.specs.declared.draft.DraftTransition.{DraftTransition}
+use Rattle.chart_drafts.specs.ChartText.{Grows, the_word, the_sign, roles, declared_role, declared_kind, name, placed, moment, tested_words, trigger, deed}
+use Rattle.chart_drafts.specs.ChartText.{termination, transition_first}
+use Rattle.chart_drafts.specs.Inside.{IsGoing}
+use Rattle.chart_drafts.specs.Phrase.{Gives}
+use Rattle.chart_drafts.proofs.Parts.{seq_gives, made_gives, made_stops, after_gives, after_stops_second, maybe_none, maybe_some, maybe_stops, left_read}
+use Rattle.chart_drafts.proofs.Parts.{right_read, gives_as}
+use Rattle.chart_drafts.proofs.RowReading.{many_goes}
+use Rattle.extended_drafts.specs.declared.draft.DraftItem.{DraftItem}
+use Rattle.extended_drafts.specs.declared.draft.DraftEntry.{DraftEntry}
+use Rattle.extended_drafts.specs.declared.draft.DraftDelay.{DraftDelay}
+use Rattle.extended_drafts.specs.Draft.{item_of, entry_of, delay_of, or_next, delayed, parted}
+use Rattle.extended_drafts.specs.ExtendedText.{plain_head, worded_head, item_head, item_first, item_value, last_value, item, last_effects, entry, some_delay}
+use Rattle.extended_drafts.specs.ExtendedText.{at_once, waiting, pause, pause_first, tested, undelayed, transition}
+use Rattle.extended_drafts.specs.Inside.{IsGathering}
+use Rattle.extended_drafts.proofs.Shapes.{plain_head_is, item_is, entry_is, at_once_is, either_is, undelayed_is, transition_is}
+
+abbrev e0 : Grows Phrase
+e0 = expression 0
+
+-- ---- items
+
+module _ (text : List Token) where
+  is_plain : starts text_tokens roles text ≡ true → read item_head text ≡ read plain_head text
+  unfolding item_head
+  is_plain e = left_read plain_head roles plain_head_is.begins text worded_head e
+
+  is_worded : starts text_tokens roles text ≡ false → read item_head text ≡ read worded_head text
+  unfolding item_head
+  is_worded e = right_read plain_head roles plain_head_is.begins text worded_head e
+
+  pub plain_gives : (r : Role) (rest : List Token) → starts text_tokens roles text ≡ true → Gives (read declared_role text) r rest
+      → Gives (read item_head text) (r, None) rest
+  plain_gives r rest e g = gives_as _ _ (r, None) rest (is_plain e) (made_gives (λ r. (r, None)) declared_role text r rest g)
+
+  pub plain_stops : (end : ℕ) (f : ReadFault) → starts text_tokens roles text ≡ true → Stops end (read declared_role text) f
+      → Stops end (read item_head text) f
+  plain_stops end f e s = stops_as end _ _ f (is_plain e) (made_stops (λ r. (r, None)) declared_role text end f s)
+
+  pub worded_gives : (n : Named) (rest : List Token) → starts text_tokens roles text ≡ false → Gives (read name text) n rest
+      → Gives (read item_head text) (role.Input, Some n) rest
+  worded_gives n rest e g =
+      gives_as _ _ (role.Input, Some n) rest (is_worded e) (made_gives (λ n. (role.Input, Some n)) name text n rest g)
+
+  pub worded_stops : (end : ℕ) (f : ReadFault) → starts text_tokens roles text ≡ false → Stops end (read name text) f → Stops end (read item_head text) f
+  worded_stops end f e s = stops_as end _ _ f (is_worded e) (made_stops (λ n. (role.Input, Some n)) name text end f s)
+
+pub value_missing : (text : List Token) → starts text_tokens (the_sign sign.Becomes) text ≡ false → Gives (read (item_value e0) text) None text
+unfolding item_value
+value_missing text e = maybe_none (after (the_sign sign.Becomes) (placed e0)) (the_sign sign.Becomes) refl text e
+
+pub value_there : (text more rest : List Token) (x : TextExpression) → starts text_tokens (the_sign sign.Becomes) text ≡ true → more ≡ drop 1 text
+    → Gives (read (placed e0) more) x rest → Gives (read (item_value e0) text) (Some x) rest
+unfolding item_value
+value_there text more rest x e d r =
+    maybe_some (after (the_sign sign.Becomes) (placed e0)) (the_sign sign.Becomes) refl text x rest e
+    (after_gives (the_sign sign.Becomes) (placed e0) text more rest x (one_taken (the_sign sign.Becomes) text more e d) r)
+
+pub value_stops : (text more : List Token) (end : ℕ) (f : ReadFault) → starts text_tokens (the_sign sign.Becomes) text ≡ true → more ≡ drop 1 text
+    → Stops end (read (placed e0) more) f → Stops end (read (item_value e0) text) f
+unfolding item_value
+value_stops text more end f e d s =
+    maybe_stops (after (the_sign sign.Becomes) (placed e0)) (the_sign sign.Becomes) refl text end f e
+    (after_stops_second (the_sign sign.Becomes) (placed e0) text more end f (one_taken (the_sign sign.Becomes) text more e d) s)
+
+pub item_gives : (text a b c rest : List Token) (h : Role × Option Named) (k : Kind) (n : Named) (v : Option TextExpression)
+    → Gives (read item_head text) h a → Gives (read declared_kind a) k b → Gives (read name b) n c → Gives (read (last_value e0) c) v rest
+    → Gives (read (item e0) text) (item_of h k n v) rest
+unfolding item
+item_gives text a b c rest h k n v w x y z =
+    made_gives (λ x. item_of x.0 x.1.0 x.1.1.0 x.1.1.1) (seq item_head (seq declared_kind (seq name (last_value e0)))) text (h, (k, (n, v))) rest
+    (seq_gives item_head (seq declared_kind (seq name (last_value e0))) text a rest h (k, (n, v)) w
+    (seq_gives declared_kind (seq name (last_value e0)) a b rest k (n, v) x (seq_gives name (last_value e0) b c rest n v y z)))
+
+pub items_go : (text : List Token) (most : ℕ) (found : List DraftItem) → most ≡ length text → found ≡ []
+    → IsGoing (read (many (item e0)) text) (item e0) item_first found (most - 0) text
+items_go text most found e f = many_goes (item e0) item_first (item_is e0 (expression_is 0)).begins text most found e f
+
+-- ---- entry actions
+
+pub entry_gives : (text a rest : List Token) (n : Named) (d : List DraftEffect) → Gives (read name text) n a
+    → Gives (read (after (the_word word.Do) (last_effects e0)) a) d rest → Gives (read (entry e0) text) (entry_of n d) rest
+unfolding entry
+entry_gives text a rest n d x y =
+    made_gives (λ x. entry_of x.0 x.1) (seq name (after (the_word word.Do) (last_effects e0))) text (n, d) rest
+    (seq_gives name (after (the_word word.Do) (last_effects e0)) text a rest n d x y)
+
+pub entries_go : (text : List Token) (most : ℕ) (found : List DraftEntry) → most ≡ length text → found ≡ []
+    → IsGoing (read (many (entry e0)) text) (entry e0) (AName ∷ []) found (most - 0) text
+entries_go text most found e f = many_goes (entry e0) (AName ∷ []) (entry_is e0 (expression_is 0)).begins text most found e f
+
+-- ---- what transitions wait
+
+pub some_delay_gives : (text a rest : List Token) (n : Named) (t : TextExpression) → Gives (read name text) n a → Gives (read (placed e0) a) t rest
+    → Gives (read (some_delay e0) text) (delay_of n t) rest
+unfolding some_delay
+some_delay_gives text a rest n t x y =
+    made_gives (λ x. delay_of x.0 x.1) (seq name (placed e0)) text (n, t) rest (seq_gives name (placed e0) text a rest n t x y)
+
+-- ---- pauses
+
+module _ (k l : Class) where
+  abbrev both_of : List Class
+  both_of = k ∷ l ∷ []
+
+  in_first : (a b : Bool) → (a || false) ≡ true → (a || (b || false)) ≡ true
+  in_first true b e = refl
+  in_first false b e = absurd (cc)
+
+  in_second : (a b : Bool) → (b || false) ≡ true → (a || (b || false)) ≡ true
+  in_second true b e = refl
+  in_second false b e = e
+
+  in_none : (a b : Bool) → (a || false) ≡ false → (b || false) ≡ false → (a || (b || false)) ≡ false
+  in_none true b e f = absurd (cc)
+  in_none false b e f = f
+
+  starts_first : (text : List Token) → starts text_tokens (k ∷ []) text ≡ true → starts text_tokens both_of text ≡ true
+  starts_first [] e = absurd (cc)
+  starts_first (t ∷ text) e = in_first (same_class k (class_of t.kind)) (same_class l (class_of t.kind)) e
+
+  starts_second : (text : List Token) → starts text_tokens (l ∷ []) text ≡ true → starts text_tokens both_of text ≡ true
+  starts_second [] e = absurd (cc)
+  starts_second (t ∷ text) e = in_second (same_class k (class_of t.kind)) (same_class l (class_of t.kind)) e
+
+  starts_none : (text : List Token) → starts text_tokens (k ∷ []) text ≡ false → starts text_tokens (l ∷ []) text ≡ false
+      → starts text_tokens both_of text ≡ false
+  starts_none [] e f = refl
+  starts_none (t ∷ text) e f = in_none (same_class k (class_of t.kind)) (same_class l (class_of t.kind)) e f
+
+abbrev one_pause : Grows (Bool × Option DraftDelay)
+one_pause = either at_once (waiting e0)
+
+pub at_once_gives : (text rest : List Token) → starts text_tokens (the_word word.Immediate) text ≡ true → rest ≡ drop 1 text
+    → Gives (read (pause e0) text) (true, None) rest
+unfolding pause at_once
+at_once_gives text rest e d =
+    let taken = one_taken (the_word word.Immediate) text rest e d in
+    made_gives or_next (maybe one_pause) text (Some (true, None)) rest
+    (maybe_some one_pause pause_first (either_is e0 (expression_is 0)).begins text (true, None) rest
+    (starts_first (TheWord word.Immediate) AName text e)
+    (gives_as _ _ (true, None) rest (left_read at_once (the_word word.Immediate) at_once_is.begins text (waiting e0) e)
+    (made_gives (λ t. (true, None)) (one (the_word word.Immediate)) text taken.token rest (record { is = taken.is }))))
+
+pub pause_missing : (text : List Token) → starts text_tokens (the_word word.Immediate) text ≡ false → starts text_tokens (AName ∷ []) text ≡ false
+    → Gives (read (pause e0) text) (false, None) text
+unfolding pause
+pause_missing text e f =
+    made_gives or_next (maybe one_pause) text None text
+    (maybe_none one_pause pause_first (either_is e0 (expression_is 0)).begins text (starts_none (TheWord word.Immediate) AName text e f))
+
+module _ (text : List Token) (e : starts text_tokens (the_word word.Immediate) text ≡ false) (f : starts text_tokens (AName ∷ []) text ≡ true) where
+  is_waiting : read one_pause text ≡ read (waiting e0) text
+  is_waiting = right_read at_once (the_word word.Immediate) at_once_is.begins text (waiting e0) e
+
+  pub waiting_gives : (rest : List Token) (d : DraftDelay) → Gives (read (some_delay e0) text) d rest → Gives (read (pause e0) text) (false, Some d) rest
+  unfolding pause waiting
+  waiting_gives rest d r =
+      made_gives or_next (maybe one_pause) text (Some (false, Some d)) rest
+      (maybe_some one_pause pause_first (either_is e0 (expression_is 0)).begins text (false, Some d) rest
+      (starts_second (TheWord word.Immediate) AName text f)
+      (gives_as _ _ (false, Some d) rest is_waiting (made_gives (λ d. (false, Some d)) (some_delay e0) text d rest r)))
+
+  pub waiting_stops : (end : ℕ) (g : ReadFault) → Stops end (read (some_delay e0) text) g → Stops end (read (pause e0) text) g
+  unfolding pause waiting
+  waiting_stops end g s =
+      made_stops or_next (maybe one_pause) text end g
+      (maybe_stops one_pause pause_first (either_is e0 (expression_is 0)).begins text end g
+      (starts_second (TheWord word.Immediate) AName text f)
+      (stops_as end _ _ g is_waiting (made_stops (λ d. (false, Some d)) (some_delay e0) text end g s)))
+
+-- ---- transitions
+
+pub tested_made : (text a b c rest : List Token) (m : TransitionKind × ℕ) (w : Bool × Option DraftDelay) (t : Option TextExpression)
+    (x : List DraftEffect × Named) → Gives (read (moment tested_words) text) m a → Gives (read (pause e0) a) w b → Gives (read (trigger e0) b) t c
+    → Gives (read (deed e0) c) x rest → Gives (read (tested e0) text) (delayed m w t x) rest
+unfolding tested
+tested_made text a b c rest m w t x p q r s =
+    made_gives (λ x. delayed x.0 x.1.0 x.1.1.0 x.1.1.1) (seq (moment tested_words) (seq (pause e0) (seq (trigger e0) (deed e0)))) text (m, (w, (t, x))) rest
+    (seq_gives (moment tested_words) (seq (pause e0) (seq (trigger e0) (deed e0))) text a rest m (w, (t, x)) p
+    (seq_gives (pause e0) (seq (trigger e0) (deed e0)) a b rest w (t, x) q (seq_gives (trigger e0) (deed e0) b c rest t x r s)))
+
+pub undelayed_made : (text rest : List Token) (t : DraftTransition) → Gives (read (termination e0) text) t rest
+    → Gives (read (undelayed e0) text) (t, None) rest
+unfolding undelayed
+undelayed_made text rest t r = made_gives (λ t. (t, None)) (termination e0) text t rest r
+
+module _ (text : List Token) where
+  is_undelayed : starts text_tokens (the_word word.Join) text ≡ true → read (transition e0) text ≡ read (undelayed e0) text
+  unfolding transition
+  is_undelayed e = left_read (undelayed e0) (the_word word.Join) (undelayed_is e0 (expression_is 0)).begins text (tested e0) e
+
+  is_tested : starts text_tokens (the_word word.Join) text ≡ false → read (transition e0) text ≡ read (tested e0) text
+  unfolding transition
+  is_tested e = right_read (undelayed e0) (the_word word.Join) (undelayed_is e0 (expression_is 0)).begins text (tested e0) e
+
+  pub undelayed_gives : (x : DraftTransition × Option DraftDelay) (rest : List Token) → starts text_tokens (the_word word.Join) text ≡ true
+      → Gives (read (undelayed e0) text) x rest → Gives (read (transition e0) text) x rest
+  undelayed_gives x rest e r = gives_as _ _ x rest (is_undelayed e) r
+
+  pub undelayed_stops : (end : ℕ) (f : ReadFault) → starts text_tokens (the_word word.Join) text ≡ true → Stops end (read (undelayed e0) text) f
+      → Stops end (read (transition e0) text) f
+  undelayed_stops end f e s = stops_as end _ _ f (is_undelayed e) s
+
+  pub tested_gives : (x : DraftTransition × Option DraftDelay) (rest : List Token) → starts text_tokens (the_word word.Join) text ≡ false
+      → Gives (read (tested e0) text) x rest → Gives (read (transition e0) text) x rest
+  tested_gives x rest e r = gives_as _ _ x rest (is_tested e) r
+
+  pub tested_stops : (end : ℕ) (f : ReadFault) → starts text_tokens (the_word word.Join) text ≡ false → Stops end (read (tested e0) text) f
+      → Stops end (read (transition e0) text) f
+  tested_stops end f e s = stops_as end _ _ f (is_tested e) s
+
+  pub transitions_go : (most : ℕ) (found : List DraftTransition) (delays : List (Option DraftDelay)) → most ≡ length text → found ≡ [] → delays ≡ []
+      → IsGathering (read (many (transition e0)) text) (transition e0) transition_first parted (found, delays) (most - 0) text
+  transitions_go most found delays e f g =
+      record {
+        found = [];
+        going = many_goes (transition e0) transition_first (transition_is e0 (expression_is 0)).begins text most [] e refl;
+        is = ap (λ l. (l, delays)) f ∙ ap (λ l. ([], l)) g;
+      }

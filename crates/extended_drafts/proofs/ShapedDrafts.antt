@@ -1,0 +1,241 @@
+-- What the grammar of extended charts gives of each draft.
+use Rattle.std.proofs.Common.{◌≡◌, ◌≢◌, ℕ, zero, suc, ◌+◌, Bool, List, [], ◌∷◌, ◌++◌, Option, length, map, refl, sym, ◌∙◌, ap}
+use Rattle.std.proofs.lemmas.List.{length-append}
+use Rattle.grammar.proofs.Each.{Every, every_at, every_map, each_seq, each_either, each_many, each_made, each_barred, each_as}
+use Rattle.sc_text.specs.declared.language.Language.TheVariants as language
+use Rattle.sc_text.specs.Phrases.{Phrase}
+use Rattle.sc_text.specs.Expression.{expression}
+use Rattle.sc_text.proofs.WellTokens.{tokens_well}
+use Rattle.sc_text.proofs.EachPart.{each_after, each_before}
+use Rattle.sc_text.proofs.WritablePhrases.{CanWrite, expression_writes}
+use Rattle.drafts.specs.declared.parts.Named.{Named}
+use Rattle.chart_drafts.specs.declared.draft.DraftTransition.{DraftTransition}
+use Rattle.chart_drafts.specs.declared.draft.DraftRegion.{DraftRegion}
+use Rattle.chart_drafts.specs.declared.draft.DraftRegion.TheViews.{out-roll-DraftRegion, out-roll-DraftState}
+use Rattle.chart_drafts.specs.declared.draft.DraftRegion.TheFolds.{fold_out-DraftRegion, fold_out-DraftState}
+use Rattle.chart_drafts.specs.declared.draft.DraftState.{DraftState}
+use Rattle.chart_drafts.specs.Draft.{state_of, region_of}
+use Rattle.chart_drafts.specs.ChartText.{Grows}
+use Rattle.chart_drafts.specs.Shape.{IsTransitionShaped, IsStateShaped, IsRegionShaped, AreRegionsShaped}
+use Rattle.chart_drafts.proofs.ShapedDrafts.{EachChart, IsNamed, each_any, name_kept, of_it, trigger_kept, deed_kept, moment_kept, termination_kept}
+use Rattle.chart_drafts.proofs.ShapedDrafts.{listed_kept, none_shaped, state_shaped, region_shaped, first_there}
+use Rattle.extended_drafts.specs.declared.draft.DraftEntry.{DraftEntry}
+use Rattle.extended_drafts.specs.declared.draft.DraftDelay.{DraftDelay}
+use Rattle.extended_drafts.specs.declared.draft.Rows.{Rows}
+use Rattle.extended_drafts.specs.declared.draft.StateBody.{StateBody}
+use Rattle.extended_drafts.specs.declared.draft.ExtendedDraft.{ExtendedDraft}
+use Rattle.extended_drafts.specs.Draft.{item_of, all_rows, gathered, parted, body_of, state_with, region_with, draft_of}
+use Rattle.extended_drafts.specs.ExtendedText.{item, undelayed, tested, transition, transitions, leaving, Inner, NoMore, Nested, rowed, bare, nested, inside}
+use Rattle.extended_drafts.specs.ExtendedText.{acting, body, state, region, within, parts, extended, extended_text}
+use Rattle.extended_drafts.specs.Reading.{IsExtendedDraft}
+use Rattle.extended_drafts.specs.Shape.{total, in_states, state_count, transition_count, states_in_region, states_in_state, transitions_in_region}
+use Rattle.extended_drafts.specs.Shape.{transitions_in_state, IsExtendedShaped}
+
+-- ---- parts with rows beside them
+
+-- the rows are as many as is counted
+abbrev Fit : {A : Type 0} → (A → ℕ) → (A → ℕ) → A → Rows → Type 0
+Fit f g x r = (length r.entries ≡ f x) × (length r.delays ≡ g x)
+
+abbrev AllFit : {A : Type 0} → (A → ℕ) → (A → ℕ) → List A → Rows → Type 0
+AllFit f g xs r = (length r.entries ≡ total (map f xs)) × (length r.delays ≡ total (map g xs))
+
+both_lengths : {X : Type 0} (xs ys : List X) (m n : ℕ) → length xs ≡ m → length ys ≡ n → length (xs ++ ys) ≡ m + n
+both_lengths xs ys m n e f = length-append xs ys ∙ ap (λ k. k + length ys) e ∙ ap (λ k. m + k) f
+
+module _ {A : Type 0} (f g : A → ℕ) where
+  gathered_fit : (xs : List (A × Rows)) → Every (λ x. Fit f g x.0 x.1) xs → AllFit f g (map (λ x. x.0) xs) (all_rows (map (λ x. x.1) xs))
+  gathered_fit [] e = (refl, refl)
+  gathered_fit (x ∷ xs) e =
+      let rest = gathered_fit xs e.1 in
+      (both_lengths x.1.entries _ _ _ e.0.0 rest.0, both_lengths x.1.delays _ _ _ e.0.1 rest.1)
+
+  module _ (P : A → Type 0) where
+    firsts : (xs : List (A × Rows)) → Every (λ x. P x.0 × Fit f g x.0 x.1) xs → Every (λ x. P x.0) xs
+    firsts [] e = tt
+    firsts (x ∷ xs) e = (e.0.0, firsts xs e.1)
+
+    seconds : (xs : List (A × Rows)) → Every (λ x. P x.0 × Fit f g x.0 x.1) xs → Every (λ x. Fit f g x.0 x.1) xs
+    seconds [] e = tt
+    seconds (x ∷ xs) e = (e.0.1, seconds xs e.1)
+
+    abbrev Kept : A × Rows → Type 0
+    Kept x = P x.0 × Fit f g x.0 x.1
+
+    abbrev AllKept : List A × Rows → Type 0
+    AllKept x = Every P x.0 × AllFit f g x.0 x.1
+
+    all_kept : (xs : List (A × Rows)) → Every Kept xs → AllKept (gathered xs)
+    all_kept xs e = (every_map P (λ x. x.0) xs (firsts xs e), gathered_fit xs (seconds xs e))
+
+-- ---- transitions
+
+module _ (e : Grows Phrase) (w : EachChart e CanWrite) where
+  undelayed_kept : EachChart (undelayed e) (λ x. IsTransitionShaped x.0)
+  unfolding undelayed
+  undelayed_kept = each_made _ _ _ _ _ (λ x. IsTransitionShaped x.0) (termination_kept e w) (λ t h. h)
+
+  tested_kept : EachChart (tested e) (λ x. IsTransitionShaped x.0)
+  unfolding tested
+  tested_kept =
+      each_made _ _ _ _ _ (λ x. IsTransitionShaped x.0)
+      (each_seq _ _ _ _ _ _ (moment_kept e w) (each_seq _ _ _ _ _ _ (each_any _) (each_seq _ _ _ _ _ _ (trigger_kept e w) (deed_kept e w))))
+      (λ x h. record {
+        plain_join = λ j. absurd (h.0 j);
+        trigger = of_it e w x.1.1.0 h.1.1.0;
+        effects = every_at _ x.1.1.1.0 h.1.1.1;
+      })
+
+  same_length : {A B : Type 0} (xs : List (A × B)) → length (map (λ x. x.1) xs) ≡ length (map (λ x. x.0) xs)
+  same_length [] = refl
+  same_length (x ∷ xs) = ap suc (same_length xs)
+
+  abbrev WaysKept : List DraftTransition × List (Option DraftDelay) → Type 0
+  WaysKept x = Every IsTransitionShaped x.0 × (length x.1 ≡ length x.0)
+
+  leaving_kept : EachChart (leaving e) WaysKept
+  unfolding leaving transitions transition
+  leaving_kept =
+      each_before _ _ _
+      (each_made _ _ parted _ _ WaysKept (each_many _ _ _ (each_either _ _ _ _ undelayed_kept tested_kept))
+      (λ xs h. (every_map IsTransitionShaped (λ x. x.0) xs h, same_length xs)))
+
+  -- ---- states and regions
+
+  abbrev RegionKept : ℕ → DraftRegion × Rows → Type 0
+  RegionKept n = Kept states_in_region transitions_in_region (IsRegionShaped (AreRegionsShaped n))
+
+  abbrev StateKept : ℕ → DraftState × Rows → Type 0
+  StateKept n = Kept states_in_state transitions_in_state (IsStateShaped (AreRegionsShaped n))
+
+  -- what is in a state
+  abbrev BodyKept : ℕ → StateBody → Type 0
+  BodyKept n b =
+      AreRegionsShaped n b.regions × AllFit states_in_region transitions_in_region b.regions b.rows × WaysKept (b.transitions, b.delays)
+
+  data Fits : ℕ → Inner → Type 1 where
+    none_more : Fits zero NoMore
+    in_more : (n : ℕ) (r : Grows (DraftRegion × Rows)) → EachChart r (RegionKept n) → Fits (suc n) (Nested r)
+
+  bare_kept : (n : ℕ) → EachChart (bare e) (BodyKept n)
+  unfolding bare
+  bare_kept n = each_made _ _ _ _ _ (BodyKept n) leaving_kept (λ ts h. (none_shaped e w n, (refl, refl), h))
+
+  rowed_kept : {A : Type 0} (f g : A → ℕ) (P : A → Type 0) (r : Grows (A × Rows)) → EachChart r (Kept f g P) → EachChart (rowed r) (AllKept f g P)
+  rowed_kept f g P r k = each_made _ _ gathered _ _ (AllKept f g P) (listed_kept e w r r (Kept f g P) k k) (all_kept f g P)
+
+  inside_kept : (n : ℕ) (i : Inner) → Fits n i → EachChart (inside e i) (BodyKept n)
+  unfolding inside nested
+  inside_kept n i none_more = each_barred _ _ _ _ (bare_kept zero)
+  inside_kept n i (in_more m r a) =
+      each_either _ _ _ _
+      (each_made _ _ (λ x. body_of x.0 x.1) _ _ (BodyKept (suc m))
+      (each_seq _ _ _ _ _ _ (rowed_kept states_in_region transitions_in_region (IsRegionShaped (AreRegionsShaped m)) r a) leaving_kept)
+      (λ x h. (every_at _ x.0.0 h.0.0, h.0.1, h.1)))
+      (bare_kept (suc m))
+
+  body_kept : (n : ℕ) (i : Inner) → Fits n i → EachChart (body e i) (λ x. BodyKept n x.1)
+  unfolding body acting
+  body_kept n i f =
+      each_either _ _ _ _ (each_made _ _ _ _ _ (λ x. BodyKept n x.1) (each_any _) (λ t h. (none_shaped e w n, (refl, refl), (tt, refl))))
+      (each_after _ _ _
+      (each_as _ _ _ (λ x. BodyKept n x.1) (each_seq _ _ _ _ _ _ (each_any _) (inside_kept n i f)) (λ x h. h.1)))
+
+  state_fits : (n : ℕ) (is_initial is_final : Bool) (called : Named) (own : List DraftEntry) (b : StateBody) → IsNamed called → BodyKept n b
+      → StateKept n (state_with is_initial is_final called (own, b))
+  state_fits n is_initial is_final called own b h k =
+      let s : DraftState = state_of is_initial is_final called (b.regions, b.transitions) in
+      let is =
+      out-roll-DraftState (record { is_initial = is_initial; is_final = is_final; named = called; regions = b.regions; transitions = b.transitions }) in
+      let states : states_in_state s ≡ suc (total (map states_in_region b.regions)) =
+      fold_out-DraftState ℕ ℕ in_states state_count s ∙ ap (λ o. suc (total (map states_in_region o.regions))) is in
+      let ways : transitions_in_state s ≡ total (map transitions_in_region b.regions) + length b.transitions =
+      fold_out-DraftState ℕ ℕ in_states transition_count s ∙ ap (λ o. total (map transitions_in_region o.regions) + length o.transitions) is in (
+        state_shaped e w n is_initial is_final called (b.regions, b.transitions) h (k.0, k.2.0),
+        (ap suc k.1.0 ∙ sym states, both_lengths b.rows.delays b.delays _ _ k.1.1 k.2.1 ∙ sym ways),
+      )
+
+  state_kept : (n : ℕ) (i : Inner) → Fits n i → EachChart (state e i) (StateKept n)
+  unfolding state
+  state_kept n i f =
+      each_made _ _ (λ x. state_with x.0 x.1.0 x.1.1.0 x.1.1.1) _ _ (StateKept n)
+      (each_seq _ _ _ _ _ _ (each_any _)
+      (each_seq _ _ _ _ _ _ (each_any _) (each_seq _ _ _ _ _ _ (each_after _ _ _ name_kept) (body_kept n i f))))
+      (λ x h. state_fits n x.0 x.1.0 x.1.1.0 x.1.1.1.0 x.1.1.1.1 h.1.1.0 h.1.1.1)
+
+  region_fits : (n : ℕ) (called : Named) (x : List DraftState × Rows) → IsNamed called
+      → AllKept states_in_state transitions_in_state (IsStateShaped (AreRegionsShaped n)) x → RegionKept n (region_with called x)
+  region_fits n called x h k =
+      let r : DraftRegion = region_of called x.0 in
+      let is = out-roll-DraftRegion (record { named = called; states = x.0 }) in
+      let states : states_in_region r ≡ total (map states_in_state x.0) =
+      fold_out-DraftRegion ℕ ℕ in_states state_count r ∙ ap (λ o. total (map states_in_state o.states)) is in
+      let ways : transitions_in_region r ≡ total (map transitions_in_state x.0) =
+      fold_out-DraftRegion ℕ ℕ in_states transition_count r ∙ ap (λ o. total (map transitions_in_state o.states)) is in
+      (region_shaped e w n called x.0 h k.0, (k.1.0 ∙ sym states, k.1.1 ∙ sym ways))
+
+  region_kept : (n : ℕ) (i : Inner) → Fits n i → EachChart (region e i) (RegionKept n)
+  unfolding region
+  region_kept n i f =
+      each_made _ _ (λ x. region_with x.0 x.1) _ _ (RegionKept n)
+      (each_seq _ _ _ _ _ _ (each_after _ _ _ name_kept)
+      (each_after _ _ _
+      (each_before _ _ _
+      (rowed_kept states_in_state transitions_in_state (IsStateShaped (AreRegionsShaped n)) (state e i) (state_kept n i f)))))
+      (λ x h. region_fits n x.0 x.1 h.0 h.1)
+
+  within_fits : (n : ℕ) → Fits n (within e n)
+  unfolding within
+  within_fits zero = none_more
+  within_fits (suc n) = in_more n _ (region_kept n (within e n) (within_fits n))
+
+  -- ---- whole extended charts
+
+  item_kept : EachChart (item e) (λ x. IsNamed x.declared.named)
+  unfolding item
+  item_kept =
+      each_made _ _ (λ x. item_of x.0 x.1.0 x.1.1.0 x.1.1.1) _ _ (λ x. IsNamed x.declared.named)
+      (each_seq _ _ _ _ _ _ (each_any _) (each_seq _ _ _ _ _ _ (each_any _) (each_seq _ _ _ _ _ _ name_kept (each_any _)))) (λ x h. h.1.1.0)
+
+  abbrev RegionsKept : List DraftRegion × Rows → Type 0
+  RegionsKept x = (x.0 ≢ []) × AllKept states_in_region transitions_in_region (IsRegionShaped (AreRegionsShaped 31)) x
+
+  regions_kept : EachChart (rowed (region e (within e 31))) RegionsKept
+  regions_kept =
+      let kept = region_kept 31 (within e 31) (within_fits 31) in
+      each_made _ _ gathered _ _ RegionsKept
+      (each_made _ _ (λ x. x.0 ∷ x.1) _ _ (λ xs. (xs ≢ []) × Every (RegionKept 31) xs) (each_seq _ _ _ _ _ _ kept (each_many _ _ _ kept))
+      (λ x h. (first_there e w x.0 x.1, (h.0, h.1))))
+      (λ xs h. (some_there xs h.0, all_kept states_in_region transitions_in_region (IsRegionShaped (AreRegionsShaped 31)) xs h.1))
+    where
+      some_there : (xs : List (DraftRegion × Rows)) → xs ≢ [] → map (λ x. x.0) xs ≢ []
+      some_there [] n = absurd (n refl)
+      some_there (x ∷ xs) n = λ same. cc
+
+  extended_kept : EachChart (extended e (within e 31)) IsExtendedShaped
+  unfolding extended parts
+  extended_kept =
+      each_made _ _ (λ x. draft_of x.0 x.1.0 x.1.1) _ _ IsExtendedShaped
+      (each_seq _ _ _ _ _ _ (each_any _)
+      (each_seq _ _ _ _ _ _ (each_after _ _ _ name_kept)
+      (each_after _ _ _ (each_before _ _ _ (each_seq _ _ _ _ _ _ (each_many _ _ _ item_kept) regions_kept)))))
+      (λ x h. record {
+        core =
+            record {
+              named = h.1.0;
+              declared = every_at (λ d. IsNamed d.named) (map (λ i. i.declared) x.1.1.0) (every_map (λ d. IsNamed d.named) (λ i. i.declared) x.1.1.0 h.1.1.0);
+              some_region = h.1.1.1.0;
+              regions = every_at (IsRegionShaped (AreRegionsShaped 31)) x.1.1.1.0 h.1.1.1.1.0;
+            };
+        items = refl;
+        entries = h.1.1.1.1.1.0;
+        delays = h.1.1.1.1.1.1;
+      })
+
+text_kept : EachChart (extended_text 0) IsExtendedShaped
+unfolding extended_text
+text_kept = extended_kept (expression 0) (expression_writes language.Chart 0)
+
+-- the draft of each text keeps what the grammar gives
+pub draft_is_shaped : (text : List ℕ) (d : ExtendedDraft) → IsExtendedDraft text d → IsExtendedShaped d
+draft_is_shaped text d h = text_kept.holds h.tokens d (tokens_well language.Chart 0 text h.tokens h.cut) h.spelled

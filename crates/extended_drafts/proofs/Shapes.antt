@@ -1,0 +1,216 @@
+-- At each choice of the grammar of extended charts the next token decides.
+use Rattle.std.proofs.Common.{ℕ, zero, suc, ◌+◌, true, false, [], ◌∷◌, refl}
+use Rattle.grammar.specs.Grammar.{either}
+use Rattle.grammar.proofs.Shaped.{Shaped, shaped_one, shaped_seq, shaped_either, shaped_maybe, shaped_many, shaped_made, shaped_barred}
+use Rattle.sc_text.specs.declared.word.Word.TheVariants as word
+use Rattle.sc_text.specs.declared.sign.Sign.TheVariants as sign
+use Rattle.sc_text.specs.Classes.{AName, TheWord, TheSign}
+use Rattle.sc_text.specs.Phrases.{Phrase}
+use Rattle.sc_text.specs.Expression.{expression}
+use Rattle.sc_text.proofs.Shapes.{expression_tails, expression_is}
+use Rattle.chart_drafts.specs.declared.draft.DraftRegion.{DraftRegion}
+use Rattle.chart_drafts.specs.ChartText.{Grows, the_word, the_sign, roles, tested_words, transition_first, state_first, some_effects}
+use Rattle.chart_drafts.proofs.Shapes.{IsExpression, leaving_first, name_is, flag_is, placed_is, effect_is, next_effect_is, trigger_is, deed_is, termination_is}
+use Rattle.extended_drafts.specs.declared.draft.Rows.{Rows}
+use Rattle.extended_drafts.specs.ExtendedText.{plain_head, item_head, item_first, item_value, last_value, item, last_effects, entry, some_delay, at_once}
+use Rattle.extended_drafts.specs.ExtendedText.{waiting, pause, pause_first, tested, undelayed}
+use Rattle.extended_drafts.specs.ExtendedText.{transition, transitions, leaving, Inner, NoMore, Nested, rowed, bare, nested, inside, simple, acting, body}
+use Rattle.extended_drafts.specs.ExtendedText.{state}
+use Rattle.extended_drafts.specs.ExtendedText.{region, within, parts, extended, extended_text}
+
+abbrev pub IsRegion : Grows (DraftRegion × Rows) → Type 0
+IsRegion r = Shaped r false (the_word word.Region) []
+
+pub data Fits : Inner → Type 1 where
+  nothing : Fits NoMore
+  in_more : (r : Grows (DraftRegion × Rows)) → IsRegion r → Fits (Nested r)
+
+-- ---- items
+
+pub plain_head_is : Shaped plain_head false roles []
+plain_head_is = shaped_made _ _ _ _ _ _ _ (shaped_made _ _ _ _ _ _ _ (shaped_one _ refl))
+
+item_head_is : Shaped item_head false item_first []
+unfolding item_head
+item_head_is = shaped_either _ _ _ _ _ _ _ plain_head_is (shaped_made _ _ _ _ _ _ _ name_is) refl
+
+pub at_once_is : Shaped at_once false (the_word word.Immediate) []
+unfolding at_once
+at_once_is = shaped_made _ _ _ _ _ _ _ (shaped_one _ refl)
+
+module _ (e : Grows Phrase) (h : IsExpression e) where
+  value_is : Shaped (item_value e) true (the_sign sign.Becomes) (TheSign sign.Becomes ∷ expression_tails)
+  unfolding item_value
+  value_is =
+      shaped_maybe _ _ _ _ (shaped_made _ _ _ _ _ _ _ (shaped_seq _ _ _ _ _ _ _ _ _ _ (shaped_one _ refl) (placed_is e h) refl))
+
+  last_value_is : Shaped (last_value e) false (TheSign sign.Becomes ∷ TheSign sign.Semicolon ∷ []) []
+  unfolding last_value
+  last_value_is = shaped_made _ _ _ _ _ _ _ (shaped_seq _ _ _ _ _ _ _ _ _ _ value_is (shaped_one _ refl) refl)
+
+  pub item_is : Shaped (item e) false item_first []
+  unfolding item
+  item_is =
+      shaped_made _ _ _ _ _ _ _
+      (shaped_seq _ _ _ _ _ _ _ _ _ _ item_head_is
+      (shaped_seq _ _ _ _ _ _ _ _ _ _ (shaped_made _ _ _ _ _ _ _ (shaped_one _ refl))
+      (shaped_seq _ _ _ _ _ _ _ _ _ _ name_is last_value_is refl)
+      refl)
+      refl)
+
+  -- ---- entry actions and transitions
+
+  some_effects_are : Shaped (some_effects e) false (AName ∷ []) (TheSign sign.Comma ∷ expression_tails)
+  unfolding some_effects
+  some_effects_are =
+      shaped_made _ _ _ _ _ _ _
+      (shaped_seq _ _ _ _ _ _ _ _ _ _ (effect_is e h) (shaped_many _ _ _ _ (next_effect_is e h) refl) refl)
+
+  pub entry_is : Shaped (entry e) false (AName ∷ []) []
+  unfolding entry last_effects
+  entry_is =
+      shaped_made _ _ _ _ _ _ _
+      (shaped_seq _ _ _ _ _ _ _ _ _ _ name_is
+      (shaped_made _ _ _ _ _ _ _
+      (shaped_seq _ _ _ _ _ _ _ _ _ _ (shaped_one _ refl)
+      (shaped_made _ _ _ _ _ _ _ (shaped_seq _ _ _ _ _ _ _ _ _ _ some_effects_are (shaped_one _ refl) refl))
+      refl))
+      refl)
+
+  pub some_delay_is : Shaped (some_delay e) false (AName ∷ []) expression_tails
+  unfolding some_delay
+  some_delay_is = shaped_made _ _ _ _ _ _ _ (shaped_seq _ _ _ _ _ _ _ _ _ _ name_is (placed_is e h) refl)
+
+  pub either_is : Shaped (either at_once (waiting e)) false pause_first expression_tails
+  unfolding at_once waiting
+  either_is = shaped_either _ _ _ _ _ _ _ at_once_is (shaped_made _ _ _ _ _ _ _ some_delay_is) refl
+
+  pause_is : Shaped (pause e) true pause_first (TheWord word.Immediate ∷ AName ∷ expression_tails)
+  unfolding pause
+  pause_is = shaped_made _ _ _ _ _ _ _ (shaped_maybe _ _ _ _ either_is)
+
+  tested_is : Shaped (tested e) false tested_words []
+  unfolding tested
+  tested_is =
+      shaped_made _ _ _ _ _ _ _
+      (shaped_seq _ _ _ _ _ _ _ _ _ _ (shaped_made _ _ _ _ _ _ _ (shaped_one _ refl))
+      (shaped_seq _ _ _ _ _ _ _ _ _ _ pause_is
+      (shaped_seq _ _ _ _ _ _ _ _ _ _ (trigger_is e h) (deed_is e h) refl)
+      refl)
+      refl)
+
+  pub undelayed_is : Shaped (undelayed e) false (the_word word.Join) []
+  unfolding undelayed
+  undelayed_is = shaped_made _ _ _ _ _ _ _ (termination_is e h)
+
+  pub transition_is : Shaped (transition e) false transition_first []
+  unfolding transition
+  transition_is = shaped_either _ _ _ _ _ _ _ undelayed_is tested_is refl
+
+  leaving_is : Shaped (leaving e) false leaving_first []
+  unfolding leaving transitions
+  leaving_is =
+      shaped_made _ _ _ _ _ _ _
+      (shaped_seq _ _ _ _ _ _ _ _ _ _ (shaped_made _ _ _ _ _ _ _ (shaped_many _ _ _ _ transition_is refl)) (shaped_one _ refl) refl)
+
+  -- ---- states and regions
+
+  bare_is : Shaped (bare e) false leaving_first []
+  unfolding bare
+  bare_is = shaped_made _ _ _ _ _ _ _ leaving_is
+
+  pub nested_is : (r : Grows (DraftRegion × Rows)) → IsRegion r → Shaped (nested e r) false (the_word word.Region) []
+  unfolding nested
+  nested_is r i =
+      shaped_made _ _ _ _ _ _ _
+      (shaped_seq _ _ _ _ _ _ _ _ _ _
+      (shaped_made _ _ _ _ _ _ _
+      (shaped_made _ _ _ _ _ _ _ (shaped_seq _ _ _ _ _ _ _ _ _ _ i (shaped_many _ _ _ _ i refl) refl)))
+      leaving_is refl)
+
+  inside_is : (inner : Inner) → Fits inner → Shaped (inside e inner) false (TheWord word.Region ∷ leaving_first) []
+  unfolding inside
+  inside_is NoMore nothing = shaped_barred _ _ _ _ _ bare_is refl
+  inside_is (Nested a) (in_more r i) = shaped_either _ _ _ _ _ _ _ (nested_is r i) bare_is refl
+
+  acting_is : (inner : Inner) → Fits inner → Shaped (acting e inner) false (AName ∷ TheWord word.Region ∷ leaving_first) []
+  unfolding acting
+  acting_is inner f = shaped_seq _ _ _ _ _ _ _ _ _ _ (shaped_many _ _ _ _ entry_is refl) (inside_is inner f) refl
+
+  simple_is : Shaped simple false (the_sign sign.Semicolon) []
+  simple_is = shaped_made _ _ _ _ _ _ _ (shaped_one _ refl)
+
+  body_is : (inner : Inner) → Fits inner → Shaped (body e inner) false (TheSign sign.Semicolon ∷ TheSign sign.OpenBrace ∷ []) []
+  unfolding body
+  body_is inner f =
+      shaped_either _ _ _ _ _ _ _ simple_is
+      (shaped_made _ _ _ _ _ _ _ (shaped_seq _ _ _ _ _ _ _ _ _ _ (shaped_one _ refl) (acting_is inner f) refl))
+      refl
+
+  pub state_is : (inner : Inner) → Fits inner → Shaped (state e inner) false state_first []
+  unfolding state
+  state_is inner f =
+      shaped_made _ _ _ _ _ _ _
+      (shaped_seq _ _ _ _ _ _ _ _ _ _ (flag_is word.Initial)
+      (shaped_seq _ _ _ _ _ _ _ _ _ _ (flag_is word.Final)
+      (shaped_seq _ _ _ _ _ _ _ _ _ _
+      (shaped_made _ _ _ _ _ _ _ (shaped_seq _ _ _ _ _ _ _ _ _ _ (shaped_one _ refl) name_is refl))
+      (body_is inner f) refl)
+      refl)
+      refl)
+
+  states_are : (inner : Inner) → Fits inner → Shaped (rowed (state e inner)) false state_first state_first
+  states_are inner f =
+      shaped_made _ _ _ _ _ _ _
+      (shaped_made _ _ _ _ _ _ _
+      (shaped_seq _ _ _ _ _ _ _ _ _ _ (state_is inner f) (shaped_many _ _ _ _ (state_is inner f) refl) refl))
+
+  pub region_is : (inner : Inner) → Fits inner → IsRegion (region e inner)
+  unfolding region
+  region_is inner f =
+      shaped_made _ _ _ _ _ _ _
+      (shaped_seq _ _ _ _ _ _ _ _ _ _
+      (shaped_made _ _ _ _ _ _ _ (shaped_seq _ _ _ _ _ _ _ _ _ _ (shaped_one _ refl) name_is refl))
+      (shaped_made _ _ _ _ _ _ _
+      (shaped_seq _ _ _ _ _ _ _ _ _ _ (shaped_one _ refl)
+      (shaped_made _ _ _ _ _ _ _
+      (shaped_seq _ _ _ _ _ _ _ _ _ _ (states_are inner f) (shaped_one _ refl) refl))
+      refl))
+      refl)
+
+  pub within_fits : (n : ℕ) → Fits (within e n)
+  unfolding within
+  within_fits zero = nothing
+  within_fits (suc n) = in_more _ (region_is (within e n) (within_fits n))
+
+  -- ---- charts
+
+  parts_are : (inner : Inner) → Fits inner → Shaped (parts e inner) false
+      (TheWord word.Input ∷ TheWord word.Output ∷ TheWord word.Local ∷ AName ∷ TheWord word.Region ∷ []) (the_word word.Region)
+  unfolding parts
+  parts_are inner f =
+      let i = region_is inner f in
+      shaped_seq _ _ _ _ _ _ _ _ _ _ (shaped_many _ _ _ _ item_is refl)
+      (shaped_made _ _ _ _ _ _ _
+      (shaped_made _ _ _ _ _ _ _ (shaped_seq _ _ _ _ _ _ _ _ _ _ i (shaped_many _ _ _ _ i refl) refl)))
+      refl
+
+  extended_is : (inner : Inner) → Fits inner → Shaped (extended e inner) false (AName ∷ []) []
+  unfolding extended
+  extended_is inner f =
+      shaped_made _ _ _ _ _ _ _
+      (shaped_seq _ _ _ _ _ _ _ _ _ _ name_is
+      (shaped_seq _ _ _ _ _ _ _ _ _ _
+      (shaped_made _ _ _ _ _ _ _ (shaped_seq _ _ _ _ _ _ _ _ _ _ (shaped_one _ refl) name_is refl))
+      (shaped_made _ _ _ _ _ _ _
+      (shaped_seq _ _ _ _ _ _ _ _ _ _ (shaped_one _ refl)
+      (shaped_made _ _ _ _ _ _ _
+      (shaped_seq _ _ _ _ _ _ _ _ _ _ (parts_are inner f) (shaped_one _ refl) refl))
+      refl))
+      refl)
+      refl)
+
+pub extended_text_is : (k : ℕ) → Shaped (extended_text k) false (AName ∷ []) []
+unfolding extended_text
+extended_text_is k =
+    extended_is (expression k) (expression_is k) (within (expression k) (31 + k)) (within_fits (expression k) (expression_is k) (31 + k))

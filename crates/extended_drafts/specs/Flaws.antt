@@ -1,0 +1,160 @@
+-- What is wrong with a draft of an extended chart: the flaws of the chart without what is new, and those of what is new,
+-- each with its place. A word and an item stand at their names, an expression at its first byte.
+use Rattle.std.specs.Prelude.{ℕ, nat_eq, Bool, true, false, not, ◌&&◌, ◌||◌, Option, Some, None, List, [], ◌∷◌, ◌++◌, map, codes, if◌then◌else◌}
+use Rattle.std.specs.Str.{bytes_eq}
+use Rattle.sc_values.specs.declared.value.Value.TheVariants as value
+use Rattle.sc_values.specs.declared.value.Kind.{Kind}
+use Rattle.sc_values.specs.declared.value.Kind.TheVariants as kind
+use Rattle.sc_values.specs.declared.operator.UnaryOperator.TheVariants as unary
+use Rattle.sc_text.specs.declared.operation.TextOperation.{TextOperation}
+use Rattle.sc_text.specs.declared.operation.TextOperation.TheVariants as text
+use Rattle.sc_text.specs.declared.read_fault.FaultKind.TheVariants as broken
+use Rattle.sc_text.specs.Phrases.{Phrase}
+use Rattle.drafts.specs.declared.flaw.Flaw.{Flaw}
+use Rattle.drafts.specs.declared.parts.Named.{Named}
+use Rattle.drafts.specs.declared.parts.TextExpression.{TextExpression}
+use Rattle.drafts.specs.declared.parts.Declaration.{Declaration}
+use Rattle.drafts.specs.Flaws.{flaw_if, expression_flaws, is_input, is_load}
+use Rattle.chart_drafts.specs.declared.draft.DraftRegion.{DraftRegion}
+use Rattle.chart_drafts.specs.declared.draft.DraftRegion.TheOpen.{DraftRegion-F, DraftState-F}
+use Rattle.chart_drafts.specs.declared.draft.DraftRegion.TheFolds.{fold-DraftRegion, fold-DraftState}
+use Rattle.chart_drafts.specs.declared.draft.DraftState.{DraftState}
+use Rattle.chart_drafts.specs.Flaws.{chart_flaws, effect_flaws}
+use Rattle.extended_drafts.specs.declared.draft.DraftItem.{DraftItem}
+use Rattle.extended_drafts.specs.declared.draft.DraftEntry.{DraftEntry}
+use Rattle.extended_drafts.specs.declared.draft.DraftDelay.{DraftDelay}
+use Rattle.extended_drafts.specs.declared.draft.ExtendedDraft.{ExtendedDraft}
+
+-- the flaws of some parts, one part behind the other
+abbrev pub joined : List (List Flaw) → List Flaw
+joined [] = []
+joined (f ∷ flaws) = f ++ joined flaws
+
+-- another word is meant
+abbrev pub word_flaws : (meant : List ℕ) → Named → List Flaw
+word_flaws meant word = flaw_if (not (bytes_eq word.name meant)) broken.Grammar word.at
+
+-- ---- items
+
+-- the variables of the text: neither constants nor what variables were
+abbrev pub plain_one : Option Named → Declaration → List Declaration
+plain_one None x = x ∷ []
+plain_one (Some word) x = []
+
+abbrev pub plain_variables : List DraftItem → List Declaration
+plain_variables [] = []
+plain_variables (x ∷ items) = plain_one x.word x.declared ++ plain_variables items
+
+abbrev pub is_truth : TextOperation → Bool
+is_truth (text.Literal (value.Bool b)) = true
+is_truth o = false
+
+abbrev pub is_number : TextOperation → Bool
+is_number (text.Literal (value.Int n)) = true
+is_number o = false
+
+abbrev pub is_minus : TextOperation → Bool
+is_minus (text.Unary unary.Negate) = true
+is_minus o = false
+
+-- a literal of this kind; a number may stand under a minus
+abbrev pub is_literal_of : Kind → Phrase → Bool
+is_literal_of kind.Bool (o ∷ []) = is_truth o
+is_literal_of kind.Int (o ∷ []) = is_number o
+is_literal_of kind.Int (o ∷ m ∷ []) = is_number o && is_minus m
+is_literal_of k p = false
+
+abbrev pub literal_flaws : Kind → TextExpression → List Flaw
+literal_flaws k e = flaw_if (not (is_literal_of k e.operations)) broken.Kind e.start
+
+-- the value of a variable: an input has none
+abbrev pub initial_flaws : Declaration → Option TextExpression → List Flaw
+initial_flaws x None = []
+initial_flaws x (Some e) = if is_input x.role then flaw_if true broken.Rule x.named.at else literal_flaws x.kind e
+
+abbrev pub constant_flaws : Declaration → Option TextExpression → List Flaw
+constant_flaws x None = flaw_if true broken.Rule x.named.at
+constant_flaws x (Some e) = literal_flaws x.kind e
+
+abbrev pub is_name : Phrase → Bool
+is_name (o ∷ []) = is_load o
+is_name p = false
+
+-- what a variable was is named by the variable, which is of the same kind
+abbrev pub before_flaws : List Declaration → Declaration → Option TextExpression → List Flaw
+before_flaws variables x None = flaw_if true broken.Rule x.named.at
+before_flaws variables x (Some e) =
+    if is_name e.operations then expression_flaws variables (Some x.kind) e else flaw_if true broken.Kind e.start
+
+abbrev pub worded_flaws : List Declaration → Named → Declaration → Option TextExpression → List Flaw
+worded_flaws variables word x e =
+    if bytes_eq word.name (codes "const") then constant_flaws x e
+    else (if bytes_eq word.name (codes "pre") then before_flaws variables x e else flaw_if true broken.Grammar word.at)
+
+abbrev pub headed_flaws : List Declaration → Option Named → Declaration → Option TextExpression → List Flaw
+headed_flaws variables None x e = initial_flaws x e
+headed_flaws variables (Some word) x e = worded_flaws variables word x e
+
+abbrev pub item_flaws : List Declaration → DraftItem → List Flaw
+item_flaws variables x = headed_flaws variables x.word x.declared x.value
+
+-- ---- entry and exit actions, and delays
+
+-- the word before an action tells whether it is made when its state is entered or when it is left
+abbrev pub action_word_flaws : Named → List Flaw
+action_word_flaws word =
+    flaw_if (not (bytes_eq word.name (codes "entry") || bytes_eq word.name (codes "exit"))) broken.Grammar word.at
+
+abbrev pub entry_flaws : List Declaration → DraftEntry → List Flaw
+entry_flaws variables e = action_word_flaws e.word ++ effect_flaws variables 0 e.effects
+
+abbrev pub entries_flaws : List Declaration → List DraftEntry → List Flaw
+entries_flaws variables entries = joined (map (entry_flaws variables) entries)
+
+abbrev pub delay_flaws : List Declaration → Option DraftDelay → List Flaw
+delay_flaws variables None = []
+delay_flaws variables (Some d) = word_flaws (codes "after") d.word ++ expression_flaws variables (Some kind.Int) d.ticks
+
+-- ---- names: two underscores inside are of names that reductions make
+
+abbrev pub is_underscore : ℕ → Bool
+is_underscore byte = nat_eq byte 95
+
+-- two of them stand side by side, or one stands first, where one stood before
+abbrev pub is_doubled : Bool → List ℕ → Bool
+is_doubled before [] = false
+is_doubled before (b ∷ bytes) = (before && is_underscore b) || is_doubled (is_underscore b) bytes
+
+abbrev pub name_flaws : Named → List Flaw
+name_flaws n = flaw_if (is_doubled false n.name) broken.Token n.at
+
+abbrev pub state_step : DraftState-F (List Flaw) (List Flaw) → List Flaw
+state_step s = name_flaws s.named ++ joined s.regions
+
+abbrev pub region_step : DraftRegion-F (List Flaw) (List Flaw) → List Flaw
+region_step r = name_flaws r.named ++ joined r.states
+
+-- the names of a region, or of a state, and of all that is in it
+abbrev pub region_name_flaws : DraftRegion → List Flaw
+region_name_flaws = fold-DraftRegion (List Flaw) (List Flaw) region_step state_step
+
+abbrev pub state_name_flaws : DraftState → List Flaw
+state_name_flaws = fold-DraftState (List Flaw) (List Flaw) region_step state_step
+
+abbrev pub variable_name_flaws : List Declaration → List Flaw
+variable_name_flaws variables = joined (map (λ x. name_flaws x.named) variables)
+
+-- ---- whole drafts
+
+-- what is wrong with what is new, by the variables of the core
+abbrev pub new_flaws : ExtendedDraft → List Flaw
+new_flaws d =
+    word_flaws (codes "extended") d.word
+    ++ (joined (map (item_flaws (plain_variables d.items)) d.items)
+    ++ (joined (map (entries_flaws d.core.variables) d.rows.entries)
+    ++ (joined (map (delay_flaws d.core.variables) d.rows.delays)
+    ++ (variable_name_flaws d.core.variables
+    ++ joined (map region_name_flaws d.core.regions)))))
+
+abbrev pub extended_flaws : ExtendedDraft → List Flaw
+extended_flaws d = chart_flaws d.core ++ new_flaws d

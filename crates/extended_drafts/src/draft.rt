@@ -1,0 +1,55 @@
+//! What a text of an extended chart spells: a draft of a chart without what is new, and what is new beside it.
+
+use chart_drafts::{DraftChart, DraftEffect, DraftRegion, DraftTransition};
+use drafts::{Declaration, Named, TextExpression};
+use sqlite_items::Items;
+
+/// A variable, or what stands among variables behind a word that charts don't have: an input of the chart then. Its
+/// value, where it has one.
+#[derive(Debug, Drop)]
+pub struct DraftItem {
+    pub declared: Declaration,
+    pub word: Option<Named>,
+    pub value: Option<TextExpression>,
+}
+
+/// What is done at each entry of a state, and the word before it.
+#[derive(Debug, Drop)]
+pub struct DraftEntry {
+    pub word: Named,
+    pub effects: Items<DraftEffect>,
+}
+
+/// How many ticks a transition waits, and the word before them.
+#[derive(Debug, Drop)]
+pub struct DraftDelay {
+    pub word: Named,
+    pub ticks: TextExpression,
+}
+
+/// What is new in states and transitions: a row of entry actions for each state, in the order in which states begin in
+/// the text, and what each transition waits, in the order of the text.
+#[derive(Debug, Drop)]
+pub struct Rows {
+    pub entries: Items<Items<DraftEntry>>,
+    pub delays: Items<Option<DraftDelay>>,
+}
+
+/// What is in a state behind its entry actions: its regions with their rows, its transitions, and what they wait.
+#[derive(Debug, Drop)]
+pub struct StateBody {
+    pub regions: Items<DraftRegion>,
+    pub rows: Rows,
+    pub transitions: Items<DraftTransition>,
+    pub delays: Items<Option<DraftDelay>>,
+}
+
+/// An extended chart: the word before `chart`, the chart without what is new, an item for each of its variables, and
+/// the rows of its states and transitions.
+#[derive(Debug, Drop)]
+pub struct ExtendedDraft {
+    pub word: Named,
+    pub core: DraftChart,
+    pub items: Items<DraftItem>,
+    pub rows: Rows,
+}

@@ -1,0 +1,82 @@
+//! Reading the entry actions of a state.
+
+ghost use Rattle.std.specs.Prelude.{MatchResult};
+ghost use Rattle.grammar.specs.Grammar.{many};
+ghost use Rattle.grammar.specs.Read.{read};
+ghost use Rattle.sc_text.specs.Expression.{after, expression};
+ghost use Rattle.sc_text.specs.Reading.{Stops};
+ghost use Rattle.chart_drafts.specs.ChartText.{the_word};
+ghost use Rattle.chart_drafts.specs.Phrase.{Gives};
+ghost use Rattle.extended_drafts.specs.ExtendedText.{last_effects, entry};
+
+use crate::draft::DraftEntry;
+use crate::words::name_follows;
+use chart_drafts::DraftEffect;
+use chart_drafts::text_parts::{Ahead, name, skip_sign, skip_word, some_effects};
+use sc_text::{ReadFault, Sign, Word};
+use sqlite_items::Items;
+use std::alloc::Global;
+
+/// The entry actions of a state.
+#[tactic(auto, using(crate::proofs::Pieces::entries_go, chart_drafts::proofs::RowReading::going_ends, chart_drafts::proofs::RowReading::going_over, chart_drafts::proofs::RowReading::going_stops, chart_drafts::proofs::RowReading::going_on))]
+pub(crate) fn entries(
+    alloc: Global,
+    ahead: &mut Ahead,
+    end: usize,
+) -> Result<Items<DraftEntry>, ReadFault>
+    ensures { MatchResult result
+        (λ x. Gives (read (many (entry (expression 0))) ahead.old.tokens.now) x ahead.new.tokens.now)
+        (λ fault. Stops end (read (many (entry (expression 0))) ahead.old.tokens.now) fault) }
+{
+    let mut found = Items::new(alloc);
+    let most = ahead.tokens.len();
+    for used in 0..most {
+        if !name_follows(ahead.tokens) {
+            return Ok(found);
+        }
+        let next = entry(alloc, ahead, end)?;
+        found.push(next)?;
+    }
+    Ok(found)
+}
+
+#[tactic(auto, using(crate::proofs::Pieces::entry_gives, chart_drafts::proofs::Parts::made_stops, chart_drafts::proofs::Parts::seq_stops_first, chart_drafts::proofs::Parts::seq_stops_second), unfolding(crate::specs::ExtendedText::entry))]
+fn entry(alloc: Global, ahead: &mut Ahead, end: usize) -> Result<DraftEntry, ReadFault>
+    ensures { MatchResult result
+        (λ x. Gives (read (entry (expression 0)) ahead.old.tokens.now) x ahead.new.tokens.now)
+        (λ fault. Stops end (read (entry (expression 0)) ahead.old.tokens.now) fault) }
+{
+    let word = name(ahead, end)?;
+    let effects = deeds(alloc, ahead, end)?;
+    Ok(DraftEntry { word, effects })
+}
+
+// The word `do`, and what is done.
+#[tactic(auto, using(chart_drafts::proofs::Parts::after_stops_first, chart_drafts::proofs::Parts::after_stops_second, chart_drafts::proofs::Parts::after_gives))]
+fn deeds(alloc: Global, ahead: &mut Ahead, end: usize) -> Result<Items<DraftEffect>, ReadFault>
+    ensures { MatchResult result
+        (λ x. Gives (read (after (the_word Word.Do) (last_effects (expression 0))) ahead.old.tokens.now) x
+        ahead.new.tokens.now)
+        (λ fault. Stops end (read (after (the_word Word.Do) (last_effects
+        (expression 0))) ahead.old.tokens.now) fault) }
+{
+    skip_word(ahead, end, Word::Do)?;
+    let effects = last_effects(alloc, ahead, end)?;
+    Ok(effects)
+}
+
+// What is done, and the semicolon behind it.
+#[tactic(auto, using(chart_drafts::proofs::Parts::before_stops_first, chart_drafts::proofs::Parts::before_stops_second, chart_drafts::proofs::Parts::before_gives), unfolding(crate::specs::ExtendedText::last_effects))]
+fn last_effects(
+    alloc: Global,
+    ahead: &mut Ahead,
+    end: usize,
+) -> Result<Items<DraftEffect>, ReadFault>
+    ensures { MatchResult result
+        (λ x. Gives (read (last_effects (expression 0)) ahead.old.tokens.now) x ahead.new.tokens.now)
+        (λ fault. Stops end (read (last_effects (expression 0)) ahead.old.tokens.now) fault) }
+{
+    let effects = some_effects(alloc, ahead, end)?;
+    skip_sign(ahead, end, Sign::Semicolon)?;
+    Ok(effects)
+}

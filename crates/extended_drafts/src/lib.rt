@@ -1,0 +1,21 @@
+//! Reading extended chart text: a draft of a chart, and what is new beside it.
+#![tactic(auto)]
+
+mod checked;
+mod draft;
+mod entries;
+mod item_flaws;
+mod items;
+mod laws;
+mod name_flaws;
+mod regions;
+mod row_flaws;
+mod rows;
+mod transitions;
+mod whole;
+mod words;
+
+pub use checked::{extended_told_flaws, read_checked_extended};
+pub use draft::{DraftDelay, DraftEntry, DraftItem, ExtendedDraft, Rows, StateBody};
+pub use laws::{extended_drafts_are_shaped, extended_texts_are_told};
+pub use whole::read_extended_draft;

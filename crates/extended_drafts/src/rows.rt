@@ -1,0 +1,97 @@
+//! Rows of what is new in states and transitions.
+
+ghost use Rattle.std.specs.Prelude.{◌≡◌, [], ◌∷◌, ◌++◌, IfOk, OnOk};
+ghost use Rattle.extended_drafts.specs.Draft.{no_rows, both_rows, body_of, state_with};
+
+use crate::draft::{DraftDelay, DraftEntry, Rows, StateBody};
+use chart_drafts::DraftState;
+use drafts::Named;
+use sqlite_items::Items;
+use std::alloc::{AllocError, Global};
+
+impl Rows {
+    /// No rows.
+    pub(crate) fn new(alloc: Global) -> Rows
+        ensures { result ≡ no_rows }
+    {
+        Rows {
+            entries: Items::new(alloc),
+            delays: Items::new(alloc),
+        }
+    }
+
+    /// Moves these rows behind the others. Err: memory was refused.
+    pub(crate) fn append(&mut self, more: Rows) -> Result<(), AllocError>
+        ensures { OnOk result (self.new ≡ both_rows self.old more) }
+    {
+        let Rows { entries, delays } = more;
+        self.entries.append(entries)?;
+        self.delays.append(delays)
+    }
+}
+
+impl StateBody {
+    /// Nothing is in a state.
+    pub(crate) fn new(alloc: Global) -> StateBody
+        ensures { result ≡ body_of ([], no_rows) ([], []) }
+    {
+        StateBody {
+            regions: Items::new(alloc),
+            rows: Rows::new(alloc),
+            transitions: Items::new(alloc),
+            delays: Items::new(alloc),
+        }
+    }
+}
+
+/// A state and its rows: its own entry actions, and what is in it. Err: memory was refused.
+pub(crate) fn state_with(
+    alloc: Global,
+    is_initial: bool,
+    is_final: bool,
+    named: Named,
+    body: (Items<DraftEntry>, StateBody),
+) -> Result<(DraftState, Rows), AllocError>
+    ensures { IfOk result (λ state. state ≡ state_with is_initial is_final named body) }
+{
+    let (own, inside) = body;
+    let StateBody {
+        regions,
+        rows,
+        transitions,
+        delays,
+    } = inside;
+    let rows = with_own(alloc, own, rows, delays)?;
+    let state = DraftState {
+        is_initial,
+        is_final,
+        named,
+        regions,
+        transitions,
+    };
+    Ok((state, rows))
+}
+
+// The rows of what is in a state, behind its own entry actions, with what its transitions wait.
+fn with_own(
+    alloc: Global,
+    own: Items<DraftEntry>,
+    inside: Rows,
+    waits: Items<Option<DraftDelay>>,
+) -> Result<Rows, AllocError>
+    ensures { IfOk result (λ rows. rows ≡
+        record { entries = own ∷ inside.entries; delays = inside.delays ++ waits }) }
+{
+    let Rows {
+        entries: inner,
+        delays: mut all,
+    } = inside;
+    let mut entries = Items::new(alloc);
+    entries.push(own)?;
+    entries.append(inner)?;
+    all.append(waits)?;
+    Ok(Rows {
+        entries,
+        delays: all,
+    })
+}

@@ -1,0 +1,157 @@
+//! Reading transitions with what they wait.
+
+ghost use Rattle.std.specs.Prelude.{◌≡◌, MatchResult};
+ghost use Rattle.grammar.specs.Read.{read, starts};
+ghost use Rattle.sc_text.specs.Expression.{text_tokens, expression};
+ghost use Rattle.sc_text.specs.Reading.{Stops};
+ghost use Rattle.chart_drafts.specs.ChartText.{transition_first};
+ghost use Rattle.chart_drafts.specs.Phrase.{Gives};
+ghost use Rattle.extended_drafts.specs.ExtendedText.{some_delay, pause, tested, undelayed, transition, transitions};
+ghost use Rattle.extended_drafts.specs.ExtendedText.{leaving};
+
+use crate::draft::DraftDelay;
+use crate::words::name_follows;
+use chart_drafts::DraftTransition;
+use chart_drafts::text_parts::{
+    Ahead, deed, name, placed, skip_sign, termination, tested_word, tested_word_follows, trigger,
+};
+use sc_text::ahead::{behind, word_follows};
+use sc_text::{ReadFault, Sign, Token, Word};
+use sqlite_items::Items;
+use std::alloc::Global;
+
+#[tactic(auto, using(crate::proofs::Pieces::some_delay_gives, chart_drafts::proofs::Parts::made_stops, chart_drafts::proofs::Parts::seq_stops_first, chart_drafts::proofs::Parts::seq_stops_second), unfolding(crate::specs::ExtendedText::some_delay))]
+fn some_delay(alloc: Global, ahead: &mut Ahead, end: usize) -> Result<DraftDelay, ReadFault>
+    ensures { MatchResult result
+        (λ x. Gives (read (some_delay (expression 0)) ahead.old.tokens.now) x ahead.new.tokens.now)
+        (λ fault. Stops end (read (some_delay (expression 0)) ahead.old.tokens.now) fault) }
+{
+    let word = name(ahead, end)?;
+    let ticks = placed(alloc, ahead, end)?;
+    Ok(DraftDelay { word, ticks })
+}
+
+// Whether a transition is tested at once, and what it waits.
+#[tactic(auto, using(crate::proofs::Pieces::at_once_gives, crate::proofs::Pieces::pause_missing, crate::proofs::Pieces::waiting_gives, crate::proofs::Pieces::waiting_stops))]
+fn pause(
+    alloc: Global,
+    ahead: &mut Ahead,
+    end: usize,
+) -> Result<(bool, Option<DraftDelay>), ReadFault>
+    ensures { MatchResult result
+        (λ x. Gives (read (pause (expression 0)) ahead.old.tokens.now) x ahead.new.tokens.now)
+        (λ fault. Stops end (read (pause (expression 0)) ahead.old.tokens.now) fault) }
+{
+    if word_follows(ahead.tokens, Word::Immediate) {
+        ahead.tokens = behind(ahead.tokens);
+        return Ok((true, None));
+    }
+    if !name_follows(ahead.tokens) {
+        return Ok((false, None));
+    }
+    let delay = some_delay(alloc, ahead, end)?;
+    Ok((false, Some(delay)))
+}
+
+#[tactic(auto, using(crate::proofs::Pieces::tested_made, chart_drafts::proofs::Parts::made_stops, chart_drafts::proofs::Parts::seq_stops_first, chart_drafts::proofs::Parts::seq_stops_second), unfolding(crate::specs::ExtendedText::tested))]
+fn tested(
+    alloc: Global,
+    ahead: &mut Ahead,
+    end: usize,
+) -> Result<(DraftTransition, Option<DraftDelay>), ReadFault>
+    ensures { MatchResult result
+        (λ x. Gives (read (tested (expression 0)) ahead.old.tokens.now) x ahead.new.tokens.now)
+        (λ fault. Stops end (read (tested (expression 0)) ahead.old.tokens.now) fault) }
+{
+    let (kind, at) = tested_word(ahead, end)?;
+    let (immediate, delay) = pause(alloc, ahead, end)?;
+    let trigger = trigger(alloc, ahead, end)?;
+    let (effects, target) = deed(alloc, ahead, end)?;
+    let transition = DraftTransition {
+        kind,
+        at,
+        immediate,
+        trigger,
+        effects,
+        target,
+    };
+    Ok((transition, delay))
+}
+
+#[tactic(auto, using(crate::proofs::Pieces::undelayed_made, chart_drafts::proofs::Parts::made_stops), unfolding(crate::specs::ExtendedText::undelayed))]
+fn undelayed(
+    alloc: Global,
+    ahead: &mut Ahead,
+    end: usize,
+) -> Result<(DraftTransition, Option<DraftDelay>), ReadFault>
+    ensures { MatchResult result
+        (λ x. Gives (read (undelayed (expression 0)) ahead.old.tokens.now) x ahead.new.tokens.now)
+        (λ fault. Stops end (read (undelayed (expression 0)) ahead.old.tokens.now) fault) }
+{
+    let ends = termination(alloc, ahead, end)?;
+    Ok((ends, None))
+}
+
+#[tactic(auto, using(crate::proofs::Pieces::undelayed_stops, crate::proofs::Pieces::undelayed_gives, crate::proofs::Pieces::tested_stops, crate::proofs::Pieces::tested_gives))]
+fn transition(
+    alloc: Global,
+    ahead: &mut Ahead,
+    end: usize,
+) -> Result<(DraftTransition, Option<DraftDelay>), ReadFault>
+    ensures { MatchResult result
+        (λ x. Gives (read (transition (expression 0)) ahead.old.tokens.now) x ahead.new.tokens.now)
+        (λ fault. Stops end (read (transition (expression 0)) ahead.old.tokens.now) fault) }
+{
+    if word_follows(ahead.tokens, Word::Join) {
+        let ends = undelayed(alloc, ahead, end)?;
+        return Ok(ends);
+    }
+    let leads = tested(alloc, ahead, end)?;
+    Ok(leads)
+}
+
+// Whether a transition is next.
+fn transition_follows(tokens: &[Token]) -> bool
+    ensures { result ≡ starts text_tokens transition_first tokens.now }
+{
+    word_follows(tokens, Word::Join) || tested_word_follows(tokens)
+}
+
+fn transitions(
+    alloc: Global,
+    ahead: &mut Ahead,
+    end: usize,
+) -> Result<(Items<DraftTransition>, Items<Option<DraftDelay>>), ReadFault>
+    ensures { MatchResult result
+        (λ x. Gives (read (transitions (expression 0)) ahead.old.tokens.now) x ahead.new.tokens.now)
+        (λ fault. Stops end (read (transitions (expression 0)) ahead.old.tokens.now) fault) }
+{
+    let mut found = Items::new(alloc);
+    let mut delays = Items::new(alloc);
+    let most = ahead.tokens.len();
+    for used in 0..most {
+        if !transition_follows(ahead.tokens) {
+            return Ok((found, delays));
+        }
+        let (next, delay) = transition(alloc, ahead, end)?;
+        found.push(next)?;
+        delays.push(delay)?;
+    }
+    Ok((found, delays))
+}
+
+/// The transitions of a state with what they wait, up to the brace that closes it.
+#[tactic(auto, using(chart_drafts::proofs::Parts::before_stops_first, chart_drafts::proofs::Parts::before_stops_second, chart_drafts::proofs::Parts::before_gives), unfolding(crate::specs::ExtendedText::leaving))]
+pub(crate) fn leaving(
+    alloc: Global,
+    ahead: &mut Ahead,
+    end: usize,
+) -> Result<(Items<DraftTransition>, Items<Option<DraftDelay>>), ReadFault>
+    ensures { MatchResult result
+        (λ x. Gives (read (leaving (expression 0)) ahead.old.tokens.now) x ahead.new.tokens.now)
+        (λ fault. Stops end (read (leaving (expression 0)) ahead.old.tokens.now) fault) }
+{
+    let (transitions, delays) = transitions(alloc, ahead, end)?;
+    skip_sign(ahead, end, Sign::CloseBrace)?;
+    Ok((transitions, delays))
+}

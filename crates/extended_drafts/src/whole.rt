@@ -1,0 +1,143 @@
+//! Reading a whole extended chart.
+
+ghost use Rattle.std.specs.Prelude.{◌≡◌, [], IfOk, IfErr, MatchResult};
+ghost use Rattle.grammar.specs.Grammar.{seq};
+ghost use Rattle.grammar.specs.Read.{read, read_all};
+ghost use Rattle.sc_text.specs.Expression.{after, expression};
+ghost use Rattle.sc_text.specs.Reading.{Stops};
+ghost use Rattle.chart_drafts.specs.ChartText.{the_word, name, braced};
+ghost use Rattle.chart_drafts.specs.Phrase.{Gives};
+ghost use Rattle.extended_drafts.specs.Draft.{draft_of};
+ghost use Rattle.extended_drafts.specs.ExtendedText.{parts, within, extended_text};
+ghost use Rattle.extended_drafts.specs.Reading.{IsExtendedDraft, IsDraftFault};
+
+use crate::draft::{DraftItem, ExtendedDraft, Rows};
+use crate::items::{declarations, items};
+use crate::regions::regions;
+use chart_drafts::text_parts::{Ahead, name, skip_sign, title};
+use chart_drafts::{DraftChart, DraftRegion};
+use drafts::Named;
+use sc_text::ahead::wrong;
+use sc_text::{Language, ReadFault, Sign, Token, Word, tokens};
+use sqlite_items::Items;
+use std::alloc::{AllocError, Global};
+
+/// The levels of regions that may stand inside a region of the chart.
+pub(crate) const INNER_LEVELS: u8 = 31;
+
+/// The draft of a text of an extended chart: what its tokens spell by the grammar. Err: the first place where no token
+/// of charts stands; else the first token that can't go on, or with which only extended charts go on that are nested
+/// too deep, or the end of the text, where none may end; or memory was refused.
+#[tactic(auto, using(crate::proofs::Drafting::scanned, crate::proofs::Drafting::drafted, crate::proofs::Drafting::stopped))]
+pub fn read_extended_draft(alloc: Global, text: &str) -> Result<ExtendedDraft, ReadFault>
+    ensures ok { IfOk result (λ draft. IsExtendedDraft text.now draft) }
+    ensures fault { IfErr result (λ fault. IsDraftFault text.now fault) }
+{
+    let tokens = tokens(alloc, Language::Chart, text)?;
+    let draft = whole(alloc, tokens.as_slice(), text.len())?;
+    Ok(draft)
+}
+
+// An extended chart that ends where the tokens do.
+#[tactic(auto, using(crate::proofs::Drafting::whole_gives, crate::proofs::Drafting::chart_stops, crate::proofs::Drafting::more_stops))]
+fn whole(alloc: Global, tokens: &[Token], end: usize) -> Result<ExtendedDraft, ReadFault>
+    ensures { MatchResult result
+        (λ draft. Gives (read_all (extended_text 0) tokens.now) draft [])
+        (λ fault. Stops end (read_all (extended_text 0) tokens.now) fault) }
+{
+    let mut ahead = Ahead { tokens };
+    let draft = extended(alloc, &mut ahead, end)?;
+    if !ahead.tokens.is_empty() {
+        return Err(wrong(ahead.tokens, end));
+    }
+    Ok(draft)
+}
+
+#[tactic(auto, using(crate::proofs::Nesting::extended_gives, crate::proofs::Nesting::word_stops, crate::proofs::Nesting::chart_stops))]
+fn extended(alloc: Global, ahead: &mut Ahead, end: usize) -> Result<ExtendedDraft, ReadFault>
+    ensures { MatchResult result
+        (λ x. Gives (read (extended_text 0) ahead.old.tokens.now) x ahead.new.tokens.now)
+        (λ fault. Stops end (read (extended_text 0) ahead.old.tokens.now) fault) }
+{
+    let word = name(ahead, end)?;
+    let (named, parts) = chart(alloc, ahead, end)?;
+    let draft = draft_of(alloc, word, named, parts)?;
+    Ok(draft)
+}
+
+// The chart behind its first word: its name, and its parts in braces.
+#[tactic(auto, using(chart_drafts::proofs::Parts::seq_stops_first, chart_drafts::proofs::Parts::seq_stops_second, chart_drafts::proofs::Parts::seq_gives))]
+fn chart(
+    alloc: Global,
+    ahead: &mut Ahead,
+    end: usize,
+) -> Result<(Named, (Items<DraftItem>, (Items<DraftRegion>, Rows))), ReadFault>
+    ensures { MatchResult result
+        (λ x. Gives (read (seq (after (the_word Word.Chart) name) (braced (parts (expression 0)
+        (within (expression 0) 31)))) ahead.old.tokens.now) x ahead.new.tokens.now)
+        (λ fault. Stops end (read (seq (after (the_word Word.Chart) name) (braced (parts (expression 0)
+        (within (expression 0) 31)))) ahead.old.tokens.now) fault) }
+{
+    let named = title(ahead, end, Word::Chart)?;
+    let parts = braced_parts(alloc, ahead, end)?;
+    Ok((named, parts))
+}
+
+#[tactic(auto, using(chart_drafts::proofs::Parts::after_stops_first, chart_drafts::proofs::Nesting::braced_stops_inside, chart_drafts::proofs::Nesting::braced_stops_last, chart_drafts::proofs::Nesting::braced_gives))]
+fn braced_parts(
+    alloc: Global,
+    ahead: &mut Ahead,
+    end: usize,
+) -> Result<(Items<DraftItem>, (Items<DraftRegion>, Rows)), ReadFault>
+    ensures { MatchResult result
+        (λ x. Gives (read (braced (parts (expression 0) (within (expression 0) 31)))
+        ahead.old.tokens.now) x ahead.new.tokens.now)
+        (λ fault. Stops end (read (braced (parts (expression 0) (within (expression 0) 31)))
+        ahead.old.tokens.now) fault) }
+{
+    skip_sign(ahead, end, Sign::OpenBrace)?;
+    let parts = parts(alloc, ahead, end)?;
+    skip_sign(ahead, end, Sign::CloseBrace)?;
+    Ok(parts)
+}
+
+#[tactic(auto, using(chart_drafts::proofs::Parts::seq_stops_first, chart_drafts::proofs::Parts::seq_stops_second, chart_drafts::proofs::Parts::seq_gives), unfolding(crate::specs::ExtendedText::parts))]
+fn parts(
+    alloc: Global,
+    ahead: &mut Ahead,
+    end: usize,
+) -> Result<(Items<DraftItem>, (Items<DraftRegion>, Rows)), ReadFault>
+    ensures { MatchResult result
+        (λ x. Gives (read (parts (expression 0) (within (expression 0) 31))
+        ahead.old.tokens.now) x ahead.new.tokens.now)
+        (λ fault. Stops end (read (parts (expression 0) (within (expression 0) 31)) ahead.old.tokens.now) fault) }
+{
+    let items = items(alloc, ahead, end)?;
+    let regions = regions(alloc, INNER_LEVELS, ahead, end)?;
+    Ok((items, regions))
+}
+
+// The draft of these parts. Err: memory was refused.
+fn draft_of(
+    alloc: Global,
+    word: Named,
+    named: Named,
+    parts: (Items<DraftItem>, (Items<DraftRegion>, Rows)),
+) -> Result<ExtendedDraft, AllocError>
+    ensures { IfOk result (λ draft. draft ≡ draft_of word named parts) }
+{
+    let (items, behind) = parts;
+    let (regions, rows) = behind;
+    let variables = declarations(alloc, items.as_slice())?;
+    let core = DraftChart {
+        named,
+        variables,
+        regions,
+    };
+    Ok(ExtendedDraft {
+        word,
+        core,
+        items,
+        rows,
+    })
+}
