@@ -1,6 +1,6 @@
 //! Reading an extended chart, and telling the flaws of its draft.
 
-ghost use Rattle.std.specs.Prelude.{◌≡◌, None, IfOk, IfErr, OnOk, slice_get};
+ghost use Rattle.std.specs.Prelude.{◌≡◌, None, IfOk, IfErr, OnOk};
 ghost use Rattle.drafts.specs.Told.{told_behind, told_of};
 ghost use Rattle.drafts.specs.Inside.{first_behind};
 ghost use Rattle.extended_drafts.specs.Flaws.{new_flaws, extended_flaws};
@@ -12,7 +12,7 @@ use crate::name_flaws::{regions_name_flaws, variable_name_flaws};
 use crate::row_flaws::{all_entries_flaws, delays_flaws};
 use crate::whole::read_extended_draft;
 use chart_drafts::told_flaws;
-use drafts::{Flaw, Scope};
+use drafts::{Flaw, Scope, first_told};
 use sc_text::ReadFault;
 use sqlite_items::Items;
 use std::alloc::{AllocError, Global};
@@ -31,21 +31,11 @@ pub fn read_checked_extended(alloc: Global, text: &str) -> Result<ExtendedDraft,
     }
 }
 
-#[tactic(auto, using(drafts::proofs::ToldInOrder::first_is))]
 fn first_flaw(alloc: Global, draft: &ExtendedDraft) -> Result<Option<Flaw>, AllocError>
     ensures { IfOk result (λ first. first ≡ first_behind None (extended_flaws draft.now)) }
 {
     let told = extended_told_flaws(alloc, draft)?;
-    Ok(first_of(told.as_slice()))
-}
-
-fn first_of(told: &[Flaw]) -> Option<Flaw>
-    ensures { result ≡ slice_get told.now 0 }
-{
-    match told {
-        [] => None,
-        [first, ..] => Some(*first),
-    }
+    Ok(first_told(told.as_slice()))
 }
 
 /// The flaws of a draft of an extended chart that are told: the first twenty, in the order of the text. Err: memory was
