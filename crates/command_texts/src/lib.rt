@@ -1,5 +1,5 @@
 //! The texts that single commands write to the output: the summary of an image, its listing, its line of JSON, a core
-//! chart, a drawing; and the bytes of images.
+//! chart, the chart of an extended one, a drawing; and the bytes of images.
 #![tactic(auto)]
 
 mod draw;
@@ -8,6 +8,7 @@ mod json;
 mod list;
 mod list_places;
 mod print_core;
+mod print_reduced;
 mod summary;
 mod wanted;
 

@@ -11,6 +11,7 @@ use crate::json::{json_in, json_with_states};
 use crate::list::listing_in;
 use crate::list_places::places_in;
 use crate::print_core::core_in;
+use crate::print_reduced::reduced_in;
 use crate::summary::summary_in;
 use command_files::{Files, LoadFault};
 use command_words::Wanted;
@@ -31,6 +32,7 @@ pub fn made_for<F: Files>(
     match wanted {
         Wanted::Summary(name) => summary_in(alloc, name, files),
         Wanted::Core(name) => core_in(alloc, name, files),
+        Wanted::Reduced(name) => reduced_in(alloc, name, files),
         Wanted::Nodes(name) => listing_in(alloc, name, files),
         Wanted::Places(name, source) => places_in(alloc, name, source, files),
         Wanted::Json(name) => json_in(alloc, name, files),

@@ -13,6 +13,7 @@ use Rattle.command_words.specs.declared.arguments.Wanted.TheVariants as wanted
 pub data Wanted : Type 0 where
   Summary : (name : List ℕ) → Wanted
   Core : (name : List ℕ) → Wanted
+  Reduced : (name : List ℕ) → Wanted
   Nodes : (name : List ℕ) → Wanted
   Places : (name source : List ℕ) → Wanted
   Json : (name : List ℕ) → Wanted
@@ -38,6 +39,7 @@ pub data Request : Type 0 where
 abbrev pub wanted_seen : WantedWords → Wanted
 wanted_seen (wanted.Summary name) = Summary name.now
 wanted_seen (wanted.Core name) = Core name.now
+wanted_seen (wanted.Reduced name) = Reduced name.now
 wanted_seen (wanted.Nodes name) = Nodes name.now
 wanted_seen (wanted.Places name source) = Places name.now source.now
 wanted_seen (wanted.Json name) = Json name.now
@@ -97,6 +99,7 @@ abbrev pub asked : List ℕ → Names → Option Request
 asked verb (One name) =
     if bytes_eq verb (codes "check") then Some (Write (Summary name))
     else if bytes_eq verb (codes "core") then Some (Write (Core name))
+    else if bytes_eq verb (codes "reduce") then Some (Write (Reduced name))
     else if bytes_eq verb (codes "dot") then Some (Write (Drawing name))
     else if bytes_eq verb (codes "scl") then Some (Print name)
     else if bytes_eq verb (codes "explain") then Some (Explain name)

@@ -26,6 +26,8 @@ pub enum Wanted<'a> {
     Summary(&'a str),
     /// The core chart of the chart in this file.
     Core(&'a str),
+    /// The chart to which the extended chart in this file is reduced.
+    Reduced(&'a str),
     /// The listing of the image in this file.
     Nodes(&'a str),
     /// The listing of the image in the first file, with the places of its nodes in the text of the second.
@@ -189,6 +191,7 @@ fn asked<'a>(verb: &str, names: Names<'a>) -> Option<Request<'a>>
     match names {
         Names::One(name) if verb == "check" => Some(Request::Write(Wanted::Summary(name))),
         Names::One(name) if verb == "core" => Some(Request::Write(Wanted::Core(name))),
+        Names::One(name) if verb == "reduce" => Some(Request::Write(Wanted::Reduced(name))),
         Names::One(name) if verb == "dot" => Some(Request::Write(Wanted::Drawing(name))),
         Names::One(name) if verb == "scl" => Some(Request::Print(name)),
         Names::One(name) if verb == "explain" => Some(Request::Explain(name)),

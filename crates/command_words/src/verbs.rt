@@ -10,6 +10,7 @@ enum Verb {
     Compile,
     Scl,
     Core,
+    Reduce,
     Explain,
     Dot,
     Test,
@@ -21,10 +22,11 @@ enum Verb {
 }
 
 // In the order of the help.
-const VERBS: [Verb; 11] = [
+const VERBS: [Verb; 12] = [
     Verb::Compile,
     Verb::Scl,
     Verb::Core,
+    Verb::Reduce,
     Verb::Explain,
     Verb::Dot,
     Verb::Test,
@@ -186,6 +188,22 @@ fn core_command<'a>(alloc: Global) -> Result<Command<'a>, AllocError> {
     )
 }
 
+// The command that prints what an extended chart is reduced to.
+fn reduce_command<'a>(alloc: Global) -> Result<Command<'a>, AllocError> {
+    over_one(
+        alloc,
+        "reduce",
+        "Prints the chart to which an extended chart is reduced",
+        "Example:\n  sct reduce examples/oven.extended > oven.chart",
+        file_name(
+            alloc,
+            "file",
+            "FILE",
+            "The file of the extended chart, or - for standard input",
+        ),
+    )
+}
+
 // The command that tells why a text has no image.
 fn explain_command<'a>(alloc: Global) -> Result<Command<'a>, AllocError> {
     over_one(
@@ -287,6 +305,7 @@ fn described<'a>(alloc: Global, verb: Verb) -> Result<Command<'a>, AllocError> {
         Verb::Compile => compile_command(alloc),
         Verb::Scl => scl_command(alloc),
         Verb::Core => core_command(alloc),
+        Verb::Reduce => reduce_command(alloc),
         Verb::Explain => explain_command(alloc),
         Verb::Dot => dot_command(alloc),
         Verb::Test => test_command(alloc),

@@ -1,6 +1,6 @@
-//! The core charts of charts, in text that is read again.
+//! Charts, and the core charts of charts, in text that is read again.
 #![tactic(auto)]
 
 mod texts;
 
-pub use texts::core_text;
+pub use texts::{core_text, text_that_spells};

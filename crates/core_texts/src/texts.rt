@@ -24,8 +24,9 @@ fn spells(alloc: Global, text: &str, chart: &Chart) -> Result<bool, AllocError>
     }
 }
 
-// The text of a chart, where it spells that chart.
-fn text_that_spells(alloc: Global, chart: &Chart) -> Result<Option<String>, AllocError>
+/// The text of a chart, laid out. It is read again before it is given, and spells that chart. None: it does not, so the
+/// chart breaks a rule of charts. Err: memory was refused.
+pub fn text_that_spells(alloc: Global, chart: &Chart) -> Result<Option<String>, AllocError>
     ensures { IfOk result (λ text. Spells chart.now (option_map string_bytes text)) }
 {
     let text = chart_text(alloc, chart)?;

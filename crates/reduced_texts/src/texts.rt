@@ -1,0 +1,22 @@
+//! The text of the chart to which an extended chart is reduced.
+
+ghost use Rattle.std.specs.Prelude.{IfOk, option_map, string_bytes};
+ghost use Rattle.reduced_texts.specs.ReducedText.{Answers};
+
+use core_texts::text_that_spells;
+use extended_charts::{ExtendedChart, ReduceFault, reduce};
+use std::alloc::{AllocError, Global};
+
+/// The text of the chart to which an extended chart is reduced. It is read again before it is given, and spells that
+/// chart. None: what it is reduced to breaks a rule or a limit of charts, or its text laid out does not spell it. Err:
+/// memory was refused.
+#[tactic(auto, using(crate::proofs::Spelling::is_answer))]
+pub fn reduced_text(alloc: Global, chart: &ExtendedChart) -> Result<Option<String>, AllocError>
+    ensures { IfOk result (λ text. Answers chart.now (option_map string_bytes text)) }
+{
+    match reduce(alloc, chart) {
+        Ok((made, _)) => text_that_spells(alloc, &made),
+        Err(ReduceFault::Limit) => Ok(None),
+        Err(ReduceFault::Memory) => Err(AllocError),
+    }
+}
