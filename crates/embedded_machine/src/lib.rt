@@ -23,4 +23,4 @@ pub use handles::MachineHandle;
 pub use machine::Machine;
 pub use opened::Opened;
 pub use rows::{VariableRow, names_of, put_rows};
-pub use states::States;
+pub use states::StateTable;

@@ -2,7 +2,7 @@
 
 ghost use Rattle.std.specs.Prelude.{◌≡◌};
 
-use crate::states::States;
+use crate::states::StateTable;
 use std::marker::Model;
 use verifier::Verified;
 
@@ -10,7 +10,7 @@ use verifier::Verified;
 #[derive(Drop)]
 pub struct Opened {
     verified: Verified,
-    states: States,
+    states: StateTable,
 }
 
 impl Model for Opened {
@@ -23,7 +23,7 @@ impl Model for Opened {
 
 impl Opened {
     /// An image and the states of its chart.
-    pub fn of(verified: Verified, states: States) -> Opened
+    pub fn of(verified: Verified, states: StateTable) -> Opened
         ensures { result ≡ record { image = verified; states = states } }
     {
         Opened { verified, states }
@@ -37,7 +37,7 @@ impl Opened {
     }
 
     /// The states of its chart.
-    pub fn states(&self) -> &States
+    pub fn states(&self) -> &StateTable
         ensures { result.now ≡ self.now.states }
     {
         &self.states

@@ -19,12 +19,12 @@ use std::marker::Model;
 /// For which state of a chart each node of its image stands, and the paths by which its states are named. States are
 /// numbered from 0 in the order of the text.
 #[derive(Drop)]
-pub struct States {
+pub struct StateTable {
     nodes: Items<Option<u32>>,
     paths: Vec<String>,
 }
 
-impl Model for States {
+impl Model for StateTable {
     ghost use Rattle.std.specs.Prelude.{map, string_bytes};
     ghost use Rattle.embedded_machine.specs.Opened.{ChartStates};
 
@@ -33,12 +33,12 @@ impl Model for States {
     ghost view = { λ s. record { nodes = s.nodes; paths = map string_bytes s.paths.items } };
 }
 
-impl States {
+impl StateTable {
     /// None, where there is no chart.
-    pub fn none(alloc: Global) -> States
+    pub fn none(alloc: Global) -> StateTable
         ensures { result ≡ no_states }
     {
-        States {
+        StateTable {
             nodes: Items::new(alloc),
             paths: Vec::new(alloc),
         }
@@ -46,14 +46,14 @@ impl States {
 
     /// Those of a chart. Err: it is not expanded, since its core chart has more variables than a program may; or
     /// memory was refused.
-    pub fn of_chart(alloc: Global, chart: &Chart) -> Result<States, ExpandFault>
+    pub fn of_chart(alloc: Global, chart: &Chart) -> Result<StateTable, ExpandFault>
         ensures nodes { IfOk result (λ s. s.nodes ≡ stands_for chart.now) }
         ensures paths { IfOk result (λ s. s.paths ≡ paths_of chart.now) }
     {
         let (core, map) = expand(alloc, chart)?;
         let nodes = stands_for(alloc, &core, &map)?;
         let paths = paths_of(alloc, chart)?;
-        Ok(States { nodes, paths })
+        Ok(StateTable { nodes, paths })
     }
 
     /// How many there are.

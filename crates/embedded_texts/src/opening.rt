@@ -10,7 +10,7 @@ use crate::images::verified_image;
 use chart_reader::read_chart;
 use command_files::{LoadFault, compile_bytes, text_of};
 use compiler::CompileFault;
-use embedded_machine::{Opened, States};
+use embedded_machine::{Opened, StateTable};
 use sc_text::{Language, language_of};
 use std::alloc::Global;
 
@@ -21,7 +21,7 @@ pub fn opened_image(alloc: Global, bytes: &[u8]) -> Result<Opened, LoadFault>
     ensures states { IfOk result (λ o. o.states ≡ no_states) }
 {
     let verified = verified_image(alloc, bytes)?;
-    Ok(Opened::of(verified, States::none(alloc)))
+    Ok(Opened::of(verified, StateTable::none(alloc)))
 }
 
 /// The image of the program, or of the chart, that this text spells, with the states of the chart. Err: it spells
@@ -37,24 +37,24 @@ pub fn opened_text(alloc: Global, bytes: &[u8]) -> Result<Opened, LoadFault>
 
 // The states of the chart that a text spells; none where it spells a program. Err: the first fault of the chart's
 // text, or why it is not expanded; or memory was refused.
-fn states_of(alloc: Global, text: &str) -> Result<States, LoadFault>
+fn states_of(alloc: Global, text: &str) -> Result<StateTable, LoadFault>
     ensures { IfOk result (AreStatesOf text.now) }
 {
     match language_of(text) {
         Language::Chart => states_in(alloc, text),
-        Language::Scl => Ok(States::none(alloc)),
+        Language::Scl => Ok(StateTable::none(alloc)),
     }
 }
 
 // The states of the chart that a text spells.
-fn states_in(alloc: Global, text: &str) -> Result<States, LoadFault>
+fn states_in(alloc: Global, text: &str) -> Result<StateTable, LoadFault>
     ensures { IfOk result (AreOfChart text.now) }
 {
     let chart = match read_chart(alloc, text) {
         Ok(chart) => chart,
         Err(fault) => return Err(LoadFault::Text(fault)),
     };
-    match States::of_chart(alloc, &chart) {
+    match StateTable::of_chart(alloc, &chart) {
         Ok(states) => Ok(states),
         Err(fault) => Err(LoadFault::Program(CompileFault::Expansion(fault))),
     }

@@ -7,13 +7,13 @@ use Rattle.command_files.specs.Images.{FileLacksImage, IsLoaded}
 use Rattle.line_causes.specs.declared.cause.Cause.{Cause}
 use Rattle.trace_player.specs.declared.player.PlayFault.{PlayFault}
 use Rattle.trace_player.specs.Trace.{Good}
-use Rattle.ruled_traces.specs.declared.place.Place.{Place}
+use Rattle.ruled_traces.specs.declared.place.RunPlace.{RunPlace}
 use Rattle.ruled_traces.specs.declared.rules.Rules.{Rules}
 use Rattle.ruled_traces.specs.Trace.{Leaves, Plays}
 use Rattle.ruled_runs.specs.Met.{IsMet}
 use Rattle.ruled_runs.specs.Places.{BeginsAt, HoldsNoPlace, IsKept, IsNotKept, IsUnread}
-use Rattle.ruled_runs.specs.declared.fault.RunFault.{RunFault}
-use Rattle.ruled_runs.specs.declared.fault.RunFault.TheVariants as fault
+use Rattle.ruled_runs.specs.declared.fault.RuledFault.{RuledFault}
+use Rattle.ruled_runs.specs.declared.fault.RuledFault.TheVariants as fault
 
 -- the whole trace of the input under these rules by the image in this file, from its place on, was written, and the place
 -- was kept where it ended
@@ -21,10 +21,10 @@ pub record RunsBy (rules : Rules) (files files' : Option Contents) (name : List 
     (input old new : Option (List ℕ)) : Type 0 where
   pub image : Image
   pub loaded : IsLoaded files name image
-  pub first : Place
+  pub first : RunPlace
   pub begins : BeginsAt files image.program from first
   pub out : List (List ℕ)
-  pub last : Place
+  pub last : RunPlace
   pub plays : Plays rules image first input old new out Good last
   pub kept : IsKept files files' save last
 
@@ -33,10 +33,10 @@ pub record LosesPlace (rules : Rules) (files : Option Contents) (name : List ℕ
     (f : LoadFault) : Type 0 where
   pub image : Image
   pub loaded : IsLoaded files name image
-  pub first : Place
+  pub first : RunPlace
   pub begins : BeginsAt files image.program from first
   pub out : List (List ℕ)
-  pub last : Place
+  pub last : RunPlace
   pub plays : Plays rules image first input old new out Good last
   pub lost : IsNotKept save f
 
@@ -51,14 +51,14 @@ pub record StopsAt (rules : Rules) (files : Option Contents) (name : List ℕ) (
     (f : PlayFault) (cause : Option Cause) : Type 0 where
   pub image : Image
   pub loaded : IsLoaded files name image
-  pub first : Place
+  pub first : RunPlace
   pub begins : BeginsAt files image.program from first
   pub leaves : Leaves rules image first input old new f
   pub met : IsMet rules.strict image.program.variables input f cause
 
 -- what a run leaves that is refused: no file changed, and nothing was written but what the player left
 abbrev pub RefusesRun : Rules → Option Contents → Option Contents → List ℕ → Option (List ℕ) → Option (List ℕ) → Option (List ℕ) → Option (List ℕ)
-    → Option (List ℕ) → RunFault → Type 0
+    → Option (List ℕ) → RuledFault → Type 0
 RefusesRun rules files files' name from save input old new (fault.Play f cause) = StopsAt rules files name from input old new f cause × (files' ≡ files)
 RefusesRun rules files files' name from save input old new (fault.Place shown) =
     LacksPlace files name from (string_bytes shown) × (files' ≡ files) × (new ≡ old)

@@ -7,6 +7,6 @@ mod places;
 mod playing;
 mod running;
 
-pub use fault::RunFault;
+pub use fault::RuledFault;
 pub use ruled_traces::Rules;
 pub use running::{RunFiles, run_by};

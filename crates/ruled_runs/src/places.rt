@@ -6,10 +6,10 @@ ghost use Rattle.sc_graph.specs.Tick.{Rests};
 ghost use Rattle.ruled_runs.specs.Failing.{files_failed};
 ghost use Rattle.ruled_runs.specs.Places.{BeginsIn, IsKept, IsNotKept, LacksPlaceIn};
 
-use crate::fault::RunFault;
+use crate::fault::RuledFault;
 use command_files::{Files, LoadFault, shown_name, store};
 use control_texts::{Saved, SavedFault, control_in, control_text};
-use ruled_traces::Place;
+use ruled_traces::RunPlace;
 use sc_graph::Program;
 use std::alloc::Global;
 
@@ -19,7 +19,7 @@ pub(crate) fn held_place(
     program: &Program,
     name: &str,
     bytes: &[u8],
-) -> Result<Place, RunFault>
+) -> Result<RunPlace, RuledFault>
     ensures begins { IfOk result (BeginsIn bytes.now) }
     ensures rests { IfOk result (λ place. Rests program.now place.control) }
     ensures lacks { IfErr result (LacksPlaceIn bytes.now program.now name.now) }
@@ -28,14 +28,14 @@ pub(crate) fn held_place(
     match control_in(alloc, program, bytes) {
         Ok(saved) => {
             let Saved { ticks, control } = saved;
-            Ok(Place {
+            Ok(RunPlace {
                 lines: 0,
                 ticks,
                 control,
             })
         }
-        Err(SavedFault::Memory) => Err(RunFault::Files(LoadFault::Memory)),
-        Err(SavedFault::Unfit) => Err(RunFault::Place(shown_name(alloc, name)?)),
+        Err(SavedFault::Memory) => Err(RuledFault::Files(LoadFault::Memory)),
+        Err(SavedFault::Unfit) => Err(RuledFault::Place(shown_name(alloc, name)?)),
     }
 }
 
@@ -44,7 +44,7 @@ fn store_place<F: Files>(
     alloc: Global,
     files: &mut F,
     name: &str,
-    place: &Place,
+    place: &RunPlace,
 ) -> Result<(), LoadFault>
     ensures kept { OnOk result (IsKept (F.contents files.old) (F.contents files.new) (Some name.now) place.now) }
     ensures fault { IfErr result (IsNotKept (Some name.now)) }
@@ -62,7 +62,7 @@ pub(crate) fn keep_place<F: Files>(
     alloc: Global,
     files: &mut F,
     save: Option<&str>,
-    place: &Place,
+    place: &RunPlace,
 ) -> Result<(), LoadFault>
     ensures kept { OnOk result (IsKept (F.contents files.old) (F.contents files.new)
         (option_map (λ name. name.now) save.entry) place.now) }

@@ -8,10 +8,10 @@ ghost use Rattle.ruled_traces.specs.Trace.{Plays};
 ghost use Rattle.ruled_runs.specs.Failing.{files_failed, reads_failed, writes_failed};
 ghost use Rattle.ruled_runs.specs.Inside.Held.{RefusesPlaying};
 
-use crate::fault::RunFault;
+use crate::fault::RuledFault;
 use crate::met::met;
 use line_causes::{Lent, OfInput, Recent};
-use ruled_traces::{Place, Rules, play_by};
+use ruled_traces::{Rules, RunPlace, play_by};
 use sc_values::{Sink, Source};
 use std::alloc::Global;
 use std::marker::Brand;
@@ -23,11 +23,11 @@ fn play_told<'a, R: Source, W: Sink, N: OfInput>(
     alloc: Global,
     image: &Verified,
     rules: Rules,
-    from: Place,
+    from: RunPlace,
     wanted: bool,
     input: &'a mut R,
     output: &mut W,
-) -> (Result<Place, RunFault>, &'a mut R)
+) -> (Result<RunPlace, RuledFault>, &'a mut R)
     requires rests { Rests image.now.program from.control }
     requires name { input.ghost_name ≡ N.name }
     requires start { R.to_come input.now ≡ N.start }
@@ -48,7 +48,7 @@ fn play_told<'a, R: Source, W: Sink, N: OfInput>(
     let mut recent: Recent<'a, R, N> = Recent::of(alloc, lent, wanted);
     let played = match play_by(alloc, image, rules, from, &mut recent, output) {
         Ok(last) => Ok(last),
-        Err(fault) => Err(RunFault::Play(fault, met(alloc, rules.strict, image, &recent, fault))),
+        Err(fault) => Err(RuledFault::Play(fault, met(alloc, rules.strict, image, &recent, fault))),
     };
     let Lent { source } = recent.lent();
     (played, source)
@@ -59,11 +59,11 @@ pub(crate) fn play_from<R: Source, W: Sink>(
     alloc: Global,
     image: &Verified,
     rules: Rules,
-    from: Place,
+    from: RunPlace,
     wanted: bool,
     input: &mut R,
     output: &mut W,
-) -> Result<Place, RunFault>
+) -> Result<RunPlace, RuledFault>
     requires rests { Rests image.now.program from.control }
     ensures done { IfOk result (λ last. (out : List (List ℕ)) × Plays rules image.now from
         (R.to_come input.old) (W.taken output.old) (W.taken output.new) out Good last) }

@@ -7,11 +7,11 @@ ghost use Rattle.ruled_runs.specs.Failing.{files_failed, reads_failed, writes_fa
 ghost use Rattle.ruled_runs.specs.Inside.Held.{PlaysAndKeeps, RefusesKeeping};
 ghost use Rattle.ruled_runs.specs.Runs.{RefusesRun, RunsBy};
 
-use crate::fault::RunFault;
+use crate::fault::RuledFault;
 use crate::places::{held_place, keep_place};
 use crate::playing::play_from;
 use command_files::{Files, bytes_of, load_verified};
-use ruled_traces::{Place, Rules};
+use ruled_traces::{Rules, RunPlace};
 use sc_values::{Sink, Source};
 use std::alloc::Global;
 use verifier::Verified;
@@ -33,13 +33,13 @@ fn play_and_keep<F: Files, R: Source, W: Sink>(
     alloc: Global,
     image: &Verified,
     rules: Rules,
-    first: Place,
+    first: RunPlace,
     save: Option<&str>,
     wanted: bool,
     files: &mut F,
     input: &mut R,
     output: &mut W,
-) -> Result<(), RunFault>
+) -> Result<(), RuledFault>
     requires rests { Rests image.now.program first.control }
     ensures done { OnOk result (PlaysAndKeeps rules image.now first (F.contents files.old) (F.contents files.new)
         (option_map (λ name. name.now) save.entry) (R.to_come input.old) (W.taken output.old) (W.taken output.new)) }
@@ -59,7 +59,7 @@ fn play_and_keep<F: Files, R: Source, W: Sink>(
     };
     match keep_place(alloc, files, save, &last) {
         Ok(()) => Ok(()),
-        Err(fault) => Err(RunFault::Files(fault)),
+        Err(fault) => Err(RuledFault::Files(fault)),
     }
 }
 
@@ -74,7 +74,7 @@ fn run_first<F: Files, R: Source, W: Sink>(
     files: &mut F,
     input: &mut R,
     output: &mut W,
-) -> Result<(), RunFault>
+) -> Result<(), RuledFault>
     ensures done { OnOk result (RunsBy rules (F.contents files.old) (F.contents files.new) name.now None
         (option_map (λ name. name.now) save.entry) (R.to_come input.old) (W.taken output.old) (W.taken output.new)) }
     ensures refused { IfErr result (RefusesRun rules (F.contents files.old) (F.contents files.new) name.now None
@@ -89,7 +89,7 @@ fn run_first<F: Files, R: Source, W: Sink>(
 {
     let image = load_verified(alloc, files, name)?;
     let image = image.get();
-    let first = Place::at_first(alloc, image.image().program())?;
+    let first = RunPlace::at_first(alloc, image.image().program())?;
     play_and_keep(
         alloc, image, rules, first, save, wanted, files, input, output,
     )
@@ -108,7 +108,7 @@ fn run_on<F: Files, R: Source, W: Sink>(
     files: &mut F,
     input: &mut R,
     output: &mut W,
-) -> Result<(), RunFault>
+) -> Result<(), RuledFault>
     ensures done { OnOk result (RunsBy rules (F.contents files.old) (F.contents files.new) name.now
         (Some from.now) (option_map (λ name. name.now) save.entry)
         (R.to_come input.old) (W.taken output.old) (W.taken output.new)) }
@@ -147,7 +147,7 @@ pub fn run_by<F: Files, R: Source, W: Sink>(
     files: &mut F,
     input: &mut R,
     output: &mut W,
-) -> Result<(), RunFault>
+) -> Result<(), RuledFault>
     ensures done { OnOk result (RunsBy rules (F.contents files.old) (F.contents files.new) names.entry.image.now
         (option_map (λ name. name.now) names.entry.from) (option_map (λ name. name.now) names.entry.save)
         (R.to_come input.old) (W.taken output.old) (W.taken output.new)) }

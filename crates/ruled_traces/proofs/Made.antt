@@ -8,11 +8,11 @@ use Rattle.trace_lines.specs.Output.{outputs_of, tick_line}
 use Rattle.trace_player.specs.Trace.{Reacts, Shows, next_number}
 use Rattle.ruled_traces.specs.Lines.{Gives}
 use Rattle.ruled_traces.specs.Trace.{Makes, MakesTick}
-use Rattle.ruled_traces.specs.declared.place.Place.{Place}
+use Rattle.ruled_traces.specs.declared.place.RunPlace.{RunPlace}
 use Rattle.ruled_traces.specs.declared.rules.Rules.{Rules}
 
 -- a line that gives inputs makes a tick
-pub makes_tick : (rules : Rules) (image : Image) (p : Program) (variables : List Variable) (at to : Place) (line : List ℕ) (inputs : Inputs) (steps : ℕ)
+pub makes_tick : (rules : Rules) (image : Image) (p : Program) (variables : List Variable) (at to : RunPlace) (line : List ℕ) (inputs : Inputs) (steps : ℕ)
     (shown : List ℕ)
     → p ≡ image.program → variables ≡ p.variables → to.lines ≡ next_number at.lines → to.ticks ≡ next_number at.ticks → Gives rules p line inputs
     → Reacts image inputs at.control to.control steps → shown ≡ tick_line to.ticks steps (outputs_of variables to.control.variables)

@@ -18,19 +18,19 @@ use Rattle.trace_player.specs.Unread.{unread}
 use Rattle.trace_player.proofs.Splits.{Cut, known_lines, cut_known, are_lines, cut_at_end, cut_taken, cut_too_long}
 use Rattle.ruled_traces.specs.Trace.{EndsAt, Makes, Goes, Plays, PlaysFirst, PlaysPart, PlaysUpTo, Leaves}
 use Rattle.ruled_traces.specs.Inside.Faults.{Tells}
-use Rattle.ruled_traces.specs.declared.place.Place.{Place}
+use Rattle.ruled_traces.specs.declared.place.RunPlace.{RunPlace}
 use Rattle.ruled_traces.specs.declared.rules.Rules.{Rules}
 
 -- behind some lines the trace stands at this place, and these lines of output were written
-pub record Played (rules : Rules) (image : Image) (from : Place) (start now : Option (List ℕ)) (at : Place) (old new : Option (List ℕ)) : Type 0 where
+pub record Played (rules : Rules) (image : Image) (from : RunPlace) (start now : Option (List ℕ)) (at : RunPlace) (old new : Option (List ℕ)) : Type 0 where
   pub done : List (List ℕ)
   pub out : List (List ℕ)
   pub leads : (rest : List (List ℕ)) → Cut now rest → Cut start (done ++ rest)
-  pub goes : (lines rest : List (List ℕ)) (end : End) (last : Place) → Goes rules image at lines rest end last
+  pub goes : (lines rest : List (List ℕ)) (end : End) (last : RunPlace) → Goes rules image at lines rest end last
       → Goes rules image from (done ++ lines) (out ++ rest) end last
   pub written : Appends old new (concat out)
 
-at_start : (rules : Rules) (image : Image) (from : Place) (start old : Option (List ℕ)) → Played rules image from start (ahead [] start) from old old
+at_start : (rules : Rules) (image : Image) (from : RunPlace) (start old : Option (List ℕ)) → Played rules image from start (ahead [] start) from old old
 at_start rules image from start old =
     record {
       done = [];
@@ -41,13 +41,13 @@ at_start rules image from start old =
     }
 
 -- nothing was taken
-pub none_played : (rules : Rules) (image : Image) (from : Place) (start old : Option (List ℕ)) (held : List ℕ) → held ≡ []
+pub none_played : (rules : Rules) (image : Image) (from : RunPlace) (start old : Option (List ℕ)) (held : List ℕ) → held ≡ []
     → Played rules image from start (ahead held start) from old old
 none_played rules image from start old held none =
     subst (λ bytes. Played rules image from start (ahead bytes start) from old old) (sym none) (at_start rules image from start old)
 
 -- one line more was taken, and its line of output written
-pub one_played : (rules : Rules) (image : Image) (from : Place) (start now now' : Option (List ℕ)) (at to : Place) (old new new' : Option (List ℕ))
+pub one_played : (rules : Rules) (image : Image) (from : RunPlace) (start now now' : Option (List ℕ)) (at to : RunPlace) (old new new' : Option (List ℕ))
     (line shown : List ℕ)
     → Played rules image from start now at old new → TakesLine now now' line → Makes rules image at line to shown → Appends new new' shown
     → Played rules image from start now' to old new'
@@ -66,14 +66,14 @@ one_played rules image from start now now' at to old new new' line shown a takes
     }
 
 -- the trace of the lines so far
-so_far : (rules : Rules) (image : Image) (from : Place) (start now : Option (List ℕ)) (at : Place) (old new : Option (List ℕ))
+so_far : (rules : Rules) (image : Image) (from : RunPlace) (start now : Option (List ℕ)) (at : RunPlace) (old new : Option (List ℕ))
     (a : Played rules image from start now at old new) → Goes rules image from a.done a.out Good at
 so_far rules image from start now at old new a =
     subst (λ xs. Goes rules image from xs a.out Good at) (append-nil a.done)
     (subst (λ ys. Goes rules image from (a.done ++ []) ys Good at) (append-nil a.out) (a.goes [] [] Good at (refl, refl)))
 
 -- all lines were played
-pub all_played : (rules : Rules) (image : Image) (from : Place) (start now : Option (List ℕ)) (at : Place) (old new : Option (List ℕ))
+pub all_played : (rules : Rules) (image : Image) (from : RunPlace) (start now : Option (List ℕ)) (at : RunPlace) (old new : Option (List ℕ))
     → Played rules image from start now at old new → IsAtEnd now → (out : List (List ℕ)) × Plays rules image from start old new out Good at
 all_played rules image from start now at old new a ended = (
   a.out,
@@ -86,7 +86,7 @@ all_played rules image from start now at old new a ended = (
 )
 
 -- a line ends the trace
-ends_at : (rules : Rules) (image : Image) (from : Place) (start now : Option (List ℕ)) (at : Place) (old new : Option (List ℕ)) (line : List ℕ)
+ends_at : (rules : Rules) (image : Image) (from : RunPlace) (start now : Option (List ℕ)) (at : RunPlace) (old new : Option (List ℕ)) (line : List ℕ)
     (rest : List (List ℕ)) (end : End)
     → Played rules image from start now at old new → Cut now (line ∷ rest) → EndsAt rules image.program (next_number at.lines) line end
     → PlaysUpTo rules image from start old new end
@@ -106,7 +106,7 @@ ends_at rules image from start now at old new line rest end a cut ends =
     }
 
 -- the line that was taken is refused
-pub refused : (rules : Rules) (image : Image) (from : Place) (start now now' : Option (List ℕ)) (at : Place) (old new : Option (List ℕ)) (line : List ℕ)
+pub refused : (rules : Rules) (image : Image) (from : RunPlace) (start now now' : Option (List ℕ)) (at : RunPlace) (old new : Option (List ℕ)) (line : List ℕ)
     (end : End)
     → Played rules image from start now at old new → TakesLine now now' line → EndsAt rules image.program (next_number at.lines) line end
     → PlaysUpTo rules image from start old new end
@@ -114,14 +114,14 @@ refused rules image from start now now' at old new line end a takes ends =
     ends_at rules image from start now at old new line (known_lines now') end a (cut_taken now now' line (known_lines now') takes (cut_known now')) ends
 
 -- the next line is too long
-pub refused_long : (rules : Rules) (image : Image) (from : Place) (start now : Option (List ℕ)) (at : Place) (old new : Option (List ℕ))
+pub refused_long : (rules : Rules) (image : Image) (from : RunPlace) (start now : Option (List ℕ)) (at : RunPlace) (old new : Option (List ℕ))
     → Played rules image from start now at old new → IsTooLong now → PlaysUpTo rules image from start old new (NoObject (next_number at.lines))
 refused_long rules image from start now at old new a long =
     let cut = cut_too_long now long in
     ends_at rules image from start now at old new cut.0 cut.1 (NoObject (next_number at.lines)) a cut.3 (refl, inl cut.2)
 
 -- nothing more can be done
-pub stopped : (rules : Rules) (image : Image) (from : Place) (start now : Option (List ℕ)) (at : Place) (old new : Option (List ℕ))
+pub stopped : (rules : Rules) (image : Image) (from : RunPlace) (start now : Option (List ℕ)) (at : RunPlace) (old new : Option (List ℕ))
     → Played rules image from start now at old new → PlaysFirst rules image from start old new
 stopped rules image from start now at old new a =
     record {
@@ -134,7 +134,7 @@ stopped rules image from start now at old new a =
       written = a.written;
     }
 
-pub not_begun : (rules : Rules) (image : Image) (from : Place) (start old : Option (List ℕ)) → PlaysFirst rules image from start old old
+pub not_begun : (rules : Rules) (image : Image) (from : RunPlace) (start old : Option (List ℕ)) → PlaysFirst rules image from start old old
 not_begun rules image from start old = stopped rules image from start (ahead [] start) from old old (at_start rules image from start old)
 
 -- what would be written had the sink taken these bytes
@@ -146,7 +146,7 @@ wanted_appends None bytes = tt
 wanted_appends (Some xs) bytes = refl
 
 -- the line of output could not be written, or not to its end
-pub stopped_writing : (rules : Rules) (image : Image) (from : Place) (start now now' : Option (List ℕ)) (at to : Place) (old new new' : Option (List ℕ))
+pub stopped_writing : (rules : Rules) (image : Image) (from : RunPlace) (start now now' : Option (List ℕ)) (at to : RunPlace) (old new new' : Option (List ℕ))
     (line shown : List ℕ)
     → Played rules image from start now at old new → TakesLine now now' line → Makes rules image at line to shown → GrowsInto new new' shown
     → PlaysPart rules image from start old new'
@@ -167,7 +167,7 @@ stopped_writing rules image from start now now' at to old new new' line shown a 
     }
 
 -- the next line could not be had
-pub stopped_reading : (rules : Rules) (image : Image) (from : Place) (start now : Option (List ℕ)) (at : Place) (old new : Option (List ℕ)) (f : LinesFault)
+pub stopped_reading : (rules : Rules) (image : Image) (from : RunPlace) (start now : Option (List ℕ)) (at : RunPlace) (old new : Option (List ℕ)) (f : LinesFault)
     → Played rules image from start now at old new → (f ≡ lines_fault.TooLong → IsTooLong now)
     → Leaves rules image from start old new (unread f (next_number at.lines))
 stopped_reading rules image from start now at old new lines_fault.Memory a long = stopped rules image from start now at old new a
@@ -175,7 +175,7 @@ stopped_reading rules image from start now at old new lines_fault.Read a long = 
 stopped_reading rules image from start now at old new lines_fault.TooLong a long = refused_long rules image from start now at old new a (long refl)
 
 -- the next line makes nothing
-pub stopped_reacting : (rules : Rules) (image : Image) (from : Place) (start now now' : Option (List ℕ)) (at : Place) (old new : Option (List ℕ))
+pub stopped_reacting : (rules : Rules) (image : Image) (from : RunPlace) (start now now' : Option (List ℕ)) (at : RunPlace) (old new : Option (List ℕ))
     (line : List ℕ) (f : PlayFault)
     → Played rules image from start now at old new → TakesLine now now' line → Tells rules image.program (next_number at.lines) line f
     → Leaves rules image from start old new f

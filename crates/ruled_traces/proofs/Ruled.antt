@@ -9,7 +9,7 @@ use Rattle.trace_player.specs.Trace as plain
 use Rattle.ruled_traces.specs.Lines.{IsBad}
 use Rattle.ruled_traces.specs.Trace.{Ends, EndsAt, Goes, IsPassed, Makes, MakesTick, no_rules, with_lines}
 use Rattle.ruled_traces.specs.declared.answer.Bad.TheVariants as bad
-use Rattle.ruled_traces.specs.declared.place.Place.{Place}
+use Rattle.ruled_traces.specs.declared.place.RunPlace.{RunPlace}
 use Rattle.ruled_traces.specs.declared.rules.Rules.{Rules}
 
 -- ---- no rules
@@ -46,12 +46,12 @@ ruled_end p k line Good ends = ends
 ruled_end p k line (NoInputs n) ends = (ends.0, record { stops = refl; short = ends.1.short; bad = inl ends.1 })
 ruled_end p k line (NoObject n) ends = (ends.0, ruled_object p line (short_or_long line) ends.1)
 
-ticks_of : (image : Image) (from : Place) (line : List ℕ) (to : Place) (shown : List ℕ)
+ticks_of : (image : Image) (from : RunPlace) (line : List ℕ) (to : RunPlace) (shown : List ℕ)
     → MakesTick no_rules image from line to shown ⊎ IsPassed no_rules image from line to shown → MakesTick no_rules image from line to shown
 ticks_of image from line to shown (inl makes) = makes
 ticks_of image from line to shown (inr passed) = let never : false ≡ true = passed.skips in absurd cc
 
-pub to_plain : (image : Image) (from : Place) (lines out : List (List ℕ)) (end : End) (last : Place) → from.lines ≡ from.ticks
+pub to_plain : (image : Image) (from : RunPlace) (lines out : List (List ℕ)) (end : End) (last : RunPlace) → from.lines ≡ from.ticks
     → Goes no_rules image from lines out end last → plain.Goes image (next_number from.lines) from.control lines out end
 to_plain image from [] [] end last alike goes = goes.0
 to_plain image from [] (shown ∷ out) end last alike goes = goes
@@ -66,14 +66,14 @@ to_plain image from (line ∷ lines) (shown ∷ out) end last alike goes =
       subst (λ k. plain.Goes image (next_number k) to.control lines out end) makes.lines (to_plain image to lines out end last alike_behind goes.2),
     )
 
-pub of_plain : (image : Image) (from : Place) (lines out : List (List ℕ)) (end : End) → from.lines ≡ from.ticks
-    → plain.Goes image (next_number from.lines) from.control lines out end → (last : Place) × Goes no_rules image from lines out end last
+pub of_plain : (image : Image) (from : RunPlace) (lines out : List (List ℕ)) (end : End) → from.lines ≡ from.ticks
+    → plain.Goes image (next_number from.lines) from.control lines out end → (last : RunPlace) × Goes no_rules image from lines out end last
 of_plain image from [] [] end alike goes = (from, (goes, refl))
 of_plain image from [] (shown ∷ out) end alike goes = absurd goes
 of_plain image from (line ∷ lines) [] end alike goes = (from, (ruled_end image.program (next_number from.lines) line end goes, refl))
 of_plain image from (line ∷ lines) (shown ∷ out) end alike goes =
     let d = goes.0 in
-    let to : Place = record { lines = next_number from.lines; ticks = next_number from.ticks; control = d } in
+    let to : RunPlace = record { lines = next_number from.lines; ticks = next_number from.ticks; control = d } in
     let shows : plain.Shows image (next_number from.ticks) from.control line d shown =
     subst (λ k. plain.Shows image (next_number k) from.control line d shown) alike goes.1 in
     let tick : MakesTick no_rules image from line to shown = record { shows = shows; named = λ e. absurd cc; ticks = refl } in
@@ -83,7 +83,7 @@ of_plain image from (line ∷ lines) (shown ∷ out) end alike goes =
 
 -- ---- going on
 
-step_counted : (rules : Rules) (image : Image) (from : Place) (n k : ℕ) (line : List ℕ) (to : Place) (shown : List ℕ) → rules.skips ≡ false
+step_counted : (rules : Rules) (image : Image) (from : RunPlace) (n k : ℕ) (line : List ℕ) (to : RunPlace) (shown : List ℕ) → rules.skips ≡ false
     → MakesTick rules image (with_lines from n) line to shown ⊎ IsPassed rules image (with_lines from n) line to shown
     → Makes rules image (with_lines from k) line (with_lines to (next_number k)) shown
 step_counted rules image from n k line to shown none (inl tick) =
@@ -91,7 +91,7 @@ step_counted rules image from n k line to shown none (inl tick) =
 step_counted rules image from n k line to shown none (inr passed) = let some : rules.skips ≡ true = passed.skips in absurd cc
 
 -- lines are counted from another number on
-counted : (rules : Rules) (image : Image) (from : Place) (n k : ℕ) (lines out : List (List ℕ)) (last : Place) → rules.skips ≡ false
+counted : (rules : Rules) (image : Image) (from : RunPlace) (n k : ℕ) (lines out : List (List ℕ)) (last : RunPlace) → rules.skips ≡ false
     → Goes rules image (with_lines from n) lines out Good last → (m : ℕ) × Goes rules image (with_lines from k) lines out Good (with_lines last m)
 counted rules image from n k [] [] last none goes = (k, (refl, ap (λ at. with_lines at k) goes.1))
 counted rules image from n k [] (shown ∷ out) last none goes = absurd goes
@@ -102,7 +102,7 @@ counted rules image from n k (line ∷ lines) (shown ∷ out) last none goes =
     let rest = counted rules image to to.lines (next_number k) lines out last none goes.2 in
     (rest.0, (with_lines to (next_number k), step_counted rules image from n k line to shown none makes.made, rest.1))
 
-pub resumed : (rules : Rules) (image : Image) (from middle last : Place) (n : ℕ) (first second out more : List (List ℕ)) → rules.skips ≡ false
+pub resumed : (rules : Rules) (image : Image) (from middle last : RunPlace) (n : ℕ) (first second out more : List (List ℕ)) → rules.skips ≡ false
     → Goes rules image from first out Good middle → Goes rules image (with_lines middle n) second more Good last
     → (m : ℕ) × Goes rules image from (first ++ second) (out ++ more) Good (with_lines last m)
 resumed rules image from middle last n [] second [] more none goes behind =

@@ -13,6 +13,6 @@ mod turns;
 
 pub use answer::Bad;
 pub use laws::{resumed_traces, without_rules};
-pub use place::Place;
+pub use place::RunPlace;
 pub use player::play_by;
 pub use rules::Rules;

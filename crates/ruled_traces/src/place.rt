@@ -10,7 +10,7 @@ use tick_core::Control;
 
 /// Where a trace stands: between two lines of its input.
 #[derive(Debug, Drop)]
-pub struct Place {
+pub struct RunPlace {
     /// How many lines were read.
     pub lines: u64,
     /// The number of the last tick.
@@ -19,14 +19,14 @@ pub struct Place {
     pub control: Control,
 }
 
-impl Place {
+impl RunPlace {
     /// Before the first line and the first tick of a program. Err: memory was refused.
-    pub fn at_first(alloc: Global, program: &Program) -> Result<Place, AllocError>
+    pub fn at_first(alloc: Global, program: &Program) -> Result<RunPlace, AllocError>
         ensures value { IfOk result (λ place. place ≡ at_first program.now) }
         ensures rests { IfOk result (λ place. Rests program.now place.control) }
     {
         let control = Control::initial(alloc, program)?;
-        Ok(Place {
+        Ok(RunPlace {
             lines: 0,
             ticks: 0,
             control,

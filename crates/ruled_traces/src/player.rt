@@ -6,7 +6,7 @@ ghost use Rattle.sc_values.specs.Streams.{IsNotReadBehind};
 ghost use Rattle.trace_player.specs.Trace.{Good};
 ghost use Rattle.ruled_traces.specs.Trace.{Leaves, Plays};
 
-use crate::place::Place;
+use crate::place::RunPlace;
 use crate::rules::Rules;
 use crate::turns::begin;
 use sc_values::{Sink, Source};
@@ -20,10 +20,10 @@ pub fn play_by<S: Source, K: Sink>(
     alloc: Global,
     verified: &Verified,
     rules: Rules,
-    from: Place,
+    from: RunPlace,
     source: &mut S,
     sink: &mut K,
-) -> Result<Place, PlayFault>
+) -> Result<RunPlace, PlayFault>
     requires rests { Rests verified.now.program from.control }
     ensures whole { IfOk result (λ last. (out : List (List ℕ)) × Plays rules verified.now from
         (S.to_come source.old) (K.taken sink.old) (K.taken sink.new) out Good last) }

@@ -9,7 +9,7 @@ ghost use Rattle.ruled_traces.specs.Inside.Faults.{Says, Tells};
 
 use crate::answer::{Bad, fault_of, write_answer};
 use crate::naming::all_named;
-use crate::place::Place;
+use crate::place::RunPlace;
 use crate::rules::Rules;
 use sc_graph::Program;
 use std::alloc::{AllocError, Global};
@@ -81,10 +81,10 @@ pub(crate) fn react<'x>(
     interface: &Interface<'_>,
     line_room: &mut LineRoom,
     room: TickSpace<'x>,
-    place: Place,
+    place: RunPlace,
     line: &[u8],
     shown: &mut Vec<u8>,
-) -> Result<(Place, TickSpace<'x>), PlayFault>
+) -> Result<(RunPlace, TickSpace<'x>), PlayFault>
     requires program { program.now ≡ room.program }
     requires interface { interface.now ≡ program.now.variables }
     requires rests { Rests room.program place.control }
@@ -94,7 +94,7 @@ pub(crate) fn react<'x>(
     ensures room { IfOk result (λ r. r.1 ≡ room.entry) }
     ensures fault { IfErr result (Tells rules room.entry.program (next_number place.lines) line.now) }
 {
-    let Place {
+    let RunPlace {
         lines,
         ticks,
         control,
@@ -105,7 +105,7 @@ pub(crate) fn react<'x>(
             let ticks = next_number(ticks);
             let (control, steps, room) = tick(room, control, &inputs);
             interface.write_line(shown, ticks, steps, control.variables.as_slice())?;
-            let place = Place {
+            let place = RunPlace {
                 lines,
                 ticks,
                 control,
@@ -117,7 +117,7 @@ pub(crate) fn react<'x>(
                 return Err(fault_of(bad, lines));
             }
             write_answer(alloc, shown, bad, lines)?;
-            let place = Place {
+            let place = RunPlace {
                 lines,
                 ticks,
                 control,

@@ -4,7 +4,7 @@ ghost use Rattle.std.specs.Prelude.{◌≡◌, [], IfOk};
 ghost use Rattle.sc_graph.specs.Tick.{Rests};
 ghost use Rattle.ruled_traces.specs.Inside.Playing.{CameTo};
 
-use crate::place::Place;
+use crate::place::RunPlace;
 use crate::rules::Rules;
 use crate::session::react;
 use sc_graph::Program;
@@ -19,9 +19,9 @@ pub(crate) fn begin<P: Channels>(
     alloc: Global,
     verified: &Verified,
     rules: Rules,
-    from: Place,
+    from: RunPlace,
     channels: &mut P,
-) -> Result<Place, PlayFault>
+) -> Result<RunPlace, PlayFault>
     requires rests { Rests verified.now.program from.control }
     ensures came { CameTo rules verified.now from (P.seen channels.old) (P.seen channels.new) result }
     ensures same { P.names channels.new ≡ P.names channels.old }
@@ -53,10 +53,10 @@ fn go_on<'x, P: Channels>(
     interface: &Interface<'_>,
     line_room: &mut LineRoom,
     room: TickSpace<'x>,
-    from: Place,
+    from: RunPlace,
     lines: &mut Lines,
     channels: &mut P,
-) -> Result<Place, PlayFault>
+) -> Result<RunPlace, PlayFault>
     requires program { program.now ≡ room.program }
     requires interface { interface.now ≡ program.now.variables }
     requires rests { Rests room.program from.control }

@@ -2,8 +2,8 @@
 use Rattle.std.specs.Prelude.{ℕ, Option, List}
 use Rattle.command_files.specs.Files.{Contents}
 use Rattle.command_words.specs.Said.{Rules as Asked}
-use Rattle.ruled_runs.specs.declared.fault.RunFault.{RunFault}
-use Rattle.ruled_runs.specs.declared.fault.RunFault.TheVariants as run
+use Rattle.ruled_runs.specs.declared.fault.RuledFault.{RuledFault}
+use Rattle.ruled_runs.specs.declared.fault.RuledFault.TheVariants as run
 use Rattle.ruled_runs.specs.Runs.{RefusesRun, RunsBy}
 use Rattle.ruled_traces.specs.declared.rules.Rules.{Rules}
 use Rattle.sct_command.specs.declared.fault.Fault.{Fault}
@@ -14,7 +14,7 @@ abbrev pub line_rules : Asked → Rules
 line_rules r = record { strict = r.strict; skips = r.skips }
 
 -- the fault of a run
-abbrev pub fault_of_run : RunFault → Fault
+abbrev pub fault_of_run : RuledFault → Fault
 fault_of_run (run.Files f) = fault.Files f
 fault_of_run (run.Place shown) = fault.Place shown
 fault_of_run (run.Play f cause) = fault.Play f cause

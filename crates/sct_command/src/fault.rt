@@ -2,7 +2,7 @@
 
 use command_files::LoadFault;
 use line_causes::Cause;
-use ruled_runs::RunFault;
+use ruled_runs::RuledFault;
 use std::alloc::{AllocError, AllocFailed};
 use trace_player::PlayFault;
 
@@ -32,17 +32,17 @@ impl From<LoadFault> for Fault {
     }
 }
 
-impl From<RunFault> for Fault {
+impl From<RuledFault> for Fault {
     ghost use Rattle.std.specs.Prelude.{◌≡◌};
     ghost use Rattle.sct_command.specs.Running.{fault_of_run};
 
     ghost from_gives = { λ f e. e ≡ fault_of_run f };
 
-    fn from(fault: RunFault) -> Fault {
+    fn from(fault: RuledFault) -> Fault {
         match fault {
-            RunFault::Files(fault) => Fault::Files(fault),
-            RunFault::Place(shown) => Fault::Place(shown),
-            RunFault::Play(fault, cause) => Fault::Play(fault, cause),
+            RuledFault::Files(fault) => Fault::Files(fault),
+            RuledFault::Place(shown) => Fault::Place(shown),
+            RuledFault::Play(fault, cause) => Fault::Play(fault, cause),
         }
     }
 }

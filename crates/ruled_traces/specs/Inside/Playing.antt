@@ -5,16 +5,16 @@ use Rattle.trace_player.specs.declared.player.PlayFault.{PlayFault}
 use Rattle.trace_player.specs.Channels.{Seen, TellsFailures}
 use Rattle.trace_player.specs.Trace.{Good}
 use Rattle.ruled_traces.specs.Trace.{Plays, Leaves}
-use Rattle.ruled_traces.specs.declared.place.Place.{Place}
+use Rattle.ruled_traces.specs.declared.place.RunPlace.{RunPlace}
 use Rattle.ruled_traces.specs.declared.rules.Rules.{Rules}
 
 -- the whole input was played from a place on, to the last one
-abbrev pub PlaysWhole : Rules → Image → Place → Seen → Seen → Place → Type 0
+abbrev pub PlaysWhole : Rules → Image → RunPlace → Seen → Seen → RunPlace → Type 0
 PlaysWhole rules image from before after last =
     (out : List (List ℕ)) × Plays rules image from before.source.to_come before.sink.taken after.sink.taken out Good last
 
 -- playing came to this result: what was written before it, and what failed
-pub record CameTo (rules : Rules) (image : Image) (from : Place) (before after : Seen) (result : Result Place PlayFault) : Type 0 where
+pub record CameTo (rules : Rules) (image : Image) (from : RunPlace) (before after : Seen) (result : Result RunPlace PlayFault) : Type 0 where
   pub whole : IfOk result (PlaysWhole rules image from before after)
   pub fault : IfErr result (Leaves rules image from before.source.to_come before.sink.taken after.sink.taken)
   pub failures : TellsFailures before after result
