@@ -1,0 +1,4 @@
+pub mod Items
+pub mod Resolved
+pub mod Read
+pub mod Inside

@@ -1,0 +1,164 @@
+-- Which extended chart a draft is once its names are looked up. What stands among the variables is named by its place there,
+-- sorted, and the target of a transition by its place among the states of the region. Each state takes the first row of
+-- actions that is left, before what is in it, and each transition the first delay, behind what is in its state.
+use Rattle.std.specs.Prelude.{ℕ, true, Option, Some, None, List, [], ◌∷◌, ◌++◌, map, codes, option_map, if◌then◌else◌}
+use Rattle.std.specs.Str.{bytes_eq}
+use Rattle.sc_values.specs.declared.operator.BinaryOperator.TheVariants as operator
+use Rattle.sc_values.specs.declared.expression.Expr.{Expr}
+use Rattle.sc_values.specs.declared.expression.Expr.TheVariants as expr
+use Rattle.drafts.specs.declared.parts.TextExpression.{TextExpression}
+use Rattle.drafts.specs.Resolved.{expression_of}
+use Rattle.core_charts.specs.declared.region.Effect.{Effect}
+use Rattle.core_charts.specs.declared.region.Transition.{Transition}
+use Rattle.chart_drafts.specs.declared.draft.DraftTransition.{DraftTransition}
+use Rattle.chart_drafts.specs.declared.draft.DraftRegion.{DraftRegion}
+use Rattle.chart_drafts.specs.declared.draft.DraftRegion.TheOpen.{DraftRegion-F, DraftState-F}
+use Rattle.chart_drafts.specs.declared.draft.DraftRegion.TheFolds.{fold-DraftRegion, fold-DraftState}
+use Rattle.chart_drafts.specs.declared.draft.DraftState.{DraftState}
+use Rattle.chart_reader.specs.Resolved.{effect_of, transition_of}
+use Rattle.extended_drafts.specs.declared.draft.DraftEntry.{DraftEntry}
+use Rattle.extended_drafts.specs.declared.draft.DraftDelay.{DraftDelay}
+use Rattle.extended_drafts.specs.declared.draft.Rows.{Rows}
+use Rattle.extended_drafts.specs.declared.draft.ExtendedDraft.{ExtendedDraft}
+use Rattle.extended_charts.specs.declared.extended.ExtendedChart.{ExtendedChart}
+use Rattle.extended_charts.specs.declared.extended.ExtendedRegion.{ExtendedRegion}
+use Rattle.extended_charts.specs.declared.extended.ExtendedState.{ExtendedState}
+use Rattle.extended_charts.specs.declared.extended.ExtendedRegion.TheViews.{roll-ExtendedRegion, roll-ExtendedState}
+use Rattle.extended_charts.specs.Reading.{elapsed}
+use Rattle.extended_reader.specs.declared.sorts.Sort.TheVariants as sort
+use Rattle.extended_reader.specs.Items.{all_of, names_of, declared_of, before_of, constant_of}
+
+-- ---- actions, over what has these names
+
+-- the effects behind this word
+abbrev pub effects_behind : (word : List ℕ) → (names : List (List ℕ)) → DraftEntry → List Effect
+effects_behind word names e = if bytes_eq e.word.name word then map (effect_of names) e.effects else []
+
+abbrev pub actions_of : (word : List ℕ) → (names : List (List ℕ)) → List DraftEntry → List Effect
+actions_of word names [] = []
+actions_of word names (e ∷ entries) = effects_behind word names e ++ actions_of word names entries
+
+-- ---- transitions
+
+abbrev pub condition_of : (names : List (List ℕ)) → TextExpression → Expr
+condition_of names e = expression_of names e.operations
+
+-- so many ticks went by since the state was entered
+abbrev pub waited : (names : List (List ℕ)) → DraftDelay → Expr
+waited names d = expr.Binary operator.GreaterOrEqual (expr.Load elapsed) (condition_of names d.ticks)
+
+-- the trigger of a transition that waits, or not
+abbrev pub trigger_of : (names : List (List ℕ)) → Option DraftDelay → Option TextExpression → Option Expr
+trigger_of names None t = option_map (condition_of names) t
+trigger_of names (Some d) None = Some (waited names d)
+trigger_of names (Some d) (Some e) = Some (expr.Binary operator.And (waited names d) (condition_of names e))
+
+-- of a state of a region, whose states have these names
+abbrev pub delayed_transition : (names states : List (List ℕ)) → Option DraftDelay → DraftTransition → Transition
+delayed_transition names states d t = record (transition_of names states t) { trigger = trigger_of names d t.trigger }
+
+-- ---- rows
+
+abbrev pub first_actions : List (List DraftEntry) → List DraftEntry
+first_actions [] = []
+first_actions (own ∷ entries) = own
+
+abbrev pub first_delay : List (Option DraftDelay) → Option DraftDelay
+first_delay [] = None
+first_delay (d ∷ delays) = d
+
+abbrev pub behind_first : {A : Type 0} → List A → List A
+behind_first [] = []
+behind_first (x ∷ xs) = xs
+
+-- the rows that are left where a state begins
+abbrev pub behind_state : Rows → Rows
+behind_state rows = record { entries = behind_first rows.entries; delays = rows.delays }
+
+-- the rows that are left behind a transition
+abbrev pub behind_transition : Rows → Rows
+behind_transition rows = record { entries = rows.entries; delays = behind_first rows.delays }
+
+-- ---- regions and states: what each is where these rows are left, and which ones it leaves
+
+pub record RegionPiece : Type 0 where
+  pub made : Rows → ExtendedRegion
+  pub behind : Rows → Rows
+
+-- a state is in a region whose states have these names
+pub record StatePiece : Type 0 where
+  pub name : List ℕ
+  pub made : (states : List (List ℕ)) → Rows → ExtendedState
+  pub behind : Rows → Rows
+
+abbrev pub all_transitions : (names states : List (List ℕ)) → Rows → List DraftTransition → List Transition
+all_transitions names states rows [] = []
+all_transitions names states rows (t ∷ transitions) =
+    delayed_transition names states (first_delay rows.delays) t ∷ all_transitions names states (behind_transition rows) transitions
+
+abbrev pub behind_transitions : Rows → List DraftTransition → Rows
+behind_transitions rows [] = rows
+behind_transitions rows (t ∷ transitions) = behind_transitions (behind_transition rows) transitions
+
+abbrev pub all_regions : Rows → List RegionPiece → List ExtendedRegion
+all_regions rows [] = []
+all_regions rows (r ∷ regions) = r.made rows ∷ all_regions (r.behind rows) regions
+
+abbrev pub behind_regions : Rows → List RegionPiece → Rows
+behind_regions rows [] = rows
+behind_regions rows (r ∷ regions) = behind_regions (r.behind rows) regions
+
+abbrev pub all_states : (states : List (List ℕ)) → Rows → List StatePiece → List ExtendedState
+all_states names rows [] = []
+all_states names rows (s ∷ states) = s.made names rows ∷ all_states names (s.behind rows) states
+
+abbrev pub behind_states : Rows → List StatePiece → Rows
+behind_states rows [] = rows
+behind_states rows (s ∷ states) = behind_states (s.behind rows) states
+
+abbrev pub state_step : (names : List (List ℕ)) → DraftState-F RegionPiece StatePiece → StatePiece
+state_step names s =
+    record {
+      name = s.named.name;
+      made = λ states rows. roll-ExtendedState (record {
+        name = s.named.name;
+        is_own = true;
+        is_initial = s.is_initial;
+        is_final = s.is_final;
+        entry = actions_of (codes "entry") names (first_actions rows.entries);
+        exit = actions_of (codes "exit") names (first_actions rows.entries);
+        regions = all_regions (behind_state rows) s.regions;
+        transitions = all_transitions names states (behind_regions (behind_state rows) s.regions) s.transitions;
+      });
+      behind = λ rows. behind_transitions (behind_regions (behind_state rows) s.regions) s.transitions;
+    }
+
+abbrev pub region_step : (names : List (List ℕ)) → DraftRegion-F RegionPiece StatePiece → RegionPiece
+region_step names r =
+    record {
+      made = λ rows. roll-ExtendedRegion (record {
+        name = r.named.name;
+        states = all_states (map (λ p. p.name) r.states) rows r.states;
+      });
+      behind = λ rows. behind_states rows r.states;
+    }
+
+abbrev pub region_of : (names : List (List ℕ)) → DraftRegion → RegionPiece
+region_of names = fold-DraftRegion RegionPiece StatePiece (region_step names) (state_step names)
+
+abbrev pub state_of : (names : List (List ℕ)) → DraftState → StatePiece
+state_of names = fold-DraftState RegionPiece StatePiece (region_step names) (state_step names)
+
+-- ---- charts
+
+-- the extended chart of a draft. What the grammar lacks is a signal
+abbrev pub extended_of : ExtendedDraft → ExtendedChart
+extended_of d =
+    record {
+      name = d.core.named.name;
+      variables = map declared_of (all_of sort.Variable d.items);
+      signals = [];
+      befores = map (before_of (names_of d.items)) (all_of sort.Before d.items);
+      constants = map constant_of (all_of sort.Constant d.items);
+      regions = all_regions d.rows (map (region_of (names_of d.items)) d.core.regions);
+    }

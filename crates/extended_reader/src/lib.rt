@@ -1,0 +1,17 @@
+//! Reading extended chart text: from a draft in which nothing is wrong to the extended chart that the text spells.
+//! `specs/Items` and `specs/Resolved` say which chart that is, and `specs/Read` what a text is read into.
+#![tactic(auto)]
+
+mod actions;
+mod chart;
+mod items;
+mod read;
+mod regions;
+mod rows;
+mod sorts;
+mod states;
+mod transitions;
+mod values;
+
+pub use chart::extended_of;
+pub use read::read_extended;

@@ -1,0 +1,122 @@
+//! The transitions of a draft with what they wait, their names looked up.
+
+ghost use Rattle.std.specs.Prelude.{◌≡◌, ◌≤◌, Some, IfOk, OnOk, length};
+ghost use Rattle.sc_graph.specs.Limits.{variable_limit};
+ghost use Rattle.drafts.specs.Flaws.{variable_names};
+ghost use Rattle.chart_drafts.specs.Flaws.{state_names};
+ghost use Rattle.extended_reader.specs.Inside.{rows_in};
+ghost use Rattle.extended_reader.specs.Resolved.{waited, trigger_of, delayed_transition};
+ghost use Rattle.extended_reader.specs.Resolved.{all_transitions, behind_transition, behind_transitions, first_delay};
+
+use crate::rows::RowsLeft;
+use crate::states::StateScope;
+use chart_drafts::DraftTransition;
+use chart_reader::{effects, trigger};
+use core_charts::Transition;
+use drafts::{Scope, TextExpression};
+use extended_charts::ELAPSED;
+use extended_drafts::DraftDelay;
+use sc_values::{BinaryOperator, Expr};
+use sqlite_items::{Boxed, Items};
+use std::alloc::{AllocError, Global};
+
+/// The transitions of a state of a region with these states, over these variables, which take their delays off the
+/// rows that are left. Err: memory was refused.
+pub(crate) fn transitions(
+    alloc: Global,
+    scope: &Scope,
+    states: &StateScope,
+    rows: &mut RowsLeft,
+    texts: &[DraftTransition],
+) -> Result<Items<Transition>, AllocError>
+    requires { length scope.now.variables.now ≤ variable_limit }
+    ensures made { IfOk result (λ all. all ≡ all_transitions (variable_names scope.now.variables.now)
+        (state_names states.now.states.now) (rows_in rows.old) texts.now) }
+    ensures left { OnOk result (rows_in rows.new ≡ behind_transitions (rows_in rows.old) texts.now) }
+{
+    let mut all = Items::new(alloc);
+    for text in texts {
+        all.push(transition(alloc, scope, states, rows, text)?)?;
+    }
+    Ok(all)
+}
+
+// A transition, which takes its delay off the rows that are left.
+fn transition(
+    alloc: Global,
+    scope: &Scope,
+    states: &StateScope,
+    rows: &mut RowsLeft,
+    text: &DraftTransition,
+) -> Result<Transition, AllocError>
+    requires { length scope.now.variables.now ≤ variable_limit }
+    ensures made { IfOk result (λ one. one ≡ delayed_transition (variable_names scope.now.variables.now)
+        (state_names states.now.states.now) (first_delay rows.old.delays.now) text.now) }
+    ensures left { OnOk result (rows_in rows.new ≡ behind_transition (rows_in rows.old)) }
+{
+    Ok(Transition {
+        kind: text.kind,
+        immediate: text.immediate,
+        trigger: next_trigger(alloc, scope, rows, &text.trigger)?,
+        effects: effects(alloc, scope, text.effects.as_slice())?,
+        target: states.number(text.target.name),
+    })
+}
+
+// The trigger of the next transition, with its delay, which is taken off the rows that are left.
+fn next_trigger(
+    alloc: Global,
+    scope: &Scope,
+    rows: &mut RowsLeft,
+    text: &Option<TextExpression>,
+) -> Result<Option<Expr>, AllocError>
+    requires { length scope.now.variables.now ≤ variable_limit }
+    ensures made { IfOk result (λ one. one ≡ trigger_of (variable_names scope.now.variables.now)
+        (first_delay rows.old.delays.now) text.now) }
+    ensures left { OnOk result (rows_in rows.new ≡ behind_transition (rows_in rows.old)) }
+{
+    match rows.delays {
+        [Some(delay), behind @ ..] => {
+            rows.delays = behind;
+            delayed(alloc, scope, delay, text)
+        }
+        [None, behind @ ..] => {
+            rows.delays = behind;
+            trigger(alloc, scope, text)
+        }
+        [] => trigger(alloc, scope, text),
+    }
+}
+
+// The trigger of a transition that waits.
+fn delayed(
+    alloc: Global,
+    scope: &Scope,
+    delay: &DraftDelay,
+    text: &Option<TextExpression>,
+) -> Result<Option<Expr>, AllocError>
+    requires { length scope.now.variables.now ≤ variable_limit }
+    ensures { IfOk result (λ one. one ≡
+        trigger_of (variable_names scope.now.variables.now) (Some delay.now) text.now) }
+{
+    let waited = waited(alloc, scope, delay)?;
+    match text {
+        Some(condition) => {
+            let condition = scope.resolved(alloc, condition)?;
+            let waited = Boxed::new(alloc, waited)?;
+            let both = Expr::Binary(BinaryOperator::And, waited, Boxed::new(alloc, condition)?);
+            Ok(Some(both))
+        }
+        None => Ok(Some(waited)),
+    }
+}
+
+// That so many ticks went by since the state was entered.
+fn waited(alloc: Global, scope: &Scope, delay: &DraftDelay) -> Result<Expr, AllocError>
+    requires { length scope.now.variables.now ≤ variable_limit }
+    ensures { IfOk result (λ one. one ≡ waited (variable_names scope.now.variables.now) delay.now) }
+{
+    let elapsed = Boxed::new(alloc, Expr::Load(ELAPSED))?;
+    let ticks = Boxed::new(alloc, scope.resolved(alloc, &delay.ticks)?)?;
+    Ok(Expr::Binary(BinaryOperator::GreaterOrEqual, elapsed, ticks))
+}
