@@ -17,6 +17,7 @@ use sqlite_items::Items;
 use std::alloc::{AllocError, Global};
 
 /// The extended chart of a draft of the grammar, in which nothing is wrong. Err: memory was refused.
+#[tactic(auto, using(crate::proofs::Whole::few_declared))]
 pub fn extended_of(alloc: Global, draft: &ExtendedDraft) -> Result<ExtendedChart, AllocError>
     requires flawless { extended_flaws draft.now ≡ [] }
     requires shaped { IsExtendedShaped draft.now }

@@ -49,6 +49,7 @@ pub(crate) fn regions(
 
 // A region, in whose states regions nest so many levels deep at most.
 #[cycle(resolving)]
+#[tactic(auto, using(crate::proofs::Looking::region_is))]
 fn region(
     alloc: Global,
     scope: &Scope,
@@ -96,6 +97,7 @@ fn states(
 }
 
 #[cycle(resolving)]
+#[tactic(auto, using(crate::proofs::Looking::state_is, crate::proofs::Looking::state_leaves))]
 fn state(
     alloc: Global,
     scope: &Scope,

@@ -1,0 +1,20 @@
+-- A text whose draft is flawless spells the extended chart of that draft.
+use Rattle.std.proofs.Common.{◌≡◌, ℕ, List, []}
+use Rattle.extended_charts.specs.declared.extended.ExtendedChart.{ExtendedChart}
+use Rattle.extended_drafts.specs.declared.draft.ExtendedDraft.{ExtendedDraft}
+use Rattle.extended_drafts.specs.Checked.{IsSound}
+use Rattle.extended_drafts.specs.Flaws.{extended_flaws}
+use Rattle.extended_drafts.specs.Shape.{IsExtendedShaped}
+use Rattle.extended_drafts.proofs.ShapedDrafts.{draft_is_shaped}
+use Rattle.extended_reader.specs.Resolved.{extended_of}
+use Rattle.extended_reader.specs.Read.{IsRead}
+
+module _ (text : List ℕ) (d : ExtendedDraft) (is : IsSound text d) where
+  pub unflawed : extended_flaws d ≡ []
+  unflawed = is.flawless
+
+  pub shaped : IsExtendedShaped d
+  shaped = draft_is_shaped text d is.drafted
+
+  pub is_read : (chart : ExtendedChart) → chart ≡ extended_of d → IsRead text chart
+  is_read chart spelled = record { draft = d; drafted = is.drafted; flawless = is.flawless; spelled = spelled }
