@@ -1,7 +1,9 @@
-//! Texts of charts, each answered by the places of its elements, by its own layout, and by the text of its core chart.
-//! tests/chart_texts asks it, and tells its form.
+//! Texts of charts, each answered by the places of its elements, by its own layout, and by the text of its core chart;
+//! and texts of extended charts, each answered by the chart to which it is reduced. tests/chart_texts asks it, and tells
+//! its form.
 #![tactic(auto)]
 
+mod reducing;
 mod telling;
 
 use row_answers::Answers;

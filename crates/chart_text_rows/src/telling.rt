@@ -1,5 +1,6 @@
 //! What is told of a text: the places of its elements, the text laid out, and that of its core chart.
 
+use crate::reducing::{is_extended, tell_extended};
 use abort_expansion::ExpandFault;
 use chart_places::{Placed, Places, read_placed};
 use chart_printer::chart_text;
@@ -56,6 +57,9 @@ fn tell_placed(alloc: Global, answers: &mut Answers, placed: &Placed) -> Result<
 
 // What is told of one text.
 fn tell(alloc: Global, answers: &mut Answers, text: &str) -> Result<(), AllocError> {
+    if is_extended(text) {
+        return tell_extended(alloc, answers, text);
+    }
     match read_placed(alloc, text) {
         Ok(placed) => tell_placed(alloc, answers, &placed),
         Err(ReadFault::Memory) => Err(AllocError),
