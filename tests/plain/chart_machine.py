@@ -95,6 +95,21 @@ class ChartMachine:
         standing = self.standing[r]
         return standing[0] != "within" or not any(self.has_work(inner) for inner in self.inside(standing[1]))
 
+    # ---- transitions
+
+    def holds(self, s, t):
+        """Whether a transition of s is taken that is tested."""
+        return t.trigger is None or value(t.trigger, self.values)
+
+    @staticmethod
+    def asked_by(t):
+        """The variables that a test of a transition reads."""
+        return loads(t.trigger) if t.trigger else []
+
+    def effects_of(self, s, t):
+        """What is made when a transition of s is taken, before its target is come to."""
+        return t.effects
+
     # ---- steps
 
     def come_to(self, r, s):
@@ -109,11 +124,15 @@ class ChartMachine:
             if not tests:
                 self.open(r, s)
 
+    def begin_in(self, r):
+        """Region r is entered."""
+        self.come_to(r, r.initial())
+
     def open(self, r, s):
         """The regions of s are entered."""
         self.standing[r] = ("within", s, [t for t in s.of_kind("weak") if t.immediate] + s.of_kind("join"))
         for inner in s.regions:
-            self.come_to(inner, inner.initial())
+            self.begin_in(inner)
 
     def wake(self, r):
         """What is tested in a tick at whose start the region stood so."""
@@ -142,10 +161,11 @@ class ChartMachine:
             self.act(r, s, tests[1:], target)
             return
         t = tests[0]
-        if t.trigger is None or value(t.trigger, self.values):
+        if self.holds(s, t):
+            effects = self.effects_of(s, t)
             for inner in self.inside(s):
                 self.standing[inner] = None
-            self.act(r, s, t.effects, t.target)
+            self.act(r, s, effects, t.target)
         elif len(tests) > 1 or where in ("trying", "within"):
             self.standing[r] = (where, s, tests[1:])
         elif where == "entering":
@@ -157,8 +177,7 @@ class ChartMachine:
         standing = self.standing[r]
         if standing[0] == "acting":
             return access_of(*standing[2][0])
-        trigger = standing[2][0].trigger
-        return set(loads(trigger)) if trigger else set(), None
+        return set(self.asked_by(standing[2][0])), None
 
     # ---- runs
 
@@ -183,6 +202,9 @@ class ChartMachine:
     def saved(self):
         return list(self.values), dict(self.standing)
 
+    def restore(self, saved):
+        self.values, self.standing = saved
+
     def play(self):
         """Makes one admissible run to its end; returns its steps as pairs of a region and an access."""
         run, before, refused, put_off, tries = [], [], [set()], {}, 0
@@ -192,7 +214,7 @@ class ChartMachine:
             tries += 1
             if i < 0 or tries > TRIES:
                 raise NoRun()
-            self.values, self.standing = before[i]
+            self.restore(before[i])
             put_off[run[i][0]] = put_off.get(run[i][0], 0) + 1
             refused[i].add(run[i][0])
             del run[i:], before[i:], refused[i + 1:]
@@ -226,7 +248,7 @@ class ChartMachine:
                 self.values[x] = inputs.get(v.name, False if v.kind == "bool" else 0)
         if all(standing is None for standing in self.standing.values()):
             for r in self.chart.regions:
-                self.come_to(r, r.initial())
+                self.begin_in(r)
         else:
             for r in self.regions:
                 self.wake(r)

@@ -1,0 +1,342 @@
+"""Extended charts: a reader of their text, and a machine, written from docs/extended.md and docs/reference.md as plainly as
+possible. The reader is that of charts (chart_reader.py) with what is new, in the same three passes. The machine is that of
+charts (chart_machine.py), and knows no reduction: it walks the active states, keeps for each of them the tick in which it was
+entered, and of each variable what it was when the tick before ended.
+
+Constants and what variables were are variables here, of the roles "const" and "pre"."""
+from chart_machine import ChartMachine
+from chart_reader import ChartGrammar, ChartRules, Draft
+from charts import Chart, Region, State, Transition
+from machine import value
+from programs import Variable, loads, text_of_expression
+from reader import END, NAME, NESTED, Fault, is_utf8, tell_first, tree_of
+
+ROLES = ("input", "output", "local")
+# what a word among the variables has to be, and one among the actions
+ITEM_WORDS, ACTION_WORDS = ("const", "pre"), ("entry", "exit")
+
+
+class Declared(Variable):
+    """A variable, and what it holds first; or a constant, and its value; or what a variable was, and the number of that."""
+
+    def __init__(self, name, role, kind, initial=None, of=None):
+        super().__init__(name, role, kind)
+        self.initial = initial if initial is not None else kind == "int" and 0
+        self.of = of
+
+
+# ---- the second pass
+
+class ExtendedGrammar(ChartGrammar):
+    """Reads the tokens into the word before `chart`, a name, items and regions, in which names are not yet resolved."""
+
+    def extended(self):
+        _, word, place = self.take(NAME)
+        self.take("chart")
+        name = self.take(NAME)[1]
+        self.take("{")
+        items = []
+        while self.ahead() in (*ROLES, NAME):
+            items.append(self.item())
+        regions = [self.region(NESTED)]
+        while self.ahead() == "region":
+            regions.append(self.region(NESTED))
+        self.take("}")
+        self.take(END)
+        return (word, place), name, items, regions
+
+    def item(self):
+        head, word, word_place = self.take(*ROLES, NAME)
+        kind = self.take("bool", "int")[0]
+        _, name, place = self.take(NAME)
+        start = code = None
+        if self.takes("="):
+            start, code = self.place(), self.expression()
+        self.take(";")
+        return Draft(place, name, head=head, word=word, word_place=word_place, kind=kind, start=start, code=code)
+
+    def state(self, left):
+        is_initial, is_final = bool(self.takes("initial")), bool(self.takes("final"))
+        self.take("state")
+        _, name, place = self.take(NAME)
+        actions, regions, transitions = [], [], []
+        if not self.takes(";"):
+            self.take("{")
+            while self.ahead() == NAME:
+                actions.append(self.action())
+            while self.ahead() == "region":
+                regions.append(self.region(left - 1))
+            while self.ahead() in ("go", "strong", "weak", "join"):
+                transitions.append(self.transition())
+            self.take("}")
+        return Draft(place, name, is_initial=is_initial, is_final=is_final, actions=actions, regions=regions,
+                     transitions=transitions)
+
+    def action(self):
+        _, word, place = self.take(NAME)
+        self.take("do")
+        effects = self.effects()
+        self.take(";")
+        return Draft(place, word, effects=effects)
+
+    def effects(self):
+        effects = [self.effect()]
+        while self.takes(","):
+            effects.append(self.effect())
+        return effects
+
+    def transition(self):
+        kind, _, place = self.take("go", "strong", "weak", "join")
+        immediate, delay, trigger = False, None, None
+        if kind != "join":
+            immediate = bool(self.takes("immediate"))
+            if not immediate and self.ahead() == NAME:
+                _, word, word_place = self.take(NAME)
+                delay = Draft(word_place, word, start=self.place(), code=self.expression())
+            if self.takes("if"):
+                trigger = self.place(), self.expression()
+        effects = self.effects() if self.takes("do") else []
+        self.take("->")
+        target = self.take(NAME)
+        self.take(";")
+        return Draft(place, kind=kind, immediate=immediate, delay=delay, trigger=trigger, effects=effects, target=target)
+
+
+# ---- the third pass
+
+def literal_of(code):
+    """The value of a literal, also under a minus, or None."""
+    if len(code) == 1 and code[0][0] == "value":
+        return code[0][1]
+    if len(code) == 2 and code[1] == ("unary", "negate") and code[0][0] == "value" and not isinstance(code[0][1], bool):
+        return -code[0][1]
+    return None
+
+
+def is_literal_of(kind, code):
+    literal = literal_of(code)
+    return literal is not None and isinstance(literal, bool) == (kind == "bool")
+
+
+class ExtendedRules(ChartRules):
+    """All flaws of what a text spells, each as (place, number). To the rules of charts what is new in items are inputs."""
+
+    def __init__(self, items):
+        super().__init__([(i.head if i.head in ROLES else "input", i.kind, (NAME, i.name, i.place)) for i in items])
+        self.variables = {}
+        for i in items:
+            if i.head in ROLES:
+                self.variables.setdefault(i.name, i.kind)
+        for i in items:
+            self.item(i)
+            self.made_name(i)
+
+    def word(self, draft, words):
+        if draft.name not in words:
+            self.flaw(2, draft.place)
+
+    def item(self, i):
+        if i.head in ROLES:
+            if i.code and i.head == "input":
+                self.flaw(6, i.place)
+            elif i.code and not is_literal_of(i.kind, i.code):
+                self.flaw(5, i.start)
+        elif i.word not in ITEM_WORDS:
+            self.flaw(2, i.word_place)
+        elif not i.code:
+            self.flaw(6, i.place)
+        elif i.word == "const":
+            if not is_literal_of(i.kind, i.code):
+                self.flaw(5, i.start)
+        elif len(i.code) != 1 or i.code[0][0] != "load":
+            self.flaw(5, i.start)
+        elif i.code[0][1] not in self.variables:
+            self.flaw(3, i.code[0][2])
+        elif self.variables[i.code[0][1]] != i.kind:
+            self.flaw(5, i.start)
+
+    def made_name(self, draft):
+        """Names with two underscores side by side are those that reductions make."""
+        if "__" in draft.name:
+            self.flaw(1, draft.place)
+
+    def regions(self, regions):
+        super().regions(regions)
+        for region in regions:
+            self.made_name(region)
+            for state in region.states:
+                self.made_name(state)
+                self.new_in(state)
+
+    def new_in(self, state):
+        for action in state.actions:
+            self.word(action, ACTION_WORDS)
+            for number, e in enumerate(action.effects, 1):
+                if number > 16:
+                    self.flaw(7, e.place)
+                self.assignment(e.name, e.place, e.start, e.code)
+        for t in state.transitions:
+            if t.delay:
+                self.word(t.delay, ("after",))
+                self.expression(t.delay.code, t.delay.start, "int")
+
+
+# ---- what a text spells that keeps the rules
+
+def resolved(region, places):
+    at = {s.name: i for i, s in enumerate(region.states)}
+
+    def effects(drafts):
+        return [(places[e.name], tree_of(e.code, places)) for e in drafts]
+
+    def transition(t):
+        made = Transition(t.kind, t.immediate, tree_of(t.trigger[1], places) if t.trigger else None, effects(t.effects),
+                          at[t.target[1]])
+        made.delay = tree_of(t.delay.code, places) if t.delay else None
+        return made
+
+    def state(s):
+        made = State(s.name, s.is_initial, s.is_final, [resolved(r, places) for r in s.regions],
+                     [transition(t) for t in s.transitions])
+        made.entry, made.exit = ([e for a in s.actions if a.name == word for e in effects(a.effects)] for word in ACTION_WORDS)
+        return made
+
+    return Region(region.name, [state(s) for s in region.states])
+
+
+def declared(items):
+    places = {i.name: x for x, i in enumerate(items)}
+    for i in items:
+        if i.head in ROLES:
+            yield Declared(i.name, i.head, i.kind, literal_of(i.code) if i.code else None)
+        elif i.word == "const":
+            yield Declared(i.name, "const", i.kind, literal_of(i.code))
+        else:
+            yield Declared(i.name, "pre", i.kind, of=places[i.code[0][1]])
+
+
+def extended_flaws(text):
+    """What a text spells by the grammar, and all its flaws, each as (place, number); or a Fault."""
+    if not is_utf8(text):
+        raise Fault(1, 0)
+    (word, place), name, items, regions = ExtendedGrammar(text).extended()
+    rules = ExtendedRules(items)
+    rules.word(Draft(place, word), ("extended",))
+    rules.regions(regions)
+    return name, items, regions, rules.flaws
+
+
+def read_extended(text):
+    """The extended chart that a text spells, or a Fault. Its variables are its items."""
+    name, items, regions, flaws = extended_flaws(text)
+    tell_first(flaws)
+    places = {i.name: x for x, i in enumerate(items)}
+    return Chart(name, list(declared(items)), [resolved(r, places) for r in regions])
+
+
+# ---- the text of one
+
+def text_of_item(v, variables):
+    literal = str(v.initial).lower() if isinstance(v.initial, bool) else str(v.initial)
+    if v.role == "pre":
+        return f"pre {v.kind} {v.name} = {variables[v.of].name};"
+    has_value = v.role == "const" or v.initial not in (False, 0)
+    return f"{v.role} {v.kind} {v.name}{' = ' + literal if has_value else ''};"
+
+
+def text_of_effects(effects, variables):
+    return ", ".join(f"{variables[x].name} = {text_of_expression(e, variables)}" for x, e in effects)
+
+
+def text_of_transition(t, states, variables):
+    words = [t.kind] + ["immediate"] * t.immediate
+    if t.delay is not None:
+        words += ["after", text_of_expression(t.delay, variables)]
+    if t.trigger is not None:
+        words += ["if", text_of_expression(t.trigger, variables)]
+    if t.effects:
+        words += ["do", text_of_effects(t.effects, variables)]
+    return " ".join(words + ["->", states[t.target].name]) + ";"
+
+
+def text_of_extended(chart):
+    """One item, action or transition a line, two spaces for each level."""
+    variables = chart.variables
+    lines = [f"extended chart {chart.name} {{"] + ["  " + text_of_item(v, variables) for v in variables]
+
+    def write(regions, level):
+        space = "  " * level
+        for region in regions:
+            lines.append(f"{space}region {region.name} {{")
+            for s in region.states:
+                words = "initial " * s.is_initial + "final " * s.is_final + f"state {s.name}"
+                if not (s.entry or s.exit or s.regions or s.transitions):
+                    lines.append(f"{space}  {words};")
+                    continue
+                lines.append(f"{space}  {words} {{")
+                for word, effects in zip(ACTION_WORDS, (s.entry, s.exit)):
+                    if effects:
+                        lines.append(f"{space}    {word} do {text_of_effects(effects, variables)};")
+                write(s.regions, level + 2)
+                for t in s.transitions:
+                    lines.append(f"{space}    {text_of_transition(t, region.states, variables)}")
+                lines.append(f"{space}  }}")
+            lines.append(f"{space}}}")
+
+    write(chart.regions, 1)
+    return "\n".join(lines + ["}"]) + "\n"
+
+
+# ---- the machine
+
+class ExtendedMachine(ChartMachine):
+    """Where a region stands is as in the machine of charts. The tick in which each state was entered, and in which state each
+    region is or has ended, are kept beside."""
+
+    def __init__(self, chart, random):
+        super().__init__(chart, random)
+        self.values = [v.initial for v in chart.variables]
+        self.now, self.entered, self.within = 0, {}, {}
+
+    def saved(self):
+        return *super().saved(), dict(self.entered), dict(self.within)
+
+    def restore(self, saved):
+        *before, self.entered, self.within = saved
+        super().restore(before)
+
+    def begin(self, inputs):
+        self.now += 1
+        were = list(self.values)
+        for x, v in enumerate(self.chart.variables):
+            if v.role == "pre":
+                self.values[x] = were[v.of]
+        super().begin(inputs)
+
+    def begin_in(self, r):
+        self.act(r, r.initial(), r.initial().entry, r.states.index(r.initial()))
+
+    def come_to(self, r, s):
+        self.entered[s], self.within[r] = self.now, s
+        super().come_to(r, s)
+
+    def holds(self, s, t):
+        if t.delay is not None and self.now - self.entered[s] < value(t.delay, self.values):
+            return False
+        return super().holds(s, t)
+
+    @staticmethod
+    def asked_by(t):
+        return ChartMachine.asked_by(t) + (loads(t.delay) if t.delay else [])
+
+    def effects_of(self, s, t):
+        """The exit actions of all that is active inside, those of the state, the effects of the transition, and the entry
+        actions of the target."""
+        return [*self.exits_inside(s), *s.exit, *t.effects, *self.holder[s].states[t.target].entry]
+
+    def exits_inside(self, s):
+        """Region by region in the order of the text, in each what is inside first."""
+        for r in s.regions:
+            if self.standing[r] is not None:
+                yield from self.exits_inside(self.within[r])
+                yield from self.within[r].exit

@@ -1,0 +1,210 @@
+"""Texts of extended charts: rows with their faults, limits, random ones, and random ones with something changed."""
+from chart_texts import CHART_WORDS
+from charts import Chart
+from extended import Declared, text_of_extended
+from flaws import with_flaws
+from programs import VARIABLES
+from random_charts import ChartGenerator
+from texts import changed, laid_out, wanted_of
+
+# ---- rows: what a text is refused with, at the place that ^ marks; or None
+
+HEAD = "extended chart P { input bool i; input int n; output int x; output bool b; local int a; const int N = 3; "
+REGION = "region R { initial state s; } "
+
+TEXTS = {
+    "E01": [
+        "extended chart P { output int ^a__b; region R { initial state s; } }",
+        "extended chart P { const int ^N__ = 1; region R { initial state s; } }",
+        "extended chart P { input bool i; pre bool ^p__1 = i; region R { initial state s; } }",
+        HEAD + "region ^R__1 { initial state s; } }", HEAD + "region R { initial state ^s__; } }",
+        HEAD + "region R { initial state s { region Q { initial state ^a___b; } go -> t; } state t; } }",
+        HEAD + "region R { initial state s { go -> t__; } state ^t__; } }",
+        "extended chart ^_p { }", "extended chart P { const int ^_N = 1; }", "^$", "extended ^! chart", "extended chart P ^01",
+        "konst chart P { region ^_r { } }",
+    ],
+    "E02": [
+        "^konst chart P { region R { initial state s; } }", "^chart P { region R { initial state s; } }", "^", "extended^",
+        "extended ^extended chart P { }", "extended chart P { ^}", "extended ^scl P { }", "^scl P { }", "extended chart ^chart { }",
+        "^extended1 chart P { region R { initial state s; } }",
+        "extended chart P { ^konst int N = 3; region R { initial state s; } }",
+        "extended chart P { const ^N = 3; region R { initial state s; } }",
+        "extended chart P { const int N = ^; region R { initial state s; } }",
+        "extended chart P { const int N 3^; }".replace("N 3^", "N ^3"), "extended chart P { ^signal int N = 3; " + REGION + "}",
+        "extended chart P { const int N = 3 ^region R { } }", "extended chart P { output int x == 3; }".replace("==", "^=="),
+        "extended chart P { " + REGION + "^const int N = 3; }", "extended chart P { ^Const int N = 3; " + REGION + "}",
+        HEAD + "region R { initial state s { ^enter do x = 1; } } }", HEAD + "region R { initial state s { entry ^x = 1; } } }",
+        HEAD + "region R { initial state s { entry do x = 1 ^} } }", HEAD + "region R { initial state s { entry do ^; } } }",
+        HEAD + "region R { initial state s { entry do x = 1, ^; } } }", HEAD + "region R { initial state s { ^during do x = 1; } } }",
+        HEAD + "region R { initial state s { go -> s; ^entry do x = 1; } } }",
+        HEAD + "region R { initial state s { region Q { initial state t; } ^entry do x = 1; } } }",
+        HEAD + "region R { initial state s { entry ^if i do x = 1; } } }", HEAD + "region R { initial state s { ^immediate entry do x = 1; } } }",
+    ],
+    "E03": [
+        "extended chart P { pre int p = ^y; " + REGION + "}", "extended chart P { const int N = 3; pre int p = ^N; " + REGION + "}",
+        "extended chart P { input int n; pre int p = n; pre int q = ^p; " + REGION + "}",
+        HEAD + "region R { initial state s { entry do ^y = 1; } } }", HEAD + "region R { initial state s { exit do x = ^y; } } }",
+        HEAD + "region R { initial state s { entry do ^y = true; } } }",
+        HEAD + "region R { initial state s { exit do x = a + ^M; } } }",
+    ],
+    "E04": [
+        HEAD + "const int ^N = 4; " + REGION + "}", HEAD + "const int ^x = 4; " + REGION + "}", HEAD + "pre int ^N = x; " + REGION + "}",
+        HEAD + "local int ^N; " + REGION + "}",
+    ],
+    "E05": [
+        "extended chart P { const int N = ^true; " + REGION + "}", "extended chart P { const bool N = ^1; " + REGION + "}",
+        "extended chart P { const int N = ^1 + 1; " + REGION + "}", "extended chart P { const int N = ^--1; " + REGION + "}",
+        HEAD + "const int M = ^N; " + REGION + "}", "extended chart P { const bool B = ^not true; " + REGION + "}",
+        "extended chart P { output int x = ^false; " + REGION + "}", "extended chart P { local bool c = ^0; " + REGION + "}",
+        HEAD + "output int z = ^N; " + REGION + "}", HEAD + "output int z = ^y; " + REGION + "}", HEAD + "const bool M = ^-1; " + REGION + "}",
+        HEAD + "pre bool p = ^x; " + REGION + "}", HEAD + "pre int p = ^b; " + REGION + "}", HEAD + "pre int p = ^x + 1; " + REGION + "}",
+        HEAD + "pre int p = ^3; " + REGION + "}", HEAD + "pre int p = ^-x; " + REGION + "}", HEAD + "pre int p = ^y + 1; " + REGION + "}",
+        HEAD + "const int M = ^1" + " + 1" * 40 + "; " + REGION + "}",
+        HEAD + "region R { initial state s { entry do x = ^i; } } }", HEAD + "region R { initial state s { exit do b = ^x; } } }",
+    ],
+    "E06": [
+        "extended chart P { input int ^n = 3; " + REGION + "}", "extended chart P { input int ^n = true; " + REGION + "}",
+        "extended chart P { const int ^N; " + REGION + "}", HEAD + "pre int ^p; " + REGION + "}",
+        HEAD + "region R { initial state s { entry do ^n = 1; } } }", HEAD + "region R { initial state s { entry do ^N = 1; } } }",
+        HEAD + "pre int p = x; region R { initial state s { exit do ^p = 1; } } }",
+        HEAD + "region R { initial state s { go do ^N = 1 -> s; } } }",
+        HEAD + "region R { initial final state ^s { exit do x = 1; go -> s; } } }",
+    ],
+    "E07": [
+        "extended chart P { const int N = ^2147483648; " + REGION + "}", "extended chart ^" + "n" * 65 + " { }",
+        HEAD + "region R { initial state s { entry do x = 1" + ", x = 1" * 15 + ", ^x = 1; } } }",
+        HEAD + "region R { initial state s { exit do x = ^1" + " + 1" * 32 + "; } } }",
+    ],
+    None: [
+        HEAD + REGION + "}", "extended chart extended { output int const; local bool entry; region after { initial state exit; } }",
+        "extended chart P { const int const = 3; output int pre = -3; pre int after = pre; region R { initial state s { "
+        "go after const + after if pre < const -> s; } } }",
+        HEAD + "pre int p = (x); const int M = (-(3)); output int z = -(3); const bool T = (true); " + REGION + "}",
+        HEAD + "region R { initial state s { entry do x = N; exit do x = 1; entry do a = x, x = a; go -> s; } final state t { "
+        "entry do x = 1; exit do x = 2; } } }",
+        HEAD + "region R { initial state s { entry do x = 1; region Q { initial state t; } strong after n + 1 if i do x = 1 -> s; "
+        "weak after -1 -> s; join do x = 2 -> s; } } }",
+        "extended chart P { output int a_b_c_; " + REGION + "}", "extended chart P__1 { " + REGION + "}",
+        "extended chart P { pre bool was = i; input bool i; " + REGION + "}",
+        HEAD + "region R { initial state s { entry do x = 1" + ", x = 1" * 7 + "; entry do x = 1" + ", x = 1" * 7 + "; } } }",
+    ],
+}
+
+# transitions of a simple state s, beside a state t
+SIMPLE = {
+    "E02": [
+        "go immediate ^after 3 -> t;", "go after 3 ^immediate -> t;", "go ^before 3 -> t;", "go after ^-> t;", "go after ^if i -> t;",
+        "go ^After 3 -> t;", "go after 3 ^after 3 -> t;", "go if i ^after 3 -> t;", "go after 3 ^do -> t;".replace("^do ->", "do ^->"),
+        "join ^after 3 -> t;", "go ^after -> t;".replace("^after ->", "after ^->"), "go after 3 ^x = 1 -> t;", "go ^x 3 -> t;",
+        "join ^if i -> t;", "join ^immediate -> t;",
+    ],
+    "E03": ["go after ^M -> t;", "go after N + ^M if i -> t;", "go after N if ^y -> t;", "go after ^s -> t;", "go after N -> ^u;"],
+    "E05": ["go after ^true -> t;", "go after ^i -> t;", "go after ^n == 3 if i -> t;", "go after N if ^n -> t;", "go after ^(i) -> t;"],
+    "E06": ["^strong after 3 -> t;", "^weak after N -> t;", "go after N do ^n = 1 -> t;"],
+    "E07": ["go after ^a" + " + a" * 16 + " -> t;", "go after ^1" + " + 1" * 32 + " -> t;"],
+}
+
+
+def of_simple(text):
+    return f"{HEAD}region R {{ initial state s {{ {text} }} state t; }} }}"
+
+
+def declared(count):
+    return "extended chart P { " + "".join(f"const int v{k} = {k}; " for k in range(count))
+
+
+def limits():
+    yield None, declared(256) + REGION + "}"
+    yield "E07", declared(256) + "local int ^w; " + REGION + "}"
+    yield "E07", declared(256).replace("{ const", "{ local") + "const int ^w = 1; " + REGION + "}"
+    opened = "region R { initial state s { entry do x = 1; "
+    yield None, HEAD + opened * 32 + "} } " * 32 + "}"
+    yield "E07", HEAD + opened * 32 + "^region R { } " + "} } " * 32 + "}"
+    # the first flaw is that of least place, and of two at one place the one of least number
+    yield "E01", HEAD + "local int ^N__; local int N__; const int c = true; " + REGION + "}"
+    yield "E02", "^konst chart P { output int a__b; const int c = true; " + REGION + "}"
+    yield "E03", of_simple("go before ^M -> t;").replace("before ^M", "after ^M")
+    yield "E02", of_simple("go ^before M -> t;")
+    yield "E01", HEAD + "local int ^x__; input int x__ = 3; " + REGION + "}"
+    yield "E01", HEAD + "input int ^y__ = 3; " + REGION + "}"
+
+
+def all_rows():
+    """Each row as its bytes and its fault with the place, or None."""
+    for rows, whole in (TEXTS, lambda text: text), (SIMPLE, of_simple):
+        for fault, texts in rows.items():
+            yield from (wanted_of(fault, whole(text)) for text in texts)
+    yield from (wanted_of(fault, text) for fault, text in limits())
+
+
+# ---- random charts
+
+CONSTANTS = [Declared("N", "const", "int", 2), Declared("M", "const", "int", -3), Declared("T", "const", "bool", True)]
+PLAIN = len(VARIABLES)
+
+
+class ExtendedGenerator(ChartGenerator):
+    """Makes one random extended chart."""
+
+    def __init__(self, seed, size):
+        super().__init__(seed, size, False)
+        r = self.random
+        was = [Declared(f"was_{VARIABLES[x].name}", "pre", VARIABLES[x].kind, of=x) for x in r.sample(range(PLAIN), r.choice([0, 1, 2, 3]))]
+        self.items = [Declared(v.name, v.role, v.kind, self.initial(v)) for v in VARIABLES] + CONSTANTS + was
+        # how often each of what is new stands where it may
+        self.share = {word: r.choice([0, 0.2, 0.5]) for word in ("new", "after", "entry", "exit")}
+
+    def initial(self, v):
+        r = self.random
+        if v.role == "input" or r.random() < 0.6:
+            return None
+        return r.random() < 0.7 if v.kind == "bool" else r.choice([1, 3, -7, 2147483647])
+
+    def loaded(self, kind):
+        # nobody writes what is new, so it is in nobody's way
+        new = [x for x, v in enumerate(self.items) if x >= PLAIN and v.kind == kind]
+        return self.random.choice(new) if new and self.random.random() < self.share["new"] else super().loaded(kind)
+
+    def effect(self):
+        r = self.random
+        x, e = super().effect()
+        # the order of such effects shows
+        return (x, ("add", ("multiply", ("load", x), ("value", 3)), ("value", r.randrange(5)))) if (
+            VARIABLES[x].kind == "int" and not self.combination[x] and r.random() < 0.2) else (x, e)
+
+    def actions(self, word):
+        return [self.effect() for _ in range(self.random.choice([1, 1, 2]))] if (
+            self.writable and self.random.random() < self.share[word]) else []
+
+    def transition(self, kind, at, states):
+        r = self.random
+        made = super().transition(kind, at, states)
+        made.delay = None
+        if kind != "join" and not made.immediate and r.random() < self.share["after"]:
+            made.delay = r.choice([("value", 1), ("value", 2), ("value", 3), ("load", PLAIN), ("add", ("load", PLAIN), ("value", 1)), ("load", 2)])
+            made.trigger = made.trigger if r.random() < 0.3 else None
+        return made
+
+    def region(self, depth, inside_aborts):
+        made = super().region(depth, inside_aborts)
+        for s in made.states:
+            s.entry, s.exit = self.actions("entry"), self.actions("exit")
+        return made
+
+
+def random_extended(seed, size, depth=3):
+    generator = ExtendedGenerator(seed, size)
+    regions = generator.regions(depth, False, generator.random.choice([1, 2, 2, 3]))
+    return Chart("C", generator.items, regions)
+
+
+WORDS = CHART_WORDS + "extended chart const pre entry exit after do = ; N M T was_x const int pre bool entry do a__b x__ after 3".split()
+
+
+def damaged_texts(seed, r):
+    """A random chart in another layout, and texts with something changed in it: words, or names, roles and kinds."""
+    text = text_of_extended(random_extended(seed, r.choice([2, 4, 8])))
+    yield laid_out(text, r).encode()
+    for _ in range(4):
+        yield changed(text, r, WORDS).encode()
+        yield with_flaws(text.encode(), r)
