@@ -3,7 +3,7 @@ _sct() {
   local word=${COMP_WORDS[COMP_CWORD]} command=${COMP_WORDS[1]:-} before=${COMP_WORDS[COMP_CWORD - 1]}
   COMPREPLY=()
   if ((COMP_CWORD == 1)); then
-    mapfile -t COMPREPLY < <(compgen -W 'compile scl core explain dot test simulate check list run migrate help --help --version' -- "$word")
+    mapfile -t COMPREPLY < <(compgen -W 'compile scl core reduce explain dot test simulate check list run migrate help --help --version' -- "$word")
     return
   fi
   if [[ $before == --workers ]]; then
@@ -25,6 +25,7 @@ _sct() {
   case $command in
     compile | scl | explain | dot | test | simulate) ending='*.@(chart|scl)' ;;
     core) ending='*.chart' ;;
+    reduce) ending='*.extended' ;;
   esac
   [[ $before == --source ]] && ending='*.@(chart|scl)'
   [[ $before == --chart ]] && ending='*.chart'
