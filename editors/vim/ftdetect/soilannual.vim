@@ -1,2 +1,3 @@
 autocmd BufRead,BufNewFile *.chart setfiletype chart
+autocmd BufRead,BufNewFile *.extended setfiletype extended
 autocmd BufRead,BufNewFile *.scl setfiletype scl

@@ -1,0 +1,13 @@
+" Extended SCCharts of Soilannual: those of charts, and words that are names everywhere else.
+if exists("b:current_syntax")
+  finish
+endif
+runtime! syntax/chart.vim
+unlet b:current_syntax
+syntax match extendedStorage "\<extended\ze\s\+chart\>"
+syntax match extendedStorage "\<\(const\|pre\)\ze\s\+\(bool\|int\)\>"
+syntax match extendedStatement "\<\(entry\|exit\)\ze\s\+do\>"
+syntax match extendedStatement "\(\<\(go\|strong\|weak\)\s\+\)\@<=after\>"
+highlight default link extendedStorage StorageClass
+highlight default link extendedStatement Statement
+let b:current_syntax = "extended"
