@@ -11,5 +11,3 @@ pub mod Bridging
 pub mod Assembly
 pub mod Ticking
 pub mod Validity
-pub mod Standing
-pub mod AlongVariables

@@ -5,5 +5,3 @@ pub mod Falling
 pub mod Ordered
 pub mod Bounds
 pub mod Parts
-pub mod Extremes
-pub mod Pairs

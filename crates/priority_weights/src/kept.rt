@@ -1,17 +1,16 @@
 //! Whether a table keeps the order of priorities, looked at by threads and not by nodes.
 
 ghost use Rattle.std.specs.Prelude.{◌≡◌, ◌<◌, ◌≤◌, ◌↔◌, ℕ, IfOk, IsTrue, Contains, slice_index};
+ghost use Rattle.program_edges.specs.AlongVariables.{AllFall, FallsOn, FallsTo};
 ghost use Rattle.program_edges.specs.Users.{InitsAt, Lists, ReadsAt, UpdatesAt};
 ghost use Rattle.sc_graph.specs.Links.{Tells};
 ghost use Rattle.sc_graph.specs.Protocol.{Instant, ProtocolEdge};
 ghost use Rattle.sc_graph.specs.Valid.{IsFormed};
-ghost use Rattle.priority_weights.specs.Inside.Pairs.{AllFall, FallsTo, FallsOn};
 
-use crate::extremes::{Extreme, extremes_of};
 use crate::instants::asked_by_instants;
 use crate::next::entry;
-use crate::places::Places;
 use conflict_edges::Edges;
+use program_edges::{Extreme, Places, extremes_of};
 use sc_graph::{Links, NodeId, Program, VariableId};
 use std::alloc::{AllocError, Global};
 
@@ -112,8 +111,8 @@ fn kept_between(
     requires { edges.now ≡ program.now }
     ensures { IfOk result (λ kept. IsTrue kept → AllFall program.now table.now firsts.now seconds.now) }
 {
-    let least = extremes_of(alloc, program, table, Extreme::Least, firsts, places)?;
-    let greatest = extremes_of(alloc, program, table, Extreme::Greatest, seconds, places)?;
+    let least = extremes_of(alloc, program, &table, Extreme::Least, firsts, places)?;
+    let greatest = extremes_of(alloc, program, &table, Extreme::Greatest, seconds, places)?;
     Ok(all_fall(edges, table, least.as_slice(), greatest.as_slice()))
 }
 

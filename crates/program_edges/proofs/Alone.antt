@@ -7,7 +7,6 @@ use Rattle.sc_graph.specs.Program.{Program, parent_of, step_at}
 use Rattle.sc_graph.specs.Links.{Tells, only_at}
 use Rattle.sc_graph.specs.Structure.{ExactlyOne, ForksChild}
 use Rattle.sc_graph.specs.Threads.{Below, ForkedApart, AreConcurrent}
-use Rattle.sc_graph.specs.Inside.Parting.{PartAt}
 use Rattle.sc_graph.specs.Valid.{IsFormed}
 use Rattle.sc_graph.proofs.Formed.{falls_upwards, parts, within_threads}
 use Rattle.sc_graph.proofs.Linking.{fork_known}
@@ -55,7 +54,7 @@ goes_up p t q u up alone x =
 -- the root is concurrent with no thread
 none_at_the_top : (p : Program) (t u : ℕ) → IsFormed p → parent_of p t ≡ None → AreConcurrent p t u → ⊥
 none_at_the_top p t u formed top x =
-    let y : PartAt p t u x.apart.left x.apart.right x.forking = parts p formed t u x.forking x.apart in
+    let y = parts p formed t u x.forking x.apart in
     elim (below_cases p t x.apart.left x.apart.t_below) [
       | inl here ↦
           let none : parent_of p x.apart.left ≡ None = subst (λ k. parent_of p k ≡ None) here top in

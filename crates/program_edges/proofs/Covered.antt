@@ -1,12 +1,10 @@
 -- Where the candidates do not conflict, no two nodes do.
-use Rattle.std.proofs.Common.{ℕ, zero, suc, ◌≡◌, ◌≢◌, ◌<◌, ◌≤◌, ◌+◌, ◌⊎◌, inl, inr, Bool, true, false, Option, Some, None, List, [], ◌∷◌, ◌++◌, length}
-use Rattle.std.proofs.Common.{slice_index, refl, sym, ◌∙◌, subst, ap, arith, ⊎_elim}
+use Rattle.std.proofs.Common.{ℕ, ◌≡◌, ◌<◌, ◌≤◌, ◌+◌, ◌⊎◌, inl, inr, true, false, Option, Some, None, List, [], ◌∷◌, ◌++◌, length}
+use Rattle.std.proofs.Common.{slice_index, sym, ◌∙◌, subst, ap, arith}
 use Rattle.std.specs.Prelude.{Contains}
 use Rattle.std.proofs.lemmas.Bool.{cases_Bool}
 use Rattle.std.proofs.lemmas.List.Elements.{Contains-append_left, Contains-push, Contains-push_cases, Contains-get_or}
 use Rattle.sc_values.specs.declared.value.Value.{Value}
-use Rattle.sc_values.specs.declared.operator.Combination.{Combination}
-use Rattle.sc_values.specs.declared.operator.Combination.TheVariants as combine
 use Rattle.sc_values.specs.Access.{Access, Writing, Init, Inits, Clash, two_inits, two_updates, same_value, same_literal, one_literal}
 use Rattle.sc_values.proofs.Literals.{value_from_same, clash_turned}
 use Rattle.sc_values.proofs.Merge.{one_combination}

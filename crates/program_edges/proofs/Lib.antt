@@ -4,6 +4,8 @@ pub mod Gaining
 pub mod Variables
 pub mod Instantly
 pub mod Answer
+pub mod Standing
+pub mod AlongVariables
 mod Alone
 mod Finding
 mod Covered

@@ -4,3 +4,4 @@ pub mod Beside
 pub mod NoConflicts
 pub mod Candidates
 pub mod Agreement
+pub mod TakingIn

@@ -10,8 +10,9 @@ use Rattle.sc_graph.specs.Accesses.{accesses}
 use Rattle.sc_graph.specs.Protocol.{NoConflictAt, ProtocolAt}
 use Rattle.program_edges.specs.Conflicts.{HasNoConflict}
 use Rattle.program_edges.specs.Users.{InitsAt, UpdatesAt, ReadsAt, Lists}
-use Rattle.verifier.specs.Inside.Pairs.{Falls, AllFall, NoFallBetween, FallsOn}
-use Rattle.program_edges.proofs.Variables.{init_variable, update_variable}
+use Rattle.program_edges.specs.AlongVariables.{FallsTo, FallsOn}
+use Rattle.verifier.specs.Inside.Pairs.{NoFallBetween}
+use Rattle.program_edges.proofs.AlongVariables.{falls_along}
 
 pub no_conflicts_kept : (p : Program) → HasNoConflict p → (at : Place) → NoConflictAt p at
 no_conflicts_kept p h place.Image = tt
@@ -20,7 +21,7 @@ no_conflicts_kept p h (place.Thread t) = tt
 no_conflicts_kept p h (place.Node n) = tt
 no_conflicts_kept p h (place.Pair m n) = h.none m n
 
-no_fall_breaks : (p : Program) (q : Tables) (m n : ℕ) (at : Place) → at ≡ place.Pair m n → ¬ Falls p q m n → Precedes (accesses p m) (accesses p n)
+no_fall_breaks : (p : Program) (q : Tables) (m n : ℕ) (at : Place) → at ≡ place.Pair m n → ¬ FallsTo p q.priorities m n → Precedes (accesses p m) (accesses p n)
     → ¬ ProtocolAt p q at
 no_fall_breaks p q m n at is rises before kept =
     let P : Place → Type 0 = λ a. ProtocolAt p q a in
@@ -43,23 +44,9 @@ update_read_breaks p q x updates reads u l at r =
     let w = u.only r.first r.in_firsts in
     no_fall_breaks p q r.first r.second at r.is r.no_fall (update_read x w.0 w.1 (l.only r.second r.in_seconds))
 
-pub falls_on : (p : Program) (q : Tables) (x : ℕ) (inits updates reads : List ℕ) → Lists inits (InitsAt p x) → Lists updates (UpdatesAt p x)
-    → Lists reads (ReadsAt p x) →
-    AllFall p q inits updates → AllFall p q inits reads → AllFall p q updates reads → FallsOn p q x
-falls_on p q x inits updates reads i u l iu il ul = record {
-  init_update = λ m n a b. iu m n (i.each m a) (u.each n b);
-  init_read = λ m n a b. il m n (i.each m a) (l.each n b);
-  update_read = λ m n a b. ul m n (u.each m a) (l.each n b);
-}
-
-pub falls_kept : (p : Program) (q : Tables) → IsFormed p → ((x : ℕ) → x < length p.variables → FallsOn p q x) → (at : Place) → ProtocolAt p q at
+pub falls_kept : (p : Program) (q : Tables) → IsFormed p → ((x : ℕ) → x < length p.variables → FallsOn p q.priorities x) → (at : Place) → ProtocolAt p q at
 falls_kept p q formed h place.Image = tt
 falls_kept p q formed h (place.Variable x) = tt
 falls_kept p q formed h (place.Thread t) = tt
 falls_kept p q formed h (place.Node n) = tt
-falls_kept p q formed h (place.Pair m n) = λ edge. (over edge.precedes).falls edge.concurrent
-  where
-    over : Precedes (accesses p m) (accesses p n) → Falls p q m n
-    over (init_update x f i u) = (h x (init_variable p formed m x i)).init_update m n i (f, u)
-    over (init_read x i l) = (h x (init_variable p formed m x i)).init_read m n i l
-    over (update_read x f u l) = (h x (update_variable p formed m x f u)).update_read m n (f, u) l
+falls_kept p q formed h (place.Pair m n) = λ edge. falls_along p q.priorities formed h m n edge

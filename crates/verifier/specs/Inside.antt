@@ -3,7 +3,6 @@ pub mod Faults
 pub mod ByNode
 pub mod Pairs
 pub mod Each
-pub mod Extremes
 pub mod Chosen
 pub mod Linked
 pub mod Known

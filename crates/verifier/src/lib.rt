@@ -11,7 +11,6 @@ mod fault_text;
 mod flow;
 mod kinds;
 mod known;
-mod places;
 mod protocol;
 mod rule;
 mod size;

@@ -5,14 +5,15 @@ ghost use Rattle.std.specs.Prelude.{◌≡◌, ◌↔◌, IsTrue, MatchOption, �
 ghost use Rattle.sc_graph.specs.Protocol.{ProtocolAt};
 ghost use Rattle.sc_graph.specs.Valid.{IsFormed};
 ghost use Rattle.sc_graph.specs.declared.place.Place.TheVariants as place;
-ghost use Rattle.verifier.specs.Inside.Pairs.{AllFall, Falls, FallsOn, NoFallBetween};
+ghost use Rattle.verifier.specs.Inside.Pairs.{NoFallBetween};
+ghost use Rattle.program_edges.specs.Extremes.{StandFor};
+ghost use Rattle.program_edges.specs.AlongVariables.{AllFall, FallsOn, FallsTo};
+ghost use Rattle.program_edges.specs.declared.extremes.Extreme.TheVariants.{Greatest, Least};
 ghost use Rattle.program_edges.specs.Users.{InitsAt, Lists, ReadsAt, UpdatesAt};
 ghost use Rattle.verifier.specs.Inside.Faults.{IsFault};
 ghost use Rattle.verifier.specs.Inside.Known.{KnownOf};
 ghost use Rattle.verifier.specs.Inside.Linked.{IsLinked};
 ghost use Rattle.verifier.specs.Inside.Chosen.{StandOver};
-ghost use Rattle.verifier.specs.Inside.Extremes.{StandFor};
-ghost use Rattle.verifier.specs.declared.extremes.Extreme.TheVariants.{Greatest, Least};
 
 use crate::extremes::{Extremes, list_of};
 use crate::known::Known;
@@ -63,7 +64,8 @@ fn no_fall_over(
     requires updates { Lists updates.now (UpdatesAt program.now x) }
     requires reads { Lists reads.now (ReadsAt program.now x) }
     requires extremes { StandOver program.now tables.now extremes.now x inits.now updates.now reads.now }
-    ensures { MatchOption result (FallsOn program.now tables.now x) (λ at. ¬ ProtocolAt program.now tables.now at) }
+    ensures { MatchOption result (FallsOn program.now tables.now.priorities x)
+        (λ at. ¬ ProtocolAt program.now tables.now at) }
 {
     let least_inits = list_of(&extremes.least_inits, x);
     let greatest_updates = list_of(&extremes.greatest_updates, x);
@@ -115,9 +117,9 @@ fn no_fall_by(
     greatest: &[NodeId],
 ) -> Option<Place>
     requires links { IsLinked program.now links.now }
-    requires least { StandFor program.now tables.now Least firsts.now least.now }
-    requires greatest { StandFor program.now tables.now Greatest seconds.now greatest.now }
-    ensures { MatchOption result (AllFall program.now tables.now firsts.now seconds.now)
+    requires least { StandFor program.now tables.now.priorities Least firsts.now least.now }
+    requires greatest { StandFor program.now tables.now.priorities Greatest seconds.now greatest.now }
+    ensures { MatchOption result (AllFall program.now tables.now.priorities firsts.now seconds.now)
         (NoFallBetween program.now tables.now firsts.now seconds.now) }
 {
     match no_fall_between(program, tables, links, least, greatest) {
@@ -135,7 +137,7 @@ fn no_fall_between(
     seconds: &[NodeId],
 ) -> Option<Place>
     requires { IsLinked program.now links.now }
-    ensures { MatchOption result (AllFall program.now tables.now firsts.now seconds.now)
+    ensures { MatchOption result (AllFall program.now tables.now.priorities firsts.now seconds.now)
         (NoFallBetween program.now tables.now firsts.now seconds.now) }
 {
     for m in firsts {
@@ -155,8 +157,8 @@ fn no_fall_after(
     seconds: &[NodeId],
 ) -> Option<NodeId>
     requires { IsLinked program.now links.now }
-    ensures { MatchOption result ((n : ℕ) → Contains seconds.now n → Falls program.now tables.now m n)
-        (λ n. Contains seconds.now n × ¬ Falls program.now tables.now m n) }
+    ensures { MatchOption result ((n : ℕ) → Contains seconds.now n → FallsTo program.now tables.now.priorities m n)
+        (λ n. Contains seconds.now n × ¬ FallsTo program.now tables.now.priorities m n) }
 {
     if !has_company(program, links, m) {
         return None;
@@ -172,7 +174,7 @@ fn no_fall_after(
 // Whether priority falls from a node to another, if they are concurrent.
 fn falls(program: &Program, tables: &Tables, links: &Links, m: NodeId, n: NodeId) -> bool
     requires { IsLinked program.now links.now }
-    ensures { IsTrue result ↔ Falls program.now tables.now m n }
+    ensures { IsTrue result ↔ FallsTo program.now tables.now.priorities m n }
 {
     tables.priority(n) < tables.priority(m) || !are_concurrent(program, links, m, n)
 }

@@ -1,6 +1,6 @@
 use Rattle.std.proofs.Common.{ℕ, get_or, arith, below_more}
 use Rattle.std.specs.Prelude.{Contains}
-use Rattle.priority_weights.specs.Inside.Pairs.{FallsTo}
+use Rattle.program_edges.specs.AlongVariables.{FallsTo}
 use Rattle.program_edges.proofs.Variables.{of_each}
 use Rattle.priority_weights.proofs.kept.all_fall.Goals as goal
 

@@ -1,6 +1,6 @@
 use Rattle.std.proofs.Common.{ℕ, ◌<◌, get_or}
 use Rattle.std.specs.Prelude.{Contains}
-use Rattle.priority_weights.specs.Inside.Pairs.{FallsTo}
+use Rattle.program_edges.specs.AlongVariables.{FallsTo}
 use Rattle.priority_weights.proofs.kept.all_fall.Given as goal
 
 abbrev pub invariant-loop-m : goal.invariant-loop-m

@@ -1,5 +1,5 @@
 use Rattle.std.proofs.Common.{ℕ, ◌<◌, get_or}
-use Rattle.priority_weights.specs.Inside.Pairs.{FallsTo}
+use Rattle.program_edges.specs.AlongVariables.{FallsTo}
 use Rattle.priority_weights.proofs.kept.falls_to_all.Given as goal
 
 abbrev pub invariant-loop-n : goal.invariant-loop-n

@@ -1,7 +1,7 @@
 use Rattle.std.proofs.Common.{ℕ, List, subst}
 use Rattle.sc_graph.specs.Program.{Program}
-use Rattle.priority_weights.specs.Inside.Pairs.{AllFall}
-use Rattle.priority_weights.proofs.Standing.{all_fall}
+use Rattle.program_edges.specs.AlongVariables.{AllFall}
+use Rattle.program_edges.proofs.Standing.{all_fall}
 use Rattle.priority_weights.proofs.kept.kept_between.Goals as goal
 
 pub returns : goal.returns

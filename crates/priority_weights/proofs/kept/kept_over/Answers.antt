@@ -1,4 +1,4 @@
-use Rattle.priority_weights.proofs.AlongVariables.{falls_on}
+use Rattle.program_edges.proofs.AlongVariables.{falls_on}
 use Rattle.priority_weights.proofs.kept.kept_over.Goals as goal
 
 pub returns : goal.returns

@@ -1,6 +1,6 @@
 use Rattle.std.proofs.Common.{arith, below_more}
-use Rattle.priority_weights.specs.Inside.Pairs.{FallsOn}
-use Rattle.priority_weights.proofs.AlongVariables.{falls_kept}
+use Rattle.program_edges.specs.AlongVariables.{FallsOn}
+use Rattle.program_edges.proofs.AlongVariables.{falls_along}
 use Rattle.priority_weights.proofs.kept.protocol_kept.Goals as goal
 
 pub loop-x-preserved : goal.loop-x-preserved
@@ -10,4 +10,4 @@ pub returns : goal.returns
 returns c =
     let end = c.loop-x-test.false in
     let count = c.variable_count-x-end.ensures in
-    λ yes. falls_kept c.args.program.now c.args.table.now c.requires.formed (λ x h. c.loop-x.invariant x (omega (arith, h, end, count)))
+    λ yes. falls_along c.args.program.now c.args.table.now c.requires.formed (λ x h. c.loop-x.invariant x (omega (arith, h, end, count)))

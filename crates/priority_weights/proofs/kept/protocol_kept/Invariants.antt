@@ -1,5 +1,5 @@
 use Rattle.std.proofs.Common.{ℕ, ◌<◌}
-use Rattle.priority_weights.specs.Inside.Pairs.{FallsOn}
+use Rattle.program_edges.specs.AlongVariables.{FallsOn}
 use Rattle.priority_weights.proofs.kept.protocol_kept.Given as goal
 
 abbrev pub invariant-loop-x : goal.invariant-loop-x

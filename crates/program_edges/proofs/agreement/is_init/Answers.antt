@@ -1,4 +1,4 @@
-use Rattle.std.proofs.Common.{◌≡◌, Some, sym, ap, ◌∙◌}
+use Rattle.std.proofs.Common.{Some, sym, ap, ◌∙◌}
 use Rattle.program_edges.proofs.Agreeing.{init_there}
 use Rattle.program_edges.proofs.agreement.is_init.Goals as goal
 

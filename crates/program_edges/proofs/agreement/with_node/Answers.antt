@@ -1,4 +1,4 @@
-use Rattle.std.proofs.Common.{◌≡◌, true, refl, IsTrue}
+use Rattle.std.proofs.Common.{refl, IsTrue}
 use Rattle.program_edges.proofs.Agreeing.{not_both}
 use Rattle.program_edges.proofs.agreement.with_node.Goals as goal
 

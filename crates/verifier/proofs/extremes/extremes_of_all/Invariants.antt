@@ -1,6 +1,6 @@
 use Rattle.verifier.specs.Inside.Each.{EachOf}
-use Rattle.verifier.specs.Inside.Extremes.{StandFor}
+use Rattle.program_edges.specs.Extremes.{StandFor}
 use Rattle.verifier.proofs.extremes.extremes_of_all.Given as goal
 
 abbrev pub invariant-loop-x : goal.invariant-loop-x
-invariant-loop-x l = EachOf (StandFor l.program l.tables l.extreme) l.x l.users l.lists
+invariant-loop-x l = EachOf (StandFor l.program l.tables.priorities l.extreme) l.x l.users l.lists

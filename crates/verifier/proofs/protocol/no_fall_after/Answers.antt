@@ -1,6 +1,6 @@
 use Rattle.std.proofs.Common.{ℕ, ◌≡◌, arith, true}
 use Rattle.program_edges.proofs.Variables.{of_each}
-use Rattle.verifier.specs.Inside.Pairs.{Falls}
+use Rattle.program_edges.specs.AlongVariables.{FallsTo}
 use Rattle.verifier.proofs.protocol.no_fall_after.Goals as goal
 
 pub returns-then-not-has_company : goal.returns-then-not-has_company
@@ -10,5 +10,5 @@ returns-then-not-has_company c = λ n at. record {
 
 pub returns : goal.returns
 returns c =
-    let P : ℕ → Type 0 = λ n. Falls c.args.program.now c.args.tables.now c.args.m n in
+    let P : ℕ → Type 0 = λ n. FallsTo c.args.program.now c.args.tables.now.priorities c.args.m n in
     of_each c.args.seconds.now P (λ k h. c.loop-n.invariant k (omega (arith, h)))

@@ -1,15 +1,16 @@
 use Rattle.std.proofs.Common.{ℕ, get_or, arith, below_more}
 use Rattle.std.specs.Prelude.{Contains}
-use Rattle.verifier.specs.Inside.Pairs.{Falls}
+use Rattle.program_edges.specs.AlongVariables.{FallsTo}
 use Rattle.program_edges.proofs.Variables.{of_each}
 use Rattle.verifier.proofs.protocol.no_fall_between.Goals as goal
 
 pub loop-m-preserved : goal.loop-m-preserved
 loop-m-preserved c =
-    let P : ℕ → Type 0 = λ k. (n : ℕ) → Contains c.args.seconds.now n → Falls c.args.program.now c.args.tables.now (get_or c.args.firsts.now k 0) n in
+    let P : ℕ → Type 0 = λ k. (n : ℕ) → Contains c.args.seconds.now n
+    → FallsTo c.args.program.now c.args.tables.now.priorities (get_or c.args.firsts.now k 0) n in
     below_more P _ c.loop-m.invariant c.in_default.ensures
 
 pub returns : goal.returns
 returns c =
-    let P : ℕ → Type 0 = λ m. (n : ℕ) → Contains c.args.seconds.now n → Falls c.args.program.now c.args.tables.now m n in
+    let P : ℕ → Type 0 = λ m. (n : ℕ) → Contains c.args.seconds.now n → FallsTo c.args.program.now c.args.tables.now.priorities m n in
     λ m n a b. of_each c.args.firsts.now P (λ k h. c.loop-m.invariant k (omega (arith, h))) m a n b

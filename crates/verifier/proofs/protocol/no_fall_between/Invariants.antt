@@ -1,7 +1,7 @@
 use Rattle.std.proofs.Common.{ℕ, ◌<◌, get_or}
 use Rattle.std.specs.Prelude.{Contains}
-use Rattle.verifier.specs.Inside.Pairs.{Falls}
+use Rattle.program_edges.specs.AlongVariables.{FallsTo}
 use Rattle.verifier.proofs.protocol.no_fall_between.Given as goal
 
 abbrev pub invariant-loop-m : goal.invariant-loop-m
-invariant-loop-m l = (k : ℕ) → k < l.m-index → (n : ℕ) → Contains l.seconds n → Falls l.program l.tables (get_or l.firsts k 0) n
+invariant-loop-m l = (k : ℕ) → k < l.m-index → (n : ℕ) → Contains l.seconds n → FallsTo l.program l.tables.priorities (get_or l.firsts k 0) n

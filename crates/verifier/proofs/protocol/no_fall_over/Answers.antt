@@ -1,7 +1,9 @@
 use Rattle.sc_graph.specs.Protocol.{ProtocolAt}
-use Rattle.verifier.specs.Inside.Pairs.{AllFall, FallsOn, NoFallBetween}
+use Rattle.program_edges.specs.AlongVariables.{AllFall, FallsOn}
+use Rattle.verifier.specs.Inside.Pairs.{NoFallBetween}
 use Rattle.verifier.proofs.Answer.{answer_turned}
-use Rattle.verifier.proofs.Ordering.{falls_on, init_update_breaks, init_read_breaks, update_read_breaks}
+use Rattle.program_edges.proofs.AlongVariables.{falls_on}
+use Rattle.verifier.proofs.Ordering.{init_update_breaks, init_read_breaks, update_read_breaks}
 use Rattle.verifier.proofs.protocol.no_fall_over.Goals as goal
 
 pub returns-in-Some : goal.returns-in-Some
@@ -17,11 +19,11 @@ returns c =
     let p = c.args.program.now in
     let q = c.args.tables.now in
     answer_turned c.no_fall_by-3.result
-    (AllFall p q c.args.updates.now c.args.reads.now)
-    (FallsOn p q c.args.x)
+    (AllFall p q.priorities c.args.updates.now c.args.reads.now)
+    (FallsOn p q.priorities c.args.x)
     (NoFallBetween p q c.args.updates.now c.args.reads.now)
     (λ at. ¬ ProtocolAt p q at)
-    (λ h. falls_on p q c.args.x c.args.inits.now c.args.updates.now c.args.reads.now c.requires.inits c.requires.updates c.requires.reads c.in_default.ensures
-    c.in_default-no_fall_by.ensures h)
+    (λ h. falls_on p q.priorities c.args.x c.args.inits.now c.args.updates.now c.args.reads.now c.requires.inits c.requires.updates c.requires.reads
+    c.in_default.ensures c.in_default-no_fall_by.ensures h)
     (λ at r. update_read_breaks p q c.args.x c.args.updates.now c.args.reads.now c.requires.updates c.requires.reads at r)
     c.no_fall_by-3.ensures

@@ -1,5 +1,5 @@
 use Rattle.std.proofs.Common.{arith, below_more}
-use Rattle.verifier.specs.Inside.Pairs.{FallsOn}
+use Rattle.program_edges.specs.AlongVariables.{FallsOn}
 use Rattle.verifier.proofs.Ordering.{falls_kept}
 use Rattle.verifier.proofs.Standing.{stand_over}
 use Rattle.verifier.proofs.protocol.protocol_fault.Goals as goal
@@ -13,7 +13,7 @@ no_fall_over-requires-clause-extremes c =
     c.requires.known.extremes (omega (arith, lt, count)) c.of-inits.ensures c.of-updates.ensures c.of-reads.ensures
 
 pub loop-x-preserved : goal.loop-x-preserved
-loop-x-preserved c = below_more (FallsOn c.args.program.now c.args.tables.now) _ c.loop-x.invariant c.in_default.ensures
+loop-x-preserved c = below_more (FallsOn c.args.program.now c.args.tables.now.priorities) _ c.loop-x.invariant c.in_default.ensures
 
 pub returns : goal.returns
 returns c = falls_kept c.args.program.now c.args.tables.now c.requires.formed (λ x h. c.loop-x.invariant x (omega (arith, h)))

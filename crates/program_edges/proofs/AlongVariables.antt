@@ -8,7 +8,7 @@ use Rattle.sc_graph.specs.Accesses.{accesses}
 use Rattle.sc_graph.specs.Protocol.{ProtocolEdge}
 use Rattle.program_edges.specs.Users.{InitsAt, UpdatesAt, ReadsAt, Lists}
 use Rattle.program_edges.proofs.Variables.{init_variable, update_variable}
-use Rattle.priority_weights.specs.Inside.Pairs.{FallsTo, AllFall, FallsOn}
+use Rattle.program_edges.specs.AlongVariables.{FallsTo, AllFall, FallsOn}
 
 pub falls_on : (p : Program) (q : List ℕ) (x : ℕ) (inits updates reads : List ℕ) → Lists inits (InitsAt p x) → Lists updates (UpdatesAt p x) →
     Lists reads (ReadsAt p x) →
@@ -19,9 +19,9 @@ falls_on p q x inits updates reads i u l iu il ul = record {
   update_read = λ m n a b. ul m n (u.each m a) (l.each n b);
 }
 
-pub falls_kept : (p : Program) (q : List ℕ) → IsFormed p → ((x : ℕ) → x < length p.variables → FallsOn p q x) →
+pub falls_along : (p : Program) (q : List ℕ) → IsFormed p → ((x : ℕ) → x < length p.variables → FallsOn p q x) →
     (m n : ℕ) → ProtocolEdge p m n → slice_index q n < slice_index q m
-falls_kept p q formed h m n edge = (over edge.precedes).falls edge.concurrent
+falls_along p q formed h m n edge = (over edge.precedes).falls edge.concurrent
   where
     over : Precedes (accesses p m) (accesses p n) → FallsTo p q m n
     over (init_update x f i u) = (h x (init_variable p formed m x i)).init_update m n i (f, u)

@@ -2,9 +2,10 @@
 //! greatest.
 
 ghost use Rattle.std.specs.Prelude.{◌≡◌, ◌↔◌, ℕ, IfOk, OnOk, IfSome, IsTrue};
-ghost use Rattle.priority_weights.specs.Inside.Extremes.{Beats, OwnedAlike, StandFor, TakesIn};
+ghost use Rattle.program_edges.specs.Extremes.{StandFor};
+ghost use Rattle.program_edges.specs.Inside.TakingIn.{Beats, OwnedAlike, TakesIn};
 
-use crate::next::entry;
+use crate::numbers::Numbers;
 use crate::places::Places;
 use sc_graph::{NodeId, Program};
 use sqlite_items::Items;
@@ -12,46 +13,46 @@ use std::alloc::{AllocError, Global};
 
 /// A way to choose a node by its number.
 #[derive(Clone, Copy)]
-pub(crate) enum Extreme {
+pub enum Extreme {
     Least,
     Greatest,
 }
 
-/// Of these nodes one for each thread that owns some of them. Err: memory was refused.
-pub(crate) fn extremes_of(
+/// Of these nodes one for each thread that owns some of them. Any places serve as a hint. Err: memory was refused.
+pub fn extremes_of<N: Numbers>(
     alloc: Global,
     program: &Program,
-    table: &[u32],
+    numbers: &N,
     extreme: Extreme,
     nodes: &[NodeId],
     places: &mut Places,
 ) -> Result<Items<NodeId>, AllocError>
-    ensures { IfOk result (StandFor program.now table.now extreme nodes.now) }
+    ensures { IfOk result (StandFor program.now (N.table numbers.now) extreme nodes.now) }
 {
     let mut chosen = Items::new(alloc);
     for n in nodes {
-        take_in(&mut chosen, places, program, table, extreme, *n)?;
+        take_in(&mut chosen, places, program, numbers, extreme, *n)?;
     }
     Ok(chosen)
 }
 
 // Takes in a node: in the place of one of its thread, where it beats that one; else at the end, where there is none of
 // its thread at the place that is noted for it.
-fn take_in(
+fn take_in<N: Numbers>(
     chosen: &mut Items<NodeId>,
     places: &mut Places,
     program: &Program,
-    table: &[u32],
+    numbers: &N,
     extreme: Extreme,
     n: NodeId,
 ) -> Result<(), AllocError>
-    ensures { OnOk result (TakesIn program.now table.now extreme chosen.old chosen.new n) }
+    ensures { OnOk result (TakesIn program.now (N.table numbers.now) extreme chosen.old chosen.new n) }
 {
     let owner = program.owner(n);
     let at = places.of(owner);
     match owned_alike(program, chosen.as_slice(), at, n) {
         Some(other) => {
-            if beats(table, extreme, n, other) {
+            if beats(numbers, extreme, n, other) {
                 chosen.set(at, n);
             }
             Ok(())
@@ -80,11 +81,11 @@ fn owned_alike(program: &Program, list: &[NodeId], at: usize, n: NodeId) -> Opti
 }
 
 // Whether a node is to be taken in the place of another.
-fn beats(table: &[u32], extreme: Extreme, n: NodeId, other: NodeId) -> bool
-    ensures { IsTrue result ↔ Beats table.now extreme n other }
+fn beats<N: Numbers>(numbers: &N, extreme: Extreme, n: NodeId, other: NodeId) -> bool
+    ensures { IsTrue result ↔ Beats (N.table numbers.now) extreme n other }
 {
     match extreme {
-        Extreme::Least => entry(table, n) < entry(table, other),
-        Extreme::Greatest => entry(table, other) < entry(table, n),
+        Extreme::Least => numbers.number(n) < numbers.number(other),
+        Extreme::Greatest => numbers.number(other) < numbers.number(n),
     }
 }

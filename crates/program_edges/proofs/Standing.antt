@@ -2,14 +2,15 @@
 use Rattle.std.proofs.Common.{ℕ, ◌≡◌, ◌≢◌, ◌<◌, ◌≤◌, ◌+◌, ◌⊎◌, inl, inr, List, [], ◌∷◌, ◌++◌, length, get_or, refl, sym, ◌∙◌, ap, subst, arith}
 use Rattle.std.specs.Prelude.{Contains, slice_index, slice_set}
 use Rattle.std.proofs.lemmas.List.{get_or_default, get_or-set_same, get_or-set_other, length-set}
-use Rattle.std.proofs.lemmas.List.Elements.{Contains-append_left, Contains-push}
+use Rattle.std.proofs.lemmas.List.Elements.{Contains-append_left, Contains-get_or, Contains-push, Contains-push_cases}
 use Rattle.sc_graph.proofs.Each.{below_or_at}
 use Rattle.sc_graph.specs.Program.{Program, owner_of}
 use Rattle.sc_graph.specs.Threads.{ConcurrentNodes}
-use Rattle.priority_weights.specs.declared.extremes.Extreme.{Extreme}
-use Rattle.priority_weights.specs.declared.extremes.Extreme.TheVariants as extreme
-use Rattle.priority_weights.specs.Inside.Extremes.{Beats, IsAsExtreme, StoodFor, StandFor, TakesIn, OwnedAlike}
-use Rattle.priority_weights.specs.Inside.Pairs.{AllFall}
+use Rattle.program_edges.specs.declared.extremes.Extreme.{Extreme}
+use Rattle.program_edges.specs.declared.extremes.Extreme.TheVariants as extreme
+use Rattle.program_edges.specs.Extremes.{IsAsExtreme, StoodFor, StandFor}
+use Rattle.program_edges.specs.AlongVariables.{AllFall}
+use Rattle.program_edges.specs.Inside.TakingIn.{Beats, TakesIn, OwnedAlike}
 use Rattle.program_edges.proofs.Variables.{of_each}
 
 itself : (q : List ℕ) (e : Extreme) (n : ℕ) → IsAsExtreme q e n n
@@ -34,10 +35,11 @@ pub takes_last : (p : Program) (q : List ℕ) (e : Extreme) (list : List ℕ) (n
 takes_last p q e list n = record {
   keeps = λ m s. record { by = s.by; among = Contains-append_left list (n ∷ []) s.by s.among; owner = s.owner; extreme = s.extreme };
   gains = record { by = n; among = Contains-push list n; owner = refl; extreme = itself q e n };
+  only = λ m c. elim (Contains-push_cases list n m c) [ inl before ↦ inl before | inr same ↦ inr (sym same) ];
 }
 
-pub takes_none : (p : Program) (q : List ℕ) (e : Extreme) (list : List ℕ) (at n other : ℕ) → OwnedAlike p list at n other → ¬ Beats q e n other →
-    TakesIn p q e list list n
+pub takes_none : (p : Program) (q : List ℕ) (e : Extreme) (list : List ℕ) (at n other : ℕ) → OwnedAlike p list at n other → ¬ Beats q e n other
+    → TakesIn p q e list list n
 takes_none p q e list at n other alike none = record {
   keeps = λ m s. s;
   gains = record {
@@ -46,6 +48,7 @@ takes_none p q e list at n other alike none = record {
     owner = alike.owner;
     extreme = not_beaten q e n other none;
   };
+  only = λ m c. inl c;
 }
 
 at_place : (list : List ℕ) (at n : ℕ) → at < length list → Contains (slice_set list at n) n
@@ -54,8 +57,8 @@ at_place list at n lt = let long = length-set list at n in (at, omega (arith, lt
 same_or_not : (a b : ℕ) → (a ≡ b) ⊎ (a ≢ b)
 same_or_not a b = grind arith
 
-pub takes_place : (p : Program) (q : List ℕ) (e : Extreme) (list : List ℕ) (at n other : ℕ) → OwnedAlike p list at n other → Beats q e n other →
-    TakesIn p q e list (slice_set list at n) n
+pub takes_place : (p : Program) (q : List ℕ) (e : Extreme) (list : List ℕ) (at n other : ℕ) → OwnedAlike p list at n other → Beats q e n other
+    → TakesIn p q e list (slice_set list at n) n
 takes_place p q e list at n other alike beats = record {
   keeps = λ m s. elim (same_or_not s.among.0 at) [
     | inl here ↦
@@ -76,6 +79,12 @@ takes_place p q e list at n other alike beats = record {
     }
   ];
   gains = record { by = n; among = at_place list at n alike.within; owner = refl; extreme = itself q e n };
+  only = λ m c. elim (same_or_not c.0 at) [
+    | inl here ↦ inr (sym (c.2) ∙ ap (λ (k : ℕ). get_or (slice_set list at n) k m) here ∙ get_or-set_same list at n m alike.within)
+    | inr elsewhere ↦ inl
+        (let long = length-set list at n in let lt = c.1 in
+        (c.0, omega (arith, lt, long), sym (get_or-set_other list at c.0 n m elsewhere) ∙ c.2))
+  ];
 }
 
 pub owned_so : (p : Program) (m n k : ℕ) → owner_of p k ≡ owner_of p m → ConcurrentNodes p m n → ConcurrentNodes p k n
@@ -85,8 +94,8 @@ pub owned_too : (p : Program) (m n k : ℕ) → owner_of p k ≡ owner_of p n �
 owned_too p m n k e c = record { first = c.first; second = c.second; first_owner = c.first_owner; second_owner = e ∙ c.second_owner; concurrent = c.concurrent }
 
 -- a table falls between all nodes where it falls from those of the least to those of the greatest
-pub all_fall : (p : Program) (q : List ℕ) (firsts least seconds greatest : List ℕ) → StandFor p q extreme.Least firsts least →
-    StandFor p q extreme.Greatest seconds greatest → AllFall p q least greatest → AllFall p q firsts seconds
+pub all_fall : (p : Program) (q : List ℕ) (firsts least seconds greatest : List ℕ) → StandFor p q extreme.Least firsts least
+    → StandFor p q extreme.Greatest seconds greatest → AllFall p q least greatest → AllFall p q firsts seconds
 all_fall p q firsts least seconds greatest f s fall m n a b =
     let l : StoodFor p q extreme.Least least m = f.each m a in
     let g : StoodFor p q extreme.Greatest greatest n = s.each n b in
@@ -101,21 +110,27 @@ all_fall p q firsts least seconds greatest f s fall m n a b =
 -- the list stands for the nodes before a place
 pub record StandUpTo (p : Program) (q : List ℕ) (e : Extreme) (nodes list : List ℕ) (i : ℕ) : Type 0 where
   pub each : (k : ℕ) → k < i → StoodFor p q e list (get_or nodes k 0)
+  pub only : (n : ℕ) → Contains list n → Contains nodes n
 
 pub stand_none : (p : Program) (q : List ℕ) (e : Extreme) (nodes : List ℕ) → StandUpTo p q e nodes [] 0
-stand_none p q e nodes = record { each = λ k lt. absurd (omega arith) }
+stand_none p q e nodes = record { each = λ k lt. absurd (omega arith); only = λ n c. let lt = c.1 in absurd (omega arith) }
 
-pub stand_more : (p : Program) (q : List ℕ) (e : Extreme) (nodes old new : List ℕ) (i : ℕ) → i < length nodes → StandUpTo p q e nodes old i →
-    TakesIn p q e old new (get_or nodes i 0) → StandUpTo p q e nodes new (i + 1)
+pub stand_more : (p : Program) (q : List ℕ) (e : Extreme) (nodes old new : List ℕ) (i : ℕ) → i < length nodes → StandUpTo p q e nodes old i
+    → TakesIn p q e old new (get_or nodes i 0) → StandUpTo p q e nodes new (i + 1)
 stand_more p q e nodes old new i lt s t = record {
   each = λ k less. elim (below_or_at k i less) [
     | inl before ↦ t.keeps (get_or nodes k 0) (s.each k before)
     | inr same ↦ subst (λ (j : ℕ). StoodFor p q e new (get_or nodes j 0)) (sym same) t.gains
   ];
+  only = λ n c. elim (t.only n c) [
+    | inl before ↦ s.only n before
+    | inr same ↦ subst (λ (k : ℕ). Contains nodes k) (sym same) (Contains-get_or nodes i 0 lt)
+  ];
 }
 
-pub stand_all : (p : Program) (q : List ℕ) (e : Extreme) (nodes list : List ℕ) (i : ℕ) → length nodes ≤ i → StandUpTo p q e nodes list i →
-    StandFor p q e nodes list
+pub stand_all : (p : Program) (q : List ℕ) (e : Extreme) (nodes list : List ℕ) (i : ℕ) → length nodes ≤ i → StandUpTo p q e nodes list i
+    → StandFor p q e nodes list
 stand_all p q e nodes list i all s = record {
   each = of_each nodes (StoodFor p q e list) (λ k lt. s.each k (omega arith));
+  only = s.only;
 }
