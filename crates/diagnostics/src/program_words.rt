@@ -35,7 +35,7 @@ pub(crate) fn in_words(fault: &CompileFault) -> Told {
 fn expansion_told(fault: ExpandFault) -> Told {
     match fault {
         ExpandFault::Limit => Told {
-            cause: "the chart has more than 256 variables together with those that its aborts need: one for the strong aborts of a superstate, one for its weak ones, and a counter for its `join` where it has aborts or lies inside weak ones",
+            cause: "the chart has more than 256 variables together with those that its aborts need: one for the strong aborts of a superstate, one for its weak ones, and a counter for its `join` where it has aborts or lies inside weak ones; or the chart that `sct core` or `sct reduce` would print passes a limit of chart text",
             cure: "put one abort around several superstates, or take states for variables",
         },
         ExpandFault::Memory => MEMORY,

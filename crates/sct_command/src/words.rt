@@ -45,25 +45,25 @@ fn bytes_said(fault: DecodeFault) -> &'static str {
 fn text_said(fault: &ReadFault) -> &'static str {
     match fault {
         ReadFault::Text(FaultKind::Token, _) => {
-            "nothing of the language begins at this byte\nhelp: `sct explain` shows the place"
+            "nothing of the language begins at this byte\nhelp: `sct explain` shows the place in a chart or an SCL text"
         }
         ReadFault::Text(FaultKind::Grammar, _) => {
-            "the text cannot go on so at this byte\nhelp: `sct explain` shows the place"
+            "the text cannot go on so at this byte\nhelp: `sct explain` shows the place in a chart or an SCL text"
         }
         ReadFault::Text(FaultKind::Unknown, _) => {
-            "the name at this byte is not declared\nhelp: `sct explain` shows the place"
+            "the name at this byte is not declared\nhelp: `sct explain` shows the place in a chart or an SCL text"
         }
         ReadFault::Text(FaultKind::Repeated, _) => {
-            "the name at this byte stands twice\nhelp: `sct explain` shows the place"
+            "the name at this byte stands twice\nhelp: `sct explain` shows the place in a chart or an SCL text"
         }
         ReadFault::Text(FaultKind::Kind, _) => {
-            "what begins at this byte has another kind than its place wants\nhelp: `sct explain` shows the place"
+            "what begins at this byte has another kind than its place wants\nhelp: `sct explain` shows the place in a chart or an SCL text"
         }
         ReadFault::Text(FaultKind::Rule, _) => {
-            "a rule of the language is broken at this byte\nhelp: `sct explain` shows the place"
+            "a rule of the language is broken at this byte\nhelp: `sct explain` shows the place in a chart or an SCL text"
         }
         ReadFault::Text(FaultKind::Limit, _) => {
-            "a limit is passed at this byte\nhelp: `sct explain` shows the place"
+            "a limit is passed at this byte\nhelp: `sct explain` shows the place in a chart or an SCL text"
         }
         ReadFault::Memory => MEMORY,
     }
