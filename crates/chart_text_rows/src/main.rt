@@ -1,6 +1,6 @@
 //! Texts of charts, each answered by the places of its elements, by its own layout, and by the text of its core chart;
-//! and texts of extended charts, each answered by the chart to which it is reduced. tests/chart_texts asks it, and tells
-//! its form.
+//! and texts of extended charts, each answered by the chart to which it is reduced. tests/chart_texts asks it, and
+//! tells its form.
 #![tactic(auto)]
 
 mod reducing;

@@ -31,7 +31,8 @@ one_draft_fault text b c at place (inr f) (inr h) =
     let s = one_stop language.Chart extended_text is_language text f.tokens h.tokens f.cut h.cut f.flaw h.flaw f.rest h.rest f.faulty h.faulty in
     (f.breaks ∙ ap broken_by s.flaws ∙ sym h.breaks, f.place ∙ ap (place_of (length text)) s.rests ∙ sym h.place)
 
-pub no_fault : (text : List ℕ) (d : ExtendedDraft) (b : FaultKind) (at : ℕ) → IsExtendedDraft text d → extended_flaws d ≡ [] → ¬ IsTextFault text (fault.Text b at)
+pub no_fault : (text : List ℕ) (d : ExtendedDraft) (b : FaultKind) (at : ℕ) → IsExtendedDraft text d → extended_flaws d ≡ []
+    → ¬ IsTextFault text (fault.Text b at)
 no_fault text d b at a none (inl f) = no_draft_fault text d b at a f
 no_fault text d b at a none (inr f) =
     no_first b at (extended_flaws f.draft) (ap extended_flaws (one_draft text f.draft d f.drafted a) ∙ none) f.first

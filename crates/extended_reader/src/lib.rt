@@ -5,6 +5,7 @@
 mod actions;
 mod chart;
 mod items;
+mod laws;
 mod read;
 mod regions;
 mod rows;
@@ -14,4 +15,5 @@ mod transitions;
 mod values;
 
 pub use chart::extended_of;
+pub use laws::extended_texts_have_one_answer;
 pub use read::read_extended;
