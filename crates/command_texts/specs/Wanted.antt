@@ -13,8 +13,8 @@ use Rattle.command_texts.specs.Reductions.{IsReducedIn, FileLacksReduced}
 use Rattle.command_texts.specs.Listing.{IsListingIn, HasPlaces, FilesLackPlaces}
 use Rattle.command_texts.specs.Summary.{IsSummaryIn}
 
--- a summary, a core chart, the chart of an extended one, a listing, a line of JSON, or an image, which is that of the definitions; of a listing with places and of a
--- drawing only what they are made of is said
+-- a summary, a core chart, the chart of an extended one, a listing, a line of JSON, or an image, which is that of the definitions;
+-- of a listing with places and of a drawing only what they are made of is said
 abbrev pub IsMadeFor : Option Contents → Wanted → List ℕ → Type 0
 IsMadeFor files (Summary name) text = IsSummaryIn files name text
 IsMadeFor files (Core name) text = IsCoreIn files name text

@@ -23,8 +23,9 @@ not_played rules image first files files' save input old new (fault.Files f) ref
 not_played rules image first files files' save input old new (fault.Place shown) refuses same = absurd refuses
 not_played rules image first files files' save input old new (fault.Play f cause) refuses same = (refuses, same)
 
-pub not_kept : (rules : Rules) (image : Image) (first last : RunPlace) (files files' : Option Contents) (save : Option (List ℕ)) (input old new : Option (List ℕ))
-    (f : LoadFault) → ((out : List (List ℕ)) × Plays rules image first input old new out Good last) → IsNotKept save f → files' ≡ files
+pub not_kept : (rules : Rules) (image : Image) (first last : RunPlace) (files files' : Option Contents) (save : Option (List ℕ))
+    (input old new : Option (List ℕ)) (f : LoadFault) → ((out : List (List ℕ)) × Plays rules image first input old new out Good last)
+    → IsNotKept save f → files' ≡ files
     → RefusesKeeping rules image first files files' save input old new (fault.Files f)
 not_kept rules image first last files files' save input old new f plays lost same =
     (record { out = plays.0; last = last; plays = plays.1; lost = lost }, same)
@@ -127,8 +128,9 @@ first_refused r rules image first files files' name save input old new loaded be
 
 -- from the place in a file on
 
-pub next_ran : {T : Type 0} (r : Result T RuledFault) (rules : Rules) (image : Image) (first : RunPlace) (files files' : Option Contents) (name from bytes : List ℕ)
-    (save : Option (List ℕ)) (input old new : Option (List ℕ)) → IsLoaded files name image → HasBytes files from bytes → BeginsIn bytes first
+pub next_ran : {T : Type 0} (r : Result T RuledFault) (rules : Rules) (image : Image) (first : RunPlace) (files files' : Option Contents)
+    (name from bytes : List ℕ) (save : Option (List ℕ)) (input old new : Option (List ℕ)) → IsLoaded files name image
+    → HasBytes files from bytes → BeginsIn bytes first
     → OnOk r (PlaysAndKeeps rules image first files files' save input old new) → OnOk r (RunsBy rules files files' name (Some from) save input old new)
 next_ran r rules image first files files' name from bytes save input old new loaded held begins is =
     ran r rules image first files files' name (Some from) save input old new loaded (record { bytes = bytes; held = held; begins = begins }) is

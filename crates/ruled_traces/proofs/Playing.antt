@@ -167,8 +167,8 @@ stopped_writing rules image from start now now' at to old new new' line shown a 
     }
 
 -- the next line could not be had
-pub stopped_reading : (rules : Rules) (image : Image) (from : RunPlace) (start now : Option (List ℕ)) (at : RunPlace) (old new : Option (List ℕ)) (f : LinesFault)
-    → Played rules image from start now at old new → (f ≡ lines_fault.TooLong → IsTooLong now)
+pub stopped_reading : (rules : Rules) (image : Image) (from : RunPlace) (start now : Option (List ℕ)) (at : RunPlace) (old new : Option (List ℕ))
+    (f : LinesFault) → Played rules image from start now at old new → (f ≡ lines_fault.TooLong → IsTooLong now)
     → Leaves rules image from start old new (unread f (next_number at.lines))
 stopped_reading rules image from start now at old new lines_fault.Memory a long = stopped rules image from start now at old new a
 stopped_reading rules image from start now at old new lines_fault.Read a long = stopped rules image from start now at old new a
