@@ -15,7 +15,7 @@ use Rattle.trace_player.specs.declared.player.PlayFault.{PlayFault}
 use Rattle.trace_player.specs.declared.player.PlayFault.TheVariants as play_fault
 use Rattle.trace_lines.specs.Lines.{ahead, TakesLine, IsTooLong}
 use Rattle.trace_player.specs.Trace.{End, Good, NoInputs, NoObject, EndsAt, greatest, next_number}
-use Rattle.trace_player.specs.Inside.Faults.{Tells}
+use Rattle.trace_player.specs.Faults.{Tells}
 use Rattle.trace_player.specs.Unread.{unread}
 use Rattle.trace_player.proofs.Splits.{Cut, known_lines, cut_known, are_lines, cut_at_end, cut_taken, cut_too_long}
 use Rattle.state_traces.specs.Trace.{Words, Shows, Goes, Trace, Plays, PlaysFirst, PlaysPart, Leaves}

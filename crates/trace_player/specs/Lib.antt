@@ -1,5 +1,6 @@
 pub mod Channels
 pub mod FaultText
+pub mod Faults
 pub mod Trace
 pub mod Published
 pub mod Unread

@@ -7,7 +7,7 @@ use Rattle.trace_lines.specs.Lines.{ahead, TakesLine, IsTooLong}
 use Rattle.trace_lines.specs.declared.lines.LinesFault.TheVariants as lines_fault
 use Rattle.trace_lines.specs.declared.lines.LineEnd.TheVariants as line_end
 use Rattle.trace_player.specs.Channels.{SourceSeen, SinkSeen, TakesAll, TakesPart}
-use Rattle.trace_player.specs.Inside.Faults.{Tells}
+use Rattle.trace_player.specs.Faults.{Tells}
 use Rattle.trace_player.specs.Trace.{next_number}
 use Rattle.trace_player.proofs.Coming.{feed_of}
 use Rattle.trace_player.proofs.Failures.{open_not_behind, told_well, told_unread, told_line, reads_same, writes_same, same_end}

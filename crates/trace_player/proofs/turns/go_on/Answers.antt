@@ -8,7 +8,7 @@ use Rattle.trace_lines.specs.declared.lines.LineEnd.TheVariants as line_end
 use Rattle.trace_player.specs.Channels.{SourceSeen, SinkSeen, Gains}
 use Rattle.trace_player.specs.Trace.{Shows, next_number}
 use Rattle.trace_player.specs.declared.player.PlayFault.TheVariants as play_fault
-use Rattle.trace_player.specs.Inside.Faults.{Tells}
+use Rattle.trace_player.specs.Faults.{Tells}
 use Rattle.trace_player.specs.Inside.HeldBack.{with_held}
 use Rattle.trace_player.proofs.Coming.{LeftTo, came_well, came_off, came_short, came_cut, feed_of}
 use Rattle.trace_player.proofs.Failures.{open_not_behind, told_well, told_unread, told_line, reads_same, writes_same, same_end}
