@@ -15,10 +15,10 @@ use Rattle.tick_laws.proofs.Sound.{keeps_self}
 use Rattle.tick_laws.proofs.Views.{enabled_view, does}
 use Rattle.tick_core.specs.Claims.{Claim}
 use Rattle.tick_core.specs.State.{InTick, Holds, Advances}
-use Rattle.tick_core.specs.Inside.Sorting.{step_priority, unless_claimed, ready_row, OwnRows, AreSorted, sorted_one}
+use Rattle.tick_core.specs.Inside.Sorting.{step_priority, unless_claimed, ready_row, OwnRows, AreSorted, StandSorted, sorted_one}
 use Rattle.tick_core.specs.Inside.Turns.{OpenAt}
 use Rattle.tick_core.proofs.StateKept.{still_open, configuration}
-use Rattle.tick_core.proofs.Opened.{none_counted, count_opened}
+use Rattle.tick_core.proofs.Opened.{none_counted, none_counted_at, count_opened}
 use Rattle.tick_core.proofs.OwnRoom.{kept_out}
 use Rattle.tick_core.proofs.Unmoved.{one_at, one_other}
 
@@ -54,6 +54,16 @@ pub sorted_every_at : (p p' : Program) (q q' : Tables) (c : Control) (claims cla
     AreSorted p' q' c claims' rows → AreSorted p q c claims rows
 sorted_every_at p p' q q' c claims claims' rows p_is q_is claims_are h =
     subst (λ xs. AreSorted p q c xs rows) claims_are (subst (λ y. AreSorted p y c claims' rows) q_is (subst (λ x. AreSorted x q' c claims' rows) p_is h))
+
+-- where no claim is open, each thread is ready where it can step
+pub sorted_free : (p : Program) (q : Tables) (c : Control) (claims : List (Option Claim)) (rows : Rows) → length claims ≡ length p.threads
+    → count_by is_some claims ≡ 0 → StandSorted p q c rows → AreSorted p q c claims rows
+sorted_free p q c claims rows long none h =
+    record {
+      own_rows = h.own_rows;
+      each = λ t within. h.each t within
+          ∙ ap Some (sym (ap (λ o. unless_claimed o (step_priority p q c t)) (none_counted_at claims t none (omega (arith, long, within)))));
+    }
 
 -- where no claim is open, none is counted
 pub none_open_at : (s : InTick) (level : ℕ) → ((t : ℕ) (a : Claim) → slice_get s.claims t ≢ Some (Some a)) → OpenAt s 0 level

@@ -57,13 +57,18 @@ pub ended_is : (c : Control) (o : Option (List ℕ)) → nat_eq (living c o) 0 �
 ended_is c None = refl
 ended_is c (Some children) = none_living (λ k. has_ended (status_of c k)) children
 
+-- at which priority a waiting thread can step, by how many children live for whom it waits
+pub waiting_row_by : (p : Program) (q : Tables) (c : Control) (t j : ℕ) → status_of c t ≡ status.Waiting j → (n : ℕ) → n ≡ living c (joined_at p j) →
+    step_priority p q c t ≡ row_at (nat_eq n 0) (priority q j)
+waiting_row_by p q c t j waits n is =
+    ap (λ st. row_at (status_enabled p c st) (priority_of q st)) waits
+    ∙ ap (λ b. row_at b (priority q j)) (sym (ended_is c (joined_at p j)) ∙ ap (λ m. nat_eq m 0) (sym is))
+
 -- at which priority a waiting thread can step, by its count
 pub waiting_row : (p : Program) (q : Tables) (c : Control) (t j : ℕ) (counts : List ℕ) → CountsLiving p c counts → status_of c t ≡ status.Waiting j → (n : ℕ)
     → n ≡ slice_index counts t →
     step_priority p q c t ≡ row_at (nat_eq n 0) (priority q j)
-waiting_row p q c t j counts h waits n is =
-    ap (λ st. row_at (status_enabled p c st) (priority_of q st)) waits
-    ∙ ap (λ b. row_at b (priority q j)) (sym (ended_is c (joined_at p j)) ∙ ap (λ m. nat_eq m 0) (sym (h.each t j waits) ∙ sym is))
+waiting_row p q c t j counts h waits n is = waiting_row_by p q c t j waits n (is ∙ h.each t j waits)
 
 pub waits_on : (n prior : ℕ) → n ≢ 0 → None ≡ row_at (nat_eq n 0) prior
 waits_on n prior some = go (nat_eq n 0) refl

@@ -79,6 +79,14 @@ module _ (p : Program) (q : Tables) (rows : Rows) (h : OwnRows p q rows) (t : �
     at_row true enabled = (room_own (priority_of q (status_of c t)) (owns_node enabled), kept_in (priority_of q (status_of c t)) (owns_node enabled))
     at_row false idle = (in_rows, kept_out)
 
+    -- it has room in the row where it can step
+    pub room_there : HasRoom rows t (step_priority p q c t)
+    room_there = (at_row (is_enabled p c t) refl).0
+
+    -- and there it stands in a row of its own
+    pub kept_there : OwnRows p q (sorted_one (step_priority p q c) rows t)
+    kept_there = (at_row (is_enabled p c t) refl).1
+
     module _ (claims : List (Option Claim)) where
       at_claim : (o : Option (Option Claim)) → HasRoom rows t (unless_claimed o (step_priority p q c t))
           × OwnRows p q (record rows { classes = slice_set rows.classes t (unless_claimed o (step_priority p q c t)) })

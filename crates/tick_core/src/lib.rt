@@ -21,6 +21,7 @@ mod sorting;
 mod starting;
 mod state;
 mod stepping;
+mod waking;
 
 pub use claim::{Claim, Done, evaluate};
 pub use copying::copied;

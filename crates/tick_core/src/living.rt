@@ -1,6 +1,6 @@
 //! For each thread that waits, how many of its children have not ended.
 
-ghost use Rattle.std.specs.Prelude.{ℕ, ◌≡◌, ◌-◌, length, count_by, slice_index, slice_set};
+ghost use Rattle.std.specs.Prelude.{ℕ, ◌≡◌, ◌-◌, count_by, slice_index, slice_set};
 ghost use Rattle.sc_graph.specs.declared.control.Status.TheVariants.{Waiting};
 ghost use Rattle.sc_graph.specs.Control.{status_of, joined_at};
 ghost use Rattle.sc_graph.specs.Tick.{IsConfiguration};
@@ -9,24 +9,6 @@ ghost use Rattle.tick_core.specs.Inside.Living.{lives, living, CountsLiving, cou
 
 use crate::joins::Joins;
 use sc_graph::{Control, NodeId, Program, Status, ThreadId};
-
-/// Counts for each thread that waits how many of the children for whom it waits have not ended.
-pub(crate) fn count_every(
-    joins: &Joins,
-    program: &Program,
-    control: &Control,
-    counts: &mut Vec<usize>,
-)
-    requires forks { FindsForks program.now joins.now }
-    requires configuration { IsConfiguration program.now control.now }
-    requires places { length counts.old.items ≡ length program.now.threads }
-    ensures { CountsLiving program.now control.now counts.new.items }
-{
-    for thread in 0..program.thread_count() {
-        let count = waited_for(joins, program, control, control.status(thread));
-        counts[thread as usize] = count;
-    }
-}
 
 /// After a step of a thread: where it forked its children are counted anew, and where it ended its
 /// parent waits for one less.
@@ -62,8 +44,13 @@ pub(crate) fn left(counts: &[usize], thread: ThreadId) -> usize
     }
 }
 
-// How many children a thread that stands so waits for.
-fn waited_for(joins: &Joins, program: &Program, control: &Control, status: Status) -> usize
+/// How many children a thread that stands so waits for.
+pub(crate) fn waited_for(
+    joins: &Joins,
+    program: &Program,
+    control: &Control,
+    status: Status,
+) -> usize
     requires { FindsForks program.now joins.now }
     ensures { (j : ℕ) → status ≡ Waiting j → result ≡ living control.now (joined_at program.now j) }
 {

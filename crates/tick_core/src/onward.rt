@@ -1,6 +1,7 @@
 //! A step of a thread, with the counts and rows behind it.
 
 ghost use Rattle.std.specs.Prelude.{◌≡◌};
+ghost use Rattle.sc_graph.specs.Control.{status_of};
 ghost use Rattle.tick_core.specs.Inside.Onward.{MayStep, Goes, own_row};
 
 use crate::joins::Joins;
@@ -12,7 +13,7 @@ use buckets::Rows;
 use sc_graph::{Control, Program, Status, Tables, ThreadId};
 use sc_values::Value;
 
-/// Takes the step of an enabled thread without a claim, whose code has this value. The counts and rows are
+/// Takes the step of an enabled thread without a claim that stands so, whose code has this value. The counts and rows are
 /// those behind it then: where the step concerns others too, whom it can have made enabled or not is counted and
 /// sorted anew.
 pub(crate) fn step_on(
@@ -25,20 +26,21 @@ pub(crate) fn step_on(
     living: &mut Vec<usize>,
     rows: &mut Rows,
     thread: ThreadId,
+    status: Status,
     value: Option<Value>,
 )
-    requires { MayStep program.now tables.now joins.now control.old thread value claims.now claimed living.old.items
+    requires may { MayStep program.now tables.now joins.now control.old thread value claims.now claimed living.old.items
         rows.old }
+    requires standing { status ≡ status_of control.old thread }
     ensures { Goes program.now tables.now control.old control.new thread claims.now rows.old rows.new living.new.items }
 {
-    let before = control.status(thread);
-    match take_step(joins, program, control, thread, value) {
-        Some(status) => {
-            rows.set(thread, own_row(tables, status));
+    match take_step(joins, program, control, thread, status, value) {
+        Some(next) => {
+            rows.set(thread, own_row(tables, next));
             rows.settle();
         }
         None => {
-            let children = children_at(joins, program, before);
+            let children = children_at(joins, program, status);
             count_after(joins, program, control, living, thread);
             sort_after(
                 program, tables, control, living, claims, claimed, rows, thread, children,

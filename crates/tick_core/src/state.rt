@@ -28,9 +28,9 @@ use crate::history::Entry;
 use crate::inputs::{Inputs, are_accepted};
 use crate::joins::Joins;
 use crate::kept_claim::KeptClaim;
-use crate::living::count_every;
-use crate::sorting::{rows_of, sort_every};
+use crate::sorting::rows_of;
 use crate::starting::start;
+use crate::waking::count_and_sort;
 use buckets::Rows;
 use bytecode::Image;
 pub(crate) use ending::present_value;
@@ -276,29 +276,29 @@ impl<'a> TickSpace<'a> {
         requires { BeginsTick self.program begun }
         ensures { result ≡ begun_again self.entry begun }
     {
-        let TickSpace { verified, room } = self;
-        let ParkedSpace {
-            joins,
-            mut rows,
-            variable_kinds,
-            mut history,
-            claims,
-            mut living,
-            given,
-            spare: mut present,
-        } = room;
+        let TickSpace {
+            verified,
+            room: ParkedSpace {
+                joins,
+                mut rows,
+                variable_kinds,
+                mut history,
+                claims,
+                mut living,
+                given,
+                spare: mut present,
+            },
+        } = self;
         let image = verified.image();
         let program = image.program();
         copy_into(&begun, &mut present);
         history.clear();
-        count_every(&joins, program, &present, &mut living);
-        sort_every(
+        count_and_sort(
+            &joins,
             program,
             image.tables(),
             &present,
-            &living,
-            &claims,
-            0,
+            &mut living,
             &mut rows,
         );
         TickState {

@@ -15,22 +15,24 @@ use sc_graph::{Control, NodeId, Program, Status, Step, ThreadId, VariableId};
 use sc_values::{Code, Combination, Value};
 use sqlite_items::Items;
 
-/// Takes the defined step of a thread, whose code has this value over the present variables. Gives where the thread
-/// comes to stand where nobody else is concerned. None: it forks or leaves others, or ends.
+/// Takes the defined step of a thread that stands so, whose code has this value over the present variables. Gives where
+/// the thread comes to stand where nobody else is concerned. None: it forks or leaves others, or ends.
 pub(crate) fn take_step(
     joins: &Joins,
     program: &Program,
     control: &mut Control,
     thread: ThreadId,
+    status: Status,
     value: Option<Value>,
 ) -> Option<Status>
     requires forks { FindsForks program.now joins.now }
+    requires standing { status ≡ status_of control.old thread }
     requires defined { IsSome (step program.now thread control.old) }
     requires value { value ≡ value_at program.now control.old (status_of control.old thread) }
     ensures stepped { step program.now thread control.old ≡ Some control.new }
     ensures alone { IfSome result (MovesAlone program.now control.old control.new thread) }
 {
-    match control.status(thread) {
+    match status {
         Status::At(node) => match program.step(node) {
             Some(step) => take_step_at(program, control, thread, step, value),
             None => unreachable!(),

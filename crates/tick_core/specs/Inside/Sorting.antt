@@ -58,6 +58,11 @@ pub record AreSorted (p : Program) (q : Tables) (c : Control) (claims : List (Op
   pub own_rows : OwnRows p q rows
   pub each : (t : ℕ) → t < length p.threads → slice_get rows.classes t ≡ Some (ready_row p q c claims t)
 
+-- each thread stands in the row of the priority at which it can step, and in none where it isn't enabled
+pub record StandSorted (p : Program) (q : Tables) (c : Control) (rows : Rows) : Type 0 where
+  pub own_rows : OwnRows p q rows
+  pub each : (t : ℕ) → t < length p.threads → slice_get rows.classes t ≡ Some (step_priority p q c t)
+
 -- with one thread put into its row
 abbrev pub sorted_one : (ℕ → Option ℕ) → Rows → ℕ → Rows
 sorted_one row rows t = record rows { classes = slice_set rows.classes t (row t) }

@@ -78,14 +78,15 @@ fn step_if_enabled(
         (λ n. StepsAt verified.now.program control.old thread n control.new) }
 {
     let program = verified.image().program();
-    let node = match control.status(thread) {
+    let status = control.status(thread);
+    let node = match status {
         Status::At(node) | Status::Waiting(node) => node,
         Status::Absent | Status::Paused(_) | Status::Ended => return None,
     };
     if !is_enabled(joins, program, control, thread) {
         return None;
     }
-    let value = present_value(verified, kinds, control, thread);
-    take_step(joins, program, control, thread, value);
+    let value = present_value(verified, kinds, control, status);
+    take_step(joins, program, control, thread, status, value);
     Some(node)
 }

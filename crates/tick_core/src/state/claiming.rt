@@ -51,7 +51,8 @@ impl<'a> TickState<'a> {
         self.check_open(done.claim())?;
         let claim = done.claim();
         let at = self.commits();
-        self.advance(claim.thread(), claim.worker(), done.value());
+        let status = self.present.status(claim.thread());
+        self.advance(claim.thread(), status, claim.worker(), done.value());
         Ok(Receipt { at })
     }
 

@@ -23,7 +23,7 @@ use crate::sorting::sort_every;
 use crate::state::claiming::close_one;
 use crate::state::{ParkedSpace, TickSpace, TickState};
 use crate::stepping::code_at;
-use sc_graph::{Control, ThreadId};
+use sc_graph::{Control, Status, ThreadId};
 use sc_values::{CheckedCode, Kind, Operands, Value, eval};
 use sqlite_items::Items;
 use verifier::Verified;
@@ -73,14 +73,22 @@ impl<'a> TickState<'a> {
         ensures step { Advances self.old self.new thread 0 }
         ensures within { length self.new.history ≤ self.new.image.tables.budget }
     {
-        let value = present_value(self.verified, &self.variable_kinds, &self.present, thread);
-        self.advance(thread, 0, value);
+        let status = self.present.status(thread);
+        let value = present_value(self.verified, &self.variable_kinds, &self.present, status);
+        self.advance(thread, status, 0, value);
     }
 
-    // The step of a leading thread, whose code has this value: it is done, written into the history,
+    // The step of a leading thread that stands so, whose code has this value: it is done, written into the history,
     // and the thread's claim is closed.
-    pub(super) fn advance(&mut self, thread: ThreadId, worker: u8, value: Option<Value>)
+    pub(super) fn advance(
+        &mut self,
+        thread: ThreadId,
+        status: Status,
+        worker: u8,
+        value: Option<Value>,
+    )
         requires leads { Leads self.old.image.program self.old.image.tables self.old.present thread }
+        requires standing { status ≡ status_of self.old.present thread }
         requires value { value ≡ value_at self.old.image.program self.old.present (status_of self.old.present thread) }
         ensures { Advances self.old self.new thread worker }
     {
@@ -96,6 +104,7 @@ impl<'a> TickState<'a> {
             &mut self.living,
             &mut self.rows,
             thread,
+            status,
             value,
         );
         self.history.push_reserved(Entry { thread, worker });
@@ -146,17 +155,19 @@ impl<'a> TickState<'a> {
             living,
             given,
         } = self;
-        let room = ParkedSpace {
-            joins,
-            rows,
-            variable_kinds,
-            history,
-            claims,
-            living,
-            given,
-            spare: begun,
+        let space = TickSpace {
+            verified,
+            room: ParkedSpace {
+                joins,
+                rows,
+                variable_kinds,
+                history,
+                claims,
+                living,
+                given,
+                spare: begun,
+            },
         };
-        let space = TickSpace { verified, room };
         (present, space)
     }
 }
@@ -170,19 +181,20 @@ fn close_all(claims: &mut Vec<Option<KeptClaim>>)
     }
 }
 
-/// The value of the code at which a thread stands, over the present variables.
+/// The value of the code at which a thread stands that has this status, over the present variables.
 pub(crate) fn present_value(
     verified: &Verified,
     kinds: &[Kind],
     control: &Control,
-    thread: ThreadId,
+    status: Status,
 ) -> Option<Value>
     requires kinds { kinds.now ≡ variable_kinds verified.now.program }
     requires configuration { IsConfiguration verified.now.program control.now }
     requires valid { IsValid verified.now.program verified.now.tables }
-    ensures { result ≡ value_at verified.now.program control.now (status_of control.now thread) }
+    requires standing { (t : ℕ) × (status ≡ status_of control.now t) }
+    ensures { result ≡ value_at verified.now.program control.now status }
 {
-    let code = code_at(verified.image().program(), control.status(thread))?;
+    let code = code_at(verified.image().program(), status)?;
     let variables = control.variables.as_slice();
     match short_value(code, variables) {
         Some(value) => Some(value),

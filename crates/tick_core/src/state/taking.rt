@@ -34,7 +34,8 @@ impl<'a> TickState<'a> {
         requires { IsUnclaimed self.now thread }
         ensures { IsNextStep self.now result }
     {
-        let value = present_value(self.verified, &self.variable_kinds, &self.present, thread);
+        let status = self.present.status(thread);
+        let value = present_value(self.verified, &self.variable_kinds, &self.present, status);
         NextStep { thread, value }
     }
 
@@ -44,6 +45,7 @@ impl<'a> TickState<'a> {
         requires next { IsNextStep self.old step }
         ensures { Advances self.old self.new step.thread worker }
     {
-        self.advance(step.thread, worker, step.value);
+        let status = self.present.status(step.thread);
+        self.advance(step.thread, status, worker, step.value);
     }
 }

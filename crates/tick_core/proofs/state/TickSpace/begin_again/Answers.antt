@@ -1,13 +1,12 @@
 use Rattle.std.proofs.Common.{◌∙◌, None, length, arith, refl, ap, sym, subst}
-use Rattle.std.specs.Prelude.{count_by, is_some}
 use Rattle.std.proofs.lemmas.List.{length-map}
 use Rattle.sc_graph.specs.Tick.{IsConfiguration}
 use Rattle.sc_graph.specs.Valid.{IsValid}
 use Rattle.tick_core.specs.State.{BeginsTick}
 use Rattle.tick_core.specs.Inside.Living.{CountsLiving}
-use Rattle.tick_core.specs.Inside.Sorting.{AreOpen, OwnRows}
+use Rattle.tick_core.specs.Inside.Sorting.{OwnRows, StandSorted}
 use Rattle.tick_core.proofs.StateKept.{holds_begun, no_claims_at}
-use Rattle.tick_core.proofs.Counts.{sorted_every_at, none_open_at}
+use Rattle.tick_core.proofs.Counts.{sorted_free, none_open_at}
 use Rattle.tick_core.proofs.Opened.{none_counted}
 use Rattle.tick_core.proofs.StartKept.{begins_configuration}
 use Rattle.tick_core.proofs.state.TickSpace.begin_again.Goals as goal
@@ -22,38 +21,21 @@ copy_into-requires-clause-statuses c =
     let begins : BeginsTick c.self.inside.verified.now.program c.args.begun = subst (λ i. BeginsTick i.program c.args.begun) (sym c.self.view_is) c.requires in
     c.self.invariant.spare.statuses ∙ sym (begins_configuration c.self.inside.verified.now c.args.begun c.image-image.ensures.valid begins).threads
 
-pub sort_every-requires-clause-valid : goal.sort_every-requires-clause-valid
-sort_every-requires-clause-valid c =
+pub count_and_sort-requires-clause-valid : goal.count_and_sort-requires-clause-valid
+count_and_sort-requires-clause-valid c =
     subst (λ p. IsValid p c.tables.result.now) (sym (c.program-program.ensures ∙ ap (λ i. i.program) c.image-image.ensures.value))
     (subst (IsValid c.self.inside.verified.now.program) (sym (c.tables.ensures.value ∙ ap (λ i. i.tables) c.image-image.ensures.value))
     c.image-image.ensures.valid)
 
-pub sort_every-requires-clause-configuration : goal.sort_every-requires-clause-configuration
-sort_every-requires-clause-configuration c =
+pub count_and_sort-requires-clause-configuration : goal.count_and_sort-requires-clause-configuration
+count_and_sort-requires-clause-configuration c =
     let begins : BeginsTick c.self.inside.verified.now.program c.args.begun = subst (λ i. BeginsTick i.program c.args.begun) (sym c.self.view_is) c.requires in
     subst (λ p. IsConfiguration p c.copy_into.new.to) (sym (c.program-program.ensures ∙ ap (λ i. i.program) c.image-image.ensures.value))
     (subst (IsConfiguration c.self.inside.verified.now.program) (sym c.copy_into.ensures)
     (begins_configuration c.self.inside.verified.now c.args.begun c.image-image.ensures.valid begins))
 
-pub count_every-requires-clause-configuration : goal.count_every-requires-clause-configuration
-count_every-requires-clause-configuration c =
-    let begins : BeginsTick c.self.inside.verified.now.program c.args.begun = subst (λ i. BeginsTick i.program c.args.begun) (sym c.self.view_is) c.requires in
-    subst (λ p. IsConfiguration p c.copy_into.new.to) (sym (c.program-program.ensures ∙ ap (λ i. i.program) c.image-image.ensures.value))
-    (subst (IsConfiguration c.self.inside.verified.now.program) (sym c.copy_into.ensures)
-    (begins_configuration c.self.inside.verified.now c.args.begun c.image-image.ensures.valid begins))
-
-pub sort_every-requires-clause-opened : goal.sort_every-requires-clause-opened
-sort_every-requires-clause-opened c =
-    subst (λ p. AreOpen p c.deref-2.result.now 0) (sym (c.program-program.ensures ∙ ap (λ i. i.program) c.image-image.ensures.value))
-    (record {
-      places = ap length (c.deref-2.ensures.value ∙ c.self.invariant.no_claim) ∙ length-map c.self.inside.verified.now.program.threads (λ _. None);
-      counted = sym (ap (count_by is_some) c.deref-2.ensures.value
-          ∙ none_counted c.self.inside.room.claims.items
-          (no_claims_at c.self.inside.verified.now.program.threads c.self.inside.room.claims.items c.self.invariant.no_claim));
-    })
-
-pub sort_every-requires-clause-rows : goal.sort_every-requires-clause-rows
-sort_every-requires-clause-rows c =
+pub count_and_sort-requires-clause-rows : goal.count_and_sort-requires-clause-rows
+count_and_sort-requires-clause-rows c =
     subst (λ p. OwnRows p c.tables.result.now c.self.inside.room.rows) (sym (c.program-program.ensures ∙ ap (λ i. i.program) c.image-image.ensures.value))
     (subst (λ q. OwnRows c.self.inside.verified.now.program q c.self.inside.room.rows)
     (sym (c.tables.ensures.value ∙ ap (λ i. i.tables) c.image-image.ensures.value)) c.self.invariant.rows)
@@ -74,12 +56,17 @@ invariant_of-result c =
       c.self.invariant.kinds_are,
       omega (arith, c.self.invariant.history, c.clear.ensures.capacity),
       c.self.invariant.forks,
-      sorted_every_at c.self.inside.verified.now.program c.program-program.result.now c.self.inside.verified.now.tables c.tables.result.now c.copy_into.new.to
-          c.self.inside.room.claims.items c.deref-2.result.now c.sort_every.new.rows
-          (c.program-program.ensures ∙ ap (λ i. i.program) c.image-image.ensures.value)
-          (c.tables.ensures.value ∙ ap (λ i. i.tables) c.image-image.ensures.value) c.deref-2.ensures.value c.sort_every.ensures,
+      sorted_free c.self.inside.verified.now.program c.self.inside.verified.now.tables c.copy_into.new.to c.self.inside.room.claims.items
+          c.count_and_sort.new.rows
+          (ap length c.self.invariant.no_claim ∙ length-map c.self.inside.verified.now.program.threads (λ _. None))
+          (none_counted c.self.inside.room.claims.items
+          (no_claims_at c.self.inside.verified.now.program.threads c.self.inside.room.claims.items c.self.invariant.no_claim))
+          (subst (λ q. StandSorted c.self.inside.verified.now.program q c.copy_into.new.to c.count_and_sort.new.rows)
+          (c.tables.ensures.value ∙ ap (λ i. i.tables) c.image-image.ensures.value)
+          (subst (λ p. StandSorted p c.tables.result.now c.copy_into.new.to c.count_and_sort.new.rows)
+          (c.program-program.ensures ∙ ap (λ i. i.program) c.image-image.ensures.value) c.count_and_sort.ensures.sorted)),
       none_open_at _ 0 (no_claims_at c.self.inside.verified.now.program.threads c.self.inside.room.claims.items c.self.invariant.no_claim),
-      subst (λ p. CountsLiving p c.copy_into.new.to c.count_every.new.counts.items)
-          (c.program-program.ensures ∙ ap (λ i. i.program) c.image-image.ensures.value) c.count_every.ensures,
+      subst (λ p. CountsLiving p c.copy_into.new.to c.count_and_sort.new.counts.items)
+          (c.program-program.ensures ∙ ap (λ i. i.program) c.image-image.ensures.value) c.count_and_sort.ensures.counted,
       c.self.invariant.given,
     )

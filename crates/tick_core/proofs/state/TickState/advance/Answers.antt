@@ -22,8 +22,8 @@ push_reserved-requires c =
 pub close_one-requires-clause-place : goal.close_one-requires-clause-place
 close_one-requires-clause-place c = has_place _ c.self.invariant.0 c.args.thread (leads_at _ _ c.args.thread c.self.view_is c.requires.leads)
 
-pub step_on-requires : goal.step_on-requires
-step_on-requires c =
+pub step_on-requires-clause-may : goal.step_on-requires-clause-may
+step_on-requires-clause-may c =
     let program_is = c.program.ensures ∙ ap (λ i. i.program) c.image-image.ensures.value in
     let tables_is = c.tables.ensures.value ∙ ap (λ i. i.tables) c.image-image.ensures.value in
     let leads = leads_at _ _ c.args.thread c.self.view_is c.requires.leads in
