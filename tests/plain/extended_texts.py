@@ -140,7 +140,7 @@ def all_rows():
 # ---- random charts
 
 CONSTANTS = [Declared("N", "const", "int", 2), Declared("M", "const", "int", -3), Declared("T", "const", "bool", True)]
-PLAIN = len(VARIABLES)
+PLAIN, TOLD_BY = len(VARIABLES), 3
 
 
 class ExtendedGenerator(ChartGenerator):
@@ -151,8 +151,10 @@ class ExtendedGenerator(ChartGenerator):
         r = self.random
         was = [Declared(f"was_{VARIABLES[x].name}", "pre", VARIABLES[x].kind, of=x) for x in r.sample(range(PLAIN), r.choice([0, 1, 2, 3]))]
         self.items = [Declared(v.name, v.role, v.kind, self.initial(v)) for v in VARIABLES] + CONSTANTS + was
-        # how often each of what is new stands where it may
-        self.share = {word: r.choice([0, 0.2, 0.5]) for word in ("new", "after", "entry", "exit")}
+        # how often each of what is new stands where it may, and whether each region stands alone: in such a chart nothing clashes
+        self.share = {word: r.choice([0, 0.2, 0.7]) for word in ("new", "after", "entry", "exit")}
+        self.is_alone = r.random() < 0.5
+        self.super_chances = (0.7, 0.5) if self.is_alone else self.super_chances
 
     def initial(self, v):
         r = self.random
@@ -167,14 +169,15 @@ class ExtendedGenerator(ChartGenerator):
 
     def effect(self):
         r = self.random
-        x, e = super().effect()
-        # the order of such effects shows
-        return (x, ("add", ("multiply", ("load", x), ("value", 3)), ("value", r.randrange(5)))) if (
-            VARIABLES[x].kind == "int" and not self.combination[x] and r.random() < 0.2) else (x, e)
+        if self.is_alone and r.random() < 0.7:
+            # by such effects a variable tells all of them, in their order
+            return TOLD_BY, ("add", ("multiply", ("load", TOLD_BY), ("value", 3)), ("value", r.randrange(100)))
+        return super().effect()
 
     def actions(self, word):
-        return [self.effect() for _ in range(self.random.choice([1, 1, 2]))] if (
-            self.writable and self.random.random() < self.share[word]) else []
+        if not self.writable or self.random.random() >= self.share[word]:
+            return []
+        return [self.effect() for _ in range(self.random.choice([1, 1, 2]))]
 
     def transition(self, kind, at, states):
         r = self.random
@@ -184,6 +187,9 @@ class ExtendedGenerator(ChartGenerator):
             made.delay = r.choice([("value", 1), ("value", 2), ("value", 3), ("load", PLAIN), ("add", ("load", PLAIN), ("value", 1)), ("load", 2)])
             made.trigger = made.trigger if r.random() < 0.3 else None
         return made
+
+    def regions(self, depth, inside_aborts, count):
+        return super().regions(depth, inside_aborts, 1 if self.is_alone else count)
 
     def region(self, depth, inside_aborts):
         made = super().region(depth, inside_aborts)

@@ -1,0 +1,66 @@
+"""Extended charts for the odd cases of docs/extended.md, which are played over random ticks of A, B and I. By effects
+`x = x * 3 + N` the variable tells all of them, in their order."""
+
+
+def tells(n):
+    return f"x = x * 3 + {n}"
+
+
+def chart(regions, items=""):
+    return f"extended chart P {{ input bool A; input bool B; input int I; output int x; output int y; {items} {regions} }}"
+
+
+# a state with actions and transitions
+def acts(n, inside=""):
+    return f"{{ entry do {tells(n)}; exit do {tells(n + 1)}; {inside} }}"
+
+
+def inside(leave):
+    """A superstate with two regions of states with actions, one of them with a region in it, that is left so."""
+    deep = f"region Q {{ initial state d {acts(10, 'go if A -> e;')} state e {acts(12, 'go if A -> f;')} final state f {acts(14)} }} "
+    left = f"region L {{ initial state a {acts(20, deep + 'join -> b;')} state b {{ go if B -> c; }} final state c {acts(22)} }} "
+    right = f"region M {{ initial state g {acts(30, f'go if A and B do {tells(32)} -> h;')} final state h; }} "
+    return chart(f"region R {{ initial state s {acts(40, left.replace('x =', 'y =').replace('x *', 'y *') + right + leave)} "
+                 f"state t {acts(50, 'go if not A -> s;')} }}")
+
+
+CHARTS = [
+    # each way out of a superstate: what is inside first, in the order of the text
+    *(inside(leave) for leave in (
+        f"strong if B do {tells(60)} -> t;", f"weak if B do {tells(60)} -> t;", f"join do {tells(60)} -> t;", "strong if B -> s;",
+        f"weak immediate if B do {tells(60)} -> t; join -> t;", f"strong immediate if B do {tells(60)} -> t; strong if A -> s;",
+        "strong after 3 -> s;", f"weak after 3 if B do {tells(60)} -> t; strong after 5 -> s;")),
+    # one region alone, three levels deep: the exits inside come before those outside
+    *(chart(f"region R {{ initial state s {acts(1, f'region Q {{ initial state u {acts(3, inner)} state v {acts(9)} }} {leave}')} "
+            f"state t {{ go if B -> s; }} }}")
+      for inner in (f"region P {{ initial state a {acts(5, 'go if A -> b;')} state b {{ go if B -> c; }} final state c {acts(7)} }} join -> v;",
+                    f"region P {{ initial state a {acts(5, 'go if A -> b;')} state b {{ go if B -> a; }} }} weak if A and B -> v;")
+      for leave in (f"strong if A and B do {tells(60)} -> t;", f"weak if I > 1 do {tells(60)} -> s;", "strong after 3 -> s; weak if A -> t;")),
+    # a superstate that is left as it is entered, with its own exit actions alone, and one whose inside is entered and left
+    chart(f"region R {{ initial state s {acts(1, f'region Q {{ initial state a {acts(3)} }} strong immediate if A do {tells(60)} -> t;')} "
+          f"state t {acts(5, 'go if B -> s;')} }}"),
+    chart(f"region R {{ initial state s {acts(1, f'region Q {{ initial state a {acts(3)} }} weak immediate if A do {tells(60)} -> t;')} "
+          f"state t {acts(5, 'go if B -> s;')} }}"),
+    # simple states that are entered and left in one tick, and twice in one
+    chart(f"region R {{ initial state s {acts(1, 'go immediate if A -> t;')} state t {acts(3, f'go immediate if B do {tells(60)} -> u;')} "
+          f"state u {acts(5, 'go if A -> s; go -> t;')} }}"),
+    # an entry action is seen by what is tested at once
+    chart("region R { initial state s { entry do y = I; region Q { initial state a; } strong immediate if y > 1 do x = x + 1 -> t; "
+          "strong -> s; } state t { go immediate if y > 3 do x = x + 10 -> u; go -> s; } state u { go -> s; } }"),
+    # the effects of a transition see the exits, and its trigger does not
+    chart("region R { initial state s { exit do y = y + 1; go if y < 3 do x = y -> s; go do y = 0, x = x + 10 -> s; } }"),
+    # what variables were: in the first tick, of inputs, of variables with initial values, of what is set in this tick
+    chart("region R { initial state s { go immediate do x = last * 100 + was -> t; } state t { go if before do x = last -> t; "
+          "go do x = x + last + was -> t; } } region Q { initial state q { go do y = I -> q; } }",
+          "local bool c = true; pre int was = y; pre int last = z; output int z = 7; pre bool before = A; pre bool first = c;"),
+    chart("region R { initial state s { go immediate if first do x = 1 -> t; go immediate do x = 2 -> t; } state t { "
+          "go if first and B do c = false -> t; go if not first do c = A, x = x + 1 -> t; } }",
+          "local bool c = true; pre bool first = c;"),
+    # waits: with and behind other transitions, of what changes, of none and less, in one another, begun anew
+    chart(f"region R {{ initial state s {{ go after 2 if A do {tells(1)} -> s; go after 3 do {tells(2)} -> t; go if B do {tells(3)} -> s; }} "
+          f"state t {{ go after I do {tells(4)} -> s; go after 4 do {tells(5)} -> u; }} state u {{ go after -1 do {tells(6)} -> t; }} }}"),
+    chart("region R { initial state s { region Q { initial state a { go after 2 do x = x + 1 -> b; } state b { go after 1 do x = x + 10 -> a; } } "
+          "strong if A -> s; strong after 5 do x = 0 -> s; weak after 4 if B do x = x + 100 -> s; } } "
+          "region M { initial state c { go after N if A do y = y + 1 -> d; } state d { go immediate if B -> c; go after N + 1 -> c; } }",
+          "const int N = 2;"),
+]
