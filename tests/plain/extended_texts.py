@@ -135,6 +135,8 @@ def all_rows():
         for fault, texts in rows.items():
             yield from (wanted_of(fault, whole(text)) for text in texts)
     yield from (wanted_of(fault, text) for fault, text in limits())
+    for data in (b"extended chart P { } // \xff", b"\xffextended chart P { }", b"extended chart P { region R { initial state s; } } // \xc3"):
+        yield data, "E01 at 0"
 
 
 # ---- random charts
