@@ -1,13 +1,12 @@
 //! Initial values: where a variable has one other than `false` and 0, states set them before all regions.
 
-ghost use Rattle.std.specs.Prelude.{◌≡◌, IfOk};
+ghost use Rattle.std.specs.Prelude.{◌≡◌, ◌++◌, IfOk};
 ghost use Rattle.extended_charts.specs.Initial.{is_default, setting, settings, framed, with_settings};
 
 use crate::extended::{Declared, ExtendedChart, ExtendedRegion};
 use crate::making::{all_passing, alone, has_some, literal, made_state, variable};
 use crate::names::plain;
 use core_charts::Effect;
-use sc_graph::VariableId;
 use sc_values::Value;
 use sqlite_items::Items;
 use std::alloc::{AllocError, Global};
@@ -17,8 +16,8 @@ use std::alloc::{AllocError, Global};
 pub fn with_settings(alloc: Global, chart: ExtendedChart) -> Result<ExtendedChart, AllocError>
     ensures { IfOk result (λ made. made ≡ with_settings chart) }
 {
-    let settings = settings(alloc, chart.variables.as_slice())?;
-    let regions = framed(alloc, settings.as_slice(), chart.regions)?;
+    let regions = chart.regions;
+    let regions = all_set(alloc, chart.variables.as_slice(), regions)?;
     Ok(ExtendedChart {
         name: chart.name,
         variables: chart.variables,
@@ -35,24 +34,27 @@ fn settings(alloc: Global, variables: &[Declared]) -> Result<Items<Effect>, Allo
 {
     let mut made = Items::new(alloc);
     for (x, declared) in variables.iter().enumerate() {
-        made.append(setting(alloc, variable(x)?, declared.initial)?)?;
+        put_setting(alloc, x, declared.initial, &mut made)?;
     }
     Ok(made)
 }
 
-fn setting(
+// Puts the assignment of a variable behind others, where it does not hold this value anyway.
+fn put_setting(
     alloc: Global,
-    variable: VariableId,
+    x: usize,
     initial: Option<Value>,
-) -> Result<Items<Effect>, AllocError>
-    ensures { IfOk result (λ made. made ≡ setting variable initial) }
+    made: &mut Items<Effect>,
+) -> Result<(), AllocError>
+    ensures { IfOk result (λ _. made.new ≡ made.old ++ setting x initial) }
 {
+    let variable = variable(x)?;
     match initial {
         Some(value) if !is_default(value) => {
             let value = literal(alloc, value)?;
-            alone(alloc, Effect { variable, value })
+            made.push(Effect { variable, value })
         }
-        _ => Ok(Items::new(alloc)),
+        _ => Ok(()),
     }
 }
 
@@ -63,6 +65,18 @@ fn is_default(value: Value) -> bool
         Value::Bool(truth) => !truth,
         Value::Int(number) => number == 0,
     }
+}
+
+// Regions before which the initial values of these variables are set.
+fn all_set(
+    alloc: Global,
+    variables: &[Declared],
+    regions: Items<ExtendedRegion>,
+) -> Result<Items<ExtendedRegion>, AllocError>
+    ensures { IfOk result (λ made. made ≡ framed (settings 0 variables.now) regions) }
+{
+    let settings = settings(alloc, variables)?;
+    framed(alloc, settings.as_slice(), regions)
 }
 
 // Regions before which these assignments are made.
