@@ -6,7 +6,7 @@ use Rattle.drafts.proofs.PartsInOrder.{drop_is}
 use Rattle.chart_drafts.specs.declared.draft.DraftRegion.{DraftRegion}
 use Rattle.chart_drafts.specs.declared.draft.DraftRegion.TheViews.{out-DraftRegion, out-DraftState}
 use Rattle.chart_drafts.specs.declared.draft.DraftState.{DraftState}
-use Rattle.chart_reader.specs.Inside.{AreStatesFew, AreNarrow}
+use Rattle.chart_reader.specs.Narrow.{AreStatesFew, AreNarrow}
 use Rattle.chart_reader.specs.Resolved.{regions_of}
 
 pub states_few : (levels : ℕ) (regions : List DraftRegion) (i : ℕ) (r : DraftRegion) → AreNarrow levels regions → levels ≢ 0

@@ -15,7 +15,7 @@ use Rattle.chart_drafts.specs.declared.draft.DraftState.{DraftState}
 use Rattle.chart_drafts.specs.declared.draft.DraftChart.{DraftChart}
 use Rattle.chart_drafts.specs.Flaws.{state_names, chart_flaws}
 use Rattle.chart_drafts.specs.Shape.{IsShaped}
-use Rattle.chart_reader.specs.Inside.{AreStatesFew, AreNarrow}
+use Rattle.chart_reader.specs.Narrow.{AreStatesFew, AreNarrow}
 use Rattle.chart_reader.specs.Resolved.{region_of, regions_of, state_of, states_of}
 use Rattle.chart_reader.proofs.Looking.{state_out, region_out}
 use Rattle.chart_reader.proofs.ChartRulesKept.{chart_kept}

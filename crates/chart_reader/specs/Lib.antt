@@ -1,4 +1,4 @@
 pub mod Resolved
 pub mod Read
-pub mod Inside
+pub mod Narrow
 pub mod Laws

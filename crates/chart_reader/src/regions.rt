@@ -5,7 +5,7 @@ ghost use Rattle.sc_graph.specs.Limits.{variable_limit};
 ghost use Rattle.drafts.specs.Flaws.{variable_names};
 ghost use Rattle.chart_drafts.specs.declared.draft.DraftRegion.TheViews.{out-DraftRegion, out-DraftState};
 ghost use Rattle.chart_drafts.specs.Flaws.{state_names};
-ghost use Rattle.chart_reader.specs.Inside.{AreNarrow, AreStatesFew};
+ghost use Rattle.chart_reader.specs.Narrow.{AreNarrow, AreStatesFew};
 ghost use Rattle.chart_reader.specs.Resolved.{region_of, regions_of, state_of, states_of};
 
 use crate::states::StateScope;

@@ -7,7 +7,7 @@ use Rattle.drafts.proofs.Unflawed.{none_first}
 use Rattle.core_charts.specs.Rules.{depth_limit}
 use Rattle.chart_drafts.specs.declared.draft.DraftRegion.{DraftRegion}
 use Rattle.chart_drafts.specs.Flaws.{chart_flaws}
-use Rattle.chart_reader.specs.Inside.{AreNarrow}
+use Rattle.chart_reader.specs.Narrow.{AreNarrow}
 use Rattle.chart_reader.proofs.Whole as core
 use Rattle.chart_reader.proofs.Narrow as core_regions
 use Rattle.extended_drafts.specs.declared.draft.DraftItem.{DraftItem}

@@ -1,4 +1,4 @@
--- What private functions alone ask for. It is proved, and no public contract rests on what it means.
+-- Regions that nest a few levels deep at most, none of which has more states than a text may have.
 use Rattle.std.specs.Prelude.{ℕ, zero, suc, ◌≡◌, ◌≤◌, Some, List, [], length, slice_get}
 use Rattle.core_charts.specs.Rules.{state_text_limit}
 use Rattle.chart_drafts.specs.declared.draft.DraftRegion.{DraftRegion}
