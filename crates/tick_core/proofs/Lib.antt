@@ -11,6 +11,7 @@ mod Starts
 mod Counts
 mod NextSteps
 mod LivingChildren
+mod Entered
 pub mod Reports
 pub mod Taken
 pub mod Fresh

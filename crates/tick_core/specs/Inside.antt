@@ -10,3 +10,4 @@ pub mod Turns
 pub mod Work
 pub mod ShortCodes
 pub mod Onward
+pub mod Waking

@@ -1,6 +1,6 @@
 //! The counts and rows of all threads, as a tick begins.
 
-ghost use Rattle.std.specs.Prelude.{ℕ, ◌≡◌, length};
+ghost use Rattle.std.specs.Prelude.{ℕ, ◌≡◌, ◌↔◌, IsTrue, length};
 ghost use Rattle.sc_graph.specs.declared.control.Status.TheVariants.{Waiting};
 ghost use Rattle.sc_graph.specs.declared.control.Control.{Control as Configuration};
 ghost use Rattle.sc_graph.specs.Control.{status_of, joined_at};
@@ -10,6 +10,7 @@ ghost use Rattle.sc_graph.specs.Valid.{IsValid};
 ghost use Rattle.tick_core.specs.Inside.Joins.{FindsForks};
 ghost use Rattle.tick_core.specs.Inside.Living.{living, CountsLiving};
 ghost use Rattle.tick_core.specs.Inside.Sorting.{OwnRows, StandSorted, step_priority};
+ghost use Rattle.tick_core.specs.Inside.Waking.{IsPassedBy};
 
 use crate::joins::Joins;
 use crate::living::waited_for;
@@ -34,13 +35,27 @@ pub(crate) fn count_and_sort(
     ensures counted { CountsLiving program.now control.now counts.new.items }
     ensures sorted { StandSorted program.now tables.now control.now rows.new }
 {
+    let are_bare = rows.is_empty();
     for thread in 0..program.thread_count() {
         let status = control.status(thread);
-        let count = waited_for(joins, program, control, status);
-        counts[thread as usize] = count;
-        rows.set(thread, first_row(tables, status, count));
+        if !is_passed_by(are_bare, status) {
+            let count = waited_for(joins, program, control, status);
+            counts[thread as usize] = count;
+            rows.set(thread, first_row(tables, status, count));
+        }
     }
     rows.settle();
+}
+
+// Whether nothing is to be done for a thread that stands so: it waits for nobody and takes no step, and where
+// nobody stands in a row before, neither does it.
+fn is_passed_by(are_bare: bool, status: Status) -> bool
+    ensures { IsTrue result ↔ IsPassedBy are_bare status }
+{
+    match status {
+        Status::Absent | Status::Paused(_) | Status::Ended => are_bare,
+        Status::At(_) | Status::Waiting(_) => false,
+    }
 }
 
 // The priority at which a thread that stands so can step, where it waits for so many; None where it isn't enabled.

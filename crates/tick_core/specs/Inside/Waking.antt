@@ -1,0 +1,25 @@
+-- How far the threads are counted and sorted as a tick begins.
+use Rattle.std.specs.Prelude.{ℕ, ◌≡◌, ◌<◌, ◌≤◌, Bool, Some, List, IsTrue, length, slice_get, slice_index}
+use Rattle.buckets.specs.Rows.{Rows, IsIn}
+use Rattle.sc_graph.specs.declared.control.Control.{Control}
+use Rattle.sc_graph.specs.declared.control.Status.{Status}
+use Rattle.sc_graph.specs.declared.control.Status.TheVariants as status
+use Rattle.sc_graph.specs.declared.tables.Tables.{Tables}
+use Rattle.sc_graph.specs.Program.{Program}
+use Rattle.sc_graph.specs.Control.{status_of, joined_at}
+use Rattle.tick_core.specs.Inside.Living.{living}
+use Rattle.tick_core.specs.Inside.Sorting.{OwnRows, step_priority}
+
+-- a thread that stands so takes no step and waits for nobody, and before nobody stood in a row
+abbrev pub IsPassedBy : Bool → Status → Type 0
+IsPassedBy are_bare (status.At n) = ⊥
+IsPassedBy are_bare (status.Waiting j) = ⊥
+IsPassedBy are_bare other = IsTrue are_bare
+
+-- the threads below n are counted and stand in their rows; where the rows were bare, nobody else stands in one
+pub record EnteredBelow (p : Program) (q : Tables) (c : Control) (are_bare : Bool) (n : ℕ) (counts : List ℕ) (rows : Rows) : Type 0 where
+  pub long : length counts ≡ length p.threads
+  pub counted : (t j : ℕ) → t < n → status_of c t ≡ status.Waiting j → slice_index counts t ≡ living c (joined_at p j)
+  pub own : OwnRows p q rows
+  pub each : (t : ℕ) → t < n → slice_get rows.classes t ≡ Some (step_priority p q c t)
+  pub rest : IsTrue are_bare → (t prior : ℕ) → n ≤ t → IsIn rows.classes t prior → ⊥
