@@ -1,5 +1,6 @@
 -- As a tick begins, one more thread is counted and sorted, or passed by.
-use Rattle.std.proofs.Common.{◌≡◌, ◌≢◌, ℕ, ◌+◌, ◌<◌, ◌≤◌, ◌⊎◌, Bool, IsTrue, List, length, length-set, Option, Some, None, slice_get, slice_set, slice_index, get_or}
+use Rattle.std.proofs.Common.{◌≡◌, ◌≢◌, ℕ, ◌+◌, ◌<◌, ◌≤◌, ◌⊎◌, Bool, IsTrue, List, length, length-set, Option, Some, None}
+use Rattle.std.proofs.Common.{slice_get, slice_set, slice_index, get_or}
 use Rattle.std.proofs.Common.{refl, sym, ap, subst, ◌∙◌, inl, inr, arith}
 use Rattle.std.proofs.lemmas.Option.{slice_get-get_or}
 use Rattle.buckets.specs.Rows.{Rows, IsIn}
@@ -86,7 +87,8 @@ module _ (p : Program) (q : Tables) (c : Control) (b : Bool) (n : ℕ) (counts :
 
       each : (t : ℕ) → t < n + 1 → (t ≡ n) ⊎ (t ≢ n) → slice_get rows.classes t ≡ Some (step_priority p q c t)
       each t less (inl same) =
-          ap (slice_get rows.classes) same ∙ (in_none (are_bare st passed) ∙ (ap Some (sym (idle st is passed)) ∙ ap (λ u. Some (step_priority p q c u)) (sym same)))
+          ap (slice_get rows.classes) same
+          ∙ (in_none (are_bare st passed) ∙ (ap Some (sym (idle st is passed)) ∙ ap (λ u. Some (step_priority p q c u)) (sym same)))
       each t less (inr other) = h.each t (omega (arith, less, other))
 
 -- the same of lists and rows that are given twice

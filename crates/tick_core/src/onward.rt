@@ -13,8 +13,8 @@ use buckets::Rows;
 use sc_graph::{Control, Program, Status, Tables, ThreadId};
 use sc_values::Value;
 
-/// Takes the step of an enabled thread without a claim that stands so, whose code has this value. The counts and rows are
-/// those behind it then: where the step concerns others too, whom it can have made enabled or not is counted and
+/// Takes the step of an enabled thread without a claim that stands so, whose code has this value. The counts and rows
+/// are those behind it then: where the step concerns others too, whom it can have made enabled or not is counted and
 /// sorted anew.
 pub(crate) fn step_on(
     joins: &Joins,

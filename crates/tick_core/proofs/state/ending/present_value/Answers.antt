@@ -9,8 +9,9 @@ use Rattle.tick_core.proofs.Fresh.{code_stands}
 use Rattle.tick_core.proofs.state.ending.present_value.Goals as goal
 
 pub present-operands-requires : goal.present-operands-requires
-present-operands-requires c = (code_stands _ _ c.args.verified.now.tables _ c.requires.standing.0 _ _ _ _ c.requires.valid c.requires.configuration c.requires.kinds
-    (c.program.ensures ∙ ap (λ i. i.program) c.image.ensures.value) c.requires.standing.1 (ap option_copied c.in_ok-code.was) c.code_at.ensures).formed.within.loaded
+present-operands-requires c = (code_stands _ _ c.args.verified.now.tables _ c.requires.standing.0 _ _ _ _ c.requires.valid
+    c.requires.configuration c.requires.kinds (c.program.ensures ∙ ap (λ i. i.program) c.image.ensures.value) c.requires.standing.1
+    (ap option_copied c.in_ok-code.was) c.code_at.ensures).formed.within.loaded
 
 pub known-requires : goal.known-requires
 known-requires c = (code_stands _ _ c.args.verified.now.tables _ c.requires.standing.0 _ _ _ _ c.requires.valid c.requires.configuration c.requires.kinds
