@@ -1,6 +1,6 @@
 //! Exit actions: a transition makes those of the state that it leaves, behind those of what is active in it.
 
-ghost use Rattle.std.specs.Prelude.{◌≡◌, ◌++◌, codes, IfOk, length, map};
+ghost use Rattle.std.specs.Prelude.{◌≡◌, ◌+◌, ◌++◌, codes, IfOk, length, map};
 ghost use Rattle.extended_charts.specs.Exits.{noted, parting, own_note, left_region, left_state, all_regions};
 ghost use Rattle.extended_charts.specs.Exits.{with_behind, all_inside, outer_regions, with_exits};
 ghost use Rattle.extended_charts.specs.Making.{integers};
@@ -15,7 +15,11 @@ use sc_graph::VariableId;
 use sqlite_items::Items;
 use std::alloc::{AllocError, Global};
 
-/// The chart whose transitions make the exit actions. Err: memory was refused, or there are more than 65535 variables.
+// More states than any region that is made has; a region of a chart has 256 at most.
+const MOST_STATES: u32 = 1024;
+
+/// The chart whose transitions make the exit actions. Err: memory was refused, there are more than 65535 variables, or a
+/// region would have more than 1,024 states.
 pub fn with_exits(alloc: Global, chart: ExtendedChart) -> Result<ExtendedChart, AllocError>
     ensures { IfOk result (λ made. made ≡ with_exits chart) }
 {
@@ -94,6 +98,18 @@ fn own_note(x: u32, notes: bool) -> Result<Option<VariableId>, AllocError>
         Ok(Some(variable(x as usize)?))
     } else {
         Ok(None)
+    }
+}
+
+// The place behind so many states. Err: no region is made of so many, since a chart has far fewer in one.
+fn place_behind(place: u32, width: u32) -> Result<u32, AllocError>
+    ensures { IfOk result (λ behind. behind ≡ place + width) }
+{
+    let behind = sum(place, width)?;
+    if behind > MOST_STATES {
+        Err(AllocError)
+    } else {
+        Ok(behind)
     }
 }
 
@@ -191,7 +207,7 @@ fn with_behind(
         made.push(left_state(alloc, own, number, x, place, state)?)?;
         number = sum(number, one(has_exit(state)))?;
         x = sum(x, state_inside(state)?)?;
-        place = sum(place, width)?;
+        place = place_behind(place, width)?;
     }
     made.append(all_behind)?;
     Ok(made)

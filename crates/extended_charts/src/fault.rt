@@ -12,7 +12,7 @@ use std::fmt;
 pub enum ReduceFault {
     /// E07: what it is reduced to breaks a rule or a limit of charts.
     Limit,
-    /// E52: memory was refused, or more than 65535 variables would be needed.
+    /// E52: memory was refused, or more than 65535 variables, or 1,024 states in a region, would be needed.
     Memory,
 }
 
