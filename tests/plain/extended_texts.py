@@ -1,6 +1,8 @@
 """Texts of extended charts: rows with their faults, limits, random ones, and random ones with something changed."""
+import copy
+
 from chart_texts import CHART_WORDS
-from charts import Chart
+from charts import Chart, states_of
 from extended import Declared, text_of_extended
 from flaws import with_flaws
 from programs import VARIABLES
@@ -204,6 +206,17 @@ def random_extended(seed, size, depth=3):
     generator = ExtendedGenerator(seed, size)
     regions = generator.regions(depth, False, generator.random.choice([1, 2, 2, 3]))
     return Chart("C", generator.items, regions)
+
+
+def by_inputs(chart):
+    """The chart in which inputs tell what variables were, and whether the ticks are over that a transition waits."""
+    made = copy.deepcopy(chart)
+    for v in made.variables:
+        v.role = "input" if v.role == "pre" else v.role
+    for t in (t for s in states_of(made.regions) for t in s.transitions if t.delay is not None):
+        is_over = ("greater or equal", ("load", 2), t.delay)
+        t.trigger, t.delay = ("and", is_over, t.trigger) if t.trigger else is_over, None
+    return made
 
 
 WORDS = CHART_WORDS + "extended chart const pre entry exit after do = ; N M T was_x const int pre bool entry do a__b x__ after 3".split()
