@@ -1,5 +1,5 @@
 -- What states become, by their parts.
-use Rattle.std.proofs.Common.{◌≡◌, ℕ, ◌+◌, Bool, List, ◌∷◌, ◌++◌, map, sym, ap, ◌∙◌, append_assoc}
+use Rattle.std.proofs.Common.{◌≡◌, ℕ, ◌+◌, Bool, List, [], ◌∷◌, ◌++◌, map, sym, ap, ◌∙◌, append_assoc}
 use Rattle.core_charts.specs.declared.region.Effect.{Effect}
 use Rattle.core_charts.specs.declared.region.Transition.{Transition}
 use Rattle.core_charts.specs.declared.region.Region.{Region}
@@ -46,26 +46,29 @@ pub state_timed : (s : ExtendedState) (now at : ℕ) → (timed_state s).made no
 state_timed s now at = ap (λ t. t.made now at) (fold_out-ExtendedState TimedRegion TimedState clocks.region_step clocks.state_step s)
 
 pub state_states : (s : ExtendedState) → states_in_state s
-    ≡ before (out-ExtendedState s).entry ++ (out-ExtendedState s).is_own ∷ row (map states_in_region (out-ExtendedState s).regions)
-state_states s = fold_out-ExtendedState Marks Marks region_marks state_marks s
+    ≡ (before (out-ExtendedState s).entry ++ (out-ExtendedState s).is_own ∷ []) ++ row (map states_in_region (out-ExtendedState s).regions)
+state_states s =
+    fold_out-ExtendedState Marks Marks region_marks state_marks s
+    ∙ sym (append_assoc (before (out-ExtendedState s).entry) ((out-ExtendedState s).is_own ∷ []) (row (map states_in_region (out-ExtendedState s).regions)))
 
 state_transitions : (s : ExtendedState) → transitions_in_state s
-    ≡ before (out-ExtendedState s).entry ++ map (λ t. (out-ExtendedState s).is_own) (out-ExtendedState s).transitions
+    ≡ (before (out-ExtendedState s).entry ++ map (λ t. (out-ExtendedState s).is_own) (out-ExtendedState s).transitions)
     ++ row (map transitions_in_region (out-ExtendedState s).regions)
 state_transitions s = fold_out-ExtendedState Marks Marks region_marks transition_marks s
 
--- marks are put behind others: those before the state, those of its transitions, and those of its regions
-pub transitions_put : (s : ExtendedState) (entry : List Effect) (transitions : List Transition) (regions : List ExtendedRegion)
-    (old first own : Marks)
-    → entry ≡ (out-ExtendedState s).entry → transitions ≡ (out-ExtendedState s).transitions → regions ≡ (out-ExtendedState s).regions
-    → first ≡ old ++ before entry → own ≡ first ++ map (λ t. (out-ExtendedState s).is_own) transitions
-    → own ++ row (map transitions_in_region regions) ≡ old ++ transitions_in_state s
-transitions_put s entry transitions regions old first own of_entry of_transitions of_regions of_first of_own =
+pub transitions_put : (s : ExtendedState) (entry : List Effect) (first : Marks) (transitions : List Transition) (own with_own : Marks)
+    (regions : List ExtendedRegion) (inside all : Marks)
+    → entry ≡ (out-ExtendedState s).entry → first ≡ before entry
+    → transitions ≡ (out-ExtendedState s).transitions → own ≡ map (λ t. (out-ExtendedState s).is_own) transitions → with_own ≡ first ++ own
+    → regions ≡ (out-ExtendedState s).regions → inside ≡ row (map transitions_in_region regions) → all ≡ with_own ++ inside
+    → all ≡ transitions_in_state s
+transitions_put s entry first transitions own with_own regions inside all of_entry of_first of_transitions of_own of_with of_regions of_inside of_all =
     let O : Bool = (out-ExtendedState s).is_own in
     let B : Marks = before (out-ExtendedState s).entry in
     let T : Marks = map (λ t. O) (out-ExtendedState s).transitions in
-    let R : Marks = row (map transitions_in_region (out-ExtendedState s).regions) in
-    let e : first ≡ old ++ B = of_first ∙ ap (λ es. old ++ before es) of_entry in
-    let f : own ≡ (old ++ B) ++ T = of_own ∙ ap (λ m. m ++ map (λ t. O) transitions) e ∙ ap (λ ts. (old ++ B) ++ map (λ t. O) ts) of_transitions in
-    ap (λ m. m ++ row (map transitions_in_region regions)) f ∙ ap (λ rs. ((old ++ B) ++ T) ++ row (map transitions_in_region rs)) of_regions
-    ∙ ap (λ m. m ++ R) (append_assoc old B T) ∙ append_assoc old (B ++ T) R ∙ ap (λ m. old ++ m) (sym (state_transitions s))
+    let e : first ≡ B = of_first ∙ ap before of_entry in
+    let f : own ≡ T = of_own ∙ ap (λ ts. map (λ t. O) ts) of_transitions in
+    let g : inside ≡ row (map transitions_in_region (out-ExtendedState s).regions) =
+    of_inside ∙ ap (λ rs. row (map transitions_in_region rs)) of_regions in
+    of_all ∙ ap (λ m. m ++ inside) of_with ∙ ap (λ m. (m ++ own) ++ inside) e ∙ ap (λ m. (B ++ m) ++ inside) f ∙ ap (λ m. (B ++ T) ++ m) g
+    ∙ sym (state_transitions s)

@@ -12,4 +12,3 @@ pub mod Rows
 pub mod Reduction
 pub mod FaultText
 pub mod Laws
-pub mod Inside

@@ -1,16 +1,11 @@
 //! The ticks since a state was entered.
 
-ghost use Rattle.std.specs.Prelude.{◌≡◌, ◌++◌, ◌∷◌, [], suc, codes, None, IfOk, map};
-ghost use Rattle.sc_values.specs.declared.value.Kind.TheVariants as of_kind;
-ghost use Rattle.extended_charts.specs.declared.reading.Reading.TheVariants as reading;
+ghost use Rattle.std.specs.Prelude.{◌≡◌, IfOk, map};
 ghost use Rattle.extended_charts.specs.Clocks.{asks_time, ask_time, clocks_in, all_regions, all_states};
-ghost use Rattle.extended_charts.specs.Clocks.{noting, timed_transition, timed_region, timed_state};
+ghost use Rattle.extended_charts.specs.Clocks.{noting, timed_by, timed_region, timed_state};
 ghost use Rattle.extended_charts.specs.Clocks.{one_more, clock_region, with_clocks};
-ghost use Rattle.extended_charts.specs.Making.{local, integers};
-ghost use Rattle.extended_charts.specs.Reading.{replaced_trigger};
-ghost use Rattle.extended_charts.specs.Inside.{timed_around, timed_entry};
 
-use crate::extended::{Declared, ELAPSED, ExtendedChart, ExtendedRegion, ExtendedState};
+use crate::extended::{ELAPSED, ExtendedChart, ExtendedRegion, ExtendedState};
 use crate::making::{alone, always, copy, integers, local, made_state, one, sum, variable};
 use crate::names::plain;
 use crate::reading::Reading;
@@ -26,13 +21,17 @@ use std::alloc::{AllocError, Global};
 pub fn with_clocks(alloc: Global, chart: ExtendedChart) -> Result<ExtendedChart, AllocError>
     ensures { IfOk result (λ made. made ≡ with_clocks chart) }
 {
+    let now = variable(chart.variables.len())?;
     let count = clocks_in(chart.regions.as_slice())?;
     if count == 0 {
         return Ok(chart);
     }
-    let now = chart.variables.len();
-    let regions = clocked_regions(alloc, now, chart.regions.as_slice())?;
-    let variables = clocked_variables(alloc, count, chart.variables)?;
+    let first = next(u32::from(now))?;
+    let mut regions = all_regions(alloc, now, first, chart.regions.as_slice())?;
+    regions.push(clock_region(alloc, now)?)?;
+    let mut variables = chart.variables;
+    variables.push(local(plain("now__1"), Kind::Int, None))?;
+    variables.append(integers(alloc, "at__", count)?)?;
     Ok(ExtendedChart {
         name: chart.name,
         variables,
@@ -41,37 +40,6 @@ pub fn with_clocks(alloc: Global, chart: ExtendedChart) -> Result<ExtendedChart,
         constants: chart.constants,
         regions,
     })
-}
-
-// The regions in which triggers read variables, and behind them the one that counts the time, which this variable is.
-fn clocked_regions(
-    alloc: Global,
-    now: usize,
-    regions: &[ExtendedRegion],
-) -> Result<Items<ExtendedRegion>, AllocError>
-    ensures { IfOk result (λ made. made ≡ all_regions now (suc now) (map timed_region regions.now)
-        ++ clock_region now ∷ []) }
-{
-    let now = variable(now)?;
-    let first = next(u32::from(now))?;
-    let mut made = all_regions(alloc, now, first, regions)?;
-    made.push(clock_region(alloc, now)?)?;
-    Ok(made)
-}
-
-// The variables, and behind them the time now and so many times of entries.
-fn clocked_variables(
-    alloc: Global,
-    count: u32,
-    variables: Items<Declared>,
-) -> Result<Items<Declared>, AllocError>
-    ensures { IfOk result (λ made. made ≡ variables ++ local (codes "now__1") of_kind.Int None
-        ∷ integers (codes "at__") count) }
-{
-    let mut made = variables;
-    made.push(local(plain("now__1"), Kind::Int, None))?;
-    made.append(integers(alloc, "at__", count)?)?;
-    Ok(made)
 }
 
 // Whether a trigger of these asks for the ticks since the state was entered.
@@ -184,47 +152,23 @@ fn timed_state(
 ) -> Result<ExtendedState, AllocError>
     ensures { IfOk result (λ made. made ≡ (timed_state state.now).made now at) }
 {
-    let inside = sum(at, one(ask_time(state.transitions.as_slice())))?;
-    let regions = all_regions(alloc, now, inside, state.regions.as_slice())?;
-    timed_around(alloc, now, at, state, regions)
-}
-
-// The state with these regions.
-fn timed_around(
-    alloc: Global,
-    now: VariableId,
-    at: u32,
-    state: &ExtendedState,
-    regions: Items<ExtendedRegion>,
-) -> Result<ExtendedState, AllocError>
-    ensures { IfOk result (λ made. made ≡ timed_around now at state.now regions) }
-{
-    let at = variable(at as usize)?;
-    let entry = timed_entry(alloc, now, at, state)?;
-    let exit = copied_effects(alloc, state.exit.as_slice())?;
+    let own = state.transitions.as_slice();
+    let asks = ask_time(own);
+    let at_entry = variable(at as usize)?;
+    let inside = sum(at, one(asks))?;
+    let reading = Reading::Elapsed { now, at: at_entry };
+    let mut entry = noting(alloc, asks, now, at_entry)?;
+    entry.append(copied_effects(alloc, state.entry.as_slice())?)?;
     Ok(ExtendedState {
         name: state.name,
         is_own: state.is_own,
         is_initial: state.is_initial,
         is_final: state.is_final,
         entry,
-        exit,
-        regions,
-        transitions: timed_transitions(alloc, now, at, state.transitions.as_slice())?,
+        exit: copied_effects(alloc, state.exit.as_slice())?,
+        regions: all_regions(alloc, now, inside, state.regions.as_slice())?,
+        transitions: timed_transitions(alloc, &reading, own)?,
     })
-}
-
-fn timed_entry(
-    alloc: Global,
-    now: VariableId,
-    at: VariableId,
-    state: &ExtendedState,
-) -> Result<Items<Effect>, AllocError>
-    ensures { IfOk result (λ made. made ≡ timed_entry now at state.now) }
-{
-    let mut entry = noting(alloc, ask_time(state.transitions.as_slice()), now, at)?;
-    entry.append(copied_effects(alloc, state.entry.as_slice())?)?;
-    Ok(entry)
 }
 
 fn noting(
@@ -244,43 +188,29 @@ fn noting(
 
 fn timed_transitions(
     alloc: Global,
-    now: VariableId,
-    at: VariableId,
+    reading: &Reading,
     transitions: &[Transition],
 ) -> Result<Items<Transition>, AllocError>
-    ensures { IfOk result (λ made. made ≡ map (timed_transition now at) transitions.now) }
+    ensures { IfOk result (λ made. made ≡ map (timed_by reading.now) transitions.now) }
 {
     let mut made = Items::new(alloc);
     for transition in transitions {
-        made.push(timed_transition(alloc, now, at, transition)?)?;
+        made.push(timed_transition(alloc, reading, transition)?)?;
     }
     Ok(made)
 }
 
-fn timed_trigger(
-    alloc: Global,
-    now: VariableId,
-    at: VariableId,
-    trigger: &Option<Expr>,
-) -> Result<Option<Expr>, AllocError>
-    ensures { IfOk result (λ made. made ≡ replaced_trigger (reading.Elapsed now at) trigger.now) }
-{
-    let reading = Reading::Elapsed { now, at };
-    reading.replaced_trigger(alloc, trigger)
-}
-
 fn timed_transition(
     alloc: Global,
-    now: VariableId,
-    at: VariableId,
+    reading: &Reading,
     transition: &Transition,
 ) -> Result<Transition, AllocError>
-    ensures { IfOk result (λ made. made ≡ timed_transition now at transition.now) }
+    ensures { IfOk result (λ made. made ≡ timed_by reading.now transition.now) }
 {
     Ok(Transition {
         kind: transition.kind,
         immediate: transition.immediate,
-        trigger: timed_trigger(alloc, now, at, &transition.trigger)?,
+        trigger: reading.replaced_trigger(alloc, &transition.trigger)?,
         effects: copied_effects(alloc, transition.effects.as_slice())?,
         target: transition.target,
     })

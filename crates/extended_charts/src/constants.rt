@@ -3,7 +3,6 @@
 ghost use Rattle.std.specs.Prelude.{◌≡◌, [], IfOk, map};
 ghost use Rattle.extended_charts.specs.Constants.{unvalued, named_values, valued_effect, valued_transition};
 ghost use Rattle.extended_charts.specs.Constants.{valued_region, valued_state, valued_chart, without_constants};
-ghost use Rattle.extended_charts.specs.Inside.{valued_around};
 
 use crate::copies::copied_declarations;
 use crate::extended::{Constant, Declared, ExtendedChart, ExtendedRegion, ExtendedState};
@@ -185,29 +184,14 @@ fn valued_state(
 ) -> Result<ExtendedState, AllocError>
     ensures { IfOk result (λ made. made ≡ valued_state reading.now state.now) }
 {
-    let regions = valued_regions(alloc, reading, state.regions.as_slice())?;
-    valued_around(alloc, reading, state, regions)
-}
-
-// The state with these regions.
-fn valued_around(
-    alloc: Global,
-    reading: &Reading,
-    state: &ExtendedState,
-    regions: Items<ExtendedRegion>,
-) -> Result<ExtendedState, AllocError>
-    ensures { IfOk result (λ made. made ≡ valued_around reading.now state.now regions) }
-{
-    let entry = valued_effects(alloc, reading, state.entry.as_slice())?;
-    let exit = valued_effects(alloc, reading, state.exit.as_slice())?;
     Ok(ExtendedState {
         name: state.name,
         is_own: state.is_own,
         is_initial: state.is_initial,
         is_final: state.is_final,
-        entry,
-        exit,
-        regions,
+        entry: valued_effects(alloc, reading, state.entry.as_slice())?,
+        exit: valued_effects(alloc, reading, state.exit.as_slice())?,
+        regions: valued_regions(alloc, reading, state.regions.as_slice())?,
         transitions: valued_transitions(alloc, reading, state.transitions.as_slice())?,
     })
 }

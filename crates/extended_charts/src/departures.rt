@@ -166,15 +166,6 @@ fn led_out(
     Ok(made)
 }
 
-fn left_by(alloc: Global, own: &[Effect], transition: &Transition) -> Result<Transition, AllocError>
-    ensures { IfOk result (λ made. made ≡ left_by own.now transition.now) }
-{
-    let joined = joined(alloc, own, transition.effects.as_slice())?;
-    let mut copy = transition.copied(alloc)?;
-    copy.effects = joined;
-    Ok(copy)
-}
-
 fn all_left_by(
     alloc: Global,
     own: &[Effect],
@@ -184,7 +175,9 @@ fn all_left_by(
 {
     let mut made = Items::new(alloc);
     for transition in transitions {
-        made.push(left_by(alloc, own, transition)?)?;
+        let mut copy = transition.copied(alloc)?;
+        copy.effects = joined(alloc, own, transition.effects.as_slice())?;
+        made.push(copy)?;
     }
     Ok(made)
 }

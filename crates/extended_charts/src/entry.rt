@@ -1,6 +1,6 @@
 //! Entry actions: a state that has such is entered by a step state before it, which makes them.
 
-ghost use Rattle.std.specs.Prelude.{◌≡◌, ◌+◌, ◌++◌, IfOk, map, slice_get, unwrap_or};
+ghost use Rattle.std.specs.Prelude.{◌≡◌, ◌+◌, IfOk, map, slice_get, unwrap_or};
 ghost use Rattle.extended_charts.specs.Entry.{width, entrances, nowhere, led, entering, laid, all_laid};
 ghost use Rattle.extended_charts.specs.Entry.{entered, without_entry};
 
@@ -44,63 +44,61 @@ fn all_laid(alloc: Global, at: &[u32], states: &[ExtendedState]) -> Result<Items
     let mut number = 0;
     let mut place = 0;
     for state in states {
-        put_laid(alloc, at, number, place, state, &mut made)?;
+        made.append(laid(alloc, at, number, place, state)?)?;
         number = past(number, 1)?;
         place = past(place, width(state))?;
     }
     Ok(made)
 }
 
-// Puts what stands for a state behind others.
 #[cycle(entered)]
 #[tactic(auto, using(crate::proofs::Folded::state_entered))]
-fn put_laid(
+fn laid(
     alloc: Global,
     at: &[u32],
     number: u32,
     place: u32,
     state: &ExtendedState,
-    made: &mut Items<State>,
-) -> Result<(), AllocError>
-    ensures { IfOk result (λ _. made.new ≡ made.old ++ laid at.now number place (entered state.now)) }
+) -> Result<Items<State>, AllocError>
+    ensures { IfOk result (λ made. made ≡ laid at.now number place (entered state.now)) }
 {
     let entry = state.entry.as_slice();
-    put_entering(alloc, number, place, state.is_initial, entry, made)?;
-    let regions = without_entry(alloc, state.regions.as_slice())?;
-    let transitions = all_led(alloc, at, state.transitions.as_slice())?;
+    let mut made = entering(alloc, number, place, state.is_initial, entry)?;
     made.push(State {
         name: state.name,
         is_initial: state.is_initial && !has_some(entry),
         is_final: state.is_final,
-        regions,
-        transitions,
-    })
+        regions: without_entry(alloc, state.regions.as_slice())?,
+        transitions: all_led(alloc, at, state.transitions.as_slice())?,
+    })?;
+    Ok(made)
 }
 
-// Puts the step state of this number and place behind others, where there are entry actions.
-fn put_entering(
+// The step state of this number and place, where there are entry actions.
+fn entering(
     alloc: Global,
     number: u32,
     place: u32,
     is_initial: bool,
     entry: &[Effect],
-    made: &mut Items<State>,
-) -> Result<(), AllocError>
-    ensures { IfOk result (λ _. made.new ≡ made.old ++ entering number place is_initial entry.now) }
+) -> Result<Items<State>, AllocError>
+    ensures { IfOk result (λ made. made ≡ entering number place is_initial entry.now) }
 {
     if !has_some(entry) {
-        return Ok(());
+        return Ok(Items::new(alloc));
     }
-    let target = past(place, 1)?;
     let effects = copied_effects(alloc, entry)?;
-    let transitions = alone(alloc, always(true, effects, target))?;
-    made.push(State {
-        name: numbered("enter__", number),
-        is_initial,
-        is_final: false,
-        regions: Items::new(alloc),
-        transitions,
-    })
+    let transitions = alone(alloc, always(true, effects, past(place, 1)?))?;
+    alone(
+        alloc,
+        State {
+            name: numbered("enter__", number),
+            is_initial,
+            is_final: false,
+            regions: Items::new(alloc),
+            transitions,
+        },
+    )
 }
 
 #[tactic(auto, using(crate::proofs::Folded::state_entered))]

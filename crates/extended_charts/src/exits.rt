@@ -1,16 +1,14 @@
 //! Exit actions: a transition makes those of the state that it leaves, behind those of what is active in it.
 
-ghost use Rattle.std.specs.Prelude.{◌≡◌, ◌+◌, ◌++◌, codes, IfOk, length, map};
+ghost use Rattle.std.specs.Prelude.{◌≡◌, ◌+◌, IfOk, length, map};
 ghost use Rattle.extended_charts.specs.Exits.{noted, parting, own_note, left_region, left_state, all_regions};
 ghost use Rattle.extended_charts.specs.Exits.{with_behind, all_inside, outer_regions, with_exits};
-ghost use Rattle.extended_charts.specs.Making.{integers};
-ghost use Rattle.extended_charts.specs.Inside.{left_around, left_entry, onward};
 
 use crate::departures::{left_behind, left_transitions, set};
-use crate::extended::{Declared, ExtendedChart, ExtendedRegion, ExtendedState};
+use crate::extended::{ExtendedChart, ExtendedRegion, ExtendedState};
 use crate::leaving::{has_exit, have_exits, inside, notes, state_inside, state_leavings};
 use crate::making::{alone, has_some, integers, one, sum, variable};
-use core_charts::{Effect, Transition, copied_effects};
+use core_charts::{Effect, copied_effects};
 use sc_graph::VariableId;
 use sqlite_items::Items;
 use std::alloc::{AllocError, Global};
@@ -23,9 +21,11 @@ const MOST_STATES: u32 = 1024;
 pub fn with_exits(alloc: Global, chart: ExtendedChart) -> Result<ExtendedChart, AllocError>
     ensures { IfOk result (λ made. made ≡ with_exits chart) }
 {
-    let own = chart.regions;
-    let regions = left_regions(alloc, chart.variables.len(), own.as_slice())?;
-    let variables = with_notes(alloc, own.as_slice(), chart.variables)?;
+    let first = u32::from(variable(chart.variables.len())?);
+    let count = all_inside(chart.regions.as_slice())?;
+    let regions = outer_regions(alloc, first, chart.regions.as_slice())?;
+    let mut variables = chart.variables;
+    variables.append(integers(alloc, "in__", count)?)?;
     Ok(ExtendedChart {
         name: chart.name,
         variables,
@@ -34,33 +34,6 @@ pub fn with_exits(alloc: Global, chart: ExtendedChart) -> Result<ExtendedChart, 
         constants: chart.constants,
         regions,
     })
-}
-
-// The regions of the chart, in which variables from this one on note where regions are.
-fn left_regions(
-    alloc: Global,
-    first: usize,
-    regions: &[ExtendedRegion],
-) -> Result<Items<ExtendedRegion>, AllocError>
-    ensures { IfOk result (λ made. made ≡ outer_regions first (map left_region regions.now)) }
-{
-    let first = variable(first)?;
-    outer_regions(alloc, u32::from(first), regions)
-}
-
-// The variables, and behind them those in which these regions note where they are.
-fn with_notes(
-    alloc: Global,
-    regions: &[ExtendedRegion],
-    variables: Items<Declared>,
-) -> Result<Items<Declared>, AllocError>
-    ensures { IfOk result (λ made. made ≡ variables
-        ++ integers (codes "in__") (all_inside (map left_region regions.now))) }
-{
-    let count = all_inside(regions)?;
-    let mut made = variables;
-    made.append(integers(alloc, "in__", count)?)?;
-    Ok(made)
 }
 
 // The number of a state, where its region notes it and the state has exit actions.
@@ -202,12 +175,11 @@ fn with_behind(
     let mut place = count(states)?;
     for state in states {
         let behind = behind(alloc, own, x, place, state)?;
-        let width = count(behind.as_slice())?;
-        all_behind.append(behind)?;
         made.push(left_state(alloc, own, number, x, place, state)?)?;
         number = sum(number, one(has_exit(state)))?;
         x = sum(x, state_inside(state)?)?;
-        place = place_behind(place, width)?;
+        place = place_behind(place, count(behind.as_slice())?)?;
+        all_behind.append(behind)?;
     }
     made.append(all_behind)?;
     Ok(made)
@@ -225,69 +197,28 @@ fn left_state(
 ) -> Result<ExtendedState, AllocError>
     ensures { IfOk result (λ made. made ≡ (left_state state.now).made own number x place) }
 {
-    let regions = all_regions(alloc, x, state.regions.as_slice())?;
-    let transitions = onward(alloc, own, x, place, state)?;
-    left_around(alloc, own, number, state, regions, transitions)
-}
-
-// The state with these regions and transitions.
-fn left_around(
-    alloc: Global,
-    own: Option<VariableId>,
-    number: u32,
-    state: &ExtendedState,
-    regions: Items<ExtendedRegion>,
-    transitions: Items<Transition>,
-) -> Result<ExtendedState, AllocError>
-    ensures { IfOk result (λ made. made ≡ left_around own number state.now regions transitions) }
-{
+    let exit = state.exit.as_slice();
+    let transitions = state.transitions.as_slice();
+    let leavings = state_leavings(alloc, x, state)?;
+    let parting = parting(alloc, own, exit)?;
+    let mut entry = noted(alloc, own, number, exit)?;
+    entry.append(copied_effects(alloc, state.entry.as_slice())?)?;
     Ok(ExtendedState {
         name: state.name,
         is_own: state.is_own,
         is_initial: state.is_initial,
         is_final: state.is_final,
-        entry: left_entry(alloc, own, number, state)?,
+        entry,
         exit: Items::new(alloc),
-        regions,
-        transitions,
+        regions: all_regions(alloc, x, state.regions.as_slice())?,
+        transitions: left_transitions(
+            alloc,
+            place,
+            leavings.as_slice(),
+            parting.as_slice(),
+            transitions,
+        )?,
     })
-}
-
-// What is done as the state is entered.
-fn left_entry(
-    alloc: Global,
-    own: Option<VariableId>,
-    number: u32,
-    state: &ExtendedState,
-) -> Result<Items<Effect>, AllocError>
-    ensures { IfOk result (λ made. made ≡ left_entry own number state.now) }
-{
-    let mut entry = noted(alloc, own, number, state.exit.as_slice())?;
-    entry.append(copied_effects(alloc, state.entry.as_slice())?)?;
-    Ok(entry)
-}
-
-// The transitions of a state, where the states behind it stand from this place on.
-#[tactic(auto, using(crate::proofs::Left::state_leavings))]
-fn onward(
-    alloc: Global,
-    own: Option<VariableId>,
-    x: u32,
-    place: u32,
-    state: &ExtendedState,
-) -> Result<Items<Transition>, AllocError>
-    ensures { IfOk result (λ made. made ≡ onward own x place state.now) }
-{
-    let transitions = state.transitions.as_slice();
-    let leavings = state_leavings(alloc, x, state)?;
-    let parting = parting(alloc, own, state.exit.as_slice())?;
-    left_transitions(
-        alloc,
-        place,
-        leavings.as_slice(),
-        parting.as_slice(),
-        transitions,
-    )
 }
 
 // What stands behind a state, from this place on.

@@ -1,9 +1,8 @@
 //! Terminations with triggers: behind the regions of a superstate a state waits for the trigger.
 
-ghost use Rattle.std.specs.Prelude.{◌≡◌, Some, IfOk, map};
+ghost use Rattle.std.specs.Prelude.{◌≡◌, IfOk, map};
 ghost use Rattle.extended_charts.specs.Holds.{condition, untested, body, tested, hold, ended, held};
 ghost use Rattle.extended_charts.specs.Holds.{held_region, held_state, held_inside, with_holds};
-ghost use Rattle.extended_charts.specs.Inside.{held_around};
 
 use crate::extended::{ExtendedChart, ExtendedRegion, ExtendedState};
 use crate::making::{alone, always, made_state};
@@ -117,25 +116,14 @@ fn ended(alloc: Global) -> ExtendedState
 // What a superstate has instead of these regions.
 fn held(
     alloc: Global,
-    transitions: &[Transition],
+    condition: Option<Expr>,
     regions: Items<ExtendedRegion>,
 ) -> Result<Items<ExtendedRegion>, AllocError>
-    ensures { IfOk result (λ made. made ≡ held (condition transitions.now) regions) }
+    ensures { IfOk result (λ made. made ≡ held condition regions) }
 {
-    match condition(alloc, transitions)? {
-        Some(trigger) => within(alloc, trigger, regions),
-        None => Ok(regions),
-    }
-}
-
-// The region that has these, and waits for the trigger when they have ended.
-fn within(
-    alloc: Global,
-    trigger: Expr,
-    regions: Items<ExtendedRegion>,
-) -> Result<Items<ExtendedRegion>, AllocError>
-    ensures { IfOk result (λ made. made ≡ held (Some trigger) regions) }
-{
+    let Some(trigger) = condition else {
+        return Ok(regions);
+    };
     let mut states = alone(alloc, body(alloc, regions)?)?;
     states.push(hold(alloc, trigger)?)?;
     states.push(ended(alloc))?;
@@ -188,8 +176,9 @@ fn held_states(alloc: Global, states: &[ExtendedState]) -> Result<Items<Extended
 fn held_inside(alloc: Global, state: &ExtendedState) -> Result<Items<ExtendedRegion>, AllocError>
     ensures { IfOk result (λ made. made ≡ held_inside state.now) }
 {
+    let condition = condition(alloc, state.transitions.as_slice())?;
     let regions = held_regions(alloc, state.regions.as_slice())?;
-    held(alloc, state.transitions.as_slice(), regions)
+    held(alloc, condition, regions)
 }
 
 #[cycle(held)]
@@ -197,28 +186,14 @@ fn held_inside(alloc: Global, state: &ExtendedState) -> Result<Items<ExtendedReg
 fn held_state(alloc: Global, state: &ExtendedState) -> Result<ExtendedState, AllocError>
     ensures { IfOk result (λ made. made ≡ held_state state.now) }
 {
-    let regions = held_inside(alloc, state)?;
-    held_around(alloc, state, regions)
-}
-
-// The state with these regions.
-fn held_around(
-    alloc: Global,
-    state: &ExtendedState,
-    regions: Items<ExtendedRegion>,
-) -> Result<ExtendedState, AllocError>
-    ensures { IfOk result (λ made. made ≡ held_around state.now regions) }
-{
-    let entry = copied_effects(alloc, state.entry.as_slice())?;
-    let exit = copied_effects(alloc, state.exit.as_slice())?;
     Ok(ExtendedState {
         name: state.name,
         is_own: state.is_own,
         is_initial: state.is_initial,
         is_final: state.is_final,
-        entry,
-        exit,
-        regions,
+        entry: copied_effects(alloc, state.entry.as_slice())?,
+        exit: copied_effects(alloc, state.exit.as_slice())?,
+        regions: held_inside(alloc, state)?,
         transitions: all_untested(alloc, state.transitions.as_slice())?,
     })
 }

@@ -1,12 +1,13 @@
 //! Initial values: where a variable has one other than `false` and 0, states set them before all regions.
 
-ghost use Rattle.std.specs.Prelude.{◌≡◌, ◌++◌, IfOk};
+ghost use Rattle.std.specs.Prelude.{◌≡◌, IfOk};
 ghost use Rattle.extended_charts.specs.Initial.{is_default, setting, settings, framed, with_settings};
 
 use crate::extended::{Declared, ExtendedChart, ExtendedRegion};
 use crate::making::{all_passing, alone, has_some, literal, made_state, variable};
 use crate::names::plain;
 use core_charts::Effect;
+use sc_graph::VariableId;
 use sc_values::Value;
 use sqlite_items::Items;
 use std::alloc::{AllocError, Global};
@@ -16,8 +17,8 @@ use std::alloc::{AllocError, Global};
 pub fn with_settings(alloc: Global, chart: ExtendedChart) -> Result<ExtendedChart, AllocError>
     ensures { IfOk result (λ made. made ≡ with_settings chart) }
 {
-    let regions = chart.regions;
-    let regions = all_set(alloc, chart.variables.as_slice(), regions)?;
+    let settings = settings(alloc, chart.variables.as_slice())?;
+    let regions = framed(alloc, settings.as_slice(), chart.regions)?;
     Ok(ExtendedChart {
         name: chart.name,
         variables: chart.variables,
@@ -34,27 +35,24 @@ fn settings(alloc: Global, variables: &[Declared]) -> Result<Items<Effect>, Allo
 {
     let mut made = Items::new(alloc);
     for (x, declared) in variables.iter().enumerate() {
-        put_setting(alloc, x, declared.initial, &mut made)?;
+        made.append(setting(alloc, variable(x)?, declared.initial)?)?;
     }
     Ok(made)
 }
 
-// Puts the assignment of a variable behind others, where it does not hold this value anyway.
-fn put_setting(
+fn setting(
     alloc: Global,
-    x: usize,
+    variable: VariableId,
     initial: Option<Value>,
-    made: &mut Items<Effect>,
-) -> Result<(), AllocError>
-    ensures { IfOk result (λ _. made.new ≡ made.old ++ setting x initial) }
+) -> Result<Items<Effect>, AllocError>
+    ensures { IfOk result (λ made. made ≡ setting variable initial) }
 {
-    let variable = variable(x)?;
     match initial {
         Some(value) if !is_default(value) => {
             let value = literal(alloc, value)?;
-            made.push(Effect { variable, value })
+            alone(alloc, Effect { variable, value })
         }
-        _ => Ok(()),
+        _ => Ok(Items::new(alloc)),
     }
 }
 
@@ -65,18 +63,6 @@ fn is_default(value: Value) -> bool
         Value::Bool(truth) => !truth,
         Value::Int(number) => number == 0,
     }
-}
-
-// Regions before which the initial values of these variables are set.
-fn all_set(
-    alloc: Global,
-    variables: &[Declared],
-    regions: Items<ExtendedRegion>,
-) -> Result<Items<ExtendedRegion>, AllocError>
-    ensures { IfOk result (λ made. made ≡ framed (settings 0 variables.now) regions) }
-{
-    let settings = settings(alloc, variables)?;
-    framed(alloc, settings.as_slice(), regions)
 }
 
 // Regions before which these assignments are made.

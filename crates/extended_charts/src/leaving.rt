@@ -1,12 +1,12 @@
 //! Which regions note in which of their states they are, and what is left of them as a superstate around them is left.
 
-ghost use Rattle.std.specs.Prelude.{◌≡◌, ◌++◌, IfOk, map};
+ghost use Rattle.std.specs.Prelude.{◌≡◌, IfOk, map};
 ghost use Rattle.extended_charts.specs.Making.{has_some};
 ghost use Rattle.extended_charts.specs.Exits.{left_region, left_state, exits_of, notes, notes_in};
 ghost use Rattle.extended_charts.specs.Exits.{leavings_in, leavings_among, own_leaving};
 
 use crate::extended::{ExtendedRegion, ExtendedState};
-use crate::making::{has_some, one, sum, variable};
+use crate::making::{alone, has_some, one, sum, variable};
 use core_charts::{Effect, copied_effects};
 use sc_graph::VariableId;
 use sqlite_items::Items;
@@ -95,73 +95,58 @@ pub(crate) fn state_inside(state: &ExtendedState) -> Result<u32, AllocError>
     notes_in(state.regions.as_slice())
 }
 
-// Puts what is left of these regions, and of those in them, behind others, where variables from this one on note where
-// they are: those in a region first.
+// What is left of these regions, and of those in them, where variables from this one on note where they are: those in
+// a region first.
 #[cycle(leaving)]
-fn put_leavings_in(
+fn leavings_in(
     alloc: Global,
     first: u32,
     regions: &[ExtendedRegion],
-    made: &mut Items<Leaving>,
-) -> Result<(), AllocError>
-    ensures { IfOk result (λ _. made.new ≡ made.old ++ leavings_in first (map left_region regions.now)) }
+) -> Result<Items<Leaving>, AllocError>
+    ensures { IfOk result (λ made. made ≡ leavings_in first (map left_region regions.now)) }
 {
+    let mut made = Items::new(alloc);
     let mut x = first;
     for region in regions {
-        put_leavings(alloc, x, region, made)?;
+        made.append(leavings(alloc, x, region)?)?;
         x = sum(x, notes(region)?)?;
     }
-    Ok(())
+    Ok(made)
 }
 
 #[cycle(leaving)]
 #[tactic(auto, using(crate::proofs::Left::region_leavings))]
-fn put_leavings(
-    alloc: Global,
-    x: u32,
-    region: &ExtendedRegion,
-    made: &mut Items<Leaving>,
-) -> Result<(), AllocError>
-    ensures { IfOk result (λ _. made.new ≡ made.old ++ (left_region region.now).leavings x) }
+fn leavings(alloc: Global, x: u32, region: &ExtendedRegion) -> Result<Items<Leaving>, AllocError>
+    ensures { IfOk result (λ made. made ≡ (left_region region.now).leavings x) }
 {
     let states = region.states.as_slice();
-    put_leavings_among(alloc, x, states, made)?;
+    let mut made = leavings_among(alloc, x, states)?;
     let own = sum(x, inside(region)?)?;
-    put_own_leaving(own, exits_of(alloc, states)?, made)
+    made.append(own_leaving(alloc, own, exits_of(alloc, states)?)?)?;
+    Ok(made)
 }
 
 #[cycle(leaving)]
-fn put_leavings_among(
+fn leavings_among(
     alloc: Global,
     first: u32,
     states: &[ExtendedState],
-    made: &mut Items<Leaving>,
-) -> Result<(), AllocError>
-    ensures { IfOk result (λ _. made.new ≡ made.old ++ leavings_among first (map left_state states.now)) }
+) -> Result<Items<Leaving>, AllocError>
+    ensures { IfOk result (λ made. made ≡ leavings_among first (map left_state states.now)) }
 {
+    let mut made = Items::new(alloc);
     let mut x = first;
     for state in states {
-        put_state_leavings(alloc, x, state, made)?;
+        made.append(state_leavings(alloc, x, state)?)?;
         x = sum(x, state_inside(state)?)?;
     }
-    Ok(())
-}
-
-#[cycle(leaving)]
-#[tactic(auto, using(crate::proofs::Left::state_leavings))]
-fn put_state_leavings(
-    alloc: Global,
-    x: u32,
-    state: &ExtendedState,
-    made: &mut Items<Leaving>,
-) -> Result<(), AllocError>
-    ensures { IfOk result (λ _. made.new ≡ made.old ++ (left_state state.now).leavings x) }
-{
-    put_leavings_in(alloc, x, state.regions.as_slice(), made)
+    Ok(made)
 }
 
 /// What is left of the regions in this state, where variables from this one on note where they are: those in a region
 /// first. Err: memory was refused, or there are more than 65535 variables.
+#[cycle(leaving)]
+#[tactic(auto, using(crate::proofs::Left::state_leavings))]
 pub(crate) fn state_leavings(
     alloc: Global,
     x: u32,
@@ -169,21 +154,19 @@ pub(crate) fn state_leavings(
 ) -> Result<Items<Leaving>, AllocError>
     ensures { IfOk result (λ made. made ≡ (left_state state.now).leavings x) }
 {
-    let mut made = Items::new(alloc);
-    put_state_leavings(alloc, x, state, &mut made)?;
-    Ok(made)
+    leavings_in(alloc, x, state.regions.as_slice())
 }
 
-fn put_own_leaving(
+fn own_leaving(
+    alloc: Global,
     x: u32,
     exits: Items<Items<Effect>>,
-    made: &mut Items<Leaving>,
-) -> Result<(), AllocError>
-    ensures { IfOk result (λ _. made.new ≡ made.old ++ own_leaving x exits) }
+) -> Result<Items<Leaving>, AllocError>
+    ensures { IfOk result (λ made. made ≡ own_leaving x exits) }
 {
     if !has_some(exits.as_slice()) {
-        return Ok(());
+        return Ok(Items::new(alloc));
     }
     let variable = variable(x as usize)?;
-    made.push(Leaving { variable, exits })
+    alone(alloc, Leaving { variable, exits })
 }

@@ -1,6 +1,6 @@
 //! What variables were at the end of the tick before.
 
-ghost use Rattle.std.specs.Prelude.{◌≡◌, ◌++◌, ◌∷◌, [], IfOk, slice_get};
+ghost use Rattle.std.specs.Prelude.{◌≡◌, IfOk, slice_get};
 ghost use Rattle.extended_charts.specs.Registers.{kind_of, initial_of, before_variables, registers};
 ghost use Rattle.extended_charts.specs.Registers.{storing, handing, ring, register_region, with_registers};
 
@@ -22,10 +22,14 @@ pub fn with_registers(alloc: Global, chart: ExtendedChart) -> Result<ExtendedCha
     if !has_some(chart.befores.as_slice()) {
         return Ok(chart);
     }
-    let befores = chart.befores;
-    let count = chart.variables.len();
-    let regions = registered(alloc, count, befores.as_slice(), chart.regions)?;
-    let variables = declared(alloc, befores.as_slice(), chart.variables)?;
+    let region = register_region(alloc, chart.variables.len(), chart.befores.as_slice())?;
+    let declared = chart.variables.as_slice();
+    let mut made = before_variables(alloc, declared, chart.befores.as_slice())?;
+    made.append(registers(alloc, declared, chart.befores.as_slice())?)?;
+    let mut variables = chart.variables;
+    variables.append(made)?;
+    let mut regions = chart.regions;
+    regions.push(region)?;
     Ok(ExtendedChart {
         name: chart.name,
         variables,
@@ -34,49 +38,6 @@ pub fn with_registers(alloc: Global, chart: ExtendedChart) -> Result<ExtendedCha
         constants: chart.constants,
         regions,
     })
-}
-
-// The regions, and behind them the one that stores and hands over.
-fn registered(
-    alloc: Global,
-    variables: usize,
-    befores: &[VariableId],
-    regions: Items<ExtendedRegion>,
-) -> Result<Items<ExtendedRegion>, AllocError>
-    ensures { IfOk result (λ made. made ≡ regions ++ register_region variables befores.now ∷ []) }
-{
-    let mut made = regions;
-    made.push(register_region(alloc, variables, befores)?)?;
-    Ok(made)
-}
-
-// What the variables were and the registers.
-fn added(
-    alloc: Global,
-    befores: &[VariableId],
-    variables: &[Declared],
-) -> Result<Items<Declared>, AllocError>
-    ensures { IfOk result (λ made. made ≡ before_variables variables.now 1 befores.now
-        ++ registers variables.now 1 befores.now) }
-{
-    let mut made = before_variables(alloc, variables, befores)?;
-    made.append(registers(alloc, variables, befores)?)?;
-    Ok(made)
-}
-
-// The variables, and behind them what they were and the registers.
-fn declared(
-    alloc: Global,
-    befores: &[VariableId],
-    variables: Items<Declared>,
-) -> Result<Items<Declared>, AllocError>
-    ensures { IfOk result (λ made. made ≡ variables ++ before_variables variables 1 befores.now
-        ++ registers variables 1 befores.now) }
-{
-    let added = added(alloc, befores, variables.as_slice())?;
-    let mut made = variables;
-    made.append(added)?;
-    Ok(made)
 }
 
 fn kind_of(variables: &[Declared], x: VariableId) -> Kind

@@ -1,12 +1,12 @@
 //! Which states and transitions of a reduced chart are the author's.
 
-ghost use Rattle.std.specs.Prelude.{◌≡◌, ◌++◌, IfOk, map};
+ghost use Rattle.std.specs.Prelude.{◌≡◌, IfOk, map};
 ghost use Rattle.chart_elements.specs.Elements.{row};
 ghost use Rattle.extended_charts.specs.Rows.{before, states_in_region, states_in_state, transitions_in_region};
 ghost use Rattle.extended_charts.specs.Rows.{transitions_in_state, numbers, rows_of};
 
 use crate::extended::{ExtendedRegion, ExtendedState};
-use crate::making::has_some;
+use crate::making::{alone, has_some};
 use chart_elements::next;
 use core_charts::{Effect, Transition};
 use sqlite_items::Items;
@@ -25,33 +25,12 @@ pub struct AuthorRows {
 pub fn rows_of(alloc: Global, regions: &[ExtendedRegion]) -> Result<AuthorRows, AllocError>
     ensures { IfOk result (λ rows. rows ≡ rows_of regions.now) }
 {
-    let states = state_numbers(alloc, regions)?;
+    let states = states_in_regions(alloc, regions)?;
+    let transitions = transitions_in_regions(alloc, regions)?;
     Ok(AuthorRows {
-        states,
-        transitions: transition_numbers(alloc, regions)?,
+        states: numbers(alloc, states.as_slice())?,
+        transitions: numbers(alloc, transitions.as_slice())?,
     })
-}
-
-fn state_numbers(
-    alloc: Global,
-    regions: &[ExtendedRegion],
-) -> Result<Items<Option<u32>>, AllocError>
-    ensures { IfOk result (λ made. made ≡ numbers 0 (row (map states_in_region regions.now))) }
-{
-    let mut marks = Items::new(alloc);
-    put_states_in_regions(regions, &mut marks)?;
-    numbers(alloc, marks.as_slice())
-}
-
-fn transition_numbers(
-    alloc: Global,
-    regions: &[ExtendedRegion],
-) -> Result<Items<Option<u32>>, AllocError>
-    ensures { IfOk result (λ made. made ≡ numbers 0 (row (map transitions_in_region regions.now))) }
-{
-    let mut marks = Items::new(alloc);
-    put_transitions_in_regions(regions, &mut marks)?;
-    numbers(alloc, marks.as_slice())
 }
 
 fn numbers(alloc: Global, marks: &[bool]) -> Result<Items<Option<u32>>, AllocError>
@@ -71,95 +50,108 @@ fn numbers(alloc: Global, marks: &[bool]) -> Result<Items<Option<u32>>, AllocErr
 }
 
 // Before a state with entry actions stands another.
-fn put_before(entry: &[Effect], marks: &mut Items<bool>) -> Result<(), AllocError>
-    ensures { IfOk result (λ _. marks.new ≡ marks.old ++ before entry.now) }
+fn before(alloc: Global, entry: &[Effect]) -> Result<Items<bool>, AllocError>
+    ensures { IfOk result (λ made. made ≡ before entry.now) }
 {
     if has_some(entry) {
-        marks.push(false)?;
+        alone(alloc, false)
+    } else {
+        Ok(Items::new(alloc))
     }
-    Ok(())
 }
 
-fn put_transitions(
+fn of_transitions(
+    alloc: Global,
     is_own: bool,
     transitions: &[Transition],
-    marks: &mut Items<bool>,
-) -> Result<(), AllocError>
-    ensures { IfOk result (λ _. marks.new ≡ marks.old ++ map (λ t. is_own) transitions.now) }
+) -> Result<Items<bool>, AllocError>
+    ensures { IfOk result (λ made. made ≡ map (λ t. is_own) transitions.now) }
 {
+    let mut made = Items::new(alloc);
     for _ in transitions {
-        marks.push(is_own)?;
+        made.push(is_own)?;
     }
-    Ok(())
+    Ok(made)
 }
 
 #[cycle(states)]
-fn put_states_in_regions(
-    regions: &[ExtendedRegion],
-    marks: &mut Items<bool>,
-) -> Result<(), AllocError>
-    ensures { IfOk result (λ _. marks.new ≡ marks.old ++ row (map states_in_region regions.now)) }
+fn states_in_regions(alloc: Global, regions: &[ExtendedRegion]) -> Result<Items<bool>, AllocError>
+    ensures { IfOk result (λ made. made ≡ row (map states_in_region regions.now)) }
 {
+    let mut made = Items::new(alloc);
     for region in regions {
-        put_states_in_region(region, marks)?;
+        made.append(states_in_region(alloc, region)?)?;
     }
-    Ok(())
+    Ok(made)
 }
 
 #[cycle(states)]
-fn put_states_in_region(region: &ExtendedRegion, marks: &mut Items<bool>) -> Result<(), AllocError>
-    ensures { IfOk result (λ _. marks.new ≡ marks.old ++ states_in_region region.now) }
+fn states_in_region(alloc: Global, region: &ExtendedRegion) -> Result<Items<bool>, AllocError>
+    ensures { IfOk result (λ made. made ≡ states_in_region region.now) }
 {
-    for state in region.states.as_slice() {
-        put_states_in_state(state, marks)?;
+    states_in_states(alloc, region.states.as_slice())
+}
+
+#[cycle(states)]
+fn states_in_states(alloc: Global, states: &[ExtendedState]) -> Result<Items<bool>, AllocError>
+    ensures { IfOk result (λ made. made ≡ row (map states_in_state states.now)) }
+{
+    let mut made = Items::new(alloc);
+    for state in states {
+        made.append(states_in_state(alloc, state)?)?;
     }
-    Ok(())
+    Ok(made)
 }
 
 #[cycle(states)]
 #[tactic(auto, using(crate::proofs::Folded::state_states))]
-fn put_states_in_state(state: &ExtendedState, marks: &mut Items<bool>) -> Result<(), AllocError>
-    ensures { IfOk result (λ _. marks.new ≡ marks.old ++ states_in_state state.now) }
+fn states_in_state(alloc: Global, state: &ExtendedState) -> Result<Items<bool>, AllocError>
+    ensures { IfOk result (λ made. made ≡ states_in_state state.now) }
 {
-    put_before(state.entry.as_slice(), marks)?;
-    marks.push(state.is_own)?;
-    put_states_in_regions(state.regions.as_slice(), marks)
+    let mut made = before(alloc, state.entry.as_slice())?;
+    made.push(state.is_own)?;
+    made.append(states_in_regions(alloc, state.regions.as_slice())?)?;
+    Ok(made)
 }
 
 #[cycle(transitions)]
-fn put_transitions_in_regions(
+fn transitions_in_regions(
+    alloc: Global,
     regions: &[ExtendedRegion],
-    marks: &mut Items<bool>,
-) -> Result<(), AllocError>
-    ensures { IfOk result (λ _. marks.new ≡ marks.old ++ row (map transitions_in_region regions.now)) }
+) -> Result<Items<bool>, AllocError>
+    ensures { IfOk result (λ made. made ≡ row (map transitions_in_region regions.now)) }
 {
+    let mut made = Items::new(alloc);
     for region in regions {
-        put_transitions_in_region(region, marks)?;
+        made.append(transitions_in_region(alloc, region)?)?;
     }
-    Ok(())
+    Ok(made)
 }
 
 #[cycle(transitions)]
-fn put_transitions_in_region(
-    region: &ExtendedRegion,
-    marks: &mut Items<bool>,
-) -> Result<(), AllocError>
-    ensures { IfOk result (λ _. marks.new ≡ marks.old ++ transitions_in_region region.now) }
+fn transitions_in_region(alloc: Global, region: &ExtendedRegion) -> Result<Items<bool>, AllocError>
+    ensures { IfOk result (λ made. made ≡ transitions_in_region region.now) }
 {
-    for state in region.states.as_slice() {
-        put_transitions_in_state(state, marks)?;
-    }
-    Ok(())
+    transitions_in_states(alloc, region.states.as_slice())
 }
 
 #[cycle(transitions)]
-fn put_transitions_in_state(
-    state: &ExtendedState,
-    marks: &mut Items<bool>,
-) -> Result<(), AllocError>
-    ensures { IfOk result (λ _. marks.new ≡ marks.old ++ transitions_in_state state.now) }
+fn transitions_in_states(alloc: Global, states: &[ExtendedState]) -> Result<Items<bool>, AllocError>
+    ensures { IfOk result (λ made. made ≡ row (map transitions_in_state states.now)) }
 {
-    put_before(state.entry.as_slice(), marks)?;
-    put_transitions(state.is_own, state.transitions.as_slice(), marks)?;
-    put_transitions_in_regions(state.regions.as_slice(), marks)
+    let mut made = Items::new(alloc);
+    for state in states {
+        made.append(transitions_in_state(alloc, state)?)?;
+    }
+    Ok(made)
+}
+
+#[cycle(transitions)]
+fn transitions_in_state(alloc: Global, state: &ExtendedState) -> Result<Items<bool>, AllocError>
+    ensures { IfOk result (λ made. made ≡ transitions_in_state state.now) }
+{
+    let mut made = before(alloc, state.entry.as_slice())?;
+    made.append(of_transitions(alloc, state.is_own, state.transitions.as_slice())?)?;
+    made.append(transitions_in_regions(alloc, state.regions.as_slice())?)?;
+    Ok(made)
 }

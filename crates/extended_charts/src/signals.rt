@@ -1,6 +1,6 @@
 //! Signals: variables that are false in each tick until they are emitted.
 
-ghost use Rattle.std.specs.Prelude.{◌≡◌, ◌++◌, ◌∷◌, [], IfOk};
+ghost use Rattle.std.specs.Prelude.{◌≡◌, IfOk};
 ghost use Rattle.extended_charts.specs.Signals.{emission, reset, resets, signal_region, with_signals};
 
 use crate::extended::{ExtendedChart, ExtendedRegion};
@@ -21,8 +21,9 @@ pub fn with_signals(alloc: Global, chart: ExtendedChart) -> Result<ExtendedChart
     if !has_some(chart.signals.as_slice()) {
         return Ok(chart);
     }
-    let regions = chart.regions;
-    let regions = signalled(alloc, chart.signals.as_slice(), regions)?;
+    let region = signal_region(alloc, chart.signals.as_slice())?;
+    let mut regions = chart.regions;
+    regions.push(region)?;
     Ok(ExtendedChart {
         name: chart.name,
         variables: chart.variables,
@@ -31,19 +32,6 @@ pub fn with_signals(alloc: Global, chart: ExtendedChart) -> Result<ExtendedChart
         constants: chart.constants,
         regions,
     })
-}
-
-// The regions, and behind them the one that makes the signals false.
-fn signalled(
-    alloc: Global,
-    signals: &[VariableId],
-    regions: Items<ExtendedRegion>,
-) -> Result<Items<ExtendedRegion>, AllocError>
-    ensures { IfOk result (λ made. made ≡ regions ++ signal_region signals.now ∷ []) }
-{
-    let mut made = regions;
-    made.push(signal_region(alloc, signals)?)?;
-    Ok(made)
 }
 
 /// The effect that emits a signal. Err: memory was refused.
