@@ -5,4 +5,4 @@ mod Words
 mod Spelling
 mod Within
 mod Telling
-mod OneAnswer
+mod OnePlacedChart

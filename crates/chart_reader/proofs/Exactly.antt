@@ -9,7 +9,7 @@ use Rattle.chart_drafts.specs.Checked.{IsTextFault}
 use Rattle.chart_reader.specs.Read.{IsRead}
 use Rattle.chart_reader.specs.Resolved.{chart_of}
 use Rattle.chart_reader.specs.Laws.{IsExact}
-use Rattle.chart_reader.proofs.OneAnswer as one
+use Rattle.chart_reader.proofs.OneChartAnswer as one
 
 pub one_chart : (text : List ℕ) (c d : Chart) → IsRead text c → IsRead text d → c ≡ d
 one_chart text c d a b = a.spelled ∙ ap chart_of (one.one_draft text a.draft b.draft a.drafted b.drafted) ∙ sym b.spelled

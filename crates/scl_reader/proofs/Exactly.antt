@@ -11,7 +11,7 @@ use Rattle.scl_drafts.specs.Checked.{IsTextFault}
 use Rattle.scl_reader.specs.Read.{IsRead}
 use Rattle.scl_reader.specs.Resolved.{statements_of}
 use Rattle.scl_reader.specs.Laws.{AreAlike, IsExact}
-use Rattle.scl_reader.proofs.OneAnswer as one
+use Rattle.scl_reader.proofs.OneSclAnswer as one
 
 pub one_program : (text : List ℕ) (p q : Scl) → IsRead text p → IsRead text q → AreAlike p q
 one_program text p q a b =

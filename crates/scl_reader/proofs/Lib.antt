@@ -2,5 +2,5 @@ pub mod Pieces
 pub mod SclRulesKept
 pub mod Looking
 pub mod Reading
-mod OneAnswer
+mod OneSclAnswer
 pub mod Exactly

@@ -1,4 +1,4 @@
-use Rattle.chart_places.proofs.OneAnswer.{no_fault, one_chart}
+use Rattle.chart_places.proofs.OnePlacedChart.{no_fault, one_chart}
 use Rattle.chart_places.proofs.laws.placed_texts_have_one_answer.Goals as goal
 
 pub returns : goal.returns

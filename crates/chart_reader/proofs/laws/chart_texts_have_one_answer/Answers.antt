@@ -1,4 +1,4 @@
-use Rattle.chart_reader.proofs.OneAnswer.{one_fault}
+use Rattle.chart_reader.proofs.OneChartAnswer.{one_fault}
 use Rattle.chart_reader.proofs.Exactly.{one_chart, no_fault}
 use Rattle.chart_reader.proofs.laws.chart_texts_have_one_answer.Goals as goal
 

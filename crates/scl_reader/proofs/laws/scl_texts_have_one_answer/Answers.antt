@@ -1,4 +1,4 @@
-use Rattle.scl_reader.proofs.OneAnswer.{one_fault}
+use Rattle.scl_reader.proofs.OneSclAnswer.{one_fault}
 use Rattle.scl_reader.proofs.Exactly.{one_program, no_fault}
 use Rattle.scl_reader.proofs.laws.scl_texts_have_one_answer.Goals as goal
 
