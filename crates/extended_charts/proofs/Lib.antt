@@ -1,4 +1,4 @@
-pub mod Naming
+pub mod NumberedNames
 pub mod Folded
 pub mod Left
 pub mod HeldStates

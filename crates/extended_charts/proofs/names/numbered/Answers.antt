@@ -1,7 +1,7 @@
 use Rattle.std.proofs.Common.{◌≡◌, ◌++◌, IsTrue, ap, sym, subst, ◌∙◌}
 use Rattle.sc_values.specs.Name.{is_name}
 use Rattle.extended_charts.specs.Making.{numbered}
-use Rattle.extended_charts.proofs.Naming.{numbered_is_name}
+use Rattle.extended_charts.proofs.NumberedNames.{numbered_is_name}
 use Rattle.extended_charts.proofs.names.numbered.Goals as goal
 
 pub unreachable-requires : goal.unreachable-requires
