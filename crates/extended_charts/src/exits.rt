@@ -16,8 +16,8 @@ use std::alloc::{AllocError, Global};
 // More states than any region that is made has; a region of a chart has 256 at most.
 const MOST_STATES: u32 = 1024;
 
-/// The chart whose transitions make the exit actions. Err: memory was refused, there are more than 65535 variables, or a
-/// region would have more than 1,024 states.
+/// The chart whose transitions make the exit actions. Err: memory was refused, there are more than 65535 variables, or
+/// a region would have more than 1,024 states.
 pub fn with_exits(alloc: Global, chart: ExtendedChart) -> Result<ExtendedChart, AllocError>
     ensures { IfOk result (λ made. made ≡ with_exits chart) }
 {
