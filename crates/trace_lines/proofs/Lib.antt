@@ -9,4 +9,4 @@ pub mod Placing
 pub mod Shown
 pub mod Standing
 pub mod Turns
-pub mod Naming
+pub mod AddedInputs

@@ -2,7 +2,7 @@ use Rattle.std.proofs.Common.{◌≡◌, ◌∙◌, true, false, Some, ap, cond,
 use Rattle.std.specs.BTreeMap.{get_by_text}
 use Rattle.std.proofs.lemmas.Map.Text.{btree_map_updates_text}
 use Rattle.trace_lines.specs.Line.{is_input}
-use Rattle.trace_lines.proofs.Naming.{adds_new, none_of}
+use Rattle.trace_lines.proofs.AddedInputs.{adds_new, none_of}
 use Rattle.trace_lines.proofs.inputs.add.Goals as goal
 
 pub returns-in_ok-insert : goal.returns-in_ok-insert
