@@ -1,0 +1,12 @@
+use Rattle.std.proofs.Common.{ap, subst, sym}
+use Rattle.command_texts.specs.Reductions.{HasReduced}
+use Rattle.command_texts.proofs.print_reduced.reduced_in.Goals as goal
+
+pub returns-clause-made : goal.returns-clause-made
+returns-clause-made g c = record {
+  bytes = c.in_ok-bytes.bytes.items;
+  held = c.in_ok-bytes.ensures.bytes;
+  reduced =
+      subst (λ b. HasReduced b c.into_bytes.result.items) c.deref.ensures.value
+      (subst (λ t. HasReduced c.deref.result.now t) (ap (λ v. v.items) (sym c.into_bytes.ensures.value)) c.in_ok-text.ensures.text);
+}
