@@ -9,16 +9,20 @@ use Rattle.chart_drafts.specs.declared.draft.DraftEffect.{DraftEffect}
 use Rattle.chart_drafts.specs.declared.draft.DraftTransition.{DraftTransition}
 use Rattle.chart_drafts.specs.declared.draft.DraftRegion.{DraftRegion}
 use Rattle.chart_drafts.specs.declared.draft.DraftState.{DraftState}
-use Rattle.chart_drafts.specs.ChartText.{Grows, some_effects, next_effect, trigger, deed, termination}
-use Rattle.chart_drafts.proofs.Deepens.{name_same, flag_same, target_same, placed_wider, effect_wider, effects_wider}
+use Rattle.chart_drafts.specs.ChartText.{Grows, trigger}
+use Rattle.chart_drafts.proofs.Deepens.{name_same, last_name_same, flag_same, target_same, placed_wider}
+use Rattle.drafts.specs.declared.parts.Named.{Named}
+use Rattle.drafts.specs.declared.parts.TextExpression.{TextExpression}
+use Rattle.extended_drafts.specs.declared.draft.ItemBody.{ItemBody}
 use Rattle.extended_drafts.specs.declared.draft.DraftItem.{DraftItem}
 use Rattle.extended_drafts.specs.declared.draft.DraftEntry.{DraftEntry}
 use Rattle.extended_drafts.specs.declared.draft.DraftDelay.{DraftDelay}
 use Rattle.extended_drafts.specs.declared.draft.Rows.{Rows}
 use Rattle.extended_drafts.specs.declared.draft.StateBody.{StateBody}
 use Rattle.extended_drafts.specs.declared.draft.ExtendedDraft.{ExtendedDraft}
-use Rattle.extended_drafts.specs.ExtendedText.{item_head, item_value, last_value, item, last_effects, entry, some_delay, at_once, waiting, pause, tested}
-use Rattle.extended_drafts.specs.ExtendedText.{undelayed}
+use Rattle.extended_drafts.specs.ExtendedText.{item_value, last_value, typed, signalled, bare_signal, plain_body, worded_body, plain, worded, item}
+use Rattle.extended_drafts.specs.ExtendedText.{becoming, emitting, effect_end, effect, next_effect, some_effects, effects, deed, last_effects, entry}
+use Rattle.extended_drafts.specs.ExtendedText.{some_delay, at_once, waiting, pause, tested, termination}
 use Rattle.extended_drafts.specs.ExtendedText.{transition, transitions, leaving, Inner, NoMore, Nested, rowed, bare, nested, inside, acting, body, state}
 use Rattle.extended_drafts.specs.ExtendedText.{region, within, parts, extended, extended_text}
 use Rattle.extended_drafts.proofs.Shapes.{extended_text_is}
@@ -32,25 +36,53 @@ module _ (A : Type 0) (g g' : Grows (A × Rows)) (d : Deeper (A × Rows) g g') w
   rowed_wider = deeper_made _ _ _ _ _ (deeper_made _ _ _ _ _ (deeper_seq _ _ _ _ _ _ d (deeper_many _ _ _ d)))
 
 module _ (e e' : Grows Phrase) (w : Deeper Phrase e e') where
-  item_wider : Deeper DraftItem (item e) (item e')
-  unfolding item item_head last_value item_value
-  item_wider =
+  typed_wider : Deeper ItemBody (typed e) (typed e')
+  unfolding typed last_value item_value
+  typed_wider =
       deeper_made _ _ _ _ _
-      (deeper_seq _ _ _ _ _ _
-      (deeper_either _ _ _ _ _ (deeper_made _ _ _ _ _ (deeper_made _ _ _ _ _ (same_one _))) (deeper_made _ _ _ _ _ name_same))
       (deeper_seq _ _ _ _ _ _ (deeper_made _ _ _ _ _ (same_one _))
       (deeper_seq _ _ _ _ _ _ name_same
       (deeper_made _ _ _ _ _
       (deeper_seq _ _ _ _ _ _
       (deeper_maybe _ _ _ (deeper_made _ _ _ _ _ (deeper_seq _ _ _ _ _ _ (same_one _) (placed_wider e e' w))))
-      (same_one _))))))
+      (same_one _)))))
+
+  item_wider : Deeper DraftItem (item e) (item e')
+  unfolding item plain plain_body signalled worded worded_body bare_signal
+  item_wider =
+      deeper_either _ _ _ _ _
+      (deeper_made _ _ _ _ _
+      (deeper_seq _ _ _ _ _ _ (deeper_made _ _ _ _ _ (same_one _))
+      (deeper_either _ _ _ _ _ (deeper_made _ _ _ _ _ (deeper_seq _ _ _ _ _ _ name_same last_name_same)) typed_wider)))
+      (deeper_made _ _ _ _ _
+      (deeper_seq _ _ _ _ _ _ name_same (deeper_either _ _ _ _ _ (deeper_made _ _ _ _ _ last_name_same) typed_wider)))
+
+  effect_wider : Deeper DraftEffect (effect e) (effect e')
+  unfolding effect effect_end becoming emitting
+  effect_wider =
+      deeper_made _ _ _ _ _
+      (deeper_seq _ _ _ _ _ _ name_same
+      (deeper_either _ _ _ _ _
+      (deeper_made _ _ _ _ _ (deeper_made _ _ _ _ _ (deeper_seq _ _ _ _ _ _ (same_one _) (placed_wider e e' w))))
+      (deeper_made _ _ _ _ _ name_same)))
 
   some_effects_wider : Deeper (List DraftEffect) (some_effects e) (some_effects e')
   unfolding some_effects next_effect
   some_effects_wider =
-      let f = effect_wider e e' w in
       deeper_made _ _ _ _ _
-      (deeper_seq _ _ _ _ _ _ f (deeper_many _ _ _ (deeper_made _ _ _ _ _ (deeper_seq _ _ _ _ _ _ (same_one _) f))))
+      (deeper_seq _ _ _ _ _ _ effect_wider
+      (deeper_many _ _ _ (deeper_made _ _ _ _ _ (deeper_seq _ _ _ _ _ _ (same_one _) effect_wider))))
+
+  deed_wider : Deeper (List DraftEffect × Named) (deed e) (deed e')
+  unfolding deed effects
+  deed_wider =
+      deeper_seq _ _ _ _ _ _
+      (deeper_made _ _ _ _ _ (deeper_maybe _ _ _ (deeper_made _ _ _ _ _ (deeper_seq _ _ _ _ _ _ (same_one _) some_effects_wider))))
+      target_same
+
+  trigger_wider : Deeper (Option TextExpression) (trigger e) (trigger e')
+  unfolding trigger
+  trigger_wider = deeper_maybe _ _ _ (deeper_made _ _ _ _ _ (deeper_seq _ _ _ _ _ _ (same_one _) (placed_wider e e' w)))
 
   entry_wider : Deeper DraftEntry (entry e) (entry e')
   unfolding entry last_effects
@@ -69,16 +101,14 @@ module _ (e e' : Grows Phrase) (w : Deeper Phrase e e') where
       (deeper_made _ _ _ _ _ (deeper_made _ _ _ _ _ (deeper_seq _ _ _ _ _ _ name_same (placed_wider e e' w))))))
 
   transition_wider : Deeper (DraftTransition × Option DraftDelay) (transition e) (transition e')
-  unfolding transition undelayed tested termination trigger deed
+  unfolding transition termination tested
   transition_wider =
-      let done = deeper_seq _ _ _ _ _ _ (effects_wider e e' w) target_same in
       deeper_either _ _ _ _ _
-      (deeper_made _ _ _ _ _ (deeper_made _ _ _ _ _ (deeper_seq _ _ _ _ _ _ (deeper_made _ _ _ _ _ (same_one _)) done)))
+      (deeper_made _ _ _ _ _
+      (deeper_seq _ _ _ _ _ _ (deeper_made _ _ _ _ _ (same_one _)) (deeper_seq _ _ _ _ _ _ trigger_wider deed_wider)))
       (deeper_made _ _ _ _ _
       (deeper_seq _ _ _ _ _ _ (deeper_made _ _ _ _ _ (same_one _))
-      (deeper_seq _ _ _ _ _ _ pause_wider
-      (deeper_seq _ _ _ _ _ _
-      (deeper_maybe _ _ _ (deeper_made _ _ _ _ _ (deeper_seq _ _ _ _ _ _ (same_one _) (placed_wider e e' w)))) done))))
+      (deeper_seq _ _ _ _ _ _ pause_wider (deeper_seq _ _ _ _ _ _ trigger_wider deed_wider))))
 
   leaving_wider : Deeper (List DraftTransition × List (Option DraftDelay)) (leaving e) (leaving e')
   unfolding leaving transitions

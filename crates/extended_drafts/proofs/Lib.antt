@@ -1,6 +1,8 @@
 pub mod Shapes
 pub mod Deepens
 pub mod Gathering
+pub mod ItemParts
+pub mod EffectParts
 pub mod Pieces
 pub mod Nesting
 pub mod Drafting

@@ -1,13 +1,9 @@
--- What reading gives for each rule of items, entry actions and transitions.
-use Rattle.std.proofs.Common.{◌≡◌, ℕ, ◌-◌, Bool, true, false, Option, Some, None, List, [], ◌∷◌, length, drop, refl, ap, ◌∙◌}
-use Rattle.std.specs.Prelude.{◌||◌}
-use Rattle.sc_values.specs.declared.value.Kind.{Kind}
-use Rattle.sc_graph.specs.declared.program.Role.{Role}
-use Rattle.sc_graph.specs.declared.program.Role.TheVariants as role
+-- What reading gives for each rule of entry actions and transitions.
+use Rattle.std.proofs.Common.{◌≡◌, ℕ, ◌-◌, Bool, true, false, Option, Some, None, List, [], ◌∷◌, length, drop, refl, sym, subst, ap, ◌∙◌}
+use Rattle.std.specs.Prelude.{◌||◌, option_map}
 use Rattle.grammar.specs.Grammar.{one, seq, either, maybe, many}
 use Rattle.grammar.specs.Read.{starts, read}
 use Rattle.sc_text.specs.declared.word.Word.TheVariants as word
-use Rattle.sc_text.specs.declared.sign.Sign.TheVariants as sign
 use Rattle.sc_text.specs.declared.token.Token.{Token}
 use Rattle.sc_text.specs.declared.read_fault.ReadFault.{ReadFault}
 use Rattle.sc_text.specs.Classes.{Class, AName, TheWord, class_of, same_class}
@@ -21,82 +17,22 @@ use Rattle.drafts.specs.declared.parts.Named.{Named}
 use Rattle.drafts.specs.declared.parts.TextExpression.{TextExpression}
 use Rattle.chart_drafts.specs.declared.draft.DraftEffect.{DraftEffect}
 use Rattle.chart_drafts.specs.declared.draft.DraftTransition.{DraftTransition}
-use Rattle.chart_drafts.specs.ChartText.{Grows, the_word, the_sign, roles, declared_role, declared_kind, name, placed, moment, tested_words, trigger, deed}
-use Rattle.chart_drafts.specs.ChartText.{termination, transition_first}
+use Rattle.chart_drafts.specs.Draft.{transition_of}
+use Rattle.chart_drafts.specs.ChartText.{Grows, the_word, name, placed, moment, tested_words, trigger, transition_first}
 use Rattle.chart_drafts.specs.Inside.{IsGoing}
 use Rattle.chart_drafts.specs.Phrase.{Gives}
-use Rattle.chart_drafts.proofs.Parts.{seq_gives, made_gives, made_stops, after_gives, after_stops_second, maybe_none, maybe_some, maybe_stops, left_read}
+use Rattle.chart_drafts.proofs.Parts.{seq_gives, made_gives, made_stops, maybe_none, maybe_some, maybe_stops, left_read}
 use Rattle.chart_drafts.proofs.Parts.{right_read, gives_as}
 use Rattle.chart_drafts.proofs.RowReading.{many_goes}
-use Rattle.extended_drafts.specs.declared.draft.DraftItem.{DraftItem}
 use Rattle.extended_drafts.specs.declared.draft.DraftEntry.{DraftEntry}
 use Rattle.extended_drafts.specs.declared.draft.DraftDelay.{DraftDelay}
-use Rattle.extended_drafts.specs.Draft.{item_of, entry_of, delay_of, or_next, delayed, parted}
-use Rattle.extended_drafts.specs.ExtendedText.{plain_head, worded_head, item_head, item_first, item_value, last_value, item, last_effects, entry, some_delay}
-use Rattle.extended_drafts.specs.ExtendedText.{at_once, waiting, pause, pause_first, tested, undelayed, transition}
+use Rattle.extended_drafts.specs.Draft.{entry_of, delay_of, hold_of, or_next, delayed, ended, parted}
+use Rattle.extended_drafts.specs.ExtendedText.{deed, last_effects, entry, some_delay, at_once, waiting, pause, pause_first, tested, termination, transition}
 use Rattle.extended_drafts.specs.Inside.{IsGathering}
-use Rattle.extended_drafts.proofs.Shapes.{plain_head_is, item_is, entry_is, at_once_is, either_is, undelayed_is, transition_is}
+use Rattle.extended_drafts.proofs.Shapes.{entry_is, at_once_is, either_is, termination_is, transition_is}
 
 abbrev e0 : Grows Phrase
 e0 = expression 0
-
--- ---- items
-
-module _ (text : List Token) where
-  is_plain : starts text_tokens roles text ≡ true → read item_head text ≡ read plain_head text
-  unfolding item_head
-  is_plain e = left_read plain_head roles plain_head_is.begins text worded_head e
-
-  is_worded : starts text_tokens roles text ≡ false → read item_head text ≡ read worded_head text
-  unfolding item_head
-  is_worded e = right_read plain_head roles plain_head_is.begins text worded_head e
-
-  pub plain_gives : (r : Role) (rest : List Token) → starts text_tokens roles text ≡ true → Gives (read declared_role text) r rest
-      → Gives (read item_head text) (r, None) rest
-  plain_gives r rest e g = gives_as _ _ (r, None) rest (is_plain e) (made_gives (λ r. (r, None)) declared_role text r rest g)
-
-  pub plain_stops : (end : ℕ) (f : ReadFault) → starts text_tokens roles text ≡ true → Stops end (read declared_role text) f
-      → Stops end (read item_head text) f
-  plain_stops end f e s = stops_as end _ _ f (is_plain e) (made_stops (λ r. (r, None)) declared_role text end f s)
-
-  pub worded_gives : (n : Named) (rest : List Token) → starts text_tokens roles text ≡ false → Gives (read name text) n rest
-      → Gives (read item_head text) (role.Input, Some n) rest
-  worded_gives n rest e g =
-      gives_as _ _ (role.Input, Some n) rest (is_worded e) (made_gives (λ n. (role.Input, Some n)) name text n rest g)
-
-  pub worded_stops : (end : ℕ) (f : ReadFault) → starts text_tokens roles text ≡ false → Stops end (read name text) f → Stops end (read item_head text) f
-  worded_stops end f e s = stops_as end _ _ f (is_worded e) (made_stops (λ n. (role.Input, Some n)) name text end f s)
-
-pub value_missing : (text : List Token) → starts text_tokens (the_sign sign.Becomes) text ≡ false → Gives (read (item_value e0) text) None text
-unfolding item_value
-value_missing text e = maybe_none (after (the_sign sign.Becomes) (placed e0)) (the_sign sign.Becomes) refl text e
-
-pub value_there : (text more rest : List Token) (x : TextExpression) → starts text_tokens (the_sign sign.Becomes) text ≡ true → more ≡ drop 1 text
-    → Gives (read (placed e0) more) x rest → Gives (read (item_value e0) text) (Some x) rest
-unfolding item_value
-value_there text more rest x e d r =
-    maybe_some (after (the_sign sign.Becomes) (placed e0)) (the_sign sign.Becomes) refl text x rest e
-    (after_gives (the_sign sign.Becomes) (placed e0) text more rest x (one_taken (the_sign sign.Becomes) text more e d) r)
-
-pub value_stops : (text more : List Token) (end : ℕ) (f : ReadFault) → starts text_tokens (the_sign sign.Becomes) text ≡ true → more ≡ drop 1 text
-    → Stops end (read (placed e0) more) f → Stops end (read (item_value e0) text) f
-unfolding item_value
-value_stops text more end f e d s =
-    maybe_stops (after (the_sign sign.Becomes) (placed e0)) (the_sign sign.Becomes) refl text end f e
-    (after_stops_second (the_sign sign.Becomes) (placed e0) text more end f (one_taken (the_sign sign.Becomes) text more e d) s)
-
-pub item_gives : (text a b c rest : List Token) (h : Role × Option Named) (k : Kind) (n : Named) (v : Option TextExpression)
-    → Gives (read item_head text) h a → Gives (read declared_kind a) k b → Gives (read name b) n c → Gives (read (last_value e0) c) v rest
-    → Gives (read (item e0) text) (item_of h k n v) rest
-unfolding item
-item_gives text a b c rest h k n v w x y z =
-    made_gives (λ x. item_of x.0 x.1.0 x.1.1.0 x.1.1.1) (seq item_head (seq declared_kind (seq name (last_value e0)))) text (h, (k, (n, v))) rest
-    (seq_gives item_head (seq declared_kind (seq name (last_value e0))) text a rest h (k, (n, v)) w
-    (seq_gives declared_kind (seq name (last_value e0)) a b rest k (n, v) x (seq_gives name (last_value e0) b c rest n v y z)))
-
-pub items_go : (text : List Token) (most : ℕ) (found : List DraftItem) → most ≡ length text → found ≡ []
-    → IsGoing (read (many (item e0)) text) (item e0) item_first found (most - 0) text
-items_go text most found e f = many_goes (item e0) item_first (item_is e0 (expression_is 0)).begins text most found e f
 
 -- ---- entry actions
 
@@ -202,27 +138,31 @@ tested_made text a b c rest m w t x p q r s =
     (seq_gives (moment tested_words) (seq (pause e0) (seq (trigger e0) (deed e0))) text a rest m (w, (t, x)) p
     (seq_gives (pause e0) (seq (trigger e0) (deed e0)) a b rest w (t, x) q (seq_gives (trigger e0) (deed e0) b c rest t x r s)))
 
-pub undelayed_made : (text rest : List Token) (t : DraftTransition) → Gives (read (termination e0) text) t rest
-    → Gives (read (undelayed e0) text) (t, None) rest
-unfolding undelayed
-undelayed_made text rest t r = made_gives (λ t. (t, None)) (termination e0) text t rest r
+pub termination_made : (text a b rest : List Token) (m : TransitionKind × ℕ) (t : Option TextExpression) (x : List DraftEffect × Named)
+    (o : Option DraftDelay) → Gives (read (moment (the_word word.Join)) text) m a → Gives (read (trigger e0) a) t b → Gives (read (deed e0) b) x rest
+    → o ≡ option_map hold_of t → Gives (read (termination e0) text) (transition_of m false None x.0 x.1, o) rest
+unfolding termination
+termination_made text a b rest m t x o p q r e =
+    subst (λ z. Gives (read (termination e0) text) (transition_of m false None x.0 x.1, z) rest) (sym e)
+    (made_gives (λ x. ended x.0 x.1.0 x.1.1) (seq (moment (the_word word.Join)) (seq (trigger e0) (deed e0))) text (m, (t, x)) rest
+    (seq_gives (moment (the_word word.Join)) (seq (trigger e0) (deed e0)) text a rest m (t, x) p (seq_gives (trigger e0) (deed e0) a b rest t x q r)))
 
 module _ (text : List Token) where
-  is_undelayed : starts text_tokens (the_word word.Join) text ≡ true → read (transition e0) text ≡ read (undelayed e0) text
+  is_termination : starts text_tokens (the_word word.Join) text ≡ true → read (transition e0) text ≡ read (termination e0) text
   unfolding transition
-  is_undelayed e = left_read (undelayed e0) (the_word word.Join) (undelayed_is e0 (expression_is 0)).begins text (tested e0) e
+  is_termination e = left_read (termination e0) (the_word word.Join) (termination_is e0 (expression_is 0)).begins text (tested e0) e
 
   is_tested : starts text_tokens (the_word word.Join) text ≡ false → read (transition e0) text ≡ read (tested e0) text
   unfolding transition
-  is_tested e = right_read (undelayed e0) (the_word word.Join) (undelayed_is e0 (expression_is 0)).begins text (tested e0) e
+  is_tested e = right_read (termination e0) (the_word word.Join) (termination_is e0 (expression_is 0)).begins text (tested e0) e
 
-  pub undelayed_gives : (x : DraftTransition × Option DraftDelay) (rest : List Token) → starts text_tokens (the_word word.Join) text ≡ true
-      → Gives (read (undelayed e0) text) x rest → Gives (read (transition e0) text) x rest
-  undelayed_gives x rest e r = gives_as _ _ x rest (is_undelayed e) r
+  pub termination_gives : (x : DraftTransition × Option DraftDelay) (rest : List Token) → starts text_tokens (the_word word.Join) text ≡ true
+      → Gives (read (termination e0) text) x rest → Gives (read (transition e0) text) x rest
+  termination_gives x rest e r = gives_as _ _ x rest (is_termination e) r
 
-  pub undelayed_stops : (end : ℕ) (f : ReadFault) → starts text_tokens (the_word word.Join) text ≡ true → Stops end (read (undelayed e0) text) f
+  pub termination_stops : (end : ℕ) (f : ReadFault) → starts text_tokens (the_word word.Join) text ≡ true → Stops end (read (termination e0) text) f
       → Stops end (read (transition e0) text) f
-  undelayed_stops end f e s = stops_as end _ _ f (is_undelayed e) s
+  termination_stops end f e s = stops_as end _ _ f (is_termination e) s
 
   pub tested_gives : (x : DraftTransition × Option DraftDelay) (rest : List Token) → starts text_tokens (the_word word.Join) text ≡ false
       → Gives (read (tested e0) text) x rest → Gives (read (transition e0) text) x rest

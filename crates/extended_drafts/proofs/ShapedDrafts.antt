@@ -1,7 +1,7 @@
 -- What the grammar of extended charts gives of each draft.
-use Rattle.std.proofs.Common.{◌≡◌, ◌≢◌, ℕ, zero, suc, ◌+◌, Bool, List, [], ◌∷◌, ◌++◌, Option, length, map, refl, sym, ◌∙◌, ap}
+use Rattle.std.proofs.Common.{◌≡◌, ◌≢◌, ℕ, zero, suc, ◌+◌, Bool, List, [], ◌∷◌, ◌++◌, Option, Some, None, length, map, refl, sym, ◌∙◌, ap}
 use Rattle.std.proofs.lemmas.List.{length-append}
-use Rattle.grammar.proofs.Each.{Every, every_at, every_map, each_seq, each_either, each_many, each_made, each_barred, each_as}
+use Rattle.grammar.proofs.Each.{Every, OfIt, every_at, every_map, each_seq, each_either, each_maybe, each_many, each_made, each_headed, each_barred, each_as}
 use Rattle.sc_text.specs.declared.language.Language.TheVariants as language
 use Rattle.sc_text.specs.Phrases.{Phrase}
 use Rattle.sc_text.specs.Expression.{expression}
@@ -15,17 +15,24 @@ use Rattle.chart_drafts.specs.declared.draft.DraftRegion.TheViews.{out-roll-Draf
 use Rattle.chart_drafts.specs.declared.draft.DraftRegion.TheFolds.{fold_out-DraftRegion, fold_out-DraftState}
 use Rattle.chart_drafts.specs.declared.draft.DraftState.{DraftState}
 use Rattle.chart_drafts.specs.Draft.{state_of, region_of}
-use Rattle.chart_drafts.specs.ChartText.{Grows}
-use Rattle.chart_drafts.specs.Shape.{IsTransitionShaped, IsStateShaped, IsRegionShaped, AreRegionsShaped}
-use Rattle.chart_drafts.proofs.ShapedDrafts.{EachChart, IsNamed, each_any, name_kept, of_it, trigger_kept, deed_kept, moment_kept, termination_kept}
+use Rattle.chart_drafts.specs.ChartText.{Grows, last_name, placed}
+use Rattle.drafts.specs.Parts.{or_none}
+use Rattle.chart_drafts.specs.Shape.{IsWritable, IsTransitionShaped, IsStateShaped, IsRegionShaped, AreRegionsShaped}
+use Rattle.chart_drafts.proofs.ShapedDrafts.{EachChart, IsNamed, each_any, name_kept, of_it, trigger_kept, moment_kept}
 use Rattle.chart_drafts.proofs.ShapedDrafts.{listed_kept, none_shaped, state_shaped, region_shaped, first_there}
 use Rattle.extended_drafts.specs.declared.draft.DraftEntry.{DraftEntry}
 use Rattle.extended_drafts.specs.declared.draft.DraftDelay.{DraftDelay}
 use Rattle.extended_drafts.specs.declared.draft.Rows.{Rows}
 use Rattle.extended_drafts.specs.declared.draft.StateBody.{StateBody}
 use Rattle.extended_drafts.specs.declared.draft.ExtendedDraft.{ExtendedDraft}
-use Rattle.extended_drafts.specs.Draft.{item_of, all_rows, gathered, parted, body_of, state_with, region_with, draft_of}
-use Rattle.extended_drafts.specs.ExtendedText.{item, undelayed, tested, transition, transitions, leaving, Inner, NoMore, Nested, rowed, bare, nested, inside}
+use Rattle.extended_drafts.specs.declared.draft.ItemBody.{ItemBody}
+use Rattle.extended_drafts.specs.declared.draft.EffectEnd.{EffectEnd}
+use Rattle.extended_drafts.specs.declared.draft.EffectEnd.TheVariants as ends
+use Rattle.extended_drafts.specs.Draft.{typed_body, signal_body, plain_item, worded_with, worded_item, effect_with, ended, all_rows, gathered, parted, body_of}
+use Rattle.extended_drafts.specs.Draft.{state_with, region_with, draft_of}
+use Rattle.extended_drafts.specs.ExtendedText.{typed, signalled, bare_signal, plain_body, worded_body, plain, worded, item, to_value, to_name}
+use Rattle.extended_drafts.specs.ExtendedText.{becoming, emitting, effect_end, effect, next_effect, some_effects, effects, deed, termination, tested}
+use Rattle.extended_drafts.specs.ExtendedText.{transition, transitions, leaving, Inner, NoMore, Nested, rowed, bare, nested, inside}
 use Rattle.extended_drafts.specs.ExtendedText.{acting, body, state, region, within, parts, extended, extended_text}
 use Rattle.extended_drafts.specs.Reading.{IsExtendedDraft}
 use Rattle.extended_drafts.specs.Shape.{total, in_states, state_count, transition_count, states_in_region, states_in_state, transitions_in_region}
@@ -70,16 +77,59 @@ module _ {A : Type 0} (f g : A → ℕ) where
 
 -- ---- transitions
 
+-- what an effect ends with can be written
+abbrev EndKept : EffectEnd → Type 0
+EndKept (ends.Value v) = IsWritable v
+EndKept (ends.Name n) = Unit {0}
+
+with_kept : (n : Named) (x : EffectEnd) → EndKept x → IsWritable (effect_with n x).value
+with_kept n (ends.Value v) h = h
+with_kept word (ends.Name n) h = refl
+
 module _ (e : Grows Phrase) (w : EachChart e CanWrite) where
-  undelayed_kept : EachChart (undelayed e) (λ x. IsTransitionShaped x.0)
-  unfolding undelayed
-  undelayed_kept = each_made _ _ _ _ _ (λ x. IsTransitionShaped x.0) (termination_kept e w) (λ t h. h)
+  placed_kept : EachChart (placed e) IsWritable
+  unfolding placed
+  placed_kept = each_made _ _ _ _ _ IsWritable (each_headed _ _ _ w) (λ x h. h)
+
+  effect_kept : EachChart (effect e) (λ x. IsWritable x.value)
+  unfolding effect effect_end becoming emitting
+  effect_kept =
+      each_made _ _ (λ x. effect_with x.0 x.1) _ _ (λ x. IsWritable x.value)
+      (each_seq _ _ _ _ _ _ (each_any _)
+      (each_either _ _ _ _ (each_made _ _ to_value _ _ EndKept (each_after _ _ _ placed_kept) (λ x h. h))
+      (each_made _ _ to_name _ _ EndKept (each_any _) (λ x h. tt))))
+      (λ x h. with_kept x.0 x.1 h.1)
+
+  none_or_all : {A : Type 0} (P : A → Type 0) (xs : Option (List A)) → OfIt (Every P) xs → Every P (or_none xs)
+  none_or_all P None h = tt
+  none_or_all P (Some xs) h = h
+
+  deed_kept : EachChart (deed e) (λ x. Every (λ f. IsWritable f.value) x.0)
+  unfolding deed effects some_effects next_effect
+  deed_kept =
+      each_as _ _ _ (λ x. Every (λ f. IsWritable f.value) x.0)
+      (each_seq _ _ _ _ _ _
+      (each_made _ _ _ _ _ (Every (λ x. IsWritable x.value))
+      (each_maybe _ _ _ (each_after _ _ _ (listed_kept e w _ _ _ effect_kept (each_after _ _ _ effect_kept)))) (λ xs h. none_or_all _ xs h))
+      (each_any _))
+      (λ x h. h.0)
+
+  termination_kept : EachChart (termination e) (λ x. IsTransitionShaped x.0)
+  unfolding termination
+  termination_kept =
+      each_made _ _ (λ x. ended x.0 x.1.0 x.1.1) _ _ (λ x. IsTransitionShaped x.0)
+      (each_seq _ _ _ _ _ _ (each_any _) (each_seq _ _ _ _ _ _ (each_any _) deed_kept))
+      (λ x h. record {
+        plain_join = λ j. (refl, refl);
+        trigger = of_it e w None tt;
+        effects = every_at (λ f. IsWritable f.value) x.1.1.0 h.1.1;
+      })
 
   tested_kept : EachChart (tested e) (λ x. IsTransitionShaped x.0)
   unfolding tested
   tested_kept =
       each_made _ _ _ _ _ (λ x. IsTransitionShaped x.0)
-      (each_seq _ _ _ _ _ _ (moment_kept e w) (each_seq _ _ _ _ _ _ (each_any _) (each_seq _ _ _ _ _ _ (trigger_kept e w) (deed_kept e w))))
+      (each_seq _ _ _ _ _ _ (moment_kept e w) (each_seq _ _ _ _ _ _ (each_any _) (each_seq _ _ _ _ _ _ (trigger_kept e w) deed_kept)))
       (λ x h. record {
         plain_join = λ j. absurd (h.0 j);
         trigger = of_it e w x.1.1.0 h.1.1.0;
@@ -97,7 +147,7 @@ module _ (e : Grows Phrase) (w : EachChart e CanWrite) where
   unfolding leaving transitions transition
   leaving_kept =
       each_before _ _ _
-      (each_made _ _ parted _ _ WaysKept (each_many _ _ _ (each_either _ _ _ _ undelayed_kept tested_kept))
+      (each_made _ _ parted _ _ WaysKept (each_many _ _ _ (each_either _ _ _ _ termination_kept tested_kept))
       (λ xs h. (every_map IsTransitionShaped (λ x. x.0) xs h, same_length xs)))
 
   -- ---- states and regions
@@ -191,11 +241,34 @@ module _ (e : Grows Phrase) (w : EachChart e CanWrite) where
 
   -- ---- whole extended charts
 
+  last_name_kept : EachChart last_name IsNamed
+  unfolding last_name
+  last_name_kept = each_before _ _ _ name_kept
+
+  typed_kept : EachChart (typed e) (λ b. IsNamed b.named)
+  unfolding typed
+  typed_kept =
+      each_made _ _ (λ x. typed_body x.0 x.1.0 x.1.1) _ _ (λ b. IsNamed b.named)
+      (each_seq _ _ _ _ _ _ (each_any _) (each_seq _ _ _ _ _ _ name_kept (each_any _))) (λ x h. h.1.0)
+
+  worded_named : (word : Named) (s : Option Named) (b : ItemBody) → IsNamed b.named → IsNamed (worded_with word s b).declared.named
+  worded_named word None b h = h
+  worded_named word (Some n) b h = h
+
   item_kept : EachChart (item e) (λ x. IsNamed x.declared.named)
-  unfolding item
+  unfolding item plain plain_body signalled worded worded_body bare_signal
   item_kept =
-      each_made _ _ (λ x. item_of x.0 x.1.0 x.1.1.0 x.1.1.1) _ _ (λ x. IsNamed x.declared.named)
-      (each_seq _ _ _ _ _ _ (each_any _) (each_seq _ _ _ _ _ _ (each_any _) (each_seq _ _ _ _ _ _ name_kept (each_any _)))) (λ x h. h.1.1.0)
+      each_either _ _ _ _
+      (each_made _ _ (λ x. plain_item x.0 x.1) _ _ (λ x. IsNamed x.declared.named)
+      (each_seq _ _ _ _ _ _ (each_any _)
+      (each_either _ _ _ _
+      (each_made _ _ (λ x. signal_body x.0 x.1) _ _ (λ b. IsNamed b.named) (each_seq _ _ _ _ _ _ (each_any _) last_name_kept) (λ x h. h.1))
+      typed_kept))
+      (λ x h. h.1))
+      (each_made _ _ (λ x. worded_item x.0 x.1) _ _ (λ x. IsNamed x.declared.named)
+      (each_seq _ _ _ _ _ _ (each_any _)
+      (each_either _ _ _ _ (each_made _ _ (λ n. signal_body n n) _ _ (λ b. IsNamed b.named) last_name_kept (λ n h. h)) typed_kept))
+      (λ x h. worded_named x.0 x.1.signal x.1 h.1))
 
   abbrev RegionsKept : List DraftRegion × Rows → Type 0
   RegionsKept x = (x.0 ≢ []) × AllKept states_in_region transitions_in_region (IsRegionShaped (AreRegionsShaped 31)) x

@@ -9,14 +9,14 @@ use Rattle.sc_text.specs.Phrases.{Phrase}
 use Rattle.sc_text.specs.Expression.{expression}
 use Rattle.sc_text.proofs.Shapes.{expression_tails, expression_is}
 use Rattle.chart_drafts.specs.declared.draft.DraftRegion.{DraftRegion}
-use Rattle.chart_drafts.specs.ChartText.{Grows, the_word, the_sign, roles, tested_words, transition_first, state_first, some_effects}
-use Rattle.chart_drafts.proofs.Shapes.{IsExpression, leaving_first, name_is, flag_is, placed_is, effect_is, next_effect_is, trigger_is, deed_is, termination_is}
+use Rattle.chart_drafts.specs.ChartText.{Grows, the_word, the_sign, roles, kinds, last_name, tested_words, transition_first, state_first}
+use Rattle.chart_drafts.proofs.Shapes.{IsExpression, leaving_first, name_is, flag_is, target_is, placed_is, trigger_is}
 use Rattle.extended_drafts.specs.declared.draft.Rows.{Rows}
-use Rattle.extended_drafts.specs.ExtendedText.{plain_head, item_head, item_first, item_value, last_value, item, last_effects, entry, some_delay, at_once}
-use Rattle.extended_drafts.specs.ExtendedText.{waiting, pause, pause_first, tested, undelayed}
+use Rattle.extended_drafts.specs.ExtendedText.{item_first, item_value, last_value, typed, signalled, bare_signal, plain_body, worded_body, plain, worded, item}
+use Rattle.extended_drafts.specs.ExtendedText.{becoming, emitting, effect_end, effect, next_effect, some_effects, effects, deed, last_effects, entry}
+use Rattle.extended_drafts.specs.ExtendedText.{some_delay, at_once, waiting, pause, pause_first, tested, termination}
 use Rattle.extended_drafts.specs.ExtendedText.{transition, transitions, leaving, Inner, NoMore, Nested, rowed, bare, nested, inside, simple, acting, body}
-use Rattle.extended_drafts.specs.ExtendedText.{state}
-use Rattle.extended_drafts.specs.ExtendedText.{region, within, parts, extended, extended_text}
+use Rattle.extended_drafts.specs.ExtendedText.{state, region, within, parts, extended, extended_text}
 
 abbrev pub IsRegion : Grows (DraftRegion × Rows) → Type 0
 IsRegion r = Shaped r false (the_word word.Region) []
@@ -27,12 +27,17 @@ pub data Fits : Inner → Type 1 where
 
 -- ---- items
 
-pub plain_head_is : Shaped plain_head false roles []
-plain_head_is = shaped_made _ _ _ _ _ _ _ (shaped_made _ _ _ _ _ _ _ (shaped_one _ refl))
+last_name_is : Shaped last_name false (AName ∷ []) []
+unfolding last_name
+last_name_is = shaped_made _ _ _ _ _ _ _ (shaped_seq _ _ _ _ _ _ _ _ _ _ name_is (shaped_one _ refl) refl)
 
-item_head_is : Shaped item_head false item_first []
-unfolding item_head
-item_head_is = shaped_either _ _ _ _ _ _ _ plain_head_is (shaped_made _ _ _ _ _ _ _ name_is) refl
+pub signalled_is : Shaped signalled false (AName ∷ []) []
+unfolding signalled
+signalled_is = shaped_made _ _ _ _ _ _ _ (shaped_seq _ _ _ _ _ _ _ _ _ _ name_is last_name_is refl)
+
+pub bare_signal_is : Shaped bare_signal false (AName ∷ []) []
+unfolding bare_signal
+bare_signal_is = shaped_made _ _ _ _ _ _ _ last_name_is
 
 pub at_once_is : Shaped at_once false (the_word word.Immediate) []
 unfolding at_once
@@ -48,23 +53,65 @@ module _ (e : Grows Phrase) (h : IsExpression e) where
   unfolding last_value
   last_value_is = shaped_made _ _ _ _ _ _ _ (shaped_seq _ _ _ _ _ _ _ _ _ _ value_is (shaped_one _ refl) refl)
 
-  pub item_is : Shaped (item e) false item_first []
-  unfolding item
-  item_is =
+  typed_is : Shaped (typed e) false kinds []
+  unfolding typed
+  typed_is =
       shaped_made _ _ _ _ _ _ _
-      (shaped_seq _ _ _ _ _ _ _ _ _ _ item_head_is
       (shaped_seq _ _ _ _ _ _ _ _ _ _ (shaped_made _ _ _ _ _ _ _ (shaped_one _ refl))
       (shaped_seq _ _ _ _ _ _ _ _ _ _ name_is last_value_is refl)
       refl)
+
+  pub plain_is : Shaped (plain e) false roles []
+  unfolding plain plain_body
+  plain_is =
+      shaped_made _ _ _ _ _ _ _
+      (shaped_seq _ _ _ _ _ _ _ _ _ _ (shaped_made _ _ _ _ _ _ _ (shaped_one _ refl))
+      (shaped_either _ _ _ _ _ _ _ signalled_is typed_is refl)
       refl)
 
-  -- ---- entry actions and transitions
+  worded_is : Shaped (worded e) false (AName ∷ []) []
+  unfolding worded worded_body
+  worded_is =
+      shaped_made _ _ _ _ _ _ _
+      (shaped_seq _ _ _ _ _ _ _ _ _ _ name_is (shaped_either _ _ _ _ _ _ _ bare_signal_is typed_is refl) refl)
+
+  pub item_is : Shaped (item e) false item_first []
+  unfolding item
+  item_is = shaped_either _ _ _ _ _ _ _ plain_is worded_is refl
+
+  -- ---- effects
+
+  pub becoming_is : Shaped (becoming e) false (the_sign sign.Becomes) expression_tails
+  unfolding becoming
+  becoming_is =
+      shaped_made _ _ _ _ _ _ _ (shaped_made _ _ _ _ _ _ _ (shaped_seq _ _ _ _ _ _ _ _ _ _ (shaped_one _ refl) (placed_is e h) refl))
+
+  effect_is : Shaped (effect e) false (AName ∷ []) expression_tails
+  unfolding effect effect_end emitting
+  effect_is =
+      shaped_made _ _ _ _ _ _ _
+      (shaped_seq _ _ _ _ _ _ _ _ _ _ name_is (shaped_either _ _ _ _ _ _ _ becoming_is (shaped_made _ _ _ _ _ _ _ name_is) refl) refl)
+
+  pub next_effect_is : Shaped (next_effect e) false (the_sign sign.Comma) expression_tails
+  unfolding next_effect
+  next_effect_is = shaped_made _ _ _ _ _ _ _ (shaped_seq _ _ _ _ _ _ _ _ _ _ (shaped_one _ refl) effect_is refl)
 
   some_effects_are : Shaped (some_effects e) false (AName ∷ []) (TheSign sign.Comma ∷ expression_tails)
   unfolding some_effects
   some_effects_are =
       shaped_made _ _ _ _ _ _ _
-      (shaped_seq _ _ _ _ _ _ _ _ _ _ (effect_is e h) (shaped_many _ _ _ _ (next_effect_is e h) refl) refl)
+      (shaped_seq _ _ _ _ _ _ _ _ _ _ effect_is (shaped_many _ _ _ _ next_effect_is refl) refl)
+
+  deed_is : Shaped (deed e) false (TheWord word.Do ∷ TheSign sign.Arrow ∷ []) []
+  unfolding deed effects
+  deed_is =
+      shaped_seq _ _ _ _ _ _ _ _ _ _
+      (shaped_made _ _ _ _ _ _ _
+      (shaped_maybe _ _ _ _
+      (shaped_made _ _ _ _ _ _ _ (shaped_seq _ _ _ _ _ _ _ _ _ _ (shaped_one _ refl) some_effects_are refl))))
+      target_is refl
+
+  -- ---- entry actions and transitions
 
   pub entry_is : Shaped (entry e) false (AName ∷ []) []
   unfolding entry last_effects
@@ -95,17 +142,21 @@ module _ (e : Grows Phrase) (h : IsExpression e) where
       shaped_made _ _ _ _ _ _ _
       (shaped_seq _ _ _ _ _ _ _ _ _ _ (shaped_made _ _ _ _ _ _ _ (shaped_one _ refl))
       (shaped_seq _ _ _ _ _ _ _ _ _ _ pause_is
-      (shaped_seq _ _ _ _ _ _ _ _ _ _ (trigger_is e h) (deed_is e h) refl)
+      (shaped_seq _ _ _ _ _ _ _ _ _ _ (trigger_is e h) deed_is refl)
       refl)
       refl)
 
-  pub undelayed_is : Shaped (undelayed e) false (the_word word.Join) []
-  unfolding undelayed
-  undelayed_is = shaped_made _ _ _ _ _ _ _ (termination_is e h)
+  pub termination_is : Shaped (termination e) false (the_word word.Join) []
+  unfolding termination
+  termination_is =
+      shaped_made _ _ _ _ _ _ _
+      (shaped_seq _ _ _ _ _ _ _ _ _ _ (shaped_made _ _ _ _ _ _ _ (shaped_one _ refl))
+      (shaped_seq _ _ _ _ _ _ _ _ _ _ (trigger_is e h) deed_is refl)
+      refl)
 
   pub transition_is : Shaped (transition e) false transition_first []
   unfolding transition
-  transition_is = shaped_either _ _ _ _ _ _ _ undelayed_is tested_is refl
+  transition_is = shaped_either _ _ _ _ _ _ _ termination_is tested_is refl
 
   leaving_is : Shaped (leaving e) false leaving_first []
   unfolding leaving transitions

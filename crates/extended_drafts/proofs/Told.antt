@@ -8,7 +8,9 @@ use Rattle.chart_drafts.specs.declared.draft.DraftRegion.{DraftRegion}
 use Rattle.chart_drafts.specs.declared.draft.DraftRegion.TheViews.{out-DraftRegion, out-DraftState}
 use Rattle.chart_drafts.specs.declared.draft.DraftRegion.TheFolds.{fold_out-DraftRegion, fold_out-DraftState}
 use Rattle.chart_drafts.specs.declared.draft.DraftState.{DraftState}
-use Rattle.extended_drafts.specs.Flaws.{joined, name_flaws, region_step, state_step, region_name_flaws, state_name_flaws}
+use Rattle.chart_drafts.specs.declared.draft.DraftTransition.{DraftTransition}
+use Rattle.drafts.specs.declared.parts.Declaration.{Declaration}
+use Rattle.extended_drafts.specs.Flaws.{joined, name_flaws, ways_flaws, region_step, state_step, region_inside_flaws, state_inside_flaws}
 
 module _ {A : Type 0} (f : A → List Flaw) (parts : List A) (at : ℕ) where
   pub part_told : (x : A) (found new : List Flaw) → slice_get parts at ≡ Some x → new ≡ told_behind found (f x)
@@ -23,25 +25,34 @@ module _ {A : Type 0} (f : A → List Flaw) (parts : List A) (at : ℕ) where
 
 -- ---- what is in states and regions
 
-named_state : (s : DraftState) → state_name_flaws s ≡ name_flaws (out-DraftState s).named ++ joined (map region_name_flaws (out-DraftState s).regions)
-named_state s = fold_out-DraftState (List Flaw) (List Flaw) region_step state_step s
+module _ (signals : List Declaration) where
+  inside_state : (s : DraftState) → state_inside_flaws signals s ≡ name_flaws (out-DraftState s).named
+      ++ (joined (map (region_inside_flaws signals) (out-DraftState s).regions) ++ ways_flaws signals (out-DraftState s).transitions)
+  inside_state s = fold_out-DraftState (List Flaw) (List Flaw) region_step (state_step signals) s
 
-named_region : (r : DraftRegion) → region_name_flaws r ≡ name_flaws (out-DraftRegion r).named ++ joined (map state_name_flaws (out-DraftRegion r).states)
-named_region r = fold_out-DraftRegion (List Flaw) (List Flaw) region_step state_step r
+  inside_region : (r : DraftRegion) → region_inside_flaws signals r ≡ name_flaws (out-DraftRegion r).named
+      ++ joined (map (state_inside_flaws signals) (out-DraftRegion r).states)
+  inside_region r = fold_out-DraftRegion (List Flaw) (List Flaw) region_step (state_step signals) r
 
-module _ (found f g : List Flaw) where
-  pub state_named : (s : DraftState) (R : List DraftRegion) → f ≡ told_behind found (name_flaws (out-DraftState s).named)
-      → R ≡ (out-DraftState s).regions → g ≡ told_behind f (joined (map region_name_flaws R)) → g ≡ told_behind found (state_name_flaws s)
-  state_named s R a r b =
-      b ∙ ap (λ x. told_behind f (joined (map region_name_flaws x))) r
-      ∙ ap (λ x. told_behind x (joined (map region_name_flaws (out-DraftState s).regions))) a
-      ∙ sym (told_both found (name_flaws (out-DraftState s).named) (joined (map region_name_flaws (out-DraftState s).regions)))
-      ∙ ap (λ x. told_behind found x) (sym (named_state s))
+  module _ (found f g : List Flaw) where
+    pub state_told : (s : DraftState) (R : List DraftRegion) (T : List DraftTransition) (k : List Flaw)
+        → f ≡ told_behind found (name_flaws (out-DraftState s).named) → R ≡ (out-DraftState s).regions
+        → k ≡ told_behind f (joined (map (region_inside_flaws signals) R)) → T ≡ (out-DraftState s).transitions → g ≡ told_behind k (ways_flaws signals T)
+        → g ≡ told_behind found (state_inside_flaws signals s)
+    state_told s R T k a r b t c =
+        let n : List Flaw = name_flaws (out-DraftState s).named in
+        let i : List Flaw = joined (map (region_inside_flaws signals) (out-DraftState s).regions) in
+        let w : List Flaw = ways_flaws signals (out-DraftState s).transitions in
+        c ∙ ap (λ x. told_behind k (ways_flaws signals x)) t
+        ∙ ap (λ x. told_behind x w) (b ∙ ap (λ x. told_behind f (joined (map (region_inside_flaws signals) x))) r ∙ ap (λ x. told_behind x i) a)
+        ∙ sym (told_both found n (i ++ w) ∙ told_both (told_behind found n) i w)
+        ∙ ap (λ x. told_behind found x) (sym (inside_state s))
 
-  pub region_named : (r : DraftRegion) (S : List DraftState) → f ≡ told_behind found (name_flaws (out-DraftRegion r).named)
-      → S ≡ (out-DraftRegion r).states → g ≡ told_behind f (joined (map state_name_flaws S)) → g ≡ told_behind found (region_name_flaws r)
-  region_named r S a s b =
-      b ∙ ap (λ x. told_behind f (joined (map state_name_flaws x))) s
-      ∙ ap (λ x. told_behind x (joined (map state_name_flaws (out-DraftRegion r).states))) a
-      ∙ sym (told_both found (name_flaws (out-DraftRegion r).named) (joined (map state_name_flaws (out-DraftRegion r).states)))
-      ∙ ap (λ x. told_behind found x) (sym (named_region r))
+    pub region_told : (r : DraftRegion) (S : List DraftState) → f ≡ told_behind found (name_flaws (out-DraftRegion r).named)
+        → S ≡ (out-DraftRegion r).states → g ≡ told_behind f (joined (map (state_inside_flaws signals) S))
+        → g ≡ told_behind found (region_inside_flaws signals r)
+    region_told r S a s b =
+        b ∙ ap (λ x. told_behind f (joined (map (state_inside_flaws signals) x))) s
+        ∙ ap (λ x. told_behind x (joined (map (state_inside_flaws signals) (out-DraftRegion r).states))) a
+        ∙ sym (told_both found (name_flaws (out-DraftRegion r).named) (joined (map (state_inside_flaws signals) (out-DraftRegion r).states)))
+        ∙ ap (λ x. told_behind found x) (sym (inside_region r))

@@ -1,7 +1,13 @@
 -- What the parts of an extended chart's text mean: the parts of a chart, with what is new beside them.
-use Rattle.std.specs.Prelude.{ℕ, Bool, false, Option, Some, None, List, [], ◌∷◌, ◌++◌, map}
+use Rattle.std.specs.Prelude.{ℕ, Bool, true, false, Option, Some, None, List, [], ◌∷◌, ◌++◌, map, codes, option_map, if◌then◌else◌}
+use Rattle.std.specs.Str.{bytes_eq}
+use Rattle.sc_values.specs.declared.value.Value.TheVariants as value
 use Rattle.sc_values.specs.declared.value.Kind.{Kind}
+use Rattle.sc_values.specs.declared.value.Kind.TheVariants as kind
+use Rattle.sc_values.specs.declared.operator.BinaryOperator.TheVariants as operator
 use Rattle.sc_graph.specs.declared.program.Role.{Role}
+use Rattle.sc_graph.specs.declared.program.Role.TheVariants as role
+use Rattle.sc_text.specs.declared.operation.TextOperation.TheVariants as text
 use Rattle.core_charts.specs.declared.region.TransitionKind.{TransitionKind}
 use Rattle.drafts.specs.declared.parts.Named.{Named}
 use Rattle.drafts.specs.declared.parts.TextExpression.{TextExpression}
@@ -10,23 +16,59 @@ use Rattle.chart_drafts.specs.declared.draft.DraftEffect.{DraftEffect}
 use Rattle.chart_drafts.specs.declared.draft.DraftTransition.{DraftTransition}
 use Rattle.chart_drafts.specs.declared.draft.DraftRegion.{DraftRegion}
 use Rattle.chart_drafts.specs.declared.draft.DraftState.{DraftState}
-use Rattle.chart_drafts.specs.Draft.{transition_of, state_of, region_of, chart_of}
+use Rattle.chart_drafts.specs.Draft.{effect_of, transition_of, state_of, region_of, chart_of}
+use Rattle.extended_drafts.specs.declared.draft.ItemBody.{ItemBody}
 use Rattle.extended_drafts.specs.declared.draft.DraftItem.{DraftItem}
+use Rattle.extended_drafts.specs.declared.draft.EffectEnd.{EffectEnd}
+use Rattle.extended_drafts.specs.declared.draft.EffectEnd.TheVariants as ends
 use Rattle.extended_drafts.specs.declared.draft.DraftEntry.{DraftEntry}
 use Rattle.extended_drafts.specs.declared.draft.DraftDelay.{DraftDelay}
 use Rattle.extended_drafts.specs.declared.draft.Rows.{Rows}
 use Rattle.extended_drafts.specs.declared.draft.StateBody.{StateBody}
 use Rattle.extended_drafts.specs.declared.draft.ExtendedDraft.{ExtendedDraft}
 
--- an item, by what it is declared as, and the word where that is none of charts
-abbrev pub item_of : Role × Option Named → Kind → Named → Option TextExpression → DraftItem
-item_of head k n value = record { declared = declared_as head.0 k n; word = head.1; value = value }
+-- ---- items
+
+abbrev pub typed_body : Kind → Named → Option TextExpression → ItemBody
+typed_body k n v = record { kind = k; signal = None; named = n; value = v }
+
+-- a signal behind this word
+abbrev pub signal_body : Named → Named → ItemBody
+signal_body word n = record { kind = kind.Bool; signal = Some word; named = n; value = None }
+
+abbrev pub plain_item : Role → ItemBody → DraftItem
+plain_item r b = record { declared = declared_as r b.kind b.named; word = None; signal = b.signal; value = b.value }
+
+-- what stands behind a word that charts don't have: without a kind it is a signal, and a local one
+abbrev pub worded_with : Named → Option Named → ItemBody → DraftItem
+worded_with word None b = record { declared = declared_as role.Input b.kind b.named; word = Some word; signal = None; value = b.value }
+worded_with word (Some n) b = record { declared = declared_as role.Local b.kind b.named; word = None; signal = Some word; value = b.value }
+
+abbrev pub worded_item : Named → ItemBody → DraftItem
+worded_item word b = worded_with word b.signal b
+
+-- ---- effects
+
+-- what a name becomes behind a word: itself or true. It starts at the name behind `emit`, and at another word itself
+abbrev pub emitted : Named → Named → TextExpression
+emitted word n =
+    record {
+      start = if bytes_eq word.name (codes "emit") then n.at else word.at;
+      operations = text.Load n.name n.at ∷ text.Literal (value.Bool true) ∷ text.Binary operator.Or ∷ [];
+    }
+
+-- an effect, by its first name and what stands behind that
+abbrev pub effect_with : Named → EffectEnd → DraftEffect
+effect_with n (ends.Value e) = effect_of n e
+effect_with word (ends.Name n) = effect_of n (emitted word n)
+
+-- ---- actions and transitions
 
 abbrev pub entry_of : Named → List DraftEffect → DraftEntry
 entry_of word effects = record { word = word; effects = effects }
 
 abbrev pub delay_of : Named → TextExpression → DraftDelay
-delay_of word ticks = record { word = word; ticks = ticks }
+delay_of word ticks = record { word = Some word; until = ticks }
 
 -- when a transition that stands so is tested first: at once, behind some ticks, or in the next tick
 abbrev pub or_next : Option (Bool × Option DraftDelay) → Bool × Option DraftDelay
@@ -35,6 +77,13 @@ or_next (Some pause) = pause
 
 abbrev pub delayed : TransitionKind × ℕ → Bool × Option DraftDelay → Option TextExpression → List DraftEffect × Named → DraftTransition × Option DraftDelay
 delayed moment pause trigger deed = (transition_of moment pause.0 trigger deed.0 deed.1, pause.1)
+
+-- the trigger of a termination, which has no word before it
+abbrev pub hold_of : TextExpression → DraftDelay
+hold_of trigger = record { word = None; until = trigger }
+
+abbrev pub ended : TransitionKind × ℕ → Option TextExpression → List DraftEffect × Named → DraftTransition × Option DraftDelay
+ended moment trigger deed = (transition_of moment false None deed.0 deed.1, option_map hold_of trigger)
 
 -- ---- rows
 

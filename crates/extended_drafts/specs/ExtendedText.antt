@@ -2,18 +2,21 @@
 -- no name, and any name may stand: that it is the right word is no matter of the grammar.
 --
 --   extended    = word "chart" name "{" { item } region { region } "}"
---   item        = ( "input" | "output" | "local" | word ) ( "bool" | "int" ) name [ "=" expression ] ";"
+--   item        = ( "input" | "output" | "local" ) ( kind name value ";" | word name ";" )
+--               | word ( kind name value ";" | name ";" )
+--   kind        = "bool" | "int"
+--   value       = [ "=" expression ]
 --   region      = "region" name "{" state { state } "}"
 --   state       = [ "initial" ] [ "final" ] "state" name ( ";" | "{" { entry } inside )
 --   entry       = word "do" effect { "," effect } ";"
 --   inside      = [ region { region } ] { transition } "}"
 --   transition  = ( "go" | "strong" | "weak" ) [ "immediate" | delay ] [ "if" expression ] [ effects ] "->" name ";"
---               | "join" [ effects ] "->" name ";"
+--               | "join" [ "if" expression ] [ effects ] "->" name ";"
 --   delay       = word expression
+--   effects     = "do" effect { "," effect }
+--   effect      = name "=" expression | word name
 use Rattle.std.specs.Prelude.{ℕ, zero, suc, ◌+◌, Bool, true, false, Option, Some, None, List, [], ◌∷◌}
 use Rattle.grammar.specs.Grammar.{one, seq, either, maybe, many, made, barred}
-use Rattle.sc_graph.specs.declared.program.Role.{Role}
-use Rattle.sc_graph.specs.declared.program.Role.TheVariants as role
 use Rattle.core_charts.specs.Rules.{inner_depth_limit}
 use Rattle.sc_text.specs.declared.word.Word.TheVariants as word
 use Rattle.sc_text.specs.declared.sign.Sign.TheVariants as sign
@@ -22,31 +25,26 @@ use Rattle.sc_text.specs.Phrases.{Phrase}
 use Rattle.sc_text.specs.Expression.{after, before, expression}
 use Rattle.drafts.specs.declared.parts.Named.{Named}
 use Rattle.drafts.specs.declared.parts.TextExpression.{TextExpression}
+use Rattle.drafts.specs.Parts.{or_none}
 use Rattle.chart_drafts.specs.declared.draft.DraftEffect.{DraftEffect}
 use Rattle.chart_drafts.specs.declared.draft.DraftTransition.{DraftTransition}
 use Rattle.chart_drafts.specs.declared.draft.DraftRegion.{DraftRegion}
 use Rattle.chart_drafts.specs.declared.draft.DraftState.{DraftState}
-use Rattle.chart_drafts.specs.ChartText.{Grows, the_word, the_sign, name, declared_role, declared_kind, placed, some_effects, trigger, deed, moment}
-use Rattle.chart_drafts.specs.ChartText.{termination, tested_words, flag, listed, braced}
+use Rattle.chart_drafts.specs.ChartText.{Grows, the_word, the_sign, name, last_name, declared_role, declared_kind, placed, target, trigger, moment}
+use Rattle.chart_drafts.specs.ChartText.{tested_words, flag, listed, braced}
+use Rattle.extended_drafts.specs.declared.draft.ItemBody.{ItemBody}
 use Rattle.extended_drafts.specs.declared.draft.DraftItem.{DraftItem}
+use Rattle.extended_drafts.specs.declared.draft.EffectEnd.{EffectEnd}
+use Rattle.extended_drafts.specs.declared.draft.EffectEnd.TheVariants as ends
 use Rattle.extended_drafts.specs.declared.draft.DraftEntry.{DraftEntry}
 use Rattle.extended_drafts.specs.declared.draft.DraftDelay.{DraftDelay}
 use Rattle.extended_drafts.specs.declared.draft.Rows.{Rows}
 use Rattle.extended_drafts.specs.declared.draft.StateBody.{StateBody}
 use Rattle.extended_drafts.specs.declared.draft.ExtendedDraft.{ExtendedDraft}
-use Rattle.extended_drafts.specs.Draft.{item_of, entry_of, delay_of, or_next, delayed, no_rows, gathered, parted, body_of, state_with, region_with, draft_of}
+use Rattle.extended_drafts.specs.Draft.{typed_body, signal_body, plain_item, worded_item, effect_with, entry_of, delay_of, or_next, delayed, ended, no_rows}
+use Rattle.extended_drafts.specs.Draft.{gathered, parted, body_of, state_with, region_with, draft_of}
 
 -- ---- items
-
--- what an item is declared as, and the word where that is none of charts
-abbrev pub plain_head : Grows (Role × Option Named)
-plain_head = made (λ r. (r, None)) declared_role
-
-abbrev pub worded_head : Grows (Role × Option Named)
-worded_head = made (λ n. (role.Input, Some n)) name
-
-unfoldable pub item_head : Grows (Role × Option Named)
-item_head = either plain_head worded_head
 
 -- what begins an item
 abbrev pub item_first : List Class
@@ -58,9 +56,64 @@ item_value e = maybe (after (the_sign sign.Becomes) (placed e))
 unfoldable pub last_value : Grows Phrase → Grows (Option TextExpression)
 last_value e = before (item_value e) (the_sign sign.Semicolon)
 
+-- what has a kind, and may have a value
+unfoldable pub typed : Grows Phrase → Grows ItemBody
+typed e = made (λ x. typed_body x.0 x.1.0 x.1.1) (seq declared_kind (seq name (last_value e)))
+
+-- a signal behind `output` or `local`, and one behind its word alone
+unfoldable pub signalled : Grows ItemBody
+signalled = made (λ x. signal_body x.0 x.1) (seq name last_name)
+
+unfoldable pub bare_signal : Grows ItemBody
+bare_signal = made (λ n. signal_body n n) last_name
+
+unfoldable pub plain_body : Grows Phrase → Grows ItemBody
+plain_body e = either signalled (typed e)
+
+unfoldable pub worded_body : Grows Phrase → Grows ItemBody
+worded_body e = either bare_signal (typed e)
+
+unfoldable pub plain : Grows Phrase → Grows DraftItem
+plain e = made (λ x. plain_item x.0 x.1) (seq declared_role (plain_body e))
+
+unfoldable pub worded : Grows Phrase → Grows DraftItem
+worded e = made (λ x. worded_item x.0 x.1) (seq name (worded_body e))
+
 unfoldable pub item : Grows Phrase → Grows DraftItem
-item e =
-    made (λ x. item_of x.0 x.1.0 x.1.1.0 x.1.1.1) (seq item_head (seq declared_kind (seq name (last_value e))))
+item e = either (plain e) (worded e)
+
+-- ---- effects
+
+abbrev pub to_value : TextExpression → EffectEnd
+to_value e = ends.Value e
+
+abbrev pub to_name : Named → EffectEnd
+to_name n = ends.Name n
+
+unfoldable pub becoming : Grows Phrase → Grows EffectEnd
+becoming e = made to_value (after (the_sign sign.Becomes) (placed e))
+
+unfoldable pub emitting : Grows EffectEnd
+emitting = made to_name name
+
+unfoldable pub effect_end : Grows Phrase → Grows EffectEnd
+effect_end e = either (becoming e) emitting
+
+unfoldable pub effect : Grows Phrase → Grows DraftEffect
+effect e = made (λ x. effect_with x.0 x.1) (seq name (effect_end e))
+
+unfoldable pub next_effect : Grows Phrase → Grows DraftEffect
+next_effect e = after (the_sign sign.Comma) (effect e)
+
+unfoldable pub some_effects : Grows Phrase → Grows (List DraftEffect)
+some_effects e = listed (effect e) (next_effect e)
+
+unfoldable pub effects : Grows Phrase → Grows (List DraftEffect)
+effects e = made or_none (maybe (after (the_word word.Do) (some_effects e)))
+
+-- what is done, and where a transition leads
+unfoldable pub deed : Grows Phrase → Grows (List DraftEffect × Named)
+deed e = seq (effects e) target
 
 -- ---- entry actions and transitions
 
@@ -91,11 +144,11 @@ tested e =
     made (λ x. delayed x.0 x.1.0 x.1.1.0 x.1.1.1)
     (seq (moment tested_words) (seq (pause e) (seq (trigger e) (deed e))))
 
-unfoldable pub undelayed : Grows Phrase → Grows (DraftTransition × Option DraftDelay)
-undelayed e = made (λ t. (t, None)) (termination e)
+unfoldable pub termination : Grows Phrase → Grows (DraftTransition × Option DraftDelay)
+termination e = made (λ x. ended x.0 x.1.0 x.1.1) (seq (moment (the_word word.Join)) (seq (trigger e) (deed e)))
 
 unfoldable pub transition : Grows Phrase → Grows (DraftTransition × Option DraftDelay)
-transition e = either (undelayed e) (tested e)
+transition e = either (termination e) (tested e)
 
 unfoldable pub transitions : Grows Phrase → Grows (List DraftTransition × List (Option DraftDelay))
 transitions e = made parted (many (transition e))

@@ -1,6 +1,7 @@
 -- What is wrong with a draft of an extended chart: the flaws of the chart without what is new, and those of what is new,
 -- each with its place. A word and an item stand at their names, an expression at its first byte.
-use Rattle.std.specs.Prelude.{ℕ, nat_eq, Bool, true, false, not, ◌&&◌, ◌||◌, Option, Some, None, List, [], ◌∷◌, ◌++◌, map, codes, if◌then◌else◌}
+use Rattle.std.specs.Prelude.{ℕ, nat_eq, nat_lt, Bool, true, false, not, ◌&&◌, ◌||◌, Option, Some, None, List, [], ◌∷◌, ◌++◌, map, codes, if◌then◌else◌}
+use Rattle.std.specs.Option.{is_some}
 use Rattle.std.specs.Str.{bytes_eq}
 use Rattle.sc_values.specs.declared.value.Value.TheVariants as value
 use Rattle.sc_values.specs.declared.value.Kind.{Kind}
@@ -14,7 +15,9 @@ use Rattle.drafts.specs.declared.flaw.Flaw.{Flaw}
 use Rattle.drafts.specs.declared.parts.Named.{Named}
 use Rattle.drafts.specs.declared.parts.TextExpression.{TextExpression}
 use Rattle.drafts.specs.declared.parts.Declaration.{Declaration}
-use Rattle.drafts.specs.Flaws.{flaw_if, expression_flaws, is_input, is_load}
+use Rattle.drafts.specs.Flaws.{flaw_if, variable_named, expression_flaws, is_input, is_load}
+use Rattle.chart_drafts.specs.declared.draft.DraftEffect.{DraftEffect}
+use Rattle.chart_drafts.specs.declared.draft.DraftTransition.{DraftTransition}
 use Rattle.chart_drafts.specs.declared.draft.DraftRegion.{DraftRegion}
 use Rattle.chart_drafts.specs.declared.draft.DraftRegion.TheOpen.{DraftRegion-F, DraftState-F}
 use Rattle.chart_drafts.specs.declared.draft.DraftRegion.TheFolds.{fold-DraftRegion, fold-DraftState}
@@ -36,7 +39,7 @@ word_flaws meant word = flaw_if (not (bytes_eq word.name meant)) broken.Grammar 
 
 -- ---- items
 
--- the variables of the text: neither constants nor what variables were
+-- the variables of the text, signals among them: neither constants nor what variables were
 abbrev pub plain_one : Option Named → Declaration → List Declaration
 plain_one None x = x ∷ []
 plain_one (Some word) x = []
@@ -95,25 +98,61 @@ abbrev pub headed_flaws : List Declaration → Option Named → Declaration → 
 headed_flaws variables None x e = initial_flaws x e
 headed_flaws variables (Some word) x e = worded_flaws variables word x e
 
-abbrev pub item_flaws : List Declaration → DraftItem → List Flaw
-item_flaws variables x = headed_flaws variables x.word x.declared x.value
+-- the word before the name of a signal. No input is one
+abbrev pub signal_flaws : Option Named → Declaration → List Flaw
+signal_flaws None x = []
+signal_flaws (Some word) x = flaw_if (not (bytes_eq word.name (codes "signal")) || is_input x.role) broken.Grammar word.at
 
--- ---- entry and exit actions, and delays
+abbrev pub item_flaws : List Declaration → DraftItem → List Flaw
+item_flaws variables x = signal_flaws x.signal x.declared ++ headed_flaws variables x.word x.declared x.value
+
+-- ---- signals
+
+abbrev pub one_signal : Option Named → Declaration → List Declaration
+one_signal None x = []
+one_signal (Some word) x = x ∷ []
+
+-- the signals of the text
+abbrev pub signals : List DraftItem → List Declaration
+signals [] = []
+signals (x ∷ items) = one_signal x.signal x.declared ++ signals items
+
+-- one of two, and not both
+abbrev pub differ : Bool → Bool → Bool
+differ true b = not b
+differ false b = b
+
+-- A signal is emitted and not assigned to, and nothing else is emitted. What an emission becomes starts at its name, and
+-- before that where its word is another
+abbrev pub emission_flaws : List Declaration → DraftEffect → List Flaw
+emission_flaws signals e =
+    if nat_lt e.value.start e.variable.at then flaw_if true broken.Grammar e.value.start
+    else flaw_if (differ (is_some (variable_named signals e.variable.name)) (nat_eq e.value.start e.variable.at)) broken.Rule e.variable.at
+
+abbrev pub emissions_flaws : List Declaration → List DraftEffect → List Flaw
+emissions_flaws signals effects = joined (map (emission_flaws signals) effects)
+
+-- ---- entry and exit actions, and what transitions wait for
 
 -- the word before an action tells whether it is made when its state is entered or when it is left
 abbrev pub action_word_flaws : Named → List Flaw
 action_word_flaws word =
     flaw_if (not (bytes_eq word.name (codes "entry") || bytes_eq word.name (codes "exit"))) broken.Grammar word.at
 
-abbrev pub entry_flaws : List Declaration → DraftEntry → List Flaw
-entry_flaws variables e = action_word_flaws e.word ++ effect_flaws variables 0 e.effects
+abbrev pub entry_flaws : (variables signals : List Declaration) → DraftEntry → List Flaw
+entry_flaws variables signals e = action_word_flaws e.word ++ (effect_flaws variables 0 e.effects ++ emissions_flaws signals e.effects)
 
-abbrev pub entries_flaws : List Declaration → List DraftEntry → List Flaw
-entries_flaws variables entries = joined (map (entry_flaws variables) entries)
+abbrev pub entries_flaws : (variables signals : List Declaration) → List DraftEntry → List Flaw
+entries_flaws variables signals entries = joined (map (entry_flaws variables signals) entries)
+
+-- behind a word ticks are waited for, and behind none a termination waits for its trigger
+abbrev pub until_flaws : List Declaration → Option Named → TextExpression → List Flaw
+until_flaws variables None e = expression_flaws variables (Some kind.Bool) e
+until_flaws variables (Some word) e = word_flaws (codes "after") word ++ expression_flaws variables (Some kind.Int) e
 
 abbrev pub delay_flaws : List Declaration → Option DraftDelay → List Flaw
 delay_flaws variables None = []
-delay_flaws variables (Some d) = word_flaws (codes "after") d.word ++ expression_flaws variables (Some kind.Int) d.ticks
+delay_flaws variables (Some d) = until_flaws variables d.word d.until
 
 -- ---- names: two underscores inside are of names that reductions make
 
@@ -128,21 +167,26 @@ is_doubled before (b ∷ bytes) = (before && is_underscore b) || is_doubled (is_
 abbrev pub name_flaws : Named → List Flaw
 name_flaws n = flaw_if (is_doubled false n.name) broken.Token n.at
 
-abbrev pub state_step : DraftState-F (List Flaw) (List Flaw) → List Flaw
-state_step s = name_flaws s.named ++ joined s.regions
+abbrev pub variable_name_flaws : List Declaration → List Flaw
+variable_name_flaws variables = joined (map (λ x. name_flaws x.named) variables)
+
+-- ---- regions and states: their names, and what their transitions emit
+
+abbrev pub ways_flaws : (signals : List Declaration) → List DraftTransition → List Flaw
+ways_flaws signals transitions = joined (map (λ t. emissions_flaws signals t.effects) transitions)
+
+abbrev pub state_step : (signals : List Declaration) → DraftState-F (List Flaw) (List Flaw) → List Flaw
+state_step signals s = name_flaws s.named ++ (joined s.regions ++ ways_flaws signals s.transitions)
 
 abbrev pub region_step : DraftRegion-F (List Flaw) (List Flaw) → List Flaw
 region_step r = name_flaws r.named ++ joined r.states
 
--- the names of a region, or of a state, and of all that is in it
-abbrev pub region_name_flaws : DraftRegion → List Flaw
-region_name_flaws = fold-DraftRegion (List Flaw) (List Flaw) region_step state_step
+-- those of a region, or of a state, and of all that is in it
+abbrev pub region_inside_flaws : (signals : List Declaration) → DraftRegion → List Flaw
+region_inside_flaws signals = fold-DraftRegion (List Flaw) (List Flaw) region_step (state_step signals)
 
-abbrev pub state_name_flaws : DraftState → List Flaw
-state_name_flaws = fold-DraftState (List Flaw) (List Flaw) region_step state_step
-
-abbrev pub variable_name_flaws : List Declaration → List Flaw
-variable_name_flaws variables = joined (map (λ x. name_flaws x.named) variables)
+abbrev pub state_inside_flaws : (signals : List Declaration) → DraftState → List Flaw
+state_inside_flaws signals = fold-DraftState (List Flaw) (List Flaw) region_step (state_step signals)
 
 -- ---- whole drafts
 
@@ -151,10 +195,10 @@ abbrev pub new_flaws : ExtendedDraft → List Flaw
 new_flaws d =
     word_flaws (codes "extended") d.word
     ++ (joined (map (item_flaws (plain_variables d.items)) d.items)
-    ++ (joined (map (entries_flaws d.core.variables) d.rows.entries)
+    ++ (joined (map (entries_flaws d.core.variables (signals d.items)) d.rows.entries)
     ++ (joined (map (delay_flaws d.core.variables) d.rows.delays)
     ++ (variable_name_flaws d.core.variables
-    ++ joined (map region_name_flaws d.core.regions)))))
+    ++ joined (map (region_inside_flaws (signals d.items)) d.core.regions)))))
 
 abbrev pub extended_flaws : ExtendedDraft → List Flaw
 extended_flaws d = chart_flaws d.core ++ new_flaws d

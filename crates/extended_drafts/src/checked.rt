@@ -7,8 +7,10 @@ ghost use Rattle.extended_drafts.specs.Flaws.{new_flaws, extended_flaws};
 ghost use Rattle.extended_drafts.specs.Checked.{IsSound, IsTextFault};
 
 use crate::draft::ExtendedDraft;
+use crate::emission_flaws::signals;
+use crate::inside_flaws::regions_inside_flaws;
 use crate::item_flaws::{items_flaws, plain_variables, word_flaws};
-use crate::name_flaws::{regions_name_flaws, variable_name_flaws};
+use crate::name_flaws::variable_name_flaws;
 use crate::row_flaws::{all_entries_flaws, delays_flaws};
 use crate::whole::read_extended_draft;
 use chart_drafts::told_flaws;
@@ -62,10 +64,18 @@ fn new_flaws(
     let plain = plain_variables(alloc, items)?;
     let variables = Scope::of(alloc, plain.as_slice())?;
     items_flaws(alloc, &variables, items, found)?;
+    let emitted = signals(alloc, items)?;
+    let signals = Scope::of(alloc, emitted.as_slice())?;
     let scope = Scope::of(alloc, draft.core.variables.as_slice())?;
-    all_entries_flaws(alloc, &scope, draft.rows.entries.as_slice(), found)?;
+    all_entries_flaws(
+        alloc,
+        &scope,
+        &signals,
+        draft.rows.entries.as_slice(),
+        found,
+    )?;
     delays_flaws(alloc, &scope, draft.rows.delays.as_slice(), found)?;
     variable_name_flaws(alloc, draft.core.variables.as_slice(), found)?;
-    regions_name_flaws(alloc, draft.core.regions.as_slice(), found)?;
+    regions_inside_flaws(alloc, &signals, draft.core.regions.as_slice(), found)?;
     Ok(())
 }

@@ -2,15 +2,34 @@
 
 use chart_drafts::{DraftChart, DraftEffect, DraftRegion, DraftTransition};
 use drafts::{Declaration, Named, TextExpression};
+use sc_values::Kind;
 use sqlite_items::Items;
 
-/// A variable, or what stands among variables behind a word that charts don't have: an input of the chart then. Its
-/// value, where it has one.
+/// What is declared behind the first word of an item. A signal has the word before its name instead of a kind, and is a
+/// truth value.
+#[derive(Debug, Drop)]
+pub struct ItemBody {
+    pub kind: Kind,
+    pub signal: Option<Named>,
+    pub named: Named,
+    pub value: Option<TextExpression>,
+}
+
+/// A variable, or what stands among variables behind a word that charts don't have: an input of the chart then. The
+/// word before its name where it is a signal, and its value where it has one.
 #[derive(Debug, Drop)]
 pub struct DraftItem {
     pub declared: Declaration,
     pub word: Option<Named>,
+    pub signal: Option<Named>,
     pub value: Option<TextExpression>,
+}
+
+/// What stands behind the first name of an effect: what it becomes, or a name, before which it is a word.
+#[derive(Debug, Drop)]
+pub enum EffectEnd {
+    Value(TextExpression),
+    Name(Named),
 }
 
 /// What is done at each entry of a state, and the word before it.
@@ -20,22 +39,22 @@ pub struct DraftEntry {
     pub effects: Items<DraftEffect>,
 }
 
-/// How many ticks a transition waits, and the word before them.
+/// What a transition waits for: so many ticks, behind a word; or, of a termination, its trigger, without one.
 #[derive(Debug, Drop)]
 pub struct DraftDelay {
-    pub word: Named,
-    pub ticks: TextExpression,
+    pub word: Option<Named>,
+    pub until: TextExpression,
 }
 
 /// What is new in states and transitions: a row of entry actions for each state, in the order in which states begin in
-/// the text, and what each transition waits, in the order of the text.
+/// the text, and what each transition waits for, in the order of the text.
 #[derive(Debug, Drop)]
 pub struct Rows {
     pub entries: Items<Items<DraftEntry>>,
     pub delays: Items<Option<DraftDelay>>,
 }
 
-/// What is in a state behind its entry actions: its regions with their rows, its transitions, and what they wait.
+/// What is in a state behind its entry actions: its regions with their rows, its transitions, and what they wait for.
 #[derive(Debug, Drop)]
 pub struct StateBody {
     pub regions: Items<DraftRegion>,

@@ -10,9 +10,10 @@ ghost use Rattle.chart_drafts.specs.Phrase.{Gives};
 ghost use Rattle.extended_drafts.specs.ExtendedText.{last_effects, entry};
 
 use crate::draft::DraftEntry;
+use crate::effects::some_effects;
 use crate::words::name_follows;
 use chart_drafts::DraftEffect;
-use chart_drafts::text_parts::{Ahead, name, skip_sign, skip_word, some_effects};
+use chart_drafts::text_parts::{Ahead, name, skip_sign, skip_word};
 use sc_text::{ReadFault, Sign, Word};
 use sqlite_items::Items;
 use std::alloc::Global;

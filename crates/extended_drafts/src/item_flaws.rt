@@ -4,8 +4,9 @@ ghost use Rattle.std.specs.Prelude.{◌≡◌, IfOk, OnOk, map};
 ghost use Rattle.drafts.specs.Told.{told_behind};
 ghost use Rattle.extended_drafts.specs.Flaws.{joined, word_flaws, plain_variables, is_literal_of, literal_flaws};
 ghost use Rattle.extended_drafts.specs.Flaws.{initial_flaws, constant_flaws, is_name, before_flaws, worded_flaws};
-ghost use Rattle.extended_drafts.specs.Flaws.{item_flaws, is_truth, is_number, is_minus};
-ghost use Rattle.drafts.specs.Flaws.{is_load};
+ghost use Rattle.extended_drafts.specs.Flaws.{headed_flaws};
+ghost use Rattle.extended_drafts.specs.Flaws.{signal_flaws, item_flaws, is_truth, is_number, is_minus};
+ghost use Rattle.drafts.specs.Flaws.{is_input, is_load};
 
 use crate::draft::DraftItem;
 use drafts::{Declaration, Flaw, Named, Scope, TextExpression, note_told};
@@ -60,6 +61,7 @@ pub(crate) fn items_flaws(
     Ok(())
 }
 
+#[tactic(auto, using(drafts::proofs::ToldInOrder::told_both))]
 fn item_flaws(
     alloc: Global,
     scope: &Scope,
@@ -67,6 +69,46 @@ fn item_flaws(
     found: &mut Items<Flaw>,
 ) -> Result<(), AllocError>
     ensures { OnOk result (found.new ≡ told_behind found.old (item_flaws scope.now.variables.now item.now)) }
+{
+    signal_flaws(alloc, item.signal, item.declared, found)?;
+    headed_flaws(alloc, scope, item, found)
+}
+
+// The flaws of the word before the name of a signal.
+fn signal_flaws(
+    alloc: Global,
+    signal: Option<Named>,
+    declared: Declaration,
+    found: &mut Items<Flaw>,
+) -> Result<(), AllocError>
+    ensures { OnOk result (found.new ≡ told_behind found.old (signal_flaws signal declared)) }
+{
+    match signal {
+        Some(word) => {
+            let is_broken = word.name.as_str() != "signal" || is_input(declared.role);
+            note_told(alloc, found, is_broken, FaultKind::Grammar, word.at)
+        }
+        None => Ok(()),
+    }
+}
+
+fn is_input(role: Role) -> bool
+    ensures { result ≡ is_input role }
+{
+    match role {
+        Role::Input => true,
+        Role::Output | Role::Local => false,
+    }
+}
+
+fn headed_flaws(
+    alloc: Global,
+    scope: &Scope,
+    item: &DraftItem,
+    found: &mut Items<Flaw>,
+) -> Result<(), AllocError>
+    ensures { OnOk result (found.new ≡ told_behind found.old
+        (headed_flaws scope.now.variables.now item.now.word item.now.declared item.now.value)) }
 {
     match item.word {
         Some(word) => worded_flaws(alloc, scope, word, item.declared, &item.value, found),

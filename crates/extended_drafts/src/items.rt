@@ -6,10 +6,12 @@ ghost use Rattle.grammar.specs.Read.{read, starts};
 ghost use Rattle.sc_text.specs.Expression.{text_tokens, expression};
 ghost use Rattle.sc_text.specs.Reading.{Stops};
 ghost use Rattle.chart_drafts.specs.Phrase.{Gives};
-ghost use Rattle.extended_drafts.specs.ExtendedText.{item_head, item_first, item_value, last_value, item};
+ghost use Rattle.extended_drafts.specs.Draft.{signal_body, plain_item, worded_item};
+ghost use Rattle.extended_drafts.specs.ExtendedText.{item_first, item_value, last_value, typed, signalled};
+ghost use Rattle.extended_drafts.specs.ExtendedText.{plain_body, plain, worded_body, worded, item};
 
-use crate::draft::DraftItem;
-use crate::words::name_follows;
+use crate::draft::{DraftItem, ItemBody};
+use crate::words::{last_name, name_follows};
 use chart_drafts::text_parts::{
     Ahead, declared_kind, declared_role, name, placed, role_follows, skip_sign,
 };
@@ -17,11 +19,12 @@ use drafts::{Declaration, Named, TextExpression};
 use sc_graph::Role;
 use sc_text::ahead::{behind, sign_follows};
 use sc_text::{ReadFault, Sign, Token};
+use sc_values::Kind;
 use sqlite_items::Items;
 use std::alloc::{AllocError, Global};
 
 /// What stands among the variables.
-#[tactic(auto, using(crate::proofs::Pieces::items_go, chart_drafts::proofs::RowReading::going_ends, chart_drafts::proofs::RowReading::going_over, chart_drafts::proofs::RowReading::going_stops, chart_drafts::proofs::RowReading::going_on))]
+#[tactic(auto, using(crate::proofs::ItemParts::items_go, chart_drafts::proofs::RowReading::going_ends, chart_drafts::proofs::RowReading::going_over, chart_drafts::proofs::RowReading::going_stops, chart_drafts::proofs::RowReading::going_on))]
 pub(crate) fn items(
     alloc: Global,
     ahead: &mut Ahead,
@@ -50,40 +53,165 @@ fn item_follows(tokens: &[Token]) -> bool
     role_follows(tokens) || name_follows(tokens)
 }
 
-#[tactic(auto, using(crate::proofs::Pieces::item_gives, chart_drafts::proofs::Parts::made_stops, chart_drafts::proofs::Parts::seq_stops_first, chart_drafts::proofs::Parts::seq_stops_second), unfolding(crate::specs::ExtendedText::item))]
+#[tactic(auto, using(crate::proofs::ItemParts::plain_read, crate::proofs::ItemParts::plain_fails, crate::proofs::ItemParts::worded_read, crate::proofs::ItemParts::worded_fails))]
 fn item(alloc: Global, ahead: &mut Ahead, end: usize) -> Result<DraftItem, ReadFault>
     ensures { MatchResult result
         (λ x. Gives (read (item (expression 0)) ahead.old.tokens.now) x ahead.new.tokens.now)
         (λ fault. Stops end (read (item (expression 0)) ahead.old.tokens.now) fault) }
 {
-    let (role, word) = head(ahead, end)?;
+    if role_follows(ahead.tokens) {
+        let variable = plain(alloc, ahead, end)?;
+        return Ok(variable);
+    }
+    let other = worded(alloc, ahead, end)?;
+    Ok(other)
+}
+
+// A variable, which may be a signal.
+#[tactic(auto, using(crate::proofs::ItemParts::plain_gives, chart_drafts::proofs::Parts::made_stops, chart_drafts::proofs::Parts::seq_stops_first, chart_drafts::proofs::Parts::seq_stops_second), unfolding(crate::specs::ExtendedText::plain))]
+fn plain(alloc: Global, ahead: &mut Ahead, end: usize) -> Result<DraftItem, ReadFault>
+    ensures { MatchResult result
+        (λ x. Gives (read (plain (expression 0)) ahead.old.tokens.now) x ahead.new.tokens.now)
+        (λ fault. Stops end (read (plain (expression 0)) ahead.old.tokens.now) fault) }
+{
+    let role = declared_role(ahead, end)?;
+    let body = plain_body(alloc, ahead, end)?;
+    Ok(plain_item(role, body))
+}
+
+fn plain_item(role: Role, body: ItemBody) -> DraftItem
+    ensures { result ≡ plain_item role body }
+{
+    let ItemBody {
+        kind,
+        signal,
+        named,
+        value,
+    } = body;
+    let declared = Declaration { role, kind, named };
+    DraftItem {
+        declared,
+        word: None,
+        signal,
+        value,
+    }
+}
+
+#[tactic(auto, using(crate::proofs::ItemParts::signalled_read, crate::proofs::ItemParts::signalled_fails, crate::proofs::ItemParts::plain_typed_read, crate::proofs::ItemParts::plain_typed_fails))]
+fn plain_body(alloc: Global, ahead: &mut Ahead, end: usize) -> Result<ItemBody, ReadFault>
+    ensures { MatchResult result
+        (λ x. Gives (read (plain_body (expression 0)) ahead.old.tokens.now) x ahead.new.tokens.now)
+        (λ fault. Stops end (read (plain_body (expression 0)) ahead.old.tokens.now) fault) }
+{
+    if name_follows(ahead.tokens) {
+        let signal = signalled(ahead, end)?;
+        return Ok(signal);
+    }
+    let body = typed(alloc, ahead, end)?;
+    Ok(body)
+}
+
+// What stands behind a word that charts don't have, or a local signal.
+#[tactic(auto, using(crate::proofs::ItemParts::worded_gives, chart_drafts::proofs::Parts::made_stops, chart_drafts::proofs::Parts::seq_stops_first, chart_drafts::proofs::Parts::seq_stops_second), unfolding(crate::specs::ExtendedText::worded))]
+fn worded(alloc: Global, ahead: &mut Ahead, end: usize) -> Result<DraftItem, ReadFault>
+    ensures { MatchResult result
+        (λ x. Gives (read (worded (expression 0)) ahead.old.tokens.now) x ahead.new.tokens.now)
+        (λ fault. Stops end (read (worded (expression 0)) ahead.old.tokens.now) fault) }
+{
+    let word = name(ahead, end)?;
+    let body = worded_body(alloc, ahead, end)?;
+    Ok(worded_item(word, body))
+}
+
+fn worded_item(word: Named, body: ItemBody) -> DraftItem
+    ensures { result ≡ worded_item word body }
+{
+    let ItemBody {
+        kind,
+        signal,
+        named,
+        value,
+    } = body;
+    match signal {
+        None => DraftItem {
+            declared: Declaration {
+                role: Role::Input,
+                kind,
+                named,
+            },
+            word: Some(word),
+            signal: None,
+            value,
+        },
+        Some(_) => DraftItem {
+            declared: Declaration {
+                role: Role::Local,
+                kind,
+                named,
+            },
+            word: None,
+            signal: Some(word),
+            value,
+        },
+    }
+}
+
+#[tactic(auto, using(crate::proofs::ItemParts::bare_signal_read, crate::proofs::ItemParts::bare_signal_fails, crate::proofs::ItemParts::worded_typed_read, crate::proofs::ItemParts::worded_typed_fails))]
+fn worded_body(alloc: Global, ahead: &mut Ahead, end: usize) -> Result<ItemBody, ReadFault>
+    ensures { MatchResult result
+        (λ x. Gives (read (worded_body (expression 0)) ahead.old.tokens.now) x ahead.new.tokens.now)
+        (λ fault. Stops end (read (worded_body (expression 0)) ahead.old.tokens.now) fault) }
+{
+    if name_follows(ahead.tokens) {
+        let named = last_name(ahead, end)?;
+        return Ok(signal_body(&named, &named));
+    }
+    let body = typed(alloc, ahead, end)?;
+    Ok(body)
+}
+
+// A signal behind its word.
+#[tactic(auto, using(crate::proofs::ItemParts::signalled_gives, chart_drafts::proofs::Parts::made_stops, chart_drafts::proofs::Parts::seq_stops_first, chart_drafts::proofs::Parts::seq_stops_second), unfolding(crate::specs::ExtendedText::signalled))]
+fn signalled(ahead: &mut Ahead, end: usize) -> Result<ItemBody, ReadFault>
+    ensures { MatchResult result
+        (λ x. Gives (read signalled ahead.old.tokens.now) x ahead.new.tokens.now)
+        (λ fault. Stops end (read signalled ahead.old.tokens.now) fault) }
+{
+    let word = name(ahead, end)?;
+    let named = last_name(ahead, end)?;
+    Ok(signal_body(&word, &named))
+}
+
+// A signal behind this word.
+fn signal_body(word: &Named, named: &Named) -> ItemBody
+    ensures { result ≡ signal_body word.now named.now }
+{
+    ItemBody {
+        kind: Kind::Bool,
+        signal: Some(*word),
+        named: *named,
+        value: None,
+    }
+}
+
+#[tactic(auto, using(crate::proofs::ItemParts::typed_gives, chart_drafts::proofs::Parts::made_stops, chart_drafts::proofs::Parts::seq_stops_first, chart_drafts::proofs::Parts::seq_stops_second), unfolding(crate::specs::ExtendedText::typed))]
+fn typed(alloc: Global, ahead: &mut Ahead, end: usize) -> Result<ItemBody, ReadFault>
+    ensures { MatchResult result
+        (λ x. Gives (read (typed (expression 0)) ahead.old.tokens.now) x ahead.new.tokens.now)
+        (λ fault. Stops end (read (typed (expression 0)) ahead.old.tokens.now) fault) }
+{
     let kind = declared_kind(ahead, end)?;
     let named = name(ahead, end)?;
     let value = last_value(alloc, ahead, end)?;
-    let declared = Declaration { role, kind, named };
-    Ok(DraftItem {
-        declared,
-        word,
+    Ok(ItemBody {
+        kind,
+        signal: None,
+        named,
         value,
     })
 }
 
-// What is declared, or the word that charts don't have.
-#[tactic(auto, using(crate::proofs::Pieces::plain_gives, crate::proofs::Pieces::plain_stops, crate::proofs::Pieces::worded_gives, crate::proofs::Pieces::worded_stops))]
-fn head(ahead: &mut Ahead, end: usize) -> Result<(Role, Option<Named>), ReadFault>
-    ensures { MatchResult result
-        (λ x. Gives (read item_head ahead.old.tokens.now) x ahead.new.tokens.now)
-        (λ fault. Stops end (read item_head ahead.old.tokens.now) fault) }
-{
-    if role_follows(ahead.tokens) {
-        let role = declared_role(ahead, end)?;
-        return Ok((role, None));
-    }
-    let word = name(ahead, end)?;
-    Ok((Role::Input, Some(word)))
-}
-
-#[tactic(auto, using(crate::proofs::Pieces::value_missing, crate::proofs::Pieces::value_there, crate::proofs::Pieces::value_stops))]
+#[tactic(auto, using(crate::proofs::ItemParts::value_missing, crate::proofs::ItemParts::value_there, crate::proofs::ItemParts::value_stops))]
 fn item_value(
     alloc: Global,
     ahead: &mut Ahead,

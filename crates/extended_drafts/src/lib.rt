@@ -3,7 +3,10 @@
 
 mod checked;
 mod draft;
+mod effects;
+mod emission_flaws;
 mod entries;
+mod inside_flaws;
 mod item_flaws;
 mod items;
 mod laws;
@@ -16,6 +19,8 @@ mod whole;
 mod words;
 
 pub use checked::{extended_told_flaws, read_checked_extended};
-pub use draft::{DraftDelay, DraftEntry, DraftItem, ExtendedDraft, Rows, StateBody};
+pub use draft::{
+    DraftDelay, DraftEntry, DraftItem, EffectEnd, ExtendedDraft, ItemBody, Rows, StateBody,
+};
 pub use laws::{extended_drafts_are_shaped, extended_texts_are_told};
 pub use whole::read_extended_draft;

@@ -1,20 +1,23 @@
-//! Reading transitions with what they wait.
+//! Reading transitions with what they wait for.
 
-ghost use Rattle.std.specs.Prelude.{◌≡◌, MatchResult};
+ghost use Rattle.std.specs.Prelude.{◌≡◌, MatchResult, option_map};
 ghost use Rattle.grammar.specs.Read.{read, starts};
 ghost use Rattle.sc_text.specs.Expression.{text_tokens, expression};
 ghost use Rattle.sc_text.specs.Reading.{Stops};
 ghost use Rattle.chart_drafts.specs.ChartText.{transition_first};
 ghost use Rattle.chart_drafts.specs.Phrase.{Gives};
-ghost use Rattle.extended_drafts.specs.ExtendedText.{some_delay, pause, tested, undelayed, transition, transitions};
+ghost use Rattle.extended_drafts.specs.Draft.{hold_of};
+ghost use Rattle.extended_drafts.specs.ExtendedText.{some_delay, pause, tested, termination, transition, transitions};
 ghost use Rattle.extended_drafts.specs.ExtendedText.{leaving};
 
 use crate::draft::DraftDelay;
-use crate::words::name_follows;
+use crate::effects::deed;
+use crate::words::{join_word, name_follows};
 use chart_drafts::DraftTransition;
 use chart_drafts::text_parts::{
-    Ahead, deed, name, placed, skip_sign, termination, tested_word, tested_word_follows, trigger,
+    Ahead, name, placed, skip_sign, tested_word, tested_word_follows, trigger,
 };
+use drafts::TextExpression;
 use sc_text::ahead::{behind, word_follows};
 use sc_text::{ReadFault, Sign, Token, Word};
 use sqlite_items::Items;
@@ -27,11 +30,14 @@ fn some_delay(alloc: Global, ahead: &mut Ahead, end: usize) -> Result<DraftDelay
         (λ fault. Stops end (read (some_delay (expression 0)) ahead.old.tokens.now) fault) }
 {
     let word = name(ahead, end)?;
-    let ticks = placed(alloc, ahead, end)?;
-    Ok(DraftDelay { word, ticks })
+    let until = placed(alloc, ahead, end)?;
+    Ok(DraftDelay {
+        word: Some(word),
+        until,
+    })
 }
 
-// Whether a transition is tested at once, and what it waits.
+// Whether a transition is tested at once, and what it waits for.
 #[tactic(auto, using(crate::proofs::Pieces::at_once_gives, crate::proofs::Pieces::pause_missing, crate::proofs::Pieces::waiting_gives, crate::proofs::Pieces::waiting_stops))]
 fn pause(
     alloc: Global,
@@ -78,21 +84,42 @@ fn tested(
     Ok((transition, delay))
 }
 
-#[tactic(auto, using(crate::proofs::Pieces::undelayed_made, chart_drafts::proofs::Parts::made_stops), unfolding(crate::specs::ExtendedText::undelayed))]
-fn undelayed(
+// The trigger of a termination, for which it waits.
+fn hold_of(trigger: Option<TextExpression>) -> Option<DraftDelay>
+    ensures { result ≡ option_map hold_of trigger }
+{
+    match trigger {
+        Some(until) => Some(DraftDelay { word: None, until }),
+        None => None,
+    }
+}
+
+#[tactic(auto, using(crate::proofs::Pieces::termination_made, chart_drafts::proofs::Parts::made_stops, chart_drafts::proofs::Parts::seq_stops_first, chart_drafts::proofs::Parts::seq_stops_second), unfolding(crate::specs::ExtendedText::termination))]
+fn termination(
     alloc: Global,
     ahead: &mut Ahead,
     end: usize,
 ) -> Result<(DraftTransition, Option<DraftDelay>), ReadFault>
     ensures { MatchResult result
-        (λ x. Gives (read (undelayed (expression 0)) ahead.old.tokens.now) x ahead.new.tokens.now)
-        (λ fault. Stops end (read (undelayed (expression 0)) ahead.old.tokens.now) fault) }
+        (λ x. Gives (read (termination (expression 0)) ahead.old.tokens.now) x ahead.new.tokens.now)
+        (λ fault. Stops end (read (termination (expression 0)) ahead.old.tokens.now) fault) }
 {
-    let ends = termination(alloc, ahead, end)?;
-    Ok((ends, None))
+    let (kind, at) = join_word(ahead, end)?;
+    let trigger = trigger(alloc, ahead, end)?;
+    let (effects, target) = deed(alloc, ahead, end)?;
+    let hold = hold_of(trigger);
+    let ends = DraftTransition {
+        kind,
+        at,
+        immediate: false,
+        trigger: None,
+        effects,
+        target,
+    };
+    Ok((ends, hold))
 }
 
-#[tactic(auto, using(crate::proofs::Pieces::undelayed_stops, crate::proofs::Pieces::undelayed_gives, crate::proofs::Pieces::tested_stops, crate::proofs::Pieces::tested_gives))]
+#[tactic(auto, using(crate::proofs::Pieces::termination_stops, crate::proofs::Pieces::termination_gives, crate::proofs::Pieces::tested_stops, crate::proofs::Pieces::tested_gives))]
 fn transition(
     alloc: Global,
     ahead: &mut Ahead,
@@ -103,7 +130,7 @@ fn transition(
         (λ fault. Stops end (read (transition (expression 0)) ahead.old.tokens.now) fault) }
 {
     if word_follows(ahead.tokens, Word::Join) {
-        let ends = undelayed(alloc, ahead, end)?;
+        let ends = termination(alloc, ahead, end)?;
         return Ok(ends);
     }
     let leads = tested(alloc, ahead, end)?;
@@ -140,7 +167,7 @@ fn transitions(
     Ok((found, delays))
 }
 
-/// The transitions of a state with what they wait, up to the brace that closes it.
+/// The transitions of a state with what they wait for, up to the brace that closes it.
 #[tactic(auto, using(chart_drafts::proofs::Parts::before_stops_first, chart_drafts::proofs::Parts::before_stops_second, chart_drafts::proofs::Parts::before_gives), unfolding(crate::specs::ExtendedText::leaving))]
 pub(crate) fn leaving(
     alloc: Global,

@@ -6,7 +6,7 @@ use Rattle.sc_text.specs.Expression.{text_tokens, expression}
 use Rattle.sc_text.specs.Reading.{Stops}
 use Rattle.chart_drafts.proofs.RowReading.{going_ends, going_stops, going_on}
 use Rattle.extended_drafts.specs.ExtendedText.{item_first, item}
-use Rattle.extended_drafts.proofs.Pieces.{items_go}
+use Rattle.extended_drafts.proofs.ItemParts.{items_go}
 use Rattle.extended_drafts.proofs.items.items.Goals as goal
 
 pub loop-used-init : goal.loop-used-init

@@ -9,9 +9,14 @@ pub loop-row-preserved : goal.loop-row-preserved
 loop-row-preserved c =
     let part = c.row-item.result in
     let is : slice_get c.args.rows.now c.loop-row.row-index ≡ Some part = slice_get_read _ _ _ _ refl c.loop-row-test.true c.row-item.is in
-    let told : c.entries_flaws.new.found ≡ told_behind c.loop-row.found (entries_flaws c.args.scope.now.variables.now part) =
-    c.in_ok-entries_flaws.ensures ∙ ap (λ l. told_behind c.loop-row.found (entries_flaws c.args.scope.now.variables.now l)) c.as_slice.ensures in
-    part_told (entries_flaws c.args.scope.now.variables.now) c.args.rows.now c.loop-row.row-index part _ _ is told ∙ c.loop-row.invariant
+    let told : c.entries_flaws.new.found ≡ told_behind c.loop-row.found (entries_flaws c.args.scope.now.variables.now c.args.signals.now.variables.now part) =
+    c.in_ok-entries_flaws.ensures
+    ∙ ap (λ l. told_behind c.loop-row.found (entries_flaws c.args.scope.now.variables.now c.args.signals.now.variables.now l)) c.as_slice.ensures in
+    part_told (entries_flaws c.args.scope.now.variables.now c.args.signals.now.variables.now) c.args.rows.now c.loop-row.row-index part _ _ is told
+    ∙ c.loop-row.invariant
 
 pub returns : goal.returns
-returns c = sym (parts_over (entries_flaws c.args.scope.now.variables.now) c.args.rows.now c.loop-row.row-index _ c.loop-row-test.false) ∙ c.loop-row.invariant
+returns c =
+    sym (parts_over (entries_flaws c.args.scope.now.variables.now c.args.signals.now.variables.now) c.args.rows.now c.loop-row.row-index
+    _ c.loop-row-test.false)
+    ∙ c.loop-row.invariant

@@ -5,5 +5,5 @@ use Rattle.extended_drafts.proofs.row_flaws.entries_flaws.Given as goal
 
 abbrev pub invariant-loop-entry : goal.invariant-loop-entry
 invariant-loop-entry l =
-    told_behind l.found (joined (map (entry_flaws l.scope.variables.now) (drop l.entry-index l.entries)))
-    ≡ told_behind l.fn.found (joined (map (entry_flaws l.scope.variables.now) l.entries))
+    told_behind l.found (joined (map (entry_flaws l.scope.variables.now l.signals.variables.now) (drop l.entry-index l.entries)))
+    ≡ told_behind l.fn.found (joined (map (entry_flaws l.scope.variables.now l.signals.variables.now) l.entries))

@@ -1,0 +1,110 @@
+-- What reading gives for each rule of effects.
+use Rattle.std.proofs.Common.{◌≡◌, ℕ, ◌-◌, true, false, Some, None, List, [], ◌∷◌, ◌++◌, length, drop, refl, sym, subst}
+use Rattle.grammar.specs.Grammar.{seq, maybe}
+use Rattle.grammar.specs.Read.{starts, read}
+use Rattle.sc_text.specs.declared.sign.Sign.TheVariants as sign
+use Rattle.sc_text.specs.declared.token.Token.{Token}
+use Rattle.sc_text.specs.declared.read_fault.ReadFault.{ReadFault}
+use Rattle.sc_text.specs.declared.word.Word.TheVariants as word
+use Rattle.sc_text.specs.Phrases.{Phrase}
+use Rattle.sc_text.specs.Expression.{text_tokens, after, expression}
+use Rattle.sc_text.specs.Reading.{Stops}
+use Rattle.sc_text.proofs.Shapes.{expression_is}
+use Rattle.sc_text.proofs.Steps.{one_taken, stops_as}
+use Rattle.drafts.specs.declared.parts.Named.{Named}
+use Rattle.drafts.specs.declared.parts.TextExpression.{TextExpression}
+use Rattle.drafts.specs.Parts.{or_none}
+use Rattle.chart_drafts.specs.declared.draft.DraftEffect.{DraftEffect}
+use Rattle.chart_drafts.specs.ChartText.{Grows, the_word, the_sign, name, placed}
+use Rattle.chart_drafts.specs.Inside.{IsGoing}
+use Rattle.chart_drafts.specs.Phrase.{Gives}
+use Rattle.chart_drafts.proofs.Parts.{seq_gives, made_gives, made_stops, after_gives, after_stops_second, maybe_none, maybe_some, maybe_stops, left_read}
+use Rattle.chart_drafts.proofs.Parts.{right_read, gives_as}
+use Rattle.chart_drafts.proofs.RowReading.{listed_goes, listed_stops}
+use Rattle.extended_drafts.specs.declared.draft.EffectEnd.{EffectEnd}
+use Rattle.extended_drafts.specs.declared.draft.EffectEnd.TheVariants as ends
+use Rattle.extended_drafts.specs.Draft.{effect_with}
+use Rattle.extended_drafts.specs.ExtendedText.{to_value, to_name, becoming, emitting, effect_end, effect, next_effect, some_effects, effects}
+use Rattle.extended_drafts.proofs.Shapes.{becoming_is, next_effect_is}
+
+abbrev e0 : Grows Phrase
+e0 = expression 0
+
+abbrev becomes : Grows TextExpression
+becomes = after (the_sign sign.Becomes) (placed e0)
+
+-- ---- one effect
+
+module _ (text : List Token) where
+  is_becoming : starts text_tokens (the_sign sign.Becomes) text ≡ true → read (effect_end e0) text ≡ read (becoming e0) text
+  unfolding effect_end
+  is_becoming e = left_read (becoming e0) (the_sign sign.Becomes) (becoming_is e0 (expression_is 0)).begins text emitting e
+
+  is_emitting : starts text_tokens (the_sign sign.Becomes) text ≡ false → read (effect_end e0) text ≡ read emitting text
+  unfolding effect_end
+  is_emitting e = right_read (becoming e0) (the_sign sign.Becomes) (becoming_is e0 (expression_is 0)).begins text emitting e
+
+  pub becoming_gives : (v : TextExpression) (rest : List Token) → starts text_tokens (the_sign sign.Becomes) text ≡ true
+      → Gives (read (after (the_sign sign.Becomes) (placed e0)) text) v rest → Gives (read (effect_end e0) text) (ends.Value v) rest
+  unfolding becoming
+  becoming_gives v rest e g = gives_as _ _ (ends.Value v) rest (is_becoming e) (made_gives to_value becomes text v rest g)
+
+  pub becoming_stops : (end : ℕ) (f : ReadFault) → starts text_tokens (the_sign sign.Becomes) text ≡ true
+      → Stops end (read (after (the_sign sign.Becomes) (placed e0)) text) f → Stops end (read (effect_end e0) text) f
+  unfolding becoming
+  becoming_stops end f e s = stops_as end _ _ f (is_becoming e) (made_stops to_value becomes text end f s)
+
+  pub emitting_gives : (n : Named) (rest : List Token) → starts text_tokens (the_sign sign.Becomes) text ≡ false → Gives (read name text) n rest
+      → Gives (read (effect_end e0) text) (ends.Name n) rest
+  unfolding emitting
+  emitting_gives n rest e g = gives_as _ _ (ends.Name n) rest (is_emitting e) (made_gives to_name name text n rest g)
+
+  pub emitting_stops : (end : ℕ) (f : ReadFault) → starts text_tokens (the_sign sign.Becomes) text ≡ false → Stops end (read name text) f
+      → Stops end (read (effect_end e0) text) f
+  unfolding emitting
+  emitting_stops end f e s = stops_as end _ _ f (is_emitting e) (made_stops to_name name text end f s)
+
+pub effect_gives : (text a rest : List Token) (n : Named) (b : EffectEnd) (x : DraftEffect) → Gives (read name text) n a
+    → Gives (read (effect_end e0) a) b rest → x ≡ effect_with n b → Gives (read (effect e0) text) x rest
+unfolding effect
+effect_gives text a rest n b x p q e =
+    subst (λ z. Gives (read (effect e0) text) z rest) (sym e)
+    (made_gives (λ x. effect_with x.0 x.1) (seq name (effect_end e0)) text (n, b) rest (seq_gives name (effect_end e0) text a rest n b p q))
+
+-- ---- effects
+
+pub effects_go : (text rest : List Token) (x : DraftEffect) (most : ℕ) (none found : List DraftEffect) → Gives (read (effect e0) text) x rest
+    → most ≡ length rest → none ≡ [] → found ≡ none ++ x ∷ [] → IsGoing (read (some_effects e0) text) (next_effect e0) (the_sign sign.Comma) found
+    (most - 0) rest
+unfolding some_effects
+effects_go text rest x left none found r e n f =
+    listed_goes (next_effect e0) (the_sign sign.Comma) (next_effect_is e0 (expression_is 0)).begins (effect e0) text rest x left none found r e n f
+
+pub no_first_effect : (text : List Token) (end : ℕ) (f : ReadFault) → Stops end (read (effect e0) text) f → Stops end (read (some_effects e0) text) f
+unfolding some_effects
+no_first_effect text end f s = listed_stops (next_effect e0) (effect e0) text end f s
+
+abbrev deeds : Grows (List DraftEffect)
+deeds = after (the_word word.Do) (some_effects e0)
+
+pub effects_missing : (text : List Token) (none : List DraftEffect) → starts text_tokens (the_word word.Do) text ≡ false → none ≡ []
+    → Gives (read (effects e0) text) none text
+unfolding effects
+effects_missing text none e n =
+    subst (λ d. Gives (read (effects e0) text) d text) (sym n)
+    (made_gives or_none (maybe deeds) text None text (maybe_none deeds (the_word word.Do) refl text e))
+
+module _ (text more : List Token) (e : starts text_tokens (the_word word.Do) text ≡ true) (d : more ≡ drop 1 text) where
+  pub effects_there : (rest : List Token) (xs : List DraftEffect) → Gives (read (some_effects e0) more) xs rest → Gives (read (effects e0) text) xs rest
+  unfolding effects
+  effects_there rest xs r =
+      made_gives or_none (maybe deeds) text (Some xs) rest
+      (maybe_some deeds (the_word word.Do) refl text xs rest e
+      (after_gives (the_word word.Do) (some_effects e0) text more rest xs (one_taken (the_word word.Do) text more e d) r))
+
+  pub effects_stop : (end : ℕ) (f : ReadFault) → Stops end (read (some_effects e0) more) f → Stops end (read (effects e0) text) f
+  unfolding effects
+  effects_stop end f s =
+      made_stops or_none (maybe deeds) text end f
+      (maybe_stops deeds (the_word word.Do) refl text end f e
+      (after_stops_second (the_word word.Do) (some_effects e0) text more end f (one_taken (the_word word.Do) text more e d) s))

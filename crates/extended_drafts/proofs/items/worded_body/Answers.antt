@@ -1,0 +1,12 @@
+use Rattle.std.proofs.Common.{rules, ◌≡◌, true, [], ◌∷◌}
+use Rattle.grammar.specs.Read.{starts}
+use Rattle.sc_text.specs.Classes.{AName}
+use Rattle.sc_text.specs.Expression.{text_tokens}
+use Rattle.extended_drafts.proofs.ItemParts.{bare_signal_read}
+use Rattle.extended_drafts.proofs.items.worded_body.Goals as goal
+
+pub returns-then-name_follows : goal.returns-then-name_follows
+returns-then-name_follows c =
+    let on = c.if-name_follows.true in
+    let begins : starts text_tokens (AName ∷ []) c.args.ahead.now.tokens.now ≡ true = search (rules, on, c.name_follows.ensures) in
+    bare_signal_read c.args.ahead.now.tokens.now c.in_ok-named.named _ _ begins c.in_ok-named.ensures c.signal_body.ensures
