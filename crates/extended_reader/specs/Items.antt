@@ -1,4 +1,4 @@
--- What stands among the variables of an extended chart: its variables, what variables were, and its constants. Expressions
+-- What stands among the variables of an extended chart: its variables with its signals, what variables were, and its constants. Expressions
 -- number them in this order, those of one sort in the order of the text.
 use Rattle.std.specs.Prelude.{ℕ, Bool, true, false, not, Option, Some, None, List, [], ◌∷◌, ◌++◌, map, codes, option_map, unwrap_or}
 use Rattle.std.specs.Str.{bytes_eq}
@@ -15,6 +15,7 @@ use Rattle.drafts.specs.declared.parts.Declaration.{Declaration}
 use Rattle.drafts.specs.Flaws.{variable_names}
 use Rattle.drafts.specs.Resolved.{number_of, variable_of}
 use Rattle.extended_drafts.specs.declared.draft.DraftItem.{DraftItem}
+use Rattle.extended_drafts.specs.Flaws.{signals}
 use Rattle.extended_charts.specs.declared.extended.Declared.{Declared}
 use Rattle.extended_charts.specs.declared.extended.Constant.{Constant}
 use Rattle.extended_reader.specs.declared.sorts.Sort.{Sort}
@@ -80,6 +81,10 @@ declared_of x =
       variable = variable_of x.declared;
       initial = option_map (λ e. value_of e.operations) x.value;
     }
+
+-- the numbers of the signals among these items
+abbrev pub signal_numbers : (names : List (List ℕ)) → List DraftItem → List ℕ
+signal_numbers names items = map (λ x. number_of names x.named.name) (signals items)
 
 abbrev pub constant_of : DraftItem → Constant
 constant_of x = record { name = x.declared.named.name; value = value_in x.value }

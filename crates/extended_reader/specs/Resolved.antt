@@ -6,6 +6,7 @@ use Rattle.std.specs.Str.{bytes_eq}
 use Rattle.sc_values.specs.declared.operator.BinaryOperator.TheVariants as operator
 use Rattle.sc_values.specs.declared.expression.Expr.{Expr}
 use Rattle.sc_values.specs.declared.expression.Expr.TheVariants as expr
+use Rattle.drafts.specs.declared.parts.Named.{Named}
 use Rattle.drafts.specs.declared.parts.TextExpression.{TextExpression}
 use Rattle.drafts.specs.Resolved.{expression_of}
 use Rattle.core_charts.specs.declared.region.Effect.{Effect}
@@ -26,7 +27,7 @@ use Rattle.extended_charts.specs.declared.extended.ExtendedState.{ExtendedState}
 use Rattle.extended_charts.specs.declared.extended.ExtendedRegion.TheViews.{roll-ExtendedRegion, roll-ExtendedState}
 use Rattle.extended_charts.specs.Reading.{elapsed}
 use Rattle.extended_reader.specs.declared.sorts.Sort.TheVariants as sort
-use Rattle.extended_reader.specs.Items.{all_of, names_of, declared_of, before_of, constant_of}
+use Rattle.extended_reader.specs.Items.{all_of, names_of, declared_of, signal_numbers, before_of, constant_of}
 
 -- ---- actions, over what has these names
 
@@ -44,14 +45,23 @@ abbrev pub condition_of : (names : List (List ℕ)) → TextExpression → Expr
 condition_of names e = expression_of names e.operations
 
 -- so many ticks went by since the state was entered
-abbrev pub waited : (names : List (List ℕ)) → DraftDelay → Expr
-waited names d = expr.Binary operator.GreaterOrEqual (expr.Load elapsed) (condition_of names d.ticks)
+abbrev pub waited : (names : List (List ℕ)) → TextExpression → Expr
+waited names ticks = expr.Binary operator.GreaterOrEqual (expr.Load elapsed) (condition_of names ticks)
+
+-- the trigger of a transition that waits so many ticks
+abbrev pub waited_trigger : (names : List (List ℕ)) → TextExpression → Option TextExpression → Option Expr
+waited_trigger names ticks None = Some (waited names ticks)
+waited_trigger names ticks (Some e) = Some (expr.Binary operator.And (waited names ticks) (condition_of names e))
+
+-- the trigger of one that waits for this: ticks behind a word, and the trigger of a termination behind none
+abbrev pub until_trigger : (names : List (List ℕ)) → Option Named → TextExpression → Option TextExpression → Option Expr
+until_trigger names None until t = Some (condition_of names until)
+until_trigger names (Some word) until t = waited_trigger names until t
 
 -- the trigger of a transition that waits, or not
 abbrev pub trigger_of : (names : List (List ℕ)) → Option DraftDelay → Option TextExpression → Option Expr
 trigger_of names None t = option_map (condition_of names) t
-trigger_of names (Some d) None = Some (waited names d)
-trigger_of names (Some d) (Some e) = Some (expr.Binary operator.And (waited names d) (condition_of names e))
+trigger_of names (Some d) t = until_trigger names d.word d.until t
 
 -- of a state of a region, whose states have these names
 abbrev pub delayed_transition : (names states : List (List ℕ)) → Option DraftDelay → DraftTransition → Transition
@@ -151,13 +161,13 @@ state_of names = fold-DraftState RegionPiece StatePiece (region_step names) (sta
 
 -- ---- charts
 
--- the extended chart of a draft. What the grammar lacks is a signal
+-- the extended chart of a draft
 abbrev pub extended_of : ExtendedDraft → ExtendedChart
 extended_of d =
     record {
       name = d.core.named.name;
       variables = map declared_of (all_of sort.Variable d.items);
-      signals = [];
+      signals = signal_numbers (names_of d.items) d.items;
       befores = map (before_of (names_of d.items)) (all_of sort.Before d.items);
       constants = map constant_of (all_of sort.Constant d.items);
       regions = all_regions d.rows (map (region_of (names_of d.items)) d.core.regions);

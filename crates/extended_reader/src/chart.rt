@@ -5,7 +5,7 @@ ghost use Rattle.extended_drafts.specs.Flaws.{extended_flaws};
 ghost use Rattle.extended_drafts.specs.Shape.{IsExtendedShaped};
 ghost use Rattle.extended_reader.specs.Resolved.{extended_of};
 
-use crate::items::{befores, constants, variables};
+use crate::items::{befores, constants, signal_numbers, variables};
 use crate::regions::regions;
 use crate::rows::RowsLeft;
 use crate::sorts::sorted;
@@ -35,7 +35,7 @@ pub fn extended_of(alloc: Global, draft: &ExtendedDraft) -> Result<ExtendedChart
     Ok(ExtendedChart {
         name: draft.core.named.name,
         variables: variables(alloc, items)?,
-        signals: Items::new(alloc),
+        signals: signal_numbers(alloc, &scope, items)?,
         befores: befores(alloc, &scope, items)?,
         constants: constants(alloc, items)?,
         regions,

@@ -1,10 +1,11 @@
-//! The variables of an extended chart, those of which is asked what they were, and its constants.
+//! The variables of an extended chart, its signals, those of which is asked what they were, and its constants.
 
 ghost use Rattle.std.specs.Prelude.{◌≡◌, ◌≤◌, IfOk, length, map};
 ghost use Rattle.sc_graph.specs.Limits.{variable_limit};
 ghost use Rattle.drafts.specs.Flaws.{variable_names};
 ghost use Rattle.extended_reader.specs.declared.sorts.Sort.TheVariants as sort;
-ghost use Rattle.extended_reader.specs.Items.{all_of, declared_of, constant_of, variable_alone, before_of};
+ghost use Rattle.extended_reader.specs.Items.{all_of, declared_of, signal_numbers, constant_of, variable_alone};
+ghost use Rattle.extended_reader.specs.Items.{before_of};
 
 use crate::sorts::Sort;
 use crate::values::{initial, value_in};
@@ -40,6 +41,24 @@ fn declared_of(item: &DraftItem) -> Declared
         },
         initial: initial(&item.value),
     }
+}
+
+/// The numbers of the signals among these items. Err: memory was refused.
+pub(crate) fn signal_numbers(
+    alloc: Global,
+    scope: &Scope,
+    items: &[DraftItem],
+) -> Result<Items<VariableId>, AllocError>
+    requires { length scope.now.variables.now ≤ variable_limit }
+    ensures { IfOk result (λ all. all ≡ signal_numbers (variable_names scope.now.variables.now) items.now) }
+{
+    let mut all = Items::new(alloc);
+    for item in items {
+        if item.signal.is_some() {
+            all.push(scope.number(item.declared.named.name))?;
+        }
+    }
+    Ok(all)
 }
 
 /// The variables of which these items ask what they were. Err: memory was refused.

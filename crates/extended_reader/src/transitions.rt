@@ -1,11 +1,11 @@
-//! The transitions of a draft with what they wait, their names looked up.
+//! The transitions of a draft with what they wait for, their names looked up.
 
-ghost use Rattle.std.specs.Prelude.{◌≡◌, ◌≤◌, Some, IfOk, OnOk, length};
+ghost use Rattle.std.specs.Prelude.{◌≡◌, ◌≤◌, IfOk, OnOk, length};
 ghost use Rattle.sc_graph.specs.Limits.{variable_limit};
 ghost use Rattle.drafts.specs.Flaws.{variable_names};
 ghost use Rattle.chart_drafts.specs.Flaws.{state_names};
 ghost use Rattle.extended_reader.specs.Inside.{rows_in};
-ghost use Rattle.extended_reader.specs.Resolved.{waited, trigger_of, delayed_transition};
+ghost use Rattle.extended_reader.specs.Resolved.{waited, waited_trigger, until_trigger, trigger_of, delayed_transition};
 ghost use Rattle.extended_reader.specs.Resolved.{all_transitions, behind_transition, behind_transitions, first_delay};
 
 use crate::rows::RowsLeft;
@@ -13,9 +13,8 @@ use crate::states::StateScope;
 use chart_drafts::DraftTransition;
 use chart_reader::{effects, trigger};
 use core_charts::Transition;
-use drafts::{Scope, TextExpression};
+use drafts::{Named, Scope, TextExpression};
 use extended_charts::ELAPSED;
-use extended_drafts::DraftDelay;
 use sc_values::{BinaryOperator, Expr};
 use sqlite_items::{Boxed, Items};
 use std::alloc::{AllocError, Global};
@@ -78,7 +77,7 @@ fn next_trigger(
     match rows.delays {
         [Some(delay), behind @ ..] => {
             rows.delays = behind;
-            delayed(alloc, scope, delay, text)
+            until_trigger(alloc, scope, delay.word, &delay.until, text)
         }
         [None, behind @ ..] => {
             rows.delays = behind;
@@ -88,18 +87,36 @@ fn next_trigger(
     }
 }
 
-// The trigger of a transition that waits.
-fn delayed(
+// The trigger of a transition that waits for ticks behind a word, or of a termination.
+fn until_trigger(
     alloc: Global,
     scope: &Scope,
-    delay: &DraftDelay,
+    word: Option<Named>,
+    until: &TextExpression,
     text: &Option<TextExpression>,
 ) -> Result<Option<Expr>, AllocError>
     requires { length scope.now.variables.now ≤ variable_limit }
     ensures { IfOk result (λ one. one ≡
-        trigger_of (variable_names scope.now.variables.now) (Some delay.now) text.now) }
+        until_trigger (variable_names scope.now.variables.now) word until.now text.now) }
 {
-    let waited = waited(alloc, scope, delay)?;
+    match word {
+        Some(_) => waited_trigger(alloc, scope, until, text),
+        None => Ok(Some(scope.resolved(alloc, until)?)),
+    }
+}
+
+// The trigger of a transition that waits so many ticks.
+fn waited_trigger(
+    alloc: Global,
+    scope: &Scope,
+    ticks: &TextExpression,
+    text: &Option<TextExpression>,
+) -> Result<Option<Expr>, AllocError>
+    requires { length scope.now.variables.now ≤ variable_limit }
+    ensures { IfOk result (λ one. one ≡
+        waited_trigger (variable_names scope.now.variables.now) ticks.now text.now) }
+{
+    let waited = waited(alloc, scope, ticks)?;
     match text {
         Some(condition) => {
             let condition = scope.resolved(alloc, condition)?;
@@ -112,11 +129,11 @@ fn delayed(
 }
 
 // That so many ticks went by since the state was entered.
-fn waited(alloc: Global, scope: &Scope, delay: &DraftDelay) -> Result<Expr, AllocError>
+fn waited(alloc: Global, scope: &Scope, ticks: &TextExpression) -> Result<Expr, AllocError>
     requires { length scope.now.variables.now ≤ variable_limit }
-    ensures { IfOk result (λ one. one ≡ waited (variable_names scope.now.variables.now) delay.now) }
+    ensures { IfOk result (λ one. one ≡ waited (variable_names scope.now.variables.now) ticks.now) }
 {
     let elapsed = Boxed::new(alloc, Expr::Load(ELAPSED))?;
-    let ticks = Boxed::new(alloc, scope.resolved(alloc, &delay.ticks)?)?;
+    let ticks = Boxed::new(alloc, scope.resolved(alloc, ticks)?)?;
     Ok(Expr::Binary(BinaryOperator::GreaterOrEqual, elapsed, ticks))
 }
