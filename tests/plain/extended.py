@@ -3,7 +3,8 @@ possible. The reader is that of charts (chart_reader.py) with what is new, in th
 charts (chart_machine.py), and knows no reduction: it walks the active states, keeps for each of them the tick in which it was
 entered, and of each variable what it was when the tick before ended.
 
-Constants and what variables were are variables here, of the roles "const" and "pre"."""
+Constants and what variables were are variables here, of the roles "const" and "pre". A signal is one that is told to be one, and
+an emission an effect on it by `or true`."""
 from chart_machine import ChartMachine
 from chart_reader import ChartGrammar, ChartRules, Draft
 from charts import Chart, Region, State, Transition
@@ -17,12 +18,17 @@ ITEM_WORDS, ACTION_WORDS = ("const", "pre"), ("entry", "exit")
 
 
 class Declared(Variable):
-    """A variable, and what it holds first; or a constant, and its value; or what a variable was, and the number of that."""
+    """A variable, and what it holds first, or whether it is a signal; or a constant, and its value; or what a variable was, and
+    the number of that."""
 
-    def __init__(self, name, role, kind, initial=None, of=None):
+    def __init__(self, name, role, kind, initial=None, of=None, is_signal=False):
         super().__init__(name, role, kind)
         self.initial = initial if initial is not None else kind == "int" and 0
-        self.of = of
+        self.of, self.is_signal = of, is_signal
+
+
+def emission(x):
+    return x, ("or", ("load", x), ("value", True))
 
 
 # ---- the second pass
@@ -47,13 +53,24 @@ class ExtendedGrammar(ChartGrammar):
 
     def item(self):
         head, word, word_place = self.take(*ROLES, NAME)
+        if self.ahead() == NAME:
+            return self.signal(head, Draft(word_place, word))
         kind = self.take("bool", "int")[0]
         _, name, place = self.take(NAME)
         start = code = None
         if self.takes("="):
             start, code = self.place(), self.expression()
         self.take(";")
-        return Draft(place, name, head=head, word=word, word_place=word_place, kind=kind, start=start, code=code)
+        return Draft(place, name, head=head, word=word, word_place=word_place, kind=kind, start=start, code=code, signal=None)
+
+    def signal(self, head, word):
+        """A signal behind `output` or `local`, or behind its word alone."""
+        if head in ROLES:
+            _, name, place = self.take(NAME)
+            word = Draft(place, name)
+        _, name, place = self.take(NAME)
+        self.take(";")
+        return Draft(place, name, head=head if head in ROLES else "local", kind="bool", code=None, signal=word)
 
     def state(self, left):
         is_initial, is_final = bool(self.takes("initial")), bool(self.takes("final"))
@@ -85,6 +102,14 @@ class ExtendedGrammar(ChartGrammar):
             effects.append(self.effect())
         return effects
 
+    def effect(self):
+        _, name, place = self.take(NAME)
+        if self.takes("="):
+            return Draft(place, name, start=self.place(), code=self.expression(), word=None)
+        word = Draft(place, name)
+        _, name, place = self.take(NAME)
+        return Draft(place, name, start=place, word=word, code=[("load", name, place), ("value", True), ("binary", "or")])
+
     def transition(self):
         kind, _, place = self.take("go", "strong", "weak", "join")
         immediate, delay, trigger = False, None, None
@@ -93,8 +118,8 @@ class ExtendedGrammar(ChartGrammar):
             if not immediate and self.ahead() == NAME:
                 _, word, word_place = self.take(NAME)
                 delay = Draft(word_place, word, start=self.place(), code=self.expression())
-            if self.takes("if"):
-                trigger = self.place(), self.expression()
+        if self.takes("if"):
+            trigger = self.place(), self.expression()
         effects = self.effects() if self.takes("do") else []
         self.take("->")
         target = self.take(NAME)
@@ -124,6 +149,7 @@ class ExtendedRules(ChartRules):
     def __init__(self, items):
         super().__init__([(i.head if i.head in ROLES else "input", i.kind, (NAME, i.name, i.place)) for i in items])
         self.variables = {}
+        self.signals = {i.name for i in items if i.signal}
         for i in items:
             if i.head in ROLES:
                 self.variables.setdefault(i.name, i.kind)
@@ -136,7 +162,9 @@ class ExtendedRules(ChartRules):
             self.flaw(2, draft.place)
 
     def item(self, i):
-        if i.head in ROLES:
+        if i.signal:
+            self.word(i.signal, ("signal",) if i.head != "input" else ())
+        elif i.head in ROLES:
             if i.code and i.head == "input":
                 self.flaw(6, i.place)
             elif i.code and not is_literal_of(i.kind, i.code):
@@ -175,10 +203,21 @@ class ExtendedRules(ChartRules):
                 if number > 16:
                     self.flaw(7, e.place)
                 self.assignment(e.name, e.place, e.start, e.code)
+                self.emission(e)
         for t in state.transitions:
+            for e in t.effects:
+                self.emission(e)
             if t.delay:
                 self.word(t.delay, ("after",))
                 self.expression(t.delay.code, t.delay.start, "int")
+
+
+    def emission(self, e):
+        """A signal is emitted and not assigned to, and nothing else is emitted."""
+        if e.word:
+            self.word(e.word, ("emit",))
+        if bool(e.word) != (e.name in self.signals):
+            self.flaw(6, e.place)
 
 
 # ---- what a text spells that keeps the rules
@@ -208,7 +247,7 @@ def declared(items):
     places = {i.name: x for x, i in enumerate(items)}
     for i in items:
         if i.head in ROLES:
-            yield Declared(i.name, i.head, i.kind, literal_of(i.code) if i.code else None)
+            yield Declared(i.name, i.head, i.kind, literal_of(i.code) if i.code else None, is_signal=bool(i.signal))
         elif i.word == "const":
             yield Declared(i.name, "const", i.kind, literal_of(i.code))
         else:
@@ -237,6 +276,8 @@ def read_extended(text):
 # ---- the text of one
 
 def text_of_item(v, variables):
+    if v.is_signal:
+        return f"{'output ' if v.role == 'output' else ''}signal {v.name};"
     literal = str(v.initial).lower() if isinstance(v.initial, bool) else str(v.initial)
     if v.role == "pre":
         return f"pre {v.kind} {v.name} = {variables[v.of].name};"
@@ -245,7 +286,9 @@ def text_of_item(v, variables):
 
 
 def text_of_effects(effects, variables):
-    return ", ".join(f"{variables[x].name} = {text_of_expression(e, variables)}" for x, e in effects)
+    return ", ".join(
+        f"emit {variables[x].name}" if variables[x].is_signal else f"{variables[x].name} = {text_of_expression(e, variables)}"
+        for x, e in effects)
 
 
 def text_of_transition(t, states, variables):
@@ -311,6 +354,8 @@ class ExtendedMachine(ChartMachine):
         for x, v in enumerate(self.chart.variables):
             if v.role == "pre":
                 self.values[x] = were[v.of]
+            elif v.is_signal:
+                self.values[x] = False
         super().begin(inputs)
 
     def begin_in(self, r):

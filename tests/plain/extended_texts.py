@@ -3,7 +3,7 @@ import copy
 
 from chart_texts import CHART_WORDS
 from charts import Chart, states_of
-from extended import Declared, text_of_extended
+from extended import Declared, emission, text_of_extended
 from flaws import with_flaws
 from programs import VARIABLES
 from random_charts import ChartGenerator
@@ -11,7 +11,7 @@ from texts import changed, laid_out, wanted_of
 
 # ---- rows: what a text is refused with, at the place that ^ marks; or None
 
-HEAD = "extended chart P { input bool i; input int n; output int x; output bool b; local int a; const int N = 3; "
+HEAD = "extended chart P { input bool i; input int n; output int x; output bool b; local int a; signal q; const int N = 3; "
 REGION = "region R { initial state s; } "
 
 TEXTS = {
@@ -30,12 +30,20 @@ TEXTS = {
         "extended ^extended chart P { }", "extended chart P { ^}", "extended ^scl P { }", "^scl P { }", "extended chart ^chart { }",
         "^extended1 chart P { region R { initial state s; } }",
         "extended chart P { ^konst int N = 3; region R { initial state s; } }",
-        "extended chart P { const ^N = 3; region R { initial state s; } }",
+        "extended chart P { const N ^= 3; region R { initial state s; } }",
         "extended chart P { const int N = ^; region R { initial state s; } }",
-        "extended chart P { const int N 3^; }".replace("N 3^", "N ^3"), "extended chart P { ^signal int N = 3; " + REGION + "}",
+        "extended chart P { const int N 3^; }".replace("N 3^", "N ^3"), "extended chart P { ^signal int N = 3; " + REGION + "}", "extended chart P { ^signal bool q; " + REGION + "}",
+        "extended chart P { ^signals q; " + REGION + "}", "extended chart P { output ^signals q; " + REGION + "}",
+        "extended chart P { input ^signal q; " + REGION + "}", "extended chart P { signal q ^= true; " + REGION + "}",
+        "extended chart P { local signal ^; " + REGION + "}", "extended chart P { signal ^; " + REGION + "}", "extended chart P { output x^; }".replace("x^;", "x ^;"),
+        "extended chart P { ^const signal; " + REGION + "}", "extended chart P { signal signal ^signal; " + REGION + "}",
+        "extended chart P { local ^pre p; " + REGION + "}", "extended chart P { local signal int ^; }".replace("int ^", "^int"),
         "extended chart P { const int N = 3 ^region R { } }", "extended chart P { output int x == 3; }".replace("==", "^=="),
         "extended chart P { " + REGION + "^const int N = 3; }", "extended chart P { ^Const int N = 3; " + REGION + "}",
-        HEAD + "region R { initial state s { ^enter do x = 1; } } }", HEAD + "region R { initial state s { entry ^x = 1; } } }",
+        HEAD + "region R { initial state s { ^enter do x = 1; } } }", HEAD + "region R { initial state s { entry do ^emits q; } } }", HEAD + "region R { initial state s { entry do emit q ^= true; } } }",
+        HEAD + "region R { initial state s { exit do emit ^; } } }", HEAD + "region R { initial state s { exit do ^x y; } } }",
+        HEAD + "region R { initial state s { entry do emit q^ q; } } }".replace("q^ q", "q ^q"),
+        HEAD + "region R { initial state s { entry ^x = 1; } } }",
         HEAD + "region R { initial state s { entry do x = 1 ^} } }", HEAD + "region R { initial state s { entry do ^; } } }",
         HEAD + "region R { initial state s { entry do x = 1, ^; } } }", HEAD + "region R { initial state s { ^during do x = 1; } } }",
         HEAD + "region R { initial state s { go -> s; ^entry do x = 1; } } }",
@@ -51,7 +59,7 @@ TEXTS = {
     ],
     "E04": [
         HEAD + "const int ^N = 4; " + REGION + "}", HEAD + "const int ^x = 4; " + REGION + "}", HEAD + "pre int ^N = x; " + REGION + "}",
-        HEAD + "local int ^N; " + REGION + "}",
+        HEAD + "local int ^N; " + REGION + "}", HEAD + "signal ^x; " + REGION + "}", HEAD + "output int ^q; " + REGION + "}",
     ],
     "E05": [
         "extended chart P { const int N = ^true; " + REGION + "}", "extended chart P { const bool N = ^1; " + REGION + "}",
@@ -63,8 +71,14 @@ TEXTS = {
         HEAD + "pre int p = ^3; " + REGION + "}", HEAD + "pre int p = ^-x; " + REGION + "}", HEAD + "pre int p = ^y + 1; " + REGION + "}",
         HEAD + "const int M = ^1" + " + 1" * 40 + "; " + REGION + "}",
         HEAD + "region R { initial state s { entry do x = ^i; } } }", HEAD + "region R { initial state s { exit do b = ^x; } } }",
+        HEAD + "region R { initial state s { exit do emit ^x; } } }", HEAD + "region R { initial state s { go do x = 1, emit ^N -> s; } } }",
+        HEAD + "pre int p = ^q; " + REGION + "}",
     ],
     "E06": [
+        HEAD + "region R { initial state s { entry do ^q = true; } } }", HEAD + "region R { initial state s { entry do ^q = q or true; } } }",
+        HEAD + "region R { initial state s { exit do emit ^b; } } }", HEAD + "region R { initial state s { go do emit ^i -> s; } } }",
+        HEAD + "const bool T = true; region R { initial state s { go do emit ^T -> s; } } }",
+        HEAD + "pre bool p = q; region R { initial state s { go do emit q, emit ^p -> s; } } }",
         "extended chart P { input int ^n = 3; " + REGION + "}", "extended chart P { input int ^n = true; " + REGION + "}",
         "extended chart P { const int ^N; " + REGION + "}", HEAD + "pre int ^p; " + REGION + "}",
         HEAD + "region R { initial state s { entry do ^n = 1; } } }", HEAD + "region R { initial state s { entry do ^N = 1; } } }",
@@ -78,6 +92,10 @@ TEXTS = {
         HEAD + "region R { initial state s { exit do x = ^1" + " + 1" * 32 + "; } } }",
     ],
     None: [
+        "extended chart P { signal signal; output signal emit; local signal emit1; pre bool was = emit; region R { initial state s { entry do "
+        "emit emit, emit signal; exit do emit signal; go if emit and was do emit emit1 -> s; } } }",
+        "extended chart emit { local bool emit; local int signal; region signal { initial state emit { go do emit = emit or true, "
+        "signal = 1 -> emit; } } }",
         HEAD + REGION + "}", "extended chart extended { output int const; local bool entry; region after { initial state exit; } }",
         "extended chart P { const int const = 3; output int pre = -3; pre int after = pre; region R { initial state s { "
         "go after const + after if pre < const -> s; } } }",
@@ -98,13 +116,31 @@ SIMPLE = {
         "go immediate ^after 3 -> t;", "go after 3 ^immediate -> t;", "go ^before 3 -> t;", "go after ^-> t;", "go after ^if i -> t;",
         "go ^After 3 -> t;", "go after 3 ^after 3 -> t;", "go if i ^after 3 -> t;", "go after 3 ^do -> t;".replace("^do ->", "do ^->"),
         "join ^after 3 -> t;", "go ^after -> t;".replace("^after ->", "after ^->"), "go after 3 ^x = 1 -> t;", "go ^x 3 -> t;",
-        "join ^if i -> t;", "join ^immediate -> t;",
+        "join if ^-> t;", "join ^immediate -> t;", "join if i ^after 3 -> t;", "join do x = 1 ^if i -> t;", "join ^when i -> t;",
+        "go do ^emits q -> t;", "go do x = 1, ^emits q -> t;", "go do emit ^-> t;", "go do emit q ^= true -> t;", "go do ^emitted y -> t;",
     ],
-    "E03": ["go after ^M -> t;", "go after N + ^M if i -> t;", "go after N if ^y -> t;", "go after ^s -> t;", "go after N -> ^u;"],
+    "E03": ["go after ^M -> t;", "go after N + ^M if i -> t;", "go after N if ^y -> t;", "go after ^s -> t;", "go after N -> ^u;",
+            "go do emit ^y -> t;", "go do emit ^s -> t;", "go do emit ^emit -> t;"],
     "E05": ["go after ^true -> t;", "go after ^i -> t;", "go after ^n == 3 if i -> t;", "go after N if ^n -> t;", "go after ^(i) -> t;"],
-    "E06": ["^strong after 3 -> t;", "^weak after N -> t;", "go after N do ^n = 1 -> t;"],
+    "E06": ["^strong after 3 -> t;", "^weak after N -> t;", "go after N do ^n = 1 -> t;", "^join if i -> t;",
+            "go do ^q = false -> t;", "go do emit q, ^q = q -> t;", "go do emit ^i -> t;", "go do emit ^b -> t;"],
     "E07": ["go after ^a" + " + a" * 16 + " -> t;", "go after ^1" + " + 1" * 32 + " -> t;"],
 }
+
+
+# transitions of a superstate s, beside a state t
+SUPER = {
+    "E02": ["join if b ^-> -> t;".replace("^-> ->", "-> ^->"), "join if ^do x = 1 -> t;", "join ^if1 b -> t;"],
+    "E03": ["join if ^y -> t;", "join if b and ^M == 3 -> t;", "join if b do emit ^y -> t;", "join if b -> ^u;", "join if ^s do x = 1 -> t;"],
+    "E05": ["join if ^x -> t;", "join if ^N + 1 -> t;", "join if b do x = ^b -> t;", "join if ^(1) -> t;"],
+    "E06": ["join if b -> t; ^join if q -> t;", "join -> t; ^join if q -> t;", "join if q do ^q = true -> t;"],
+    "E07": ["join if ^b" + " and b" * 16 + " -> t;"],
+    None: ["join if q and N == 3 do emit q, x = 1 -> s;", "weak if b -> t; join if not b -> t; strong after 3 -> t;", "join if b -> t;"],
+}
+
+
+def of_super(text):
+    return f"{HEAD}region R {{ initial state s {{ region Q {{ initial final state u; }} {text} }} state t; }} }}"
 
 
 def of_simple(text):
@@ -133,7 +169,7 @@ def limits():
 
 def all_rows():
     """Each row as its bytes and its fault with the place, or None."""
-    for rows, whole in (TEXTS, lambda text: text), (SIMPLE, of_simple):
+    for rows, whole in (TEXTS, lambda text: text), (SIMPLE, of_simple), (SUPER, of_super):
         for fault, texts in rows.items():
             yield from (wanted_of(fault, whole(text)) for text in texts)
     yield from (wanted_of(fault, text) for fault, text in limits())
@@ -144,6 +180,7 @@ def all_rows():
 # ---- random charts
 
 CONSTANTS = [Declared("N", "const", "int", 2), Declared("M", "const", "int", -3), Declared("T", "const", "bool", True)]
+SIGNALS = [Declared("sig", "local", "bool", is_signal=True), Declared("seen", "output", "bool", is_signal=True)]
 PLAIN, TOLD_BY = len(VARIABLES), 3
 
 
@@ -154,9 +191,11 @@ class ExtendedGenerator(ChartGenerator):
         super().__init__(seed, size, False)
         r = self.random
         was = [Declared(f"was_{VARIABLES[x].name}", "pre", VARIABLES[x].kind, of=x) for x in r.sample(range(PLAIN), r.choice([0, 1, 2, 3]))]
-        self.items = [Declared(v.name, v.role, v.kind, self.initial(v)) for v in VARIABLES] + CONSTANTS + was
+        self.items = [Declared(v.name, v.role, v.kind, self.initial(v)) for v in VARIABLES] + CONSTANTS + SIGNALS + was
+        self.signals = [PLAIN + len(CONSTANTS) + x for x in range(len(SIGNALS))]
         # how often each of what is new stands where it may, and whether each region stands alone: in such a chart nothing clashes
-        self.share = {word: r.choice([0, 0.2, 0.7]) for word in ("new", "after", "entry", "exit")}
+        self.share = {word: r.choice([0, 0.2, 0.7]) for word in ("new", "after", "entry", "exit", "emit", "hold")}
+        self.share["signal"] = r.choice([0, 0, 0.1, 0.3])
         self.is_alone = r.random() < 0.5
         self.super_chances = (0.7, 0.5) if self.is_alone else self.super_chances
 
@@ -167,12 +206,16 @@ class ExtendedGenerator(ChartGenerator):
         return r.random() < 0.7 if v.kind == "bool" else r.choice([1, 3, -7, 2147483647])
 
     def loaded(self, kind):
-        # nobody writes what is new, so it is in nobody's way
-        new = [x for x, v in enumerate(self.items) if x >= PLAIN and v.kind == kind]
+        if kind == "bool" and self.random.random() < self.share["signal"]:
+            return self.random.choice(self.signals)
+        # nobody writes what else is new, so it is in nobody's way
+        new = [x for x, v in enumerate(self.items) if x >= PLAIN and v.kind == kind and not v.is_signal]
         return self.random.choice(new) if new and self.random.random() < self.share["new"] else super().loaded(kind)
 
     def effect(self):
         r = self.random
+        if r.random() < self.share["emit"]:
+            return emission(r.choice(self.signals))
         if self.is_alone and r.random() < 0.7:
             # by such effects a variable tells all of them, in their order
             return TOLD_BY, ("add", ("multiply", ("load", TOLD_BY), ("value", 3)), ("value", r.randrange(100)))
@@ -187,6 +230,8 @@ class ExtendedGenerator(ChartGenerator):
         r = self.random
         made = super().transition(kind, at, states)
         made.delay = None
+        if kind == "join" and r.random() < self.share["hold"]:
+            made.trigger = self.trigger()
         if kind != "join" and not made.immediate and r.random() < self.share["after"]:
             made.delay = r.choice([("value", 1), ("value", 2), ("value", 3), ("load", PLAIN), ("add", ("load", PLAIN), ("value", 1)), ("load", 2)])
             made.trigger = made.trigger if r.random() < 0.3 else None
@@ -219,7 +264,8 @@ def by_inputs(chart):
     return made
 
 
-WORDS = CHART_WORDS + "extended chart const pre entry exit after do = ; N M T was_x const int pre bool entry do a__b x__ after 3".split()
+WORDS = CHART_WORDS + ("extended chart const pre entry exit after signal emit do = ; N M T sig seen was_x const int pre bool signal s; entry do "
+                       "emit sig a__b x__ after 3").split()
 
 
 def damaged_texts(seed, r):
