@@ -29,7 +29,7 @@ use Rattle.drafts.specs.Parts.{or_none, expressed, declared_as}
 use Rattle.chart_drafts.specs.ChartText.{Grows, the_word, the_sign, roles, declared_role, declared_kind, last_name, name, declaration, flag, placed, effect}
 use Rattle.chart_drafts.specs.ChartText.{next_effect, some_effects, effects, trigger, deed, moment, termination, tested_words, tested, transition_first}
 use Rattle.chart_drafts.specs.ChartText.{transition}
-use Rattle.chart_drafts.specs.Inside.{IsGoing}
+use Rattle.chart_drafts.specs.PartsRead.{IsGoing}
 use Rattle.chart_drafts.specs.Phrase.{Gives}
 use Rattle.chart_drafts.proofs.Shapes.{declaration_is, next_effect_is, termination_is, transition_is}
 use Rattle.chart_drafts.proofs.Parts.{seq_gives, made_gives, made_stops, after_gives, after_stops_second, maybe_none, maybe_some, maybe_stops, left_read}

@@ -11,7 +11,7 @@ use Rattle.sc_text.specs.Expression.{text_tokens}
 use Rattle.sc_text.specs.Reading.{Stops}
 use Rattle.sc_text.proofs.Steps.{next_stops, stops_as}
 use Rattle.chart_drafts.specs.ChartText.{Grows, listed}
-use Rattle.chart_drafts.specs.Inside.{IsGoing}
+use Rattle.chart_drafts.specs.PartsRead.{IsGoing}
 use Rattle.chart_drafts.specs.Phrase.{Gives}
 
 abbrev paired : {A B : Type 0} → A → B → A × B

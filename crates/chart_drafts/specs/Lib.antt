@@ -1,7 +1,7 @@
 pub mod Draft
 pub mod ChartText
 pub mod Flaws
-pub mod Inside
+pub mod PartsRead
 pub mod Phrase
 pub mod Laws
 pub mod Reading

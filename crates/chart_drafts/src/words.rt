@@ -9,7 +9,7 @@ ghost use Rattle.chart_drafts.specs.Draft.{tested_by};
 ghost use Rattle.drafts.specs.Parts.{role_of, kind_of};
 ghost use Rattle.chart_drafts.specs.ChartText.{the_word, roles, kinds, tested_words, name, last_name, declared_role};
 ghost use Rattle.chart_drafts.specs.ChartText.{declared_kind, moment, flag};
-ghost use Rattle.chart_drafts.specs.Inside.{IsNameOf};
+ghost use Rattle.chart_drafts.specs.PartsRead.{IsNameOf};
 ghost use Rattle.chart_drafts.specs.Phrase.{Gives};
 
 use crate::ahead::{Ahead, skip_sign, skip_word};

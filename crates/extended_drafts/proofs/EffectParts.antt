@@ -16,7 +16,7 @@ use Rattle.drafts.specs.declared.parts.TextExpression.{TextExpression}
 use Rattle.drafts.specs.Parts.{or_none}
 use Rattle.chart_drafts.specs.declared.draft.DraftEffect.{DraftEffect}
 use Rattle.chart_drafts.specs.ChartText.{Grows, the_word, the_sign, name, placed}
-use Rattle.chart_drafts.specs.Inside.{IsGoing}
+use Rattle.chart_drafts.specs.PartsRead.{IsGoing}
 use Rattle.chart_drafts.specs.Phrase.{Gives}
 use Rattle.chart_drafts.proofs.Parts.{seq_gives, made_gives, made_stops, after_gives, after_stops_second, maybe_none, maybe_some, maybe_stops, left_read}
 use Rattle.chart_drafts.proofs.Parts.{right_read, gives_as}

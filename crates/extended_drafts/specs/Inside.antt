@@ -4,7 +4,7 @@ use Rattle.grammar.specs.Read.{Outcome}
 use Rattle.sc_text.specs.declared.token.Token.{Token}
 use Rattle.sc_text.specs.Classes.{Class}
 use Rattle.chart_drafts.specs.ChartText.{Grows}
-use Rattle.chart_drafts.specs.Inside.{IsGoing}
+use Rattle.chart_drafts.specs.PartsRead.{IsGoing}
 
 -- some phrases of a row were read, of which this is made; so many more may follow, each beginning with a token of these
 -- classes

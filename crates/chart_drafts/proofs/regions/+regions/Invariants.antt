@@ -3,7 +3,7 @@ use Rattle.grammar.specs.Read.{read}
 use Rattle.sc_text.specs.declared.word.Word.TheVariants as word
 use Rattle.sc_text.specs.Expression.{expression}
 use Rattle.chart_drafts.specs.ChartText.{the_word, listed, state_first, state, states, region, within}
-use Rattle.chart_drafts.specs.Inside.{IsGoing}
+use Rattle.chart_drafts.specs.PartsRead.{IsGoing}
 use Rattle.chart_drafts.proofs.regions.+regions.Given as goal
 
 abbrev pub decreases-regions : goal.decreases-regions

@@ -2,7 +2,7 @@ use Rattle.std.proofs.Common.{◌-◌}
 use Rattle.grammar.specs.Grammar.{many}
 use Rattle.grammar.specs.Read.{read}
 use Rattle.chart_drafts.specs.ChartText.{roles, declaration}
-use Rattle.chart_drafts.specs.Inside.{IsGoing}
+use Rattle.chart_drafts.specs.PartsRead.{IsGoing}
 use Rattle.chart_drafts.proofs.transitions.declarations.Given as goal
 
 abbrev pub invariant-loop-used : goal.invariant-loop-used

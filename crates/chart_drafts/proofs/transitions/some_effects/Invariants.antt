@@ -3,7 +3,7 @@ use Rattle.grammar.specs.Read.{read}
 use Rattle.sc_text.specs.declared.sign.Sign.TheVariants as sign
 use Rattle.sc_text.specs.Expression.{expression}
 use Rattle.chart_drafts.specs.ChartText.{the_sign, next_effect, some_effects}
-use Rattle.chart_drafts.specs.Inside.{IsGoing}
+use Rattle.chart_drafts.specs.PartsRead.{IsGoing}
 use Rattle.chart_drafts.proofs.transitions.some_effects.Given as goal
 
 abbrev pub invariant-loop-used : goal.invariant-loop-used

@@ -3,7 +3,7 @@ use Rattle.grammar.specs.Grammar.{many}
 use Rattle.grammar.specs.Read.{read}
 use Rattle.sc_text.specs.Expression.{expression}
 use Rattle.chart_drafts.specs.ChartText.{transition_first, transition}
-use Rattle.chart_drafts.specs.Inside.{IsGoing}
+use Rattle.chart_drafts.specs.PartsRead.{IsGoing}
 use Rattle.chart_drafts.proofs.transitions.transitions.Given as goal
 
 abbrev pub invariant-loop-used : goal.invariant-loop-used

@@ -4,7 +4,7 @@ use Rattle.sc_text.specs.declared.sign.Sign.TheVariants as sign
 use Rattle.sc_text.specs.Expression.{expression}
 use Rattle.chart_drafts.specs.ChartText.{the_sign}
 use Rattle.extended_drafts.specs.ExtendedText.{next_effect, some_effects}
-use Rattle.chart_drafts.specs.Inside.{IsGoing}
+use Rattle.chart_drafts.specs.PartsRead.{IsGoing}
 use Rattle.extended_drafts.proofs.effects.some_effects.Given as goal
 
 abbrev pub invariant-loop-used : goal.invariant-loop-used

@@ -3,7 +3,7 @@ use Rattle.grammar.specs.Grammar.{many}
 use Rattle.grammar.specs.Read.{read}
 use Rattle.sc_text.specs.Classes.{AName}
 use Rattle.sc_text.specs.Expression.{expression}
-use Rattle.chart_drafts.specs.Inside.{IsGoing}
+use Rattle.chart_drafts.specs.PartsRead.{IsGoing}
 use Rattle.extended_drafts.specs.ExtendedText.{entry}
 use Rattle.extended_drafts.proofs.entries.entries.Given as goal
 

@@ -2,7 +2,7 @@ use Rattle.std.proofs.Common.{◌-◌}
 use Rattle.grammar.specs.Grammar.{many}
 use Rattle.grammar.specs.Read.{read}
 use Rattle.sc_text.specs.Expression.{expression}
-use Rattle.chart_drafts.specs.Inside.{IsGoing}
+use Rattle.chart_drafts.specs.PartsRead.{IsGoing}
 use Rattle.extended_drafts.specs.ExtendedText.{item_first, item}
 use Rattle.extended_drafts.proofs.items.items.Given as goal
 

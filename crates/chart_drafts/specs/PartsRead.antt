@@ -1,4 +1,4 @@
--- What private functions alone say of themselves. It is proved, and no public contract rests on what it means.
+-- What it is to have read some phrases of a row, or a name.
 use Rattle.std.specs.Prelude.{ℕ, ◌≡◌, IsTrue, List, ◌++◌}
 use Rattle.grammar.specs.Predictive.{first}
 use Rattle.grammar.specs.Read.{Outcome, Got, next, starts, read, read_each}
