@@ -194,7 +194,7 @@ fn reduce_command<'a>(alloc: Global) -> Result<Command<'a>, AllocError> {
         alloc,
         "reduce",
         "Prints the chart to which an extended chart is reduced",
-        "Example:\n  sct reduce examples/oven.extended > oven.chart",
+        "Example:\n  sct reduce examples/extended/oven.extended > oven.chart",
         file_name(
             alloc,
             "file",
