@@ -1,0 +1,14 @@
+use Rattle.std.proofs.Common.{sym}
+use Rattle.extended_sources.proofs.FirstWord.{blank_first, comment_first, neither}
+use Rattle.extended_sources.proofs.first_word.passed.Goals as goal
+
+pub returns-then-is_blank : goal.returns-then-is_blank
+returns-then-is_blank c = blank_first c.args.text.now c.requires (sym c.if-is_blank.ensures)
+
+pub returns-then-starts_comment : goal.returns-then-starts_comment
+returns-then-starts_comment c =
+    comment_first c.args.text.now c.line_length.result (c.starts_comment.ensures.0 c.if-starts_comment.true) c.line_length.ensures
+
+pub returns : goal.returns
+returns c =
+    neither c.args.text.now (sym c.if-is_blank.ensures) (λ h. let t = c.starts_comment.ensures.1 h in let f = c.if-starts_comment.false in cc)

@@ -1,0 +1,90 @@
+//! What bytes stand for that may be the text of an extended chart.
+
+ghost use Rattle.std.specs.Prelude.{◌≡◌, IfErr, IfOk, string_bytes};
+ghost use Rattle.std.specs.Str.{IsUtf8};
+ghost use Rattle.extended_reader.specs.Read.{IsRead};
+ghost use Rattle.extended_sources.specs.Sources.{HasReduced, LacksReduced, SaysOfBytes, SpellsNoExtended, StandsFor};
+ghost use Rattle.extended_sources.specs.declared.sources.Unreduced.TheVariants.{Memory};
+
+use crate::first_word::begins_extended;
+use extended_charts::ExtendedChart;
+use extended_reader::read_extended;
+use reduced_texts::reduced_text;
+use sc_text::{FaultKind, ReadFault};
+use std::alloc::{AllocError, Global};
+use std::str;
+
+/// Why bytes have no text of a reduced chart.
+#[derive(Clone, Copy, Debug, PartialEq, Eq)]
+pub enum Unreduced {
+    /// They are no text that spells an extended chart, or memory was refused.
+    Text(ReadFault),
+    /// What the extended chart is reduced to passes a limit of charts.
+    Limit,
+    /// Memory was refused.
+    Memory,
+}
+
+impl From<AllocError> for Unreduced {
+    ghost from_gives = { λ _ e. e ≡ Memory };
+
+    fn from(_error: AllocError) -> Unreduced {
+        Unreduced::Memory
+    }
+}
+
+// The extended chart that these bytes spell as text. Err: they spell none.
+fn extended_in(alloc: Global, bytes: &[u8]) -> Result<ExtendedChart, ReadFault>
+    ensures text { IfOk result (λ _. IsUtf8 bytes.now) }
+    ensures read { IfOk result (IsRead bytes.now) }
+    ensures fault { IfErr result (SpellsNoExtended bytes.now) }
+{
+    match str::from_utf8(bytes) {
+        Ok(text) => read_extended(alloc, text),
+        Err(_) => Err(ReadFault::Text(FaultKind::Token, 0)),
+    }
+}
+
+/// The text of the chart to which the extended chart is reduced that these bytes spell as text. Err: they spell none,
+/// or one that has no such text; or memory was refused.
+pub fn reduced_of(alloc: Global, bytes: &[u8]) -> Result<String, Unreduced>
+    ensures text { IfOk result (λ text. HasReduced bytes.now (string_bytes text)) }
+    ensures fault { IfErr result (LacksReduced bytes.now) }
+{
+    let chart = match extended_in(alloc, bytes) {
+        Ok(chart) => chart,
+        Err(fault) => return Err(Unreduced::Text(fault)),
+    };
+    match reduced_text(alloc, &chart)? {
+        Some(text) => Ok(text),
+        None => Err(Unreduced::Limit),
+    }
+}
+
+// Why bytes have none. Err: the reason is that memory was refused.
+fn said(why: Unreduced) -> Result<(), AllocError>
+    ensures { IfOk result (λ _. SaysOfBytes why) }
+{
+    match why {
+        Unreduced::Memory | Unreduced::Text(ReadFault::Memory) => Err(AllocError),
+        _ => Ok(()),
+    }
+}
+
+/// What these bytes stand for: where they begin as the text of an extended chart, and spell one that has a reduced
+/// text, that text, and else themselves. Err: memory was refused.
+#[tactic(auto, using(crate::proofs::Standing::reduced_stand, crate::proofs::Standing::alone_stand, crate::proofs::Standing::others_stand))]
+pub fn stands_for(alloc: Global, bytes: Vec<u8>) -> Result<Vec<u8>, AllocError>
+    ensures { IfOk result (λ text. StandsFor bytes.items text.items) }
+{
+    if !begins_extended(&bytes) {
+        return Ok(bytes);
+    }
+    match reduced_of(alloc, &bytes) {
+        Ok(text) => Ok(text.into_bytes()),
+        Err(why) => {
+            said(why)?;
+            Ok(bytes)
+        }
+    }
+}
