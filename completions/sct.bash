@@ -23,12 +23,12 @@ _sct() {
   fi
   local ending='*.image'
   case $command in
-    compile | scl | explain | dot | test | simulate) ending='*.@(chart|scl)' ;;
-    core) ending='*.chart' ;;
+    compile | scl | explain | dot | test | simulate) ending='*.@(chart|extended|scl)' ;;
+    core) ending='*.@(chart|extended)' ;;
     reduce) ending='*.extended' ;;
   esac
-  [[ $before == --source ]] && ending='*.@(chart|scl)'
-  [[ $before == --chart ]] && ending='*.chart'
+  [[ $before == --source ]] && ending='*.@(chart|extended|scl)'
+  [[ $before == --chart ]] && ending='*.@(chart|extended)'
   [[ $before == --from || $before == --save ]] && ending='*'
   [[ $command == compile && $COMP_CWORD -gt 2 ]] && ending='*.image'
   mapfile -t COMPREPLY < <(shopt -s extglob; compgen -f -X "!$ending" -- "$word"; compgen -d -- "$word")
