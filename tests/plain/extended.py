@@ -15,6 +15,8 @@ from reader import END, NAME, NESTED, Fault, is_utf8, tell_first, tree_of
 ROLES = ("input", "output", "local")
 # what a word among the variables has to be, and one among the actions
 ITEM_WORDS, ACTION_WORDS = ("const", "pre"), ("entry", "exit")
+# what `x += e` does, and its like
+COMBINED = {"+": "add", "-": "subtract", "*": "multiply"}
 
 
 class Declared(Variable):
@@ -105,10 +107,16 @@ class ExtendedGrammar(ChartGrammar):
     def effect(self):
         _, name, place = self.take(NAME)
         if self.takes("="):
-            return Draft(place, name, start=self.place(), code=self.expression(), word=None)
+            return Draft(place, name, start=self.place(), code=self.expression(), word=None, is_parted=False)
+        sign = self.takes(*COMBINED)
+        if sign:
+            equals = self.take("=")[2]
+            code = [("load", name, sign[2]), *self.expression(), ("binary", COMBINED[sign[0]])]
+            return Draft(place, name, start=equals, code=code, word=None, is_parted=equals != sign[2] + 1)
         word = Draft(place, name)
         _, name, place = self.take(NAME)
-        return Draft(place, name, start=place, word=word, code=[("load", name, place), ("value", True), ("binary", "or")])
+        code = [("load", name, place), ("value", True), ("binary", "or")]
+        return Draft(place, name, start=place, word=word, code=code, is_parted=False)
 
     def transition(self):
         kind, _, place = self.take("go", "strong", "weak", "join")
@@ -213,9 +221,11 @@ class ExtendedRules(ChartRules):
 
 
     def emission(self, e):
-        """A signal is emitted and not assigned to, and nothing else is emitted."""
+        """A signal is emitted and not assigned to, and nothing else is emitted. An operator and its `=` stand side by side."""
         if e.word:
             self.word(e.word, ("emit",))
+        if e.is_parted:
+            self.flaw(2, e.start)
         if bool(e.word) != (e.name in self.signals):
             self.flaw(6, e.place)
 

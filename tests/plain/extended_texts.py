@@ -118,13 +118,17 @@ SIMPLE = {
         "join ^after 3 -> t;", "go ^after -> t;".replace("^after ->", "after ^->"), "go after 3 ^x = 1 -> t;", "go ^x 3 -> t;",
         "join if ^-> t;", "join ^immediate -> t;", "join if i ^after 3 -> t;", "join do x = 1 ^if i -> t;", "join ^when i -> t;",
         "go do ^emits q -> t;", "go do x = 1, ^emits q -> t;", "go do emit ^-> t;", "go do emit q ^= true -> t;", "go do ^emitted y -> t;",
+        "go do x + ^= 1 -> t;", "go do x +\n^= 1 -> t;", "go do x + ^1 -> t;", "go do x +^== 1 -> t;", "go do x ^/= 2 -> t;", "go do x ^%= 2 -> t;",
+        "go do x += ^-> t;", "go do x ^-> t;", "go do emit q ^+= 1 -> t;", "go do x ^<= 1 -> t;", "go do x ^or= b -> t;", "go do x = ^+= 1 -> t;",
+        "go do x -^- = 1 -> t;", "go do x = 1, x * ^= x -> t;",
     ],
-    "E03": ["go after ^M -> t;", "go after N + ^M if i -> t;", "go after N if ^y -> t;", "go after ^s -> t;", "go after N -> ^u;",
+    "E03": ["go do ^y += 1 -> t;", "go do x -= ^y -> t;", "go do ^y + = 1 -> t;", "go after ^M -> t;", "go after N + ^M if i -> t;", "go after N if ^y -> t;", "go after ^s -> t;", "go after N -> ^u;",
             "go do emit ^y -> t;", "go do emit ^s -> t;", "go do emit ^emit -> t;"],
-    "E05": ["go after ^true -> t;", "go after ^i -> t;", "go after ^n == 3 if i -> t;", "go after N if ^n -> t;", "go after ^(i) -> t;"],
-    "E06": ["^strong after 3 -> t;", "^weak after N -> t;", "go after N do ^n = 1 -> t;", "^join if i -> t;",
+    "E05": ["go do x +^= b -> t;", "go do b *^= 2 -> t;", "go do b -^= b -> t;", "go do x +^=(1 < 2) -> t;", "go after ^true -> t;", "go after ^i -> t;", "go after ^n == 3 if i -> t;", "go after N if ^n -> t;", "go after ^(i) -> t;"],
+    "E06": ["go do ^n += 1 -> t;", "go do ^N *= 2 -> t;", "go do ^q += 1 -> t;", "go do ^n + = 1 -> t;", "^strong after 3 -> t;", "^weak after N -> t;", "go after N do ^n = 1 -> t;", "^join if i -> t;",
             "go do ^q = false -> t;", "go do emit q, ^q = q -> t;", "go do emit ^i -> t;", "go do emit ^b -> t;"],
-    "E07": ["go after ^a" + " + a" * 16 + " -> t;", "go after ^1" + " + 1" * 32 + " -> t;"],
+    "E07": ["go do x +^= 1" + " + 1" * 31 + " -> t;", "go do x +^= a" + " + a" * 15 + " -> t;", "go after ^a" + " + a" * 16 + " -> t;", "go after ^1" + " + 1" * 32 + " -> t;"],
+    None: ["go do x += 1, x-=n * 2, x *= -3, a +=x -> t;", "go do x += 1" + " + 1" * 30 + " -> t;", "go do x -= -1, x -= (2 - n) -> t;"],
 }
 
 

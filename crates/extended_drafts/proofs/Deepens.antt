@@ -21,7 +21,8 @@ use Rattle.extended_drafts.specs.declared.draft.Rows.{Rows}
 use Rattle.extended_drafts.specs.declared.draft.StateBody.{StateBody}
 use Rattle.extended_drafts.specs.declared.draft.ExtendedDraft.{ExtendedDraft}
 use Rattle.extended_drafts.specs.ExtendedText.{item_value, last_value, typed, signalled, bare_signal, plain_body, worded_body, plain, worded, item}
-use Rattle.extended_drafts.specs.ExtendedText.{becoming, emitting, effect_end, effect, next_effect, some_effects, effects, deed, last_effects, entry}
+use Rattle.extended_drafts.specs.ExtendedText.{combining, combined, becoming, emitting, effect_end, effect, next_effect, some_effects, effects, deed}
+use Rattle.extended_drafts.specs.ExtendedText.{last_effects, entry}
 use Rattle.extended_drafts.specs.ExtendedText.{some_delay, at_once, waiting, pause, tested, termination}
 use Rattle.extended_drafts.specs.ExtendedText.{transition, transitions, leaving, Inner, NoMore, Nested, rowed, bare, nested, inside, acting, body, state}
 use Rattle.extended_drafts.specs.ExtendedText.{region, within, parts, extended, extended_text}
@@ -58,13 +59,18 @@ module _ (e e' : Grows Phrase) (w : Deeper Phrase e e') where
       (deeper_seq _ _ _ _ _ _ name_same (deeper_either _ _ _ _ _ (deeper_made _ _ _ _ _ last_name_same) typed_wider)))
 
   effect_wider : Deeper DraftEffect (effect e) (effect e')
-  unfolding effect effect_end becoming emitting
+  unfolding effect effect_end becoming combined combining emitting
   effect_wider =
       deeper_made _ _ _ _ _
       (deeper_seq _ _ _ _ _ _ name_same
       (deeper_either _ _ _ _ _
       (deeper_made _ _ _ _ _ (deeper_made _ _ _ _ _ (deeper_seq _ _ _ _ _ _ (same_one _) (placed_wider e e' w))))
-      (deeper_made _ _ _ _ _ name_same)))
+      (deeper_either _ _ _ _ _
+      (deeper_made _ _ _ _ _
+      (deeper_made _ _ _ _ _
+      (deeper_seq _ _ _ _ _ _ (deeper_made _ _ _ _ _ (same_one _))
+      (deeper_seq _ _ _ _ _ _ (deeper_made _ _ _ _ _ (same_one _)) (placed_wider e e' w)))))
+      (deeper_made _ _ _ _ _ name_same))))
 
   some_effects_wider : Deeper (List DraftEffect) (some_effects e) (some_effects e')
   unfolding some_effects next_effect

@@ -1,8 +1,12 @@
 -- What the grammar of extended charts gives of each draft.
-use Rattle.std.proofs.Common.{◌≡◌, ◌≢◌, ℕ, zero, suc, ◌+◌, Bool, List, [], ◌∷◌, ◌++◌, Option, Some, None, length, map, refl, sym, ◌∙◌, ap}
+use Rattle.std.proofs.Common.{◌≡◌, ◌≢◌, ℕ, zero, suc, ◌+◌, Bool, ◌&&◌, List, [], ◌∷◌, ◌++◌, Option, Some, None, length, map, refl, sym, ◌∙◌, ap}
+use Rattle.std.specs.List.{list_all}
 use Rattle.std.proofs.lemmas.List.{length-append}
+use Rattle.std.proofs.lemmas.List.Folds.{list_all-append}
 use Rattle.grammar.proofs.Each.{Every, OfIt, every_at, every_map, each_seq, each_either, each_maybe, each_many, each_made, each_headed, each_barred, each_as}
 use Rattle.sc_text.specs.declared.language.Language.TheVariants as language
+use Rattle.sc_text.specs.declared.operation.TextOperation.TheVariants as text
+use Rattle.sc_text.specs.Writable.{is_writable_operation}
 use Rattle.sc_text.specs.Phrases.{Phrase}
 use Rattle.sc_text.specs.Expression.{expression}
 use Rattle.sc_text.proofs.WellTokens.{tokens_well}
@@ -31,7 +35,8 @@ use Rattle.extended_drafts.specs.declared.draft.EffectEnd.TheVariants as ends
 use Rattle.extended_drafts.specs.Draft.{typed_body, signal_body, plain_item, worded_with, worded_item, effect_with, ended, all_rows, gathered, parted, body_of}
 use Rattle.extended_drafts.specs.Draft.{state_with, region_with, draft_of}
 use Rattle.extended_drafts.specs.ExtendedText.{typed, signalled, bare_signal, plain_body, worded_body, plain, worded, item, to_value, to_name}
-use Rattle.extended_drafts.specs.ExtendedText.{becoming, emitting, effect_end, effect, next_effect, some_effects, effects, deed, termination, tested}
+use Rattle.extended_drafts.specs.ExtendedText.{combining, to_combination, combined, becoming, emitting, effect_end, effect, next_effect, some_effects}
+use Rattle.extended_drafts.specs.ExtendedText.{effects, deed, termination, tested}
 use Rattle.extended_drafts.specs.ExtendedText.{transition, transitions, leaving, Inner, NoMore, Nested, rowed, bare, nested, inside}
 use Rattle.extended_drafts.specs.ExtendedText.{acting, body, state, region, within, parts, extended, extended_text}
 use Rattle.extended_drafts.specs.Reading.{IsExtendedDraft}
@@ -80,10 +85,16 @@ module _ {A : Type 0} (f g : A → ℕ) where
 -- what an effect ends with can be written
 abbrev EndKept : EffectEnd → Type 0
 EndKept (ends.Value v) = IsWritable v
+EndKept (ends.Combined c) = IsWritable c.operand
 EndKept (ends.Name n) = Unit {0}
+
+both_written : (p q : Phrase) → CanWrite p → CanWrite q → CanWrite (p ++ q)
+both_written p q a b =
+    list_all-append is_writable_operation p q ∙ ap (λ x. x && list_all is_writable_operation q) a ∙ b
 
 with_kept : (n : Named) (x : EffectEnd) → EndKept x → IsWritable (effect_with n x).value
 with_kept n (ends.Value v) h = h
+with_kept n (ends.Combined c) h = both_written c.operand.operations (text.Binary c.operator ∷ []) h refl
 with_kept word (ends.Name n) h = refl
 
 module _ (e : Grows Phrase) (w : EachChart e CanWrite) where
@@ -92,12 +103,16 @@ module _ (e : Grows Phrase) (w : EachChart e CanWrite) where
   placed_kept = each_made _ _ _ _ _ IsWritable (each_headed _ _ _ w) (λ x h. h)
 
   effect_kept : EachChart (effect e) (λ x. IsWritable x.value)
-  unfolding effect effect_end becoming emitting
+  unfolding effect effect_end becoming combined combining emitting
   effect_kept =
       each_made _ _ (λ x. effect_with x.0 x.1) _ _ (λ x. IsWritable x.value)
       (each_seq _ _ _ _ _ _ (each_any _)
       (each_either _ _ _ _ (each_made _ _ to_value _ _ EndKept (each_after _ _ _ placed_kept) (λ x h. h))
-      (each_made _ _ to_name _ _ EndKept (each_any _) (λ x h. tt))))
+      (each_either _ _ _ _
+      (each_made _ _ to_combination _ _ EndKept
+      (each_made _ _ _ _ _ (λ c. IsWritable c.operand) (each_seq _ _ _ _ _ _ (each_any _) (each_seq _ _ _ _ _ _ (each_any _) placed_kept)) (λ x h. h.1.1))
+      (λ x h. h))
+      (each_made _ _ to_name _ _ EndKept (each_any _) (λ x h. tt)))))
       (λ x h. with_kept x.0 x.1 h.1)
 
   none_or_all : {A : Type 0} (P : A → Type 0) (xs : Option (List A)) → OfIt (Every P) xs → Every P (or_none xs)

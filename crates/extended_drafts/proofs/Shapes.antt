@@ -13,7 +13,8 @@ use Rattle.chart_drafts.specs.ChartText.{Grows, the_word, the_sign, roles, kinds
 use Rattle.chart_drafts.proofs.Shapes.{IsExpression, leaving_first, name_is, flag_is, target_is, placed_is, trigger_is}
 use Rattle.extended_drafts.specs.declared.draft.Rows.{Rows}
 use Rattle.extended_drafts.specs.ExtendedText.{item_first, item_value, last_value, typed, signalled, bare_signal, plain_body, worded_body, plain, worded, item}
-use Rattle.extended_drafts.specs.ExtendedText.{becoming, emitting, effect_end, effect, next_effect, some_effects, effects, deed, last_effects, entry}
+use Rattle.extended_drafts.specs.ExtendedText.{combining_signs, combining, combined, becoming, emitting, effect_end, effect, next_effect, some_effects}
+use Rattle.extended_drafts.specs.ExtendedText.{effects, deed, last_effects, entry}
 use Rattle.extended_drafts.specs.ExtendedText.{some_delay, at_once, waiting, pause, pause_first, tested, termination}
 use Rattle.extended_drafts.specs.ExtendedText.{transition, transitions, leaving, Inner, NoMore, Nested, rowed, bare, nested, inside, simple, acting, body}
 use Rattle.extended_drafts.specs.ExtendedText.{state, region, within, parts, extended, extended_text}
@@ -86,11 +87,22 @@ module _ (e : Grows Phrase) (h : IsExpression e) where
   becoming_is =
       shaped_made _ _ _ _ _ _ _ (shaped_made _ _ _ _ _ _ _ (shaped_seq _ _ _ _ _ _ _ _ _ _ (shaped_one _ refl) (placed_is e h) refl))
 
+  pub combined_is : Shaped (combined e) false combining_signs expression_tails
+  unfolding combined combining
+  combined_is =
+      shaped_made _ _ _ _ _ _ _
+      (shaped_made _ _ _ _ _ _ _
+      (shaped_seq _ _ _ _ _ _ _ _ _ _ (shaped_made _ _ _ _ _ _ _ (shaped_one _ refl))
+      (shaped_seq _ _ _ _ _ _ _ _ _ _ (shaped_made _ _ _ _ _ _ _ (shaped_one _ refl)) (placed_is e h) refl)
+      refl))
+
   effect_is : Shaped (effect e) false (AName ∷ []) expression_tails
   unfolding effect effect_end emitting
   effect_is =
       shaped_made _ _ _ _ _ _ _
-      (shaped_seq _ _ _ _ _ _ _ _ _ _ name_is (shaped_either _ _ _ _ _ _ _ becoming_is (shaped_made _ _ _ _ _ _ _ name_is) refl) refl)
+      (shaped_seq _ _ _ _ _ _ _ _ _ _ name_is
+      (shaped_either _ _ _ _ _ _ _ becoming_is (shaped_either _ _ _ _ _ _ _ combined_is (shaped_made _ _ _ _ _ _ _ name_is) refl) refl)
+      refl)
 
   pub next_effect_is : Shaped (next_effect e) false (the_sign sign.Comma) expression_tails
   unfolding next_effect

@@ -4,9 +4,13 @@ use Rattle.std.specs.Str.{bytes_eq}
 use Rattle.sc_values.specs.declared.value.Value.TheVariants as value
 use Rattle.sc_values.specs.declared.value.Kind.{Kind}
 use Rattle.sc_values.specs.declared.value.Kind.TheVariants as kind
+use Rattle.sc_values.specs.declared.operator.BinaryOperator.{BinaryOperator}
 use Rattle.sc_values.specs.declared.operator.BinaryOperator.TheVariants as operator
 use Rattle.sc_graph.specs.declared.program.Role.{Role}
 use Rattle.sc_graph.specs.declared.program.Role.TheVariants as role
+use Rattle.sc_text.specs.declared.sign.Sign.TheVariants as sign
+use Rattle.sc_text.specs.declared.token.TokenKind.{TokenKind}
+use Rattle.sc_text.specs.declared.token.TokenKind.TheVariants as token
 use Rattle.sc_text.specs.declared.operation.TextOperation.TheVariants as text
 use Rattle.core_charts.specs.declared.region.TransitionKind.{TransitionKind}
 use Rattle.drafts.specs.declared.parts.Named.{Named}
@@ -19,6 +23,7 @@ use Rattle.chart_drafts.specs.declared.draft.DraftState.{DraftState}
 use Rattle.chart_drafts.specs.Draft.{effect_of, transition_of, state_of, region_of, chart_of}
 use Rattle.extended_drafts.specs.declared.draft.ItemBody.{ItemBody}
 use Rattle.extended_drafts.specs.declared.draft.DraftItem.{DraftItem}
+use Rattle.extended_drafts.specs.declared.draft.Combination.{Combination}
 use Rattle.extended_drafts.specs.declared.draft.EffectEnd.{EffectEnd}
 use Rattle.extended_drafts.specs.declared.draft.EffectEnd.TheVariants as ends
 use Rattle.extended_drafts.specs.declared.draft.DraftEntry.{DraftEntry}
@@ -57,9 +62,24 @@ emitted word n =
       operations = text.Load n.name n.at ∷ text.Literal (value.Bool true) ∷ text.Binary operator.Or ∷ [];
     }
 
+-- the operator that a token writes before `=`
+abbrev pub combined_by : TokenKind → BinaryOperator
+combined_by (token.Sign sign.Minus) = operator.Subtract
+combined_by (token.Sign sign.Star) = operator.Multiply
+combined_by k = operator.Add
+
+abbrev pub combination : BinaryOperator × ℕ → ℕ → TextExpression → Combination
+combination operator equals e = record { operator = operator.0; at = operator.1; equals = equals; operand = e }
+
+-- What a name becomes that is combined with an operand: it is the left one, and stands at the operator. It starts at the `=`
+abbrev pub combined : Named → Combination → TextExpression
+combined n c =
+    record { start = c.equals; operations = text.Load n.name c.at ∷ (c.operand.operations ++ text.Binary c.operator ∷ []) }
+
 -- an effect, by its first name and what stands behind that
 abbrev pub effect_with : Named → EffectEnd → DraftEffect
 effect_with n (ends.Value e) = effect_of n e
+effect_with n (ends.Combined c) = effect_of n (combined n c)
 effect_with word (ends.Name n) = effect_of n (emitted word n)
 
 -- ---- actions and transitions

@@ -14,13 +14,14 @@
 --               | "join" [ "if" expression ] [ effects ] "->" name ";"
 --   delay       = word expression
 --   effects     = "do" effect { "," effect }
---   effect      = name "=" expression | word name
+--   effect      = name ( "=" expression | ( "+" | "-" | "*" ) "=" expression | name )
 use Rattle.std.specs.Prelude.{ℕ, zero, suc, ◌+◌, Bool, true, false, Option, Some, None, List, [], ◌∷◌}
 use Rattle.grammar.specs.Grammar.{one, seq, either, maybe, many, made, barred}
 use Rattle.core_charts.specs.Rules.{inner_depth_limit}
+use Rattle.sc_values.specs.declared.operator.BinaryOperator.{BinaryOperator}
 use Rattle.sc_text.specs.declared.word.Word.TheVariants as word
 use Rattle.sc_text.specs.declared.sign.Sign.TheVariants as sign
-use Rattle.sc_text.specs.Classes.{Class, AName, TheWord}
+use Rattle.sc_text.specs.Classes.{Class, AName, TheWord, TheSign}
 use Rattle.sc_text.specs.Phrases.{Phrase}
 use Rattle.sc_text.specs.Expression.{after, before, expression}
 use Rattle.drafts.specs.declared.parts.Named.{Named}
@@ -34,6 +35,7 @@ use Rattle.chart_drafts.specs.ChartText.{Grows, the_word, the_sign, name, last_n
 use Rattle.chart_drafts.specs.ChartText.{tested_words, flag, listed, braced}
 use Rattle.extended_drafts.specs.declared.draft.ItemBody.{ItemBody}
 use Rattle.extended_drafts.specs.declared.draft.DraftItem.{DraftItem}
+use Rattle.extended_drafts.specs.declared.draft.Combination.{Combination}
 use Rattle.extended_drafts.specs.declared.draft.EffectEnd.{EffectEnd}
 use Rattle.extended_drafts.specs.declared.draft.EffectEnd.TheVariants as ends
 use Rattle.extended_drafts.specs.declared.draft.DraftEntry.{DraftEntry}
@@ -41,7 +43,8 @@ use Rattle.extended_drafts.specs.declared.draft.DraftDelay.{DraftDelay}
 use Rattle.extended_drafts.specs.declared.draft.Rows.{Rows}
 use Rattle.extended_drafts.specs.declared.draft.StateBody.{StateBody}
 use Rattle.extended_drafts.specs.declared.draft.ExtendedDraft.{ExtendedDraft}
-use Rattle.extended_drafts.specs.Draft.{typed_body, signal_body, plain_item, worded_item, effect_with, entry_of, delay_of, or_next, delayed, ended, no_rows}
+use Rattle.extended_drafts.specs.Draft.{typed_body, signal_body, plain_item, worded_item, combined_by, combination, effect_with, entry_of, delay_of, or_next}
+use Rattle.extended_drafts.specs.Draft.{delayed, ended, no_rows}
 use Rattle.extended_drafts.specs.Draft.{gathered, parted, body_of, state_with, region_with, draft_of}
 
 -- ---- items
@@ -93,11 +96,30 @@ to_name n = ends.Name n
 unfoldable pub becoming : Grows Phrase → Grows EffectEnd
 becoming e = made to_value (after (the_sign sign.Becomes) (placed e))
 
+-- the operators that stand before `=`
+abbrev pub combining_signs : List Class
+combining_signs = TheSign sign.Plus ∷ TheSign sign.Minus ∷ TheSign sign.Star ∷ []
+
+abbrev pub combiner : Grows (BinaryOperator × ℕ)
+combiner = made (λ t. (combined_by t.kind, t.at)) (one combining_signs)
+
+abbrev pub equals : Grows ℕ
+equals = made (λ t. t.at) (one (the_sign sign.Becomes))
+
+unfoldable pub combining : Grows Phrase → Grows Combination
+combining e = made (λ x. combination x.0 x.1.0 x.1.1) (seq combiner (seq equals (placed e)))
+
+abbrev pub to_combination : Combination → EffectEnd
+to_combination c = ends.Combined c
+
+unfoldable pub combined : Grows Phrase → Grows EffectEnd
+combined e = made to_combination (combining e)
+
 unfoldable pub emitting : Grows EffectEnd
 emitting = made to_name name
 
 unfoldable pub effect_end : Grows Phrase → Grows EffectEnd
-effect_end e = either (becoming e) emitting
+effect_end e = either (becoming e) (either (combined e) emitting)
 
 unfoldable pub effect : Grows Phrase → Grows DraftEffect
 effect e = made (λ x. effect_with x.0 x.1) (seq name (effect_end e))

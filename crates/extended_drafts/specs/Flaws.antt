@@ -1,6 +1,6 @@
 -- What is wrong with a draft of an extended chart: the flaws of the chart without what is new, and those of what is new,
 -- each with its place. A word and an item stand at their names, an expression at its first byte.
-use Rattle.std.specs.Prelude.{ℕ, nat_eq, nat_lt, Bool, true, false, not, ◌&&◌, ◌||◌, Option, Some, None, List, [], ◌∷◌, ◌++◌, map, codes, if◌then◌else◌}
+use Rattle.std.specs.Prelude.{ℕ, nat_eq, nat_lt, Bool, true, false, not, ◌&&◌, ◌||◌, ◌-◌, Option, Some, None, List, [], ◌∷◌, ◌++◌, map, codes, if◌then◌else◌}
 use Rattle.std.specs.Option.{is_some}
 use Rattle.std.specs.Str.{bytes_eq}
 use Rattle.sc_values.specs.declared.value.Value.TheVariants as value
@@ -122,12 +122,24 @@ abbrev pub differ : Bool → Bool → Bool
 differ true b = not b
 differ false b = b
 
+-- the `=` of a combination stands right behind its operator, where what is combined begins. All else begins no sooner than
+-- its value
+abbrev pub is_parted : ℕ → Phrase → Bool
+is_parted equals (text.Load n at ∷ p) = nat_lt at equals && nat_lt 1 (equals - at)
+is_parted equals p = false
+
+abbrev pub combination_flaws : TextExpression → List Flaw
+combination_flaws e = flaw_if (is_parted e.start e.operations) broken.Grammar e.start
+
 -- A signal is emitted and not assigned to, and nothing else is emitted. What an emission becomes starts at its name, and
 -- before that where its word is another
-abbrev pub emission_flaws : List Declaration → DraftEffect → List Flaw
-emission_flaws signals e =
+abbrev pub signalling_flaws : List Declaration → DraftEffect → List Flaw
+signalling_flaws signals e =
     if nat_lt e.value.start e.variable.at then flaw_if true broken.Grammar e.value.start
     else flaw_if (differ (is_some (variable_named signals e.variable.name)) (nat_eq e.value.start e.variable.at)) broken.Rule e.variable.at
+
+abbrev pub emission_flaws : List Declaration → DraftEffect → List Flaw
+emission_flaws signals e = combination_flaws e.value ++ signalling_flaws signals e
 
 abbrev pub emissions_flaws : List Declaration → List DraftEffect → List Flaw
 emissions_flaws signals effects = joined (map (emission_flaws signals) effects)

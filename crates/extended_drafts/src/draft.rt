@@ -2,7 +2,7 @@
 
 use chart_drafts::{DraftChart, DraftEffect, DraftRegion, DraftTransition};
 use drafts::{Declaration, Named, TextExpression};
-use sc_values::Kind;
+use sc_values::{BinaryOperator, Kind};
 use sqlite_items::Items;
 
 /// What is declared behind the first word of an item. A signal has the word before its name instead of a kind, and is a
@@ -25,10 +25,21 @@ pub struct DraftItem {
     pub value: Option<TextExpression>,
 }
 
-/// What stands behind the first name of an effect: what it becomes, or a name, before which it is a word.
+/// An operator and the `=` behind it, with their places, and the right operand.
+#[derive(Debug, Drop)]
+pub struct Combination {
+    pub operator: BinaryOperator,
+    pub at: usize,
+    pub equals: usize,
+    pub operand: TextExpression,
+}
+
+/// What stands behind the first name of an effect: what it becomes, what it is combined with, or a name, before which
+/// it is a word.
 #[derive(Debug, Drop)]
 pub enum EffectEnd {
     Value(TextExpression),
+    Combined(Combination),
     Name(Named),
 }
 

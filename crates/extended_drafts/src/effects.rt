@@ -1,27 +1,105 @@
 //! Reading what transitions and actions do: assignments, and emissions of signals.
 
 ghost use Rattle.std.specs.Prelude.{◌≡◌, IfOk, MatchResult};
-ghost use Rattle.grammar.specs.Read.{read};
-ghost use Rattle.sc_text.specs.Expression.{expression};
+ghost use Rattle.grammar.specs.Read.{read, starts};
+ghost use Rattle.sc_text.specs.Expression.{text_tokens, expression};
 ghost use Rattle.sc_text.specs.Reading.{Stops};
 ghost use Rattle.chart_drafts.specs.ChartText.{target};
 ghost use Rattle.chart_drafts.specs.Phrase.{Gives};
-ghost use Rattle.extended_drafts.specs.Draft.{emitted, effect_with};
+ghost use Rattle.extended_drafts.specs.Draft.{emitted, combined_by, combined, effect_with};
+ghost use Rattle.extended_drafts.specs.ExtendedText.{combining_signs, combiner, equals, combining};
 ghost use Rattle.extended_drafts.specs.ExtendedText.{effect_end, effect, next_effect, some_effects, effects, deed};
 
-use crate::draft::EffectEnd;
+use crate::draft::{Combination, EffectEnd};
 use crate::words::last_name;
 use chart_drafts::DraftEffect;
-use chart_drafts::text_parts::{Ahead, name, skip_sign, value};
+use chart_drafts::text_parts::{Ahead, name, placed, skip_sign, value};
 use drafts::{Named, TextExpression};
-use sc_text::ahead::{behind, sign_follows, word_follows};
-use sc_text::{ReadFault, Sign, TextOperation, Word};
+use sc_text::ahead::{behind, sign_follows, word_follows, wrong};
+use sc_text::{ReadFault, Sign, TextOperation, Token, TokenKind, Word};
 use sc_values::{BinaryOperator, Value};
 use sqlite_items::Items;
 use std::alloc::{AllocError, Global};
 
+// Whether an operator that may stand before `=` is next.
+fn combiner_follows(tokens: &[Token]) -> bool
+    ensures { result ≡ starts text_tokens combining_signs tokens.now }
+{
+    sign_follows(tokens, Sign::Plus)
+        || sign_follows(tokens, Sign::Minus)
+        || sign_follows(tokens, Sign::Star)
+}
+
+fn combined_by(kind: TokenKind) -> BinaryOperator
+    ensures { result ≡ combined_by kind }
+{
+    match kind {
+        TokenKind::Sign(Sign::Minus) => BinaryOperator::Subtract,
+        TokenKind::Sign(Sign::Star) => BinaryOperator::Multiply,
+        _ => BinaryOperator::Add,
+    }
+}
+
+// The operator before `=`, and its place.
+#[tactic(auto, using(chart_drafts::proofs::Parts::token_fails, chart_drafts::proofs::Parts::token_gives))]
+fn combiner(ahead: &mut Ahead, end: usize) -> Result<(BinaryOperator, usize), ReadFault>
+    ensures { MatchResult result
+        (λ x. Gives (read combiner ahead.old.tokens.now) x ahead.new.tokens.now)
+        (λ fault. Stops end (read combiner ahead.old.tokens.now) fault) }
+{
+    if !combiner_follows(ahead.tokens) {
+        return Err(wrong(ahead.tokens, end));
+    }
+    match ahead.tokens {
+        [] => Err(wrong(ahead.tokens, end)),
+        [next, rest @ ..] => {
+            let found = (combined_by(next.kind), next.at);
+            ahead.tokens = rest;
+            Ok(found)
+        }
+    }
+}
+
+// The place of `=`.
+#[tactic(auto, using(chart_drafts::proofs::Parts::token_fails, chart_drafts::proofs::Parts::token_gives))]
+fn equals(ahead: &mut Ahead, end: usize) -> Result<usize, ReadFault>
+    ensures { MatchResult result
+        (λ x. Gives (read equals ahead.old.tokens.now) x ahead.new.tokens.now)
+        (λ fault. Stops end (read equals ahead.old.tokens.now) fault) }
+{
+    if !sign_follows(ahead.tokens, Sign::Becomes) {
+        return Err(wrong(ahead.tokens, end));
+    }
+    match ahead.tokens {
+        [] => Err(wrong(ahead.tokens, end)),
+        [next, rest @ ..] => {
+            let found = next.at;
+            ahead.tokens = rest;
+            Ok(found)
+        }
+    }
+}
+
+// An operator, `=`, and the right operand.
+#[tactic(auto, using(crate::proofs::EffectParts::combining_gives, chart_drafts::proofs::Parts::made_stops, chart_drafts::proofs::Parts::seq_stops_first, chart_drafts::proofs::Parts::seq_stops_second), unfolding(crate::specs::ExtendedText::combining))]
+fn combining(alloc: Global, ahead: &mut Ahead, end: usize) -> Result<Combination, ReadFault>
+    ensures { MatchResult result
+        (λ x. Gives (read (combining (expression 0)) ahead.old.tokens.now) x ahead.new.tokens.now)
+        (λ fault. Stops end (read (combining (expression 0)) ahead.old.tokens.now) fault) }
+{
+    let (operator, at) = combiner(ahead, end)?;
+    let equals = equals(ahead, end)?;
+    let operand = placed(alloc, ahead, end)?;
+    Ok(Combination {
+        operator,
+        at,
+        equals,
+        operand,
+    })
+}
+
 // What stands behind the first name of an effect.
-#[tactic(auto, using(crate::proofs::EffectParts::becoming_gives, crate::proofs::EffectParts::becoming_stops, crate::proofs::EffectParts::emitting_gives, crate::proofs::EffectParts::emitting_stops))]
+#[tactic(auto, using(crate::proofs::EffectParts::becoming_gives, crate::proofs::EffectParts::becoming_stops, crate::proofs::EffectParts::combined_gives, crate::proofs::EffectParts::combined_stops, crate::proofs::EffectParts::emitting_gives, crate::proofs::EffectParts::emitting_stops))]
 fn effect_end(alloc: Global, ahead: &mut Ahead, end: usize) -> Result<EffectEnd, ReadFault>
     ensures { MatchResult result
         (λ x. Gives (read (effect_end (expression 0)) ahead.old.tokens.now) x ahead.new.tokens.now)
@@ -30,6 +108,10 @@ fn effect_end(alloc: Global, ahead: &mut Ahead, end: usize) -> Result<EffectEnd,
     if sign_follows(ahead.tokens, Sign::Becomes) {
         let value = value(alloc, ahead, end)?;
         return Ok(EffectEnd::Value(value));
+    }
+    if combiner_follows(ahead.tokens) {
+        let combination = combining(alloc, ahead, end)?;
+        return Ok(EffectEnd::Combined(combination));
     }
     let signal = name(ahead, end)?;
     Ok(EffectEnd::Name(signal))
@@ -51,6 +133,20 @@ fn emitted(alloc: Global, word: Named, signal: Named) -> Result<TextExpression, 
     Ok(TextExpression { start, operations })
 }
 
+// What a name becomes that is combined with an operand. Err: memory was refused.
+fn combined(alloc: Global, variable: Named, by: Combination) -> Result<TextExpression, AllocError>
+    ensures { IfOk result (λ e. e ≡ combined variable by) }
+{
+    let mut operations = Items::new(alloc);
+    operations.push(TextOperation::Load(variable.name, by.at))?;
+    operations.append(by.operand.operations)?;
+    operations.push(TextOperation::Binary(by.operator))?;
+    Ok(TextExpression {
+        start: by.equals,
+        operations,
+    })
+}
+
 fn effect_with(alloc: Global, first: Named, behind: EffectEnd) -> Result<DraftEffect, AllocError>
     ensures { IfOk result (λ effect. effect ≡ effect_with first behind) }
 {
@@ -58,6 +154,10 @@ fn effect_with(alloc: Global, first: Named, behind: EffectEnd) -> Result<DraftEf
         EffectEnd::Value(value) => Ok(DraftEffect {
             variable: first,
             value,
+        }),
+        EffectEnd::Combined(by) => Ok(DraftEffect {
+            variable: first,
+            value: combined(alloc, first, by)?,
         }),
         EffectEnd::Name(signal) => Ok(DraftEffect {
             variable: signal,

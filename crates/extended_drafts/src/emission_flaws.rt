@@ -2,12 +2,13 @@
 
 ghost use Rattle.std.specs.Prelude.{◌≡◌, OnOk, IfOk};
 ghost use Rattle.drafts.specs.Told.{told_behind};
-ghost use Rattle.extended_drafts.specs.Flaws.{signals, differ, emission_flaws, emissions_flaws, ways_flaws};
+ghost use Rattle.extended_drafts.specs.Flaws.{signals, differ, is_parted, signalling_flaws, emission_flaws};
+ghost use Rattle.extended_drafts.specs.Flaws.{emissions_flaws, ways_flaws};
 
 use crate::draft::DraftItem;
 use chart_drafts::{DraftEffect, DraftTransition};
 use drafts::{Declaration, Flaw, Scope, note_told};
-use sc_text::FaultKind;
+use sc_text::{FaultKind, TextOperation};
 use sqlite_items::Items;
 use std::alloc::{AllocError, Global};
 
@@ -61,6 +62,30 @@ fn emission_flaws(
     found: &mut Items<Flaw>,
 ) -> Result<(), AllocError>
     ensures { OnOk result (found.new ≡ told_behind found.old (emission_flaws signals.now.variables.now effect.now)) }
+{
+    let start = effect.value.start;
+    let is_wrong = is_parted(start, effect.value.operations.as_slice());
+    note_told(alloc, found, is_wrong, FaultKind::Grammar, start)?;
+    signalling_flaws(alloc, signals, effect, found)
+}
+
+// Whether the `=` of a combination stands apart from its operator.
+fn is_parted(equals: usize, operations: &[TextOperation]) -> bool
+    ensures { result ≡ is_parted equals operations.now }
+{
+    match operations {
+        [TextOperation::Load(_, at), ..] => *at < equals && 1 < equals - *at,
+        _ => false,
+    }
+}
+
+fn signalling_flaws(
+    alloc: Global,
+    signals: &Scope,
+    effect: &DraftEffect,
+    found: &mut Items<Flaw>,
+) -> Result<(), AllocError>
+    ensures { OnOk result (found.new ≡ told_behind found.old (signalling_flaws signals.now.variables.now effect.now)) }
 {
     let start = effect.value.start;
     let at = effect.variable.at;
