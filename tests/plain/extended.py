@@ -5,9 +5,9 @@ entered, and of each variable what it was when the tick before ended.
 
 Constants and what variables were are variables here, of the roles "const" and "pre". A signal is one that is told to be one, and
 an emission an effect on it by `or true`."""
-from chart_machine import ChartMachine
+from chart_machine import ChartMachine, access_of
 from chart_reader import ChartGrammar, ChartRules, Draft
-from charts import Chart, Region, State, Transition
+from charts import Chart, Region, State, Transition, states_of
 from machine import value
 from programs import Variable, loads, text_of_expression
 from reader import END, NAME, NESTED, Fault, is_utf8, tell_first, tree_of
@@ -15,6 +15,7 @@ from reader import END, NAME, NESTED, Fault, is_utf8, tell_first, tree_of
 ROLES = ("input", "output", "local")
 # what a word among the variables has to be, and one among the actions
 ITEM_WORDS, ACTION_WORDS = ("const", "pre"), ("entry", "exit")
+LASTING = "during"
 # what `x += e` does, and its like
 COMBINED = {"+": "add", "-": "subtract", "*": "multiply"}
 
@@ -27,6 +28,13 @@ class Declared(Variable):
         super().__init__(name, role, kind)
         self.initial = initial if initial is not None else kind == "int" and 0
         self.of, self.is_signal = of, is_signal
+
+
+class During:
+    """What is done while a state goes on. A missing trigger is None."""
+
+    def __init__(self, immediate, trigger, effects):
+        self.immediate, self.trigger, self.effects = immediate, trigger, effects
 
 
 def emission(x):
@@ -81,7 +89,7 @@ class ExtendedGrammar(ChartGrammar):
         actions, regions, transitions = [], [], []
         if not self.takes(";"):
             self.take("{")
-            while self.ahead() == NAME:
+            while self.ahead() in (NAME, "immediate"):
                 actions.append(self.action())
             while self.ahead() == "region":
                 regions.append(self.region(left - 1))
@@ -92,11 +100,13 @@ class ExtendedGrammar(ChartGrammar):
                      transitions=transitions)
 
     def action(self):
+        immediate = bool(self.takes("immediate"))
         _, word, place = self.take(NAME)
+        trigger = (self.place(), self.expression()) if self.takes("if") else None
         self.take("do")
         effects = self.effects()
         self.take(";")
-        return Draft(place, word, effects=effects)
+        return Draft(place, word, immediate=immediate, trigger=trigger, effects=effects)
 
     def effects(self):
         effects = [self.effect()]
@@ -206,7 +216,11 @@ class ExtendedRules(ChartRules):
 
     def new_in(self, state):
         for action in state.actions:
-            self.word(action, ACTION_WORDS)
+            self.word(action, (LASTING,) if action.immediate or action.trigger else (*ACTION_WORDS, LASTING))
+            if action.name == LASTING and (state.is_final or any(t.kind == "join" for t in state.transitions)):
+                self.flaw(6, action.place)
+            if action.trigger:
+                self.expression(action.trigger[1], action.trigger[0], "bool")
             for number, e in enumerate(action.effects, 1):
                 if number > 16:
                     self.flaw(7, e.place)
@@ -248,6 +262,8 @@ def resolved(region, places):
         made = State(s.name, s.is_initial, s.is_final, [resolved(r, places) for r in s.regions],
                      [transition(t) for t in s.transitions])
         made.entry, made.exit = ([e for a in s.actions if a.name == word for e in effects(a.effects)] for word in ACTION_WORDS)
+        made.during = [During(a.immediate, tree_of(a.trigger[1], places) if a.trigger else None, effects(a.effects))
+                       for a in s.actions if a.name == LASTING]
         return made
 
     return Region(region.name, [state(s) for s in region.states])
@@ -301,6 +317,13 @@ def text_of_effects(effects, variables):
         for x, e in effects)
 
 
+def text_of_during(d, variables):
+    words = ["immediate"] * d.immediate + [LASTING]
+    if d.trigger is not None:
+        words += ["if", text_of_expression(d.trigger, variables)]
+    return " ".join(words + ["do", text_of_effects(d.effects, variables)]) + ";"
+
+
 def text_of_transition(t, states, variables):
     words = [t.kind] + ["immediate"] * t.immediate
     if t.delay is not None:
@@ -323,13 +346,14 @@ def text_of_extended(chart):
             lines.append(f"{space}region {region.name} {{")
             for s in region.states:
                 words = "initial " * s.is_initial + "final " * s.is_final + f"state {s.name}"
-                if not (s.entry or s.exit or s.regions or s.transitions):
+                if not (s.entry or s.exit or s.during or s.regions or s.transitions):
                     lines.append(f"{space}  {words};")
                     continue
                 lines.append(f"{space}  {words} {{")
                 for word, effects in zip(ACTION_WORDS, (s.entry, s.exit)):
                     if effects:
                         lines.append(f"{space}    {word} do {text_of_effects(effects, variables)};")
+                lines.extend(f"{space}    {text_of_during(d, variables)}" for d in s.during)
                 write(s.regions, level + 2)
                 for t in s.transitions:
                     lines.append(f"{space}    {text_of_transition(t, region.states, variables)}")
@@ -344,10 +368,20 @@ def text_of_extended(chart):
 
 class ExtendedMachine(ChartMachine):
     """Where a region stands is as in the machine of charts. The tick in which each state was entered, and in which state each
-    region is or has ended, are kept beside."""
+    region is or has ended, are kept beside.
+
+    A state with during actions has somebody inside who makes them, beside its regions, and stands as ("lasting", the state, what
+    is left of them in this tick). A simple one then has an inside as superstates have: it stands as ("within", s, tests), and its
+    transitions are tested when the inside is done."""
 
     def __init__(self, chart, random):
         super().__init__(chart, random)
+        self.lasting = {}
+        for s in states_of(chart.regions):
+            if s.during:
+                doer = self.lasting[s] = Region(LASTING, [])
+                self.superstate[doer], self.path[doer], self.standing[doer] = s, self.path[self.holder[s]] + [doer], None
+        self.regions = list(self.path)
         self.values = [v.initial for v in chart.variables]
         self.now, self.entered, self.within = 0, {}, {}
 
@@ -373,7 +407,48 @@ class ExtendedMachine(ChartMachine):
 
     def come_to(self, r, s):
         self.entered[s], self.within[r] = self.now, s
-        super().come_to(r, s)
+        if s.during and not s.regions:
+            self.open(r, s)
+        else:
+            super().come_to(r, s)
+
+    def open(self, r, s):
+        super().open(r, s)
+        if not s.regions:
+            self.standing[r] = ("within", s, [t for t in s.transitions if t.immediate])
+        if s.during:
+            self.standing[self.lasting[s]] = ("lasting", s, [d for d in s.during if d.immediate])
+
+    def wake(self, r):
+        standing = self.standing[r]
+        if standing and standing[0] == "lasting":
+            self.standing[r] = ("lasting", standing[1], list(standing[1].during))
+        else:
+            super().wake(r)
+
+    @staticmethod
+    def let_in(s):
+        return ChartMachine.let_in(s) if s.regions else ("within", s, s.transitions)
+
+    def step(self, r):
+        where, s, left = self.standing[r][:3]
+        if where != "lasting":
+            super().step(r)
+            return
+        first, *others = left
+        if first.trigger is None:
+            (x, e), *more = first.effects
+            self.values[x] = value(e, self.values)
+            others = [During(True, None, more), *others] if more else others
+        elif value(first.trigger, self.values):
+            others = [During(True, None, first.effects), *others]
+        self.standing[r] = (where, s, others)
+
+    def access(self, r):
+        where, _, left = self.standing[r][:3]
+        if where != "lasting":
+            return super().access(r)
+        return (set(loads(left[0].trigger)), None) if left[0].trigger is not None else access_of(*left[0].effects[0])
 
     def holds(self, s, t):
         if t.delay is not None and self.now - self.entered[s] < value(t.delay, self.values):

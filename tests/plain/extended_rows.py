@@ -63,4 +63,22 @@ CHARTS = [
           "strong if A -> s; strong after 5 do x = 0 -> s; weak after 4 if B do x = x + 100 -> s; } } "
           "region M { initial state c { go after N if A do y = y + 1 -> d; } state d { go immediate if B -> c; go after N + 1 -> c; } }",
           "const int N = 2;"),
+    # during actions: of simple states, behind entry actions and before the transitions, which see them
+    chart("region R { initial state s { entry do y = 0; during do y += 1; go if y >= 3 do x = x + 1 -> s; } }"),
+    chart(f"region R {{ initial state s {{ during do {tells(1)}; immediate during if A do {tells(2)}; during if B do {tells(3)}, {tells(4)}; "
+          f"entry do {tells(5)}; exit do {tells(6)}; go if A and B do {tells(7)} -> t; go after 3 do {tells(8)} -> t; }} "
+          f"state t {{ immediate during do {tells(9)}; go if not A -> s; }} }}"),
+    chart("region R { initial state s { during do emit q; immediate during if was do x = x + N; go if A -> t; } "
+          "state t { go if was and B -> s; go after 3 -> s; } }", "const int N = 3; signal q; pre bool was = q;"),
+    # of superstates: beside what is inside, also where that has ended, before weak aborts and not behind strong ones
+    chart("region R { initial state s { during do y = y + I; immediate during if A do y = y + 10; region Q { initial state a { go if A -> b; } "
+          "state b { go do x = x + 1 -> c; } final state c; } strong if B -> t; weak if y > 20 do y = 0 -> t; } state t { go if not B -> s; } }"),
+    chart("region R { initial state s { during do y = y + 1; region Q { initial final state a; } weak after 2 if A -> t; strong after 4 -> t; } "
+          "state t { during do y = y * 2; go after 2 -> s; go if B do x = y -> s; } }"),
+    chart(f"region R {{ initial state s {{ during do {tells(1)}; region Q {{ initial state a {{ during do y = y + 1; go if A -> b; }} "
+          f"state b {{ immediate during if A do y = y + 5; during do y = y + 7; }} }} strong immediate if B do {tells(2)} -> t; "
+          f"weak if A and I > 1 do {tells(3)} -> s; }} state t {{ go if not B -> s; }} }}"),
+    chart(f"region R {{ initial state s {{ exit do {tells(1)}; immediate during do {tells(2)}; region Q {{ initial state a "
+          f"{{ entry do y = y + 1; exit do y = y * 2; go if A -> b; }} state b {{ exit do y = y + 7; go if B -> a; }} }} "
+          f"strong if A and B do {tells(7)} -> t; weak if I > 2 do {tells(8)} -> t; }} state t {acts(9, 'go if B -> s;')} }}"),
 ]

@@ -3,7 +3,7 @@ import copy
 
 from chart_texts import CHART_WORDS
 from charts import Chart, states_of
-from extended import Declared, emission, text_of_extended
+from extended import Declared, During, emission, text_of_extended
 from flaws import with_flaws
 from programs import VARIABLES
 from random_charts import ChartGenerator
@@ -45,17 +45,24 @@ TEXTS = {
         HEAD + "region R { initial state s { entry do emit q^ q; } } }".replace("q^ q", "q ^q"),
         HEAD + "region R { initial state s { entry ^x = 1; } } }",
         HEAD + "region R { initial state s { entry do x = 1 ^} } }", HEAD + "region R { initial state s { entry do ^; } } }",
-        HEAD + "region R { initial state s { entry do x = 1, ^; } } }", HEAD + "region R { initial state s { ^during do x = 1; } } }",
+        HEAD + "region R { initial state s { entry do x = 1, ^; } } }", HEAD + "region R { initial state s { ^durings do x = 1; } } }",
         HEAD + "region R { initial state s { go -> s; ^entry do x = 1; } } }",
         HEAD + "region R { initial state s { region Q { initial state t; } ^entry do x = 1; } } }",
-        HEAD + "region R { initial state s { entry ^if i do x = 1; } } }", HEAD + "region R { initial state s { ^immediate entry do x = 1; } } }",
+        HEAD + "region R { initial state s { ^entry if i do x = 1; } } }", HEAD + "region R { initial state s { immediate ^entry do x = 1; } } }",
+        HEAD + "region R { initial state s { immediate ^exit if i do x = 1; } } }", HEAD + "region R { initial state s { immediate ^immediate during do x = 1; } } }",
+        HEAD + "region R { initial state s { during ^immediate do x = 1; } } }", HEAD + "region R { initial state s { immediate ^if i do x = 1; } } }",
+        HEAD + "region R { initial state s { during if ^do x = 1; } } }", HEAD + "region R { initial state s { during ^x = 1; } } }",
+        HEAD + "region R { initial state s { during after ^3 do x = 1; } } }".replace("after ^3", "^after 3"),
+        HEAD + "region R { initial state s { go -> s; ^immediate during do x = 1; } } }", HEAD + "region R { initial state s { ^immediate; } } }".replace("^immediate;", "immediate ^;"),
+        HEAD + "region R { initial state s { region Q { initial state t; } ^during do x = 1; } } }",
     ],
     "E03": [
         "extended chart P { pre int p = ^y; " + REGION + "}", "extended chart P { const int N = 3; pre int p = ^N; " + REGION + "}",
         "extended chart P { input int n; pre int p = n; pre int q = ^p; " + REGION + "}",
         HEAD + "region R { initial state s { entry do ^y = 1; } } }", HEAD + "region R { initial state s { exit do x = ^y; } } }",
         HEAD + "region R { initial state s { entry do ^y = true; } } }",
-        HEAD + "region R { initial state s { exit do x = a + ^M; } } }",
+        HEAD + "region R { initial state s { exit do x = a + ^M; } } }", HEAD + "region R { initial state s { during if ^y do x = 1; } } }",
+        HEAD + "region R { initial state s { immediate during do ^y = 1; } } }", HEAD + "region R { initial state s { entry if ^y do x = 1; } } }".replace("entry if ^y", "during if b or ^y"),
     ],
     "E04": [
         HEAD + "const int ^N = 4; " + REGION + "}", HEAD + "const int ^x = 4; " + REGION + "}", HEAD + "pre int ^N = x; " + REGION + "}",
@@ -72,7 +79,8 @@ TEXTS = {
         HEAD + "const int M = ^1" + " + 1" * 40 + "; " + REGION + "}",
         HEAD + "region R { initial state s { entry do x = ^i; } } }", HEAD + "region R { initial state s { exit do b = ^x; } } }",
         HEAD + "region R { initial state s { exit do emit ^x; } } }", HEAD + "region R { initial state s { go do x = 1, emit ^N -> s; } } }",
-        HEAD + "pre int p = ^q; " + REGION + "}",
+        HEAD + "pre int p = ^q; " + REGION + "}", HEAD + "region R { initial state s { during if ^x do x = 1; } } }",
+        HEAD + "region R { initial state s { immediate during if b do x = ^b; } } }", HEAD + "region R { initial state s { during if ^(N) do x = 1; } } }",
     ],
     "E06": [
         HEAD + "region R { initial state s { entry do ^q = true; } } }", HEAD + "region R { initial state s { entry do ^q = q or true; } } }",
@@ -85,11 +93,18 @@ TEXTS = {
         HEAD + "pre int p = x; region R { initial state s { exit do ^p = 1; } } }",
         HEAD + "region R { initial state s { go do ^N = 1 -> s; } } }",
         HEAD + "region R { initial final state ^s { exit do x = 1; go -> s; } } }",
+        HEAD + "region R { initial final state s { ^during do x = 1; } } }", HEAD + "region R { initial final state s { immediate ^during if b do x = 1; } } }",
+        HEAD + "region R { initial state s { ^during do x = 1; region Q { initial state t; } join -> s; } } }",
+        HEAD + "region R { initial state s { entry do x = 1; ^during do n = 1; region Q { initial state t; } weak if b -> s; join if b -> s; } } }",
+        HEAD + "region R { initial state s { during do ^n = 1; } } }", HEAD + "region R { initial state s { during do ^q = true; } } }",
+        HEAD + "region R { initial state s { during do x = 1; ^weak -> s; } } }",
     ],
     "E07": [
         "extended chart P { const int N = ^2147483648; " + REGION + "}", "extended chart ^" + "n" * 65 + " { }",
         HEAD + "region R { initial state s { entry do x = 1" + ", x = 1" * 15 + ", ^x = 1; } } }",
         HEAD + "region R { initial state s { exit do x = ^1" + " + 1" * 32 + "; } } }",
+        HEAD + "region R { initial state s { during do x = 1" + ", x = 1" * 15 + ", ^x = 1; } } }",
+        HEAD + "region R { initial state s { during if ^b" + " and b" * 16 + " do x = 1; } } }",
     ],
     None: [
         "extended chart P { signal signal; output signal emit; local signal emit1; pre bool was = emit; region R { initial state s { entry do "
@@ -104,6 +119,10 @@ TEXTS = {
         "entry do x = 1; exit do x = 2; } } }",
         HEAD + "region R { initial state s { entry do x = 1; region Q { initial state t; } strong after n + 1 if i do x = 1 -> s; "
         "weak after -1 -> s; join do x = 2 -> s; } } }",
+        HEAD + "region R { initial state s { during do x += 1; entry do x = 1; immediate during if b and n < N do emit q, a = x; during if i do x = 1; "
+        "go immediate -> s; go after 2 -> s; } final state t { entry do x = 1; } } }",
+        HEAD + "region R { initial state s { immediate during do x = 1; region Q { initial state t { during do a = 1; } } strong if b -> s; weak -> s; } } }",
+        "extended chart during { local bool during; region during { initial state during { during if during do during = not during; go -> during; } } }",
         "extended chart P { output int a_b_c_; " + REGION + "}", "extended chart P__1 { " + REGION + "}",
         "extended chart P { pre bool was = i; input bool i; " + REGION + "}",
         HEAD + "region R { initial state s { entry do x = 1" + ", x = 1" * 7 + "; entry do x = 1" + ", x = 1" * 7 + "; } } }",
@@ -198,7 +217,7 @@ class ExtendedGenerator(ChartGenerator):
         self.items = [Declared(v.name, v.role, v.kind, self.initial(v)) for v in VARIABLES] + CONSTANTS + SIGNALS + was
         self.signals = [PLAIN + len(CONSTANTS) + x for x in range(len(SIGNALS))]
         # how often each of what is new stands where it may, and whether each region stands alone: in such a chart nothing clashes
-        self.share = {word: r.choice([0, 0.2, 0.7]) for word in ("new", "after", "entry", "exit", "emit", "hold")}
+        self.share = {word: r.choice([0, 0.2, 0.7]) for word in ("new", "after", "entry", "exit", "during", "emit", "hold")}
         self.share["signal"] = r.choice([0, 0, 0.1, 0.3])
         self.is_alone = r.random() < 0.5
         self.super_chances = (0.7, 0.5) if self.is_alone else self.super_chances
@@ -248,7 +267,16 @@ class ExtendedGenerator(ChartGenerator):
         made = super().region(depth, inside_aborts)
         for s in made.states:
             s.entry, s.exit = self.actions("entry"), self.actions("exit")
+            s.during = self.durings(s)
         return made
+
+    def durings(self, s):
+        """Beside the regions of a superstate they clash more often."""
+        r = self.random
+        if s.is_final or s.of_kind("join") or (s.regions and r.random() < 0.6):
+            return []
+        actions = [self.actions("during") for _ in range(r.choice([1, 1, 2, 3]))]
+        return [During(r.random() < 0.4, self.trigger() if r.random() < 0.5 else None, effects) for effects in actions if effects]
 
 
 def random_extended(seed, size, depth=3):
@@ -268,7 +296,7 @@ def by_inputs(chart):
     return made
 
 
-WORDS = CHART_WORDS + ("extended chart const pre entry exit after signal emit do = ; N M T sig seen was_x const int pre bool signal s; entry do "
+WORDS = CHART_WORDS + ("extended chart const pre entry exit during immediate if after signal emit do = + - * ; N M T sig seen was_x const int pre bool signal s; entry do "
                        "emit sig a__b x__ after 3").split()
 
 

@@ -30,6 +30,7 @@ heat e off = state_step (record {
   is_final = false;
   entry = [];
   exit = off ∷ [];
+  during = [];
   regions = [];
   transitions = taken kind.Go e [] 1 ∷ [];
 })
@@ -42,6 +43,7 @@ rest e = state_step (record {
   is_final = false;
   entry = [];
   exit = [];
+  during = [];
   regions = [];
   transitions = taken kind.Go e [] 0 ∷ [];
 })
@@ -57,6 +59,7 @@ on e f off runs last = state_step (record {
   is_final = false;
   entry = [];
   exit = runs ∷ [];
+  during = [];
   regions = duty e off ∷ [];
   transitions = taken kind.Strong e [] 0 ∷ taken kind.Weak f (last ∷ []) 0 ∷ [];
 })
@@ -74,6 +77,7 @@ simple name is_initial entry transitions = roll-ExtendedState (record {
   is_final = false;
   entry = entry;
   exit = [];
+  during = [];
   regions = [];
   transitions = transitions;
 })
@@ -109,6 +113,7 @@ led_from_on : (e f : Expr) (off runs last : Effect) → (on e f off runs last).m
   is_final = false;
   entry = [];
   exit = [];
+  during = [];
   regions = left_duty e off ∷ [];
   transitions = taken kind.Strong e [] 2 ∷ taken kind.Weak f [] 4 ∷ [];
 })

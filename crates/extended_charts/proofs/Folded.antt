@@ -39,6 +39,7 @@ pub state_timed : (s : ExtendedState) (now at : ℕ) → (timed_state s).made no
       is_final = (out-ExtendedState s).is_final;
       entry = noting (ask_time (out-ExtendedState s).transitions) now at ++ (out-ExtendedState s).entry;
       exit = (out-ExtendedState s).exit;
+      during = [];
       regions =
           all_regions now (at + one (ask_time (out-ExtendedState s).transitions)) (map timed_region (out-ExtendedState s).regions);
       transitions = map (timed_by (reading.Elapsed now at)) (out-ExtendedState s).transitions;

@@ -1,5 +1,5 @@
 -- What states whose terminations have no triggers are, by their parts.
-use Rattle.std.proofs.Common.{◌≡◌, map}
+use Rattle.std.proofs.Common.{◌≡◌, [], map}
 use Rattle.extended_charts.specs.declared.extended.ExtendedRegion.{ExtendedRegion}
 use Rattle.extended_charts.specs.declared.extended.ExtendedState.{ExtendedState}
 use Rattle.extended_charts.specs.declared.extended.ExtendedRegion.TheViews.{out-ExtendedState, roll-ExtendedRegion, roll-ExtendedState}
@@ -14,6 +14,7 @@ pub state_held : (s : ExtendedState) → held_state s
       is_final = (out-ExtendedState s).is_final;
       entry = (out-ExtendedState s).entry;
       exit = (out-ExtendedState s).exit;
+      during = [];
       regions = held_inside s;
       transitions = map untested (out-ExtendedState s).transitions;
     })

@@ -36,6 +36,7 @@ made_of s own number x place leavings = roll-ExtendedState (record {
   is_final = (out-ExtendedState s).is_final;
   entry = noted own number (out-ExtendedState s).exit ++ (out-ExtendedState s).entry;
   exit = [];
+  during = [];
   regions = all_regions x (map left_region (out-ExtendedState s).regions);
   transitions = left_transitions place leavings (parting own (out-ExtendedState s).exit) (out-ExtendedState s).transitions;
 })

@@ -2,6 +2,7 @@ pub mod NumberedNames
 pub mod Folded
 pub mod Left
 pub mod HeldStates
+pub mod ActingStates
 pub mod Handed
 pub mod Emitting
 pub mod ByRules
@@ -9,6 +10,7 @@ pub mod PlainParts
 pub mod PlainValues
 pub mod PlainClocks
 pub mod PlainExits
+pub mod PlainDurings
 pub mod PlainHolds
 pub mod PlainEntry
 pub mod Plain

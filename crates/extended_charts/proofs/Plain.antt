@@ -16,6 +16,7 @@ use Rattle.extended_charts.specs.Registers.{with_registers}
 use Rattle.extended_charts.specs.Signals.{with_signals}
 use Rattle.extended_charts.specs.Clocks.{clocked, with_clocks}
 use Rattle.extended_charts.specs.Exits.{left_region, outer_regions, with_exits}
+use Rattle.extended_charts.specs.Durings.{acting_region, with_durings}
 use Rattle.extended_charts.specs.Holds.{held_region, with_holds}
 use Rattle.extended_charts.specs.Initial.{framed, with_settings}
 use Rattle.extended_charts.specs.Reduction.{with_entry, chart_of, reduced}
@@ -25,6 +26,7 @@ use Rattle.extended_charts.proofs.PlainParts.{both_same}
 use Rattle.extended_charts.proofs.PlainValues.{nothing_set, nothing_named, RegionSame, StateSame, values_stay}
 use Rattle.extended_charts.proofs.PlainClocks.{RegionUntimed, StateUntimed, no_clocks_in, nothing_timed}
 use Rattle.extended_charts.proofs.PlainExits.{RegionUnleft, StateUnleft, none_inside, outer_stay, nothing_left}
+use Rattle.extended_charts.proofs.PlainDurings.{RegionActs, StateActs, nothing_acts}
 use Rattle.extended_charts.proofs.PlainHolds.{RegionHeld, StateHeld, nothing_held}
 use Rattle.extended_charts.proofs.PlainEntry.{RegionStands, StateStands, regions_stand, all_stand}
 
@@ -73,9 +75,15 @@ holds_stay c h =
 settings_stay : (c : Chart) → with_settings (of_chart c) ≡ of_chart c
 settings_stay c = ap (λ es. record (of_chart c) { regions = framed es (map of_region c.regions) }) (nothing_set 0 c.variables)
 
+durings_stay : (c : Chart) → IsChart features.Extended c → with_durings (of_chart c) ≡ of_chart c
+durings_stay c h =
+    let each = each_region c.variables RegionActs StateActs (nothing_acts c.variables) depth_limit c.regions h.regions in
+    ap (λ rs. record (of_chart c) { regions = rs }) (both_same acting_region of_region c.regions each)
+
 pub nothing_is_added : (c : Chart) → IsChart features.Extended c → with_entry (of_chart c) ≡ of_chart c
 nothing_is_added c h =
-    ap (λ e. with_settings (with_holds (with_exits (with_clocks (with_registers (with_signals e)))))) (constants_stay c h)
+    ap (λ e. with_settings (with_holds (with_exits (with_clocks (with_registers (with_signals (with_durings e))))))) (constants_stay c h)
+    ∙ ap (λ e. with_settings (with_holds (with_exits (with_clocks (with_registers (with_signals e)))))) (durings_stay c h)
     ∙ ap (λ e. with_settings (with_holds (with_exits e))) (clocks_stay c h)
     ∙ ap (λ e. with_settings (with_holds e)) (exits_stay c h)
     ∙ ap with_settings (holds_stay c h)

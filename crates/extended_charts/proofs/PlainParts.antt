@@ -34,6 +34,7 @@ over_state s regions =
       is_final = (out-State s).is_final;
       entry = [];
       exit = [];
+      during = [];
       regions = regions;
       transitions = (out-State s).transitions;
     }

@@ -79,6 +79,7 @@ state_step s =
         is_final = s.is_final;
         entry = noting (ask_time s.transitions) now at ++ s.entry;
         exit = s.exit;
+        during = [];
         regions = all_regions now (at + one (ask_time s.transitions)) s.regions;
         transitions = map (timed_transition now at) s.transitions;
       });

@@ -5,6 +5,7 @@ use Rattle.core_charts.specs.declared.region.Effect.{Effect}
 use Rattle.core_charts.specs.declared.region.Transition.{Transition}
 use Rattle.extended_charts.specs.declared.extended.Constant.{Constant}
 use Rattle.extended_charts.specs.declared.extended.Declared.{Declared}
+use Rattle.extended_charts.specs.declared.extended.During.{During}
 use Rattle.extended_charts.specs.declared.extended.ExtendedChart.{ExtendedChart}
 use Rattle.extended_charts.specs.declared.extended.ExtendedRegion.{ExtendedRegion}
 use Rattle.extended_charts.specs.declared.extended.ExtendedState.{ExtendedState}
@@ -27,6 +28,9 @@ named_values variables befores constants =
 abbrev pub valued_effect : Reading → Effect → Effect
 valued_effect r e = record e { value = replaced r e.value }
 
+abbrev pub valued_during : Reading → During → During
+valued_during r d = record d { trigger = replaced_trigger r d.trigger; effects = map (valued_effect r) d.effects }
+
 abbrev pub valued_transition : Reading → Transition → Transition
 valued_transition r t =
     record t { trigger = replaced_trigger r t.trigger; effects = map (valued_effect r) t.effects }
@@ -36,6 +40,7 @@ state_step r s =
     roll-ExtendedState (record s {
       entry = map (valued_effect r) s.entry;
       exit = map (valued_effect r) s.exit;
+      during = map (valued_during r) s.during;
       transitions = map (valued_transition r) s.transitions;
     })
 

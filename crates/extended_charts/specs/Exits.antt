@@ -180,6 +180,7 @@ state_step s =
         is_final = s.is_final;
         entry = noted own number s.exit ++ s.entry;
         exit = [];
+        during = [];
         regions = all_regions x s.regions;
         transitions = left_transitions place (leavings_in x s.regions) (parting own s.exit) s.transitions;
       });

@@ -44,6 +44,7 @@ ended =
       is_final = true;
       entry = [];
       exit = [];
+      during = [];
       regions = [];
       transitions = [];
     })
@@ -58,6 +59,7 @@ held (Some trigger) regions =
 abbrev pub state_step : ExtendedState-F ExtendedRegion ExtendedState → ExtendedState
 state_step s =
     roll-ExtendedState (record s {
+      during = [];
       regions = held (condition s.transitions) s.regions;
       transitions = map untested s.transitions;
     })

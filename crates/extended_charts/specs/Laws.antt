@@ -37,6 +37,7 @@ plain_state s =
       is_final = s.is_final;
       entry = [];
       exit = [];
+      during = [];
       regions = s.regions;
       transitions = s.transitions;
     })

@@ -1,6 +1,7 @@
 pub mod Making
 pub mod Reading
 pub mod Constants
+pub mod Durings
 pub mod Signals
 pub mod Registers
 pub mod Clocks

@@ -69,6 +69,7 @@ made_state name is_initial regions transitions =
       is_final = false;
       entry = [];
       exit = [];
+      during = [];
       regions = regions;
       transitions = transitions;
     })

@@ -166,6 +166,7 @@ fn timed_state(
         is_final: state.is_final,
         entry,
         exit: copied_effects(alloc, state.exit.as_slice())?,
+        during: Items::new(alloc),
         regions: all_regions(alloc, now, inside, state.regions.as_slice())?,
         transitions: timed_transitions(alloc, &reading, own)?,
     })

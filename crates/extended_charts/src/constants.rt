@@ -1,11 +1,12 @@
 //! Constants: each stands for its literal.
 
 ghost use Rattle.std.specs.Prelude.{◌≡◌, [], IfOk, map};
-ghost use Rattle.extended_charts.specs.Constants.{unvalued, named_values, valued_effect, valued_transition};
+ghost use Rattle.extended_charts.specs.Constants.{unvalued, named_values, valued_effect, valued_during};
+ghost use Rattle.extended_charts.specs.Constants.{valued_transition};
 ghost use Rattle.extended_charts.specs.Constants.{valued_region, valued_state, valued_chart, without_constants};
 
 use crate::copies::copied_declarations;
-use crate::extended::{Constant, Declared, ExtendedChart, ExtendedRegion, ExtendedState};
+use crate::extended::{Constant, Declared, During, ExtendedChart, ExtendedRegion, ExtendedState};
 use crate::reading::Reading;
 use core_charts::{Effect, Transition};
 use sc_graph::VariableId;
@@ -102,6 +103,30 @@ fn valued_effect(alloc: Global, reading: &Reading, effect: &Effect) -> Result<Ef
     })
 }
 
+fn valued_durings(
+    alloc: Global,
+    reading: &Reading,
+    durings: &[During],
+) -> Result<Items<During>, AllocError>
+    ensures { IfOk result (λ made. made ≡ map (valued_during reading.now) durings.now) }
+{
+    let mut made = Items::new(alloc);
+    for during in durings {
+        made.push(valued_during(alloc, reading, during)?)?;
+    }
+    Ok(made)
+}
+
+fn valued_during(alloc: Global, reading: &Reading, during: &During) -> Result<During, AllocError>
+    ensures { IfOk result (λ made. made ≡ valued_during reading.now during.now) }
+{
+    Ok(During {
+        immediate: during.immediate,
+        trigger: reading.replaced_trigger(alloc, &during.trigger)?,
+        effects: valued_effects(alloc, reading, during.effects.as_slice())?,
+    })
+}
+
 fn valued_transitions(
     alloc: Global,
     reading: &Reading,
@@ -191,6 +216,7 @@ fn valued_state(
         is_final: state.is_final,
         entry: valued_effects(alloc, reading, state.entry.as_slice())?,
         exit: valued_effects(alloc, reading, state.exit.as_slice())?,
+        during: valued_durings(alloc, reading, state.during.as_slice())?,
         regions: valued_regions(alloc, reading, state.regions.as_slice())?,
         transitions: valued_transitions(alloc, reading, state.transitions.as_slice())?,
     })

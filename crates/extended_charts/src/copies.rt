@@ -4,8 +4,22 @@ ghost use Rattle.std.specs.Prelude.{◌≡◌, IfOk};
 
 use crate::extended::Declared;
 use sc_graph::Variable;
+use sc_values::Expr;
 use sqlite_items::Items;
 use std::alloc::{AllocError, Global};
+
+/// A copy of a trigger. Err: memory was refused.
+pub(crate) fn copied_trigger(
+    alloc: Global,
+    trigger: &Option<Expr>,
+) -> Result<Option<Expr>, AllocError>
+    ensures { IfOk result (λ copy. copy ≡ trigger.now) }
+{
+    match trigger {
+        Some(expression) => Ok(Some(expression.copied(alloc)?)),
+        None => Ok(None),
+    }
+}
 
 /// A copy of declarations. Err: memory was refused.
 pub(crate) fn copied_declarations(

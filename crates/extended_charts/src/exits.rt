@@ -1,13 +1,13 @@
 //! Exit actions: a transition makes those of the state that it leaves, behind those of what is active in it.
 
-ghost use Rattle.std.specs.Prelude.{◌≡◌, ◌+◌, IfOk, length, map};
+ghost use Rattle.std.specs.Prelude.{◌≡◌, ◌+◌, IfOk, map};
 ghost use Rattle.extended_charts.specs.Exits.{noted, parting, own_note, left_region, left_state, all_regions};
 ghost use Rattle.extended_charts.specs.Exits.{with_behind, all_inside, outer_regions, with_exits};
 
 use crate::departures::{left_behind, left_transitions, set};
 use crate::extended::{ExtendedChart, ExtendedRegion, ExtendedState};
 use crate::leaving::{has_exit, have_exits, inside, notes, state_inside, state_leavings};
-use crate::making::{alone, has_some, integers, one, sum, variable};
+use crate::making::{alone, count, has_some, integers, one, sum, variable};
 use core_charts::{Effect, copied_effects};
 use sc_graph::VariableId;
 use sqlite_items::Items;
@@ -83,15 +83,6 @@ fn place_behind(place: u32, width: u32) -> Result<u32, AllocError>
         Err(AllocError)
     } else {
         Ok(behind)
-    }
-}
-
-fn count(states: &[ExtendedState]) -> Result<u32, AllocError>
-    ensures { IfOk result (λ count. count ≡ length states.now) }
-{
-    match u32::try_from(states.len()) {
-        Ok(count) => Ok(count),
-        Err(_) => Err(AllocError),
     }
 }
 
@@ -210,6 +201,7 @@ fn left_state(
         is_final: state.is_final,
         entry,
         exit: Items::new(alloc),
+        during: Items::new(alloc),
         regions: all_regions(alloc, x, state.regions.as_slice())?,
         transitions: left_transitions(
             alloc,

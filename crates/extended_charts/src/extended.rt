@@ -2,7 +2,7 @@
 
 use core_charts::{Effect, Transition};
 use sc_graph::{Variable, VariableId};
-use sc_values::{Name, Value};
+use sc_values::{Expr, Name, Value};
 use sqlite_items::Items;
 
 /// The number by which triggers name the ticks since their state was entered. No variable has it.
@@ -36,6 +36,15 @@ pub struct ExtendedChart {
     pub regions: Items<ExtendedRegion>,
 }
 
+/// What is done in each tick in which a state goes on, and where it is immediate also in the tick of its entry: where
+/// the trigger is true, if there is one.
+#[derive(Debug, Drop)]
+pub struct During {
+    pub immediate: bool,
+    pub trigger: Option<Expr>,
+    pub effects: Items<Effect>,
+}
+
 /// A region: it is in one of its states, or has ended.
 #[derive(Debug, Drop)]
 #[cycle(extended)]
@@ -58,6 +67,8 @@ pub struct ExtendedState {
     /// What is done each time that the state is left, behind what is active in it and before the effects of the
     /// transition.
     pub exit: Items<Effect>,
+    /// What is done while the state goes on, before it is left by other than strong aborts.
+    pub during: Items<During>,
     pub regions: Items<ExtendedRegion>,
     /// In the order of the text. Their targets are places among the states of the region, from 0.
     pub transitions: Items<Transition>,

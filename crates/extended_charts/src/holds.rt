@@ -4,6 +4,7 @@ ghost use Rattle.std.specs.Prelude.{◌≡◌, IfOk, map};
 ghost use Rattle.extended_charts.specs.Holds.{condition, untested, body, tested, hold, ended, held};
 ghost use Rattle.extended_charts.specs.Holds.{held_region, held_state, held_inside, with_holds};
 
+use crate::copies::copied_trigger;
 use crate::extended::{ExtendedChart, ExtendedRegion, ExtendedState};
 use crate::making::{alone, always, made_state};
 use crate::names::plain;
@@ -25,15 +26,6 @@ pub fn with_holds(alloc: Global, chart: ExtendedChart) -> Result<ExtendedChart, 
         constants: chart.constants,
         regions,
     })
-}
-
-fn copied_trigger(alloc: Global, trigger: &Option<Expr>) -> Result<Option<Expr>, AllocError>
-    ensures { IfOk result (λ copy. copy ≡ trigger.now) }
-{
-    match trigger {
-        Some(expression) => Ok(Some(expression.copied(alloc)?)),
-        None => Ok(None),
-    }
 }
 
 // The trigger of the termination, if it has one.
@@ -108,6 +100,7 @@ fn ended(alloc: Global) -> ExtendedState
         is_final: true,
         entry: Items::new(alloc),
         exit: Items::new(alloc),
+        during: Items::new(alloc),
         regions: Items::new(alloc),
         transitions: Items::new(alloc),
     }
@@ -193,6 +186,7 @@ fn held_state(alloc: Global, state: &ExtendedState) -> Result<ExtendedState, All
         is_final: state.is_final,
         entry: copied_effects(alloc, state.entry.as_slice())?,
         exit: copied_effects(alloc, state.exit.as_slice())?,
+        during: Items::new(alloc),
         regions: held_inside(alloc, state)?,
         transitions: all_untested(alloc, state.transitions.as_slice())?,
     })

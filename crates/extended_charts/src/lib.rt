@@ -1,11 +1,12 @@
 //! Extended charts, and their reduction to charts: constants, signals, what variables were in the tick before, the
-//! ticks since a state was entered, entry and exit actions, terminations with triggers and initial values.
+//! ticks since a state was entered, entry, exit and during actions, terminations with triggers and initial values.
 #![tactic(auto)]
 
 mod clocks;
 mod constants;
 mod copies;
 mod departures;
+mod durings;
 mod entry;
 mod exits;
 mod extended;
@@ -24,9 +25,12 @@ mod signals;
 
 pub use clocks::with_clocks;
 pub use constants::without_constants;
+pub use durings::with_durings;
 pub use entry::without_entry;
 pub use exits::with_exits;
-pub use extended::{Constant, Declared, ELAPSED, ExtendedChart, ExtendedRegion, ExtendedState};
+pub use extended::{
+    Constant, Declared, During, ELAPSED, ExtendedChart, ExtendedRegion, ExtendedState,
+};
 pub use fault::ReduceFault;
 pub use holds::with_holds;
 pub use initial::with_settings;

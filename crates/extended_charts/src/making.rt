@@ -94,6 +94,7 @@ pub(crate) fn made_state(
         is_final: false,
         entry: Items::new(alloc),
         exit: Items::new(alloc),
+        during: Items::new(alloc),
         regions,
         transitions,
     }
@@ -154,6 +155,16 @@ pub(crate) fn sum(a: u32, b: u32) -> Result<u32, AllocError>
     match a.checked_add(b) {
         Some(both) => Ok(both),
         None => Err(AllocError),
+    }
+}
+
+/// How many there are. Err: no memory holds so many.
+pub(crate) fn count<T>(items: &[T]) -> Result<u32, AllocError>
+    ensures { IfOk result (λ count. count ≡ length items.now) }
+{
+    match u32::try_from(items.len()) {
+        Ok(count) => Ok(count),
+        Err(_) => Err(AllocError),
     }
 }
 

@@ -7,6 +7,7 @@ ghost use Rattle.extended_charts.specs.Reduction.{with_entry, chart_of, IsReduct
 
 use crate::clocks::with_clocks;
 use crate::constants::without_constants;
+use crate::durings::with_durings;
 use crate::entry::without_entry;
 use crate::exits::with_exits;
 use crate::extended::{Declared, ExtendedChart};
@@ -39,7 +40,8 @@ fn with_entry(alloc: Global, chart: &ExtendedChart) -> Result<ExtendedChart, All
     ensures { IfOk result (λ made. made ≡ with_entry chart.now) }
 {
     let valued = without_constants(alloc, chart)?;
-    let signalled = with_signals(alloc, valued)?;
+    let acting = with_durings(alloc, valued)?;
+    let signalled = with_signals(alloc, acting)?;
     let registered = with_registers(alloc, signalled)?;
     let clocked = with_clocks(alloc, registered)?;
     let left = with_exits(alloc, clocked)?;

@@ -12,7 +12,7 @@ use Rattle.drafts.proofs.ToldFlaws.{told_five}
 use Rattle.chart_drafts.specs.declared.draft.DraftRegion.{DraftRegion}
 use Rattle.chart_drafts.specs.Flaws.{chart_flaws}
 use Rattle.extended_drafts.specs.declared.draft.DraftItem.{DraftItem}
-use Rattle.extended_drafts.specs.declared.draft.DraftEntry.{DraftEntry}
+use Rattle.extended_drafts.specs.declared.draft.StateActions.{StateActions}
 use Rattle.extended_drafts.specs.declared.draft.DraftDelay.{DraftDelay}
 use Rattle.extended_drafts.specs.declared.draft.ExtendedDraft.{ExtendedDraft}
 use Rattle.extended_drafts.specs.Flaws.{joined, word_flaws, plain_variables, item_flaws, signals, entries_flaws, delay_flaws, variable_name_flaws}
@@ -39,7 +39,7 @@ both_told d f0 f1 e f =
     ∙ sym (told_both [] (chart_flaws d.core) (new_flaws d)) ∙ told_found (extended_flaws d)
 
 -- the flaws of what is new, part by part
-pub new_told : (d : ExtendedDraft) (f a b c e g h : List Flaw) (I : List DraftItem) (P S V W : List Declaration) (E : List (List DraftEntry))
+pub new_told : (d : ExtendedDraft) (f a b c e g h : List Flaw) (I : List DraftItem) (P S V W : List Declaration) (E : List StateActions)
     (D : List (Option DraftDelay)) (R : List DraftRegion) → a ≡ told_behind f (word_flaws (codes "extended") d.word) → I ≡ d.items
     → P ≡ plain_variables I → b ≡ told_behind a (joined (map (item_flaws P) I)) → S ≡ signals I → V ≡ d.core.variables → E ≡ d.rows.entries
     → c ≡ told_behind b (joined (map (entries_flaws V S) E)) → D ≡ d.rows.delays → e ≡ told_behind c (joined (map (delay_flaws V) D))

@@ -94,9 +94,11 @@ module _ (e e' : Grows Phrase) (w : Deeper Phrase e e') where
   unfolding entry last_effects
   entry_wider =
       deeper_made _ _ _ _ _
+      (deeper_seq _ _ _ _ _ _ (flag_same _)
       (deeper_seq _ _ _ _ _ _ name_same
+      (deeper_seq _ _ _ _ _ _ trigger_wider
       (deeper_made _ _ _ _ _
-      (deeper_seq _ _ _ _ _ _ (same_one _) (deeper_made _ _ _ _ _ (deeper_seq _ _ _ _ _ _ some_effects_wider (same_one _))))))
+      (deeper_seq _ _ _ _ _ _ (same_one _) (deeper_made _ _ _ _ _ (deeper_seq _ _ _ _ _ _ some_effects_wider (same_one _))))))))
 
   pause_wider : Deeper (Bool × Option DraftDelay) (pause e) (pause e')
   unfolding pause at_once waiting some_delay

@@ -1,4 +1,4 @@
--- What reading gives for each rule of entry actions and transitions.
+-- What reading gives for each rule of actions and transitions.
 use Rattle.std.proofs.Common.{◌≡◌, ℕ, ◌-◌, Bool, true, false, Option, Some, None, List, [], ◌∷◌, length, drop, refl, sym, subst, ap, ◌∙◌}
 use Rattle.std.specs.Prelude.{◌||◌, option_map}
 use Rattle.grammar.specs.Grammar.{one, seq, either, maybe, many}
@@ -18,7 +18,7 @@ use Rattle.drafts.specs.declared.parts.TextExpression.{TextExpression}
 use Rattle.chart_drafts.specs.declared.draft.DraftEffect.{DraftEffect}
 use Rattle.chart_drafts.specs.declared.draft.DraftTransition.{DraftTransition}
 use Rattle.chart_drafts.specs.Draft.{transition_of}
-use Rattle.chart_drafts.specs.ChartText.{Grows, the_word, name, placed, moment, tested_words, trigger, transition_first}
+use Rattle.chart_drafts.specs.ChartText.{Grows, the_word, name, flag, placed, moment, tested_words, trigger, transition_first}
 use Rattle.chart_drafts.specs.PartsRead.{IsGoing}
 use Rattle.chart_drafts.specs.Phrase.{Gives}
 use Rattle.chart_drafts.proofs.Parts.{seq_gives, made_gives, made_stops, maybe_none, maybe_some, maybe_stops, left_read}
@@ -27,25 +27,29 @@ use Rattle.chart_drafts.proofs.RowReading.{many_goes}
 use Rattle.extended_drafts.specs.declared.draft.DraftEntry.{DraftEntry}
 use Rattle.extended_drafts.specs.declared.draft.DraftDelay.{DraftDelay}
 use Rattle.extended_drafts.specs.Draft.{entry_of, delay_of, hold_of, or_next, delayed, ended, parted}
-use Rattle.extended_drafts.specs.ExtendedText.{deed, last_effects, entry, some_delay, at_once, waiting, pause, pause_first, tested, termination, transition}
+use Rattle.extended_drafts.specs.ExtendedText.{deed, last_effects, entry, entry_first, some_delay, at_once, waiting, pause, pause_first, tested, termination}
+use Rattle.extended_drafts.specs.ExtendedText.{transition}
 use Rattle.extended_drafts.specs.Inside.{IsGathering}
 use Rattle.extended_drafts.proofs.Shapes.{entry_is, at_once_is, either_is, termination_is, transition_is}
 
 abbrev e0 : Grows Phrase
 e0 = expression 0
 
--- ---- entry actions
+-- ---- actions
 
-pub entry_gives : (text a rest : List Token) (n : Named) (d : List DraftEffect) → Gives (read name text) n a
-    → Gives (read (after (the_word word.Do) (last_effects e0)) a) d rest → Gives (read (entry e0) text) (entry_of n d) rest
+pub entry_gives : (text a b c rest : List Token) (i : Bool) (n : Named) (t : Option TextExpression) (d : List DraftEffect)
+    → Gives (read (flag word.Immediate) text) i a → Gives (read name a) n b → Gives (read (trigger e0) b) t c
+    → Gives (read (after (the_word word.Do) (last_effects e0)) c) d rest → Gives (read (entry e0) text) (entry_of i n t d) rest
 unfolding entry
-entry_gives text a rest n d x y =
-    made_gives (λ x. entry_of x.0 x.1) (seq name (after (the_word word.Do) (last_effects e0))) text (n, d) rest
-    (seq_gives name (after (the_word word.Do) (last_effects e0)) text a rest n d x y)
+entry_gives text a b c rest i n t d x y z w =
+    let deeds : Grows (List DraftEffect) = after (the_word word.Do) (last_effects e0) in
+    made_gives (λ x. entry_of x.0 x.1.0 x.1.1.0 x.1.1.1) (seq (flag word.Immediate) (seq name (seq (trigger e0) deeds))) text (i, (n, (t, d))) rest
+    (seq_gives (flag word.Immediate) (seq name (seq (trigger e0) deeds)) text a rest i (n, (t, d)) x
+    (seq_gives name (seq (trigger e0) deeds) a b rest n (t, d) y (seq_gives (trigger e0) deeds b c rest t d z w)))
 
 pub entries_go : (text : List Token) (most : ℕ) (found : List DraftEntry) → most ≡ length text → found ≡ []
-    → IsGoing (read (many (entry e0)) text) (entry e0) (AName ∷ []) found (most - 0) text
-entries_go text most found e f = many_goes (entry e0) (AName ∷ []) (entry_is e0 (expression_is 0)).begins text most found e f
+    → IsGoing (read (many (entry e0)) text) (entry e0) entry_first found (most - 0) text
+entries_go text most found e f = many_goes (entry e0) entry_first (entry_is e0 (expression_is 0)).begins text most found e f
 
 -- ---- what transitions wait
 

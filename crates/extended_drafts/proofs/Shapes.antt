@@ -14,7 +14,7 @@ use Rattle.chart_drafts.proofs.Shapes.{IsExpression, leaving_first, name_is, fla
 use Rattle.extended_drafts.specs.declared.draft.Rows.{Rows}
 use Rattle.extended_drafts.specs.ExtendedText.{item_first, item_value, last_value, typed, signalled, bare_signal, plain_body, worded_body, plain, worded, item}
 use Rattle.extended_drafts.specs.ExtendedText.{combining_signs, combining, combined, becoming, emitting, effect_end, effect, next_effect, some_effects}
-use Rattle.extended_drafts.specs.ExtendedText.{effects, deed, last_effects, entry}
+use Rattle.extended_drafts.specs.ExtendedText.{effects, deed, last_effects, entry, entry_first}
 use Rattle.extended_drafts.specs.ExtendedText.{some_delay, at_once, waiting, pause, pause_first, tested, termination}
 use Rattle.extended_drafts.specs.ExtendedText.{transition, transitions, leaving, Inner, NoMore, Nested, rowed, bare, nested, inside, simple, acting, body}
 use Rattle.extended_drafts.specs.ExtendedText.{state, region, within, parts, extended, extended_text}
@@ -123,17 +123,21 @@ module _ (e : Grows Phrase) (h : IsExpression e) where
       (shaped_made _ _ _ _ _ _ _ (shaped_seq _ _ _ _ _ _ _ _ _ _ (shaped_one _ refl) some_effects_are refl))))
       target_is refl
 
-  -- ---- entry actions and transitions
+  -- ---- actions and transitions
 
-  pub entry_is : Shaped (entry e) false (AName ∷ []) []
+  pub entry_is : Shaped (entry e) false entry_first []
   unfolding entry last_effects
   entry_is =
       shaped_made _ _ _ _ _ _ _
+      (shaped_seq _ _ _ _ _ _ _ _ _ _ (flag_is word.Immediate)
       (shaped_seq _ _ _ _ _ _ _ _ _ _ name_is
+      (shaped_seq _ _ _ _ _ _ _ _ _ _ (trigger_is e h)
       (shaped_made _ _ _ _ _ _ _
       (shaped_seq _ _ _ _ _ _ _ _ _ _ (shaped_one _ refl)
       (shaped_made _ _ _ _ _ _ _ (shaped_seq _ _ _ _ _ _ _ _ _ _ some_effects_are (shaped_one _ refl) refl))
       refl))
+      refl)
+      refl)
       refl)
 
   pub some_delay_is : Shaped (some_delay e) false (AName ∷ []) expression_tails
@@ -196,7 +200,8 @@ module _ (e : Grows Phrase) (h : IsExpression e) where
   inside_is NoMore nothing = shaped_barred _ _ _ _ _ bare_is refl
   inside_is (Nested a) (in_more r i) = shaped_either _ _ _ _ _ _ _ (nested_is r i) bare_is refl
 
-  acting_is : (inner : Inner) → Fits inner → Shaped (acting e inner) false (AName ∷ TheWord word.Region ∷ leaving_first) []
+  acting_is : (inner : Inner) → Fits inner
+      → Shaped (acting e inner) false (TheWord word.Immediate ∷ AName ∷ TheWord word.Region ∷ leaving_first) []
   unfolding acting
   acting_is inner f = shaped_seq _ _ _ _ _ _ _ _ _ _ (shaped_many _ _ _ _ entry_is refl) (inside_is inner f) refl
 

@@ -1,5 +1,6 @@
 -- What the parts of an extended chart's text mean: the parts of a chart, with what is new beside them.
-use Rattle.std.specs.Prelude.{ℕ, Bool, true, false, Option, Some, None, List, [], ◌∷◌, ◌++◌, map, codes, option_map, if◌then◌else◌}
+use Rattle.std.specs.Prelude.{ℕ, Bool, true, false, not, ◌||◌, Option, Some, None, List, [], ◌∷◌, ◌++◌, map, codes, option_map, if◌then◌else◌}
+use Rattle.std.specs.List.{list_any}
 use Rattle.std.specs.Str.{bytes_eq}
 use Rattle.sc_values.specs.declared.value.Value.TheVariants as value
 use Rattle.sc_values.specs.declared.value.Kind.{Kind}
@@ -13,6 +14,7 @@ use Rattle.sc_text.specs.declared.token.TokenKind.{TokenKind}
 use Rattle.sc_text.specs.declared.token.TokenKind.TheVariants as token
 use Rattle.sc_text.specs.declared.operation.TextOperation.TheVariants as text
 use Rattle.core_charts.specs.declared.region.TransitionKind.{TransitionKind}
+use Rattle.core_charts.specs.Tests.{is_join}
 use Rattle.drafts.specs.declared.parts.Named.{Named}
 use Rattle.drafts.specs.declared.parts.TextExpression.{TextExpression}
 use Rattle.drafts.specs.Parts.{declared_as}
@@ -27,6 +29,7 @@ use Rattle.extended_drafts.specs.declared.draft.Combination.{Combination}
 use Rattle.extended_drafts.specs.declared.draft.EffectEnd.{EffectEnd}
 use Rattle.extended_drafts.specs.declared.draft.EffectEnd.TheVariants as ends
 use Rattle.extended_drafts.specs.declared.draft.DraftEntry.{DraftEntry}
+use Rattle.extended_drafts.specs.declared.draft.StateActions.{StateActions}
 use Rattle.extended_drafts.specs.declared.draft.DraftDelay.{DraftDelay}
 use Rattle.extended_drafts.specs.declared.draft.Rows.{Rows}
 use Rattle.extended_drafts.specs.declared.draft.StateBody.{StateBody}
@@ -84,8 +87,15 @@ effect_with word (ends.Name n) = effect_of n (emitted word n)
 
 -- ---- actions and transitions
 
-abbrev pub entry_of : Named → List DraftEffect → DraftEntry
-entry_of word effects = record { word = word; effects = effects }
+abbrev pub entry_of : Bool → Named → Option TextExpression → List DraftEffect → DraftEntry
+entry_of immediate word trigger effects = record { immediate = immediate; word = word; trigger = trigger; effects = effects }
+
+abbrev pub has_join : List DraftTransition → Bool
+has_join transitions = list_any (λ t. is_join t.kind) transitions
+
+-- the actions of a state: some may be made while it goes on, where it is not final and no termination leaves it
+abbrev pub actions_of : Bool → List DraftEntry → List DraftTransition → StateActions
+actions_of is_final entries transitions = record { entries = entries; may_last = not (is_final || has_join transitions) }
 
 abbrev pub delay_of : Named → TextExpression → DraftDelay
 delay_of word ticks = record { word = Some word; until = ticks }
@@ -132,12 +142,13 @@ body_of regions transitions =
     record { regions = regions.0; rows = regions.1; transitions = transitions.0; delays = transitions.1 }
 
 -- a state begins before what is in it
-abbrev pub state_rows : List DraftEntry → StateBody → Rows
-state_rows entries b = record { entries = entries ∷ b.rows.entries; delays = b.rows.delays ++ b.delays }
+abbrev pub state_rows : Bool → List DraftEntry → StateBody → Rows
+state_rows is_final entries b =
+    record { entries = actions_of is_final entries b.transitions ∷ b.rows.entries; delays = b.rows.delays ++ b.delays }
 
 abbrev pub state_with : Bool → Bool → Named → List DraftEntry × StateBody → DraftState × Rows
 state_with is_initial is_final n body =
-    (state_of is_initial is_final n (body.1.regions, body.1.transitions), state_rows body.0 body.1)
+    (state_of is_initial is_final n (body.1.regions, body.1.transitions), state_rows is_final body.0 body.1)
 
 abbrev pub region_with : Named → List DraftState × Rows → DraftRegion × Rows
 region_with n states = (region_of n states.0, states.1)

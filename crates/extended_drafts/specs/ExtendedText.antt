@@ -8,7 +8,7 @@
 --   value       = [ "=" expression ]
 --   region      = "region" name "{" state { state } "}"
 --   state       = [ "initial" ] [ "final" ] "state" name ( ";" | "{" { entry } inside )
---   entry       = word "do" effect { "," effect } ";"
+--   entry       = [ "immediate" ] word [ "if" expression ] "do" effect { "," effect } ";"
 --   inside      = [ region { region } ] { transition } "}"
 --   transition  = ( "go" | "strong" | "weak" ) [ "immediate" | delay ] [ "if" expression ] [ effects ] "->" name ";"
 --               | "join" [ "if" expression ] [ effects ] "->" name ";"
@@ -137,13 +137,19 @@ effects e = made or_none (maybe (after (the_word word.Do) (some_effects e)))
 unfoldable pub deed : Grows Phrase → Grows (List DraftEffect × Named)
 deed e = seq (effects e) target
 
--- ---- entry actions and transitions
+-- ---- actions and transitions
 
 unfoldable pub last_effects : Grows Phrase → Grows (List DraftEffect)
 last_effects e = before (some_effects e) (the_sign sign.Semicolon)
 
 unfoldable pub entry : Grows Phrase → Grows DraftEntry
-entry e = made (λ x. entry_of x.0 x.1) (seq name (after (the_word word.Do) (last_effects e)))
+entry e =
+    made (λ x. entry_of x.0 x.1.0 x.1.1.0 x.1.1.1)
+    (seq (flag word.Immediate) (seq name (seq (trigger e) (after (the_word word.Do) (last_effects e)))))
+
+-- what begins an action
+abbrev pub entry_first : List Class
+entry_first = TheWord word.Immediate ∷ AName ∷ []
 
 unfoldable pub some_delay : Grows Phrase → Grows DraftDelay
 some_delay e = made (λ x. delay_of x.0 x.1) (seq name (placed e))

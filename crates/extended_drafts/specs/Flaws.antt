@@ -22,9 +22,10 @@ use Rattle.chart_drafts.specs.declared.draft.DraftRegion.{DraftRegion}
 use Rattle.chart_drafts.specs.declared.draft.DraftRegion.TheOpen.{DraftRegion-F, DraftState-F}
 use Rattle.chart_drafts.specs.declared.draft.DraftRegion.TheFolds.{fold-DraftRegion, fold-DraftState}
 use Rattle.chart_drafts.specs.declared.draft.DraftState.{DraftState}
-use Rattle.chart_drafts.specs.Flaws.{chart_flaws, effect_flaws}
+use Rattle.chart_drafts.specs.Flaws.{chart_flaws, effect_flaws, trigger_flaws}
 use Rattle.extended_drafts.specs.declared.draft.DraftItem.{DraftItem}
 use Rattle.extended_drafts.specs.declared.draft.DraftEntry.{DraftEntry}
+use Rattle.extended_drafts.specs.declared.draft.StateActions.{StateActions}
 use Rattle.extended_drafts.specs.declared.draft.DraftDelay.{DraftDelay}
 use Rattle.extended_drafts.specs.declared.draft.ExtendedDraft.{ExtendedDraft}
 
@@ -144,18 +145,35 @@ emission_flaws signals e = combination_flaws e.value ++ signalling_flaws signals
 abbrev pub emissions_flaws : List Declaration → List DraftEffect → List Flaw
 emissions_flaws signals effects = joined (map (emission_flaws signals) effects)
 
--- ---- entry and exit actions, and what transitions wait for
+-- ---- actions, and what transitions wait for
 
--- the word before an action tells whether it is made when its state is entered or when it is left
-abbrev pub action_word_flaws : Named → List Flaw
-action_word_flaws word =
-    flaw_if (not (bytes_eq word.name (codes "entry") || bytes_eq word.name (codes "exit"))) broken.Grammar word.at
+-- The word before an action tells whether it is made when its state is entered, when it is left, or while it goes on. Where
+-- `immediate` or a trigger stands, it is the last
+abbrev pub is_action_word : (is_bare : Bool) → List ℕ → Bool
+is_action_word is_bare word =
+    bytes_eq word (codes "during") || (is_bare && (bytes_eq word (codes "entry") || bytes_eq word (codes "exit")))
 
-abbrev pub entry_flaws : (variables signals : List Declaration) → DraftEntry → List Flaw
-entry_flaws variables signals e = action_word_flaws e.word ++ (effect_flaws variables 0 e.effects ++ emissions_flaws signals e.effects)
+abbrev pub is_bare : DraftEntry → Bool
+is_bare e = not (e.immediate || is_some e.trigger)
 
-abbrev pub entries_flaws : (variables signals : List Declaration) → List DraftEntry → List Flaw
-entries_flaws variables signals entries = joined (map (entry_flaws variables signals) entries)
+abbrev pub action_word_flaws : DraftEntry → List Flaw
+action_word_flaws e = flaw_if (not (is_action_word (is_bare e) e.word.name)) broken.Grammar e.word.at
+
+-- nothing is made while a state goes on that may not
+abbrev pub during_flaws : (may_last : Bool) → Named → List Flaw
+during_flaws may_last word = flaw_if (not may_last && bytes_eq word.name (codes "during")) broken.Rule word.at
+
+-- what is made, and when
+abbrev pub made_flaws : (variables signals : List Declaration) → DraftEntry → List Flaw
+made_flaws variables signals e =
+    trigger_flaws variables e.trigger ++ (effect_flaws variables 0 e.effects ++ emissions_flaws signals e.effects)
+
+abbrev pub entry_flaws : (variables signals : List Declaration) → (may_last : Bool) → DraftEntry → List Flaw
+entry_flaws variables signals may_last e =
+    action_word_flaws e ++ (during_flaws may_last e.word ++ made_flaws variables signals e)
+
+abbrev pub entries_flaws : (variables signals : List Declaration) → StateActions → List Flaw
+entries_flaws variables signals a = joined (map (entry_flaws variables signals a.may_last) a.entries)
 
 -- behind a word ticks are waited for, and behind none a termination waits for its trigger
 abbrev pub until_flaws : List Declaration → Option Named → TextExpression → List Flaw

@@ -43,11 +43,22 @@ pub enum EffectEnd {
     Name(Named),
 }
 
-/// What is done at each entry of a state, and the word before it.
+/// What is done as a state is entered or left, or while it goes on, by the word before it; behind `immediate`, and
+/// where a trigger is true.
 #[derive(Debug, Drop)]
 pub struct DraftEntry {
+    pub immediate: bool,
     pub word: Named,
+    pub trigger: Option<TextExpression>,
     pub effects: Items<DraftEffect>,
+}
+
+/// The actions of a state, and whether some may be made while it goes on: it is not final, and no termination leaves
+/// it.
+#[derive(Debug, Drop)]
+pub struct StateActions {
+    pub entries: Items<DraftEntry>,
+    pub may_last: bool,
 }
 
 /// What a transition waits for: so many ticks, behind a word; or, of a termination, its trigger, without one.
@@ -57,15 +68,15 @@ pub struct DraftDelay {
     pub until: TextExpression,
 }
 
-/// What is new in states and transitions: a row of entry actions for each state, in the order in which states begin in
-/// the text, and what each transition waits for, in the order of the text.
+/// What is new in states and transitions: a row of actions for each state, in the order in which states begin in the
+/// text, and what each transition waits for, in the order of the text.
 #[derive(Debug, Drop)]
 pub struct Rows {
-    pub entries: Items<Items<DraftEntry>>,
+    pub entries: Items<StateActions>,
     pub delays: Items<Option<DraftDelay>>,
 }
 
-/// What is in a state behind its entry actions: its regions with their rows, its transitions, and what they wait for.
+/// What is in a state behind its actions: its regions with their rows, its transitions, and what they wait for.
 #[derive(Debug, Drop)]
 pub struct StateBody {
     pub regions: Items<DraftRegion>,

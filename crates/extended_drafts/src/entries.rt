@@ -1,24 +1,25 @@
-//! Reading the entry actions of a state.
+//! Reading the actions of a state.
 
-ghost use Rattle.std.specs.Prelude.{MatchResult};
+ghost use Rattle.std.specs.Prelude.{◌≡◌, MatchResult};
 ghost use Rattle.grammar.specs.Grammar.{many};
-ghost use Rattle.grammar.specs.Read.{read};
-ghost use Rattle.sc_text.specs.Expression.{after, expression};
+ghost use Rattle.grammar.specs.Read.{read, starts};
+ghost use Rattle.sc_text.specs.Expression.{text_tokens, after, expression};
 ghost use Rattle.sc_text.specs.Reading.{Stops};
 ghost use Rattle.chart_drafts.specs.ChartText.{the_word};
 ghost use Rattle.chart_drafts.specs.Phrase.{Gives};
-ghost use Rattle.extended_drafts.specs.ExtendedText.{last_effects, entry};
+ghost use Rattle.extended_drafts.specs.ExtendedText.{last_effects, entry, entry_first};
 
 use crate::draft::DraftEntry;
 use crate::effects::some_effects;
 use crate::words::name_follows;
 use chart_drafts::DraftEffect;
-use chart_drafts::text_parts::{Ahead, name, skip_sign, skip_word};
-use sc_text::{ReadFault, Sign, Word};
+use chart_drafts::text_parts::{Ahead, flag, name, skip_sign, skip_word, trigger};
+use sc_text::ahead::word_follows;
+use sc_text::{ReadFault, Sign, Token, Word};
 use sqlite_items::Items;
 use std::alloc::Global;
 
-/// The entry actions of a state.
+/// The actions of a state.
 #[tactic(auto, using(crate::proofs::Pieces::entries_go, chart_drafts::proofs::RowReading::going_ends, chart_drafts::proofs::RowReading::going_over, chart_drafts::proofs::RowReading::going_stops, chart_drafts::proofs::RowReading::going_on))]
 pub(crate) fn entries(
     alloc: Global,
@@ -32,7 +33,7 @@ pub(crate) fn entries(
     let mut found = Items::new(alloc);
     let most = ahead.tokens.len();
     for used in 0..most {
-        if !name_follows(ahead.tokens) {
+        if !entry_follows(ahead.tokens) {
             return Ok(found);
         }
         let next = entry(alloc, ahead, end)?;
@@ -41,15 +42,29 @@ pub(crate) fn entries(
     Ok(found)
 }
 
+// Whether an action is next.
+fn entry_follows(tokens: &[Token]) -> bool
+    ensures { result ≡ starts text_tokens entry_first tokens.now }
+{
+    word_follows(tokens, Word::Immediate) || name_follows(tokens)
+}
+
 #[tactic(auto, using(crate::proofs::Pieces::entry_gives, chart_drafts::proofs::Parts::made_stops, chart_drafts::proofs::Parts::seq_stops_first, chart_drafts::proofs::Parts::seq_stops_second), unfolding(crate::specs::ExtendedText::entry))]
 fn entry(alloc: Global, ahead: &mut Ahead, end: usize) -> Result<DraftEntry, ReadFault>
     ensures { MatchResult result
         (λ x. Gives (read (entry (expression 0)) ahead.old.tokens.now) x ahead.new.tokens.now)
         (λ fault. Stops end (read (entry (expression 0)) ahead.old.tokens.now) fault) }
 {
+    let immediate = flag(ahead, Word::Immediate);
     let word = name(ahead, end)?;
+    let trigger = trigger(alloc, ahead, end)?;
     let effects = deeds(alloc, ahead, end)?;
-    Ok(DraftEntry { word, effects })
+    Ok(DraftEntry {
+        immediate,
+        word,
+        trigger,
+        effects,
+    })
 }
 
 // The word `do`, and what is done.

@@ -20,7 +20,8 @@ mod words;
 
 pub use checked::{extended_told_flaws, read_checked_extended};
 pub use draft::{
-    DraftDelay, DraftEntry, DraftItem, EffectEnd, ExtendedDraft, ItemBody, Rows, StateBody,
+    Combination, DraftDelay, DraftEntry, DraftItem, EffectEnd, ExtendedDraft, ItemBody, Rows,
+    StateActions, StateBody,
 };
 pub use laws::{extended_drafts_are_shaped, extended_texts_are_told};
 pub use whole::read_extended_draft;

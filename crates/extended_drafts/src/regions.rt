@@ -158,7 +158,7 @@ fn body(
     Ok((entries, inside))
 }
 
-// The entry actions of a state, and what is in it behind them.
+// The actions of a state, and what is in it behind them.
 #[cycle(regions)]
 #[tactic(auto, using(chart_drafts::proofs::Parts::seq_stops_first, chart_drafts::proofs::Parts::seq_stops_second, chart_drafts::proofs::Parts::seq_gives), unfolding(crate::specs::ExtendedText::acting))]
 fn acting(

@@ -1,11 +1,12 @@
-//! What is wrong with entry and exit actions, and with what transitions wait for.
+//! What is wrong with actions, and with what transitions wait for.
 
 ghost use Rattle.std.specs.Prelude.{◌≡◌, OnOk, map};
 ghost use Rattle.drafts.specs.Told.{told_behind};
-ghost use Rattle.extended_drafts.specs.Flaws.{action_word_flaws, joined, entry_flaws, entries_flaws, until_flaws};
-ghost use Rattle.extended_drafts.specs.Flaws.{delay_flaws};
+ghost use Rattle.chart_drafts.specs.Flaws.{trigger_flaws};
+ghost use Rattle.extended_drafts.specs.Flaws.{joined, is_action_word, action_word_flaws, during_flaws, made_flaws};
+ghost use Rattle.extended_drafts.specs.Flaws.{entry_flaws, entries_flaws, until_flaws, delay_flaws};
 
-use crate::draft::{DraftDelay, DraftEntry};
+use crate::draft::{DraftDelay, DraftEntry, StateActions};
 use crate::emission_flaws::emissions_flaws;
 use crate::item_flaws::word_flaws;
 use chart_drafts::effect_flaws;
@@ -20,44 +21,105 @@ pub(crate) fn all_entries_flaws(
     alloc: Global,
     scope: &Scope,
     signals: &Scope,
-    rows: &[Items<DraftEntry>],
+    rows: &[StateActions],
     found: &mut Items<Flaw>,
 ) -> Result<(), AllocError>
     ensures { OnOk result (found.new ≡ told_behind found.old
         (joined (map (entries_flaws scope.now.variables.now signals.now.variables.now) rows.now))) }
 {
     for row in rows {
-        entries_flaws(alloc, scope, signals, row.as_slice(), found)?;
+        entries_flaws(alloc, scope, signals, row, found)?;
     }
     Ok(())
 }
 
-// The flaws of the entry actions of one state.
+// The flaws of the actions of one state.
 fn entries_flaws(
     alloc: Global,
     scope: &Scope,
     signals: &Scope,
+    actions: &StateActions,
+    found: &mut Items<Flaw>,
+) -> Result<(), AllocError>
+    ensures { OnOk result (found.new ≡ told_behind found.old
+        (entries_flaws scope.now.variables.now signals.now.variables.now actions.now)) }
+{
+    all_flaws(
+        alloc,
+        scope,
+        signals,
+        actions.may_last,
+        actions.entries.as_slice(),
+        found,
+    )
+}
+
+fn all_flaws(
+    alloc: Global,
+    scope: &Scope,
+    signals: &Scope,
+    may_last: bool,
     entries: &[DraftEntry],
     found: &mut Items<Flaw>,
 ) -> Result<(), AllocError>
     ensures { OnOk result (found.new ≡ told_behind found.old
-        (entries_flaws scope.now.variables.now signals.now.variables.now entries.now)) }
+        (joined (map (entry_flaws scope.now.variables.now signals.now.variables.now may_last) entries.now))) }
 {
     for entry in entries {
-        entry_flaws(alloc, scope, signals, entry, found)?;
+        entry_flaws(alloc, scope, signals, may_last, entry, found)?;
     }
     Ok(())
 }
 
-fn action_word_flaws(alloc: Global, word: Named, found: &mut Items<Flaw>) -> Result<(), AllocError>
-    ensures { OnOk result (found.new ≡ told_behind found.old (action_word_flaws word)) }
+fn is_action_word(is_bare: bool, word: &str) -> bool
+    ensures { result ≡ is_action_word is_bare word.now }
 {
-    let is_known = word.name.as_str() == "entry" || word.name.as_str() == "exit";
-    note_told(alloc, found, !is_known, FaultKind::Grammar, word.at)
+    word == "during" || (is_bare && (word == "entry" || word == "exit"))
 }
 
+fn action_word_flaws(
+    alloc: Global,
+    entry: &DraftEntry,
+    found: &mut Items<Flaw>,
+) -> Result<(), AllocError>
+    ensures { OnOk result (found.new ≡ told_behind found.old (action_word_flaws entry.now)) }
+{
+    let is_bare = !(entry.immediate || entry.trigger.is_some());
+    let is_known = is_action_word(is_bare, entry.word.name.as_str());
+    note_told(alloc, found, !is_known, FaultKind::Grammar, entry.word.at)
+}
+
+// Nothing is made while a state goes on that may not.
+fn during_flaws(
+    alloc: Global,
+    may_last: bool,
+    word: Named,
+    found: &mut Items<Flaw>,
+) -> Result<(), AllocError>
+    ensures { OnOk result (found.new ≡ told_behind found.old (during_flaws may_last word)) }
+{
+    let is_wrong = !may_last && word.name.as_str() == "during";
+    note_told(alloc, found, is_wrong, FaultKind::Rule, word.at)
+}
+
+fn trigger_flaws(
+    alloc: Global,
+    scope: &Scope,
+    trigger: &Option<TextExpression>,
+    found: &mut Items<Flaw>,
+) -> Result<(), AllocError>
+    ensures { OnOk result (found.new ≡ told_behind found.old
+        (trigger_flaws scope.now.variables.now trigger.now)) }
+{
+    match trigger {
+        Some(trigger) => scope.tell_expression(alloc, Some(Kind::Bool), trigger, found),
+        None => Ok(()),
+    }
+}
+
+// The flaws of what is made, and of when.
 #[tactic(auto, using(drafts::proofs::ToldInOrder::told_both))]
-fn entry_flaws(
+fn made_flaws(
     alloc: Global,
     scope: &Scope,
     signals: &Scope,
@@ -65,11 +127,28 @@ fn entry_flaws(
     found: &mut Items<Flaw>,
 ) -> Result<(), AllocError>
     ensures { OnOk result (found.new ≡ told_behind found.old
-        (entry_flaws scope.now.variables.now signals.now.variables.now entry.now)) }
+        (made_flaws scope.now.variables.now signals.now.variables.now entry.now)) }
 {
-    action_word_flaws(alloc, entry.word, found)?;
+    trigger_flaws(alloc, scope, &entry.trigger, found)?;
     effect_flaws(alloc, scope, entry.effects.as_slice(), found)?;
     emissions_flaws(alloc, signals, entry.effects.as_slice(), found)
+}
+
+#[tactic(auto, using(drafts::proofs::ToldInOrder::told_both))]
+fn entry_flaws(
+    alloc: Global,
+    scope: &Scope,
+    signals: &Scope,
+    may_last: bool,
+    entry: &DraftEntry,
+    found: &mut Items<Flaw>,
+) -> Result<(), AllocError>
+    ensures { OnOk result (found.new ≡ told_behind found.old
+        (entry_flaws scope.now.variables.now signals.now.variables.now may_last entry.now)) }
+{
+    action_word_flaws(alloc, entry, found)?;
+    during_flaws(alloc, may_last, entry.word, found)?;
+    made_flaws(alloc, scope, signals, entry, found)
 }
 
 /// Tells the flaws of what transitions wait for. Err: memory was refused.

@@ -1,10 +1,10 @@
 //! Rows of what is new in states and transitions.
 
 ghost use Rattle.std.specs.Prelude.{◌≡◌, [], ◌∷◌, ◌++◌, IfOk, OnOk};
-ghost use Rattle.extended_drafts.specs.Draft.{no_rows, both_rows, body_of, state_with};
+ghost use Rattle.extended_drafts.specs.Draft.{no_rows, both_rows, body_of, has_join, actions_of, state_with};
 
-use crate::draft::{DraftDelay, DraftEntry, Rows, StateBody};
-use chart_drafts::DraftState;
+use crate::draft::{DraftDelay, DraftEntry, Rows, StateActions, StateBody};
+use chart_drafts::{DraftState, DraftTransition};
 use drafts::Named;
 use sqlite_items::Items;
 use std::alloc::{AllocError, Global};
@@ -44,7 +44,7 @@ impl StateBody {
     }
 }
 
-/// A state and its rows: its own entry actions, and what is in it. Err: memory was refused.
+/// A state and its rows: its own actions, and what is in it. Err: memory was refused.
 pub(crate) fn state_with(
     alloc: Global,
     is_initial: bool,
@@ -61,6 +61,7 @@ pub(crate) fn state_with(
         transitions,
         delays,
     } = inside;
+    let own = actions_of(is_final, own, transitions.as_slice());
     let rows = with_own(alloc, own, rows, delays)?;
     let state = DraftState {
         is_initial,
@@ -72,10 +73,30 @@ pub(crate) fn state_with(
     Ok((state, rows))
 }
 
-// The rows of what is in a state, behind its own entry actions, with what its transitions wait.
+// Whether one of these is a termination.
+fn has_join(transitions: &[DraftTransition]) -> bool
+    ensures { result ≡ has_join transitions.now }
+{
+    transitions
+        .iter()
+        .any(|transition| transition.kind.is_join())
+}
+
+fn actions_of(
+    is_final: bool,
+    entries: Items<DraftEntry>,
+    transitions: &[DraftTransition],
+) -> StateActions
+    ensures { result ≡ actions_of is_final entries transitions.now }
+{
+    let may_last = !(is_final || has_join(transitions));
+    StateActions { entries, may_last }
+}
+
+// The rows of what is in a state, behind its own actions, with what its transitions wait.
 fn with_own(
     alloc: Global,
-    own: Items<DraftEntry>,
+    own: StateActions,
     inside: Rows,
     waits: Items<Option<DraftDelay>>,
 ) -> Result<Rows, AllocError>

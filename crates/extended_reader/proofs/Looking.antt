@@ -10,7 +10,7 @@ use Rattle.extended_charts.specs.declared.extended.ExtendedRegion.{ExtendedRegio
 use Rattle.extended_charts.specs.declared.extended.ExtendedState.{ExtendedState}
 use Rattle.extended_charts.specs.declared.extended.ExtendedRegion.TheOpen.{ExtendedRegion-F, ExtendedState-F}
 use Rattle.extended_charts.specs.declared.extended.ExtendedRegion.TheViews.{roll-ExtendedRegion, roll-ExtendedState}
-use Rattle.extended_reader.specs.Resolved.{RegionPiece, StatePiece, region_step, state_step, region_of, state_of, actions_of, first_actions}
+use Rattle.extended_reader.specs.Resolved.{RegionPiece, StatePiece, region_step, state_step, region_of, state_of, actions_of, durings_of, first_actions}
 use Rattle.extended_reader.specs.Resolved.{behind_state, behind_transitions, behind_regions, behind_states, all_transitions, all_regions, all_states}
 
 module _ (names : List (List ℕ)) where
@@ -35,6 +35,7 @@ module _ (names : List (List ℕ)) where
     is_final = (out-DraftState s).is_final;
     entry = actions_of (codes "entry") names (first_actions rows.entries);
     exit = actions_of (codes "exit") names (first_actions rows.entries);
+    during = durings_of names (first_actions rows.entries);
     regions = all_regions (behind_state rows) (map (region_of names) (out-DraftState s).regions);
     transitions = all_transitions names states (left_inside s rows) (out-DraftState s).transitions;
   }

@@ -12,7 +12,7 @@ use Rattle.chart_reader.specs.Narrow.{AreNarrow}
 use Rattle.chart_reader.proofs.Whole as core
 use Rattle.chart_reader.proofs.Narrow as core_regions
 use Rattle.extended_drafts.specs.declared.draft.DraftItem.{DraftItem}
-use Rattle.extended_drafts.specs.declared.draft.DraftEntry.{DraftEntry}
+use Rattle.extended_drafts.specs.declared.draft.StateActions.{StateActions}
 use Rattle.extended_drafts.specs.declared.draft.DraftDelay.{DraftDelay}
 use Rattle.extended_drafts.specs.declared.draft.ExtendedDraft.{ExtendedDraft}
 use Rattle.extended_drafts.specs.Flaws.{new_flaws, extended_flaws}
@@ -44,7 +44,7 @@ module _ (d : ExtendedDraft) (none : extended_flaws d ≡ []) (shaped : IsExtend
 
 -- ---- the parts of the extended chart of a draft, each from what was looked at for it
 
-module _ (d : ExtendedDraft) (I : List DraftItem) (V : List Declaration) (E : List (List DraftEntry)) (D : List (Option DraftDelay)) (T : List DraftRegion)
+module _ (d : ExtendedDraft) (I : List DraftItem) (V : List Declaration) (E : List StateActions) (D : List (Option DraftDelay)) (T : List DraftRegion)
     (of_I : I ≡ d.items) (of_V : V ≡ declarations (sorted I)) (of_E : E ≡ d.rows.entries) (of_D : D ≡ d.rows.delays) (of_T : T ≡ d.core.regions) where
   names_are : variable_names V ≡ names_of d.items
   names_are = ap variable_names (of_V ∙ ap (λ x. declarations (sorted x)) of_I)

@@ -18,9 +18,11 @@ use Rattle.chart_drafts.specs.declared.draft.DraftRegion.TheFolds.{fold-DraftReg
 use Rattle.chart_drafts.specs.declared.draft.DraftState.{DraftState}
 use Rattle.chart_reader.specs.Resolved.{effect_of, transition_of}
 use Rattle.extended_drafts.specs.declared.draft.DraftEntry.{DraftEntry}
+use Rattle.extended_drafts.specs.declared.draft.StateActions.{StateActions}
 use Rattle.extended_drafts.specs.declared.draft.DraftDelay.{DraftDelay}
 use Rattle.extended_drafts.specs.declared.draft.Rows.{Rows}
 use Rattle.extended_drafts.specs.declared.draft.ExtendedDraft.{ExtendedDraft}
+use Rattle.extended_charts.specs.declared.extended.During.{During}
 use Rattle.extended_charts.specs.declared.extended.ExtendedChart.{ExtendedChart}
 use Rattle.extended_charts.specs.declared.extended.ExtendedRegion.{ExtendedRegion}
 use Rattle.extended_charts.specs.declared.extended.ExtendedState.{ExtendedState}
@@ -39,10 +41,24 @@ abbrev pub actions_of : (word : List ℕ) → (names : List (List ℕ)) → List
 actions_of word names [] = []
 actions_of word names (e ∷ entries) = effects_behind word names e ++ actions_of word names entries
 
--- ---- transitions
-
 abbrev pub condition_of : (names : List (List ℕ)) → TextExpression → Expr
 condition_of names e = expression_of names e.operations
+
+-- what is made while the state goes on
+abbrev pub during_of : (names : List (List ℕ)) → DraftEntry → During
+during_of names e =
+    record {
+      immediate = e.immediate;
+      trigger = option_map (condition_of names) e.trigger;
+      effects = map (effect_of names) e.effects;
+    }
+
+abbrev pub durings_of : (names : List (List ℕ)) → List DraftEntry → List During
+durings_of names [] = []
+durings_of names (e ∷ entries) =
+    if bytes_eq e.word.name (codes "during") then during_of names e ∷ durings_of names entries else durings_of names entries
+
+-- ---- transitions
 
 -- so many ticks went by since the state was entered
 abbrev pub waited : (names : List (List ℕ)) → TextExpression → Expr
@@ -69,9 +85,9 @@ delayed_transition names states d t = record (transition_of names states t) { tr
 
 -- ---- rows
 
-abbrev pub first_actions : List (List DraftEntry) → List DraftEntry
+abbrev pub first_actions : List StateActions → List DraftEntry
 first_actions [] = []
-first_actions (own ∷ entries) = own
+first_actions (own ∷ entries) = own.entries
 
 abbrev pub first_delay : List (Option DraftDelay) → Option DraftDelay
 first_delay [] = None
@@ -137,6 +153,7 @@ state_step names s =
         is_final = s.is_final;
         entry = actions_of (codes "entry") names (first_actions rows.entries);
         exit = actions_of (codes "exit") names (first_actions rows.entries);
+        during = durings_of names (first_actions rows.entries);
         regions = all_regions (behind_state rows) s.regions;
         transitions = all_transitions names states (behind_regions (behind_state rows) s.regions) s.transitions;
       });

@@ -11,7 +11,7 @@ ghost use Rattle.extended_reader.specs.Inside.{rows_in};
 ghost use Rattle.extended_reader.specs.Resolved.{region_of, state_of, all_regions, behind_regions};
 ghost use Rattle.extended_reader.specs.Resolved.{all_states, behind_states};
 
-use crate::actions::actions_of;
+use crate::actions::{actions_of, durings_of};
 use crate::rows::RowsLeft;
 use crate::states::StateScope;
 use crate::transitions::transitions;
@@ -116,6 +116,7 @@ fn state(
     let actions = rows.actions();
     let entry = actions_of(alloc, "entry", scope, actions)?;
     let exit = actions_of(alloc, "exit", scope, actions)?;
+    let during = durings_of(alloc, scope, actions)?;
     let regions = regions(alloc, scope, rows, levels, text.regions.as_slice())?;
     let transitions = transitions(alloc, scope, own, rows, text.transitions.as_slice())?;
     Ok(ExtendedState {
@@ -125,6 +126,7 @@ fn state(
         is_final: text.is_final,
         entry,
         exit,
+        during,
         regions,
         transitions,
     })

@@ -4,13 +4,12 @@ ghost use Rattle.std.specs.Prelude.{◌≡◌};
 ghost use Rattle.extended_reader.specs.Inside.{rows_in};
 ghost use Rattle.extended_reader.specs.Resolved.{first_actions, behind_state};
 
-use extended_drafts::{DraftDelay, DraftEntry};
-use sqlite_items::Items;
+use extended_drafts::{DraftDelay, DraftEntry, StateActions};
 
 /// The rows of the states and the transitions that are left.
 #[derive(Drop)]
 pub(crate) struct RowsLeft<'a> {
-    pub(crate) entries: &'a [Items<DraftEntry>],
+    pub(crate) entries: &'a [StateActions],
     pub(crate) delays: &'a [Option<DraftDelay>],
 }
 
@@ -23,7 +22,7 @@ impl<'a> RowsLeft<'a> {
         match self.entries {
             [own, behind @ ..] => {
                 self.entries = behind;
-                own.as_slice()
+                own.entries.as_slice()
             }
             [] => &[],
         }

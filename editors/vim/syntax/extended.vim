@@ -9,6 +9,7 @@ syntax match extendedStorage "\<\(const\|pre\)\ze\s\+\(bool\|int\)\>"
 syntax match extendedStorage "\<signal\ze\s\+[A-Za-z][A-Za-z0-9_]*\s*;"
 syntax match extendedStatement "\(\<do\s\+\|,\s*\)\@<=emit\ze\s\+[A-Za-z]"
 syntax match extendedStatement "\<\(entry\|exit\)\ze\s\+do\>"
+syntax match extendedStatement "\<during\ze\s\+\(do\|if\)\>"
 syntax match extendedStatement "\(\<\(go\|strong\|weak\)\s\+\)\@<=after\>"
 highlight default link extendedStorage StorageClass
 highlight default link extendedStatement Statement

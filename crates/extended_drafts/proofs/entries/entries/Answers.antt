@@ -1,34 +1,33 @@
-use Rattle.std.proofs.Common.{rules, ◌≡◌, true, [], ◌∷◌, refl}
+use Rattle.std.proofs.Common.{rules, ◌≡◌, true, refl}
 use Rattle.grammar.specs.Grammar.{many}
 use Rattle.grammar.specs.Read.{read, starts}
 use Rattle.sc_text.specs.declared.read_fault.ReadFault.{ReadFault}
-use Rattle.sc_text.specs.Classes.{AName}
 use Rattle.sc_text.specs.Expression.{text_tokens, expression}
 use Rattle.sc_text.specs.Reading.{Stops}
 use Rattle.chart_drafts.proofs.RowReading.{going_ends, going_stops, going_on}
-use Rattle.extended_drafts.specs.ExtendedText.{entry}
+use Rattle.extended_drafts.specs.ExtendedText.{entry, entry_first}
 use Rattle.extended_drafts.proofs.Pieces.{entries_go}
 use Rattle.extended_drafts.proofs.entries.entries.Goals as goal
 
 pub loop-used-init : goal.loop-used-init
 loop-used-init c = entries_go _ _ _ refl c.new-found.ensures
 
-pub returns-then-not-name_follows : goal.returns-then-not-name_follows
-returns-then-not-name_follows c =
-    let over = c.if-not-name_follows.true in
-    going_ends (entry (expression 0)) (AName ∷ []) _ _ _ _ c.loop-used.invariant (search (rules, over, c.name_follows.ensures))
+pub returns-then-not-entry_follows : goal.returns-then-not-entry_follows
+returns-then-not-entry_follows c =
+    let over = c.if-not-entry_follows.true in
+    going_ends (entry (expression 0)) entry_first _ _ _ _ c.loop-used.invariant (search (rules, over, c.entry_follows.ensures))
 
 pub returns-in_err-next : goal.returns-in_err-next
 returns-in_err-next c =
-    let on = c.if-not-name_follows.false in
-    let more : starts text_tokens (AName ∷ []) c.loop-used.ahead.tokens.now ≡ true = search (rules, on, c.name_follows.ensures) in
+    let on = c.if-not-entry_follows.false in
+    let more : starts text_tokens entry_first c.loop-used.ahead.tokens.now ≡ true = search (rules, on, c.entry_follows.ensures) in
     let stops : (f : ReadFault) → Stops c.args.end (read (entry (expression 0)) c.loop-used.ahead.tokens.now) f
     → Stops c.args.end (read (many (entry (expression 0))) c.args.ahead.now.tokens.now) f =
-    λ f. going_stops (entry (expression 0)) (AName ∷ []) _ _ _ _ _ c.args.end f c.loop-used-test.true c.loop-used.invariant more in
+    λ f. going_stops (entry (expression 0)) entry_first _ _ _ _ _ c.args.end f c.loop-used-test.true c.loop-used.invariant more in
     search (rules, stops)
 
 pub loop-used-preserved : goal.loop-used-preserved
 loop-used-preserved c =
-    let on = c.if-not-name_follows.false in
-    let more : starts text_tokens (AName ∷ []) c.loop-used.ahead.tokens.now ≡ true = search (rules, on, c.name_follows.ensures) in
-    going_on (entry (expression 0)) (AName ∷ []) _ _ _ _ _ _ _ _ c.loop-used-test.true c.loop-used.invariant more c.in_ok-next.ensures c.in_ok-push.ensures.ok
+    let on = c.if-not-entry_follows.false in
+    let more : starts text_tokens entry_first c.loop-used.ahead.tokens.now ≡ true = search (rules, on, c.entry_follows.ensures) in
+    going_on (entry (expression 0)) entry_first _ _ _ _ _ _ _ _ c.loop-used-test.true c.loop-used.invariant more c.in_ok-next.ensures c.in_ok-push.ensures.ok
