@@ -61,6 +61,16 @@ def is_flat(regions, inside_aborts=False):
     return True
 
 
+def is_layered(regions, around=frozenset()):
+    """Whether, where a superstate with aborts lies inside another one with aborts, it has strong ones alone and the outer one weak
+    ones alone, inside superstates with aborts of these kinds."""
+    for state in (s for region in regions for s in region.states):
+        kinds = {kind for kind in ("strong", "weak") if state.of_kind(kind)}
+        if ("strong" in around and kinds) or (around and "weak" in kinds) or not is_layered(state.regions, around | kinds):
+            return False
+    return True
+
+
 def text_of_transition(t, states, variables):
     words = [t.kind] + ["immediate"] * t.immediate
     if t.trigger is not None:

@@ -1,9 +1,9 @@
 """What holds, within a tick, between a configuration of a chart and the one of its core chart that stands for it, by words of
 crates/abort_expansion_laws/specs/Related: given the chart's, where each thread of the core chart stands.
 
-Where aborts lie in aborts, a monitor has the strong checks of the superstates around it in front, as long as one of them guards,
-and their weak checks behind, as a simple state has; and who was woken inside of a superstate that guards may guard. `is_flat`
-leaves these two away, as the relation of flat charts does."""
+Where aborts lie in aborts, a monitor has the weak checks of the superstates around it behind its tests, as a simple state has, and
+their strong checks in front, as long as one of them guards; and who was woken inside of a superstate that guards may guard.
+`is_layered` leaves the last two away, as the relation of layered charts does."""
 from expansion import aborts
 
 
@@ -14,8 +14,8 @@ def named(region, name):
 class Relation:
     """Of the plain machine of a chart and that of its core chart, which `expansion` made."""
 
-    def __init__(self, machine, expansion, core, is_flat=False):
-        self.c, self.d, self.known, self.is_flat = machine, core, expansion.known, is_flat
+    def __init__(self, machine, expansion, core, is_layered=False):
+        self.c, self.d, self.known, self.is_layered = machine, core, expansion.known, is_layered
         self.thread, self.main, self.entry, self.behind, self.watcher, self.place = {}, {}, {}, {}, {}, {}
         for region, made in zip(machine.chart.regions, expansion.chart.regions, strict=True):
             self.match(region, made)
@@ -106,8 +106,8 @@ class Relation:
         order = o.of_kind("strong") + o.of_kind("weak")
         raised = [own[order.index(t)] for t in tests if t.kind != "join"]
         rest = own[len(o.of_kind("strong")):] if where == "guarding" else own[len(order):]
-        if self.is_flat:
-            return "trying", watching, raised + rest
+        if self.is_layered:
+            return "trying", watching, raised + rest + watching.transitions[len(watching.transitions) - weak:]
         return "trying", watching, self.tests_of(r, watching, raised + rest)
 
     def wanted(self, t):
@@ -134,7 +134,7 @@ class Relation:
 
     def wrong_of_chart(self):
         c = self.c
-        woken = {"ended", "trying", "within"} | (set() if self.is_flat else {"guarding"})
+        woken = {"ended", "trying", "within"} | (set() if self.is_layered else {"guarding"})
         for r in c.regions:
             standing = c.standing[r]
             for s in c.around(r) if standing else []:

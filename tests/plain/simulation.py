@@ -23,10 +23,10 @@ class Broken(Exception):
 
 
 class Simulation:
-    def __init__(self, chart, source, is_flat=False):
+    def __init__(self, chart, source, is_layered=False):
         expansion = Expansion(chart)
         self.c, self.d = ChartMachine(chart, source), ChartMachine(expansion.chart, source)
-        self.relation = self.relation_of(self.c, expansion, self.d, is_flat)
+        self.relation = self.relation_of(self.c, expansion, self.d, is_layered)
         self.declared, self.log, self.reached = len(chart.variables), [], {}
         self.flags = {}
         for s, given in expansion.known.items():

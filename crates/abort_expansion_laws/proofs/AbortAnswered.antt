@@ -1,5 +1,6 @@
 -- An abort was taken: what is reached corresponds, and the continuation answers the flag.
-use Rattle.std.proofs.Common.{◌≡◌, ◌≢◌, ℕ, suc, ◌<◌, ◌≤◌, Bool, false, Option, Some, None, List, [], ◌∷◌, ◌++◌, length, slice_get, slice_set, Contains, refl}
+use Rattle.std.proofs.Common.{◌≡◌, ◌≢◌, ℕ, suc, ◌<◌, ◌≤◌, ◌⊎◌, inl, inr, Bool, true, false, not, ◌&&◌, Option, Some, None, List, [], ◌∷◌, ◌++◌}
+use Rattle.std.proofs.Common.{length, slice_get, slice_set, Contains, refl}
 use Rattle.std.proofs.Common.{sym, ap, subst, ◌∙◌, arith}
 use Rattle.sc_values.specs.declared.value.Value.{Value}
 use Rattle.sc_values.specs.Access.{Access}
@@ -24,15 +25,21 @@ use Rattle.chart_machine_laws.proofs.LyingIn.{IsNested, LiesUnder, around, holde
 use Rattle.abort_expansion_laws.proofs.TablesCorrespond.{IsThere}
 use Rattle.abort_expansion_laws.proofs.MoreValues.{same_verdict}
 use Rattle.abort_expansion_laws.proofs.FlagAccess.{number_access}
-use Rattle.abort_expansion_laws.specs.CoreRows.{own, Images, CoreRows, pair}
+use Rattle.abort_expansion.specs.Superstates.{stays}
+use Rattle.tick_laws.proofs.Lists.{map_contains}
+use Rattle.chart_machine_laws.proofs.ChartTables.{around_there}
+use Rattle.abort_expansion_laws.specs.CoreRows.{own, IsState, Images, CoreRows, flags_around, pair}
 use Rattle.abort_expansion_laws.specs.Related.{Stands, outside, ended, left, trying, acting, entering, guarding, staying, within, behind, IsInside}
-use Rattle.abort_expansion_laws.specs.Related.{guarded, open_inside, Stores, Related}
+use Rattle.abort_expansion_laws.specs.Related.{Stores, Related, Watches, waits, elsewhere}
+use Rattle.abort_expansion_laws.specs.Related.{guards as watch_guards}
+use Rattle.abort_expansion_laws.proofs.MayLeave.{is_forked}
+use Rattle.abort_expansion_laws.proofs.TerminationImage.{at_most_three}
 use Rattle.abort_expansion_laws.proofs.Unchanged.{get_other, get_same, unguarded}
 use Rattle.abort_expansion_laws.proofs.StageReached.{Stage, stage_of, holds_other}
 use Rattle.abort_expansion_laws.proofs.StartingRegions.{set_behind}
 use Rattle.abort_expansion_laws.proofs.EffectFollowed.{value_size}
 use Rattle.abort_expansion_laws.proofs.CoreSteps.{takes_any}
-use Rattle.abort_expansion_laws.proofs.InsideLeaves.{FlatRows}
+use Rattle.abort_expansion_laws.proofs.InsideLeaves.{LayeredRows}
 use Rattle.abort_expansion_laws.proofs.Leaving.{drops, set_here, set_other, set_length}
 use Rattle.abort_expansion_laws.proofs.StandsInside.{only_inside, inside_not_over, inside_present, inside_not_acting}
 use Rattle.abort_expansion_laws.proofs.DropsOut.{DropsOut, dropped_out}
@@ -41,7 +48,7 @@ use Rattle.abort_expansion_laws.proofs.StagesAfterDrop.{outer_stage, others_stay
 use Rattle.abort_expansion_laws.proofs.AbortNext.{AbortNext}
 use Rattle.abort_expansion_laws.proofs.AbortTaken as taken
 
-module _ (k core : Table) (i : Images) (rows : CoreRows k core i) (more : FlatRows k core i) (tree : IsNested k) (core_tree : IsNested core)
+module _ (k core : Table) (i : Images) (rows : CoreRows k core i) (more : LayeredRows k core i) (tree : IsNested k) (core_tree : IsNested core)
     (deep : (q s : ℕ) → Contains (around core q) s → holder core s < q)
     (core_children : (s r : ℕ) → Contains (state_at core s).regions r → around core r ≡ s ∷ around core (holder core s))
     (children : (s r : ℕ) → Contains (state_at k s).regions r → around k r ≡ s ∷ around k (holder k s))
@@ -75,25 +82,47 @@ module _ (k core : Table) (i : Images) (rows : CoreRows k core i) (more : FlatRo
 
   -- ---- stages
 
-  -- inside of o nobody has aborts
-  within_low : (q u : ℕ) (tests : List Transition) → Contains (around k q) o → holder k u ≡ q → stage_of k c (at.Within u tests) ≤ 1
-  within_low q u tests in_o its =
-      let none : has_aborts (own k u) ≡ false = more.flat_held o u next.has (subst (λ p. Contains (around k p) o) (sym its) in_o) in rw (none) (omega arith)
+  behind_plain : (a b z : Bool) → (not a && (not b && z)) ≡ true → b ≡ false
+  behind_plain true b z e = absurd cc
+  behind_plain false true z e = absurd cc
+  behind_plain false false z e = refl
 
-  low_by : (q : ℕ) → Contains (around k q) o → (w v : Standing) → Stands k core i c q w v → stage_of k c w ≤ 1
-  low_by q in_o _ _ outside = omega arith
-  low_by q in_o _ _ (ended inner) = omega arith
-  low_by q in_o _ _ (left s ss f over) = omega arith
-  low_by q in_o _ _ (trying s others simple its) = omega arith
-  low_by q in_o _ _ (acting s u p f effects lt) = omega arith
-  low_by q in_o _ _ (entering s fork u others super its leads) = omega arith
-  low_by q in_o _ _ (guarding s join u others some its leads) = omega arith
-  low_by q in_o _ _ (staying s others super its stays) = within_low q s others in_o its
-  low_by q in_o _ _ (within s join others super its stays still leads) = within_low q s others in_o its
-  low_by q in_o _ _ (behind s others super its over) = within_low q s others in_o its
+  -- a region inside whose thread stands in no fork
+  abbrev Spared : ℕ → Type 0
+  Spared q = is_forked (standing_of d (i.thread_of q)) ≡ true → ⊥
 
-  inside_low : (q : ℕ) → IsThere k q → Contains (around k q) o → stage_of k c (standing_of c q) ≤ 1
-  inside_low q q_there in_o = low_by q in_o (standing_of c q) (standing_of d (i.thread_of q)) (related.regions q q_there)
+  low_by : (q : ℕ) → (w v : Standing) → Stands k core i c q w v → (is_forked v ≡ true → ⊥) → stage_of k c w ≤ 1
+  low_by q _ _ outside spared = omega arith
+  low_by q _ _ (ended inner) spared = omega arith
+  low_by q _ _ (left s ss f over) spared = omega arith
+  low_by q _ _ (trying s others simple its) spared = omega arith
+  low_by q _ _ (acting s u p f effects lt) spared = omega arith
+  low_by q _ _ (entering s fork u others super its leads) spared = omega arith
+  low_by q _ _ (guarding s join u others some its leads) spared = omega arith
+  low_by q _ _ (staying s others super its stays) spared = absurd (spared refl)
+  low_by q _ _ (within s join others super its stays still leads) spared = absurd (spared refl)
+  low_by q _ _ (behind s others super its over) spared =
+      let plain : has_aborts (own k s) ≡ false = behind_plain (stays (flags_around k core i (holder k s)) (own k s)) (has_aborts (own k s)) _ over in
+      rw (plain) (omega arith)
+
+  inside_low : (q : ℕ) → IsThere k q → Contains (around k q) o → Spared q → stage_of k c (standing_of c q) ≤ 1
+  inside_low q q_there in_o spared = low_by q (standing_of c q) (standing_of d (i.thread_of q)) (related.regions q q_there) spared
+
+  watch_plain : (u : ℕ) (w v : Standing) → Watches k core i u w v → is_forked v ≡ false
+  watch_plain u _ _ (watch_guards some among) = refl
+  watch_plain u _ _ (waits some ends among only) = refl
+  watch_plain u _ _ (elsewhere w a b) = refl
+
+  -- of whichever thread, no stage above 3 is reached
+  pub forks_low : (h s : ℕ) → Contains (around core h) (i.main_of o) → is_forked (standing_of d h) ≡ true → Stage k i.thread_of c d h s → s ≤ 3
+  forks_low h s in_h forked before = by_sort (rows.each h (around_there core h (i.main_of o) in_h))
+    where
+      by_sort : ((q : ℕ) × IsThere k q × (h ≡ i.thread_of q)) ⊎ ((u : ℕ) × IsState k u × (has_aborts (own k u) ≡ true) × (h ≡ i.watcher_of u)) → s ≤ 3
+      by_sort (inl q) =
+          let le = before.regions q.0 q.1 q.2 in let most = at_most_three k c (standing_of c q.0) in omega (le, most, arith)
+      by_sort (inr u) =
+          let plain = watch_plain u.0 (standing_of c (holder k u.0)) (standing_of d (i.watcher_of u.0)) (related.watchers u.0 u.1 u.2) in
+          let wrong : true ≡ false = sym forked ∙ (ap (λ g. is_forked (standing_of d g)) u.3 ∙ plain) in absurd cc
 
   present : standing_of c r ≢ at.Outside
   present = inside_present k core i o (standing_of c r) next.was_inside
@@ -101,36 +130,44 @@ module _ (k core : Table) (i : Images) (rows : CoreRows k core i) (more : FlatRo
   pub outer : (b : ℕ) → LiesUnder k r b → (i.thread_of b ≢ i.thread_of r) × (((u : ℕ) → Stage k i.thread_of c d (i.thread_of b) u → u ≤ 1) × Stage k i.thread_of
       c1 d (i.thread_of b) 1)
   outer =
-      outer_stage k core i rows tree children c d related r o next.there next.held present next.works next.free inside_low c1 (ap (stage_of k c1) here) gone
+      outer_stage k core i rows tree children c d related r o next.there next.held present next.works next.free Spared inside_low c1
+      (ap (stage_of k c1) here) gone
       same
 
-  pub stay : (h s : ℕ) → h ≢ i.thread_of r → Stage k i.thread_of c d h s → Stage k i.thread_of c1 d h s
-  stay = others_stay k core i rows tree children c d related r o next.there next.held present next.works next.free inside_low c1 (ap (stage_of k c1) here) gone
-      same
+  in_fork : (q : ℕ) → Contains (around k q) o → Contains (around core (i.thread_of q)) (i.main_of o)
+  in_fork q in_o = subst (λ zs. Contains zs (i.main_of o)) (sym (rows.encloses q)) (map_contains i.main_of (around k q) o in_o)
+
+  pub stay : (h s : ℕ) → h ≢ i.thread_of r → (Contains (around core h) (i.main_of o) → is_forked (standing_of d h) ≡ true → ⊥) →
+      Stage k i.thread_of c d h s → Stage k i.thread_of c1 d h s
+  stay h s ne never =
+      others_stay k core i rows tree children c d related r o next.there next.held present next.works next.free Spared inside_low c1
+      (ap (stage_of k c1) here) gone same h s ne
+      (λ q q_there is in_o forked. never (subst (λ g. Contains (around core g) (i.main_of o)) (sym is) (in_fork q in_o))
+      (subst (λ g. is_forked (standing_of d g) ≡ true) (sym is) forked))
 
   stage_now : (last : Configuration) (h s : ℕ) → AtHome (Stage k i.thread_of c1 d) (i.thread_of r) 0 h s → Stage k i.thread_of c1 last h s
-  stage_now = reached_now k core i rows tree children c d related r o next.there next.held present next.works next.free inside_low c1
+  stage_now = reached_now k core i rows tree children c d related r o next.there next.held present next.works next.free Spared inside_low c1
       (ap (stage_of k c1) here) gone same
 
   -- ---- up to the answer
 
   abbrev IsAnswering : Configuration → Type 0
   IsAnswering = taken.IsAnswering k core i rows more tree core_tree deep core_children children counts written_at Told told c d related r o stage x t next
-      (Stage k i.thread_of c1 d) told_test outer stay
+      (Stage k i.thread_of c1 d) told_test outer stay forks_low
 
   abbrev pub first : Segment (machine core) corr Told d (Stage k i.thread_of c d) (λ last. AtHome (Stage k i.thread_of c1 d) (i.thread_of r) 0)
       (act_of (machine k) c r ∷ []) IsAnswering
   first = taken.answering_on k core i rows more tree core_tree deep core_children children counts written_at Told told c d related r o stage x t next
-      (Stage k i.thread_of c1 d) told_test outer stay
+      (Stage k i.thread_of c1 d) told_test outer stay forks_low
 
   abbrev raised_to : Value
   raised_to = taken.raised_to k core i rows more tree core_tree deep core_children children counts written_at Told told c d related r o stage x t next
       (Stage k i.thread_of c1 d)
 
   empty : taken.Emptied k core i rows more tree core_tree deep core_children children counts written_at Told told c d related r o stage x t next
-      (Stage k i.thread_of c1 d) told_test outer stay first.last
+      (Stage k i.thread_of c1 d) told_test outer stay forks_low first.last
   empty = taken.emptied k core i rows more tree core_tree deep core_children children counts written_at Told told c d related r o stage x t next
-      (Stage k i.thread_of c1 d) told_test outer stay
+      (Stage k i.thread_of c1 d) told_test outer stay forks_low
 
   -- ---- what is reached corresponds
 

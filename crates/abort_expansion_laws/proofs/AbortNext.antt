@@ -18,7 +18,7 @@ use Rattle.chart_machine_laws.specs.Tree.{IsNested, IsThere, around, holder}
 use Rattle.abort_expansion_laws.specs.CoreRows.{own, IsState, IsSuper, joins, Images, CoreRows, behind_transitions, pair}
 use Rattle.abort_expansion_laws.specs.Related.{IsInside}
 use Rattle.abort_expansion_laws.specs.StageReached.{stage_of}
-use Rattle.abort_expansion_laws.proofs.AllLeave.{MayLeave}
+use Rattle.abort_expansion_laws.proofs.MayLeave.{MayLeave}
 use Rattle.abort_expansion_laws.proofs.Answering.{AllFail}
 
 module _ (k core : Table) (i : Images) (rows : CoreRows k core i) (tree : IsNested k) (counts : ℕ → Bool) (written_at : ℕ → ℕ) where
@@ -56,9 +56,9 @@ module _ (k core : Table) (i : Images) (rows : CoreRows k core i) (tree : IsNest
     -- once it is raised, everybody inside leaves
     pub leaves : (first : Configuration) → verdict first.variables (Some (is_raised x)) ≡ Some true →
         ((y : ℕ) → y ≢ x → slice_get first.variables y ≡ slice_get d.variables y) →
-        ((q : ℕ) → standing_of first (i.thread_of q) ≡ standing_of d (i.thread_of q)) → standing_of first (i.watcher_of o) ≡ at.Ended → (g : ℕ) →
+        ((g : ℕ) → g ≢ i.watcher_of o → standing_of first g ≡ standing_of d g) → standing_of first (i.watcher_of o) ≡ at.Ended → (g : ℕ) →
         Contains (around core g) (i.main_of o) →
-        MayLeave core (pair k core i rows tree counts written_at) (i.thread_of r) (suc stage) first g (standing_of first g)
+        MayLeave core (pair k core i rows tree counts written_at) (i.thread_of r) (suc stage) (i.main_of o) first g (standing_of first g)
     -- the continuation answers it, after tests that fail
     pub earlier : List Transition
     pub aborts : List Transition

@@ -1,5 +1,5 @@
 -- A monitor takes the test of an abort and raises its flag, and all that is inside leaves.
-use Rattle.std.proofs.Common.{◌≡◌, ◌≢◌, ℕ, suc, ◌<◌, ◌≤◌, ◌⊎◌, inl, inr, ⊎_elim, Bool, true, false, pos, Option, Some, None, List, []}
+use Rattle.std.proofs.Common.{◌≡◌, ◌≢◌, ℕ, suc, ◌<◌, ◌≤◌, inl, inr, ⊎_elim, Bool, true, false, pos, Option, Some, None, List, []}
 use Rattle.std.proofs.Common.{◌∷◌, ◌++◌, length, slice_get, slice_set, Contains, refl, sym, ap, subst, ◌∙◌, arith}
 use Rattle.sc_values.specs.declared.value.Value.{Value}
 use Rattle.sc_values.specs.declared.value.Value.TheVariants as value_is
@@ -26,12 +26,14 @@ use Rattle.abort_expansion_laws.proofs.FlagAccess.{put_access}
 use Rattle.abort_expansion_laws.specs.CoreRows.{Images, CoreRows, WatcherImage}
 use Rattle.abort_expansion_laws.specs.Related.{Related}
 use Rattle.abort_expansion_laws.proofs.Unchanged.{get_same, get_other, stands_same, stands_other, no_guards, unguarded}
-use Rattle.abort_expansion_laws.proofs.StageReached.{Stage}
+use Rattle.abort_expansion_laws.proofs.StageReached.{Stage, holds_other}
 use Rattle.abort_expansion_laws.proofs.ImageSteps.{pair}
 use Rattle.abort_expansion_laws.proofs.KnownVariables.{trigger_known}
 use Rattle.abort_expansion_laws.proofs.StrongNotTaken.{trigger_plain}
 use Rattle.abort_expansion_laws.proofs.CoreSteps.{takes, writes_last}
-use Rattle.abort_expansion_laws.proofs.AllLeave.{all_leave, Left}
+use Rattle.abort_expansion_laws.proofs.AllLeave.{all_leave}
+use Rattle.abort_expansion_laws.proofs.OneLeaves.{Left, Staying}
+use Rattle.abort_expansion_laws.proofs.MayLeave.{is_forked}
 use Rattle.abort_expansion_laws.proofs.Leaving.{set_length}
 use Rattle.abort_expansion_laws.proofs.AbortNext.{AbortNext}
 
@@ -129,9 +131,37 @@ module _ (k core : Table) (i : Images) (rows : CoreRows k core i) (tree : IsNest
   module _ (told_test : Told d (Watched r (i.watcher_of o) stage (access_of_trigger t.trigger)))
       (outer_stage : (b : ℕ) → LiesUnder k r b → (i.thread_of b ≢ i.thread_of r) ×
       (((u : ℕ) → Stage k i.thread_of c d (i.thread_of b) u → u ≤ 1) × Others (i.thread_of b) 1))
-      (others_stay : (h s : ℕ) → h ≢ i.thread_of r → Stage k i.thread_of c d h s → Others h s) where
+      (others_stay : (h s : ℕ) → h ≢ i.thread_of r → (Contains (around core h) (i.main_of o) → is_forked (standing_of d h) ≡ true → ⊥) →
+      Stage k i.thread_of c d h s → Others h s)
+      (forks_low : (h s : ℕ) → Contains (around core h) (i.main_of o) → is_forked (standing_of d h) ≡ true → Stage k i.thread_of c d h s → s ≤ 3) where
+    -- until all has left, a thread inside that stands in a fork may have reached what it had
+    abbrev Mid : ℕ → ℕ → Type 0
+    Mid = Staying core core_tree deep corr Told told Others (i.thread_of r) (suc stage) (i.main_of o) d2 quiet2
+
+    forked_before : (h : ℕ) → is_forked (standing_of d2 h) ≡ true → is_forked (standing_of d h) ≡ true
+    forked_before h forked =
+        ⊎_elim
+        (λ same. let wrong : true ≡ false = sym forked ∙ (ap (λ g. is_forked (standing_of d2 g)) same ∙ ap is_forked here2) in absurd cc)
+        (λ ne. subst (λ x. is_forked x ≡ true) (other2 h ne) forked) (same_or_not h (i.watcher_of o))
+
+    forked_after : (h : ℕ) → is_forked (standing_of d h) ≡ true → is_forked (standing_of d2 h) ≡ true
+    forked_after h forked =
+        ⊎_elim
+        (λ same. let wrong : true ≡ false = sym forked ∙ (ap (λ g. is_forked (standing_of d g)) same ∙ ap is_forked next.watching) in absurd cc)
+        (λ ne. subst (λ x. is_forked x ≡ true) (sym (other2 h ne)) forked) (same_or_not h (i.watcher_of o))
+
+    mid_stays : (h s : ℕ) → h ≢ i.thread_of r → Stage k i.thread_of c d h s → Mid h s
+    mid_stays h s ne before =
+        record {
+          within = λ in_h forked. forks_low h s in_h (forked_before h forked) before;
+          beyond = λ never. others_stay h s ne (λ in_h forked. never in_h (forked_after h forked)) before;
+        }
+
+    home_out : Contains (around core (i.thread_of r)) (i.main_of o) → ⊥
+    home_out h = holds_other core core_tree (i.thread_of r) (i.main_of o) h (rows.held o ∙ ap i.thread_of next.held)
+
     own_stages : (h s : ℕ) → HasStage corr (Watched r (i.watcher_of o) stage (access_of_trigger t.trigger)) h s →
-        ((u : ℕ) → Stage k i.thread_of c d h u → u ≤ s) × AtHome Others (i.thread_of r) stage h s
+        ((u : ℕ) → Stage k i.thread_of c d h u → u ≤ s) × AtHome Mid (i.thread_of r) stage h s
     own_stages h s (inl here) = (
       λ u before. let low = before.regions r next.there here.0 in let now = next.stage_now in omega (low, now, here.1, arith),
       (λ ne. absurd (ne here.0), λ e. omega (here.1, arith)),
@@ -139,16 +169,22 @@ module _ (k core : Table) (i : Images) (rows : CoreRows k core i) (tree : IsNest
     own_stages h s (inr (b, under, is, one)) =
         let outer = outer_stage b under in (
           λ u before. let low = outer.1.0 u (subst (λ z. Stage k i.thread_of c d z u) is before) in omega (low, one, arith),
-          (λ ne. subst (λ z. Others z s) (sym is) (subst (Others (i.thread_of b)) (sym one) outer.1.1), λ e. absurd (outer.0 (sym is ∙ e))),
+          (
+            λ ne. record {
+              within = λ in_h forked. omega (one, arith);
+              beyond = λ never. subst (λ z. Others z s) (sym is) (subst (Others (i.thread_of b)) (sym one) outer.1.1);
+            },
+            λ e. absurd (outer.0 (sym is ∙ e)),
+          ),
         )
 
-    stays_there : (h s : ℕ) → i.watcher_of o ≢ h → Stage k i.thread_of c d h s → AtHome Others (i.thread_of r) stage h s
+    stays_there : (h s : ℕ) → i.watcher_of o ≢ h → Stage k i.thread_of c d h s → AtHome Mid (i.thread_of r) stage h s
     stays_there h s ne before = (
-      λ other. others_stay h s other before,
+      λ other. mid_stays h s other before,
       λ e. let low = before.regions r next.there e in let now = next.stage_now in omega (low, now, arith),
     )
 
-    test_step : Segment (machine core) corr Told d (Stage k i.thread_of c d) (λ last. AtHome Others (i.thread_of r) stage) (act_of (machine k) c r ∷ [])
+    test_step : Segment (machine core) corr Told d (Stage k i.thread_of c d) (λ last. AtHome Mid (i.thread_of r) stage) (act_of (machine k) c r ∷ [])
         (λ z. z ≡ d1)
     test_step =
         record {
@@ -166,7 +202,7 @@ module _ (k core : Table) (i : Images) (rows : CoreRows k core i) (tree : IsNest
             tt,
           );
           climbs = λ rest climbs.
-              climbs_step corr (Stage k i.thread_of c d) (AtHome Others (i.thread_of r) stage) (Watched r (i.watcher_of o) stage (access_of_trigger t.trigger))
+              climbs_step corr (Stage k i.thread_of c d) (AtHome Mid (i.thread_of r) stage) (Watched r (i.watcher_of o) stage (access_of_trigger t.trigger))
               rest own_stages stays_there climbs;
           reaches = refl;
         }
@@ -178,38 +214,38 @@ module _ (k core : Table) (i : Images) (rows : CoreRows k core i) (tree : IsNest
             (subst (λ vs. verdict vs t.trigger ≡ Some true) (sym related.variables) (verdict_over_more related.more c.variables t.trigger true next.true_there))
             next.watching_alone refl
 
-    raise_step : Segment (machine core) corr Told d1 (AtHome Others (i.thread_of r) stage) (λ last. AtHome Others (i.thread_of r) stage) [] (λ z. z ≡ d2)
+    raise_step : Segment (machine core) corr Told d1 (AtHome Mid (i.thread_of r) stage) (λ last. AtHome Mid (i.thread_of r) stage) [] (λ z. z ≡ d2)
     raise_step =
         silent_step (machine core) corr Told told d1 d2 (i.watcher_of o) (Some (i.thread_of r, stage)) (sets x raised_to)
-        (AtHome Others (i.thread_of r) stage) (AtHome Others (i.thread_of r) stage) (λ z. z ≡ d2)
+        (AtHome Mid (i.thread_of r) stage) (AtHome Mid (i.thread_of r) stage) (λ z. z ≡ d2)
         (writes_last core d1 (i.watcher_of o) (i.watching_of o) 1 (put x (suc next.number)) raised_to at.Ended
         (unguarded core d1 quiet1 (around core (i.watcher_of o))) here1
         (number_value (suc next.number) d.variables) next.is_int (ap (λ s. (state_at core s).entered) image.ended ∙ image.watched))
         (ap access_of here1 ∙ put_access x (suc next.number)) sets_flag
-        (λ rest climbs. climbs_at corr Others (i.thread_of r) stage stage (i.watcher_of o) (sets x raised_to) rest (omega arith) climbs) refl
+        (λ rest climbs. climbs_at corr Mid (i.thread_of r) stage stage (i.watcher_of o) (sets x raised_to) rest (omega arith) climbs) refl
 
     -- all have left: what is reached at the end
     abbrev pub AllLeft : Configuration → Type 0
     AllLeft z = Left core core_tree deep corr Told told Others (i.thread_of r) (suc stage) (i.main_of o) d2 quiet2 0 z
 
-    leave_steps : Segment (machine core) corr Told d2 (AtHome Others (i.thread_of r) (suc stage)) (λ last. AtHome Others (i.thread_of r) (suc stage)) [] AllLeft
+    leave_steps : Segment (machine core) corr Told d2 (AtHome Mid (i.thread_of r) (suc stage)) (λ last. AtHome Others (i.thread_of r) (suc stage)) [] AllLeft
     leave_steps =
-        all_leave core core_tree deep corr Told told Others (i.thread_of r) (suc stage) (i.main_of o) d2 quiet2
-        (next.leaves d2 raised other_value (λ q. other2 (i.thread_of q) (image.no_thread q)) here2)
+        all_leave core core_tree deep corr Told told Others (i.thread_of r) (suc stage) (i.main_of o) d2 quiet2 home_out
+        (next.leaves d2 raised other_value other2 here2)
 
     -- the test, the raising and the leaving
     pub aborted : Segment (machine core) corr Told d (Stage k i.thread_of c d) (λ last. AtHome Others (i.thread_of r) (suc stage))
         (act_of (machine k) c r ∷ []) AllLeft
     aborted =
-        segment_on (machine core) corr Told d (Stage k i.thread_of c d) (λ last. AtHome Others (i.thread_of r) stage)
+        segment_on (machine core) corr Told d (Stage k i.thread_of c d) (λ last. AtHome Mid (i.thread_of r) stage)
         (λ last. AtHome Others (i.thread_of r) (suc stage)) (act_of (machine k) c r ∷ []) [] (λ z. z ≡ d1) AllLeft test_step
-        (subst (λ z. Segment (machine core) corr Told z (AtHome Others (i.thread_of r) stage) (λ last. AtHome Others (i.thread_of r) (suc stage)) [] AllLeft)
+        (subst (λ z. Segment (machine core) corr Told z (AtHome Mid (i.thread_of r) stage) (λ last. AtHome Others (i.thread_of r) (suc stage)) [] AllLeft)
         (sym test_step.reaches)
-        (segment_on (machine core) corr Told d1 (AtHome Others (i.thread_of r) stage) (λ last. AtHome Others (i.thread_of r) stage)
+        (segment_on (machine core) corr Told d1 (AtHome Mid (i.thread_of r) stage) (λ last. AtHome Mid (i.thread_of r) stage)
         (λ last. AtHome Others (i.thread_of r) (suc stage)) [] [] (λ z. z ≡ d2) AllLeft raise_step
-        (subst (λ z. Segment (machine core) corr Told z (AtHome Others (i.thread_of r) stage) (λ last. AtHome Others (i.thread_of r) (suc stage)) [] AllLeft)
+        (subst (λ z. Segment (machine core) corr Told z (AtHome Mid (i.thread_of r) stage) (λ last. AtHome Others (i.thread_of r) (suc stage)) [] AllLeft)
         (sym raise_step.reaches)
-        (from_fewer (machine core) corr Told d2 (AtHome Others (i.thread_of r) stage) (AtHome Others (i.thread_of r) (suc stage))
+        (from_fewer (machine core) corr Told d2 (AtHome Mid (i.thread_of r) stage) (AtHome Mid (i.thread_of r) (suc stage))
         (λ last. AtHome Others (i.thread_of r) (suc stage)) [] AllLeft
         (λ h s reached. (reached.0, λ e. let low = reached.1 e in omega (low, arith))) leave_steps))))
 

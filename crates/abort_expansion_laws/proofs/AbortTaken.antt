@@ -34,16 +34,17 @@ use Rattle.abort_expansion_laws.proofs.Unchanged.{no_guards, unguarded}
 use Rattle.abort_expansion_laws.proofs.StageReached.{Stage, holds_other, inside_in}
 use Rattle.abort_expansion_laws.proofs.ImageSteps.{pair}
 use Rattle.abort_expansion_laws.proofs.KnownVariables.{in_either, present_there}
-use Rattle.abort_expansion_laws.proofs.InsideLeaves.{FlatRows, there_too}
+use Rattle.abort_expansion_laws.proofs.InsideLeaves.{LayeredRows, there_too}
 use Rattle.abort_expansion_laws.proofs.InsideAround.{all_from, inside_around}
-use Rattle.abort_expansion_laws.proofs.AllLeave.{Left}
+use Rattle.abort_expansion_laws.proofs.OneLeaves.{Left}
+use Rattle.abort_expansion_laws.proofs.MayLeave.{is_forked}
 use Rattle.abort_expansion_laws.proofs.Leaving.{drops, set_here, set_other, set_length, drops_in, drops_out, drops_length, joined}
 use Rattle.abort_expansion_laws.proofs.AbortNext.{AbortNext}
 use Rattle.abort_expansion_laws.proofs.Answering.{fails_on, Passed, tests_fail, Answered, answered}
 use Rattle.chart_machine_laws.proofs.ChartTables.{around_there}
 use Rattle.abort_expansion_laws.proofs.AbortRaised as raised
 
-module _ (k core : Table) (i : Images) (rows : CoreRows k core i) (more : FlatRows k core i) (tree : IsNested k) (core_tree : IsNested core)
+module _ (k core : Table) (i : Images) (rows : CoreRows k core i) (more : LayeredRows k core i) (tree : IsNested k) (core_tree : IsNested core)
     (deep : (q s : ℕ) → Contains (around core q) s → holder core s < q)
     (core_children : (s r : ℕ) → Contains (state_at core s).regions r → around core r ≡ s ∷ around core (holder core s))
     (children : (s r : ℕ) → Contains (state_at k s).regions r → around k r ≡ s ∷ around k (holder k s))
@@ -88,19 +89,21 @@ module _ (k core : Table) (i : Images) (rows : CoreRows k core i) (more : FlatRo
   module _ (told_test : Told d (Watched r (i.watcher_of o) stage (access_of_trigger t.trigger)))
       (outer_stage : (b : ℕ) → LiesUnder k r b → (i.thread_of b ≢ i.thread_of r) ×
       (((u : ℕ) → Stage k i.thread_of c d (i.thread_of b) u → u ≤ 1) × Others (i.thread_of b) 1))
-      (others_stay : (h s : ℕ) → h ≢ i.thread_of r → Stage k i.thread_of c d h s → Others h s) where
+      (others_stay : (h s : ℕ) → h ≢ i.thread_of r → (Contains (around core h) (i.main_of o) → is_forked (standing_of d h) ≡ true → ⊥) →
+      Stage k i.thread_of c d h s → Others h s)
+      (forks_low : (h s : ℕ) → Contains (around core h) (i.main_of o) → is_forked (standing_of d h) ≡ true → Stage k i.thread_of c d h s → s ≤ 3) where
     abbrev AllLeft : Configuration → Type 0
     AllLeft = raised.AllLeft k core i rows tree core_tree deep counts written_at Told told c d related r o stage x t next Others told_test outer_stage
-        others_stay
+        others_stay forks_low
 
     abbrev aborted : Segment (machine core) corr Told d (Stage k i.thread_of c d) (λ last. AtHome Others (i.thread_of r) (suc stage))
         (act_of (machine k) c r ∷ []) AllLeft
     aborted = raised.aborted k core i rows tree core_tree deep counts written_at Told told c d related r o stage x t next Others told_test outer_stage
-        others_stay
+        others_stay forks_low
 
     abbrev size2 : length d2.regions ≡ length d.regions
     size2 = raised.size2 k core i rows tree core_tree deep counts written_at Told told c d related r o stage x t next Others told_test outer_stage
-        others_stay
+        others_stay forks_low
 
     -- ---- the fork is over, and joined
     left3 : Left core core_tree deep corr Told told Others (i.thread_of r) (suc stage) (i.main_of o) d2 quiet2 0 aborted.last

@@ -17,9 +17,8 @@ use Rattle.abort_expansion.specs.Superstates.{stays}
 use Rattle.tick_laws.proofs.Lists.{same_or_not, contained}
 use Rattle.abort_expansion_laws.specs.Stages.{Entry, Silent}
 use Rattle.abort_expansion_laws.specs.CoreRows.{own, IsState, Images, CoreRows, SplitImage, joins, flags_around}
-use Rattle.abort_expansion_laws.specs.Related.{Stands, within, IsInside, guarded, open_inside, Stores}
-use Rattle.abort_expansion_laws.specs.Related.{Watches, is_behind}
-use Rattle.chart_machine_laws.proofs.LyingIn.{IsNested, around, holder, none_in, head_in, tail_in, head_or_tail}
+use Rattle.abort_expansion_laws.specs.Related.{Stands, within, IsInside, guarded, open_inside, Stores, Watches, is_behind}
+use Rattle.chart_machine_laws.proofs.LyingIn.{IsNested, around, holder, none_in, head_in, tail_in, head_or_tail, around_around}
 use Rattle.abort_expansion_laws.proofs.TablesCorrespond.{IsThere}
 use Rattle.abort_expansion_laws.proofs.InsideAround.{inside_around, one_in_other}
 use Rattle.abort_expansion_laws.proofs.StageReached.{stage_of}
@@ -29,7 +28,7 @@ use Rattle.abort_expansion_laws.proofs.Pending.{hidden, Covered, goes_in, still_
 use Rattle.abort_expansion_laws.proofs.Pending.{Reached}
 use Rattle.abort_expansion_laws.proofs.SettledInOrder.{skips, there_in}
 use Rattle.abort_expansion_laws.proofs.Resets.{Every, set_all, set_all_other, set_all_size, one_of}
-use Rattle.abort_expansion_laws.proofs.OpensFork.{OpeningRows, every_one, forked, forks, image, list, strong_down, weak_down, counter_full}
+use Rattle.abort_expansion_laws.proofs.OpensFork.{OpeningRows, every_one, forked, image, list, strong_down, weak_down, counter_full}
 use Rattle.abort_expansion_laws.proofs.OpenedRows.{Opens, WithinIt, OpenedRows, ForkRows}
 use Rattle.abort_expansion_laws.proofs.StandsInside.{inside_present}
 use Rattle.abort_expansion_laws.proofs.OpenedKept as unmoved
@@ -358,6 +357,28 @@ module _ (k core : Table) (i : Images) (rows : CoreRows k core i) (tree : IsNest
   plain_stage u _ plain (guarded tests) = omega arith
   plain_stage u _ plain (open_inside tests) = let is : stage_of k c (at.Within u tests) ≡ 1 = rw (plain) refl in omega (is, arith)
 
+  -- who has still to step is there
+  busy_there : (q v : ℕ) → IsBusy k core i c z q v → standing_of z (i.thread_of q) ≢ at.Outside
+  busy_there q v (starts a) e = let wrong : at.Trying a.first _ ≡ at.Outside = sym a.counting ∙ e in absurd cc
+  busy_there q v (opens its a) e =
+      let wrong : at.Trying (i.entry_of v) _ ≡ at.Outside = sym a.preparing ∙ (ap (λ w. standing_of z (i.thread_of w)) its ∙ e) in absurd cc
+  busy_there q v (joins_then its a) e =
+      let wrong : at.Within (i.main_of v) _ ≡ at.Outside = sym a.forked ∙ (ap (λ w. standing_of z (i.thread_of w)) its ∙ e) in absurd cc
+
+  -- so it is in no superstate with aborts that is inside: such a one was not opened at once
+  never_busy : (q v u : ℕ) → IsThere k q → IsBusy k core i c z q v → Contains (around k q) u → Contains (around k (holder k u)) s →
+      IsInside k core i u (standing_of c (holder k u)) → has_aborts (own k u) ≡ false
+  never_busy q v u q_there b round inner inside_u = by_aborts (has_aborts (own k u)) refl
+    where
+      by_aborts : (a : Bool) → has_aborts (own k u) ≡ a → has_aborts (own k u) ≡ false
+      by_aborts false none = none
+      by_aborts true has =
+          let over : Covered k core i c z u = opened_rows.covered c d1 z s opens_it u has inner inside_u in
+          let in_it : Contains (around k q) over.0 =
+          ⊎_elim (λ same. subst (Contains (around k q)) (sym same) round)
+          (λ outer. around_around k tree (around k q) q u over.0 refl round outer) over.2 in
+          absurd (busy_there q v b ((opened_pending.ready over.0 over.1).1.0 (i.thread_of q) (in_thread over.0 q in_it)))
+
   pub reached_then : (t m : ℕ) → (h ≢ t) × Reached k core i c d t m → Reached k core i c z t m
   reached_then t m before =
       record {
@@ -376,4 +397,4 @@ module _ (k core : Table) (i : Images) (rows : CoreRows k core i) (tree : IsNest
           let holds : IsThere k (holder k u) = there_in k core i rows tree counts written_at Told deeper c sound (holder k u)
           (inside_present k core i u (standing_of c (holder k u)) inside_u) in
           let le = before.1.staged.regions (holder k u) holds e in
-          let low = plain_stage u (standing_of c (holder k u)) (fork_rows.plain_inside s u o.prepared inner) inside_u in omega (le, low, arith)
+          let low = plain_stage u (standing_of c (holder k u)) (never_busy q v u q_there b round inner inside_u) inside_u in omega (le, low, arith)

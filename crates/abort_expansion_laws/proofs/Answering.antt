@@ -10,7 +10,7 @@ use Rattle.core_charts.specs.Tests.{at_once}
 use Rattle.chart_machine.specs.declared.standing.Standing.TheVariants as at
 use Rattle.chart_machine.specs.declared.standing.Configuration.{Configuration}
 use Rattle.chart_machine.specs.declared.table.Table.{Table}
-use Rattle.chart_machine.specs.Turns.{standing_of, guards, is_guarded}
+use Rattle.chart_machine.specs.Turns.{standing_of, guards}
 use Rattle.chart_machine.specs.Steps.{verdict, access_of, access_of_trigger}
 use Rattle.chart_machine.specs.Machine.{machine}
 use Rattle.abort_expansion.specs.declared.places.RegionPlaces.{RegionPlaces}
@@ -21,7 +21,7 @@ use Rattle.abort_expansion_laws.specs.Related.{Each}
 use Rattle.abort_expansion_laws.proofs.Simulation.{Segment, segment_on}
 use Rattle.abort_expansion_laws.proofs.SilentSteps.{AtHome, climbs_home, silent_step, no_step}
 use Rattle.abort_expansion_laws.proofs.Supplying.{tests}
-use Rattle.chart_machine_laws.proofs.LyingIn.{around, holder}
+use Rattle.chart_machine_laws.proofs.LyingIn.{around}
 use Rattle.abort_expansion_laws.proofs.MoreValues.{other_verdict}
 use Rattle.abort_expansion_laws.proofs.FlagAccess.{number_access}
 use Rattle.abort_expansion_laws.proofs.Leaving.{set_here, set_other, set_length}

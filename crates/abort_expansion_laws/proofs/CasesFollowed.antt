@@ -1,4 +1,4 @@
--- Steps of a flat chart that are followed, each by its lemma, with what the rows of an expanded chart give for it.
+-- Steps of a layered chart that are followed, each by its lemma, with what the rows of an expanded chart give for it.
 use Rattle.std.proofs.Common.{◌≡◌, ℕ, ◌<◌, ⊎_elim, Bool, true, false, ◌||◌, Option, Some, None, List, [], ◌∷◌, length, slice_get}
 use Rattle.std.proofs.lemmas.Option.{same_Some}
 use Rattle.std.proofs.Common.{option_map, option_and_then, Contains, refl, sym, ap, subst, ◌∙◌}
@@ -30,7 +30,7 @@ use Rattle.abort_expansion.specs.Superstates.{is_prepared}
 use Rattle.tick_laws.proofs.Lists.{contains_none, contains_cons}
 use Rattle.chart_machine_laws.specs.Tree.{IsThere, around, holder}
 use Rattle.chart_machine_laws.proofs.LyingIn.{head_in}
-use Rattle.abort_expansion_laws.specs.Flat.{IsFlat}
+use Rattle.abort_expansion_laws.specs.Layered.{IsLayered}
 use Rattle.abort_expansion_laws.specs.Segments.{Segment}
 use Rattle.abort_expansion_laws.specs.Stages.{Entry, Image}
 use Rattle.abort_expansion_laws.specs.StageReached.{Stage}
@@ -43,7 +43,7 @@ use Rattle.abort_expansion_laws.proofs.EntryTestFails.{IsEntering, entering_back
 use Rattle.abort_expansion_laws.proofs.EntryTestHolds.{entry_followed, entry_taken}
 use Rattle.abort_expansion_laws.proofs.ChartsOpened.{entry_rows, unflagged, charts_settle}
 use Rattle.abort_expansion_laws.proofs.EffectAhead.{BeginsAt}
-use Rattle.abort_expansion_laws.proofs.FlatChartRows.{flat_rows}
+use Rattle.abort_expansion_laws.proofs.LayeredChartRows.{layered_rows}
 use Rattle.abort_expansion_laws.proofs.InitialPairs.{held_there}
 use Rattle.abort_expansion_laws.proofs.LastEffect.{last_effect}
 use Rattle.abort_expansion_laws.proofs.OpenedInside.{charts_enter}
@@ -89,7 +89,7 @@ begins_at k x (entry_tries none e) = record { first = at.Trying x (at_once (own 
 begins_at k x (entry_guards t tests some strong e) = record { first = at.Entering x (t ∷ tests); others = []; are = e }
 begins_at k x (entry_opens some strong e) = record { first = at.Within x (first_closing_tests (own k x)); others = (state_at k x).opened; are = e }
 
-module _ (c : Chart) (rules : IsChart features.Extended c) (core_rules : IsChart features.Core (expanded c)) (flat : IsFlat c) where
+module _ (c : Chart) (rules : IsChart features.Extended c) (core_rules : IsChart features.Core (expanded c)) (layered : IsLayered c) where
   abbrev k : Table
   k = table c
 
@@ -112,7 +112,7 @@ module _ (c : Chart) (rules : IsChart features.Extended c) (core_rules : IsChart
       (act_of (machine k) now r ∷ []) (Related k core i next)
 
   pub law_of_entering : Enters k core i rows (ticks.nested c rules core_rules) (ticks.counts c rules core_rules) (ticks.written_at c rules core_rules) Told
-  law_of_entering = targets_are_entered c rules core_rules flat Told (told_silent k core i)
+  law_of_entering = targets_are_entered c rules core_rules layered Told (told_silent k core i)
 
   pub super_there : (q u : ℕ) → IsThere k q → Contains (around k q) u → IsState k u
   super_there q u there h = whole.super_there c rules core_rules q u h
@@ -205,7 +205,7 @@ module _ (c : Chart) (rules : IsChart features.Extended c) (core_rules : IsChart
 
       pub last_fails : tests ≡ [] → verdict now.variables t.trigger ≡ Some false → Followed now d r next
       last_fails none fails =
-          last_strong_followed k core i rows (flat_rows c rules core_rules flat) (ticks.nested c rules core_rules)
+          last_strong_followed k core i rows (layered_rows c rules core_rules layered) (ticks.nested c rules core_rules)
           (whole.core_tree c rules core_rules).children (whole.tree c rules core_rules).children now d related r o flag.0 o_there
           (whole.super_of c rules core_rules o o_there guards.has) t (stands ∙ ap (λ ts. at.Guarding o (t ∷ ts)) none) guards.has flag.1
           (ticks.counts c rules core_rules) (ticks.written_at c rules core_rules) (strong_of c rules core_rules o flag.0 flag.1) no_counter
@@ -329,7 +329,7 @@ module _ (c : Chart) (rules : IsChart features.Extended c) (core_rules : IsChart
         entry_passed k core i (entry_rows c rules core_rules) (λ u here. (whole.state_fits c rules core_rules u here).region.here)
         (alone c rules core_rules) (ticks.counts c rules core_rules) (ticks.written_at c rules core_rules)
         (counter_rows c rules core_rules).counter_joins (unflagged c rules core_rules) Told
-        (λ at_now core_at_now sound pending. charts_settle c rules core_rules flat Told (told_silent k core i) at_now core_at_now sound pending) now d
+        (λ at_now core_at_now sound pending. charts_settle c rules core_rules layered Told (told_silent k core i) at_now core_at_now sound pending) now d
         related r s t stands parts.free fails (image_told (access_of_trigger t.trigger)) next goes
 
     pub aborted : (s : ℕ) (t : Transition) (tests : List Transition) → standing_of now r ≡ at.Entering s (t ∷ tests) →

@@ -184,3 +184,16 @@ module _ (k core : Table) (i : Images) (more : EntryRows k core i) (c e : Config
       by_open (to_prepare free fresh empty opened) = inr (u, opened, inl refl)
       by_open (opened_now free super plain) = inl (no_flags u (unflagged u super plain))
       by_open (covered_by w inner opened empty) = inr (w, opened, inr inner)
+
+  -- one with aborts is prepared, so what is inside of it is not opened at once
+  pub entered_covered : (u : ℕ) → has_aborts (own k u) ≡ true → (x : Standing) → standing_of c (holder k u) ≡ x → IsInside k core i u x →
+      Reach k core i more c e (holder k u) → Covered k core i c e u
+  entered_covered u has _ is (guarded tests) reached = never_guards u tests is reached
+  entered_covered u has _ is (open_inside tests) reached = by_open (entered_open u tests is reached)
+    where
+      by_open : IsOpen u → Covered k core i c e u
+      by_open (to_prepare free fresh empty opened) = (u, opened, inl refl)
+      by_open (opened_now free super plain) =
+          absurd (not_both (is_prepared (flags_around k core i (holder k u)) (own k u))
+          (prepared_with (flags_around k core i (holder k u)) (own k u) has) plain)
+      by_open (covered_by w inner opened empty) = (w, opened, inr inner)

@@ -1,15 +1,14 @@
 -- In a continuation, the checks of flags that are not raised fail, one after the other.
-use Rattle.std.proofs.Common.{◌≡◌, ◌≢◌, ℕ, zero, suc, pos, ◌<◌, ◌≤◌, ⊎_elim, true, false, Option, Some, None, List, [], ◌∷◌, ◌++◌, length, slice_get}
+use Rattle.std.proofs.Common.{◌≡◌, ◌≢◌, ℕ, pos, ◌<◌, ◌≤◌, ⊎_elim, true, false, Option, Some, None, List, [], ◌∷◌, ◌++◌, length, slice_get}
 use Rattle.std.proofs.Common.{slice_set, refl, sym, ap, subst, ◌∙◌, arith}
 use Rattle.std.proofs.lemmas.Option.{same_Some}
 use Rattle.sc_values.specs.declared.value.Value.TheVariants as value_is
 use Rattle.sc_values.specs.Access.{Access}
 use Rattle.core_charts.specs.declared.region.Transition.{Transition}
-use Rattle.chart_machine.specs.declared.standing.Standing.{Standing}
 use Rattle.chart_machine.specs.declared.standing.Standing.TheVariants as at
 use Rattle.chart_machine.specs.declared.standing.Configuration.{Configuration}
 use Rattle.chart_machine.specs.declared.table.Table.{Table}
-use Rattle.chart_machine.specs.Turns.{standing_of, guards as has_to_guard, is_guarded, is_enabled}
+use Rattle.chart_machine.specs.Turns.{standing_of, guards as has_to_guard, is_enabled}
 use Rattle.chart_machine.specs.Steps.{to, verdict, deed_of, step, access_of}
 use Rattle.chart_machine.specs.Machine.{machine}
 use Rattle.abort_expansion.specs.declared.flags.Flags.{Flags}
@@ -18,7 +17,7 @@ use Rattle.tick_laws.proofs.Lists.{same_or_not}
 use Rattle.abort_expansion_laws.specs.Stages.{Entry, Silent, Correspondence, ReadsFlag, Climbs}
 use Rattle.abort_expansion_laws.proofs.Supplying.{climbs_step, silent_test, tests}
 use Rattle.abort_expansion_laws.proofs.Simulation.{Segment}
-use Rattle.chart_machine_laws.proofs.LyingIn.{around, holder}
+use Rattle.chart_machine_laws.proofs.LyingIn.{around}
 use Rattle.abort_expansion_laws.proofs.Unchanged.{stands_same, stands_other, unguarded}
 use Rattle.abort_expansion_laws.proofs.Leaving.{set_length}
 use Rattle.abort_expansion_laws.proofs.TestFails.{tested_is}

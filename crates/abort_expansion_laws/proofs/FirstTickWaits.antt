@@ -24,7 +24,7 @@ use Rattle.chart_machine_laws.specs.Tree.{IsThere, around, holder}
 use Rattle.chart_machine_laws.proofs.LyingIn.{head_in}
 use Rattle.chart_machine_laws.proofs.ChartTables.{around_there}
 use Rattle.abort_expansion_laws.specs.CoreRows.{own, IsState, IsSuper, Images, flags_around}
-use Rattle.abort_expansion_laws.specs.Related.{Each, IsInside, guarded, open_inside, Closes, IsCalm, calm_outside}
+use Rattle.abort_expansion_laws.specs.Related.{Each, IsInside, Closes, IsCalm, calm_outside}
 use Rattle.abort_expansion_laws.proofs.StartingRegions.{Once}
 use Rattle.abort_expansion_laws.proofs.WokenConfigurations.{IsLocal, variables_started, each_kept}
 use Rattle.abort_expansion_laws.proofs.Pending.{Sound, Pending}

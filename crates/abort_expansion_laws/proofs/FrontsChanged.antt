@@ -9,7 +9,7 @@ use Rattle.chart_machine.specs.Turns.{standing_of, has_ended}
 use Rattle.abort_expansion.specs.Transitions.{led}
 use Rattle.abort_expansion_laws.specs.CoreRows.{Images}
 use Rattle.abort_expansion_laws.specs.Related.{front, held_back, is_behind, Stands, outside, ended, left, trying, acting, entering, guarding, staying}
-use Rattle.abort_expansion_laws.specs.Related.{within, behind, IsCalm, calm_outside, calm_ended, calm_trying, calm_within}
+use Rattle.abort_expansion_laws.specs.Related.{within, behind, IsCalm}
 use Rattle.abort_expansion_laws.proofs.WokenConfigurations.{behind_too}
 use Rattle.abort_expansion_laws.proofs.CalmStandings.{calm_entering}
 

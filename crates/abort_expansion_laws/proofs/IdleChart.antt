@@ -15,8 +15,7 @@ use Rattle.chart_machine_laws.specs.Tree.{IsThere, around, holder}
 use Rattle.chart_machine_laws.proofs.LyingIn.{head_in, tail_in}
 use Rattle.abort_expansion_laws.specs.CoreRows.{Images}
 use Rattle.abort_expansion_laws.specs.Related.{Stands, outside, ended, left, trying, acting, entering}
-use Rattle.abort_expansion_laws.specs.Related.{guarding, staying, within, behind, Related, IsCalm, calm_outside}
-use Rattle.abort_expansion_laws.specs.Related.{calm_ended, calm_trying, calm_within}
+use Rattle.abort_expansion_laws.specs.Related.{guarding, staying, within, behind, Related}
 use Rattle.abort_expansion_laws.proofs.InsideAround.{inside_around}
 use Rattle.abort_expansion_laws.proofs.KnownVariables.{present_there}
 use Rattle.abort_expansion_laws.proofs.CalmStandings.{calm_free}

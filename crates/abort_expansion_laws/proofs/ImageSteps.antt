@@ -1,8 +1,7 @@
 -- A step of a region that its thread takes as it is: it is followed by one step of the core.
-use Rattle.std.proofs.Common.{◌≡◌, ◌≢◌, ℕ, zero, suc, ◌<◌, ◌≤◌, ◌⊎◌, inl, inr, ⊎_elim, Bool, true, false, Some, [], ◌∷◌, length, unwrap_or, Contains, refl, sym}
+use Rattle.std.proofs.Common.{◌≡◌, ◌≢◌, ℕ, ◌<◌, ◌≤◌, inl, inr, ⊎_elim, Bool, true, false, Some, [], ◌∷◌, length, Contains, refl, sym}
 use Rattle.std.proofs.Common.{slice_set, ap, subst, ◌∙◌, arith}
 use Rattle.std.specs.List.{list_any}
-use Rattle.std.proofs.lemmas.Option.{slice_get_past}
 use Rattle.sc_values.specs.Access.{Access}
 use Rattle.sc_values.specs.Runs.{act_of}
 use Rattle.core_charts.specs.Tests.{is_weak}

@@ -7,9 +7,8 @@ use Rattle.std.proofs.lemmas.Grind.{flat_map-append}
 use Rattle.std.proofs.lemmas.List.Folds.{flat_map-map}
 use Rattle.std.proofs.lemmas.Bool.{or_parts}
 use Rattle.core_charts.specs.declared.region.Transition.{Transition}
-use Rattle.core_charts.specs.declared.region.Effect.{Effect}
 use Rattle.core_charts.specs.Tests.{at_once, strong_aborts, weak_aborts, terminations}
-use Rattle.core_charts.specs.Aborts.{has_aborts}
+use Rattle.core_charts.specs.Aborts.{has_strong, has_weak, has_aborts}
 use Rattle.chart_machine.specs.declared.standing.Standing.{Standing}
 use Rattle.chart_machine.specs.declared.standing.Standing.TheVariants as at
 use Rattle.chart_machine.specs.declared.standing.Configuration.{Configuration}
@@ -26,13 +25,14 @@ use Rattle.chart_machine_laws.proofs.LyingIn.{IsNested, around, holder, none_in,
 use Rattle.abort_expansion_laws.proofs.StageReached.{holds_other, any_in}
 use Rattle.abort_expansion_laws.proofs.TablesCorrespond.{IsThere, contains_map}
 use Rattle.chart_machine_laws.proofs.ChartTables.{no_regions_past, within_or_past, nothing_around}
-use Rattle.abort_expansion_laws.proofs.KnownVariables.{present_there}
+use Rattle.abort_expansion_laws.proofs.KnownVariables.{present_there, in_either}
 use Rattle.abort_expansion_laws.specs.CoreRows.{own, IsState, IsSimple, IsSuper, joins, Images, CoreRows, SplitImage, flags_around, watchers}
 use Rattle.abort_expansion_laws.specs.CoreRows.{behind_transitions}
-use Rattle.abort_expansion_laws.specs.Related.{IsCalm, calm_outside, calm_ended, calm_trying, calm_within, front, held_back, tests_of, is_behind, Stands}
+use Rattle.abort_expansion_laws.specs.Related.{IsCalm, front, held_back, tests_of, is_behind, Stands}
 use Rattle.abort_expansion_laws.specs.Related.{outside, ended, left, trying, acting, entering, guarding, staying, within, behind, IsInside, open_inside}
-use Rattle.abort_expansion_laws.specs.Related.{Related}
-use Rattle.abort_expansion_laws.proofs.AllLeave.{LeavesBy, leads_out, MayLeave, out, over, tries, forks}
+use Rattle.abort_expansion_laws.specs.Related.{Related, Watches, waits, elsewhere}
+use Rattle.abort_expansion_laws.specs.Related.{guards as watch_guards}
+use Rattle.abort_expansion_laws.proofs.MayLeave.{LeavesBy, leads_out, MayLeave, out, over, tries, forks}
 use Rattle.abort_expansion_laws.proofs.CalmStandings.{calm_acting, calm_entering, calm_guarding}
 
 -- ---- one of the superstates around a region has aborts: then one check stands in front
@@ -66,11 +66,14 @@ module _ (k : Table) (tree : IsNested k) (c : ℕ → List Transition) where
 
 -- ---- what more is asked of the rows
 
-pub record FlatRows (k core : Table) (i : Images) : Type 0 where
-  -- of the superstates around a region one has aborts, and none inside of it
-  pub flat_around : (q o s : ℕ) → Contains (around k q) o → Contains (around k q) s → has_aborts (own k o) ≡ true → has_aborts (own k s) ≡ true → s ≡ o
-  pub flat_held : (o s : ℕ) → has_aborts (own k o) ≡ true → Contains (around k (holder k s)) o → has_aborts (own k s) ≡ false
-  pub no_strong : (s : ℕ) → has_aborts (own k s) ≡ false → (i.flags_of s).strong ≡ None
+pub record LayeredRows (k core : Table) (i : Images) : Type 0 where
+  -- inside of a superstate with strong aborts none has aborts, and inside of one with aborts none has weak ones
+  pub in_strong : (o s : ℕ) → has_strong (own k o) ≡ true → Contains (around k (holder k s)) o → has_aborts (own k s) ≡ false
+  pub in_any : (o s : ℕ) → has_aborts (own k o) ≡ true → Contains (around k (holder k s)) o → has_weak (own k s) ≡ false
+  -- so of the superstates around a region one has strong aborts, at most, and one weak ones
+  pub strong_once : (q o s : ℕ) → Contains (around k q) o → Contains (around k q) s → has_strong (own k o) ≡ true → has_strong (own k s) ≡ true → s ≡ o
+  pub weak_once : (q o s : ℕ) → Contains (around k q) o → Contains (around k q) s → has_weak (own k o) ≡ true → has_weak (own k s) ≡ true → s ≡ o
+  pub no_strong : (s : ℕ) → has_strong (own k s) ≡ false → (i.flags_of s).strong ≡ None
   -- nothing is inside of what is no fork
   pub simple_alone : (s : ℕ) → IsSimple k s → inside core (i.main_of s) ≡ []
   pub behind_alone : (s : ℕ) → inside core (i.behind_of s) ≡ []
@@ -78,6 +81,11 @@ pub record FlatRows (k core : Table) (i : Images) : Type 0 where
 pub true_or_false : (b : Bool) → (b ≡ true) ⊎ (b ≡ false)
 true_or_false true = inl refl
 true_or_false false = inr refl
+
+-- who has a strong flag has strong aborts
+pub strong_of : (k core : Table) (i : Images) → LayeredRows k core i → (o x : ℕ) → (i.flags_of o).strong ≡ Some x → has_strong (own k o) ≡ true
+strong_of k core i more o x flag =
+    ⊎_elim (λ e. e) (λ e. let wrong : Some x ≡ None = sym flag ∙ more.no_strong o e in absurd cc) (true_or_false (has_strong (own k o)))
 
 none_there : (b : Bool) (place : ℕ) (o : Option ℕ) → is_there o ≡ false → check b place o ≡ []
 none_there b place None e = refl
@@ -105,12 +113,12 @@ module _ (k core : Table) (i : Images) (c : Configuration) where
   there_too r _ _ (within s join tests super held stay open_still leads) present open_around e = absurd cc
   there_too r _ _ (behind s tests super held over_it) present open_around e = absurd cc
 
--- a region inside of a superstate with aborts checks the strong flag of that one alone
-module _ (k core : Table) (i : Images) (more : FlatRows k core i) (tree : IsNested k) (o : ℕ) (has : has_aborts (own k o) ≡ true) where
+-- a region inside of a superstate with strong aborts checks the strong flag of that one alone
+module _ (k core : Table) (i : Images) (more : LayeredRows k core i) (tree : IsNested k) (o : ℕ) (has : has_strong (own k o) ≡ true) where
   others_none : (q : ℕ) → Contains (around k q) o → (b : Bool) (place : ℕ) (s : ℕ) → Contains (around k q) s → s ≢ o → check b place (i.flags_of s).strong ≡ []
   others_none q in_o b place s around_it differs =
-      ⊎_elim (λ e. absurd (differs (more.flat_around q o s in_o around_it has e))) (λ e. ap (check b place) (more.no_strong s e))
-      (true_or_false (has_aborts (own k s)))
+      ⊎_elim (λ e. absurd (differs (more.strong_once q o s in_o around_it has e))) (λ e. ap (check b place) (more.no_strong s e))
+      (true_or_false (has_strong (own k s)))
 
   pub checked_once : (q : ℕ) (b : Bool) → Contains (around k q) o →
       strong_checks b (i.places_of q).left (flags_around k core i q) ≡ check b (i.places_of q).left (i.flags_of o).strong
@@ -120,24 +128,47 @@ module _ (k core : Table) (i : Images) (more : FlatRows k core i) (tree : IsNest
 
 -- ---- each thread inside, whatever it sees
 
-module _ (k core : Table) (i : Images) (rows : CoreRows k core i) (more : FlatRows k core i)
+heads : (a b : ℕ) (xs ys : List ℕ) → a ∷ xs ≡ b ∷ ys → a ≡ b
+heads a b xs ys e = cc
+
+-- a monitor that stands in an opened superstate is there
+monitor_there : (k core : Table) (i : Images) (o : ℕ) (x y : Standing) → Watches k core i o x y → (tests : List Transition) → x ≡ at.Within o tests →
+    y ≢ at.Outside
+monitor_there k core i o _ _ (watch_guards some among) tests e away = absurd cc
+monitor_there k core i o _ _ (waits some ends among only) tests e away = absurd cc
+monitor_there k core i o x _ (elsewhere z a b) tests e away = b tests e
+
+module _ (k core : Table) (i : Images) (rows : CoreRows k core i) (more : LayeredRows k core i) (tree : IsNested k)
     (core_children : (s r : ℕ) → Contains (state_at core s).regions r → around core r ≡ s ∷ around core (holder core s))
     (children : (s r : ℕ) → Contains (state_at k s).regions r → around k r ≡ s ∷ around k (holder k s))
     (o : ℕ) (has : has_aborts (own k o) ≡ true) (c d : Configuration) (related : Related k core i c d)
     (corr : Correspondence) (home stage : ℕ) (first : Configuration)
-    (same_first : (q : ℕ) → standing_of first (i.thread_of q) ≡ standing_of d (i.thread_of q)) where
+    (same : (g : ℕ) → g ≢ i.watcher_of o → standing_of first g ≡ standing_of d g) (o_there : IsState k o) where
+  same_first : (q : ℕ) → standing_of first (i.thread_of q) ≡ standing_of d (i.thread_of q)
+  same_first q = same (i.thread_of q) ((rows.watcher o o_there has).no_thread q)
+
+  -- a monitor inside is another one
+  other_monitor : (s : ℕ) → IsState k s → has_aborts (own k s) ≡ true → Contains (around k (holder k s)) o → i.watcher_of s ≢ i.watcher_of o
+  other_monitor s s_there has_some in_o e =
+      let same_main : i.main_of s ≡ i.main_of o = heads (i.main_of s) (i.main_of o) (around core (i.thread_of (holder k s)))
+      (around core (i.thread_of (holder k o)))
+      (sym (rows.watcher s s_there has_some).encloses ∙ (ap (around core) e ∙ (rows.watcher o o_there has).encloses)) in
+      let is : s ≡ o = rows.main_once s o same_main in
+      holds_other k tree (holder k o) o (subst (λ v. Contains (around k (holder k v)) o) is in_o) refl
+
+  pub same_monitor : (s : ℕ) → IsState k s → has_aborts (own k s) ≡ true → Contains (around k (holder k s)) o →
+      standing_of first (i.watcher_of s) ≡ standing_of d (i.watcher_of s)
+  same_monitor s s_there has_some in_o = same (i.watcher_of s) (other_monitor s s_there has_some in_o)
+
   state_there : (s : ℕ) → IsSuper k s → IsState k s
   state_there s super = ⊎_elim (λ lt. lt) (λ past. absurd (super (no_regions_past k s past))) (within_or_past s (length k.states))
 
-  heads : (a b : ℕ) (xs ys : List ℕ) → a ∷ xs ≡ b ∷ ys → a ≡ b
-  heads a b xs ys e = cc
-
-  -- a superstate without aborts: its fork ends, and its continuation leaves
+  -- a superstate inside: its fork ends, and its continuation leaves
   pub fork_leaves : (q s join : ℕ) (tests : List Transition) → Contains (around k q) o → standing_of c q ≡ at.Within s tests → IsSuper k s →
       holder k s ≡ q → stays (flags_around k core i q) (own k s) ≡ false → is_behind k core i c s ≡ false →
       state_in core (i.thread_of q) join ≡ i.behind_of s →
-      LeavesBy core corr home stage first.variables (i.thread_of q) (at_once (behind_transitions k core i q s)) →
-      MayLeave core corr home stage first (i.thread_of q) (at.Within (i.main_of s) (joins join ∷ []))
+      LeavesBy core corr home stage (i.main_of o) first (i.thread_of q) (at_once (behind_transitions k core i q s)) →
+      MayLeave core corr home stage (i.main_of o) first (i.thread_of q) (at.Within (i.main_of s) (joins join ∷ []))
   fork_leaves q s join tests in_o stands super held not_staying open_still leads leaves_by =
       forks (i.main_of s) join (i.behind_of s) (at_once (behind_transitions k core i q s)) fork_held enters (more.behind_alone s) leaves_by direct
     where
@@ -154,12 +185,8 @@ module _ (k core : Table) (i : Images) (rows : CoreRows k core i) (more : FlatRo
           ∙ (ap (λ z. z.entered) split.behind
           ∙ ap (λ p. to (i.thread_of p) (at.Trying (i.behind_of s) (at_once (behind_transitions k core i p s))) ∷ []) held)
 
-      no_monitor : watchers k core i s ≡ []
-      no_monitor = let none : has_aborts (own k s) ≡ false = more.flat_held o s has (subst (λ p. Contains (around k p) o) (sym held) in_o) in rw (none) refl
-
-      regions_are : (state_at core (i.main_of s)).regions ≡ map i.thread_of (state_at k s).regions
-      regions_are = ap (λ z. z.regions) split.row ∙ (ap (λ zs. map i.thread_of (state_at k s).regions ++ zs) no_monitor ∙
-          append-nil (map i.thread_of (state_at k s).regions))
+      regions_are : (state_at core (i.main_of s)).regions ≡ map i.thread_of (state_at k s).regions ++ watchers k core i s
+      regions_are = ap (λ z. z.regions) split.row
 
       inside_s : IsInside k core i s (standing_of c (holder k s))
       inside_s = subst (λ p. IsInside k core i s (standing_of c p)) (sym held) (subst (IsInside k core i s) (sym stands) (open_inside tests))
@@ -171,13 +198,32 @@ module _ (k core : Table) (i : Images) (rows : CoreRows k core i) (more : FlatRo
           (λ u us round. subst (λ v. is_behind k core i c v ≡ false) (heads s u (around k (holder k s)) us (sym (children s r child) ∙ round)) open_still)
           (sym (same_first r) ∙ e)
 
+      in_s : Contains (around k (holder k s)) o
+      in_s = subst (λ p. Contains (around k p) o) (sym held) in_o
+
+      monitor_present : (t : ℕ) → Contains (watchers k core i s) t → standing_of first t ≢ at.Outside
+      monitor_present t h = by_aborts (has_aborts (own k s)) refl
+        where
+          by_aborts : (b : Bool) → has_aborts (own k s) ≡ b → standing_of first t ≢ at.Outside
+          by_aborts false none e = let no_monitor : watchers k core i s ≡ [] = rw (none) refl in none_in t (subst (λ zs. Contains zs t) no_monitor h)
+          by_aborts true some e =
+              let its_own : watchers k core i s ≡ i.watcher_of s ∷ [] = rw (some) refl in
+              let one : i.watcher_of s ≡ t =
+              ⊎_elim (λ is. is) (λ rest. absurd (none_in t rest))
+              (head_or_tail (i.watcher_of s) t [] (subst (λ zs. Contains zs t) its_own h)) in
+              monitor_there k core i s (standing_of c (holder k s)) (standing_of d (i.watcher_of s)) (related.watchers s (state_there s super) some) tests
+              (ap (standing_of c) held ∙ stands)
+              (sym (same_monitor s (state_there s super) some in_s) ∙ (ap (standing_of first) one ∙ e))
+
       direct : (t : ℕ) → Contains (state_at core (i.main_of s)).regions t →
           (around core t ≡ i.main_of s ∷ around core (i.thread_of q)) × (standing_of first t ≢ at.Outside)
-      direct t h =
-          let r = contains_map i.thread_of (state_at k s).regions t (subst (λ zs. Contains zs t) regions_are h) in (
-            core_children (i.main_of s) t h ∙ ap (λ p. i.main_of s ∷ around core p) fork_held,
-            subst (λ v. standing_of first v ≢ at.Outside) r.2 (present r.0 r.1),
-          )
+      direct t h = (
+        core_children (i.main_of s) t h ∙ ap (λ p. i.main_of s ∷ around core p) fork_held,
+        ⊎_elim
+            (λ m. let r = contains_map i.thread_of (state_at k s).regions t m in subst (λ v. standing_of first v ≢ at.Outside) r.2 (present r.0 r.1))
+            (monitor_present t)
+            (in_either (map i.thread_of (state_at k s).regions) (watchers k core i s) t (subst (λ zs. Contains zs t) regions_are h)),
+      )
 
   from_core : (q : ℕ) → Contains (around core (i.thread_of q)) (i.main_of o) → Contains (around k q) o
   from_core q h =
@@ -190,40 +236,49 @@ module _ (k core : Table) (i : Images) (rows : CoreRows k core i) (more : FlatRo
       ⊎_elim (λ lt. (omega arith, omega (lt, arith))) (λ past. absurd
       (none_in (i.main_of o) (subst (λ zs. Contains zs (i.main_of o)) (nothing_around core j past) h))) (within_or_past j (length core.regions))
 
-  -- each thread of the fork can leave where those of its regions can, and its monitor has ended
-  pub all_may_leave : ((q : ℕ) → IsThere k q → Contains (around k q) o →
-      MayLeave core corr home stage first (i.thread_of q) (standing_of d (i.thread_of q))) →
+  -- each thread of the fork can leave where those of its regions and the monitors inside can, and its own monitor has ended
+  pub all_may_leave : ((u : ℕ) → IsState k u → has_aborts (own k u) ≡ true → Contains (around k (holder k u)) o →
+      MayLeave core corr home stage (i.main_of o) first (i.watcher_of u) (standing_of d (i.watcher_of u))) →
+      ((q : ℕ) → IsThere k q → Contains (around k q) o →
+      MayLeave core corr home stage (i.main_of o) first (i.thread_of q) (standing_of d (i.thread_of q))) →
       standing_of first (i.watcher_of o) ≡ at.Ended → (t : ℕ) → Contains (around core t) (i.main_of o) →
-      MayLeave core corr home stage first t (standing_of first t)
-  all_may_leave each monitor_over t h = by_sort (rows.each t (core_there t h))
+      MayLeave core corr home stage (i.main_of o) first t (standing_of first t)
+  all_may_leave each_monitor each monitor_over t h = by_sort (rows.each t (core_there t h))
     where
-      by_region : (q : ℕ) → IsThere k q → t ≡ i.thread_of q → MayLeave core corr home stage first t (standing_of first t)
+      by_region : (q : ℕ) → IsThere k q → t ≡ i.thread_of q → MayLeave core corr home stage (i.main_of o) first t (standing_of first t)
       by_region q there e =
           let in_o : Contains (around k q) o = from_core q (subst (λ v. Contains (around core v) (i.main_of o)) e h) in
-          subst (λ v. MayLeave core corr home stage first v (standing_of first v)) (sym e)
-          (subst (MayLeave core corr home stage first (i.thread_of q)) (sym (same_first q)) (each q there in_o))
+          subst (λ v. MayLeave core corr home stage (i.main_of o) first v (standing_of first v)) (sym e)
+          (subst (MayLeave core corr home stage (i.main_of o) first (i.thread_of q)) (sym (same_first q)) (each q there in_o))
 
-      by_monitor : (u : ℕ) → IsState k u → has_aborts (own k u) ≡ true → t ≡ i.watcher_of u → MayLeave core corr home stage first t (standing_of first t)
+      by_monitor : (u : ℕ) → IsState k u → has_aborts (own k u) ≡ true → t ≡ i.watcher_of u → MayLeave core corr home stage (i.main_of o) first t
+          (standing_of first t)
       by_monitor u there has_some e =
           ⊎_elim
-          (λ same. subst (λ v. MayLeave core corr home stage first v (standing_of first v)) (sym (e ∙ ap i.watcher_of (rows.main_once u o same)))
-          (subst (MayLeave core corr home stage first (i.watcher_of o)) (sym monitor_over) over))
-          (λ tail. let none : has_aborts (own k u) ≡ false = more.flat_held o u has (from_core (holder k u) tail) in let wrong : true ≡ false =
-          sym has_some ∙ none in absurd cc)
+          (λ same. subst (λ v. MayLeave core corr home stage (i.main_of o) first v (standing_of first v)) (sym (e ∙ ap i.watcher_of (rows.main_once u o same)))
+          (subst (MayLeave core corr home stage (i.main_of o) first (i.watcher_of o)) (sym monitor_over) over))
+          (λ tail.
+          let in_o : Contains (around k (holder k u)) o = from_core (holder k u) tail in
+          subst (λ v. MayLeave core corr home stage (i.main_of o) first v (standing_of first v)) (sym e)
+          (subst (MayLeave core corr home stage (i.main_of o) first (i.watcher_of u)) (sym (same_monitor u there has_some in_o))
+          (each_monitor u there has_some in_o)))
           (head_or_tail (i.main_of u) (i.main_of o) (around core (i.thread_of (holder k u)))
           (subst (λ zs. Contains zs (i.main_of o)) ((rows.watcher u there has_some).encloses) (subst (λ v. Contains (around core v) (i.main_of o)) e h)))
 
       by_sort : ((r : ℕ) × IsThere k r × (t ≡ i.thread_of r)) ⊎ ((s : ℕ) × IsState k s × (has_aborts (own k s) ≡ true) × (t ≡ i.watcher_of s)) →
-          MayLeave core corr home stage first t (standing_of first t)
+          MayLeave core corr home stage (i.main_of o) first t (standing_of first t)
       by_sort (inl r) = by_region r.0 r.1 r.2
       by_sort (inr s) = by_monitor s.0 s.1 s.2 s.3
 
 -- ---- the holder guards: each thread inside sees the strong flag first
 
-module _ (k core : Table) (i : Images) (rows : CoreRows k core i) (more : FlatRows k core i) (tree : IsNested k)
+module _ (k core : Table) (i : Images) (rows : CoreRows k core i) (more : LayeredRows k core i) (tree : IsNested k)
     (core_children : (s r : ℕ) → Contains (state_at core s).regions r → around core r ≡ s ∷ around core (holder core s))
     (children : (s r : ℕ) → Contains (state_at k s).regions r → around k r ≡ s ∷ around k (holder k s))
-    (o x : ℕ) (has : has_aborts (own k o) ≡ true) (flag : (i.flags_of o).strong ≡ Some x) where
+    (o x : ℕ) (has : has_strong (own k o) ≡ true) (flag : (i.flags_of o).strong ≡ Some x) where
+  some_aborts : has_aborts (own k o) ≡ true
+  some_aborts = rw (has) refl
+
   -- the one check in front
   abbrev pub sees : Bool → ℕ → Transition
   sees b q = go b (Some (is_raised x)) [] (i.places_of q).left
@@ -242,17 +297,17 @@ module _ (k core : Table) (i : Images) (rows : CoreRows k core i) (more : FlatRo
       (corr : Correspondence) (home stage : ℕ) (first : Configuration)
       (silent : (q : ℕ) → Contains (around k q) o → IsSilent corr (i.thread_of q) (Some (home, stage)) (access_of_trigger (Some (is_raised x))))
       (raised : verdict first.variables (Some (is_raised x)) ≡ Some true)
-      (same_first : (q : ℕ) → standing_of first (i.thread_of q) ≡ standing_of d (i.thread_of q)) where
+      (same : (g : ℕ) → g ≢ i.watcher_of o → standing_of first g ≡ standing_of d g) (o_there : IsState k o) where
     abbrev pub Leaves : ℕ → Standing → Type 0
-    Leaves t z = MayLeave core corr home stage first t z
+    Leaves t z = MayLeave core corr home stage (i.main_of o) first t z
 
     guarded_here : (q : ℕ) → Contains (around k q) o → is_guarded k c (around k q) ≡ true
     guarded_here q in_o = any_in (λ s. guards (standing_of c (holder k s))) (around k q) o in_o guarding_now
 
     leaves_by : (q : ℕ) (b : Bool) (rest : List Transition) → IsThere k q → Contains (around k q) o →
-        LeavesBy core corr home stage first.variables (i.thread_of q) (sees b q ∷ rest)
+        LeavesBy core corr home stage (i.main_of o) first (i.thread_of q) (sees b q ∷ rest)
     leaves_by q b rest there in_o =
-        leads_out (sees b q) rest raised refl ((rows.region q there).left (aborts_here q in_o)) (Some (home, stage)) (inr refl) (silent q in_o)
+        leads_out (sees b q) rest raised refl ((rows.region q there).left (aborts_here q in_o)) (Some (home, stage)) (inr (inl refl)) (silent q in_o)
 
     -- a simple state
     by_trying : (q s : ℕ) (tests : List Transition) → IsThere k q → Contains (around k q) o → IsSimple k s →
@@ -291,9 +346,10 @@ module _ (k core : Table) (i : Images) (rows : CoreRows k core i) (more : FlatRo
         stays (flags_around k core i q) (own k s) ≡ false → is_behind k core i c s ≡ false → state_in core (i.thread_of q) join ≡ i.behind_of s →
         Leaves (i.thread_of q) (at.Within (i.main_of s) (joins join ∷ []))
     by_within q s join tests there in_o stands super held not_staying open_still leads =
-        fork_leaves k core i rows more core_children children o has c d related corr home stage first same_first q s join tests in_o stands super held
+        fork_leaves k core i rows more tree core_children children o some_aborts c d related corr home stage first same o_there q s join tests in_o stands
+        super held
         not_staying open_still leads
-        (subst (LeavesBy core corr home stage first.variables (i.thread_of q)) (sym (continues q s in_o)) (leaves_by q true (behind_it q s) there in_o))
+        (subst (LeavesBy core corr home stage (i.main_of o) first (i.thread_of q)) (sym (continues q s in_o)) (leaves_by q true (behind_it q s) there in_o))
 
     never_stays : (q s : ℕ) → Contains (around k q) o → stays (flags_around k core i q) (own k s) ≡ true → ⊥
     never_stays q s in_o e = by_aborts (has_aborts (own k s)) (aborts_around (flags_around k core i q)) (aborts_here q in_o) e
@@ -322,5 +378,6 @@ module _ (k core : Table) (i : Images) (rows : CoreRows k core i) (more : FlatRo
     -- each thread of the fork can leave, where its monitor has ended
     pub may_leave : standing_of first (i.watcher_of o) ≡ at.Ended → (t : ℕ) → Contains (around core t) (i.main_of o) → Leaves t (standing_of first t)
     may_leave =
-        all_may_leave k core i rows more core_children children o has c d related corr home stage first same_first
+        all_may_leave k core i rows more tree core_children children o some_aborts c d related corr home stage first same o_there
+        (λ u u_there some in_o. let wrong : true ≡ false = sym some ∙ more.in_strong o u has in_o in absurd cc)
         (λ q there in_o. by_stands q there in_o (standing_of c q) (standing_of d (i.thread_of q)) (related.regions q there) refl (calm q in_o))

@@ -13,21 +13,22 @@ use Rattle.chart_machine.specs.Turns.{standing_of, has_ended, guards as has_to_g
 use Rattle.chart_machine.specs.Steps.{verdict, step}
 use Rattle.core_charts.specs.Aborts.{has_aborts}
 use Rattle.abort_expansion.specs.Transitions.{led, strong_checks, raising}
-use Rattle.abort_expansion.specs.Superstates.{stays, all_ended}
+use Rattle.abort_expansion.specs.Superstates.{stays}
 use Rattle.chart_machine_laws.specs.Tree.{IsNested, IsThere, around, holder}
 use Rattle.chart_machine_laws.proofs.LyingIn.{head_in, tail_in}
 use Rattle.chart_machine_laws.proofs.ChartTables.{around_there}
 use Rattle.tick_laws.proofs.Lists.{same_or_not, contained}
 use Rattle.abort_expansion_laws.specs.CoreRows.{own, IsState, IsSuper, Images, CoreRows, flags_around}
+use Rattle.abort_expansion_laws.specs.Related.{monitor_last}
 use Rattle.abort_expansion_laws.specs.Related.{front, is_behind, Stands}
 use Rattle.abort_expansion_laws.specs.Related.{within, Watches, waits, elsewhere, raises, raise_each, still_in, Stores, IsInside, guarded, open_inside}
-use Rattle.abort_expansion_laws.specs.Related.{FlagsAreDown, Closes, Related, IsCalm, calm_outside, calm_ended, calm_trying, calm_within}
+use Rattle.abort_expansion_laws.specs.Related.{FlagsAreDown, Closes, Related, IsCalm, calm_within}
 use Rattle.abort_expansion_laws.specs.Related.{guards as watch_guards}
 use Rattle.abort_expansion_laws.proofs.StageReached.{any_in, holds_other}
 use Rattle.abort_expansion_laws.proofs.Unchanged.{stands_same, stands_other, no_guards, never_guarded, none_among}
 use Rattle.abort_expansion_laws.proofs.KnownVariables.{present_there}
 use Rattle.abort_expansion_laws.proofs.StrongNotTaken.{IsGuarding, guarding_back, MonitorGuards, guards_back, inside_guarding}
-use Rattle.abort_expansion_laws.proofs.InsideLeaves.{FlatRows, one_check}
+use Rattle.abort_expansion_laws.proofs.InsideLeaves.{LayeredRows, one_check, strong_of}
 use Rattle.abort_expansion_laws.proofs.Leaving.{set_length}
 use Rattle.abort_expansion_laws.proofs.MoreValues.{verdict_over_more}
 use Rattle.abort_expansion_laws.proofs.TestFails.{fails}
@@ -41,7 +42,7 @@ map_empty : (xs : List (ℕ × Transition)) → map (λ (x : ℕ × Transition).
 map_empty [] e = refl
 map_empty (x ∷ xs) e = absurd cc
 
-module _ (k core : Table) (i : Images) (rows : CoreRows k core i) (flat : FlatRows k core i) (tree : IsNested k)
+module _ (k core : Table) (i : Images) (rows : CoreRows k core i) (layered : LayeredRows k core i) (tree : IsNested k)
     (core_children : (s r : ℕ) → Contains (state_at core s).regions r → around core r ≡ s ∷ around core (holder core s))
     (children : (s r : ℕ) → Contains (state_at k s).regions r → around k r ≡ s ∷ around k (holder k s))
     (c d : Configuration) (related : Related k core i c d) (r o x : ℕ) (o_there : IsState k o) (super : IsSuper k o) (t : Transition)
@@ -65,7 +66,7 @@ module _ (k core : Table) (i : Images) (rows : CoreRows k core i) (flat : FlatRo
 
   abbrev pub watching_now : Standing
   watching_now = at.Trying (i.watching_of o) (raise_each (λ z. z.immediate) (i.flags_of o).weak (numbered_from 0 (weak_aborts (own k o)))
-      ++ all_ended (i.flags_of o).counter)
+      ++ monitor_last k core i o)
 
   abbrev pub c' : Configuration
   c' = record { variables = c.variables; regions = slice_set c.regions r opened_now }
@@ -100,23 +101,23 @@ module _ (k core : Table) (i : Images) (rows : CoreRows k core i) (flat : FlatRo
   -- ---- the monitor's step
 
   pub core_stands : standing_of d (i.watcher_of o) ≡ at.Trying (i.watching_of o) (raises (λ z. false) x (monitor.number, t)
-      ∷ (raising (λ z. z.immediate) 1 (i.flags_of o).weak 1 (weak_aborts (own k o)) ++ all_ended (i.flags_of o).counter))
+      ∷ (raising (λ z. z.immediate) 1 (i.flags_of o).weak 1 (weak_aborts (own k o)) ++ monitor_last k core i o))
   core_stands =
       monitor.is
       ∙ (ap (λ f. at.Trying (i.watching_of o) (raise_each (λ z. false) f ((monitor.number, t) ∷ monitor.others)
-      ++ (raising (λ z. z.immediate) 1 (i.flags_of o).weak 1 (weak_aborts (own k o)) ++ all_ended (i.flags_of o).counter))) flag
+      ++ (raising (λ z. z.immediate) 1 (i.flags_of o).weak 1 (weak_aborts (own k o)) ++ monitor_last k core i o))) flag
       ∙ ap (λ others. at.Trying (i.watching_of o) (raise_each (λ z. false) (Some x) ((monitor.number, t) ∷ others)
-      ++ (raising (λ z. z.immediate) 1 (i.flags_of o).weak 1 (weak_aborts (own k o)) ++ all_ended (i.flags_of o).counter)))
+      ++ (raising (λ z. z.immediate) 1 (i.flags_of o).weak 1 (weak_aborts (own k o)) ++ monitor_last k core i o)))
       (map_empty monitor.others monitor.tests_are))
 
   pub monitor_steps : verdict c.variables t.trigger ≡ Some false → step core (i.watcher_of o) d ≡ Some d1
   monitor_steps false_there =
       fails core d (i.watcher_of o) (i.watching_of o) (raises (λ z. false) x (monitor.number, t))
-      (raising (λ z. z.immediate) 1 (i.flags_of o).weak 1 (weak_aborts (own k o)) ++ all_ended (i.flags_of o).counter)
+      (raising (λ z. z.immediate) 1 (i.flags_of o).weak 1 (weak_aborts (own k o)) ++ monitor_last k core i o)
       (never_guarded k core i rows c d related (around core (i.watcher_of o))) core_stands
       (subst (λ vs. verdict vs t.trigger ≡ Some false) (sym related.variables) (verdict_over_more related.more c.variables t.trigger false false_there))
       ∙ ap (λ ts. Some (record { variables = d.variables; regions = slice_set d.regions (i.watcher_of o) (at.Trying (i.watching_of o) ts) }))
-      (ap (λ zs. zs ++ all_ended (i.flags_of o).counter) (raising_is (λ z. z.immediate) (i.flags_of o).weak 0 (weak_aborts (own k o))))
+      (ap (λ zs. zs ++ monitor_last k core i o) (raising_is (λ z. z.immediate) (i.flags_of o).weak 0 (weak_aborts (own k o))))
 
   pub nobody_guards : (g : ℕ) → has_to_guard (standing_of d1 g) ≡ false
   nobody_guards g =
@@ -163,7 +164,8 @@ module _ (k core : Table) (i : Images) (rows : CoreRows k core i) (flat : FlatRo
     front_none q b inner = rw (free_now q inner) refl
 
     front_one : (q : ℕ) (b : Bool) → Contains (around k q) o → front k core i b c q ≡ check_of b q ∷ []
-    front_one q b inner = rw (is_guarded_before q inner) (one_check k core i rows flat tree core_children children o x has flag q b inner)
+    front_one q b inner = rw (is_guarded_before q inner) (one_check k core i rows layered tree core_children children o x
+        (strong_of k core i layered o x flag) flag q b inner)
 
     -- who is not inside sees the same superstates guard
     front_same : (q : ℕ) → IsThere k q → (Contains (around k q) o → ⊥) → standing_of c q ≢ at.Outside → (b : Bool) →

@@ -23,7 +23,7 @@ use Rattle.abort_expansion_laws.specs.CoreRows.{own, IsState, Images, CoreRows}
 use Rattle.abort_expansion_laws.specs.Related.{Each, Watches, still_in, Stores, IsInside, guarded}
 use Rattle.abort_expansion_laws.specs.Related.{open_inside, FlagsAreDown, Closes, Related, IsCalm, calm_outside}
 use Rattle.abort_expansion_laws.specs.Related.{calm_ended, calm_trying, calm_within}
-use Rattle.abort_expansion_laws.proofs.InsideLeaves.{FlatRows}
+use Rattle.abort_expansion_laws.proofs.InsideLeaves.{LayeredRows}
 use Rattle.abort_expansion_laws.proofs.Owed.{RestsIn, rests_outside, rests_ended, rests_left, rests_trying, rests_staying, rests_within, rests_behind, Resting}
 use Rattle.abort_expansion_laws.proofs.WokenConfigurations.{each_kept, variables_started, started_size, behind_same}
 use Rattle.abort_expansion_laws.proofs.WokenConfigurations.{woken_ended, present_before, present_after, open_then}
@@ -42,21 +42,21 @@ pub each_more : (P Q : Transition → Bool) (p q : Bool) (ts : List Transition) 
 each_more P Q p q [] h all = tt
 each_more P Q p q (t ∷ ts) h all = (h t all.0, each_more P Q p q ts h all.1)
 
-module _ (k core : Table) (i : Images) (rows : CoreRows k core i) (flat : FlatRows k core i) (tree : IsNested k) (more_rows : StartRows k core i rows)
+module _ (k core : Table) (i : Images) (rows : CoreRows k core i) (layered : LayeredRows k core i) (tree : IsNested k) (more_rows : StartRows k core i rows)
     (before core_before : Configuration) (rests : Resting k core i before core_before) (inputs : Inputs) where
   abbrev c : Configuration
-  c = starts.c k core i rows flat tree more_rows before core_before rests inputs
+  c = starts.c k core i rows layered tree more_rows before core_before rests inputs
 
   abbrev d : Configuration
-  d = starts.d k core i rows flat tree more_rows before core_before rests inputs
+  d = starts.d k core i rows layered tree more_rows before core_before rests inputs
 
   at_c : (r : ℕ) → standing_of c r ≡ woken k (standing_of before r)
-  at_c r = starts.at_c k core i rows flat tree more_rows before core_before rests inputs r
+  at_c r = starts.at_c k core i rows layered tree more_rows before core_before rests inputs r
 
   pub never : (r : ℕ) → (s : ℕ) (tests : List Transition) → standing_of before r ≢ at.Guarding s tests
   never r s tests e =
-      starts.never_guards k core i rows flat tree more_rows before core_before rests inputs r (standing_of before r) _
-      (rests.regions r (starts.there k core i rows flat tree more_rows before core_before rests inputs r
+      starts.never_guards k core i rows layered tree more_rows before core_before rests inputs r (standing_of before r) _
+      (rests.regions r (starts.there k core i rows layered tree more_rows before core_before rests inputs r
       (λ out. let wrong : at.Guarding s tests ≡ at.Outside = sym e ∙ out in absurd cc))) s tests e
 
   -- ---- variables
@@ -182,13 +182,13 @@ module _ (k core : Table) (i : Images) (rows : CoreRows k core i) (flat : FlatRo
   plain_strong : (u : ℕ) → has_aborts (own k u) ≡ false → strong_aborts (own k u) ≡ []
   plain_strong u plain = kept_none (λ t. is_strong t.kind) (own k u) (neither (has_strong (own k u)) (has_weak (own k u)) plain).0
 
-  calm_open : (r s u : ℕ) (tests : List Transition) → Contains (around k r) s → has_aborts (own k s) ≡ true → holder k u ≡ r →
+  calm_open : (r s u : ℕ) (tests : List Transition) → Contains (around k r) s → has_strong (own k s) ≡ true → holder k u ≡ r →
       IsCalm (woken k (at.Within u tests))
   calm_open r s u tests inner has held =
-      let plain : has_aborts (own k u) ≡ false = flat.flat_held s u has (subst (λ q. Contains (around k q) s) (sym held) inner) in
+      let plain : has_aborts (own k u) ≡ false = layered.in_strong s u has (subst (λ q. Contains (around k q) s) (sym held) inner) in
       subst IsCalm (sym (open_then k u tests (plain_strong u plain))) (calm_within u (closing_tests (own k u)))
 
-  no_guards_inside : (r s : ℕ) → IsThere k r → Contains (around k r) s → has_aborts (own k s) ≡ true → (x y : Standing) → RestsIn k core i before r x y →
+  no_guards_inside : (r s : ℕ) → IsThere k r → Contains (around k r) s → has_strong (own k s) ≡ true → (x y : Standing) → RestsIn k core i before r x y →
       IsCalm (woken k x)
   no_guards_inside r s there inner has _ _ rests_outside = calm_outside
   no_guards_inside r s there inner has _ _ (rests_ended inside) = calm_ended
@@ -201,19 +201,19 @@ module _ (k core : Table) (i : Images) (rows : CoreRows k core i) (flat : FlatRo
   -- who comes to guard has strong aborts
   guard_has : (x : Standing) → ((u : ℕ) (tests : List Transition) → x ≢ at.Guarding u tests) → has_to_guard (woken k x) ≡ true →
       ((s : ℕ) (tests : List Transition) → x ≡ at.Entering s tests → ⊥) →
-      (u : ℕ) × ((tests : List Transition) × ((x ≡ at.Within u tests) × (has_aborts (own k u) ≡ true)))
+      (u : ℕ) × ((tests : List Transition) × ((x ≡ at.Within u tests) × (has_strong (own k u) ≡ true)))
   guard_has at.Outside other e never_enters = absurd cc
   guard_has at.Ended other e never_enters = absurd cc
   guard_has (at.Trying u tests) other e never_enters = absurd cc
   guard_has (at.Acting u effects p) other e never_enters = absurd cc
   guard_has (at.Entering u tests) other e never_enters = absurd (never_enters u tests refl)
   guard_has (at.Guarding u tests) other e never_enters = absurd (other u tests refl)
-  guard_has (at.Within u tests) other e never_enters = (u, (tests, (refl, from (has_aborts (own k u)) refl)))
+  guard_has (at.Within u tests) other e never_enters = (u, (tests, (refl, from (has_strong (own k u)) refl)))
     where
-      from : (b : Bool) → has_aborts (own k u) ≡ b → has_aborts (own k u) ≡ true
+      from : (b : Bool) → has_strong (own k u) ≡ b → has_strong (own k u) ≡ true
       from true has = has
       from false none =
-          let open_now = open_then k u tests (plain_strong u none) in
+          let open_now = open_then k u tests (kept_none (λ t. is_strong t.kind) (own k u) none) in
           let wrong : true ≡ false = sym e ∙ ap has_to_guard open_now in absurd cc
 
   never_entering : (r : ℕ) (x y : Standing) → RestsIn k core i before r x y → (s : ℕ) (tests : List Transition) → x ≡ at.Entering s tests → ⊥
@@ -235,12 +235,12 @@ module _ (k core : Table) (i : Images) (rows : CoreRows k core i) (flat : FlatRo
   calm_now q s there inner e =
       let before_holder : standing_of before (holder k s) ≢ at.Outside =
       λ out. let wrong : true ≡ false = sym e ∙ ap has_to_guard (at_c (holder k s) ∙ ap (woken k) out) in absurd cc in
-      let is = starts.there k core i rows flat tree more_rows before core_before rests inputs (holder k s) before_holder in
+      let is = starts.there k core i rows layered tree more_rows before core_before rests inputs (holder k s) before_holder in
       let found = guard_has (standing_of before (holder k s)) (never (holder k s)) (sym (ap has_to_guard (at_c (holder k s))) ∙ e)
       (never_entering (holder k s) (standing_of before (holder k s)) _ (rests.regions (holder k s) is)) in
       by_presence found.0 found.1.0 found.1.1.0 found.1.1.1
     where
-      by_presence : (u : ℕ) (tests : List Transition) → standing_of before (holder k s) ≡ at.Within u tests → has_aborts (own k u) ≡ true →
+      by_presence : (u : ℕ) (tests : List Transition) → standing_of before (holder k s) ≡ at.Within u tests → has_strong (own k u) ≡ true →
           IsCalm (standing_of c q)
       by_presence u tests open_now has = by_standing (standing_of before q) refl
         where
@@ -255,7 +255,7 @@ module _ (k core : Table) (i : Images) (rows : CoreRows k core i) (flat : FlatRo
           present_calm present =
               let one : s ≡ u = inside_u (rests.enclosed q s there present inner) in
               subst IsCalm (sym (at_c q))
-              (no_guards_inside q s there inner (subst (λ z. has_aborts (own k z) ≡ true) (sym one) has) (standing_of before q) _ (rests.regions q there))
+              (no_guards_inside q s there inner (subst (λ z. has_strong (own k z) ≡ true) (sym one) has) (standing_of before q) _ (rests.regions q there))
 
           by_standing : (x : Standing) → standing_of before q ≡ x → IsCalm (standing_of c q)
           by_standing at.Outside e = subst IsCalm (sym (at_c q ∙ ap (woken k) e)) calm_outside
@@ -276,17 +276,18 @@ module _ (k core : Table) (i : Images) (rows : CoreRows k core i) (flat : FlatRo
         core_regions = length-map core_before.regions (woken core) ∙ rests.core_regions;
         values = size_c;
         no_chart = at_c 0 ∙ ap (woken k) rests.no_chart;
-        no_core = starts.at_d k core i rows flat tree more_rows before core_before rests inputs 0 ∙ ap (woken core) rests.no_core;
+        no_core = starts.at_d k core i rows layered tree more_rows before core_before rests inputs 0 ∙ ap (woken core) rests.no_core;
         regions = λ r there.
             subst (λ z. Rattle.abort_expansion_laws.specs.Related.Stands k core i c r z (standing_of d (i.thread_of r))) (sym (at_c r))
             (subst (Rattle.abort_expansion_laws.specs.Related.Stands k core i c r (woken k (standing_of before r)))
-            (sym (starts.at_d k core i rows flat tree more_rows before core_before rests inputs (i.thread_of r)))
-            (starts.wakes k core i rows flat tree more_rows before core_before rests inputs r there (standing_of before r) _ refl (rests.regions r there)));
+            (sym (starts.at_d k core i rows layered tree more_rows before core_before rests inputs (i.thread_of r)))
+            (starts.wakes k core i rows layered tree more_rows before core_before rests inputs r there (standing_of before r) _ refl (rests.regions r there)));
         watchers = λ o here has.
             subst (λ z. Watches k core i o z (standing_of d (i.watcher_of o))) (sym (at_c (holder k o)))
             (subst (Watches k core i o (woken k (standing_of before (holder k o))))
-            (sym (starts.at_d k core i rows flat tree more_rows before core_before rests inputs (i.watcher_of o)))
-            (monitor_woken k core i rows flat tree more_rows o here has (standing_of before (holder k o)) _ (rests.watchers o here has) (never (holder k o))));
+            (sym (starts.at_d k core i rows layered tree more_rows before core_before rests inputs (i.watcher_of o)))
+            (monitor_woken k core i rows layered tree more_rows o here has (standing_of before (holder k o)) _ (rests.watchers o here has)
+            (never (holder k o))));
         flags = flags_down;
         enclosed = λ r s there present inner.
             subst (IsInside k core i s) (sym (at_c (holder k s)))

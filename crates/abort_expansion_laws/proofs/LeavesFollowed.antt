@@ -1,4 +1,4 @@
--- The steps of a flat chart by which a superstate is left are followed: aborts that are taken, and terminations.
+-- The steps of a layered chart by which a superstate is left are followed: aborts that are taken, and terminations.
 use Rattle.std.proofs.Common.{◌≡◌, ◌≢◌, ℕ, ◌<◌, ◌⊎◌, inl, inr, Bool, true, false, not, ◌&&◌, Some, None, List, [], ◌∷◌, length, map, slice_get}
 use Rattle.std.proofs.Common.{option_map, Contains, refl, sym, ap, subst, ◌∙◌}
 use Rattle.sc_values.specs.declared.value.Kind.TheVariants as kind_is
@@ -23,13 +23,13 @@ use Rattle.abort_expansion.specs.Superstates.{stays}
 use Rattle.abort_expansion.specs.Transitions.{led}
 use Rattle.chart_machine_laws.specs.Tree.{holder}
 use Rattle.chart_machine_laws.proofs.ChartTables.{around_there}
-use Rattle.abort_expansion_laws.specs.Flat.{IsFlat}
+use Rattle.abort_expansion_laws.specs.Layered.{IsLayered}
 use Rattle.abort_expansion_laws.specs.Stages.{Entry}
 use Rattle.abort_expansion_laws.specs.CoreRows.{own, IsState, IsSuper, joins, Images, CoreRows, flags_around}
 use Rattle.abort_expansion_laws.specs.Related.{Stands, outside, ended, left, trying, acting, entering, guarding, staying, within, behind, Related}
 use Rattle.abort_expansion_laws.proofs.CasesFollowed.{has_from, other_true}
 use Rattle.abort_expansion_laws.proofs.CasesFollowed as cases
-use Rattle.abort_expansion_laws.proofs.FlatChartRows.{flat_rows, start_rows}
+use Rattle.abort_expansion_laws.proofs.LayeredChartRows.{layered_rows, start_rows}
 use Rattle.abort_expansion_laws.proofs.KnownVariables.{Stepped}
 use Rattle.abort_expansion_laws.proofs.MoreRows.{alone, opening_rows, strong_of, strong_at, weak_at, counter_given, writes_low, counter_rows}
 use Rattle.abort_expansion_laws.proofs.OwnTests.{OwnTests, IsOwn}
@@ -86,7 +86,7 @@ module _ (k core : Table) (i : Images) (r s : ℕ) where
       absurd (not_behind (stays (flags_around k core i (holder k u)) (own k u)) (has_aborts (own k u)) (has_join (own k u)) _
       (ap (λ v. has_join (own k v)) state ∙ joined) over)
 
-module _ (c : Chart) (rules : IsChart features.Extended c) (core_rules : IsChart features.Core (expanded c)) (flat : IsFlat c) where
+module _ (c : Chart) (rules : IsChart features.Extended c) (core_rules : IsChart features.Core (expanded c)) (layered : IsLayered c) where
   abbrev k : Table
   k = table c
 
@@ -117,23 +117,23 @@ module _ (c : Chart) (rules : IsChart features.Extended c) (core_rules : IsChart
   module _ (now d : Configuration) (related : Related k core i now d) (owns : OwnTests k now) (r : ℕ) (next : Configuration)
       (goes : step k r now ≡ Some next) where
     abbrev Followed : Type 0
-    Followed = cases.Followed c rules core_rules flat now d r next
+    Followed = cases.Followed c rules core_rules layered now d r next
 
     parts : Stepped k r now next
-    parts = cases.parts c rules core_rules flat now d related owns r next goes
+    parts = cases.parts c rules core_rules layered now d related owns r next goes
 
     -- ---- a strong abort
 
     module _ (o : ℕ) (t : Transition) (tests : List Transition) (stands : standing_of now r ≡ at.Guarding o (t ∷ tests))
         (holds : verdict now.variables t.trigger ≡ Some true) where
       guards : IsGuarding k core i r o (standing_of d (i.thread_of r))
-      guards = cases.guards c rules core_rules flat now d related owns r next goes o t tests stands
+      guards = cases.guards c rules core_rules layered now d related owns r next goes o t tests stands
 
       here : IsState k o
       here = state_with_aborts k o guards.has
 
       flag : (x : ℕ) × ((i.flags_of o).strong ≡ Some x)
-      flag = cases.flag c rules core_rules flat now d related owns r next goes o t tests stands
+      flag = cases.flag c rules core_rules layered now d related owns r next goes o t tests stands
 
       row : (rows.of_flag flag.0 ≡ o) × ((takes_kind (option_map (λ z. z.kind) (slice_get core.variables flag.0)) kind_is.Int ≡ true)
           × (flag.0 < length core.variables))
@@ -144,33 +144,33 @@ module _ (c : Chart) (rules : IsChart features.Extended c) (core_rules : IsChart
 
       target : t.target < length (region_at k r).states
       target =
-          cases.target_of c rules core_rules flat now d related owns r next goes o t here guards.held (subst (IsOwn k) stands (owns r)).0
+          cases.target_of c rules core_rules layered now d related owns r next goes o t here guards.held (subst (IsOwn k) stands (owns r)).0
 
       pub strong_taken : Followed
       strong_taken = by_effects t.effects refl
         where
           by_effects : (es : List Effect) → t.effects ≡ es → Followed
           by_effects (e ∷ es) some =
-              strong_followed k core i rows (flat_rows c rules core_rules flat) (ticks.nested c rules core_rules)
+              strong_followed k core i rows (layered_rows c rules core_rules layered) (ticks.nested c rules core_rules)
               (whole.core_tree c rules core_rules).nested (whole.core_tree c rules core_rules).deeper (whole.core_tree c rules core_rules).children
               (whole.tree c rules core_rules).children (ticks.counts c rules core_rules) (ticks.written_at c rules core_rules) Told (told_silent k core i) now d
               related r o here t tests stands holds (λ q inner. related.calm q o (around_there k q o inner) inner guards_there) flag.0 flag.1
               (strong_of c rules core_rules o flag.0 flag.1) ((counter_rows c rules core_rules).strong_not o flag.0 flag.1)
               (strong_at c rules core_rules o flag.0 flag.1) row.1.0 row.1.1 (watching_alone o here guards.has) e es some target
               (whole.super_of c rules core_rules o here guards.has) (flag_differs o flag.0 (inl flag.1))
-              (λ first. cases.strong_told c rules core_rules flat now d related owns r next goes o t tests stands) parts.free next goes
+              (λ first. cases.strong_told c rules core_rules layered now d related owns r next goes o t tests stands) parts.free next goes
           by_effects [] none =
-              strong_entered k core i rows (flat_rows c rules core_rules flat) (ticks.nested c rules core_rules)
+              strong_entered k core i rows (layered_rows c rules core_rules layered) (ticks.nested c rules core_rules)
               (whole.core_tree c rules core_rules).nested (whole.core_tree c rules core_rules).deeper (whole.core_tree c rules core_rules).children
               (whole.tree c rules core_rules).children (ticks.counts c rules core_rules) (ticks.written_at c rules core_rules) Told (told_silent k core i) now d
               related r o here t tests stands holds (λ q inner. related.calm q o (around_there k q o inner) inner guards_there) flag.0 flag.1
               (strong_of c rules core_rules o flag.0 flag.1) ((counter_rows c rules core_rules).strong_not o flag.0 flag.1)
               (strong_at c rules core_rules o flag.0 flag.1) row.1.0 row.1.1 (watching_alone o here guards.has) none target
               (whole.super_of c rules core_rules o here guards.has) (flag_differs o flag.0 (inl flag.1))
-              (λ first. cases.strong_told c rules core_rules flat now d related owns r next goes o t tests stands) parts.free
-              (cases.law_of_entering c rules core_rules flat) (counter_rows c rules core_rules) (whole.super_there c rules core_rules)
-              (cases.chart_first c rules core_rules flat now d related owns r next goes t.target target)
-              (cases.core_first c rules core_rules flat now d related owns r next goes t.target target) next goes
+              (λ first. cases.strong_told c rules core_rules layered now d related owns r next goes o t tests stands) parts.free
+              (cases.law_of_entering c rules core_rules layered) (counter_rows c rules core_rules) (whole.super_there c rules core_rules)
+              (cases.chart_first c rules core_rules layered now d related owns r next goes t.target target)
+              (cases.core_first c rules core_rules layered now d related owns r next goes t.target target) next goes
 
     -- ---- a weak abort
 
@@ -185,34 +185,34 @@ module _ (c : Chart) (rules : IsChart features.Extended c) (core_rules : IsChart
       held : holder k o ≡ r
       held =
           (within_back k core i now r o weak_has (standing_of now r) (standing_of d (i.thread_of r))
-          (related.regions r (cases.there c rules core_rules flat now d related owns r next goes)) (t ∷ tests) stands).held
+          (related.regions r (cases.there c rules core_rules layered now d related owns r next goes)) (t ∷ tests) stands).held
 
       weak_target : t.target < length (region_at k r).states
-      weak_target = cases.target_of c rules core_rules flat now d related owns r next goes o t weak_here held own_one
+      weak_target = cases.target_of c rules core_rules layered now d related owns r next goes o t weak_here held own_one
 
       pub weak_taken : Followed
       weak_taken = by_effects t.effects refl
         where
           by_effects : (es : List Effect) → t.effects ≡ es → Followed
           by_effects (e ∷ es) some =
-              weak_followed k core i rows (flat_rows c rules core_rules flat) (ticks.nested c rules core_rules)
+              weak_followed k core i rows (layered_rows c rules core_rules layered) (ticks.nested c rules core_rules)
               (whole.core_tree c rules core_rules).nested (whole.core_tree c rules core_rules).deeper (whole.core_tree c rules core_rules).children
               (whole.tree c rules core_rules).children (ticks.counts c rules core_rules) (ticks.written_at c rules core_rules)
-              (counter_rows c rules core_rules) (opening_rows c rules core_rules) (start_rows c rules core_rules flat) (writes_low c rules core_rules)
+              (counter_rows c rules core_rules) (opening_rows c rules core_rules) (start_rows c rules core_rules layered) (writes_low c rules core_rules)
               (weak_at c rules core_rules) (alone c rules core_rules) now d related r o weak_here weak_has t is_weak_one tests stands holds parts.free
               parts.done Told (told_silent k core i)
               (told_weak k core i d r (i.watcher_of o) (access_of_trigger t.trigger)) e es some weak_target next goes
           by_effects [] none =
-              weak_entered k core i rows (flat_rows c rules core_rules flat) (ticks.nested c rules core_rules)
+              weak_entered k core i rows (layered_rows c rules core_rules layered) (ticks.nested c rules core_rules)
               (whole.core_tree c rules core_rules).nested (whole.core_tree c rules core_rules).deeper (whole.core_tree c rules core_rules).children
               (whole.tree c rules core_rules).children (ticks.counts c rules core_rules) (ticks.written_at c rules core_rules)
-              (counter_rows c rules core_rules) (opening_rows c rules core_rules) (start_rows c rules core_rules flat) (writes_low c rules core_rules)
+              (counter_rows c rules core_rules) (opening_rows c rules core_rules) (start_rows c rules core_rules layered) (writes_low c rules core_rules)
               (weak_at c rules core_rules) (alone c rules core_rules) now d related r o weak_here weak_has t is_weak_one tests stands holds parts.free
               parts.done Told (told_silent k core i)
               (told_weak k core i d r (i.watcher_of o) (access_of_trigger t.trigger)) none weak_target next goes
-              (cases.law_of_entering c rules core_rules flat)
-              (cases.chart_first c rules core_rules flat now d related owns r next goes t.target weak_target)
-              (cases.core_first c rules core_rules flat now d related owns r next goes t.target weak_target)
+              (cases.law_of_entering c rules core_rules layered)
+              (cases.chart_first c rules core_rules layered now d related owns r next goes t.target weak_target)
+              (cases.core_first c rules core_rules layered now d related owns r next goes t.target weak_target)
 
     -- ---- a termination
 
@@ -231,7 +231,7 @@ module _ (c : Chart) (rules : IsChart features.Extended c) (core_rules : IsChart
           s_there = whole.is_state_super c rules core_rules s super
 
           target : t.target < length (region_at k r).states
-          target = cases.target_of c rules core_rules flat now d related owns r next goes s t s_there held own_one
+          target = cases.target_of c rules core_rules layered now d related owns r next goes s t s_there held own_one
 
           by_effects : (es : List Effect) → t.effects ≡ es → Followed
           by_effects (e ∷ es) some =
@@ -243,36 +243,36 @@ module _ (c : Chart) (rules : IsChart features.Extended c) (core_rules : IsChart
               staying_enters k core i rows (ticks.nested c rules core_rules) (whole.core_tree c rules core_rules).nested
               (ticks.counts c rules core_rules) (ticks.written_at c rules core_rules) (counter_rows c rules core_rules)
               (whole.tree c rules core_rules).children now d related r s held t tests stands join parts.works parts.free no_trigger s_there super stay
-              core_stands target Told (inl refl) next goes (told_silent k core i) (cases.law_of_entering c rules core_rules flat)
-              (whole.super_there c rules core_rules) (cases.chart_first c rules core_rules flat now d related owns r next goes t.target target)
-              (cases.core_first c rules core_rules flat now d related owns r next goes t.target target) none
+              core_stands target Told (inl refl) next goes (told_silent k core i) (cases.law_of_entering c rules core_rules layered)
+              (whole.super_there c rules core_rules) (cases.chart_first c rules core_rules layered now d related owns r next goes t.target target)
+              (cases.core_first c rules core_rules layered now d related owns r next goes t.target target) none
       by_fork (as_split super held splits j leads forked) = by_effects t.effects refl
         where
           s_there : IsState k s
           s_there = whole.is_state_super c rules core_rules s super
 
           target : t.target < length (region_at k r).states
-          target = cases.target_of c rules core_rules flat now d related owns r next goes s t s_there held own_one
+          target = cases.target_of c rules core_rules layered now d related owns r next goes s t s_there held own_one
 
           by_effects : (es : List Effect) → t.effects ≡ es → Followed
           by_effects (e ∷ es) some =
-              split_terminates k core i rows (flat_rows c rules core_rules flat) (ticks.nested c rules core_rules)
+              split_terminates k core i rows (layered_rows c rules core_rules layered) (ticks.nested c rules core_rules)
               (whole.core_tree c rules core_rules).nested (ticks.counts c rules core_rules) (ticks.written_at c rules core_rules)
               (counter_rows c rules core_rules) (opening_rows c rules core_rules) (writes_low c rules core_rules) (strong_at c rules core_rules)
               (whole.super_there c rules core_rules) (whole.tree c rules core_rules).children Told (told_silent k core i) now d related r s held t tests
               stands join parts.works parts.free no_trigger s_there super splits j leads forked (counter_given c rules core_rules)
               (alone c rules core_rules) target (λ e last at_last same. inl refl) next goes e es some
           by_effects [] none =
-              split_enters k core i rows (flat_rows c rules core_rules flat) (ticks.nested c rules core_rules)
+              split_enters k core i rows (layered_rows c rules core_rules layered) (ticks.nested c rules core_rules)
               (whole.core_tree c rules core_rules).nested (ticks.counts c rules core_rules) (ticks.written_at c rules core_rules)
               (counter_rows c rules core_rules) (opening_rows c rules core_rules) (writes_low c rules core_rules) (strong_at c rules core_rules)
               (whole.super_there c rules core_rules) (whole.tree c rules core_rules).children Told (told_silent k core i) now d related r s held t tests
               stands join parts.works parts.free no_trigger s_there super splits j leads forked (counter_given c rules core_rules)
-              (alone c rules core_rules) target (λ e last at_last same. inl refl) next goes (cases.law_of_entering c rules core_rules flat)
-              (cases.chart_first c rules core_rules flat now d related owns r next goes t.target target)
-              (cases.core_first c rules core_rules flat now d related owns r next goes t.target target) none
+              (alone c rules core_rules) target (λ e last at_last same. inl refl) next goes (cases.law_of_entering c rules core_rules layered)
+              (cases.chart_first c rules core_rules layered now d related owns r next goes t.target target)
+              (cases.core_first c rules core_rules layered now d related owns r next goes t.target target) none
 
       pub terminated : Followed
       terminated =
           by_fork (open_as k core i r s now (standing_of now r) (standing_of d (i.thread_of r))
-          (related.regions r (cases.there c rules core_rules flat now d related owns r next goes)) (t ∷ tests) stands joined)
+          (related.regions r (cases.there c rules core_rules layered now d related owns r next goes)) (t ∷ tests) stands joined)

@@ -1,10 +1,9 @@
 -- When a chart's tick is over, what its core has left: a weak check in each thread inside of a superstate with weak aborts, and the
 -- count test of each monitor that has one. They fail.
-use Rattle.std.proofs.Common.{◌≡◌, ◌≢◌, ℕ, zero, suc, pos, ◌+◌, ◌<◌, ◌≤◌, ◌⊎◌, inl, inr, ⊎_elim, Bool, true, false, not, ◌||◌, ◌&&◌, Option, Some, None}
+use Rattle.std.proofs.Common.{◌≡◌, ◌≢◌, ℕ, zero, suc, pos, ◌+◌, ◌<◌, ◌≤◌, ◌⊎◌, inl, inr, Bool, true, false, not, ◌||◌, ◌&&◌, Option, Some, None}
 use Rattle.std.proofs.Common.{List, [], ◌∷◌, ◌++◌, map, length, slice_get, unwrap_or, Contains, refl, sym, ap, subst, ◌∙◌, arith, if◌then◌else◌}
 use Rattle.std.specs.Prelude.{filter, reverse}
 use Rattle.std.specs.List.{list_all, list_any}
-use Rattle.std.proofs.lemmas.List.Folds.{flat_map-map}
 use Rattle.std.proofs.lemmas.Option.{none-some, same_Some, slice_get_past}
 use Rattle.sc_values.specs.declared.value.Value.TheVariants as value_is
 use Rattle.sc_values.specs.Access.{Access}
@@ -19,29 +18,31 @@ use Rattle.chart_machine.specs.Table.{state_at}
 use Rattle.chart_machine.specs.Turns.{standing_of, has_ended, has_work, inside}
 use Rattle.chart_machine.specs.Machine.{machine}
 use Rattle.core_charts.specs.Aborts.{has_weak, has_aborts}
-use Rattle.abort_expansion.specs.Transitions.{go, is_raised, is_number, check}
+use Rattle.abort_expansion.specs.Transitions.{go, is_raised, is_number, check, weak_checks}
 use Rattle.abort_expansion.specs.Superstates.{all_ended}
 use Rattle.chart_machine_laws.specs.Tree.{IsNested, IsThere, around, holder}
-use Rattle.chart_machine_laws.proofs.LyingIn.{none_in, head_in, tail_in, head_or_tail}
+use Rattle.chart_machine_laws.proofs.LyingIn.{head_in, tail_in}
 use Rattle.abort_expansion_laws.specs.Stages.{Entry, Silent, Correspondence}
-use Rattle.abort_expansion_laws.specs.CoreRows.{own, IsState, Images, CoreRows, pair}
+use Rattle.abort_expansion_laws.specs.CoreRows.{own, IsState, Images, CoreRows, flags_around, pair}
 use Rattle.abort_expansion_laws.specs.Related.{Each, front, held_back, Stands, outside, ended, left, trying, acting, entering, guarding, staying}
 use Rattle.abort_expansion_laws.specs.Related.{within, behind, Watches, waits, elsewhere, raise_each}
 use Rattle.abort_expansion_laws.specs.Related.{still_in, not_ended, Stores, IsInside, guarded, open_inside}
-use Rattle.abort_expansion_laws.specs.Related.{Closes, Related}
+use Rattle.abort_expansion_laws.specs.Related.{Closes, Related, monitor_last}
 use Rattle.abort_expansion_laws.specs.Related.{guards as watch_guards}
 use Rattle.abort_expansion_laws.specs.StageReached.{some_work, stage_of, Stage}
 use Rattle.abort_expansion_laws.proofs.KnownVariables.{present_there}
-use Rattle.abort_expansion_laws.proofs.InsideLeaves.{FlatRows, one_checked}
+use Rattle.abort_expansion_laws.proofs.InsideLeaves.{LayeredRows}
 use Rattle.abort_expansion_laws.proofs.MoreValues.{lowered_verdict, other_verdict}
 use Rattle.abort_expansion_laws.proofs.FlagAccess.{raised_access, number_access}
 use Rattle.abort_expansion_laws.proofs.StartingRegions.{CounterRows}
 use Rattle.abort_expansion_laws.proofs.OpensFork.{OpeningRows}
 use Rattle.abort_expansion_laws.proofs.WokenConfigurations.{each_kept}
-use Rattle.abort_expansion_laws.proofs.TickStarts.{StartRows, no_weak_checks, some_kept}
+use Rattle.abort_expansion_laws.proofs.TickStarts.{StartRows, some_kept}
 use Rattle.abort_expansion_laws.proofs.LaterTicks.{weak_no_join, each_more}
 use Rattle.abort_expansion_laws.proofs.IdleChart.{free, idle}
-use Rattle.abort_expansion_laws.proofs.LastTests.{Ends, nothing_left, one_left}
+use Rattle.abort_expansion_laws.proofs.LastTests.{Ends, nothing_left, some_left, FailsAtLast, none_left, one_more, fails_both}
+use Rattle.abort_expansion_laws.proofs.JoinsFork.{in_reverse}
+use Rattle.tick_laws.proofs.Lists.{map_contains}
 
 none_any : (P : ℕ → Bool) (xs : List ℕ) → ((y : ℕ) → P y ≡ false) → list_any P xs ≡ false
 none_any P [] none = refl
@@ -65,7 +66,7 @@ kept_is P ts n t e = among (filter P ts) n (each_kept P ts) e
     among (u ∷ us) zero all e = subst (λ z. P z ≡ true) (same_Some u t e) all.0
     among (u ∷ us) (suc n) all e = among us n all.1 e
 
-module _ (k core : Table) (i : Images) (rows : CoreRows k core i) (flat : FlatRows k core i) (tree : IsNested k) (counts : ℕ → Bool) (written_at : ℕ → ℕ)
+module _ (k core : Table) (i : Images) (rows : CoreRows k core i) (layered : LayeredRows k core i) (tree : IsNested k) (counts : ℕ → Bool) (written_at : ℕ → ℕ)
     (counters : CounterRows k core i rows counts written_at) (opening : OpeningRows k core i rows) (start_rows : StartRows k core i rows)
     (written_low : (x : ℕ) → written_at x < 3) (Told : Configuration → Entry → Type 0)
     (told : (e : Configuration) (t : ℕ) (stage : Option (ℕ × ℕ)) (a : Access) → Told e (Silent t stage a))
@@ -142,19 +143,6 @@ module _ (k core : Table) (i : Images) (rows : CoreRows k core i) (flat : FlatRo
 
   -- ---- weak checks
 
-  pub find_weak : (zs : List ℕ) → ((o : ℕ) × Contains zs o × ((x : ℕ) × ((i.flags_of o).weak ≡ Some x))) ⊎ ((s : ℕ) → Contains zs s →
-      (i.flags_of s).weak ≡ None)
-  find_weak [] = inr (λ s h. absurd (none_in s h))
-  find_weak (z ∷ zs) = by_flag (i.flags_of z).weak refl (find_weak zs)
-    where
-      by_flag : (w : Option ℕ) → (i.flags_of z).weak ≡ w →
-          (((o : ℕ) × Contains zs o × ((x : ℕ) × ((i.flags_of o).weak ≡ Some x))) ⊎ ((s : ℕ) → Contains zs s → (i.flags_of s).weak ≡ None)) →
-          ((o : ℕ) × Contains (z ∷ zs) o × ((x : ℕ) × ((i.flags_of o).weak ≡ Some x))) ⊎ ((s : ℕ) → Contains (z ∷ zs) s → (i.flags_of s).weak ≡ None)
-      by_flag (Some x) e rest = inl (z, head_in z zs, (x, e))
-      by_flag None e (inl some) = inl (some.0, tail_in z some.0 zs some.1, some.2)
-      by_flag None e (inr none) =
-          inr (λ s h. ⊎_elim (λ same. subst (λ v. (i.flags_of v).weak ≡ None) same e) (λ tail. none s tail) (head_or_tail z s zs h))
-
   weak_aborts_of : (s x : ℕ) → (i.flags_of s).weak ≡ Some x → has_aborts (own k s) ≡ true
   weak_aborts_of s x e = rw (start_rows.weak_for s x e) (either (Rattle.core_charts.specs.Aborts.has_strong (own k s)))
     where
@@ -162,53 +150,38 @@ module _ (k core : Table) (i : Images) (rows : CoreRows k core i) (flat : FlatRo
       either true = refl
       either false = refl
 
-  pub one_held : (r o x : ℕ) → Contains (around k r) o → (i.flags_of o).weak ≡ Some x →
-      held_back k core i r ≡ go true (Some (is_raised x)) [] (i.places_of r).left ∷ []
-  one_held r o x inner flag =
-      flat_map-map (λ f. check true (i.places_of r).left f.weak) i.flags_of (reverse (around k r))
-      ∙ (one_checked k tree (λ s. check true (i.places_of r).left (i.flags_of s).weak) (around k r) r o refl inner
-      (λ s h differs. ap (check true (i.places_of r).left) (none s h differs)) ∙ ap (check true (i.places_of r).left) flag)
-    where
-      none : (s : ℕ) → Contains (around k r) s → s ≢ o → (i.flags_of s).weak ≡ None
-      none s h differs = by_flag (i.flags_of s).weak refl
-        where
-          by_flag : (w : Option ℕ) → (i.flags_of s).weak ≡ w → (i.flags_of s).weak ≡ None
-          by_flag None e = e
-          by_flag (Some y) e = absurd (differs (flat.flat_around r o s inner h (weak_aborts_of o x flag) (weak_aborts_of s y e)))
+  -- the weak checks of a thread that lies in all that is around a region, wherever they lead
+  module _ (t r place : ℕ) (is : IsThere k r) (present : standing_of c r ≢ at.Outside)
+      (lies_in : (s : ℕ) → Contains (around k r) s → Contains (around core t) (i.main_of s)) where
+    one_weak : (s : ℕ) → Contains (around k r) s → (f : Option ℕ) → (i.flags_of s).weak ≡ f →
+        FailsAtLast core corr Told told d Reached t (check true place f)
+    one_weak s inner None e = none_left
+    one_weak s inner (Some x) e =
+        let has : has_aborts (own k s) ≡ true = weak_aborts_of s x e in
+        let inside_s : IsInside k core i s (standing_of c (holder k s)) = related.enclosed r s is present inner in
+        let owner : rows.of_flag x ≡ s = (opening.flag_of s x (inr (inl e))).0 in
+        let low : slice_get d.variables x ≡ Some (value_is.Int (pos 0)) =
+        subst (λ f. Stores k core i d.variables f 0) e (related.flags s (start_rows.super_there r s inner) inside_s).weak in
+        one_more x (go true (Some (is_raised x)) [] place) [] (lowered_verdict x d.variables low) (raised_access x) (rows.weak_added s x e)
+        (inr (inr (counters.weak_not s x e, subst (λ v. Contains (around core t) (i.main_of v)) (sym owner) (lies_in s inner)), (3, refl, written_low x)))
+        (most s inside_s has x owner) (reaches s inside_s has x owner) none_left
+
+    weak_fail : (zs : List ℕ) → ((s : ℕ) → Contains zs s → Contains (around k r) s) →
+        FailsAtLast core corr Told told d Reached t (weak_checks true place (map i.flags_of zs))
+    weak_fail [] around_it = none_left
+    weak_fail (s ∷ zs) around_it =
+        fails_both core corr Told told d Reached t (check true place (i.flags_of s).weak) (weak_checks true place (map i.flags_of zs))
+        (one_weak s (around_it s (head_in s zs)) (i.flags_of s).weak refl) (weak_fail zs (λ u h. around_it u (tail_in s u zs h)))
+
+    pub weak_all : FailsAtLast core corr Told told d Reached t (weak_checks true place (flags_around k core i r))
+    weak_all = weak_fail (reverse (around k r)) (λ s h. in_reverse (around k r) s h)
+
+  in_fork : (r s : ℕ) → Contains (around k r) s → Contains (around core (i.thread_of r)) (i.main_of s)
+  in_fork r s inner = subst (λ zs. Contains zs (i.main_of s)) (sym (rows.encloses r)) (map_contains i.main_of (around k r) s inner)
 
   -- a thread with its weak checks alone
   weak_left : (r : ℕ) → IsThere k r → standing_of c r ≢ at.Outside → (u : ℕ) → EndsAt (i.thread_of r) (at.Trying u (held_back k core i r))
-  weak_left r is present u = by_weak (find_weak (around k r))
-    where
-      by_weak : ((o : ℕ) × Contains (around k r) o × ((x : ℕ) × ((i.flags_of o).weak ≡ Some x))) ⊎
-          ((s : ℕ) → Contains (around k r) s → (i.flags_of s).weak ≡ None) → EndsAt (i.thread_of r) (at.Trying u (held_back k core i r))
-      by_weak (inr none) =
-          subst (λ zs. EndsAt (i.thread_of r) (at.Trying u zs))
-          (sym (no_weak_checks i.flags_of true (i.places_of r).left k tree (around k r) none)) (nothing_left (at.Trying u []) refl)
-      by_weak (inl some) =
-          let o : ℕ = some.0 in
-          let x : ℕ = some.2.0 in
-          let flag : (i.flags_of o).weak ≡ Some x = some.2.1 in
-          let has : has_aborts (own k o) ≡ true = weak_aborts_of o x flag in
-          let inside_o : IsInside k core i o (standing_of c (holder k o)) = related.enclosed r o is present some.1 in
-          let owner : rows.of_flag x ≡ o = (opening.flag_of o x (inr (inl flag))).0 in
-          let low : slice_get d.variables x ≡ Some (value_is.Int (pos 0)) =
-          subst (λ f. Stores k core i d.variables f 0) flag (related.flags o (start_rows.super_there r o some.1) inside_o).weak in
-          subst (λ zs. EndsAt (i.thread_of r) (at.Trying u zs)) (sym (one_held r o x some.1 flag))
-          (one_left u x (go true (Some (is_raised x)) [] (i.places_of r).left) (lowered_verdict x d.variables low) (raised_access x) (rows.weak_added o x flag)
-          (inr (inr (counters.weak_not o x flag, within o x owner some.1), (3, refl, written_low x))) (most o inside_o has x owner)
-          (reaches o inside_o has x owner))
-        where
-          within : (o x : ℕ) → rows.of_flag x ≡ o → Contains (around k r) o → Contains (around core (i.thread_of r)) (i.main_of (rows.of_flag x))
-          within o x owner inner =
-              subst (λ s. Contains (around core (i.thread_of r)) (i.main_of s)) (sym owner)
-              (subst (λ zs. Contains zs (i.main_of o)) (sym (rows.encloses r)) (mapped (around k r) inner))
-            where
-              mapped : (zs : List ℕ) → Contains zs o → Contains (map i.main_of zs) (i.main_of o)
-              mapped [] h = absurd (none_in o h)
-              mapped (z ∷ zs) h =
-                  ⊎_elim (λ same. subst (λ v. Contains (i.main_of v ∷ map i.main_of zs) (i.main_of o)) (sym same) (head_in (i.main_of o) (map i.main_of zs)))
-                  (λ tail. tail_in (i.main_of z) (i.main_of o) (map i.main_of zs) (mapped zs tail)) (head_or_tail z o zs h)
+  weak_left r is present u = some_left u (held_back k core i r) (weak_all (i.thread_of r) r (i.places_of r).left is present (λ s inner. in_fork r s inner))
 
   pub front_none : (r : ℕ) (b : Bool) → front k core i b c r ≡ []
   front_none r b = rw (free k core i c d related deep over (around k r)) refl
@@ -267,31 +240,42 @@ module _ (k core : Table) (i : Images) (rows : CoreRows k core i) (flat : FlatRo
   none_raised immediate None = refl
   none_raised immediate (Some x) = refl
 
-  count_left : (o : ℕ) → IsState k o → has_aborts (own k o) ≡ true → (tests : List Transition) → standing_of c (holder k o) ≡ at.Within o tests →
-      EndsAt (i.watcher_of o) (at.Trying (i.watching_of o) (all_ended (i.flags_of o).counter))
-  count_left o is has tests e = by_counter (i.flags_of o).counter refl
+  count_fails : (o : ℕ) → IsState k o → has_aborts (own k o) ≡ true → (tests : List Transition) → standing_of c (holder k o) ≡ at.Within o tests →
+      FailsAtLast core corr Told told d Reached (i.watcher_of o) (all_ended (i.flags_of o).counter)
+  count_fails o is has tests e = by_counter (i.flags_of o).counter refl
     where
       inside_o : IsInside k core i o (standing_of c (holder k o))
       inside_o = subst (IsInside k core i o) (sym e) (open_inside tests)
 
-      by_counter : (f : Option ℕ) → (i.flags_of o).counter ≡ f → EndsAt (i.watcher_of o) (at.Trying (i.watching_of o) (all_ended (i.flags_of o).counter))
-      by_counter None flag =
-          subst (λ f. EndsAt (i.watcher_of o) (at.Trying (i.watching_of o) (all_ended f))) (sym flag) (nothing_left (at.Trying (i.watching_of o) []) refl)
+      by_counter : (f : Option ℕ) → (i.flags_of o).counter ≡ f → FailsAtLast core corr Told told d Reached (i.watcher_of o) (all_ended f)
+      by_counter None flag = none_left
       by_counter (Some x) flag =
           let owner : rows.of_flag x ≡ o = counters.counter_of o x flag in
           let stored : slice_get d.variables x ≡ Some (value_is.Int (pos (not_ended k core i c o))) =
           subst (λ f. Stores k core i d.variables f (not_ended k core i c o)) flag (related.flags o is inside_o).counter in
-          subst (λ f. EndsAt (i.watcher_of o) (at.Trying (i.watching_of o) (all_ended f))) (sym flag)
-          (one_left (i.watching_of o) x (go true (Some (is_number x 0)) [] 1) (other_verdict x (not_ended k core i c o) 0 d.variables stored
+          one_more x (go true (Some (is_number x 0)) [] 1) [] (other_verdict x (not_ended k core i c o) 0 d.variables stored
           (not_counted o x tests e flag)) (number_access x 0) (rows.counter_added o x flag)
           (inr (inl (counters.counter_counts o x flag, ap i.watcher_of (sym owner)), (3, refl, written_low x))) (most o inside_o has x owner)
-          (reaches o inside_o has x owner))
+          (reaches o inside_o has x owner) none_left
+
+  count_left : (o : ℕ) → IsState k o → has_aborts (own k o) ≡ true → (tests : List Transition) → standing_of c (holder k o) ≡ at.Within o tests →
+      EndsAt (i.watcher_of o) (at.Trying (i.watching_of o) (monitor_last k core i o))
+  count_left o is has tests e =
+      some_left (i.watching_of o) (monitor_last k core i o)
+      (fails_both core corr Told told d Reached (i.watcher_of o) (all_ended (i.flags_of o).counter) (weak_checks true 1 (flags_around k core i (holder k o)))
+      (count_fails o is has tests e)
+      (weak_all (i.watcher_of o) (holder k o) 1 (present_there k core i c d related (holder k o) present) present
+      (λ s inner. subst (λ zs. Contains zs (i.main_of s)) (sym (rows.watcher o is has).encloses)
+      (tail_in (i.main_of o) (i.main_of s) (around core (i.thread_of (holder k o))) (in_fork (holder k o) s inner)))))
+    where
+      present : standing_of c (holder k o) ≢ at.Outside
+      present out = let wrong : at.Within o tests ≡ at.Outside = sym e ∙ out in absurd cc
 
   watcher_ends : (o : ℕ) → IsState k o → has_aborts (own k o) ≡ true → (x y : Standing) → standing_of c (holder k o) ≡ x → Watches k core i o x y →
       EndsAt (i.watcher_of o) y
   watcher_ends o is has _ _ e (watch_guards some among) = absurd (works_not (holder k o) (at.Guarding o (map (λ z. z.1) some)) e refl)
   watcher_ends o is has _ _ e (waits [] ends among only) =
-      subst (λ zs. EndsAt (i.watcher_of o) (at.Trying (i.watching_of o) (zs ++ all_ended (i.flags_of o).counter)))
+      subst (λ zs. EndsAt (i.watcher_of o) (at.Trying (i.watching_of o) (zs ++ monitor_last k core i o)))
       (sym (none_raised (λ t. t.immediate) (i.flags_of o).weak)) (count_left o is has ends e)
   watcher_ends o is has _ _ e (waits (z ∷ some) ends among only) =
       let weak : is_weak z.1.kind ≡ true = kept_is (λ t. is_weak t.kind) (own k o) z.0 z.1 among.0 in

@@ -17,6 +17,8 @@ pub mod TestFails
 pub mod SilentSteps
 pub mod Leaving
 pub mod InsideAround
+pub mod MayLeave
+pub mod OneLeaves
 pub mod AllLeave
 pub mod MonitorGoesOn
 pub mod MonitorSteps
@@ -42,6 +44,8 @@ pub mod AbortFollowed
 pub mod OutsideAborts
 pub mod StrongTaken
 pub mod WeakNotTaken
+pub mod WeakSeen
+pub mod MonitorsLeave
 pub mod WeakLeaves
 pub mod WeakTaken
 pub mod TerminationNext
@@ -105,13 +109,14 @@ pub mod RowsOfCharts
 pub mod FlagNumbers
 pub mod MoreRows
 pub mod FlatStates
+pub mod FlatLayered
 pub mod OpenedInside
 pub mod WokenConfigurations
 pub mod TickStarts
 pub mod WokenMonitors
 pub mod LaterTicks
 pub mod LocalVariables
-pub mod FlatChartRows
+pub mod LayeredChartRows
 pub mod ChecksInside
 pub mod FrontsChanged
 pub mod LastStrongFails

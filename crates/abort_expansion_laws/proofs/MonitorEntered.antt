@@ -6,13 +6,14 @@ use Rattle.core_charts.specs.Aborts.{has_aborts}
 use Rattle.core_charts.specs.Tests.{at_once, strong_aborts, weak_aborts, terminations, first_closing_tests, is_join}
 use Rattle.chart_machine.specs.declared.standing.Standing.TheVariants as at
 use Rattle.chart_machine.specs.declared.table.Table.{Table}
-use Rattle.abort_expansion.specs.Transitions.{go, put, raising}
+use Rattle.abort_expansion.specs.Transitions.{go, put, raising, weak_checks}
 use Rattle.abort_expansion.specs.Superstates.{all_ended, monitor_transitions}
 use Rattle.chart_machine_laws.specs.Tree.{IsNested, holder}
 use Rattle.abort_expansion_laws.specs.CoreRows.{own, IsState, Images, CoreRows, flags_around}
+use Rattle.abort_expansion_laws.specs.Related.{monitor_last}
 use Rattle.abort_expansion_laws.specs.Related.{raise_each, raises, AreAmong, Watches, waits}
-use Rattle.abort_expansion_laws.proofs.InsideLeaves.{FlatRows}
-use Rattle.abort_expansion_laws.proofs.EnteringSimple.{once_append}
+use Rattle.abort_expansion_laws.proofs.InsideLeaves.{LayeredRows}
+use Rattle.abort_expansion_laws.proofs.EnteringSimple.{once_append, weak_once}
 use Rattle.abort_expansion_laws.proofs.WokenConfigurations.{numbered_from, numbered_are, all_among, raising_is, each_kept}
 use Rattle.abort_expansion_laws.proofs.TickStarts.{StartRows}
 use Rattle.abort_expansion_laws.proofs.WokenMonitors.{transitions_are}
@@ -61,7 +62,13 @@ once_count : (flag : Option ℕ) → at_once (all_ended flag) ≡ all_ended flag
 once_count None = refl
 once_count (Some x) = refl
 
-module _ (k core : Table) (i : Images) (rows : CoreRows k core i) (flat : FlatRows k core i) (tree : IsNested k) (more_rows : StartRows k core i rows)
+once_last : (k core : Table) (i : Images) (o : ℕ) → at_once (monitor_last k core i o) ≡ monitor_last k core i o
+once_last k core i o =
+    once_append (all_ended (i.flags_of o).counter) (weak_checks true 1 (flags_around k core i (holder k o)))
+    ∙ (ap (λ zs. zs ++ at_once (weak_checks true 1 (flags_around k core i (holder k o)))) (once_count (i.flags_of o).counter)
+    ∙ ap (λ zs. all_ended (i.flags_of o).counter ++ zs) (weak_once 1 (flags_around k core i (holder k o))))
+
+module _ (k core : Table) (i : Images) (rows : CoreRows k core i) (layered : LayeredRows k core i) (tree : IsNested k) (more_rows : StartRows k core i rows)
     (o : ℕ) (here : IsState k o) (has : has_aborts (own k o) ≡ true) where
   abbrev some : List (ℕ × Transition)
   some = numbered_from 0 (weak_aborts (own k o))
@@ -70,21 +77,21 @@ module _ (k core : Table) (i : Images) (rows : CoreRows k core i) (flat : FlatRo
   row = monitor_transitions (flags_around k core i (holder k o)) (i.flags_of o) (own k o)
 
   row_is : row ≡ raising (λ t. false) 1 (i.flags_of o).strong 1 (strong_aborts (own k o))
-      ++ (raising (λ t. t.immediate) 1 (i.flags_of o).weak 1 (weak_aborts (own k o)) ++ all_ended (i.flags_of o).counter)
-  row_is = sym (ap (λ z. z.transitions) (rows.watcher o here has).row) ∙ transitions_are k core i rows flat tree more_rows o here has
+      ++ (raising (λ t. t.immediate) 1 (i.flags_of o).weak 1 (weak_aborts (own k o)) ++ monitor_last k core i o)
+  row_is = sym (ap (λ z. z.transitions) (rows.watcher o here has).row) ∙ transitions_are k core i rows layered tree more_rows o here has
 
-  once_row : at_once row ≡ raise_each (λ t. t.immediate) (i.flags_of o).weak (kept (λ t. t.immediate) some) ++ all_ended (i.flags_of o).counter
+  once_row : at_once row ≡ raise_each (λ t. t.immediate) (i.flags_of o).weak (kept (λ t. t.immediate) some) ++ monitor_last k core i o
   once_row =
       ap at_once row_is ∙
       (once_append (raising (λ t. false) 1 (i.flags_of o).strong 1 (strong_aborts (own k o)))
-      (raising (λ t. t.immediate) 1 (i.flags_of o).weak 1 (weak_aborts (own k o)) ++ all_ended (i.flags_of o).counter) ∙
-      (ap (λ zs. zs ++ at_once (raising (λ t. t.immediate) 1 (i.flags_of o).weak 1 (weak_aborts (own k o)) ++ all_ended (i.flags_of o).counter))
+      (raising (λ t. t.immediate) 1 (i.flags_of o).weak 1 (weak_aborts (own k o)) ++ monitor_last k core i o) ∙
+      (ap (λ zs. zs ++ at_once (raising (λ t. t.immediate) 1 (i.flags_of o).weak 1 (weak_aborts (own k o)) ++ monitor_last k core i o))
       (ap at_once (raising_is (λ t. false) (i.flags_of o).strong 0 (strong_aborts (own k o))) ∙
       never_raised (i.flags_of o).strong (numbered_from 0 (strong_aborts (own k o)))) ∙
-      (once_append (raising (λ t. t.immediate) 1 (i.flags_of o).weak 1 (weak_aborts (own k o))) (all_ended (i.flags_of o).counter) ∙
-      (ap (λ zs. zs ++ at_once (all_ended (i.flags_of o).counter))
+      (once_append (raising (λ t. t.immediate) 1 (i.flags_of o).weak 1 (weak_aborts (own k o))) (monitor_last k core i o) ∙
+      (ap (λ zs. zs ++ at_once (monitor_last k core i o))
       (ap at_once (raising_is (λ t. t.immediate) (i.flags_of o).weak 0 (weak_aborts (own k o))) ∙ once_raised (λ t. t.immediate) (i.flags_of o).weak some) ∙
-      ap (λ zs. raise_each (λ t. t.immediate) (i.flags_of o).weak (kept (λ t. t.immediate) some) ++ zs) (once_count (i.flags_of o).counter)))))
+      ap (λ zs. raise_each (λ t. t.immediate) (i.flags_of o).weak (kept (λ t. t.immediate) some) ++ zs) (once_last k core i o)))))
 
   tests_are : map (λ x. x.1) (kept (λ t. t.immediate) some) ++ terminations (own k o) ≡ first_closing_tests (own k o)
   tests_are = ap (λ zs. zs ++ terminations (own k o)) (kept_numbered (λ t. t.immediate) some ∙ ap at_once (numbered_are 0 (weak_aborts (own k o))))

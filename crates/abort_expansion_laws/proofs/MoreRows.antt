@@ -124,22 +124,18 @@ module _ (c : Chart) (rules : IsChart features.Extended c) (core_rules : IsChart
       of_state : IsState k s → inside core (i.behind_of s) ≡ []
       of_state here = alone (i.behind_of s) (by_regions here (state_at k s).regions refl)
 
-  pub no_strong : (s : ℕ) → has_aborts (own k s) ≡ false → (i.flags_of s).strong ≡ None
+  pub no_strong : (s : ℕ) → has_strong (own k s) ≡ false → (i.flags_of s).strong ≡ None
   no_strong s none = by_flag (i.flags_of s).strong refl
     where
       not_given : (b : Bool) (x : ℕ) → b ≡ false → given b x ≡ None
       not_given true x e = absurd cc
       not_given false x e = refl
 
-      first_no : (a b : Bool) → (a || b) ≡ false → a ≡ false
-      first_no true b e = absurd cc
-      first_no false b e = refl
-
       by_flag : (o : Option ℕ) → (i.flags_of s).strong ≡ o → (i.flags_of s).strong ≡ None
       by_flag None e = e
       by_flag (Some x) e =
           let fits : FlagsFit w s = whole.flag_from c rules core_rules s x (inl e) in
-          ap (λ z. z.strong) fits.are ∙ not_given (has_strong (own k s)) fits.first (first_no (has_strong (own k s)) (has_weak (own k s)) none)
+          ap (λ z. z.strong) fits.are ∙ not_given (has_strong (own k s)) fits.first none
 
   -- ---- the map of states
 

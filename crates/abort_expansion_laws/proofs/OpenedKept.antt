@@ -1,5 +1,5 @@
 -- Where a fork is opened, whoever is not in it stands as before: what was to be opened, started or joined is so still.
-use Rattle.std.proofs.Common.{◌≡◌, ◌≢◌, ℕ, ◌<◌, ◌⊎◌, ⊎_elim, Bool, true, false, Option, None, List, []}
+use Rattle.std.proofs.Common.{◌≡◌, ◌≢◌, ℕ, ◌<◌, ⊎_elim, Bool, true, false, Option, None, List, []}
 use Rattle.std.proofs.Common.{◌∷◌, map, length, slice_set, Contains, sym, ap, subst, ◌∙◌, arith}
 use Rattle.sc_values.specs.Access.{Access}
 use Rattle.core_charts.specs.declared.region.Transition.{Transition}

@@ -10,7 +10,7 @@ use Rattle.chart_machine.specs.declared.table.Table.{Table}
 use Rattle.chart_machine.specs.Table.{state_at}
 use Rattle.chart_machine.specs.Turns.{standing_of, is_guarded}
 use Rattle.chart_machine.specs.Steps.{moved, state_in}
-use Rattle.abort_expansion.specs.Superstates.{is_prepared, stays}
+use Rattle.abort_expansion.specs.Superstates.{stays}
 use Rattle.chart_machine_laws.specs.Tree.{around, holder, IsThere}
 use Rattle.abort_expansion_laws.specs.CoreRows.{own, IsState, IsSuper, joins, Images, flags_around}
 use Rattle.abort_expansion_laws.specs.Related.{Watches, IsInside}
@@ -56,12 +56,13 @@ module _ (k core : Table) (i : Images) where
         still_going k core i c e (state_at k s).regions ≡ length (state_at k s).regions
     pub within : (c d e : Configuration) (s : ℕ) → Opens c d e s → (u : ℕ) → IsOpening k core i c e u → Contains (around k (holder k u)) s →
         IsFresh k core i c u × (IsEmpty k core i c e u × (is_guarded k c (around k (holder k u)) ≡ false))
+    -- one with aborts is not opened at once
+    pub covered : (c d e : Configuration) (s : ℕ) → Opens c d e s → (u : ℕ) → has_aborts (own k u) ≡ true → Contains (around k (holder k u)) s →
+        IsInside k core i u (standing_of c (holder k u)) → Covered k core i c e u
     pub joinable : (c d e : Configuration) (s : ℕ) → Opens c d e s → (u : ℕ) → IsJoining k core i c e u → Contains (around k (holder k u)) s →
         Over k core i c e u
 
--- what the moves of a fork leave as it is, and what stands inside of a superstate that is prepared
+-- what the moves of a fork leave as it is
 pub record ForkRows (k core : Table) (i : Images) : Type 0 where
   pub opens_inside : (s t : ℕ) (zs : List Standing) → IsState k s → IsSuper k s → ¬ Contains (around core t) (i.main_of s) →
       at_number (moved (state_at core (i.main_of s)).opened zs) t ≡ at_number zs t
-  pub plain_inside : (s o : ℕ) → is_prepared (flags_around k core i (holder k s)) (own k s) ≡ true → Contains (around k (holder k o)) s →
-      has_aborts (own k o) ≡ false

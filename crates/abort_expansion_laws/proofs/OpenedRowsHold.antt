@@ -15,7 +15,7 @@ use Rattle.chart_machine_laws.proofs.LyingIn.{none_in, head_in, tail_in, head_or
 use Rattle.chart_machine_laws.proofs.ChartTables.{around_there}
 use Rattle.abort_expansion_laws.specs.CoreRows.{own, IsState, IsSuper, Images, flags_around, counter_over}
 use Rattle.abort_expansion_laws.specs.Related.{Watches}
-use Rattle.abort_expansion_laws.proofs.InsideLeaves.{FlatRows}
+use Rattle.abort_expansion_laws.proofs.InsideLeaves.{LayeredRows}
 use Rattle.abort_expansion_laws.proofs.TickStarts.{StartRows}
 use Rattle.abort_expansion_laws.proofs.Pending.{goes_in, still_going}
 use Rattle.abort_expansion_laws.proofs.OpenedRows.{Opens, OpenedRows}
@@ -24,11 +24,11 @@ use Rattle.abort_expansion_laws.proofs.FreshInside.{Fresh, moved_alike}
 use Rattle.abort_expansion_laws.proofs.BeginningSorts.{Sort, sort_ends, sort_counts, sort_tries, sort_guards, sort_prepares, sort_opens}
 use Rattle.abort_expansion_laws.proofs.JustEntered.{EntryRows, JustOpen, Live, Reach, live, Above, opened_both, reach}
 use Rattle.abort_expansion_laws.proofs.EnteredWaits.{entered_waits}
-use Rattle.abort_expansion_laws.proofs.EnteredMonitors.{Unflagged, entered_watched, entered_flags}
+use Rattle.abort_expansion_laws.proofs.EnteredMonitors.{Unflagged, entered_watched, entered_flags, entered_covered}
 use Rattle.abort_expansion_laws.proofs.MonitorEntered.{monitor_entered}
 use Rattle.abort_expansion_laws.proofs.EnteredReady.{opened_later, over_now}
 
-module _ (k core : Table) (i : Images) (more : EntryRows k core i) (flat : FlatRows k core i) (start_rows : StartRows k core i more.rows)
+module _ (k core : Table) (i : Images) (more : EntryRows k core i) (layered : LayeredRows k core i) (start_rows : StartRows k core i more.rows)
     (alone : (v : ℕ) → (state_at core v).regions ≡ [] → inside core v ≡ [])
     (counter_joins : (s x : ℕ) → (i.flags_of s).counter ≡ Some x → has_join (own k s) ≡ true)
     (unflagged : (u : ℕ) → IsSuper k u → is_prepared (flags_around k core i (holder k u)) (own k u) ≡ false → Unflagged k core i u)
@@ -79,7 +79,7 @@ module _ (k core : Table) (i : Images) (more : EntryRows k core i) (flat : FlatR
         (standing_of c) (standing_of e) s o.there super (more.alike s o.there super) fresh core_fresh has in
         subst (λ x. Watches k core i s x (standing_of e (i.watcher_of s))) (sym (o.open_in_chart ∙ ap (at.Within s) o.untested))
         (subst (Watches k core i s (at.Within s (first_closing_tests (own k s)))) (sym stands)
-        (monitor_entered k core i more.rows flat more.tree.nested start_rows s o.there has))
+        (monitor_entered k core i more.rows layered more.tree.nested start_rows s o.there has))
 
     -- ---- who counts down
 
@@ -135,6 +135,8 @@ module _ (k core : Table) (i : Images) (more : EntryRows k core i) (flat : FlatR
             entered_flags k core i more c e unflagged u (standing_of c (holder k u)) refl inside_u (reached_around c d e s o u inner);
         all_go = λ c d e s x o counter. all_go c d e s o x counter (state_at k s).regions (λ r h. h);
         within = λ c d e s o u a inner. opened_later k core i more c e o.chart_size u a (reached_around c d e s o u inner);
+        covered = λ c d e s o u has inner inside_u.
+            entered_covered k core i more c e u has (standing_of c (holder k u)) refl inside_u (reached_around c d e s o u inner);
         joinable = λ c d e s o u a inner.
             over_now k core i more c e counter_joins u a (reached_around c d e s o u inner)
             (λ q there in_u. reached c d e s o q there (around_around k more.tree.nested (around k q) q u s refl in_u inner));

@@ -1,4 +1,4 @@
--- The law of the expansion of aborts, from two things: that each step of a flat chart is followed, and what gives that no
+-- The law of the expansion of aborts, from two things: that each step of a layered chart is followed, and what gives that no
 -- strong test is overwritten.
 use Rattle.std.proofs.Common.{◌≡◌, ℕ, ◌⊎◌, inl, inr, true, List, map, length, refl, sym, ap, subst}
 use Rattle.std.proofs.Common.{◌∙◌, Option}
@@ -20,7 +20,7 @@ use Rattle.chart_machine.specs.Table.{table, state_at}
 use Rattle.chart_machine.specs.Turns.{standing_of}
 use Rattle.chart_machine.specs.Machine.{machine, initial, start, stands_in, is_active}
 use Rattle.abort_expansion.specs.Expansion.{expanded}
-use Rattle.abort_expansion_laws.specs.Flat.{IsFlat}
+use Rattle.abort_expansion_laws.specs.Layered.{IsLayered}
 use Rattle.abort_expansion_laws.specs.Ticks.{Keeps}
 use Rattle.abort_expansion_laws.specs.Preemption.{chart_machine, SeenAlike}
 use Rattle.abort_expansion_laws.specs.Segments.{Follows}
@@ -76,7 +76,7 @@ module _ (c : Chart) (rules : IsChart features.Extended c) (core_rules : IsChart
         Follows (machine core) (ticks.corr c rules core_rules) Told (start core inputs d) log e → EachFits (ticks.corr c rules core_rules) log →
         EachSpared (ticks.corr c rules core_rules) log
 
-  module _ (flat : IsFlat c) (Accepted : Inputs → Type 0) (Told : Configuration → Entry → Type 0)
+  module _ (layered : IsLayered c) (Accepted : Inputs → Type 0) (Told : Configuration → Entry → Type 0)
       (told : (d : Configuration) (t : ℕ) (stage : Option (ℕ × ℕ)) (a : Access) → Told d (Silent t stage a))
       (spares : SparesTests Accepted Told) (Holds : Configuration → Type 0) (kept : ticks.KeptByChart c rules core_rules Holds)
       (followed : ticks.StepsFollowed c rules core_rules Holds Told) where
@@ -100,7 +100,7 @@ module _ (c : Chart) (rules : IsChart features.Extended c) (core_rules : IsChart
           Rests = BothRest;
           begins = record { alike = inl (refl, refl); rests = spares.begins; holds = kept.initially };
           tick = λ inputs before last d accepted both ends.
-              let t = ticks.tick_followed c rules core_rules flat Told told Holds kept followed (start k inputs before) last (start core inputs d)
+              let t = ticks.tick_followed c rules core_rules layered Told told Holds kept followed (start k inputs before) last (start core inputs d)
               (started inputs before d both.alike) (kept.starts inputs before both.holds)
               (spares.spared inputs before d accepted both.rests both.alike) ends in
               (t.0, t.1, record { alike = inr t.2; rests = spares.goes_on inputs d t.0 accepted both.rests t.1; holds = t.3 });

@@ -1,4 +1,4 @@
--- The law of the expansion of aborts, from one thing: that each step of a flat chart is followed by its core chart.
+-- The law of the expansion of aborts, from one thing: that each step of a layered chart is followed by its core chart.
 use Rattle.std.proofs.Common.{ℕ, List}
 use Rattle.sc_graph.specs.Tick.{AreAccepted}
 use Rattle.core_charts.specs.declared.features.Features.TheVariants as features
@@ -8,7 +8,7 @@ use Rattle.chart_machine.specs.declared.standing.Configuration.{Configuration}
 use Rattle.chart_machine.specs.declared.standing.Move.{Move}
 use Rattle.chart_machine.specs.Table.{table, state_at}
 use Rattle.abort_expansion.specs.Expansion.{expanded}
-use Rattle.abort_expansion_laws.specs.Flat.{IsFlat}
+use Rattle.abort_expansion_laws.specs.Layered.{IsLayered}
 use Rattle.abort_expansion_laws.specs.CoreRows.{IsState, IsSuper}
 use Rattle.abort_expansion_laws.specs.Stages.{Entry}
 use Rattle.abort_expansion_laws.specs.Ticks.{Keeps}
@@ -46,9 +46,9 @@ module _ (c : Chart) (rules : IsChart features.Extended c) (core_rules : IsChart
           (state_at (table c) s).opened inner
       opens s here super = let alike = (whole.state_fits c rules core_rules s here).opens super in (alike.inner, alike.regions)
 
-  pub preemption_kept : IsFlat c → (image : HasImage c) → ticks.StepsFollowed c rules core_rules (OwnTests (table c)) ToldHere →
+  pub preemption_kept : IsLayered c → (image : HasImage c) → ticks.StepsFollowed c rules core_rules (OwnTests (table c)) ToldHere →
       Keeps (chart_machine c) (chart_machine (expanded c)) (AreAccepted image.program) (SeenAlike c)
-  preemption_kept flat image followed =
-      preemption_follows c rules core_rules flat (AreAccepted image.program) ToldHere
-      (told_silent (table c) (table (expanded c)) (ticks.i c rules core_rules)) (tests_are_spared c rules core_rules flat image) (OwnTests (table c))
+  preemption_kept layered image followed =
+      preemption_follows c rules core_rules layered (AreAccepted image.program) ToldHere
+      (told_silent (table c) (table (expanded c)) (ticks.i c rules core_rules)) (tests_are_spared c rules core_rules layered image) (OwnTests (table c))
       own_tests_kept followed

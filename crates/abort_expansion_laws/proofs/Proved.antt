@@ -73,10 +73,11 @@ pub use Rattle.abort_expansion_laws.proofs.ChartWalk.{regions_walk, rows_have}
 pub use Rattle.abort_expansion_laws.proofs.RowsOfCharts.{rows_of_chart}
 pub use Rattle.abort_expansion_laws.proofs.MoreRows.{map_of_chart, opening_rows, counter_rows}
 pub use Rattle.abort_expansion_laws.proofs.FlatStates.{flat_inside}
+pub use Rattle.abort_expansion_laws.proofs.FlatLayered.{flat_charts_are_layered}
 pub use Rattle.abort_expansion_laws.proofs.OpenedInside.{opened_elsewhere}
 pub use Rattle.abort_expansion_laws.proofs.LaterTicks.{woken_related}
 pub use Rattle.abort_expansion_laws.proofs.LocalVariables.{added_are_local}
-pub use Rattle.abort_expansion_laws.proofs.FlatChartRows.{flat_rows, fork_rows, start_rows, later_ticks_begin}
+pub use Rattle.abort_expansion_laws.proofs.LayeredChartRows.{layered_rows, fork_rows, start_rows, later_ticks_begin}
 pub use Rattle.abort_expansion_laws.proofs.ChecksInside.{checks_pass}
 pub use Rattle.abort_expansion_laws.proofs.LastStrongFails.{related_then}
 pub use Rattle.abort_expansion_laws.proofs.LastStrongFollowed.{last_strong_followed}

@@ -18,7 +18,6 @@ use Rattle.sc_graph.specs.Valid.{IsFormed, IsValid}
 use Rattle.tick_laws.proofs.Formed.{root_alone, valid_formed}
 use Rattle.tick_laws.proofs.Lists.{contains_head, map_contains}
 use Rattle.tick_laws.proofs.Views.{Enabled}
-use Rattle.core_charts.specs.declared.region.Effect.{Effect}
 use Rattle.core_charts.specs.declared.region.Transition.{Transition}
 use Rattle.core_charts.specs.Tests.{is_strong, strong_aborts}
 use Rattle.core_charts.specs.Aborts.{has_aborts, has_strong}
@@ -37,12 +36,12 @@ use Rattle.compiled_charts_laws.proofs.TickStarts.{ResumedAt, Wakes, before_test
 use Rattle.chart_machine_laws.proofs.LyingIn.{IsNested, around, holder, head_in, tail_in, swapped}
 use Rattle.chart_machine_laws.specs.Tree.{IsThere}
 use Rattle.abort_expansion_laws.specs.CoreRows.{own, IsState, joins, Images, CoreRows, WatcherImage, flags_around}
-use Rattle.abort_expansion_laws.specs.Related.{IsCalm, calm_outside, calm_ended, calm_trying, calm_within, front, held_back, tests_of, Stands, outside}
+use Rattle.abort_expansion_laws.specs.Related.{IsCalm, front, held_back, tests_of, Stands, outside}
 use Rattle.abort_expansion_laws.specs.Related.{ended, left}
 use Rattle.abort_expansion_laws.specs.Related.{trying, acting, entering, guarding, staying, within, behind, Watches, guards as watch_guards, waits, elsewhere}
 use Rattle.abort_expansion_laws.specs.Related.{IsInside, guarded, open_inside, Related}
 use Rattle.abort_expansion_laws.proofs.FlagAccess.{raised_access}
-use Rattle.abort_expansion_laws.proofs.InsideLeaves.{FlatRows, sees, one_check, aborts_here}
+use Rattle.abort_expansion_laws.proofs.InsideLeaves.{LayeredRows, sees, one_check, aborts_here, strong_of}
 use Rattle.abort_expansion_laws.proofs.MonitorsApart.{monitor_apart}
 use Rattle.abort_expansion_laws.proofs.StageReached.{any_in}
 use Rattle.abort_expansion_laws.proofs.StrongNotTaken.{inside_guarding}
@@ -53,7 +52,7 @@ use Rattle.abort_expansion_laws.proofs.CalmStandings.{calm_acting, calm_entering
 
 -- ---- whoever lies in a guarded superstate, and is there, sees the flag first
 
-module _ (k core : Table) (i : Images) (rows : CoreRows k core i) (flat : FlatRows k core i) (tree : IsNested k)
+module _ (k core : Table) (i : Images) (rows : CoreRows k core i) (layered : LayeredRows k core i) (tree : IsNested k)
     (core_children : (s r : ℕ) → Contains (state_at core s).regions r → around core r ≡ s ∷ around core (holder core s))
     (children : (s r : ℕ) → Contains (state_at k s).regions r → around k r ≡ s ∷ around k (holder k s))
     (c d : Configuration) (related : Related k core i c d)
@@ -70,22 +69,26 @@ module _ (k core : Table) (i : Images) (rows : CoreRows k core i) (flat : FlatRo
 
     by_trying : (s : ℕ) (tests : List Transition) → SeesFirst (at.Trying (i.main_of s) (tests_of k core i c q tests))
     by_trying s tests =
-        let fronts : front k core i false c q ≡ sees k core i rows flat tree core_children children o x has flag false q ∷ [] =
-        rw (guarded_here) (one_check k core i rows flat tree core_children children o x has flag q false in_o) in
+        let fronts : front k core i false c q ≡ sees k core i rows layered tree core_children children o x
+        (strong_of k core i layered o x flag) flag false q ∷ [] =
+        rw (guarded_here) (one_check k core i rows layered tree core_children children o x (strong_of k core i layered o x flag) flag q false in_o) in
         subst (λ zs. SeesFirst (at.Trying (i.main_of s) (zs ++ map (led (i.places_of q)) tests ++ held_back k core i q))) (sym fronts)
-        (checks (i.main_of s) (sees k core i rows flat tree core_children children o x has flag false q)
+        (checks (i.main_of s) (sees k core i rows layered tree core_children children o x (strong_of k core i layered o x flag) flag false q)
         (map (led (i.places_of q)) tests ++ held_back k core i q) refl)
 
     by_behind : (s : ℕ) → SeesFirst (at.Trying (i.behind_of s) (front k core i true c q ++ held_back k core i q))
     by_behind s =
-        let fronts : front k core i true c q ≡ sees k core i rows flat tree core_children children o x has flag true q ∷ [] =
-        rw (guarded_here) (one_check k core i rows flat tree core_children children o x has flag q true in_o) in
+        let fronts : front k core i true c q ≡ sees k core i rows layered tree core_children children o x
+        (strong_of k core i layered o x flag) flag true q ∷ [] =
+        rw (guarded_here) (one_check k core i rows layered tree core_children children o x (strong_of k core i layered o x flag) flag q true in_o) in
         subst (λ zs. SeesFirst (at.Trying (i.behind_of s) (zs ++ held_back k core i q))) (sym fronts)
-        (checks (i.behind_of s) (sees k core i rows flat tree core_children children o x has flag true q) (held_back k core i q) refl)
+        (checks (i.behind_of s) (sees k core i rows layered tree core_children children o x (strong_of k core i layered o x flag) flag true q)
+        (held_back k core i q) refl)
 
     never_stays : (s : ℕ) → stays (flags_around k core i q) (own k s) ≡ true → ⊥
     never_stays s e =
-        by_aborts (has_aborts (own k s)) _ (aborts_here k core i rows flat tree core_children children o x has flag q in_o) e
+        by_aborts (has_aborts (own k s)) _ (aborts_here k core i rows layered tree core_children children o x
+        (strong_of k core i layered o x flag) flag q in_o) e
       where
         by_aborts : (a b : Bool) → b ≡ true → not (a || b) ≡ true → ⊥
         by_aborts true b e f = absurd cc
@@ -135,7 +138,7 @@ module _ (k core : Table) (i : Images) (c : Configuration) where
   monitor_late o _ _ (waits some ends among all) late = inr (map (λ (z : ℕ × Transition). z.1) some ++ ends, refl)
   monitor_late o x _ (elsewhere _ a b) late = absurd cc
 
-module _ (k core : Table) (i : Images) (rows : CoreRows k core i) (flat : FlatRows k core i) (tree : IsNested k) (core_tree : IsNested core)
+module _ (k core : Table) (i : Images) (rows : CoreRows k core i) (layered : LayeredRows k core i) (tree : IsNested k) (core_tree : IsNested core)
     (core_children : (s r : ℕ) → Contains (state_at core s).regions r → around core r ≡ s ∷ around core (holder core s))
     (children : (s r : ℕ) → Contains (state_at k s).regions r → around k r ≡ s ∷ around k (holder k s))
     (super_there : (r s : ℕ) → Contains (around k r) s → IsState k s) (holds_there : (s : ℕ) → IsState k s → IsThere k (holder k s))
@@ -262,7 +265,7 @@ module _ (k core : Table) (i : Images) (rows : CoreRows k core i) (flat : FlatRo
             let in_o : Contains (around k (holder k w)) o =
             by_region (holder k w) u (holds_there w there) holder_present gens up
             (subst (λ z. Descends p gens z u) (same_Some below.0 (i.thread_of (holder k w)) (sym below.1 ∙ parent)) below.2) in
-            let none : has_aborts (own k w) ≡ false = flat.flat_held o w has in_o in
+            let none : has_aborts (own k w) ≡ false = layered.in_strong o w (strong_of k core i layered o raises_it.flag raises_it.is_flag) in_o in
             let wrong : true ≡ false = sym has_too ∙ none in absurd cc
 
     -- the check of the flag is to come behind what raises it
@@ -304,7 +307,7 @@ module _ (k core : Table) (i : Images) (rows : CoreRows k core i) (flat : FlatRo
     resumes_low v in_o x = inr (x.depth, x.node, x.at, x.resumes, check_below v in_o x.node x.owned x.does)
 
     by_first : (v : ℕ) → Contains (around k v) o → (y : Standing) →
-        SeesFirst k core i rows flat tree core_children children c d related o raises_it.flag has raises_it.is_flag (ap guards guarding_now) y →
+        SeesFirst k core i rows layered tree core_children children c d related o raises_it.flag has raises_it.is_flag (ap guards guarding_now) y →
         Wakes p m (i.thread_of v) y → Low (i.thread_of v)
     by_first v in_o _ out (before_tests s ts is resumes) = absurd cc
     by_first v in_o _ out (behind_fork s is) = absurd cc
@@ -338,7 +341,7 @@ module _ (k core : Table) (i : Images) (rows : CoreRows k core i) (flat : FlatRo
         of_region v there is =
             subst Low (sym is)
             (by_first v in_o (standing_of d (i.thread_of v))
-            (sees_first k core i rows flat tree core_children children c d related o raises_it.flag has raises_it.is_flag (ap guards guarding_now) v there
+            (sees_first k core i rows layered tree core_children children c d related o raises_it.flag has raises_it.is_flag (ap guards guarding_now) v there
             in_o) (subst (λ z. Wakes p m z (standing_of d z)) is woke))
           where
             there_now : standing_of c v ≢ at.Outside

@@ -27,7 +27,6 @@ use Rattle.chart_machine.specs.declared.table.Table.{Table}
 use Rattle.chart_machine.specs.Turns.{standing_of, has_work, inside_is_done, inside}
 use Rattle.chart_machine.specs.Steps.{step, access_of_trigger}
 use Rattle.abort_expansion.specs.Transitions.{put, raising}
-use Rattle.abort_expansion.specs.Superstates.{all_ended}
 use Rattle.chart_lowering_laws.specs.Stands.{Followed, Lowered}
 use Rattle.compiled_charts_laws.proofs.LateTests.{is_late}
 use Rattle.compiled_charts_laws.proofs.TestNodes.{TestNode}
@@ -35,7 +34,7 @@ use Rattle.chart_machine_laws.proofs.LyingIn.{IsNested, around, holder, head_in}
 use Rattle.chart_machine_laws.proofs.ChartTables.{within_or_past}
 use Rattle.chart_machine_laws.specs.Tree.{IsThere}
 use Rattle.abort_expansion_laws.specs.CoreRows.{own, IsState, Images, CoreRows, WatcherImage}
-use Rattle.abort_expansion_laws.specs.Related.{raises, raise_each, Related}
+use Rattle.abort_expansion_laws.specs.Related.{raises, raise_each, Related, monitor_last}
 use Rattle.abort_expansion_laws.proofs.FlagAccess.{put_access}
 use Rattle.abort_expansion_laws.proofs.KnownVariables.{present_there, stepped, not_so}
 use Rattle.abort_expansion_laws.proofs.StageReached.{inside_in}
@@ -201,14 +200,14 @@ module _ (k core : Table) (i : Images) (rows : CoreRows k core i) (tree : IsNest
     other_tests =
         map (raises (λ z. false) flag.0) monitor.others
         ++ (raising (λ z. z.immediate) 1 (i.flags_of told.superstate).weak 1 (weak_aborts (own k told.superstate))
-        ++ all_ended (i.flags_of told.superstate).counter)
+        ++ monitor_last k core i told.superstate)
 
     core_stands : standing_of d (i.watcher_of told.superstate) ≡ at.Trying (i.watching_of told.superstate) (first_test ∷ other_tests)
     core_stands =
         monitor.is
         ∙ ap (λ f. at.Trying (i.watching_of told.superstate) (raise_each (λ z. false) f ((monitor.number, told.test) ∷ monitor.others)
         ++ (raising (λ z. z.immediate) 1 (i.flags_of told.superstate).weak 1 (weak_aborts (own k told.superstate))
-        ++ all_ended (i.flags_of told.superstate).counter))) flag.1
+        ++ monitor_last k core i told.superstate))) flag.1
 
     late : is_late (standing_of d (i.watcher_of told.superstate)) ≡ true
     late = ap is_late core_stands

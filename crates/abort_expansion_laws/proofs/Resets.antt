@@ -13,7 +13,7 @@ use Rattle.chart_machine.specs.declared.standing.Standing.TheVariants as at
 use Rattle.chart_machine.specs.declared.standing.Configuration.{Configuration}
 use Rattle.chart_machine.specs.declared.table.Table.{Table}
 use Rattle.chart_machine.specs.Table.{state_at}
-use Rattle.chart_machine.specs.Turns.{standing_of, guards as has_to_guard, is_guarded, inside, is_enabled}
+use Rattle.chart_machine.specs.Turns.{standing_of, guards as has_to_guard, inside, is_enabled}
 use Rattle.chart_machine.specs.Steps.{moved, acts, effected, deed_of, step, state_in, access_of}
 use Rattle.chart_machine.specs.Machine.{machine}
 use Rattle.abort_expansion.specs.Transitions.{go, put}
@@ -23,7 +23,7 @@ use Rattle.tick_laws.proofs.Lists.{same_or_not}
 use Rattle.abort_expansion_laws.specs.Stages.{Entry, Silent, Correspondence, IsSilent, Climbs}
 use Rattle.abort_expansion_laws.proofs.Supplying.{climbs_step, silent_idle, silent_set, sets}
 use Rattle.abort_expansion_laws.proofs.Simulation.{Segment}
-use Rattle.chart_machine_laws.proofs.LyingIn.{around, holder}
+use Rattle.chart_machine_laws.proofs.LyingIn.{around}
 use Rattle.abort_expansion_laws.proofs.Unchanged.{get_same, get_other, stands_same, stands_other, unguarded}
 use Rattle.abort_expansion_laws.proofs.Leaving.{set_length}
 use Rattle.abort_expansion_laws.proofs.MoreValues.{number_value}

@@ -1,5 +1,5 @@
 -- The end of a tick: when the chart is over, its core makes the tests it has held back, and both rest alike.
-use Rattle.std.proofs.Common.{◌≡◌, ◌≢◌, ℕ, ◌<◌, ◌⊎◌, inl, inr, Bool, true, false, Option, Some, None, [], ◌∷◌, ◌++◌, map, length, Contains}
+use Rattle.std.proofs.Common.{◌≡◌, ◌≢◌, ℕ, ◌<◌, Bool, true, false, Option, [], ◌∷◌, ◌++◌, map, length, Contains}
 use Rattle.std.proofs.Common.{refl, sym, ap, subst, ◌∙◌}
 use Rattle.sc_values.specs.Access.{Access}
 use Rattle.sc_values.specs.Runs.{IsOver}
@@ -10,20 +10,19 @@ use Rattle.chart_machine.specs.declared.standing.Configuration.{Configuration}
 use Rattle.chart_machine.specs.declared.table.Table.{Table}
 use Rattle.chart_machine.specs.Turns.{standing_of, has_work}
 use Rattle.chart_machine.specs.Machine.{machine}
-use Rattle.abort_expansion.specs.Superstates.{all_ended}
 use Rattle.chart_machine_laws.specs.Tree.{IsNested, IsThere, around, holder}
 use Rattle.abort_expansion_laws.proofs.Simulation.{Segment}
 use Rattle.abort_expansion_laws.specs.Stages.{Entry, Silent, Correspondence}
 use Rattle.abort_expansion_laws.specs.CoreRows.{own, Images, CoreRows, pair}
-use Rattle.abort_expansion_laws.specs.Related.{front, held_back, Stands, outside, ended, left, trying, acting, entering, guarding, staying}
+use Rattle.abort_expansion_laws.specs.Related.{Stands, outside, ended, left, trying, acting, entering, guarding, staying}
 use Rattle.abort_expansion_laws.specs.Related.{within, behind, Watches, waits, elsewhere, FlagsAreDown, Related}
 use Rattle.abort_expansion_laws.specs.Related.{guards as watch_guards}
 use Rattle.abort_expansion_laws.specs.StageReached.{Stage}
-use Rattle.abort_expansion_laws.proofs.InsideLeaves.{FlatRows}
+use Rattle.abort_expansion_laws.proofs.InsideLeaves.{LayeredRows}
 use Rattle.abort_expansion_laws.proofs.StartingRegions.{CounterRows}
 use Rattle.abort_expansion_laws.proofs.OpensFork.{OpeningRows}
 use Rattle.abort_expansion_laws.proofs.Supplying.{climbs_fewer}
-use Rattle.abort_expansion_laws.proofs.TickStarts.{StartRows, no_weak_checks}
+use Rattle.abort_expansion_laws.proofs.TickStarts.{StartRows}
 use Rattle.abort_expansion_laws.proofs.LaterTicks.{weak_no_join}
 use Rattle.abort_expansion_laws.proofs.Unchanged.{no_guards}
 use Rattle.abort_expansion_laws.proofs.LastTests.{last_of, Done, Passing, tests_end, all_passed}
@@ -31,7 +30,7 @@ use Rattle.abort_expansion_laws.proofs.LeftTests as left_tests
 use Rattle.abort_expansion_laws.proofs.Owed.{RestsIn, rests_outside, rests_ended, rests_left, rests_trying, rests_staying, rests_within, rests_behind}
 use Rattle.abort_expansion_laws.proofs.Owed.{WatchRests, watch_within, watch_elsewhere, Resting}
 
-module _ (k core : Table) (i : Images) (rows : CoreRows k core i) (flat : FlatRows k core i) (tree : IsNested k) (counts : ℕ → Bool) (written_at : ℕ → ℕ)
+module _ (k core : Table) (i : Images) (rows : CoreRows k core i) (layered : LayeredRows k core i) (tree : IsNested k) (counts : ℕ → Bool) (written_at : ℕ → ℕ)
     (counters : CounterRows k core i rows counts written_at) (opening : OpeningRows k core i rows) (start_rows : StartRows k core i rows)
     (written_low : (x : ℕ) → written_at x < 3) (Told : Configuration → Entry → Type 0)
     (told : (e : Configuration) (t : ℕ) (stage : Option (ℕ × ℕ)) (a : Access) → Told e (Silent t stage a))
@@ -44,36 +43,16 @@ module _ (k core : Table) (i : Images) (rows : CoreRows k core i) (flat : FlatRo
 
   works_not : (r : ℕ) (x : Standing) → standing_of c r ≡ x → has_work k c x ≡ true → ⊥
   works_not =
-      left_tests.works_not k core i rows flat tree counts written_at counters opening start_rows written_low Told told c d related deep over
+      left_tests.works_not k core i rows layered tree counts written_at counters opening start_rows written_low Told told c d related deep over
 
   -- ---- where each region rests
-
-  held_last : (r u : ℕ) → last_of (at.Trying u (held_back k core i r)) ≡ at.Trying u []
-  held_last r u =
-      by_weak
-      (left_tests.find_weak k core i rows flat tree counts written_at counters opening start_rows written_low Told told c d related deep over (around k r))
-    where
-      by_weak : ((o : ℕ) × Contains (around k r) o × ((x : ℕ) × ((i.flags_of o).weak ≡ Some x))) ⊎
-          ((s : ℕ) → Contains (around k r) s → (i.flags_of s).weak ≡ None) → last_of (at.Trying u (held_back k core i r)) ≡ at.Trying u []
-      by_weak (inr none) =
-          ap (λ zs. last_of (at.Trying u zs)) (no_weak_checks i.flags_of true (i.places_of r).left k tree (around k r) none)
-      by_weak (inl some) =
-          ap (λ zs. last_of (at.Trying u zs))
-          (left_tests.one_held k core i rows flat tree counts written_at counters opening start_rows written_low Told told c d related deep over r some.0
-          some.2.0 some.1 some.2.1)
-
-  free_of_front : (r : ℕ) (b : Bool) → front k core i b c r ≡ []
-  free_of_front =
-      left_tests.front_none k core i rows flat tree counts written_at counters opening start_rows written_low Told told c d related deep over
 
   region_rests : (r : ℕ) (x y : Standing) → standing_of c r ≡ x → Stands k core i c r x y → RestsIn k core i c r x (last_of y)
   region_rests r _ _ e outside = rests_outside
   region_rests r _ _ e (ended inner) = rests_ended inner
   region_rests r _ _ e (left s ss round over_it) = rests_left s ss round over_it
   region_rests r _ _ e (trying s [] simple held) =
-      subst (RestsIn k core i c r (at.Trying s []))
-      (sym (ap (λ f. last_of (at.Trying (i.main_of s) (f ++ [] ++ held_back k core i r))) (free_of_front r false) ∙ held_last r (i.main_of s)))
-      (rests_trying s simple held)
+      rests_trying s simple held
   region_rests r _ _ e (trying s (t ∷ tests) simple held) = absurd (works_not r (at.Trying s (t ∷ tests)) e refl)
   region_rests r _ _ e (acting s u p f effects lt) = absurd (works_not r (at.Acting s (f ∷ effects) p) e refl)
   region_rests r _ _ e (entering s fork t tests super held leads) = absurd (works_not r (at.Entering s (t ∷ tests)) e refl)
@@ -81,24 +60,13 @@ module _ (k core : Table) (i : Images) (rows : CoreRows k core i) (flat : FlatRo
   region_rests r _ _ e (staying s tests super held stay) = rests_staying s tests super held stay
   region_rests r _ _ e (within s join tests super held apart still leads) = rests_within s join tests super held apart still leads
   region_rests r _ _ e (behind s tests super held over_it) =
-      subst (RestsIn k core i c r (at.Within s tests))
-      (sym (ap (λ f. last_of (at.Trying (i.behind_of s) (f ++ held_back k core i r))) (free_of_front r true) ∙ held_last r (i.behind_of s)))
-      (rests_behind s tests super held over_it)
+      rests_behind s tests super held over_it
 
   -- ---- and each monitor
 
-  count_last : (u : ℕ) (f : Option ℕ) → last_of (at.Trying u (all_ended f)) ≡ at.Trying u []
-  count_last u None = refl
-  count_last u (Some x) = refl
-
   watcher_rests : (o : ℕ) (x y : Standing) → standing_of c (holder k o) ≡ x → Watches k core i o x y → WatchRests k core i o x (last_of y)
   watcher_rests o _ _ e (watch_guards some among) = absurd (works_not (holder k o) (at.Guarding o (map (λ z. z.1) some)) e refl)
-  watcher_rests o _ _ e (waits [] ends among only) =
-      subst (WatchRests k core i o (at.Within o ends))
-      (sym
-      (ap (λ zs. last_of (at.Trying (i.watching_of o) (zs ++ all_ended (i.flags_of o).counter)))
-      (left_tests.none_raised k core i rows flat tree counts written_at counters opening start_rows written_low Told told c d related deep over
-      (λ t. t.immediate) (i.flags_of o).weak) ∙ count_last (i.watching_of o) (i.flags_of o).counter)) (watch_within ends)
+  watcher_rests o _ _ e (waits [] ends among only) = watch_within ends
   watcher_rests o _ _ e (waits (z ∷ some) ends among only) =
       let weak : is_weak z.1.kind ≡ true =
       left_tests.kept_is (λ t. is_weak t.kind) (own k o) z.0 z.1 among.0 in
@@ -154,5 +122,5 @@ module _ (k core : Table) (i : Images) (rows : CoreRows k core i) (flat : FlatRo
         tests : Passing core corr Told told d Reached d (Done core corr Told told d Reached (length d.regions))
         tests =
             tests_end core corr Told told d Reached
-            (left_tests.all_end k core i rows flat tree counts written_at counters opening start_rows written_low Told told c d related deep over)
+            (left_tests.all_end k core i rows layered tree counts written_at counters opening start_rows written_low Told told c d related deep over)
             (no_guards k core i rows c d related)

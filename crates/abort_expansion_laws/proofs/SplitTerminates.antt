@@ -2,7 +2,6 @@
 use Rattle.std.proofs.Common.{◌≡◌, ◌≢◌, ℕ, ◌<◌, inl, inr, ⊎_elim, Bool, true, false, ◌||◌, Option, Some, None, List, [], ◌∷◌, ◌++◌}
 use Rattle.std.proofs.Common.{map, length, slice_get, slice_set, Contains, refl, sym, ap, subst, ◌∙◌, arith}
 use Rattle.std.specs.Prelude.{reverse}
-use Rattle.sc_values.specs.declared.expression.Expr.{Expr}
 use Rattle.sc_values.specs.declared.value.Value.{Value}
 use Rattle.sc_values.specs.Access.{Access, no_access}
 use Rattle.sc_values.specs.Runs.{act_of}
@@ -22,7 +21,7 @@ use Rattle.abort_expansion.specs.Flags.{has_join, weak_around}
 use Rattle.abort_expansion.specs.Transitions.{put, counting, place_of, led_by, answers}
 use Rattle.abort_expansion.specs.Superstates.{stays, closing}
 use Rattle.tick_laws.proofs.Lists.{same_or_not, map_contains}
-use Rattle.abort_expansion_laws.specs.Stages.{Entry, Image, Silent, Correspondence, IsSilent}
+use Rattle.abort_expansion_laws.specs.Stages.{Entry, Image, Silent, Correspondence}
 use Rattle.abort_expansion_laws.proofs.Supplying.{climbs_fewer}
 use Rattle.abort_expansion_laws.proofs.Simulation.{Segment, segment_on}
 use Rattle.abort_expansion_laws.proofs.SilentSteps.{AtHome, climbs_home, silent_step}
@@ -35,7 +34,7 @@ use Rattle.abort_expansion_laws.proofs.StartingRegions.{CounterRows}
 use Rattle.abort_expansion_laws.proofs.OpensFork.{OpeningRows}
 use Rattle.abort_expansion_laws.proofs.FailedChecks.{IsDown, AllDown, checks_fail}
 use Rattle.abort_expansion_laws.proofs.JoinsFork.{in_reverse}
-use Rattle.abort_expansion_laws.proofs.InsideLeaves.{FlatRows}
+use Rattle.abort_expansion_laws.proofs.InsideLeaves.{LayeredRows}
 use Rattle.abort_expansion_laws.proofs.Answering.{AllFail, Passed, tests_fail}
 use Rattle.abort_expansion_laws.proofs.CoreSteps.{takes_any}
 use Rattle.abort_expansion_laws.proofs.EffectAhead.{BeginsAt}
@@ -50,7 +49,7 @@ use Rattle.abort_expansion_laws.proofs.Unchanged.{unguarded}
 use Rattle.abort_expansion_laws.proofs.SplitTests.{continuation_tests}
 use Rattle.abort_expansion_laws.proofs.SplitTests as split
 
-module _ (k core : Table) (i : Images) (rows : CoreRows k core i) (flat : FlatRows k core i) (tree : IsNested k) (core_tree : IsNested core)
+module _ (k core : Table) (i : Images) (rows : CoreRows k core i) (layered : LayeredRows k core i) (tree : IsNested k) (core_tree : IsNested core)
     (counts : ℕ → Bool) (written_at : ℕ → ℕ)
     (counters : CounterRows k core i rows counts written_at) (opening : OpeningRows k core i rows) (written_low : (x : ℕ) → written_at x < 3)
     (strong_at : (s x : ℕ) → (i.flags_of s).strong ≡ Some x → written_at x ≡ 0) (super_there : (q s : ℕ) → Contains (around k q) s → IsState k s)
@@ -234,7 +233,7 @@ module _ (k core : Table) (i : Images) (rows : CoreRows k core i) (flat : FlatRo
         silent_step (machine core) corr Told told answer_part.last leads_to (i.thread_of r) None (access_of_trigger takes.trigger) Now Now (λ w. w ≡ leads_to)
         (takes_any core answer_part.last (i.thread_of r) (i.behind_of s) (led_by (i.places_of r) takes.trigger t) takes.later
         (unguarded core answer_part.last quiet_z (around core (i.thread_of r))) home_is
-        (subst (λ vs. verdict vs takes.trigger ≡ Some true) (sym values_are) takes.true_there) (flat.behind_alone s))
+        (subst (λ vs. verdict vs takes.trigger ≡ Some true) (sym values_are) takes.true_there) (layered.behind_alone s))
         (ap access_of home_is) takes.silent
         (λ more climbs. climbs_home corr (Stage k i.thread_of c1 d) (i.thread_of r) 0 (access_of_trigger takes.trigger) more climbs) refl
 

@@ -27,7 +27,7 @@ module _ (k core : Table) (i : Images) (rows : CoreRows k core i) (tree : IsNest
     (children : (s r : ℕ) → Contains (state_at k s).regions r → around k r ≡ s ∷ around k (holder k s))
     (c d : Configuration) (related : Related k core i c d) (r o : ℕ) (there : IsThere k r) (held : holder k o ≡ r)
     (present : standing_of c r ≢ at.Outside) (works : has_work k c (standing_of c r) ≡ true) (free : is_guarded k c (around k r) ≡ false)
-    (inside_low : (q : ℕ) → IsThere k q → Contains (around k q) o → stage_of k c (standing_of c q) ≤ 1)
+    (Spared : ℕ → Type 0) (inside_low : (q : ℕ) → IsThere k q → Contains (around k q) o → Spared q → stage_of k c (standing_of c q) ≤ 1)
     (next : Configuration) (here : stage_of k next (standing_of next r) ≡ 1)
     (gone : (q : ℕ) → IsThere k q → Contains (around k q) o → standing_of next q ≡ at.Outside)
     (same : (q : ℕ) → q ≢ r → ¬ Contains (around k q) o → standing_of next q ≡ standing_of c q) where
@@ -152,8 +152,9 @@ module _ (k core : Table) (i : Images) (rows : CoreRows k core i) (tree : IsNest
   outside_rises q ne out_q _ _ (within s join tests super its stays still leads) = within_rises q s tests its ne out_q
   outside_rises q ne out_q _ _ (behind s tests super its over) = within_rises q s tests its ne out_q
 
-  pub others_stay : (h s : ℕ) → h ≢ i.thread_of r → Stage k i.thread_of c d h s → Stage k i.thread_of next d h s
-  others_stay h s ne before = record {
+  pub others_stay : (h s : ℕ) → h ≢ i.thread_of r → ((q : ℕ) → IsThere k q → h ≡ i.thread_of q → Contains (around k q) o → Spared q) →
+      Stage k i.thread_of c d h s → Stage k i.thread_of next d h s
+  others_stay h s ne spared before = record {
     regions = λ q q_there e. by_place q q_there e (λ is. ne (e ∙ ap i.thread_of is)) (before.regions q q_there e) (contained (around k q) o);
     chart = before.chart;
   }
@@ -161,7 +162,7 @@ module _ (k core : Table) (i : Images) (rows : CoreRows k core i) (tree : IsNest
       by_place : (q : ℕ) → IsThere k q → h ≡ i.thread_of q → q ≢ r → s ≤ stage_of k c (standing_of c q) →
           Contains (around k q) o ⊎ ¬ Contains (around k q) o → s ≤ stage_of k next (standing_of next q)
       by_place q q_there e other low_q (inl in_o) =
-          let m = inside_low q q_there in_o in
+          let m = inside_low q q_there in_o (spared q q_there e in_o) in
           let n : stage_of k next (standing_of next q) ≡ 1 = ap (stage_of k next) (gone q q_there in_o) in omega (low_q, m, n, arith)
       by_place q q_there e other low_q (inr out_o) =
           let m = outside_rises q other out_o (standing_of c q) (standing_of d (i.thread_of q)) (related.regions q q_there) in

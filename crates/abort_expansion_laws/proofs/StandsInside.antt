@@ -7,7 +7,6 @@ use Rattle.chart_machine.specs.declared.standing.Standing.TheVariants as at
 use Rattle.chart_machine.specs.declared.table.Table.{Table}
 use Rattle.chart_machine.specs.Turns.{has_ended}
 use Rattle.abort_expansion_laws.specs.CoreRows.{Images}
-use Rattle.abort_expansion_laws.specs.Related.{ended}
 use Rattle.abort_expansion_laws.specs.Related.{IsInside, guarded, open_inside}
 
 -- who stands in a superstate stands in no other one, and has not ended

@@ -26,7 +26,7 @@ use Rattle.chart_machine_laws.proofs.LyingIn.{IsNested, around, holder}
 use Rattle.abort_expansion_laws.proofs.TablesCorrespond.{IsThere, contains_map}
 use Rattle.chart_machine_laws.proofs.ChartTables.{around_there}
 use Rattle.abort_expansion_laws.specs.CoreRows.{own, IsState, IsSuper, Images, CoreRows, StayingImage, flags_around, pair}
-use Rattle.abort_expansion_laws.specs.Related.{acting, IsInside, guarded, open_inside, Related}
+use Rattle.abort_expansion_laws.specs.Related.{acting, IsInside, open_inside, Related}
 use Rattle.abort_expansion_laws.proofs.Unchanged.{never_guarded}
 use Rattle.abort_expansion_laws.proofs.StageReached.{Stage, holds_other, inside_in}
 use Rattle.abort_expansion_laws.proofs.StartingRegions.{CounterRows}

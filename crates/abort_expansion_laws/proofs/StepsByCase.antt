@@ -1,4 +1,4 @@
--- Each step of a flat chart is followed, by where its region stands and how its first test comes out; so the law of the expansion.
+-- Each step of a layered chart is followed, by where its region stands and how its first test comes out; so the law of the expansion.
 use Rattle.std.proofs.Common.{◌≡◌, ℕ, ◌⊎◌, inl, inr, Bool, true, false, Option, Some, None, List, [], ◌∷◌}
 use Rattle.std.proofs.Common.{option_map, if◌then◌else◌, Contains, refl, sym, ap, subst, ◌∙◌}
 use Rattle.sc_graph.specs.Tick.{AreAccepted}
@@ -17,7 +17,7 @@ use Rattle.chart_machine.specs.Table.{table}
 use Rattle.chart_machine.specs.Turns.{standing_of, has_work}
 use Rattle.chart_machine.specs.Steps.{to, verdict, tested, taken, step, deed_of, entering_on, guarding_on}
 use Rattle.abort_expansion.specs.Expansion.{expanded}
-use Rattle.abort_expansion_laws.specs.Flat.{IsFlat}
+use Rattle.abort_expansion_laws.specs.Layered.{IsLayered}
 use Rattle.abort_expansion_laws.specs.Preemption.{chart_machine, SeenAlike, HasImage}
 use Rattle.abort_expansion_laws.specs.Ticks.{Keeps}
 use Rattle.abort_expansion_laws.specs.Stages.{Entry}
@@ -32,7 +32,7 @@ use Rattle.abort_expansion_laws.proofs.RowsOfCharts as whole
 use Rattle.abort_expansion_laws.proofs.TestTargets.{ends_untested}
 use Rattle.abort_expansion_laws.proofs.TickFollowed as ticks
 
-module _ (c : Chart) (rules : IsChart features.Extended c) (core_rules : IsChart features.Core (expanded c)) (flat : IsFlat c) where
+module _ (c : Chart) (rules : IsChart features.Extended c) (core_rules : IsChart features.Core (expanded c)) (layered : IsLayered c) where
   abbrev k : Table
   k = table c
 
@@ -46,7 +46,7 @@ module _ (c : Chart) (rules : IsChart features.Extended c) (core_rules : IsChart
   Told = ToldHere c rules core_rules
 
   abbrev Followed : (now d : Configuration) (r : ℕ) (next : Configuration) → Type 0
-  Followed = one.Followed c rules core_rules flat
+  Followed = one.Followed c rules core_rules layered
 
   module _ (now d : Configuration) (related : Related k core i now d) (owns : OwnTests k now) (r : ℕ) (next : Configuration)
       (goes : step k r now ≡ Some next) where
@@ -65,36 +65,36 @@ module _ (c : Chart) (rules : IsChart features.Extended c) (core_rules : IsChart
     by_trying : (s : ℕ) (t : Transition) (tests : List Transition) → standing_of now r ≡ at.Trying s (t ∷ tests) → (o : Option Bool) →
         verdict now.variables t.trigger ≡ o → Followed now d r next
     by_trying s t tests stands None e = undone (ap (deed_of k now r) stands ∙ none_tested s t (to r (at.Trying s tests) ∷ []) e)
-    by_trying s t tests stands (Some false) e = one.failing c rules core_rules flat now d related owns r next goes s t tests stands e
+    by_trying s t tests stands (Some false) e = one.failing c rules core_rules layered now d related owns r next goes s t tests stands e
     by_trying s t tests stands (Some true) e = by_effects t.effects refl
       where
         by_effects : (es : List Effect) → t.effects ≡ es → Followed now d r next
-        by_effects [] none = one.taken_at_once c rules core_rules flat now d related owns r next goes s t tests stands e none
-        by_effects (f ∷ fs) some = one.holding c rules core_rules flat now d related owns r next goes s t tests stands e f fs some
+        by_effects [] none = one.taken_at_once c rules core_rules layered now d related owns r next goes s t tests stands e none
+        by_effects (f ∷ fs) some = one.holding c rules core_rules layered now d related owns r next goes s t tests stands e f fs some
 
     by_entering : (s : ℕ) (t : Transition) (tests : List Transition) → standing_of now r ≡ at.Entering s (t ∷ tests) → (o : Option Bool) →
         verdict now.variables t.trigger ≡ o → Followed now d r next
     by_entering s t tests stands None e = undone (ap (deed_of k now r) stands ∙ none_tested s t (entering_on k r s tests) e)
-    by_entering s t tests stands (Some true) e = one.aborted c rules core_rules flat now d related owns r next goes s t tests stands e
-    by_entering s t [] stands (Some false) e = one.passed c rules core_rules flat now d related owns r next goes s t stands e
-    by_entering s t (u ∷ tests) stands (Some false) e = one.entry_test c rules core_rules flat now d related owns r next goes s t u tests stands e
+    by_entering s t tests stands (Some true) e = one.aborted c rules core_rules layered now d related owns r next goes s t tests stands e
+    by_entering s t [] stands (Some false) e = one.passed c rules core_rules layered now d related owns r next goes s t stands e
+    by_entering s t (u ∷ tests) stands (Some false) e = one.entry_test c rules core_rules layered now d related owns r next goes s t u tests stands e
 
     by_guarding : (s : ℕ) (t : Transition) (tests : List Transition) → standing_of now r ≡ at.Guarding s (t ∷ tests) → (o : Option Bool) →
         verdict now.variables t.trigger ≡ o → Followed now d r next
     by_guarding s t tests stands None e = undone (ap (deed_of k now r) stands ∙ none_tested s t (guarding_on k r s tests) e)
-    by_guarding s t tests stands (Some true) e = leave.strong_taken c rules core_rules flat now d related owns r next goes s t tests stands e
-    by_guarding s t [] stands (Some false) e = one.last_fails c rules core_rules flat now d related owns r next goes s t [] stands refl e
-    by_guarding s t (u ∷ tests) stands (Some false) e = one.next_strong c rules core_rules flat now d related owns r next goes s t u tests stands e
+    by_guarding s t tests stands (Some true) e = leave.strong_taken c rules core_rules layered now d related owns r next goes s t tests stands e
+    by_guarding s t [] stands (Some false) e = one.last_fails c rules core_rules layered now d related owns r next goes s t [] stands refl e
+    by_guarding s t (u ∷ tests) stands (Some false) e = one.next_strong c rules core_rules layered now d related owns r next goes s t u tests stands e
 
     by_within : (s : ℕ) (t : Transition) (tests : List Transition) → standing_of now r ≡ at.Within s (t ∷ tests) → (o : Option Bool) →
         verdict now.variables t.trigger ≡ o → Contains (own k s) t × ((is_weak t.kind ≡ true) ⊎ (is_join t.kind ≡ true)) → Followed now d r next
     by_within s t tests stands None e its = undone (ap (deed_of k now r) stands ∙ none_tested s t (to r (at.Within s tests) ∷ []) e)
     by_within s t tests stands (Some true) e (own_one, inl is) =
-        leave.weak_taken c rules core_rules flat now d related owns r next goes s t tests stands e own_one is
+        leave.weak_taken c rules core_rules layered now d related owns r next goes s t tests stands e own_one is
     by_within s t tests stands (Some true) e (own_one, inr is) =
-        leave.terminated c rules core_rules flat now d related owns r next goes s t tests stands own_one is
+        leave.terminated c rules core_rules layered now d related owns r next goes s t tests stands own_one is
     by_within s t tests stands (Some false) e (own_one, inl is) =
-        one.weak_fails c rules core_rules flat now d related owns r next goes s t tests stands own_one is e
+        one.weak_fails c rules core_rules layered now d related owns r next goes s t tests stands own_one is e
     by_within s t tests stands (Some false) e (own_one, inr is) =
         let plain = ends_untested features.Extended c rules s t own_one is in
         let wrong : Some true ≡ Some false = sym (ap (verdict now.variables) plain) ∙ e in absurd cc
@@ -112,12 +112,12 @@ module _ (c : Chart) (rules : IsChart features.Extended c) (core_rules : IsChart
     by_standing (at.Within s (t ∷ tests)) is =
         by_within s t tests is (verdict now.variables t.trigger) refl (subst (IsOwn k) is (owns r)).0
     by_standing (at.Acting s [] p) is = undone (ap (deed_of k now r) is)
-    by_standing (at.Acting s (e ∷ f ∷ es) p) is = one.effect c rules core_rules flat now d related owns r next goes s p e f es is
-    by_standing (at.Acting s (e ∷ []) p) is = one.last_made c rules core_rules flat now d related owns r next goes s p e is
+    by_standing (at.Acting s (e ∷ f ∷ es) p) is = one.effect c rules core_rules layered now d related owns r next goes s p e f es is
+    by_standing (at.Acting s (e ∷ []) p) is = one.last_made c rules core_rules layered now d related owns r next goes s p e is
 
   pub steps_followed : ticks.StepsFollowed c rules core_rules (OwnTests k) Told
   steps_followed now d related owns r next goes = by_standing now d related owns r next goes (standing_of now r) refl
 
   -- the law of the expansion
   pub preemption_holds : (image : HasImage c) → Keeps (chart_machine c) (chart_machine (expanded c)) (AreAccepted image.program) (SeenAlike c)
-  preemption_holds image = preemption_kept c rules core_rules flat image steps_followed
+  preemption_holds image = preemption_kept c rules core_rules layered image steps_followed

@@ -1,6 +1,6 @@
 -- A region of the chart that is entered stays so: no step leads outside of it.
-use Rattle.std.proofs.Common.{◌≡◌, ◌≢◌, ℕ, ◌<◌, ◌≤◌, ◌⊎◌, ⊎_elim, Bool, true, false, Option, Some, None, List, [], ◌∷◌, map, length}
-use Rattle.std.proofs.Common.{slice_get, slice_set, unwrap_or, option_map, option_and_then, if◌then◌else◌, Contains, refl, sym, ap, subst, ◌∙◌, arith}
+use Rattle.std.proofs.Common.{◌≡◌, ◌≢◌, ℕ, ⊎_elim, Bool, true, false, Option, Some, None, List, [], ◌∷◌, map, length}
+use Rattle.std.proofs.Common.{slice_get, slice_set, unwrap_or, option_map, option_and_then, if◌then◌else◌, Contains, refl, sym, ap, subst, ◌∙◌}
 use Rattle.std.proofs.lemmas.Option.{same_Some, slice_get_past}
 use Rattle.std.proofs.lemmas.Bool.{cases_lt}
 use Rattle.sc_text.proofs.EachItem.{Each, each_append, each_more}

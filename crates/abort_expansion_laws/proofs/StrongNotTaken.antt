@@ -16,13 +16,13 @@ use Rattle.chart_machine.specs.Turns.{standing_of, has_work, is_guarded}
 use Rattle.chart_machine.specs.Steps.{to, after, verdict, deed_of, step, access_of, access_of_trigger, state_in}
 use Rattle.chart_machine.specs.Machine.{machine}
 use Rattle.abort_expansion.specs.Transitions.{raising}
-use Rattle.abort_expansion.specs.Superstates.{all_ended}
 use Rattle.abort_expansion_laws.specs.Stages.{Entry, Watched}
 use Rattle.abort_expansion_laws.proofs.Simulation.{Segment}
 use Rattle.chart_machine_laws.proofs.LyingIn.{IsNested, around, holder}
 use Rattle.abort_expansion_laws.proofs.TablesCorrespond.{IsThere}
 use Rattle.abort_expansion_laws.proofs.MoreValues.{verdict_over_more}
 use Rattle.abort_expansion_laws.specs.CoreRows.{own, IsState, joins, Images, CoreRows}
+use Rattle.abort_expansion_laws.specs.Related.{monitor_last}
 use Rattle.abort_expansion_laws.specs.Related.{AreAmong, raises, raise_each, Stands, outside, ended, left, trying, acting, entering, guarding, staying}
 use Rattle.abort_expansion_laws.specs.Related.{within, behind, Watches, guards as watch_guards, waits, elsewhere, IsInside, guarded, open_inside, Related}
 use Rattle.abort_expansion_laws.proofs.Unchanged.{never_guarded}
@@ -74,13 +74,13 @@ pub record MonitorGuards (k core : Table) (i : Images) (o : ℕ) (t : Transition
   pub among : AreAmong (strong_aborts (own k o)) others
   pub tests_are : map (λ x. x.1) others ≡ tests
   pub is : y ≡ at.Trying (i.watching_of o) (raise_each (λ z. false) (i.flags_of o).strong ((number, t) ∷ others)
-      ++ (raising (λ z. z.immediate) 1 (i.flags_of o).weak 1 (weak_aborts (own k o)) ++ all_ended (i.flags_of o).counter))
+      ++ (raising (λ z. z.immediate) 1 (i.flags_of o).weak 1 (weak_aborts (own k o)) ++ monitor_last k core i o))
 
 module _ (k core : Table) (i : Images) (o : ℕ) where
   from_some : (some : List (ℕ × Transition)) → AreAmong (strong_aborts (own k o)) some → (t : Transition) (tests : List Transition) →
       map (λ (x : ℕ × Transition). x.1) some ≡ t ∷ tests →
       MonitorGuards k core i o t tests (at.Trying (i.watching_of o) (raise_each (λ z. false) (i.flags_of o).strong some
-      ++ (raising (λ z. z.immediate) 1 (i.flags_of o).weak 1 (weak_aborts (own k o)) ++ all_ended (i.flags_of o).counter)))
+      ++ (raising (λ z. z.immediate) 1 (i.flags_of o).weak 1 (weak_aborts (own k o)) ++ monitor_last k core i o)))
   from_some [] among t tests e = absurd cc
   from_some ((n, u) ∷ some) among t tests e =
       let same : u ≡ t = cc in
@@ -92,7 +92,7 @@ module _ (k core : Table) (i : Images) (o : ℕ) where
         among = among.1;
         tests_are = rest;
         is = ap (λ z. at.Trying (i.watching_of o) (raise_each (λ w. false) (i.flags_of o).strong ((n, z) ∷ some)
-            ++ (raising (λ w. w.immediate) 1 (i.flags_of o).weak 1 (weak_aborts (own k o)) ++ all_ended (i.flags_of o).counter))) same;
+            ++ (raising (λ w. w.immediate) 1 (i.flags_of o).weak 1 (weak_aborts (own k o)) ++ monitor_last k core i o))) same;
       }
 
   pub guards_back : (x y : Standing) → Watches k core i o x y → (t : Transition) (tests : List Transition) → x ≡ at.Guarding o (t ∷ tests) →
@@ -123,23 +123,23 @@ module _ (k core : Table) (i : Images) (rows : CoreRows k core i) (tree : IsNest
   flag = rows.strong_there o monitor.number t o_there monitor.first
 
   abbrev pub behind_them : List Transition
-  behind_them = raising (λ z. z.immediate) 1 (i.flags_of o).weak 1 (weak_aborts (own k o)) ++ all_ended (i.flags_of o).counter
+  behind_them = raising (λ z. z.immediate) 1 (i.flags_of o).weak 1 (weak_aborts (own k o)) ++ monitor_last k core i o
 
   core_stands : standing_of d (i.watcher_of o) ≡
       at.Trying (i.watching_of o) (raises (λ z. false) flag.0 (monitor.number, t) ∷ (map (raises (λ z. false) flag.0) monitor.others
-      ++ (raising (λ z. z.immediate) 1 (i.flags_of o).weak 1 (weak_aborts (own k o)) ++ all_ended (i.flags_of o).counter)))
+      ++ (raising (λ z. z.immediate) 1 (i.flags_of o).weak 1 (weak_aborts (own k o)) ++ monitor_last k core i o)))
   core_stands =
       monitor.is
       ∙ ap (λ f. at.Trying (i.watching_of o) (raise_each (λ z. false) f ((monitor.number, t) ∷ monitor.others)
-      ++ (raising (λ z. z.immediate) 1 (i.flags_of o).weak 1 (weak_aborts (own k o)) ++ all_ended (i.flags_of o).counter))) flag.1
+      ++ (raising (λ z. z.immediate) 1 (i.flags_of o).weak 1 (weak_aborts (own k o)) ++ monitor_last k core i o))) flag.1
 
   next_stands : at.Trying (i.watching_of o) (map (raises (λ z. false) flag.0) monitor.others
-      ++ (raising (λ z. z.immediate) 1 (i.flags_of o).weak 1 (weak_aborts (own k o)) ++ all_ended (i.flags_of o).counter))
+      ++ (raising (λ z. z.immediate) 1 (i.flags_of o).weak 1 (weak_aborts (own k o)) ++ monitor_last k core i o))
       ≡ at.Trying (i.watching_of o) (raise_each (λ z. false) (i.flags_of o).strong monitor.others
-      ++ (raising (λ z. z.immediate) 1 (i.flags_of o).weak 1 (weak_aborts (own k o)) ++ all_ended (i.flags_of o).counter))
+      ++ (raising (λ z. z.immediate) 1 (i.flags_of o).weak 1 (weak_aborts (own k o)) ++ monitor_last k core i o))
   next_stands =
       ap (λ f. at.Trying (i.watching_of o) (raise_each (λ z. false) f monitor.others
-      ++ (raising (λ z. z.immediate) 1 (i.flags_of o).weak 1 (weak_aborts (own k o)) ++ all_ended (i.flags_of o).counter))) (sym flag.1)
+      ++ (raising (λ z. z.immediate) 1 (i.flags_of o).weak 1 (weak_aborts (own k o)) ++ monitor_last k core i o))) (sym flag.1)
 
   pub not_taken : verdict c.variables t.trigger ≡ Some false → has_work k c (standing_of c r) ≡ true → is_guarded k c (around k r) ≡ false →
       WatchedStep k core i rows tree counts written_at c d r o 0 (at.Guarding o (u ∷ tests))
@@ -198,8 +198,8 @@ module _ (k core : Table) (i : Images) (rows : CoreRows k core i) (tree : IsNest
         free = free;
         steps =
             fails core d (i.watcher_of o) (i.watching_of o) (raises (λ z. false) flag.0 (monitor.number, t))
-            (map (raises (λ z. false) flag.0) monitor.others ++ (raising (λ z. z.immediate) 1 (i.flags_of o).weak 1 (weak_aborts (own k o)) ++ all_ended
-            (i.flags_of o).counter))
+            (map (raises (λ z. false) flag.0) monitor.others ++
+            (raising (λ z. z.immediate) 1 (i.flags_of o).weak 1 (weak_aborts (own k o)) ++ monitor_last k core i o))
             (never_guarded k core i rows c d related (around core (i.watcher_of o))) core_stands
             (subst (λ vs. verdict vs t.trigger ≡ Some false) (sym related.variables) (verdict_over_more related.more c.variables t.trigger false false_there))
             ∙ ap (λ z. Some (record { variables = d.variables; regions = slice_set d.regions (i.watcher_of o) z })) next_stands;

@@ -19,7 +19,7 @@ use Rattle.chart_machine.specs.Turns.{standing_of, has_work, guards, is_guarded,
 use Rattle.chart_machine.specs.Steps.{state_in, deed_of, guarding_on, verdict, access_of, access_of_trigger, step}
 use Rattle.chart_machine.specs.Machine.{machine}
 use Rattle.abort_expansion.specs.Transitions.{is_raised, raising, answers}
-use Rattle.abort_expansion.specs.Superstates.{all_ended, closing}
+use Rattle.abort_expansion.specs.Superstates.{closing}
 use Rattle.tick_laws.proofs.Lists.{map_contains}
 use Rattle.abort_expansion_laws.specs.Stages.{Entry, Watched, Silent, Correspondence, IsSilent}
 use Rattle.abort_expansion_laws.proofs.Supplying.{silent_test}
@@ -28,12 +28,13 @@ use Rattle.chart_machine_laws.proofs.LyingIn.{IsNested, around, holder}
 use Rattle.abort_expansion_laws.proofs.TablesCorrespond.{IsThere}
 use Rattle.abort_expansion_laws.proofs.FlagAccess.{raised_access}
 use Rattle.abort_expansion_laws.specs.CoreRows.{own, IsState, IsSuper, Images, CoreRows, flags_around, behind_transitions}
+use Rattle.abort_expansion_laws.specs.Related.{monitor_last}
 use Rattle.abort_expansion_laws.specs.Related.{raises, raise_each, IsCalm, IsInside, guarded, Related}
 use Rattle.abort_expansion_laws.proofs.StageReached.{Stage, stage_of}
 use Rattle.abort_expansion_laws.proofs.ImageSteps.{pair}
 use Rattle.abort_expansion_laws.proofs.KnownVariables.{present_there}
 use Rattle.abort_expansion_laws.proofs.StrongNotTaken.{IsGuarding, guarding_back, MonitorGuards, guards_back}
-use Rattle.abort_expansion_laws.proofs.InsideLeaves.{FlatRows, may_leave}
+use Rattle.abort_expansion_laws.proofs.InsideLeaves.{LayeredRows, may_leave, strong_of}
 use Rattle.abort_expansion_laws.proofs.OutsideAborts.{no_strong_checks}
 use Rattle.abort_expansion_laws.proofs.AbortNext.{AbortNext}
 use Rattle.abort_expansion_laws.proofs.SuperstateLeft.{chart_takes}
@@ -42,7 +43,7 @@ use Rattle.abort_expansion_laws.proofs.StartingRegions.{CounterRows}
 use Rattle.abort_expansion_laws.proofs.EffectAhead.{BeginsAt}
 use Rattle.abort_expansion_laws.proofs.Owed.{Enters}
 
-module _ (k core : Table) (i : Images) (rows : CoreRows k core i) (more : FlatRows k core i) (tree : IsNested k) (core_tree : IsNested core)
+module _ (k core : Table) (i : Images) (rows : CoreRows k core i) (more : LayeredRows k core i) (tree : IsNested k) (core_tree : IsNested core)
     (deep : (q s : ℕ) → Contains (around core q) s → holder core s < q)
     (core_children : (s r : ℕ) → Contains (state_at core s).regions r → around core r ≡ s ∷ around core (holder core s))
     (children : (s r : ℕ) → Contains (state_at k s).regions r → around k r ≡ s ∷ around k (holder k s))
@@ -68,14 +69,14 @@ module _ (k core : Table) (i : Images) (rows : CoreRows k core i) (more : FlatRo
       (ap (standing_of c) region.held ∙ stands)
 
   abbrev behind_it : List Transition
-  behind_it = map (raises (λ z. false) x) monitor.others ++ (raising (λ z. z.immediate) 1 (i.flags_of o).weak 1 (weak_aborts (own k o)) ++ all_ended
-      (i.flags_of o).counter)
+  behind_it = map (raises (λ z. false) x) monitor.others ++ (raising (λ z. z.immediate) 1 (i.flags_of o).weak 1
+      (weak_aborts (own k o)) ++ monitor_last k core i o)
 
   core_stands : standing_of d (i.watcher_of o) ≡ at.Trying (i.watching_of o) (raises (λ z. false) x (monitor.number, t) ∷ behind_it)
   core_stands =
       monitor.is
       ∙ ap (λ f. at.Trying (i.watching_of o) (raise_each (λ z. false) f ((monitor.number, t) ∷ monitor.others)
-      ++ (raising (λ z. z.immediate) 1 (i.flags_of o).weak 1 (weak_aborts (own k o)) ++ all_ended (i.flags_of o).counter))) flag
+      ++ (raising (λ z. z.immediate) 1 (i.flags_of o).weak 1 (weak_aborts (own k o)) ++ monitor_last k core i o))) flag
 
   home_of : holder core (i.main_of (rows.of_flag x)) ≡ i.thread_of r
   home_of = ap (λ s. holder core (i.main_of s)) of_flag ∙ (rows.held o ∙ ap i.thread_of region.held)
@@ -143,8 +144,8 @@ module _ (k core : Table) (i : Images) (rows : CoreRows k core i) (more : FlatRo
         written = at_none;
         flags_differ = flags_differ;
         leaves = λ first raised values same over.
-            may_leave k core i rows more tree core_children children o x region.has flag c d related guards_now calm corr (i.thread_of r) 1 first sees_flag
-            raised same over;
+            may_leave k core i rows more tree core_children children o x (strong_of k core i more o x flag) flag c d related guards_now calm corr
+            (i.thread_of r) 1 first sees_flag raised same o_there over;
         earlier = [];
         aborts = strong_aborts (own k o);
         behind_them = weak_answers ++ closing_ones;

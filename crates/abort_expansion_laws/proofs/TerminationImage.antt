@@ -78,8 +78,8 @@ module _ (k core : Table) (i : Images) (rows : CoreRows k core i) (tree : IsNest
   pub free1 : is_guarded k c1 (around k r) ≡ false
   free1 = now.still_free k tree c r s held there related.chart_regions (at.Acting s (e ∷ es) t.target) free
 
-  inside_low : (q : ℕ) → IsThere k q → Contains (around k q) s → stage_of k c (standing_of c q) ≤ 1
-  inside_low q q_there h = by_over (standing_of c q) (inside_over k core i rows tree counts written_at counters children c d related r s held t rest
+  inside_low : (q : ℕ) → IsThere k q → Contains (around k q) s → Unit {0} → stage_of k c (standing_of c q) ≤ 1
+  inside_low q q_there h any = by_over (standing_of c q) (inside_over k core i rows tree counts written_at counters children c d related r s held t rest
       stands join works q h)
     where
       by_over : (w : Standing) → IsOver w → stage_of k c w ≤ 1
@@ -88,18 +88,21 @@ module _ (k core : Table) (i : Images) (rows : CoreRows k core i) (tree : IsNest
 
   pub outer : (b : ℕ) → LiesUnder k r b → (i.thread_of b ≢ i.thread_of r) × (((u : ℕ) → Stage k i.thread_of c d (i.thread_of b) u → u ≤ 1) × Stage k i.thread_of
       c1 d (i.thread_of b) 1)
-  outer = outer_stage k core i rows tree children c d related r s there held present works free inside_low c1 (ap (stage_of k c1) here) gone same
+  outer = outer_stage k core i rows tree children c d related r s there held present works free (λ q. Unit {0}) inside_low c1
+      (ap (stage_of k c1) here) gone same
 
   pub outer_one : (b : ℕ) → LiesUnder k r b → (n : ℕ) → Stage k i.thread_of c1 d (i.thread_of b) n → n ≤ 1
   outer_one =
-      outer_low k core i rows tree children c d related r s there held present works free inside_low c1 (ap (stage_of k c1) here) gone same
+      outer_low k core i rows tree children c d related r s there held present works free (λ q. Unit {0}) inside_low c1 (ap (stage_of k c1) here) gone same
       (ap (has_work k c1) here)
 
   pub others : (h n : ℕ) → h ≢ i.thread_of r → Stage k i.thread_of c d h n → Stage k i.thread_of c1 d h n
-  others = others_stay k core i rows tree children c d related r s there held present works free inside_low c1 (ap (stage_of k c1) here) gone same
+  others h n ne = others_stay k core i rows tree children c d related r s there held present works free (λ q. Unit {0}) inside_low c1
+      (ap (stage_of k c1) here) gone same h n ne (λ q q_there is in_s. tt)
 
   pub stage_now : (last : Configuration) (h n : ℕ) → AtHome (Stage k i.thread_of c1 d) (i.thread_of r) 0 h n → Stage k i.thread_of c1 last h n
-  stage_now = reached_now k core i rows tree children c d related r s there held present works free inside_low c1 (ap (stage_of k c1) here) gone same
+  stage_now = reached_now k core i rows tree children c d related r s there held present works free (λ q. Unit {0}) inside_low c1
+      (ap (stage_of k c1) here) gone same
 
   pub at_home : (h n : ℕ) → Stage k i.thread_of c d h n → AtHome (Stage k i.thread_of c d) (i.thread_of r) 3 h n
   at_home h n before = (

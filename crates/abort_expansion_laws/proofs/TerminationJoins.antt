@@ -14,7 +14,7 @@ use Rattle.chart_machine.specs.Table.{state_at}
 use Rattle.chart_machine.specs.Turns.{standing_of, has_ended, has_work, guards as has_to_guard, is_guarded, inside}
 use Rattle.chart_machine.specs.Steps.{to, state_in, moved, access_of, step}
 use Rattle.chart_machine.specs.Machine.{machine}
-use Rattle.abort_expansion.specs.Transitions.{put, go, is_number}
+use Rattle.abort_expansion.specs.Transitions.{put, go, is_number, weak_checks}
 use Rattle.abort_expansion.specs.Superstates.{stays, all_ended}
 use Rattle.tick_laws.proofs.Lists.{same_or_not, contained}
 use Rattle.abort_expansion_laws.specs.Stages.{Entry, Silent, Correspondence, IsSilent}
@@ -28,7 +28,7 @@ use Rattle.abort_expansion_laws.proofs.FlagAccess.{number_access}
 use Rattle.abort_expansion_laws.specs.CoreRows.{own, IsState, IsSuper, joins, Images, CoreRows, WatcherImage, SplitImage, flags_around, watchers}
 use Rattle.abort_expansion_laws.specs.CoreRows.{behind_transitions, pair}
 use Rattle.abort_expansion_laws.specs.Related.{raise_each, Watches, guards as watch_guards, waits, elsewhere, IsInside, open_inside, still_in}
-use Rattle.abort_expansion_laws.specs.Related.{not_ended, Stores, Related}
+use Rattle.abort_expansion_laws.specs.Related.{not_ended, Stores, Related, monitor_last}
 use Rattle.abort_expansion_laws.proofs.Unchanged.{no_guards, unguarded}
 use Rattle.abort_expansion_laws.proofs.StageReached.{Stage, holds_other, inside_in}
 use Rattle.abort_expansion_laws.proofs.KnownVariables.{in_either}
@@ -50,10 +50,10 @@ none_still k core i c (q ∷ rs) over =
 
 -- where a monitor stands when a termination is next
 monitor_counts : (k core : Table) (i : Images) (s : ℕ) (t : Transition) (rest : List Transition) → is_join t.kind ≡ true → (x y : Standing) →
-    Watches k core i s x y → x ≡ at.Within s (t ∷ rest) → y ≡ at.Trying (i.watching_of s) (all_ended (i.flags_of s).counter)
+    Watches k core i s x y → x ≡ at.Within s (t ∷ rest) → y ≡ at.Trying (i.watching_of s) (monitor_last k core i s)
 monitor_counts k core i s t rest join _ _ (watch_guards some among) e = absurd cc
 monitor_counts k core i s t rest join _ _ (waits [] ends among only) e =
-    ap (λ zs. at.Trying (i.watching_of s) (zs ++ all_ended (i.flags_of s).counter)) (none_raised (i.flags_of s).weak)
+    ap (λ zs. at.Trying (i.watching_of s) (zs ++ monitor_last k core i s)) (none_raised (i.flags_of s).weak)
   where
     none_raised : (flag : Option ℕ) → raise_each (λ z. z.immediate) flag [] ≡ []
     none_raised None = refl
@@ -101,11 +101,12 @@ module _ (k core : Table) (i : Images) (rows : CoreRows k core i) (tree : IsNest
     counter : (i.flags_of s).counter ≡ Some (counted has).0
     counter = (counted has).1
 
-    watching : standing_of d (i.watcher_of s) ≡ at.Trying (i.watching_of s) (go true (Some (is_number (counted has).0 0)) [] 1 ∷ [])
+    watching : standing_of d (i.watcher_of s) ≡ at.Trying (i.watching_of s) (go true (Some (is_number (counted has).0 0)) [] 1 ∷
+        weak_checks true 1 (flags_around k core i (holder k s)))
     watching =
         monitor_counts k core i s t rest join (standing_of c (holder k s)) (standing_of d (i.watcher_of s)) (related.watchers s s_there has)
         (ap (standing_of c) held ∙ stands)
-        ∙ ap (λ f. at.Trying (i.watching_of s) (all_ended f)) counter
+        ∙ ap (λ f. at.Trying (i.watching_of s) (all_ended f ++ weak_checks true 1 (flags_around k core i (holder k s)))) counter
 
     is_zero : slice_get d.variables (counted has).0 ≡ Some (value_is.Int (pos 0))
     is_zero =
@@ -133,7 +134,8 @@ module _ (k core : Table) (i : Images) (rows : CoreRows k core i) (tree : IsNest
         silent_step (machine core) corr Told told d (record { variables = d.variables; regions = slice_set d.regions (i.watcher_of s) at.Ended })
         (i.watcher_of s) (Some (i.thread_of r, 3)) (tests (counted has).0) (AtHome (Stage k i.thread_of c d) (i.thread_of r) 3)
         (AtHome (Stage k i.thread_of c d) (i.thread_of r) 3) MonitorOver
-        (leaves core d (i.watcher_of s) (i.watching_of s) (go true (Some (is_number (counted has).0 0)) [] 1) []
+        (leaves core d (i.watcher_of s) (i.watching_of s) (go true (Some (is_number (counted has).0 0)) [] 1)
+        (weak_checks true 1 (flags_around k core i (holder k s)))
         (unguarded core d (no_guards k core i rows c d related) (around core (i.watcher_of s))) watching
         (same_verdict (counted has).0 0 d.variables is_zero) refl
         (alone (i.watching_of s) (ap (λ z. z.regions) image.row))

@@ -42,14 +42,14 @@ use Rattle.compiled_charts_laws.proofs.Stands.{stand_alike, waits_there}
 use Rattle.compiled_charts_laws.proofs.TestNodes.{test_node}
 use Rattle.compiled_charts_laws.proofs.TickStarts as tick_starts
 use Rattle.chart_machine_laws.specs.Tree.{holder}
-use Rattle.abort_expansion_laws.specs.Flat.{IsFlat}
+use Rattle.abort_expansion_laws.specs.Layered.{IsLayered}
 use Rattle.abort_expansion_laws.specs.Preemption.{HasImage}
 use Rattle.abort_expansion_laws.specs.Segments.{Follows}
 use Rattle.abort_expansion_laws.specs.Stages.{Entry, Image, Watched, Silent, Correspondence, IsSpared, EachSpared}
 use Rattle.abort_expansion_laws.specs.CoreRows.{own, IsState, Images, CoreRows}
 use Rattle.abort_expansion_laws.proofs.DelayedBefore.{late_before, first_prompt}
 use Rattle.abort_expansion_laws.proofs.EachSpared.{each_spared}
-use Rattle.abort_expansion_laws.proofs.FlatChartRows.{flat_rows, start_rows, started_related}
+use Rattle.abort_expansion_laws.proofs.LayeredChartRows.{layered_rows, start_rows, started_related}
 use Rattle.abort_expansion_laws.proofs.LaterTicks.{chart_has_begun, never}
 use Rattle.abort_expansion_laws.proofs.Owed.{Resting}
 use Rattle.abort_expansion_laws.proofs.PreemptionFollows.{RestsAlike, SparesTests}
@@ -108,7 +108,7 @@ writes_not b a none first = precedes_writes b a first (ap (λ z. z.writes) none)
 
 -- ---- the image of a chart
 
-module _ (c : Chart) (rules : IsChart features.Extended c) (core_rules : IsChart features.Core (expanded c)) (flat : IsFlat c)
+module _ (c : Chart) (rules : IsChart features.Extended c) (core_rules : IsChart features.Core (expanded c)) (layered : IsLayered c)
     (scl : Scl) (low : IsLowering (expanded c) scl) (q : Tables) (valid : IsValid (program_of (numbered scl)) q) where
   abbrev k : Table
   k = table c
@@ -188,8 +188,8 @@ module _ (c : Chart) (rules : IsChart features.Extended c) (core_rules : IsChart
   module _ (inputs : Inputs) (accepted : AreAccepted p inputs) (before d : Configuration) (m : Control) (between : Between d m) where
     never_guards : Resting k core i before d → (r u : ℕ) (others : List Transition) → standing_of before r ≢ at.Guarding u others
     never_guards rests r u others e =
-        never k core i rows (flat_rows c rules core_rules flat) (whole.tree c rules core_rules).nested
-        (start_rows c rules core_rules flat) before d rests inputs r u others e
+        never k core i rows (layered_rows c rules core_rules layered) (whole.tree c rules core_rules).nested
+        (start_rows c rules core_rules layered) before d rests inputs r u others e
 
     plain_open : Resting k core i before d → (o : ℕ) (others : List Transition) → standing_of (start k inputs before) (holder k o) ≡ at.Within o others →
         strong_aborts (own k o) ≡ []
@@ -217,12 +217,12 @@ module _ (c : Chart) (rules : IsChart features.Extended c) (core_rules : IsChart
             ∙ first_prompt features.Core (expanded c) core_rules inputs (i.watcher_of o)) in
             absurd cc
         by (inr rested) o there has late n raises_it =
-            starts_low k core i rows (flat_rows c rules core_rules flat) (whole.tree c rules core_rules).nested
+            starts_low k core i rows (layered_rows c rules core_rules layered) (whole.tree c rules core_rules).nested
             (whole.core_tree c rules core_rules).nested (whole.core_tree c rules core_rules).children (whole.tree c rules core_rules).children
             (whole.super_there c rules core_rules) (λ s here. (whole.state_fits c rules core_rules s here).region.here)
-            (start_rows c rules core_rules flat).strong_for p q valid Alike lowered tests earlier
+            (start_rows c rules core_rules layered).strong_for p q valid Alike lowered tests earlier
             (λ t there none. tick_starts.top_parent (expanded c) scl q low valid t there none) (start k inputs before) (start core inputs d)
-            (started_related c rules core_rules flat before d rested.rests inputs) (graph_tick.start p inputs m)
+            (started_related c rules core_rules layered before d rested.rests inputs) (graph_tick.start p inputs m)
             (tick_starts.starts_alike (expanded c) scl q low valid inputs accepted d m between)
             (tick_starts.wakes_there (expanded c) scl q low valid inputs accepted d m between) (plain_open rested.rests) o there has late n raises_it
 
@@ -232,7 +232,7 @@ module _ (c : Chart) (rules : IsChart features.Extended c) (core_rules : IsChart
 
 -- ---- over lists of ticks
 
-module _ (c : Chart) (rules : IsChart features.Extended c) (core_rules : IsChart features.Core (expanded c)) (flat : IsFlat c) (image : HasImage c) where
+module _ (c : Chart) (rules : IsChart features.Extended c) (core_rules : IsChart features.Core (expanded c)) (layered : IsLayered c) (image : HasImage c) where
   abbrev Kept : Type 0
   Kept = KeepsRules image.scl.name image.scl.variables image.scl.body
 
@@ -248,7 +248,7 @@ module _ (c : Chart) (rules : IsChart features.Extended c) (core_rules : IsChart
 
   -- the graph rests where the core chart does
   abbrev Rests : Configuration → Type 0
-  Rests d = (kept : Kept) × (m : Control) × Between c rules core_rules flat image.scl (lowers kept) image.tables is_valid d m
+  Rests d = (kept : Kept) × (m : Control) × Between c rules core_rules layered image.scl (lowers kept) image.tables is_valid d m
 
   pub tests_are_spared : SparesTests c rules core_rules (AreAccepted image.program) (Told (table c) (table (expanded c)) (whole.i c rules core_rules))
   tests_are_spared =
@@ -265,6 +265,6 @@ module _ (c : Chart) (rules : IsChart features.Extended c) (core_rules : IsChart
         spared = λ inputs before d accepted rests alike log e follows fits.
             stable_all (ticks.corr c rules core_rules) log
             (λ none. not_there rests (λ x.
-            none (spared_in_tick c rules core_rules flat image.scl (lowers x.0) image.tables is_valid inputs (takes inputs accepted) before d x.1 x.2 alike
+            none (spared_in_tick c rules core_rules layered image.scl (lowers x.0) image.tables is_valid inputs (takes inputs accepted) before d x.1 x.2 alike
             log e follows)));
       }

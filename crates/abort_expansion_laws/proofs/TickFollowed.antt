@@ -1,4 +1,4 @@
--- A tick of an expanded flat chart is followed by its core chart to its end, where each step is, and no strong test is
+-- A tick of an expanded layered chart is followed by its core chart to its end, where each step is, and no strong test is
 -- overwritten.
 use Rattle.std.proofs.Common.{◌≡◌, ℕ, Bool, Option, Some, List, [], ◌∷◌, length, sym, subst}
 use Rattle.sc_values.specs.Access.{Access}
@@ -14,7 +14,7 @@ use Rattle.chart_machine.specs.Machine.{machine, initial, start}
 use Rattle.chart_machine.specs.Steps.{step}
 use Rattle.abort_expansion.specs.Expansion.{expanded}
 use Rattle.chart_machine_laws.specs.Tree.{IsNested}
-use Rattle.abort_expansion_laws.specs.Flat.{IsFlat}
+use Rattle.abort_expansion_laws.specs.Layered.{IsLayered}
 use Rattle.abort_expansion_laws.specs.Stages.{Entry, Silent, Correspondence, EachFits, EachSpared, NoneReached}
 use Rattle.abort_expansion_laws.specs.CoreRows.{Images, CoreRows, expanded_of, pair}
 use Rattle.abort_expansion_laws.specs.Related.{Related}
@@ -73,7 +73,7 @@ module _ (c : Chart) (rules : IsChart features.Extended c) (core_rules : IsChart
     pub rests : Resting k core i at_end core_at_end
     pub over : IsOver (machine k) at_end
 
-  module _ (flat : IsFlat c) (Told : Configuration → Entry → Type 0)
+  module _ (layered : IsLayered c) (Told : Configuration → Entry → Type 0)
       (told : (d : Configuration) (t : ℕ) (stage : Option (ℕ × ℕ)) (a : Access) → Told d (Silent t stage a))
       (Holds : Configuration → Type 0) (kept : KeptByChart Holds) (followed : StepsFollowed Holds Told) where
     record IsWithin (now core_now : Configuration) : Type 0 where
@@ -105,7 +105,7 @@ module _ (c : Chart) (rules : IsChart features.Extended c) (core_rules : IsChart
 
     started_begun : (now core_now : Configuration) → Started k core i now core_now → HasBegun k now
     started_begun now core_now (first_tick inputs chart_is core_is) =
-        subst (HasBegun k) (sym chart_is) (first_begun c rules core_rules flat inputs)
+        subst (HasBegun k) (sym chart_is) (first_begun c rules core_rules layered inputs)
     started_begun now core_now (later_tick inputs before core_before rests chart_is core_is) =
         subst (HasBegun k) (sym chart_is) (starts_begun k core i before core_before rests inputs)
 
@@ -117,7 +117,7 @@ module _ (c : Chart) (rules : IsChart features.Extended c) (core_rules : IsChart
           Rested = RestsThere;
           Stage = λ now core_now. Stage k i.thread_of now core_now;
           begin = λ now d starts.
-              let s = ticks_begin c rules core_rules flat Told told now d starts.started in
+              let s = ticks_begin c rules core_rules layered Told told now d starts.started in
               reaching d NoneReached (Stage k i.thread_of now) [] (Related k core i now) (IsWithin now) s
               (record { related = s.reaches; begun = started_begun now d starts.started; holds = starts.holds });
           advance = λ now d within r next goes.
@@ -129,7 +129,7 @@ module _ (c : Chart) (rules : IsChart features.Extended c) (core_rules : IsChart
                 holds = kept.steps now next r within.holds goes;
               });
           finish = λ now d within over.
-              let s = ticks_finish c rules core_rules flat Told told now d within.related over within.begun in
+              let s = ticks_finish c rules core_rules layered Told told now d within.related over within.begun in
               reaching d (Stage k i.thread_of now d) (Stage k i.thread_of now) [] (Resting k core i now) (RestsThere now) s
               (record { rested = record { rests = s.reaches; over = over }; holds = within.holds });
           over = λ now d rests. rested_over c rules core_rules now d rests.rested.rests rests.rested.over;

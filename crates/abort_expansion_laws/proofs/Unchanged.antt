@@ -4,7 +4,6 @@ use Rattle.std.proofs.Common.{slice_set, unwrap_or, Contains, refl, sym, ap, sub
 use Rattle.std.specs.List.{list_all, list_any}
 use Rattle.std.proofs.lemmas.Option.{slice_get_past}
 use Rattle.std.proofs.lemmas.Bool.{cases_lt, or_parts}
-use Rattle.core_charts.specs.declared.region.Transition.{Transition}
 use Rattle.core_charts.specs.Aborts.{has_aborts}
 use Rattle.chart_machine.specs.declared.standing.Standing.{Standing}
 use Rattle.chart_machine.specs.declared.standing.Standing.TheVariants as at
@@ -15,7 +14,7 @@ use Rattle.chart_machine.specs.Turns.{standing_of, has_ended, guards, is_guarded
 use Rattle.chart_machine_laws.proofs.LyingIn.{around, holder, none_in, head_or_tail, head_in, tail_in}
 use Rattle.abort_expansion_laws.proofs.TablesCorrespond.{IsThere}
 use Rattle.abort_expansion_laws.specs.CoreRows.{own, IsState, Images, CoreRows}
-use Rattle.abort_expansion_laws.specs.Related.{IsCalm, calm_outside, calm_ended, calm_trying, calm_within, front, held_back, tests_of, is_behind, Stands}
+use Rattle.abort_expansion_laws.specs.Related.{IsCalm, front, held_back, tests_of, is_behind, Stands}
 use Rattle.abort_expansion_laws.specs.Related.{outside, ended, left, trying, acting, entering, guarding, staying, within, behind, Watches}
 use Rattle.abort_expansion_laws.specs.Related.{guards as watch_guards, waits, elsewhere, IsInside, Related}
 

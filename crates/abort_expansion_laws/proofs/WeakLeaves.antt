@@ -1,136 +1,49 @@
 -- What is inside of a superstate whose weak abort is taken can leave: nobody there has work left, and each thread sees the raised flag, or is
 -- behind a fork whose termination has not its turn.
-use Rattle.std.proofs.Common.{◌≡◌, ◌≢◌, ℕ, ◌+◌, ◌<◌, ◌≤◌, inl, inr, ⊎_elim, Bool, true, false, not, ◌&&◌, ◌||◌, pos, Option, Some, None, List, []}
+use Rattle.std.proofs.Common.{◌≡◌, ◌≢◌, ℕ, ◌<◌, ◌≤◌, inl, inr, ⊎_elim, Bool, true, false, not, ◌||◌, pos, Option, Some, None, List, [], suc, ◌⊎◌}
 use Rattle.std.proofs.Common.{◌∷◌, ◌++◌, length, slice_get, Contains, refl, sym, ap, subst, ◌∙◌, arith, if◌then◌else◌}
-use Rattle.std.specs.Prelude.{reverse}
-use Rattle.std.specs.List.{list_all, list_any}
-use Rattle.std.proofs.lemmas.Bool.{or_parts}
-use Rattle.std.proofs.lemmas.List.{append-nil}
-use Rattle.std.proofs.lemmas.List.Folds.{flat_map-map}
+use Rattle.std.proofs.lemmas.List.{append-nil, append_assoc}
 use Rattle.sc_values.specs.declared.value.Value.TheVariants as value_is
 use Rattle.core_charts.specs.declared.region.Transition.{Transition}
-use Rattle.core_charts.specs.Tests.{at_once, strong_aborts, weak_aborts, terminations, is_join}
-use Rattle.core_charts.specs.Aborts.{has_strong, has_aborts}
+use Rattle.core_charts.specs.Tests.{at_once, strong_aborts, weak_aborts, terminations}
+use Rattle.core_charts.specs.Aborts.{has_weak, has_aborts}
 use Rattle.chart_machine.specs.declared.standing.Standing.{Standing}
 use Rattle.chart_machine.specs.declared.standing.Standing.TheVariants as at
 use Rattle.chart_machine.specs.declared.standing.Configuration.{Configuration}
 use Rattle.chart_machine.specs.declared.table.Table.{Table}
 use Rattle.chart_machine.specs.Table.{state_at}
-use Rattle.chart_machine.specs.Turns.{standing_of, has_ended, has_work, may_close, guards, is_guarded, inside}
-use Rattle.chart_machine.specs.Steps.{to, state_in, verdict, access_of_trigger}
-use Rattle.abort_expansion.specs.declared.flags.Flags.{Flags}
-use Rattle.abort_expansion.specs.Flags.{aborts_around, weak_around, is_there}
-use Rattle.abort_expansion.specs.Transitions.{is_raised, is_number, go, check, strong_checks, weak_checks, led_by}
+use Rattle.chart_machine.specs.Turns.{standing_of, has_work, guards, is_guarded, inside}
+use Rattle.chart_machine.specs.Steps.{to, state_in, verdict}
+use Rattle.abort_expansion.specs.Flags.{aborts_around, weak_around}
+use Rattle.abort_expansion.specs.Transitions.{is_raised, is_number, go, strong_checks, led_by, answers}
 use Rattle.abort_expansion.specs.Superstates.{stays, closing, joined_or_left}
-use Rattle.tick_laws.proofs.Lists.{map_contains}
 use Rattle.abort_expansion_laws.specs.Stages.{Correspondence, IsSilent}
 use Rattle.abort_expansion_laws.proofs.Supplying.{silent_test, silent_idle, tests}
-use Rattle.chart_machine_laws.proofs.LyingIn.{IsNested, around, holder, head_in, tail_in}
+use Rattle.chart_machine_laws.proofs.LyingIn.{IsNested, around, holder}
 use Rattle.abort_expansion_laws.proofs.TablesCorrespond.{IsThere}
-use Rattle.abort_expansion_laws.proofs.MoreValues.{lowered_verdict, other_verdict}
-use Rattle.abort_expansion_laws.proofs.FlagAccess.{raised_access, number_access}
-use Rattle.abort_expansion_laws.specs.CoreRows.{own, IsState, IsSuper, Images, CoreRows, flags_around, behind_transitions, pair}
+use Rattle.abort_expansion_laws.proofs.MoreValues.{other_verdict}
+use Rattle.abort_expansion_laws.proofs.FlagAccess.{number_access}
+use Rattle.abort_expansion_laws.specs.CoreRows.{own, IsState, IsSuper, Images, CoreRows, flags_around, behind_transitions}
 use Rattle.abort_expansion_laws.specs.Related.{front, held_back, Stands, outside, ended, left, trying, acting, entering, guarding, staying}
-use Rattle.abort_expansion_laws.specs.Related.{within, behind, IsInside, guarded, open_inside, still_in, not_ended, Stores, Closes, Related}
+use Rattle.abort_expansion_laws.specs.Related.{within, behind, IsInside, guarded, open_inside, not_ended, Stores, Related}
 use Rattle.abort_expansion_laws.proofs.KnownVariables.{present_there}
 use Rattle.abort_expansion_laws.proofs.StartingRegions.{CounterRows}
-use Rattle.abort_expansion_laws.proofs.Resets.{Apart}
 use Rattle.abort_expansion_laws.proofs.OpensFork.{OpeningRows}
 use Rattle.chart_machine_laws.proofs.ChartTables.{no_regions_past, within_or_past}
 use Rattle.abort_expansion_laws.proofs.TickStarts.{StartRows}
-use Rattle.abort_expansion_laws.proofs.EnteringSimple.{once_append, weak_once}
-use Rattle.abort_expansion_laws.proofs.JoinsFork.{strong_once, no_chosen, no_answers}
-use Rattle.abort_expansion_laws.proofs.AllLeave.{LeavesBy, leads_out, fails_before, MayLeave, out, over, tries}
-use Rattle.abort_expansion_laws.proofs.InsideLeaves.{FlatRows, one_checked, checked_once, fork_leaves, all_may_leave}
+use Rattle.abort_expansion_laws.proofs.EnteringSimple.{weak_once}
+use Rattle.abort_expansion_laws.proofs.MayLeave.{leads_out, fails_before, out, over, tries}
+use Rattle.abort_expansion_laws.proofs.InsideLeaves.{LayeredRows, fork_leaves, all_may_leave}
+use Rattle.abort_expansion_laws.proofs.SplitTests.{continuation_tests}
+use Rattle.abort_expansion_laws.proofs.InsideAround.{one_in_other}
+use Rattle.abort_expansion_laws.proofs.StageReached.{holds_other}
 use Rattle.abort_expansion_laws.proofs.StrongNotTaken.{IsGuarding, guarding_back}
+use Rattle.abort_expansion_laws.proofs.WeakSeen as seen
+use Rattle.abort_expansion_laws.proofs.MonitorsLeave as monitors
+use Rattle.abort_expansion_laws.proofs.WeakSeen.{any_none, some_still_in}
 
--- ---- weak flags around
-
-none_there : (b : Bool) (place : ℕ) (o : Option ℕ) → is_there o ≡ false → check b place o ≡ []
-none_there b place None e = refl
-none_there b place (Some x) e = absurd cc
-
-no_weak_around : (b : Bool) (place : ℕ) (fs : List Flags) → weak_around fs ≡ false → weak_checks b place fs ≡ []
-no_weak_around b place [] e = refl
-no_weak_around b place (f ∷ fs) e =
-    let both = or_parts (is_there f.weak) (weak_around fs) e in
-    let own_none : check b place f.weak ≡ [] = none_there b place f.weak both.0 in
-    let rest : weak_checks b place fs ≡ [] = no_weak_around b place fs both.1 in rw (own_none, rest) refl
-
-none_around : (fs : List Flags) → aborts_around fs ≡ false → weak_around fs ≡ false
-none_around [] e = refl
-none_around (f ∷ fs) e =
-    let both = or_parts (is_there f.strong || is_there f.weak) (aborts_around fs) e in
-    let two = or_parts (is_there f.strong) (is_there f.weak) both.0 in rw (two.1, none_around fs both.1) refl
-
-not_false : (b : Bool) → (b ≡ false → ⊥) → b ≡ true
-not_false true never = refl
-not_false false never = absurd (never refl)
-
-any_none : (p : ℕ → Bool) (xs : List ℕ) → ((y : ℕ) → Contains xs y → p y ≡ true → ⊥) → list_any p xs ≡ false
-any_none p [] none = refl
-any_none p (x ∷ xs) none = rw (never (p x) (none x (head_in x xs)), any_none p xs (λ y h. none y (tail_in x y xs h))) refl
-  where
-    never : (b : Bool) → (b ≡ true → ⊥) → b ≡ false
-    never true no_way = absurd (no_way refl)
-    never false no_way = refl
-
--- ---- a continuation without answers
-
-module _ (k core : Table) (i : Images) where
-  plain_tests : (q s : ℕ) → has_aborts (own k s) ≡ false → behind_transitions k core i q s ≡
-      strong_checks true (i.places_of q).left (flags_around k core i q) ++ closing (flags_around k core i q) (i.flags_of s) (i.places_of q)
-      (terminations (own k s))
-  plain_tests q s no_aborts =
-      let two = or_parts (list_any _ (own k s)) (list_any _ (own k s)) no_aborts in
-      let strong : strong_aborts (own k s) ≡ [] = no_chosen _ (own k s) two.0 in
-      let weak : weak_aborts (own k s) ≡ [] = no_chosen _ (own k s) two.1 in
-      rw (strong, weak, no_answers (i.places_of q) (i.flags_of s).strong 1, no_answers (i.places_of q) (i.flags_of s).weak 1)
-      (ap (λ zs. zs ++ closing (flags_around k core i q) (i.flags_of s) (i.places_of q) (terminations (own k s)))
-      (append-nil (strong_checks true (i.places_of q).left (flags_around k core i q) ++ []) ∙
-      append-nil (strong_checks true (i.places_of q).left (flags_around k core i q))))
-
-  -- what the continuation of a superstate without aborts tests
-  pub plain_continuation : (q s : ℕ) → has_aborts (own k s) ≡ false → at_once (behind_transitions k core i q s) ≡
-      strong_checks true (i.places_of q).left (flags_around k core i q) ++ at_once (closing (flags_around k core i q) (i.flags_of s) (i.places_of q)
-      (terminations (own k s)))
-  plain_continuation q s no_aborts =
-      ap at_once (plain_tests q s no_aborts)
-      ∙ (once_append (strong_checks true (i.places_of q).left (flags_around k core i q)) (closing (flags_around k core i q) (i.flags_of s) (i.places_of q)
-      (terminations (own k s)))
-      ∙ ap (λ zs. zs ++ at_once (closing (flags_around k core i q) (i.flags_of s) (i.places_of q) (terminations (own k s))))
-      (strong_once (i.places_of q).left (flags_around k core i q)))
-
--- ---- counters
-
-module _ (k core : Table) (i : Images) (c : Configuration) where
-  pub still_none : (rs : List ℕ) → still_in k core i c rs ≡ 0 → list_all (λ r. has_ended (standing_of c r)) rs ≡ true
-  still_none [] e = refl
-  still_none (r ∷ rs) e = by_end (has_ended (standing_of c r)) refl e (λ rest. still_none rs rest)
-    where
-      by_end : (b : Bool) → has_ended (standing_of c r) ≡ b → (if b then 0 else 1) + still_in k core i c rs ≡ 0 →
-          (still_in k core i c rs ≡ 0 → list_all (λ q. has_ended (standing_of c q)) rs ≡ true) →
-          (has_ended (standing_of c r) && list_all (λ q. has_ended (standing_of c q)) rs) ≡ true
-      by_end true is e rest = rw (is) (rest (omega (e, arith)))
-      by_end false is e rest = absurd (omega (e, arith))
-
-  -- a superstate whose termination has not its turn has a region that has not ended
-  pub some_still_in : (s : ℕ) (tests : List Transition) → Closes k core i s tests → (t : Transition) (more : List Transition) →
-      terminations (own k s) ≡ t ∷ more → may_close k c s tests ≡ false → not_ended k core i c s ≢ 0
-  some_still_in s [] closes t more some idle none = none_left closes.some closes.are
-    where
-      none_left : (first : List Transition) → [] ≡ first ++ terminations (own k s) → ⊥
-      none_left [] are = let wrong : [] ≡ t ∷ more = are ∙ some in absurd cc
-      none_left (u ∷ first) are = absurd cc
-  some_still_in s (u ∷ tests) closes t more some idle none =
-      let all = still_none (state_at k s).regions none in
-      let wrong : true ≡ false = sym (or_true (not (is_join u.kind))) ∙ (ap (λ b. not (is_join u.kind) || b) (sym all) ∙ idle) in absurd cc
-    where
-      or_true : (b : Bool) → (b || true) ≡ true
-      or_true true = refl
-      or_true false = refl
-
-module _ (k core : Table) (i : Images) (rows : CoreRows k core i) (flat : FlatRows k core i) (tree : IsNested k)
+module _ (k core : Table) (i : Images) (rows : CoreRows k core i) (layered : LayeredRows k core i) (tree : IsNested k)
+    (deep : (q s : ℕ) → Contains (around core q) s → holder core s < q) (alone : (v : ℕ) → (state_at core v).regions ≡ [] → inside core v ≡ [])
     (core_children : (s r : ℕ) → Contains (state_at core s).regions r → around core r ≡ s ∷ around core (holder core s))
     (children : (s r : ℕ) → Contains (state_at k s).regions r → around k r ≡ s ∷ around k (holder k s))
     (counts : ℕ → Bool) (written_at : ℕ → ℕ) (counters : CounterRows k core i rows counts written_at) (opening : OpeningRows k core i rows)
@@ -140,104 +53,73 @@ module _ (k core : Table) (i : Images) (rows : CoreRows k core i) (flat : FlatRo
     (idle : (q : ℕ) → IsThere k q → Contains (around k q) o → has_work k c (standing_of c q) ≡ false)
     (first : Configuration) (raised : verdict first.variables (Some (is_raised x)) ≡ Some true)
     (values : (y : ℕ) → y ≢ x → slice_get first.variables y ≡ slice_get d.variables y)
-    (same_first : (q : ℕ) → standing_of first (i.thread_of q) ≡ standing_of d (i.thread_of q)) where
+    (same : (g : ℕ) → g ≢ i.watcher_of o → standing_of first g ≡ standing_of d g) where
   abbrev corr : Correspondence
-  corr = pair k core i rows tree counts written_at
+  corr = seen.corr k core i rows layered tree deep alone core_children children counts written_at counters opening start_rows written_low c d related r o x
+      flag held
+      o_there open_tests stands idle first raised values same
+
+  abbrev has_some_weak : has_weak (own k o) ≡ true
+  has_some_weak = seen.has_some_weak k core i rows layered tree deep alone core_children children counts written_at counters opening start_rows written_low c
+      d related r o x flag held
+      o_there open_tests stands idle first raised values same
+
+  abbrev has : has_aborts (own k o) ≡ true
+  has = seen.has k core i rows layered tree deep alone core_children children counts written_at counters opening start_rows written_low c d related r o x flag
+      held
+      o_there open_tests stands idle first raised values same
 
   abbrev Leaves : ℕ → Standing → Type 0
-  Leaves t z = MayLeave core corr (i.thread_of r) 3 first t z
+  Leaves = seen.Leaves k core i rows layered tree deep alone core_children children counts written_at counters opening start_rows written_low c d related r o
+      x flag held
+      o_there open_tests stands idle first raised values same
 
   abbrev LeavesTests : ℕ → List Transition → Type 0
-  LeavesTests q ws = LeavesBy core corr (i.thread_of r) 3 first.variables (i.thread_of q) ws
-
-  has : has_aborts (own k o) ≡ true
-  has = rw (start_rows.weak_for o x flag) (either (has_strong (own k o)))
-    where
-      either : (a : Bool) → (a || true) ≡ true
-      either true = refl
-      either false = refl
-
-  -- ---- what each sees
+  LeavesTests = seen.LeavesTests k core i rows layered tree deep alone core_children children counts written_at counters opening start_rows written_low c d
+      related r o x flag held
+      o_there open_tests stands idle first raised values same
 
   abbrev sees : ℕ → Transition
-  sees q = go true (Some (is_raised x)) [] (i.places_of q).left
+  sees = seen.sees k core i rows layered tree deep alone core_children children counts written_at counters opening start_rows written_low c d related r o x
+      flag held
+      o_there open_tests stands idle first raised values same
 
-  pub one_held : (q : ℕ) → Contains (around k q) o → held_back k core i q ≡ sees q ∷ []
-  one_held q in_o =
-      flat_map-map (λ f. check true (i.places_of q).left f.weak) i.flags_of (reverse (around k q))
-      ∙ (one_checked k tree (λ s. check true (i.places_of q).left (i.flags_of s).weak) (around k q) q o refl in_o
-      (λ s h differs. ap (check true (i.places_of q).left) (none s h differs)) ∙ ap (check true (i.places_of q).left) flag)
-    where
-      either : (a : Bool) → (a || true) ≡ true
-      either true = refl
-      either false = refl
+  abbrev one_held : (q : ℕ) → Contains (around k q) o → held_back k core i q ≡ sees q ∷ []
+  one_held = seen.one_held k core i rows layered tree deep alone core_children children counts written_at counters opening start_rows written_low c d related
+      r o x flag held
+      o_there open_tests stands idle first raised values same
 
-      none : (s : ℕ) → Contains (around k q) s → s ≢ o → (i.flags_of s).weak ≡ None
-      none s h differs = by_flag (i.flags_of s).weak refl
-        where
-          by_flag : (w : Option ℕ) → (i.flags_of s).weak ≡ w → (i.flags_of s).weak ≡ None
-          by_flag None e = e
-          by_flag (Some y) e = absurd (differs (flat.flat_around q o s in_o h has (rw (start_rows.weak_for s y e) (either (has_strong (own k s))))))
+  abbrev weak_here : (q : ℕ) → Contains (around k q) o → weak_around (flags_around k core i q) ≡ true
+  weak_here = seen.weak_here k core i rows layered tree deep alone core_children children counts written_at counters opening start_rows written_low c d
+      related r o x flag held
+      o_there open_tests stands idle first raised values same
 
-  weak_here : (q : ℕ) → Contains (around k q) o → weak_around (flags_around k core i q) ≡ true
-  weak_here q in_o =
-      not_false (weak_around (flags_around k core i q))
-      (λ e. let wrong : sees q ∷ [] ≡ [] = sym (one_held q in_o) ∙ no_weak_around true (i.places_of q).left (flags_around k core i q) e in absurd cc)
+  abbrev aborts_here : (q : ℕ) → Contains (around k q) o → aborts_around (flags_around k core i q) ≡ true
+  aborts_here = seen.aborts_here k core i rows layered tree deep alone core_children children counts written_at counters opening start_rows written_low c d
+      related r o x flag held
+      o_there open_tests stands idle first raised values same
 
-  aborts_here : (q : ℕ) → Contains (around k q) o → aborts_around (flags_around k core i q) ≡ true
-  aborts_here q in_o =
-      not_false (aborts_around (flags_around k core i q))
-      (λ e. let wrong : true ≡ false = sym (weak_here q in_o) ∙ none_around (flags_around k core i q) e in absurd cc)
-
-  home_is : (y : ℕ) → rows.of_flag y ≡ o → corr.home y ≡ i.thread_of r
-  home_is y owner = ap (λ s. holder core (i.main_of s)) owner ∙ (rows.held o ∙ ap i.thread_of held)
-
-  -- a flag of o may be looked at from inside
-  looks_at : (q y : ℕ) → Contains (around k q) o → length k.variables ≤ y → rows.of_flag y ≡ o → counts y ≡ false →
-      IsSilent corr (i.thread_of q) (Some (i.thread_of r, 3)) (access_of_trigger (Some (is_raised y)))
-  looks_at q y in_o added owner no_counter =
-      subst (IsSilent corr (i.thread_of q) (Some (i.thread_of r, 3))) (sym (raised_access y))
-      (silent_test corr (i.thread_of q) (Some (i.thread_of r, 3)) y added (inr (inr (no_counter, within), (3, stage_is, written_low y))))
-    where
-      stage_is : ◌≡◌ {A = Option (ℕ × ℕ)} (Some (i.thread_of r, 3)) (Some (holder core (i.main_of (rows.of_flag y)), 3))
-      stage_is = ap (λ (h : ℕ). Some (h, 3)) (sym (home_is y owner))
-
-      within : Contains (around core (i.thread_of q)) (i.main_of (rows.of_flag y))
-      within =
-          subst (λ s. Contains (around core (i.thread_of q)) (i.main_of s)) (sym owner)
-          (subst (λ zs. Contains zs (i.main_of o)) (sym (rows.encloses q)) (map_contains i.main_of (around k q) o in_o))
-
-  ends_there : (q : ℕ) → IsThere k q → Contains (around k q) o →
+  abbrev ends_there : (q : ℕ) → IsThere k q → Contains (around k q) o →
       (state_at core (state_in core (i.thread_of q) (i.places_of q).left)).entered ≡ to (i.thread_of q) at.Ended ∷ []
-  ends_there q there in_o = (rows.region q there).left (aborts_here q in_o)
+  ends_there = seen.ends_there k core i rows layered tree deep alone core_children children counts written_at counters opening start_rows written_low c d
+      related r o x flag held
+      o_there open_tests stands idle first raised values same
 
-  sees_it : (q : ℕ) → IsThere k q → Contains (around k q) o → LeavesTests q (sees q ∷ [])
-  sees_it q there in_o =
-      leads_out (sees q) [] raised refl (ends_there q there in_o) (Some (i.thread_of r, 3)) (inr refl)
-      (looks_at q x in_o (rows.weak_added o x flag) (opening.flag_of o x (inr (inl flag))).0 (counters.weak_not o x flag))
+  abbrev sees_it : (q : ℕ) → IsThere k q → Contains (around k q) o → LeavesTests q (sees q ∷ [])
+  sees_it = seen.sees_it k core i rows layered tree deep alone core_children children counts written_at counters opening start_rows written_low c d related r
+      o x flag held
+      o_there open_tests stands idle first raised values same
 
-  -- ---- strong checks fail
-
-  inside_o : IsInside k core i o (standing_of c (holder k o))
-  inside_o = subst (λ q. IsInside k core i o (standing_of c q)) (sym held) (subst (IsInside k core i o) (sym stands) (open_inside open_tests))
-
-  not_strong : (y : ℕ) → (i.flags_of o).strong ≡ Some y → y ≢ x
-  not_strong y strong e =
-      let both : Apart (Some y) (Some x) = subst (Apart (Some y)) flag (subst (λ f. Apart f (i.flags_of o).weak) strong (opening.flags_apart o).0) in both e
-
-  strong_fails : (q : ℕ) → Contains (around k q) o → (rest : List Transition) → LeavesTests q rest →
+  abbrev strong_fails : (q : ℕ) → IsThere k q → standing_of c q ≢ at.Outside → Contains (around k q) o → (rest : List Transition) → LeavesTests q rest →
       LeavesTests q (strong_checks true (i.places_of q).left (flags_around k core i q) ++ rest)
-  strong_fails q in_o rest then_leaves =
-      subst (λ zs. LeavesTests q (zs ++ rest)) (sym (checked_once k core i flat tree o has q true in_o)) (by_flag (i.flags_of o).strong refl)
-    where
-      by_flag : (f : Option ℕ) → (i.flags_of o).strong ≡ f → LeavesTests q (check true (i.places_of q).left f ++ rest)
-      by_flag None e = then_leaves
-      by_flag (Some y) e =
-          let low : slice_get d.variables y ≡ Some (value_is.Int (pos 0)) =
-          subst (λ f. Stores k core i d.variables f 0) e (related.flags o o_there inside_o).strong in
-          fails_before (go true (Some (is_raised y)) [] (i.places_of q).left) rest
-          (lowered_verdict y first.variables (values y (not_strong y e) ∙ low)) (Some (i.thread_of r, 3)) (inr refl)
-          (looks_at q y in_o (rows.strong_added o y e) (opening.flag_of o y (inl e)).0 (counters.strong_not o y e)) then_leaves
+  strong_fails = seen.strong_fails k core i rows layered tree deep alone core_children children counts written_at counters opening start_rows written_low c d
+      related r o x flag held
+      o_there open_tests stands idle first raised values same
+
+  abbrev works_not : (q : ℕ) → IsThere k q → Contains (around k q) o → (w : Standing) → standing_of c q ≡ w → has_work k c w ≡ true → ⊥
+  works_not = seen.works_not k core i rows layered tree deep alone core_children children counts written_at counters opening start_rows written_low c d
+      related r o x flag held
+      o_there open_tests stands idle first raised values same
 
   -- ---- nobody guards
 
@@ -249,22 +131,29 @@ module _ (k core : Table) (i : Images) (rows : CoreRows k core i) (flat : FlatRo
       by_inside : (s : ℕ) → Contains (around k q) s → (w : Standing) → standing_of c (holder k s) ≡ w → IsInside k core i s w → guards w ≡ true → ⊥
       by_inside s h _ is (open_inside tests) on = absurd cc
       by_inside s h _ is (guarded tests) on =
-          let holder_there : IsThere k (holder k s) = present_there k core i c d related (holder k s)
-          (λ e. let wrong : at.Guarding s tests ≡ at.Outside = sym is ∙ e in absurd cc) in
-          let image : IsGuarding k core i (holder k s) s (standing_of d (i.thread_of (holder k s))) =
-          guarding_back k core i c (holder k s) (standing_of c (holder k s)) (standing_of d (i.thread_of (holder k s)))
-          (related.regions (holder k s) holder_there) s tests is in
-          let same : s ≡ o = flat.flat_around q o s in_o h has image.has in
-          let wrong : at.Guarding s tests ≡ at.Within o open_tests = sym is ∙ (ap (λ v. standing_of c (holder k v)) same ∙ (ap
-          (standing_of c) held ∙ stands)) in
-          absurd cc
+          by_place (one_in_other k tree (around k q) q s o refl h in_o)
+        where
+          holder_is : IsThere k (holder k s)
+          holder_is = present_there k core i c d related (holder k s) (λ e. let wrong : at.Guarding s tests ≡ at.Outside = sym is ∙ e in absurd cc)
+
+          image : IsGuarding k core i (holder k s) s (standing_of d (i.thread_of (holder k s)))
+          image = guarding_back k core i c (holder k s) (standing_of c (holder k s)) (standing_of d (i.thread_of (holder k s)))
+              (related.regions (holder k s) holder_is) s tests is
+
+          by_place : (s ≡ o) ⊎ (Contains (around k (holder k s)) o ⊎ Contains (around k (holder k o)) s) → ⊥
+          by_place (inl same_one) =
+              let wrong : at.Guarding s tests ≡ at.Within o open_tests =
+              sym is ∙ (ap (λ v. standing_of c (holder k v)) same_one ∙ (ap (standing_of c) held ∙ stands)) in
+              absurd cc
+          by_place (inr (inl deeper)) = let wrong : true ≡ false = sym (ap (has_work k c) is) ∙ idle (holder k s) holder_is deeper in absurd cc
+          by_place (inr (inr outer)) = let wrong : true ≡ false = sym has_some_weak ∙ layered.in_any s o image.has outer in absurd cc
 
   -- ---- the continuation of a superstate inside
 
   module _ (q s : ℕ) (there : IsThere k q) (in_o : Contains (around k q) o) (s_there : IsState k s) (s_held : holder k s ≡ q) (tests : List Transition)
       (q_stands : standing_of c q ≡ at.Within s tests) where
-    plain : has_aborts (own k s) ≡ false
-    plain = flat.flat_held o s has (subst (λ p. Contains (around k p) o) (sym s_held) in_o)
+    s_in_o : Contains (around k (holder k s)) o
+    s_in_o = subst (λ p. Contains (around k p) o) (sym s_held) in_o
 
     leaves_last : LeavesTests q (go true None [] (i.places_of q).left ∷ [])
     leaves_last =
@@ -295,8 +184,8 @@ module _ (k core : Table) (i : Images) (rows : CoreRows k core i) (flat : FlatRo
 
         differs : rows.of_flag y ≡ s → y ≢ x
         differs owner e =
-            let same : s ≡ o = sym owner ∙ (ap rows.of_flag e ∙ (opening.flag_of o x (inr (inl flag))).0) in
-            let wrong : true ≡ false = sym has ∙ (ap (λ v. has_aborts (own k v)) (sym same) ∙ plain) in absurd cc
+            let same_one : s ≡ o = sym owner ∙ (ap rows.of_flag e ∙ (opening.flag_of o x (inr (inl flag))).0) in
+            holds_other k tree (holder k o) o (subst (λ v. Contains (around k (holder k v)) o) same_one s_in_o) refl
 
     closing_leaves : LeavesTests q (at_once (closing (flags_around k core i q) (i.flags_of s) (i.places_of q) (terminations (own k s))))
     closing_leaves = by_ends (terminations (own k s)) refl
@@ -314,15 +203,63 @@ module _ (k core : Table) (i : Images) (rows : CoreRows k core i) (flat : FlatRo
             subst (λ b. LeavesTests q (at_once (if b then joined_or_left (i.places_of q) (i.flags_of s).counter t else led_by (i.places_of q) None t ∷ [])))
             (sym (weak_here q in_o)) (by_counter (i.flags_of s).counter refl t more e)
 
+    -- no abort was raised
+    own_home : (y : ℕ) → rows.of_flag y ≡ s → i.thread_of q ≡ corr.home y
+    own_home y owner = sym (ap (λ v. holder core (i.main_of v)) owner ∙ (rows.held s ∙ ap i.thread_of s_held))
+
+    answers_fail : (f : Option ℕ) (aborts : List Transition) (m : ℕ) → 0 < m →
+        ((y : ℕ) → f ≡ Some y → (slice_get first.variables y ≡ Some (value_is.Int (pos 0))) × ((length k.variables ≤ y) × (rows.of_flag y ≡ s))) →
+        (rest : List Transition) → LeavesTests q rest → LeavesTests q (answers (i.places_of q) f m aborts ++ rest)
+    answers_fail None [] m le low rest then_leaves = then_leaves
+    answers_fail None (t ∷ aborts) m le low rest then_leaves = then_leaves
+    answers_fail (Some y) [] m le low rest then_leaves = then_leaves
+    answers_fail (Some y) (t ∷ aborts) m le low rest then_leaves =
+        let facts = low y refl in
+        fails_before (led_by (i.places_of q) (Some (is_number y m)) t) (answers (i.places_of q) (Some y) (suc m) aborts ++ rest)
+        (other_verdict y 0 m first.variables facts.0 (λ e. absurd (omega (e, le, arith)))) None (inl refl)
+        (subst (IsSilent corr (i.thread_of q) None) (sym (number_access y m))
+        (silent_test corr (i.thread_of q) None y facts.1.0 (inl (own_home y facts.1.1))))
+        (answers_fail (Some y) aborts (suc m) (omega (le, arith)) low rest then_leaves)
+
+    differs_from : (y : ℕ) → rows.of_flag y ≡ s → y ≢ x
+    differs_from y owner e =
+        let same_one : s ≡ o = sym owner ∙ (ap rows.of_flag e ∙ (opening.flag_of o x (inr (inl flag))).0) in
+        holds_other k tree (holder k o) o (subst (λ v. Contains (around k (holder k v)) o) same_one s_in_o) refl
+
+    strong_low : (y : ℕ) → (i.flags_of s).strong ≡ Some y →
+        (slice_get first.variables y ≡ Some (value_is.Int (pos 0))) × ((length k.variables ≤ y) × (rows.of_flag y ≡ s))
+    strong_low y e =
+        let owner : rows.of_flag y ≡ s = (opening.flag_of s y (inl e)).0 in (
+          values y (differs_from y owner) ∙ subst (λ f. Stores k core i d.variables f 0) e (related.flags s s_there inside_s).strong,
+          (rows.strong_added s y e, owner),
+        )
+
+    weak_low : (y : ℕ) → (i.flags_of s).weak ≡ Some y →
+        (slice_get first.variables y ≡ Some (value_is.Int (pos 0))) × ((length k.variables ≤ y) × (rows.of_flag y ≡ s))
+    weak_low y e =
+        let owner : rows.of_flag y ≡ s = (opening.flag_of s y (inr (inl e))).0 in (
+          values y (differs_from y owner) ∙ subst (λ f. Stores k core i d.variables f 0) e (related.flags s s_there inside_s).weak,
+          (rows.weak_added s y e, owner),
+        )
+
     pub continuation_leaves : LeavesTests q (at_once (behind_transitions k core i q s))
     continuation_leaves =
-        subst (LeavesTests q) (sym (plain_continuation k core i q s plain))
-        (strong_fails q in_o (at_once (closing (flags_around k core i q) (i.flags_of s) (i.places_of q) (terminations (own k s)))) closing_leaves)
+        subst (LeavesTests q) (sym (continuation_tests k core i q s))
+        (strong_fails q there (λ e. let wrong : at.Within s tests ≡ at.Outside = sym q_stands ∙ e in absurd cc) in_o _
+        (subst (LeavesTests q) (sym (append_assoc strong weak last))
+        (answers_fail (i.flags_of s).strong (strong_aborts (own k s)) 1 (omega arith) strong_low (weak ++ last)
+        (answers_fail (i.flags_of s).weak (weak_aborts (own k s)) 1 (omega arith) weak_low last closing_leaves))))
+      where
+        strong : List Transition
+        strong = answers (i.places_of q) (i.flags_of s).strong 1 (strong_aborts (own k s))
+
+        weak : List Transition
+        weak = answers (i.places_of q) (i.flags_of s).weak 1 (weak_aborts (own k s))
+
+        last : List Transition
+        last = at_once (closing (flags_around k core i q) (i.flags_of s) (i.places_of q) (terminations (own k s)))
 
   -- ---- each thread inside
-
-  works_not : (q : ℕ) → IsThere k q → Contains (around k q) o → (w : Standing) → standing_of c q ≡ w → has_work k c w ≡ true → ⊥
-  works_not q there in_o w e works = let wrong : true ≡ false = sym works ∙ (sym (ap (has_work k c) e) ∙ idle q there in_o) in absurd cc
 
   never_stays : (q s : ℕ) → Contains (around k q) o → stays (flags_around k core i q) (own k s) ≡ true → ⊥
   never_stays q s in_o e = by_aborts (has_aborts (own k s)) (aborts_around (flags_around k core i q)) (aborts_here q in_o) e
@@ -349,19 +286,23 @@ module _ (k core : Table) (i : Images) (rows : CoreRows k core i) (flat : FlatRo
   by_stands q there in_o _ _ (left s ss e over_it) is = out
   by_stands q there in_o _ _ (trying s [] simple its) is =
       subst (λ zs. Leaves (i.thread_of q) (at.Trying (i.main_of s) (zs ++ held_back k core i q))) (sym (append-nil (front k core i false c q)))
-      (only_held q (i.main_of s) false there in_o (λ e. let wrong : at.Trying s [] ≡ at.Outside = sym is ∙ e in absurd cc) (flat.simple_alone s simple))
+      (only_held q (i.main_of s) false there in_o (λ e. let wrong : at.Trying s [] ≡ at.Outside = sym is ∙ e in absurd cc) (layered.simple_alone s simple))
   by_stands q there in_o _ _ (trying s (t ∷ tests) simple its) is = absurd (works_not q there in_o (at.Trying s (t ∷ tests)) is refl)
   by_stands q there in_o _ _ (acting s u p g effects lt) is = absurd (works_not q there in_o (at.Acting s (g ∷ effects) p) is refl)
   by_stands q there in_o _ _ (entering s fork t tests super its leads) is = absurd (works_not q there in_o (at.Entering s (t ∷ tests)) is refl)
   by_stands q there in_o _ _ (guarding s join t tests has_some its leads) is = absurd (works_not q there in_o (at.Guarding s (t ∷ tests)) is refl)
   by_stands q there in_o _ _ (staying s tests super its stay) is = absurd (never_stays q s in_o stay)
   by_stands q there in_o _ _ (within s join tests super its stays_not open_still leads) is =
-      fork_leaves k core i rows flat core_children children o has c d related corr (i.thread_of r) 3 first same_first q s join tests in_o is super its
+      fork_leaves k core i rows layered tree core_children children o has c d related corr (i.thread_of r) 3 first same o_there q s join tests in_o is super its
       stays_not open_still leads (continuation_leaves q s there in_o (super_state s super) its tests is)
   by_stands q there in_o _ _ (behind s tests super its over_it) is =
-      only_held q (i.behind_of s) true there in_o (λ e. let wrong : at.Within s tests ≡ at.Outside = sym is ∙ e in absurd cc) (flat.behind_alone s)
+      only_held q (i.behind_of s) true there in_o (λ e. let wrong : at.Within s tests ≡ at.Outside = sym is ∙ e in absurd cc) (layered.behind_alone s)
 
   pub idle_may_leave : standing_of first (i.watcher_of o) ≡ at.Ended → (t : ℕ) → Contains (around core t) (i.main_of o) → Leaves t (standing_of first t)
   idle_may_leave =
-      all_may_leave k core i rows flat core_children children o has c d related corr (i.thread_of r) 3 first same_first
+      all_may_leave k core i rows layered tree core_children children o has c d related corr (i.thread_of r) 3 first same o_there
+      (λ u u_there some in_o. monitors.monitor_leaves k core i rows layered tree deep alone core_children children counts written_at counters opening
+      start_rows written_low c d related r o x flag held o_there open_tests stands idle first raised values same u u_there some in_o
+      (standing_of c (holder k u)) (standing_of d (i.watcher_of u)) refl
+      (related.watchers u u_there some))
       (λ q there in_o. by_stands q there in_o (standing_of c q) (standing_of d (i.thread_of q)) (related.regions q there) refl)

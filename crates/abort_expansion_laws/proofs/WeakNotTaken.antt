@@ -18,13 +18,14 @@ use Rattle.chart_machine.specs.Turns.{standing_of, has_ended, guards, has_work, 
 use Rattle.chart_machine.specs.Steps.{to, after, verdict, deed_of, step, access_of, access_of_trigger, state_in}
 use Rattle.chart_machine.specs.Machine.{machine}
 use Rattle.abort_expansion.specs.Flags.{aborts_around}
-use Rattle.abort_expansion.specs.Superstates.{all_ended, stays}
+use Rattle.abort_expansion.specs.Superstates.{stays}
 use Rattle.abort_expansion_laws.specs.Stages.{Entry, Watched}
 use Rattle.abort_expansion_laws.proofs.Simulation.{Segment}
 use Rattle.chart_machine_laws.proofs.LyingIn.{IsNested, around, holder, head_in, tail_in}
 use Rattle.abort_expansion_laws.proofs.TablesCorrespond.{IsThere}
 use Rattle.abort_expansion_laws.proofs.MoreValues.{verdict_over_more}
 use Rattle.abort_expansion_laws.specs.CoreRows.{own, IsState, IsSuper, joins, Images, CoreRows, flags_around}
+use Rattle.abort_expansion_laws.specs.Related.{monitor_last}
 use Rattle.abort_expansion_laws.specs.Related.{Closes, Each, AreAmong, is_behind, raises, raise_each, Stands, outside, ended, left, trying, acting, entering}
 use Rattle.abort_expansion_laws.specs.Related.{guarding, staying, within, behind, Watches, guards as watch_guards, waits, elsewhere, IsInside, guarded}
 use Rattle.abort_expansion_laws.specs.Related.{open_inside, Related}
@@ -99,13 +100,13 @@ pub record MonitorWaits (k core : Table) (i : Images) (o : ℕ) (t : Transition)
   pub among : AreAmong (weak_aborts (own k o)) others
   pub only_joins : Each (λ z. is_join z.kind ≡ true) joins_behind
   pub tests_are : map (λ x. x.1) others ++ joins_behind ≡ tests
-  pub is : y ≡ at.Trying (i.watching_of o) (raise_each (λ z. z.immediate) (i.flags_of o).weak ((number, t) ∷ others) ++ all_ended (i.flags_of o).counter)
+  pub is : y ≡ at.Trying (i.watching_of o) (raise_each (λ z. z.immediate) (i.flags_of o).weak ((number, t) ∷ others) ++ monitor_last k core i o)
 
 module _ (k core : Table) (i : Images) (o : ℕ) where
   from_waiting : (some : List (ℕ × Transition)) (joins_behind : List Transition) → AreAmong (weak_aborts (own k o)) some →
       Each (λ z. is_join z.kind ≡ true) joins_behind → (t : Transition) (tests : List Transition) →
       is_join t.kind ≡ false → map (λ (x : ℕ × Transition). x.1) some ++ joins_behind ≡ t ∷ tests →
-      MonitorWaits k core i o t tests (at.Trying (i.watching_of o) (raise_each (λ z. z.immediate) (i.flags_of o).weak some ++ all_ended (i.flags_of o).counter))
+      MonitorWaits k core i o t tests (at.Trying (i.watching_of o) (raise_each (λ z. z.immediate) (i.flags_of o).weak some ++ monitor_last k core i o))
   from_waiting [] [] among ends t tests weak e = absurd cc
   from_waiting [] (j ∷ joins_behind) among ends t tests weak e =
       let same : j ≡ t = cc in
@@ -121,7 +122,7 @@ module _ (k core : Table) (i : Images) (o : ℕ) where
         among = among.1;
         only_joins = ends;
         tests_are = rest;
-        is = ap (λ z. at.Trying (i.watching_of o) (raise_each (λ w. w.immediate) (i.flags_of o).weak ((n, z) ∷ some) ++ all_ended (i.flags_of o).counter)) same;
+        is = ap (λ z. at.Trying (i.watching_of o) (raise_each (λ w. w.immediate) (i.flags_of o).weak ((n, z) ∷ some) ++ monitor_last k core i o)) same;
       }
 
   pub waits_back : (x y : Standing) → Watches k core i o x y → (t : Transition) (tests : List Transition) → is_join t.kind ≡ false → x ≡ at.Within
@@ -197,13 +198,13 @@ module _ (k core : Table) (i : Images) (rows : CoreRows k core i) (tree : IsNest
 
   core_stands : standing_of d (i.watcher_of o) ≡
       at.Trying (i.watching_of o) (raises (λ z. z.immediate) flag.0 (monitor.number, t) ∷
-      (map (raises (λ z. z.immediate) flag.0) monitor.others ++ all_ended (i.flags_of o).counter))
-  core_stands = monitor.is ∙ ap (λ f. at.Trying (i.watching_of o) (raise_each (λ z. z.immediate) f ((monitor.number, t) ∷ monitor.others) ++ all_ended
-      (i.flags_of o).counter)) flag.1
+      (map (raises (λ z. z.immediate) flag.0) monitor.others ++ monitor_last k core i o))
+  core_stands = monitor.is ∙ ap (λ f. at.Trying (i.watching_of o)
+      (raise_each (λ z. z.immediate) f ((monitor.number, t) ∷ monitor.others) ++ monitor_last k core i o)) flag.1
 
-  next_stands : at.Trying (i.watching_of o) (map (raises (λ z. z.immediate) flag.0) monitor.others ++ all_ended (i.flags_of o).counter)
-      ≡ at.Trying (i.watching_of o) (raise_each (λ z. z.immediate) (i.flags_of o).weak monitor.others ++ all_ended (i.flags_of o).counter)
-  next_stands = ap (λ f. at.Trying (i.watching_of o) (raise_each (λ z. z.immediate) f monitor.others ++ all_ended (i.flags_of o).counter)) (sym flag.1)
+  next_stands : at.Trying (i.watching_of o) (map (raises (λ z. z.immediate) flag.0) monitor.others ++ monitor_last k core i o)
+      ≡ at.Trying (i.watching_of o) (raise_each (λ z. z.immediate) (i.flags_of o).weak monitor.others ++ monitor_last k core i o)
+  next_stands = ap (λ f. at.Trying (i.watching_of o) (raise_each (λ z. z.immediate) f monitor.others ++ monitor_last k core i o)) (sym flag.1)
 
   abbrev pub after_it : Configuration
   after_it = record { variables = c.variables; regions = slice_set c.regions r (at.Within o tests) }
@@ -236,12 +237,12 @@ module _ (k core : Table) (i : Images) (rows : CoreRows k core i) (tree : IsNest
   pub not_taken : verdict c.variables t.trigger ≡ Some false → has_work k c (standing_of c r) ≡ true → is_guarded k c (around k r) ≡ false →
       inside_is_done k c (standing_of c r) ≡ true →
       WatchedStep k core i rows tree counts written_at c d r o 2 (at.Within o tests)
-      (at.Trying (i.watching_of o) (raise_each (λ z. z.immediate) (i.flags_of o).weak monitor.others ++ all_ended (i.flags_of o).counter))
+      (at.Trying (i.watching_of o) (raise_each (λ z. z.immediate) (i.flags_of o).weak monitor.others ++ monitor_last k core i o))
       (record { variables = c.variables; regions = slice_set c.regions r (at.Within o tests) })
       (record {
         variables = d.variables;
         regions = slice_set d.regions (i.watcher_of o)
-            (at.Trying (i.watching_of o) (raise_each (λ z. z.immediate) (i.flags_of o).weak monitor.others ++ all_ended (i.flags_of o).counter));
+            (at.Trying (i.watching_of o) (raise_each (λ z. z.immediate) (i.flags_of o).weak monitor.others ++ monitor_last k core i o));
       })
       (access_of_trigger t.trigger)
   not_taken false_there works free done =
@@ -263,7 +264,7 @@ module _ (k core : Table) (i : Images) (rows : CoreRows k core i) (tree : IsNest
                   (within o region.join tests region.super region.held region.stays_not region.not_behind region.leads);
               watches =
                   subst (λ ts. Watches k core i o (at.Within o ts) (at.Trying (i.watching_of o)
-                  (raise_each (λ z. z.immediate) (i.flags_of o).weak monitor.others ++ all_ended (i.flags_of o).counter)))
+                  (raise_each (λ z. z.immediate) (i.flags_of o).weak monitor.others ++ monitor_last k core i o)))
                   monitor.tests_are (waits monitor.others monitor.joins_behind monitor.among monitor.only_joins);
               watches_others = λ v v_there has_some held differ.
                   watch_other k core i v (standing_of c r) (standing_of d (i.watcher_of v)) (at.Within o tests)
@@ -297,7 +298,7 @@ module _ (k core : Table) (i : Images) (rows : CoreRows k core i) (tree : IsNest
         free = free;
         steps =
             fails core d (i.watcher_of o) (i.watching_of o) (raises (λ z. z.immediate) flag.0 (monitor.number, t))
-            (map (raises (λ z. z.immediate) flag.0) monitor.others ++ all_ended (i.flags_of o).counter)
+            (map (raises (λ z. z.immediate) flag.0) monitor.others ++ monitor_last k core i o)
             (never_guarded k core i rows c d related (around core (i.watcher_of o))) core_stands
             (subst (λ vs. verdict vs t.trigger ≡ Some false) (sym related.variables) (verdict_over_more related.more c.variables t.trigger false false_there))
             ∙ ap (λ z. Some (record { variables = d.variables; regions = slice_set d.regions (i.watcher_of o) z })) next_stands;
@@ -319,11 +320,11 @@ module _ (k core : Table) (i : Images) (rows : CoreRows k core i) (tree : IsNest
       subst (λ c'. Segment (machine core) (pair k core i rows tree counts written_at) Told d (Stage k i.thread_of c d) (Stage k i.thread_of c')
       (act_of (machine k) c r ∷ []) (Related k core i c')) is
       (watched_segment k core i rows tree counts written_at c d related r o 2 (at.Within o tests)
-      (at.Trying (i.watching_of o) (raise_each (λ z. z.immediate) (i.flags_of o).weak monitor.others ++ all_ended (i.flags_of o).counter))
+      (at.Trying (i.watching_of o) (raise_each (λ z. z.immediate) (i.flags_of o).weak monitor.others ++ monitor_last k core i o))
       (record { variables = c.variables; regions = slice_set c.regions r (at.Within o tests) })
       (record {
         variables = d.variables;
         regions = slice_set d.regions (i.watcher_of o)
-            (at.Trying (i.watching_of o) (raise_each (λ z. z.immediate) (i.flags_of o).weak monitor.others ++ all_ended (i.flags_of o).counter));
+            (at.Trying (i.watching_of o) (raise_each (λ z. z.immediate) (i.flags_of o).weak monitor.others ++ monitor_last k core i o));
       })
       (access_of_trigger t.trigger) (not_taken false_there parts.works parts.free parts.done) Told told)

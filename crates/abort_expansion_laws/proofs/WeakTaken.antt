@@ -19,13 +19,14 @@ use Rattle.chart_machine.specs.Turns.{standing_of, has_work, is_guarded, inside,
 use Rattle.chart_machine.specs.Steps.{to, state_in, deed_of, verdict, access_of, access_of_trigger, step}
 use Rattle.chart_machine.specs.Machine.{machine}
 use Rattle.abort_expansion.specs.Transitions.{answers}
-use Rattle.abort_expansion.specs.Superstates.{all_ended, closing}
+use Rattle.abort_expansion.specs.Superstates.{closing}
 use Rattle.abort_expansion_laws.specs.Stages.{Entry, Watched, Silent, Correspondence}
 use Rattle.abort_expansion_laws.proofs.Supplying.{silent_test}
 use Rattle.abort_expansion_laws.proofs.Simulation.{Segment}
 use Rattle.chart_machine_laws.proofs.LyingIn.{IsNested, around, holder, head_or_tail}
 use Rattle.abort_expansion_laws.proofs.TablesCorrespond.{IsThere}
 use Rattle.abort_expansion_laws.specs.CoreRows.{own, IsState, Images, CoreRows, flags_around, behind_transitions, pair}
+use Rattle.abort_expansion_laws.specs.Related.{monitor_last}
 use Rattle.abort_expansion_laws.specs.Related.{raises, raise_each, IsInside, open_inside, Stores, Related}
 use Rattle.abort_expansion_laws.specs.StageReached.{some_work}
 use Rattle.abort_expansion_laws.proofs.StageReached.{Stage, stage_of, inside_in}
@@ -36,7 +37,7 @@ use Rattle.abort_expansion_laws.proofs.OpensFork.{OpeningRows}
 use Rattle.abort_expansion_laws.proofs.TickStarts.{StartRows}
 use Rattle.abort_expansion_laws.proofs.LaterTicks.{weak_no_join}
 use Rattle.abort_expansion_laws.proofs.WeakNotTaken.{IsWithin, within_back, MonitorWaits, waits_back}
-use Rattle.abort_expansion_laws.proofs.InsideLeaves.{FlatRows}
+use Rattle.abort_expansion_laws.proofs.InsideLeaves.{LayeredRows}
 use Rattle.abort_expansion_laws.proofs.OutsideAborts.{no_strong_checks}
 use Rattle.abort_expansion_laws.proofs.WeakLeaves.{idle_may_leave}
 use Rattle.abort_expansion_laws.proofs.Answering.{AllFail, none_answered, answers_first}
@@ -59,7 +60,7 @@ none_any p (x ∷ xs) e =
     let both = both_true (not (p x)) (list_all (λ q. not (p q)) xs) e in
     let own_none : p x ≡ false = not_so (p x) both.0 in rw (own_none, none_any p xs both.1) refl
 
-module _ (k core : Table) (i : Images) (rows : CoreRows k core i) (more : FlatRows k core i) (tree : IsNested k) (core_tree : IsNested core)
+module _ (k core : Table) (i : Images) (rows : CoreRows k core i) (more : LayeredRows k core i) (tree : IsNested k) (core_tree : IsNested core)
     (deep : (q s : ℕ) → Contains (around core q) s → holder core s < q)
     (core_children : (s r : ℕ) → Contains (state_at core s).regions r → around core r ≡ s ∷ around core (holder core s))
     (children : (s r : ℕ) → Contains (state_at k s).regions r → around k r ≡ s ∷ around k (holder k s))
@@ -88,12 +89,12 @@ module _ (k core : Table) (i : Images) (rows : CoreRows k core i) (more : FlatRo
   flag = rows.weak_there o monitor.number t o_there monitor.first
 
   abbrev behind_it : List Transition
-  behind_it = map (raises (λ z. z.immediate) flag.0) monitor.others ++ all_ended (i.flags_of o).counter
+  behind_it = map (raises (λ z. z.immediate) flag.0) monitor.others ++ monitor_last k core i o
 
   core_stands : standing_of d (i.watcher_of o) ≡ at.Trying (i.watching_of o) (raises (λ z. z.immediate) flag.0 (monitor.number, t) ∷
-      (map (raises (λ z. z.immediate) flag.0) monitor.others ++ all_ended (i.flags_of o).counter))
-  core_stands = monitor.is ∙ ap (λ f. at.Trying (i.watching_of o) (raise_each (λ z. z.immediate) f ((monitor.number, t) ∷ monitor.others) ++ all_ended
-      (i.flags_of o).counter)) flag.1
+      (map (raises (λ z. z.immediate) flag.0) monitor.others ++ monitor_last k core i o))
+  core_stands = monitor.is ∙ ap (λ f. at.Trying (i.watching_of o)
+      (raise_each (λ z. z.immediate) f ((monitor.number, t) ∷ monitor.others) ++ monitor_last k core i o)) flag.1
 
   -- nobody inside has work left
   all_idle : list_all (λ q. not (has_work k c (standing_of c q))) (inside k o) ≡ true
@@ -180,7 +181,7 @@ module _ (k core : Table) (i : Images) (rows : CoreRows k core i) (more : FlatRo
         forked = region.is;
         number = monitor.number;
         immediate = t.immediate;
-        other_tests = map (raises (λ z. z.immediate) flag.0) monitor.others ++ all_ended (i.flags_of o).counter;
+        other_tests = map (raises (λ z. z.immediate) flag.0) monitor.others ++ monitor_last k core i o;
         watching = core_stands;
         watching_alone = alone (i.watching_of o) (ap (λ z. z.regions) (rows.watcher o o_there has).row);
         added = rows.weak_added o flag.0 flag.1;
@@ -191,7 +192,8 @@ module _ (k core : Table) (i : Images) (rows : CoreRows k core i) (more : FlatRo
         written = weak_at o flag.0 flag.1;
         flags_differ = others_differ;
         leaves = λ first raised values same over.
-            idle_may_leave k core i rows more tree core_children children counts written_at counters opening start_rows written_low c d related r o flag.0
+            idle_may_leave k core i rows more tree deep alone core_children children counts written_at counters opening start_rows written_low c d related r o
+            flag.0
             flag.1 region.held o_there (t ∷ others) stands idle first raised values same over;
         earlier = answers (i.places_of r) (i.flags_of o).strong 1 (strong_aborts (own k o));
         aborts = weak_aborts (own k o);

@@ -1,4 +1,5 @@
 pub mod Flat
+pub mod Layered
 pub mod Ticks
 pub mod Preemption
 pub mod Stages

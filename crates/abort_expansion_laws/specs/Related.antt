@@ -1,4 +1,4 @@
--- A configuration of a flat chart within a tick, and that of its core chart which stands for it. The core's is given by the
+-- A configuration of a layered chart within a tick, and that of its core chart which stands for it. The core's is given by the
 -- chart's: its weak checks and the count test of a monitor are always held back to the end of the tick, or to an abort.
 use Rattle.std.specs.Prelude.{◌≡◌, ◌≢◌, ℕ, suc, ◌+◌, ◌<◌, Bool, true, false, not, ◌&&◌, pos, Option, Some, None, List, [], ◌∷◌, ◌++◌, map, length, slice_get}
 use Rattle.std.specs.Prelude.{Contains, if◌then◌else◌}
@@ -63,6 +63,10 @@ module _ (k core : Table) (i : Images) where
   abbrev pub held_back : ℕ → List Transition
   held_back r = weak_checks true (i.places_of r).left (flags_here r)
 
+  -- what a monitor has behind the tests of aborts: the count test, and weak checks, which are held back as well
+  abbrev pub monitor_last : ℕ → List Transition
+  monitor_last o = all_ended (i.flags_of o).counter ++ weak_checks true 1 (flags_here (holder k o))
+
   abbrev pub tests_of : Configuration → ℕ → List Transition → List Transition
   tests_of c r tests = front false c r ++ map (led (i.places_of r)) tests ++ held_back r
 
@@ -104,10 +108,10 @@ module _ (k core : Table) (i : Images) where
     guards : (some : List (ℕ × Transition)) → AreAmong (strong_aborts (own k o)) some →
         Watches o (at.Guarding o (map (λ x. x.1) some))
         (at.Trying (i.watching_of o) (raise_each (λ t. false) (i.flags_of o).strong some
-        ++ (raising (λ t. t.immediate) 1 (i.flags_of o).weak 1 (weak_aborts (own k o)) ++ all_ended (i.flags_of o).counter)))
+        ++ (raising (λ t. t.immediate) 1 (i.flags_of o).weak 1 (weak_aborts (own k o)) ++ monitor_last o)))
     waits : (some : List (ℕ × Transition)) (joins : List Transition) → AreAmong (weak_aborts (own k o)) some → Each (λ t. is_join t.kind ≡ true) joins →
         Watches o (at.Within o (map (λ x. x.1) some ++ joins))
-        (at.Trying (i.watching_of o) (raise_each (λ t. t.immediate) (i.flags_of o).weak some ++ all_ended (i.flags_of o).counter))
+        (at.Trying (i.watching_of o) (raise_each (λ t. t.immediate) (i.flags_of o).weak some ++ monitor_last o))
     elsewhere : (x : Standing) → ((tests : List Transition) → x ≢ at.Guarding o tests) → ((tests : List Transition) → x ≢ at.Within o tests) →
         Watches o x at.Outside
 

@@ -1,10 +1,11 @@
-//! The expansion of aborts keeps flat charts: the law, over the definitions alone.
+//! The expansion of aborts keeps layered charts: the law, over the definitions alone.
 //!
 //! `specs/Preemption` says the law. What it is proved of, from records of what the core's table has for each region and
 //! state (`specs/CoreRows`) on, is listed in `proofs/Proved`.
 #![tactic(auto)]
 
 ghost use Rattle.abort_expansion_laws.specs.Laws.{ExpandedChartsHaveRows, StagesKeepOrder};
+ghost use Rattle.abort_expansion_laws.specs.Layered.{FlatChartsAreLayered};
 ghost use Rattle.abort_expansion_laws.specs.Preemption.{PreemptionIsKept};
 ghost use Rattle.abort_expansion_laws.specs.StateNames.{StatesAreMapped};
 
@@ -28,10 +29,16 @@ pub fn expanded_charts_have_rows()
     ensures { ExpandedChartsHaveRows }
 {}
 
-/// A flat chart that has a valid image, and whose core chart keeps the rules of core charts, is kept by its core chart:
-/// each list of ends of the chart, one for each of a list of inputs that are accepted, has one of the core chart for
-/// the same inputs, in each of which the declared variables have the same values and the same states are active. This
-/// function does nothing; its contract is the law.
+/// A layered chart that has a valid image, and whose core chart keeps the rules of core charts, is kept by its core
+/// chart: each list of ends of the chart, one for each of a list of inputs that are accepted, has one of the core chart
+/// for the same inputs, in each of which the declared variables have the same values and the same states are active.
+/// This function does nothing; its contract is the law.
 pub fn preemption_is_kept()
     ensures { PreemptionIsKept }
+{}
+
+/// Flat charts are layered: where no superstate with aborts lies inside another one with such, none does so with the
+/// wrong ones. This function does nothing; its contract is the law.
+pub fn flat_charts_are_layered()
+    ensures { FlatChartsAreLayered }
 {}

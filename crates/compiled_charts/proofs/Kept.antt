@@ -38,15 +38,15 @@ use Rattle.compiled_charts_laws.specs.Reactions.{AreSeenAlike as AreSeenAlikeBy}
 use Rattle.compiled_charts_laws.proofs.Plain.{expands_to_itself, stands_for_itself}
 use Rattle.compiled_charts_laws.proofs.Ticks.{one_reaction}
 use Rattle.compiled_charts_laws.proofs.Told.{as_many_states, nodes_stand}
-use Rattle.abort_expansion_laws.specs.Flat.{IsFlat}
+use Rattle.abort_expansion_laws.specs.Layered.{IsLayered}
 use Rattle.abort_expansion_laws.specs.Preemption.{HasImage}
 use Rattle.abort_expansion_laws.proofs.StepsByCase.{preemption_holds}
-use Rattle.reaction_laws.proofs.FlatRanks.{reacts}
+use Rattle.reaction_laws.proofs.LayeredRanks.{reacts}
 use Rattle.compiled_charts.specs.Ticks.{AreTicks}
 use Rattle.compiled_charts.specs.Compiled.{CompiledChart}
 use Rattle.compiled_charts.specs.Kept.{AreSeenAlike, IsReactionSeen, ShowsItsReaction}
 use Rattle.compiled_charts.proofs.ActiveStates.{same_numbers}
-use Rattle.compiled_charts.proofs.FlatCharts.{flat_shown, flat_reacts}
+use Rattle.compiled_charts.proofs.LayeredCharts.{layered_shown, layered_reacts}
 
 -- ---- ticks
 
@@ -166,7 +166,7 @@ module _ (c : Chart) (image : Image) (is : IsImageOfChart c image) (kept : Keeps
         subst (λ x. IsReactionSeen x (stands_for c) (state_count c) ticks controls) same
         (shows core (stands_for c) (state_count c) (sym many) image long (one (stands_for c) stand_too) ticks controls are)
 
-  -- where the chart is flat, it is kept by its core chart
+  -- where the chart is layered, it is kept by its core chart
   has_image : HasImage c
   has_image = record {
     scl = is.scl;
@@ -178,15 +178,15 @@ module _ (c : Chart) (image : Image) (is : IsImageOfChart c image) (kept : Keeps
     valid = is.image_of.valid;
   }
 
-  flat_seen : IsChart features.Extended c → IsFlat c → IsReactionSeen c (stands_for c) (state_count c) ticks controls
+  layered_seen : IsChart features.Extended c → IsLayered c → IsReactionSeen c (stands_for c) (state_count c) ticks controls
   unfolding has_image
-  flat_seen rules flat =
+  layered_seen rules layered =
       let r : AreReaction image ticks (initial image.program) controls = are_reaction image ticks (initial image.program) controls are in
       record {
         each =
-            flat_shown c rules image.program (preemption_holds c rules is.lowers.core flat has_image) ticks controls r.accepted
+            layered_shown c rules image.program (preemption_holds c rules is.lowers.core layered has_image) ticks controls r.accepted
             (λ ends reacts. (one (state_of_node core) own).each ticks ends controls r.accepted reacts r.reacts);
-        some = flat_reacts c rules image.program (reacts c rules flat has_image low) ticks r.accepted;
+        some = layered_reacts c rules image.program (reacts c rules layered has_image low) ticks r.accepted;
       }
 
 pub shows_its_reaction : (x : CompiledChart) (ticks : List Inputs) (controls : List Control) → AreTicks x.image ticks (initial x.image.program) controls →
@@ -197,10 +197,10 @@ shows_its_reaction x ticks controls are c is = ∥∥₁_map is.image.lowers.rul
       subst (λ nodes. IsReactionSeen c nodes x.states ticks controls) (sym is.nodes)
       (subst (λ states. IsReactionSeen c (stands_for c) states ticks controls) (sym is.states)
       (chart_shown c x.image is.image kept ticks controls are (expands_to_itself c is.rules none) (stands_for_itself c is.rules none)));
-  flat = λ flat.
+  layered = λ layered.
       subst (λ nodes. IsReactionSeen c nodes x.states ticks controls) (sym is.nodes)
       (subst (λ states. IsReactionSeen c (stands_for c) states ticks controls) (sym is.states)
-      (flat_seen c x.image is.image kept ticks controls are is.rules flat));
+      (layered_seen c x.image is.image kept ticks controls are is.rules layered));
 })
 
 -- ticks that were run show it

@@ -2,5 +2,5 @@ mod Marks
 mod Row
 mod StateTotals
 mod ActiveStates
-mod FlatCharts
+mod LayeredCharts
 mod Kept

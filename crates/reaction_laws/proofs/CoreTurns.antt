@@ -1,4 +1,4 @@
--- Each step of a flat chart that reads or writes is one that a thread of its core chart may take now: that of its region, or a monitor.
+-- Each step of a layered chart that reads or writes is one that a thread of its core chart may take now: that of its region, or a monitor.
 use Rattle.std.proofs.Common.{◌≡◌, ℕ, Bool, true, false, not, if◌then◌else◌, ◌&&◌, None, List, [], ◌∷◌, ◌++◌}
 use Rattle.std.proofs.Common.{map, Contains, refl, sym, ap, subst}
 use Rattle.std.proofs.lemmas.Bool.{cases_Bool}
@@ -19,10 +19,11 @@ use Rattle.chart_machine.specs.Table.{table, state_at}
 use Rattle.chart_machine.specs.Turns.{standing_of, has_work, is_guarded, inside_is_done, is_enabled}
 use Rattle.chart_machine.specs.Steps.{access_of, access_of_trigger}
 use Rattle.abort_expansion.specs.Expansion.{expanded}
-use Rattle.abort_expansion.specs.Superstates.{all_ended, resets}
+use Rattle.abort_expansion.specs.Superstates.{resets}
 use Rattle.abort_expansion.specs.Transitions.{counting, go, led, led_by, place_of, raising}
 use Rattle.chart_machine_laws.specs.Tree.{IsThere, around, holder}
 use Rattle.abort_expansion_laws.specs.CoreRows.{own, IsState, Images, CoreRows}
+use Rattle.abort_expansion_laws.specs.Related.{monitor_last}
 use Rattle.abort_expansion_laws.specs.Related.{Related, held_back, raises, raise_each}
 use Rattle.abort_expansion_laws.proofs.CasesFollowed.{other_true, has_from}
 use Rattle.abort_expansion_laws.proofs.EffectFollowed.{IsActing, acting_back}
@@ -131,11 +132,11 @@ module _ (c : Chart) (rules : IsChart features.Extended c) (core_rules : IsChart
           let flag = rows.strong_there o m.number t here m.first in
           by_monitor o here b.held b.has (ap (λ x. taker x q) is)
           (tries (i.watcher_of o) (i.watching_of o) (raises (λ z. false) flag.0 (m.number, t)) (map (raises (λ z. false) flag.0) m.others
-          ++ (raising (λ z. z.immediate) 1 (i.flags_of o).weak 1 (weak_aborts (own k o)) ++ all_ended (i.flags_of o).counter))
+          ++ (raising (λ z. z.immediate) 1 (i.flags_of o).weak 1 (weak_aborts (own k o)) ++ monitor_last k core i o))
           (access_of (standing_of now q)) (sym (ap access_of is))
           (m.is
           ∙ ap (λ f. at.Trying (i.watching_of o) (raise_each (λ z. false) f ((m.number, t) ∷ m.others)
-          ++ (raising (λ z. z.immediate) 1 (i.flags_of o).weak 1 (weak_aborts (own k o)) ++ all_ended (i.flags_of o).counter))) flag.1))
+          ++ (raising (λ z. z.immediate) 1 (i.flags_of o).weak 1 (weak_aborts (own k o)) ++ monitor_last k core i o))) flag.1))
 
       by_weak : (o : ℕ) (t : Transition) (tests : List Transition) → standing_of now q ≡ at.Within o (t ∷ tests) → Contains (own k o) t →
           is_join t.kind ≡ false → is_weak t.kind ≡ true → TakenBy now d q
@@ -152,8 +153,8 @@ module _ (c : Chart) (rules : IsChart features.Extended c) (core_rules : IsChart
           by_monitor o here b.held has
           (ap (λ x. taker x q) is ∙ ap (λ (z : Bool). if z then i.thread_of q else i.watcher_of o) no_join)
           (tries (i.watcher_of o) (i.watching_of o) (raises (λ z. z.immediate) flag.0 (m.number, t))
-          (map (raises (λ z. z.immediate) flag.0) m.others ++ all_ended (i.flags_of o).counter) (access_of (standing_of now q)) (sym (ap access_of is))
-          (m.is ∙ ap (λ f. at.Trying (i.watching_of o) (raise_each (λ z. z.immediate) f ((m.number, t) ∷ m.others) ++ all_ended (i.flags_of o).counter))
+          (map (raises (λ z. z.immediate) flag.0) m.others ++ monitor_last k core i o) (access_of (standing_of now q)) (sym (ap access_of is))
+          (m.is ∙ ap (λ f. at.Trying (i.watching_of o) (raise_each (λ z. z.immediate) f ((m.number, t) ∷ m.others) ++ monitor_last k core i o))
           flag.1))
 
       by_within : (o : ℕ) (t : Transition) (tests : List Transition) → standing_of now q ≡ at.Within o (t ∷ tests) → IsClosing k o t → TakenBy now d q

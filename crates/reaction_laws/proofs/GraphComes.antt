@@ -1,4 +1,4 @@
--- Where a core chart goes along with its flat chart, its graph comes along, to where the threads are at their nodes and monitors quiet; and who
+-- Where a core chart goes along with its layered chart, its graph comes along, to where the threads are at their nodes and monitors quiet; and who
 -- leaves its superstate there leaves its join.
 use Rattle.std.proofs.Common.{◌≡◌, ℕ, true, Some, List, [], ◌∷◌, ◌++◌, Contains, refl, ap, subst, ◌∙◌}
 use Rattle.sc_values.specs.Runs.{replay}
@@ -35,7 +35,7 @@ use Rattle.abort_expansion_laws.proofs.QuietBegins.{LoweredTests}
 use Rattle.abort_expansion_laws.proofs.TickFollowed as ticks
 use Rattle.reaction_laws.specs.StepNodes.{Alike}
 use Rattle.reaction_laws.proofs.ChartOrder.{AllAt}
-use Rattle.reaction_laws.proofs.FlatRuns.{replay_behind}
+use Rattle.reaction_laws.proofs.LayeredRuns.{replay_behind}
 use Rattle.reaction_laws.proofs.GraphRuns.{GoesToNodes, goes_to_nodes, comes_own}
 use Rattle.reaction_laws.proofs.MonitorsLow.{lowered, MonitorsQuiet}
 use Rattle.reaction_laws.proofs.QuietRuns.{steps_keep, coming_keeps}

@@ -7,7 +7,7 @@ pub mod CappedRanks
 pub mod SilentTests
 pub mod CoreRuns
 pub mod RunsComplete
-pub mod FlatRuns
+pub mod LayeredRuns
 pub mod SeenTheSame
 pub mod RanksReact
 pub mod RaiseNodes
@@ -35,5 +35,5 @@ pub mod QuietRuns
 pub mod GraphComes
 pub mod NextCapped
 pub mod QuietStarts
-pub mod FlatRanks
+pub mod LayeredRanks
 pub mod Proved

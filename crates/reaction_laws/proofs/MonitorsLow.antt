@@ -29,7 +29,6 @@ use Rattle.scl.specs.declared.program.Scl.{Scl}
 use Rattle.scl.specs.Numbering.{numbered}
 use Rattle.scl_graph.specs.Graph.{program_of}
 use Rattle.abort_expansion.specs.Expansion.{expanded}
-use Rattle.abort_expansion.specs.Superstates.{all_ended}
 use Rattle.abort_expansion.specs.Transitions.{put, raising}
 use Rattle.chart_lowering_laws.specs.Laws.{IsLowering}
 use Rattle.chart_lowering_laws.specs.Stands.{Lowered}
@@ -38,6 +37,7 @@ use Rattle.chart_machine_laws.specs.Tree.{IsThere}
 use Rattle.compiled_charts_laws.proofs.LateTests.{is_late}
 use Rattle.compiled_charts_laws.proofs.Stands.{stand_alike}
 use Rattle.abort_expansion_laws.specs.CoreRows.{own, IsState, Images, CoreRows}
+use Rattle.abort_expansion_laws.specs.Related.{monitor_last}
 use Rattle.abort_expansion_laws.specs.Related.{raises, raise_each}
 use Rattle.abort_expansion_laws.proofs.FlagAccess.{put_access}
 use Rattle.abort_expansion_laws.proofs.KnownVariables.{present_there}
@@ -121,13 +121,13 @@ module _ (c : Chart) (rules : IsChart features.Extended c) (core_rules : IsChart
         abbrev other_tests : List Transition
         other_tests =
             map (raises (λ z. false) flag.0) monitor.others
-            ++ (raising (λ z. z.immediate) 1 (i.flags_of o).weak 1 (weak_aborts (own k o)) ++ all_ended (i.flags_of o).counter)
+            ++ (raising (λ z. z.immediate) 1 (i.flags_of o).weak 1 (weak_aborts (own k o)) ++ monitor_last k core i o)
 
         core_stands : standing_of d (i.watcher_of o) ≡ at.Trying (i.watching_of o) (first_test ∷ other_tests)
         core_stands =
             monitor.is
             ∙ ap (λ f. at.Trying (i.watching_of o) (raise_each (λ z. false) f ((monitor.number, test) ∷ monitor.others)
-            ++ (raising (λ z. z.immediate) 1 (i.flags_of o).weak 1 (weak_aborts (own k o)) ++ all_ended (i.flags_of o).counter))) flag.1
+            ++ (raising (λ z. z.immediate) 1 (i.flags_of o).weak 1 (weak_aborts (own k o)) ++ monitor_last k core i o))) flag.1
 
         raise : LeadsToEffect G m (i.watcher_of o) (put flag.0 (suc monitor.number))
         raise =

@@ -1,4 +1,4 @@
--- What is known of a flat chart, its core chart and its graph, as a tick starts, and again behind each step, for a number its ranks were within.
+-- What is known of a layered chart, its core chart and its graph, as a tick starts, and again behind each step, for a number its ranks were within.
 use Rattle.std.proofs.Common.{◌≡◌, ℕ, ◌≤◌, true, Some, List, [], ◌∷◌, Contains, refl, sym, subst, ◌∙◌, arith}
 use Rattle.std.specs.List.{list_any}
 use Rattle.sc_values.specs.Runs.{replay, act_of}
@@ -29,7 +29,7 @@ use Rattle.chart_machine_laws.specs.Tree.{IsThere}
 use Rattle.compiled_charts_laws.proofs.AtJoins as at_joins
 use Rattle.compiled_charts_laws.proofs.LateTests.{is_late}
 use Rattle.abort_expansion_laws.specs.CoreRows.{own, Images, CoreRows}
-use Rattle.abort_expansion_laws.specs.Flat.{IsFlat}
+use Rattle.abort_expansion_laws.specs.Layered.{IsLayered}
 use Rattle.abort_expansion_laws.specs.Related.{Related}
 use Rattle.abort_expansion_laws.specs.Segments.{Segment, threads}
 use Rattle.abort_expansion_laws.specs.StageReached.{some_work, stage_of, Stage}
@@ -55,7 +55,7 @@ use Rattle.reaction_laws.proofs.OthersLow.{RanksWithin}
 use Rattle.reaction_laws.proofs.OwnSteps.{touched, touched_climbs, has_own_step}
 use Rattle.reaction_laws.proofs.StepLow.{LinesLow, step_low}
 
-module _ (c : Chart) (rules : IsChart features.Extended c) (core_rules : IsChart features.Core (expanded c)) (flat : IsFlat c) (p : Scl) (q : Tables)
+module _ (c : Chart) (rules : IsChart features.Extended c) (core_rules : IsChart features.Core (expanded c)) (layered : IsLayered c) (p : Scl) (q : Tables)
     (low : IsLowering (expanded c) p) (valid : IsValid (program_of (numbered p)) q)
     (lowered_tests : LoweredTests (table (expanded c)) (program_of (numbered p)) (Alike (expanded c) p) (lowered c rules core_rules p q low valid))
     (earlier : (d next : Configuration) (t g : ℕ) → step (table (expanded c)) t d ≡ Some next → is_late (standing_of next g) ≡ true →
@@ -90,7 +90,7 @@ module _ (c : Chart) (rules : IsChart features.Extended c) (core_rules : IsChart
       (ranks : RanksWithin c rules core_rules p q low valid now m most least) (r : ℕ) (steps : step k r now ≡ Some next) where
     pub followed : Segment (machine core) corr Told d (Stage k i.thread_of now d) (Stage k i.thread_of next) (act_of (machine k) now r ∷ [])
         (Related k core i next)
-    followed = steps_followed c rules core_rules flat now d known.all.related known.all.owns r next steps
+    followed = steps_followed c rules core_rules layered now d known.all.related known.all.owns r next steps
 
     pub owns_next : OwnTests k next
     owns_next = (own_tests_kept c rules core_rules).steps now next r known.all.owns steps
@@ -176,7 +176,7 @@ module _ (c : Chart) (rules : IsChart features.Extended c) (core_rules : IsChart
   module _ (now d : Configuration) (m : Control) (started : Started k core i now d) (owns : OwnTests k now) (alike : Alike (expanded c) p d m)
       (quiet : Quiet d m) where
     pub first : Segment (machine core) corr Told d NoneReached (Stage k i.thread_of now) [] (Related k core i now)
-    first = ticks_begin c rules core_rules flat Told (told_silent k core i) now d started
+    first = ticks_begin c rules core_rules layered Told (told_silent k core i) now d started
 
     abbrev pub m_first : Control
     m_first =

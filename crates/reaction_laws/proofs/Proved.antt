@@ -1,7 +1,7 @@
 -- All that was proved, passed on from one place, so that the check reads each file.
 use Rattle.std.proofs.Common.{◌≡◌, ℕ, refl}
 pub use Rattle.reaction_laws.proofs.ByRank.{ranks_lead_to_ends}
-pub use Rattle.reaction_laws.proofs.FlatRuns.{flat_ticks_end}
+pub use Rattle.reaction_laws.proofs.LayeredRuns.{layered_ticks_end}
 pub use Rattle.reaction_laws.proofs.SeenTheSame.{reactions_alike}
 pub use Rattle.reaction_laws.proofs.RanksReact.{has_reaction}
 pub use Rattle.reaction_laws.proofs.CappedRanks.{capped_are_ranks}
@@ -10,7 +10,7 @@ pub use Rattle.reaction_laws.proofs.StillAtJoins.{has_stepped}
 pub use Rattle.reaction_laws.proofs.MonitorsLow.{guards_low}
 pub use Rattle.reaction_laws.proofs.QuietRuns.{steps_keep, coming_keeps}
 pub use Rattle.reaction_laws.proofs.QuietStarts.{starts_quiet}
-pub use Rattle.reaction_laws.proofs.FlatRanks.{has_capped_ranks, reacts, does_no_more}
+pub use Rattle.reaction_laws.proofs.LayeredRanks.{has_capped_ranks, reacts, does_no_more}
 pub use Rattle.reaction_laws.proofs.NextCapped.{first_capped, next_capped}
 pub use Rattle.reaction_laws.proofs.LinesAhead.{low_once_stepped, once_stepped_above, stepped_ahead, once_stepped_on, once_stepped_both}
 pub use Rattle.reaction_laws.proofs.LinesAhead.{ahead_on, ahead_within, ahead_less, ahead_both, enabled_ahead}

@@ -1,4 +1,4 @@
--- Two lists of ends of a flat chart are seen alike in one list of ends of its graph, so they are seen the same. So it is of one of the chart and one
+-- Two lists of ends of a layered chart are seen alike in one list of ends of its graph, so they are seen the same. So it is of one of the chart and one
 -- of its core chart.
 use Rattle.std.proofs.Common.{◌≡◌, ℕ, ◌<◌, Bool, true, false, Option, Some, None, List, [], ◌∷◌, length, take, slice_get, unwrap_or, refl, sym, ap, subst, ◌∙◌}
 use Rattle.std.proofs.lemmas.Option.{none-some, slice_get_within}
@@ -31,12 +31,12 @@ use Rattle.chart_lowering_laws.specs.Laws.{IsLowering}
 use Rattle.compiled_charts_laws.specs.Reactions.{AreSeenAlike, AllAccepted, HasOneReaction}
 use Rattle.compiled_charts_laws.proofs.Ticks.{one_reaction}
 use Rattle.compiled_charts_laws.proofs.Told.{nodes_stand}
-use Rattle.abort_expansion_laws.specs.Flat.{IsFlat}
+use Rattle.abort_expansion_laws.specs.Layered.{IsLayered}
 use Rattle.abort_expansion_laws.specs.Preemption.{chart_machine, IsActiveInCore, SeenAlike, HasImage}
 use Rattle.abort_expansion_laws.specs.Ticks.{Reactive, Reaction, AllOf, EachAlike, HasAlike}
 use Rattle.abort_expansion_laws.proofs.StatesMapped.{states_mapped_all}
 use Rattle.abort_expansion_laws.proofs.StepsByCase.{preemption_holds}
-use Rattle.reaction_laws.specs.Alike.{AreSeenTheSame, FlatReactionsAreAlike}
+use Rattle.reaction_laws.specs.Alike.{AreSeenTheSame, LayeredReactionsAreAlike}
 
 same_truth : (a b : Bool) → (a ≡ true → b ≡ true) → (b ≡ true → a ≡ true) → a ≡ b
 same_truth true b there back = sym (there refl)
@@ -151,7 +151,7 @@ module _ (c : Chart) (rules : IsChart features.Extended c) where
   all_kept [] (e ∷ es) [] first shown = absurd shown
   all_kept (d ∷ ds) [] (m ∷ ms) first shown = absurd shown
 
-  module _ (flat : IsFlat c) (image : HasImage c) (low : IsLowering core image.scl) where
+  module _ (layered : IsLayered c) (image : HasImage c) (low : IsLowering core image.scl) where
     abbrev G : Program
     G = program_of (numbered image.scl)
 
@@ -168,7 +168,7 @@ module _ (c : Chart) (rules : IsChart features.Extended c) where
     pub ends_are_alike : (ticks : List Inputs) (ds es : List Configuration) → AllOf (AreAccepted image.program) ticks →
         Reaction (chart_machine c) ticks (initial k) ds → Reaction (chart_machine c) ticks (initial k) es → EachAlike (AreSeenTheSame k) ds es
     ends_are_alike ticks ds es accepted d_reacts e_reacts =
-        let keeps = preemption_holds c rules low.core flat image in
+        let keeps = preemption_holds c rules low.core layered image in
         let d_core : HasAlike (chart_machine core) Configuration (SeenAlike c) ticks (initial (table core)) ds = keeps ticks ds accepted d_reacts in
         let e_core : HasAlike (chart_machine core) Configuration (SeenAlike c) ticks (initial (table core)) es = keeps ticks es accepted e_reacts in
         let those : GraphEnds G image.tables valid ticks (graph_tick.initial G) =
@@ -186,7 +186,7 @@ module _ (c : Chart) (rules : IsChart features.Extended c) where
         EachAlike (λ e d. SeenAlike c d e) es ds
     core_ends_alike ticks ds es accepted d_reacts e_reacts =
         let d_core : HasAlike (chart_machine core) Configuration (SeenAlike c) ticks (initial (table core)) ds =
-        preemption_holds c rules low.core flat image ticks ds accepted d_reacts in
+        preemption_holds c rules low.core layered image ticks ds accepted d_reacts in
         let those : GraphEnds G image.tables valid ticks (graph_tick.initial G) =
         graph_reacts G image.tables valid ticks (graph_tick.initial G) (rests-initial G) (all_accepted ticks accepted) in
         all_kept ds es those.ends
@@ -195,6 +195,6 @@ module _ (c : Chart) (rules : IsChart features.Extended c) where
         (back (chart_machine core) ticks (initial (table core)) d_core.others d_core.reaction) those.reacts))
         (one.each ticks es those.ends (all_accepted ticks accepted) (back (chart_machine core) ticks (initial (table core)) es e_reacts) those.reacts)
 
-pub reactions_alike : FlatReactionsAreAlike
-reactions_alike c rules flat image low ticks ds es accepted d_reacts e_reacts =
-    ends_are_alike c rules flat image low ticks ds es accepted d_reacts e_reacts
+pub reactions_alike : LayeredReactionsAreAlike
+reactions_alike c rules layered image low ticks ds es accepted d_reacts e_reacts =
+    ends_are_alike c rules layered image low ticks ds es accepted d_reacts e_reacts

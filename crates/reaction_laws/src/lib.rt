@@ -1,31 +1,31 @@
-//! What a flat chart does in a tick: the laws of its reaction, of the steps of a core chart, and of priorities in a
+//! What a layered chart does in a tick: the laws of its reaction, of the steps of a core chart, and of priorities in a
 //! graph, over the definitions alone.
 #![tactic(auto)]
 
-ghost use Rattle.reaction_laws.specs.Alike.{FlatReactionsAreAlike};
-ghost use Rattle.reaction_laws.specs.Bounded.{FlatTicksEnd};
+ghost use Rattle.reaction_laws.specs.Alike.{LayeredReactionsAreAlike};
+ghost use Rattle.reaction_laws.specs.Bounded.{LayeredTicksEnd};
 ghost use Rattle.reaction_laws.specs.KeptBack.{CoreChartsDoNoMore};
 ghost use Rattle.reaction_laws.specs.LowLines.{LinesStayLow};
-ghost use Rattle.reaction_laws.specs.Reacts.{FlatChartsReact};
+ghost use Rattle.reaction_laws.specs.Reacts.{LayeredChartsReact};
 ghost use Rattle.reaction_laws.specs.StepNodes.{PrioritiesOrderSteps, StepsComeToNodes};
 
-/// Each tick of a flat chart that has a valid image comes to an end, whatever steps it takes: no run of a tick that
+/// Each tick of a layered chart that has a valid image comes to an end, whatever steps it takes: no run of a tick that
 /// follows a reaction takes more steps than one number says, and each run can be completed. This function does nothing;
 /// its contract is the law.
-pub fn flat_ticks_end()
-    ensures { FlatTicksEnd }
+pub fn layered_ticks_end()
+    ensures { LayeredTicksEnd }
 {}
 
 /// Such a chart has a reaction to whatever inputs its image accepts: a list of ends, one for each tick, and to each of
 /// them an admissible complete run leads. This function does nothing; its contract is the law.
-pub fn flat_charts_react()
-    ensures { FlatChartsReact }
+pub fn layered_charts_react()
+    ensures { LayeredChartsReact }
 {}
 
 /// All reactions of such a chart to the same accepted inputs end alike: in each tick the variables have the same
 /// values, and the same states are active. This function does nothing; its contract is the law.
-pub fn flat_reactions_are_alike()
-    ensures { FlatReactionsAreAlike }
+pub fn layered_reactions_are_alike()
+    ensures { LayeredReactionsAreAlike }
 {}
 
 /// Each list of ends of the core chart of such a chart, to inputs that are accepted, has one of the chart that is seen

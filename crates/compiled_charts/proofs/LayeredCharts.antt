@@ -1,4 +1,4 @@
--- What shows the reaction of the core chart of a flat chart shows each reaction of the chart; and the chart has one.
+-- What shows the reaction of the core chart of a layered chart shows each reaction of the chart; and the chart has one.
 use Rattle.std.proofs.Common.{ℕ, ◌≡◌, ◌<◌, true, Some, List, [], ◌∷◌, length, take, sym, ap, subst, ◌∙◌}
 use Rattle.sc_graph.specs.declared.control.Control.{Control}
 use Rattle.sc_graph.specs.Program.{Program}
@@ -89,11 +89,11 @@ module _ (c : Chart) (rules : IsChart features.Extended c) where
   all_seen (d ∷ ds) [] controls kept shown = absurd kept
 
   -- by the law of the expansion
-  pub flat_shown : (q : Program) → Keeps (chart_machine c) (chart_machine core) (AreAccepted q) (SeenAlike c) → (ticks : List Inputs)
+  pub layered_shown : (q : Program) → Keeps (chart_machine c) (chart_machine core) (AreAccepted q) (SeenAlike c) → (ticks : List Inputs)
       (controls : List Control) → AllAccepted q ticks →
       ((es : List Configuration) → ChartReacts core ticks es → EachPair (AreSeenAlikeBy (table core) (state_of_node core)) es controls) →
       (ends : List Configuration) → Reacts c ticks ends → EachPair (AreSeenAlike c (stands_for c) (state_count c)) ends controls
-  flat_shown q keeps ticks controls accepted each ends reacts =
+  layered_shown q keeps ticks controls accepted each ends reacts =
       let kept : HasAlike (chart_machine core) Configuration (SeenAlike c) ticks (chart.initial (table core)) ends =
       keeps ticks ends (all_of q ticks accepted) (there (chart_machine c) ticks (chart.initial (table c)) ends reacts)
       in
@@ -101,9 +101,9 @@ module _ (c : Chart) (rules : IsChart features.Extended c) where
       (each kept.others (back (chart_machine core) ticks (chart.initial (table core)) kept.others kept.reaction))
 
   -- by the law of reactions
-  pub flat_reacts : (q : Program) → ((ticks : List Inputs) → AllOf (AreAccepted q) ticks →
+  pub layered_reacts : (q : Program) → ((ticks : List Inputs) → AllOf (AreAccepted q) ticks →
       (ends : List Configuration) × Reaction (chart_machine c) ticks (chart.initial (table c)) ends) →
       (ticks : List Inputs) → AllAccepted q ticks → (ends : List Configuration) × Reacts c ticks ends
-  flat_reacts q has ticks accepted =
+  layered_reacts q has ticks accepted =
       let one : (ends : List Configuration) × Reaction (chart_machine c) ticks (chart.initial (table c)) ends = has ticks (all_of q ticks accepted) in
       (one.0, back (chart_machine c) ticks (chart.initial (table c)) one.0 one.1)

@@ -1,4 +1,4 @@
--- Within a tick each run of a flat chart has one of its core chart that is no shorter. So each tick of it comes to an end.
+-- Within a tick each run of a layered chart has one of its core chart that is no shorter. So each tick of it comes to an end.
 use Rattle.std.proofs.Common.{◌≡◌, ℕ, suc, ◌+◌, ◌≤◌, inl, inr, Some, option_and_then, List, []}
 use Rattle.std.proofs.Common.{◌∷◌, ◌++◌, length, slice_get, refl, sym, ap, subst, ◌∙◌, arith}
 use Rattle.std.proofs.lemmas.List.{length-map}
@@ -24,7 +24,7 @@ use Rattle.chart_machine_laws.specs.Progress.{first as reached_first}
 use Rattle.chart_lowering_laws.specs.Laws.{IsLowering}
 use Rattle.compiled_charts_laws.proofs.TickStarts as tick_starts
 use Rattle.abort_expansion_laws.specs.CoreRows.{Images}
-use Rattle.abort_expansion_laws.specs.Flat.{IsFlat}
+use Rattle.abort_expansion_laws.specs.Layered.{IsLayered}
 use Rattle.abort_expansion_laws.specs.Preemption.{chart_machine, HasImage}
 use Rattle.abort_expansion_laws.specs.Related.{Related}
 use Rattle.abort_expansion_laws.specs.Segments.{threads, Follows}
@@ -39,7 +39,7 @@ use Rattle.abort_expansion_laws.proofs.TestsSpared.{tests_are_spared}
 use Rattle.abort_expansion_laws.proofs.TickFollowed as ticks
 use Rattle.abort_expansion_laws.proofs.TicksBegin.{ticks_begin}
 use Rattle.abort_expansion_laws.proofs.ToldSteps.{told_silent}
-use Rattle.reaction_laws.specs.Bounded.{last_of, GoesOn, EndsEachTick, FlatTicksEnd}
+use Rattle.reaction_laws.specs.Bounded.{last_of, GoesOn, EndsEachTick, LayeredTicksEnd}
 use Rattle.reaction_laws.proofs.ByRank.{Begins, begins}
 use Rattle.reaction_laws.proofs.CoreRuns.{Within, within_on, most_silent, longest, tick_within}
 use Rattle.reaction_laws.proofs.RunsComplete.{start_value, kind_at, in_front, reached_on, Completed, completed}
@@ -67,7 +67,7 @@ module _ (n : Machine) (k : Correspondence) (Told : n.Configuration → Entry �
   longer [] act more charted = absurd cc
   longer (y ∷ log) act more charted = both_longer (length more) (length (threads k log ++ more)) (no_shorter log more)
 
-module _ (c : Chart) (rules : IsChart features.Extended c) (core_rules : IsChart features.Core (expanded c)) (flat : IsFlat c) where
+module _ (c : Chart) (rules : IsChart features.Extended c) (core_rules : IsChart features.Core (expanded c)) (layered : IsLayered c) where
   abbrev k : Table
   k = table c
 
@@ -95,7 +95,7 @@ module _ (c : Chart) (rules : IsChart features.Extended c) (core_rules : IsChart
   follows_run [] now last d related owns runs = record { run = []; end = d; runs = refl; long = omega arith }
   follows_run (r ∷ run) now last d related owns runs =
       let b : Begins (machine k) r run now last = begins (machine k) r run now last runs in
-      let one = steps_followed c rules core_rules flat now d related owns r b.next b.steps in
+      let one = steps_followed c rules core_rules layered now d related owns r b.next b.steps in
       let rest : CoreRuns one.last (length run) =
       follows_run run b.next last one.last one.reaches ((own_tests_kept c rules core_rules).steps now b.next r owns b.steps) b.rest in
       let more = longer (machine core) corr Told one.log (act_of (machine k) now r) rest.run one.charted in
@@ -111,7 +111,7 @@ module _ (c : Chart) (rules : IsChart features.Extended c) (core_rules : IsChart
   tick_runs : (run : List ℕ) (now last d : Configuration) → Started k core i now d → OwnTests k now → replay (machine k) run now ≡ Some last →
       CoreRuns d (length run)
   tick_runs run now last d started owns runs =
-      let first = ticks_begin c rules core_rules flat Told (told_silent k core i) now d started in
+      let first = ticks_begin c rules core_rules layered Told (told_silent k core i) now d started in
       let rest : CoreRuns first.last (length run) = follows_run run now last first.last first.reaches owns runs in
       let more = no_shorter (machine core) corr Told first.log rest.run in
       let long = rest.long in
@@ -136,7 +136,7 @@ module _ (c : Chart) (rules : IsChart features.Extended c) (core_rules : IsChart
     GraphRests d = (m : Control) × tick_starts.Between (expanded c) image.scl image.tables low is_valid d m
 
     pub spares : SparesTests c rules core_rules (AreAccepted image.program) Told
-    spares = tests_are_spared c rules core_rules flat image
+    spares = tests_are_spared c rules core_rules layered image
 
     pub record BothRest (before d : Configuration) : Type 0 where
       pub alike : RestsAlike c rules core_rules before d
@@ -182,8 +182,8 @@ module _ (c : Chart) (rules : IsChart features.Extended c) (core_rules : IsChart
     after_tick : (inputs : Inputs) (before last d : Configuration) → AreAccepted image.program inputs → BothRest before d →
         Ends (machine k) (start k inputs before) last → (e : Configuration) × BothRest last e
     after_tick inputs before last d accepted both ends =
-        let t = ticks.tick_followed c rules core_rules flat Told (told_silent k core i) (OwnTests k) (own_tests_kept c rules core_rules)
-        (steps_followed c rules core_rules flat) (start k inputs before) last (start core inputs d) (started inputs before d both.alike)
+        let t = ticks.tick_followed c rules core_rules layered Told (told_silent k core i) (OwnTests k) (own_tests_kept c rules core_rules)
+        (steps_followed c rules core_rules layered) (start k inputs before) last (start core inputs d) (started inputs before d both.alike)
         ((own_tests_kept c rules core_rules).starts inputs before both.owns)
         (spares.spared inputs before d accepted both.spared both.alike) ends in (
           t.0,
@@ -241,5 +241,5 @@ module _ (c : Chart) (rules : IsChart features.Extended c) (core_rules : IsChart
     pub each_tick_ends : EndsEachTick (chart_machine c) (AreAccepted image.program)
     each_tick_ends = record { most = most_steps; bounded = tick_bounded; goes_on = tick_goes_on }
 
-pub flat_ticks_end : FlatTicksEnd
-flat_ticks_end c rules flat image low = each_tick_ends c rules low.core flat image low
+pub layered_ticks_end : LayeredTicksEnd
+layered_ticks_end c rules layered image low = each_tick_ends c rules low.core layered image low

@@ -1,0 +1,153 @@
+-- What the table of each expanded layered chart has, where aborts are around something.
+use Rattle.std.proofs.Common.{◌≡◌, ℕ, ◌+◌, inl, inr, ⊎_elim, Bool, true, false, ◌||◌, Some, []}
+use Rattle.std.proofs.Common.{Contains, refl, sym, ap, subst, ◌∙◌}
+use Rattle.core_charts.specs.declared.features.Features.TheVariants as features
+use Rattle.core_charts.specs.Chart.{Chart}
+use Rattle.core_charts.specs.Rules.{IsChart}
+use Rattle.chart_machine.specs.declared.table.Table.{Table}
+use Rattle.chart_machine.specs.Table.{table}
+use Rattle.chart_machine_laws.specs.Tree.{around, holder}
+use Rattle.abort_expansion.specs.Flags.{given, one}
+use Rattle.core_charts.specs.Aborts.{has_strong, has_weak, has_aborts}
+use Rattle.abort_expansion.specs.Expansion.{expanded}
+use Rattle.abort_expansion_laws.specs.Layered.{IsLayered}
+use Rattle.abort_expansion_laws.specs.CoreRows.{own, Images}
+use Rattle.abort_expansion_laws.proofs.InsideLeaves.{LayeredRows}
+use Rattle.abort_expansion_laws.proofs.Walked.{World, FlagsFit}
+use Rattle.abort_expansion_laws.proofs.WalkedWhole.{world}
+use Rattle.abort_expansion_laws.proofs.RowsOfCharts as whole
+use Rattle.abort_expansion_laws.proofs.MoreRows.{simple_alone, behind_alone, no_strong}
+use Rattle.abort_expansion_laws.proofs.OpenedRows.{ForkRows}
+use Rattle.abort_expansion_laws.proofs.OpenedInside.{opened_elsewhere}
+use Rattle.abort_expansion_laws.proofs.TickStarts.{StartRows}
+use Rattle.abort_expansion_laws.proofs.LocalVariables.{added_are_local}
+use Rattle.abort_expansion_laws.proofs.LaterTicks.{woken_related, chart_has_begun, core_has_begun}
+use Rattle.abort_expansion_laws.specs.Stages.{Entry, NoneReached}
+use Rattle.abort_expansion_laws.specs.CoreRows.{pair}
+use Rattle.abort_expansion_laws.proofs.Simulation.{Segment}
+use Rattle.abort_expansion_laws.proofs.StageReached.{Stage}
+use Rattle.abort_expansion_laws.proofs.Supplying.{climbs_fewer}
+use Rattle.abort_expansion_laws.proofs.Owed.{Resting}
+use Rattle.abort_expansion_laws.specs.Related.{Each, Related}
+use Rattle.abort_expansion_laws.proofs.WokenConfigurations.{IsLocal}
+use Rattle.chart_machine.specs.declared.standing.Configuration.{Configuration}
+use Rattle.chart_machine.specs.Machine.{machine, start}
+use Rattle.sc_graph.specs.Tick.{Inputs}
+use Rattle.abort_expansion_laws.proofs.InsideAround.{one_in_other}
+
+given_there : (b : Bool) (x y : ℕ) → given b x ≡ Some y → b ≡ true
+given_there true x y e = refl
+given_there false x y e = absurd cc
+
+module _ (c : Chart) (rules : IsChart features.Extended c) (core_rules : IsChart features.Core (expanded c)) (layered : IsLayered c) where
+  abbrev k : Table
+  k = table c
+
+  abbrev core : Table
+  core = table (expanded c)
+
+  abbrev w : World
+  w = world c rules
+
+  abbrev i : Images
+  i = whole.i c rules core_rules
+
+  some_strong : (s : ℕ) → has_strong (own k s) ≡ true → has_aborts (own k s) ≡ true
+  some_strong s e = rw (e) refl
+
+  some_weak : (s : ℕ) → has_weak (own k s) ≡ true → has_aborts (own k s) ≡ true
+  some_weak s e = rw (e) (either (has_strong (own k s)))
+    where
+      either : (a : Bool) → (a || true) ≡ true
+      either true = refl
+      either false = refl
+
+  in_strong : (o s : ℕ) → has_strong (own k o) ≡ true → Contains (around k (holder k s)) o → has_aborts (own k s) ≡ false
+  in_strong o s has h = layered.in_strong o s h has
+
+  in_any : (o s : ℕ) → has_aborts (own k o) ≡ true → Contains (around k (holder k s)) o → has_weak (own k s) ≡ false
+  in_any o s has h = layered.in_any o s h has
+
+  strong_once : (q o s : ℕ) → Contains (around k q) o → Contains (around k q) s → has_strong (own k o) ≡ true → has_strong (own k s) ≡ true → s ≡ o
+  strong_once q o s in_o in_s has_o has_s =
+      ⊎_elim (λ same. sym same)
+      (⊎_elim (λ deeper. let wrong : true ≡ false = sym (some_strong o has_o) ∙ in_strong s o has_s deeper in absurd cc)
+      (λ deeper. let wrong : true ≡ false = sym (some_strong s has_s) ∙ in_strong o s has_o deeper in absurd cc))
+      (one_in_other k (whole.tree c rules core_rules).nested (around k q) q o s refl in_o in_s)
+
+  weak_once : (q o s : ℕ) → Contains (around k q) o → Contains (around k q) s → has_weak (own k o) ≡ true → has_weak (own k s) ≡ true → s ≡ o
+  weak_once q o s in_o in_s has_o has_s =
+      ⊎_elim (λ same. sym same)
+      (⊎_elim (λ deeper. let wrong : true ≡ false = sym has_o ∙ in_any s o (some_weak s has_s) deeper in absurd cc)
+      (λ deeper. let wrong : true ≡ false = sym has_s ∙ in_any o s (some_weak o has_o) deeper in absurd cc))
+      (one_in_other k (whole.tree c rules core_rules).nested (around k q) q o s refl in_o in_s)
+
+  pub layered_rows : LayeredRows k core i
+  layered_rows =
+      record {
+        in_strong = in_strong;
+        in_any = in_any;
+        strong_once = strong_once;
+        weak_once = weak_once;
+        no_strong = no_strong c rules core_rules;
+        simple_alone = simple_alone c rules core_rules;
+        behind_alone = behind_alone c rules core_rules;
+      }
+
+  pub fork_rows : ForkRows k core i
+  fork_rows =
+      record {
+        opens_inside = λ s t zs here super out.
+            opened_elsewhere features.Core (expanded c) core_rules (i.main_of s) t zs (whole.main_there c rules core_rules s here) out;
+      }
+
+  -- ---- what a tick begins with
+
+  pub start_rows : StartRows k core i (whole.rows_of_chart c rules core_rules)
+  start_rows =
+      record {
+        strong_for = λ s x e.
+            let fits : FlagsFit w s = whole.flag_from c rules core_rules s x (inl e) in
+            given_there (has_strong (own k s)) fits.first x (sym (ap (λ z. z.strong) fits.are) ∙ e);
+        weak_for = λ s x e.
+            let fits : FlagsFit w s = whole.flag_from c rules core_rules s x (inr (inl e)) in
+            given_there (has_weak (own k s)) (fits.first + one (has_strong (own k s))) x (sym (ap (λ z. z.weak) fits.are) ∙ e);
+        super_there = whole.super_there c rules core_rules;
+        locals = subst (Each IsLocal) (sym (whole.added_is c rules core_rules)) (added_are_local c rules);
+      }
+
+-- each tick of a layered chart but the first begins with related configurations, without a step of the core
+module _ (c : Chart) (rules : IsChart features.Extended c) (core_rules : IsChart features.Core (expanded c)) (layered : IsLayered c)
+    (before core_before : Configuration) (rests : Resting (table c) (table (expanded c)) (whole.i c rules core_rules) before core_before)
+    (inputs : Inputs) where
+  abbrev theirs : Images
+  theirs = whole.i c rules core_rules
+
+  pub started_related : Related (table c) (table (expanded c)) theirs (start (table c) inputs before) (start (table (expanded c)) inputs core_before)
+  started_related =
+      rw (
+        chart_has_begun (table c) (table (expanded c)) theirs before core_before rests,
+        core_has_begun (table c) (table (expanded c)) theirs before core_before rests,
+      )
+      (woken_related (table c) (table (expanded c)) theirs (whole.rows_of_chart c rules core_rules) (layered_rows c rules core_rules layered)
+      (whole.tree c rules core_rules).nested (start_rows c rules core_rules layered) before core_before rests inputs)
+
+  pub later_ticks_begin : (counts : ℕ → Bool) (written_at : ℕ → ℕ) (Told : Configuration → Entry → Type 0) →
+      Segment (machine (table (expanded c)))
+      (pair (table c) (table (expanded c)) theirs (whole.rows_of_chart c rules core_rules) (whole.tree c rules core_rules).nested counts written_at) Told
+      (start (table (expanded c)) inputs core_before) NoneReached (Stage (table c) theirs.thread_of (start (table c) inputs before)) []
+      (Related (table c) (table (expanded c)) theirs (start (table c) inputs before))
+  later_ticks_begin counts written_at Told =
+      record {
+        log = [];
+        last = start (table (expanded c)) inputs core_before;
+        follows = refl;
+        charted = refl;
+        fits = tt;
+        climbs = λ rest climbs.
+            climbs_fewer
+            (pair (table c) (table (expanded c)) theirs (whole.rows_of_chart c rules core_rules) (whole.tree c rules core_rules).nested counts written_at)
+            (Stage (table c) theirs.thread_of (start (table c) inputs before) (start (table (expanded c)) inputs core_before)) NoneReached rest
+            (λ h s none. absurd none) climbs;
+        reaches = started_related;
+      }
