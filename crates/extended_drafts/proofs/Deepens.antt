@@ -17,7 +17,7 @@ use Rattle.extended_drafts.specs.declared.draft.ItemBody.{ItemBody}
 use Rattle.extended_drafts.specs.declared.draft.DraftItem.{DraftItem}
 use Rattle.extended_drafts.specs.declared.draft.DraftEntry.{DraftEntry}
 use Rattle.extended_drafts.specs.declared.draft.DraftDelay.{DraftDelay}
-use Rattle.extended_drafts.specs.declared.draft.Rows.{Rows}
+use Rattle.extended_drafts.specs.declared.draft.DraftRows.{DraftRows}
 use Rattle.extended_drafts.specs.declared.draft.StateBody.{StateBody}
 use Rattle.extended_drafts.specs.declared.draft.ExtendedDraft.{ExtendedDraft}
 use Rattle.extended_drafts.specs.ExtendedText.{item_value, last_value, typed, signalled, bare_signal, plain_body, worded_body, plain, worded, item}
@@ -30,10 +30,10 @@ use Rattle.extended_drafts.proofs.Shapes.{extended_text_is}
 
 data Opened : Inner → Inner → Type 1 where
   from_none : (e : Grows Phrase) (i : Inner) → Opened NoMore (Nested (region e i))
-  in_each : (r r' : Grows (DraftRegion × Rows)) → Deeper (DraftRegion × Rows) r r' → Opened (Nested r) (Nested r')
+  in_each : (r r' : Grows (DraftRegion × DraftRows)) → Deeper (DraftRegion × DraftRows) r r' → Opened (Nested r) (Nested r')
 
-module _ (A : Type 0) (g g' : Grows (A × Rows)) (d : Deeper (A × Rows) g g') where
-  rowed_wider : Deeper (List A × Rows) (rowed g) (rowed g')
+module _ (A : Type 0) (g g' : Grows (A × DraftRows)) (d : Deeper (A × DraftRows) g g') where
+  rowed_wider : Deeper (List A × DraftRows) (rowed g) (rowed g')
   rowed_wider = deeper_made _ _ _ _ _ (deeper_made _ _ _ _ _ (deeper_seq _ _ _ _ _ _ d (deeper_many _ _ _ d)))
 
 module _ (e e' : Grows Phrase) (w : Deeper Phrase e e') where
@@ -140,7 +140,7 @@ module _ (e e' : Grows Phrase) (w : Deeper Phrase e e') where
       (deeper_made _ _ _ _ _ (deeper_seq _ _ _ _ _ _ (rowed_wider _ r r' d) leaving_wider))
       bare_wider
 
-  state_wider : (i j : Inner) → Opened i j → Deeper (DraftState × Rows) (state e i) (state e' j)
+  state_wider : (i j : Inner) → Opened i j → Deeper (DraftState × DraftRows) (state e i) (state e' j)
   unfolding state body acting
   state_wider i j o =
       deeper_made _ _ _ _ _
@@ -151,7 +151,7 @@ module _ (e e' : Grows Phrase) (w : Deeper Phrase e e') where
       (deeper_made _ _ _ _ _
       (deeper_seq _ _ _ _ _ _ (same_one _) (deeper_seq _ _ _ _ _ _ (deeper_many _ _ _ entry_wider) (inside_wider i j o))))))))
 
-  region_wider : (i j : Inner) → Opened i j → Deeper (DraftRegion × Rows) (region e i) (region e' j)
+  region_wider : (i j : Inner) → Opened i j → Deeper (DraftRegion × DraftRows) (region e i) (region e' j)
   unfolding region
   region_wider i j o =
       deeper_made _ _ _ _ _

@@ -12,7 +12,7 @@ use Rattle.sc_text.proofs.Steps.{next_stops}
 use Rattle.chart_drafts.specs.ChartText.{Grows, listed}
 use Rattle.chart_drafts.specs.Phrase.{Gives}
 use Rattle.chart_drafts.proofs.RowReading.{listed_goes, going_ends, going_over, going_stops, going_on}
-use Rattle.extended_drafts.specs.declared.draft.Rows.{Rows}
+use Rattle.extended_drafts.specs.declared.draft.DraftRows.{DraftRows}
 use Rattle.extended_drafts.specs.Draft.{both_rows, all_rows, gathered, parted}
 use Rattle.extended_drafts.specs.Inside.{IsGathering}
 
@@ -61,29 +61,29 @@ module _ {A B : Type 0} where
 
 -- ---- parts with their rows
 
-both_assoc : (r s t : Rows) → both_rows (both_rows r s) t ≡ both_rows r (both_rows s t)
+both_assoc : (r s t : DraftRows) → both_rows (both_rows r s) t ≡ both_rows r (both_rows s t)
 both_assoc r s t =
     ap (λ l. record { entries = l; delays = (r.delays ++ s.delays) ++ t.delays }) (append_assoc r.entries s.entries t.entries)
     ∙ ap (λ l. record { entries = r.entries ++ (s.entries ++ t.entries); delays = l }) (append_assoc r.delays s.delays t.delays)
 
-both_none : (r : Rows) → both_rows r (all_rows []) ≡ r
+both_none : (r : DraftRows) → both_rows r (all_rows []) ≡ r
 both_none r =
     ap (λ l. record { entries = l; delays = r.delays ++ [] }) (append-nil r.entries)
     ∙ ap (λ l. record { entries = r.entries; delays = l }) (append-nil r.delays)
 
-all_more : (rows : List Rows) (r : Rows) → both_rows (all_rows rows) r ≡ all_rows (rows ++ r ∷ [])
+all_more : (rows : List DraftRows) (r : DraftRows) → both_rows (all_rows rows) r ≡ all_rows (rows ++ r ∷ [])
 all_more [] r = sym (both_none r)
 all_more (s ∷ rows) r = both_assoc s (all_rows rows) r ∙ ap (both_rows s) (all_more rows r)
 
 module _ {A : Type 0} where
-  abbrev part_of : A × Rows → A
+  abbrev part_of : A × DraftRows → A
   part_of x = x.0
 
-  abbrev rows_of : A × Rows → Rows
+  abbrev rows_of : A × DraftRows → DraftRows
   rows_of x = x.1
 
-  pub gathered_more : (a : A) (r : Rows) (ys' : List A) (rows' : Rows) (ys : List A) (rows : Rows) → ys' ≡ ys ++ a ∷ [] → rows' ≡ both_rows rows r
-      → (found : List (A × Rows)) → (ys, rows) ≡ gathered found → (ys', rows') ≡ gathered (found ++ (a, r) ∷ [])
+  pub gathered_more : (a : A) (r : DraftRows) (ys' : List A) (rows' : DraftRows) (ys : List A) (rows : DraftRows) → ys' ≡ ys ++ a ∷ []
+      → rows' ≡ both_rows rows r → (found : List (A × DraftRows)) → (ys, rows) ≡ gathered found → (ys', rows') ≡ gathered (found ++ (a, r) ∷ [])
   gathered_more a r ys' rows' ys rows e f found p =
       ap (λ l. (l, rows')) e ∙ ap (λ l. (ys ++ a ∷ [], l)) f ∙ ap (λ q. (q.0 ++ a ∷ [], both_rows q.1 r)) p
       ∙ ap (λ l. (l, both_rows (all_rows (map rows_of found)) r)) (sym (map-append part_of found ((a, r) ∷ [])))
@@ -91,7 +91,7 @@ module _ {A : Type 0} where
       ∙ ap (λ l. (map part_of (found ++ (a, r) ∷ []), all_rows l)) (sym (map-append rows_of found ((a, r) ∷ [])))
 
   -- the first of a row was read
-  pub rowed_goes : (g : Grows (A × Rows)) (ks : List Class) → first g ≡ ks → (text rest : List Token) (a : A) (r : Rows) (most : ℕ) (none ys : List A)
+  pub rowed_goes : (g : Grows (A × DraftRows)) (ks : List Class) → first g ≡ ks → (text rest : List Token) (a : A) (r : DraftRows) (most : ℕ) (none ys : List A)
       → Gives (read g text) (a, r) rest → most ≡ length rest → none ≡ [] → ys ≡ none ++ a ∷ []
       → IsGathering (read (listed g g) text) g ks gathered (ys, r) (most - 0) rest
   rowed_goes g ks b text rest a r most none ys given e n f =

@@ -24,7 +24,7 @@ use Rattle.chart_drafts.proofs.RowReading.{listed_stops}
 use Rattle.extended_drafts.specs.declared.draft.DraftItem.{DraftItem}
 use Rattle.extended_drafts.specs.declared.draft.DraftEntry.{DraftEntry}
 use Rattle.extended_drafts.specs.declared.draft.DraftDelay.{DraftDelay}
-use Rattle.extended_drafts.specs.declared.draft.Rows.{Rows}
+use Rattle.extended_drafts.specs.declared.draft.DraftRows.{DraftRows}
 use Rattle.extended_drafts.specs.declared.draft.StateBody.{StateBody}
 use Rattle.extended_drafts.specs.declared.draft.ExtendedDraft.{ExtendedDraft}
 use Rattle.extended_drafts.specs.Draft.{no_rows, gathered, body_of, state_with, region_with, draft_of}
@@ -40,7 +40,7 @@ e0 = expression 0
 -- ---- states
 
 module _ (n : ℕ) (text : List Token) where
-  pub state_gives : (a b c rest : List Token) (i f : Bool) (m : Named) (x : List DraftEntry × StateBody) (s : DraftState × Rows)
+  pub state_gives : (a b c rest : List Token) (i f : Bool) (m : Named) (x : List DraftEntry × StateBody) (s : DraftState × DraftRows)
       → Gives (read (flag word.Initial) text) i a → Gives (read (flag word.Final) a) f b → Gives (read (after (the_word word.State) name) b) m c
       → Gives (read (body e0 (within e0 n)) c) x rest → s ≡ state_with i f m x → Gives (read (state e0 (within e0 n)) text) s rest
   unfolding state
@@ -52,7 +52,7 @@ module _ (n : ℕ) (text : List Token) where
       (seq_gives (flag word.Final) (seq (after (the_word word.State) name) (body e0 (within e0 n))) a b rest f (m, x) q
       (seq_gives (after (the_word word.State) name) (body e0 (within e0 n)) b c rest m x r s))))
 
-  pub states_go : (rest : List Token) (x : DraftState) (r : Rows) (most : ℕ) (none found : List DraftState)
+  pub states_go : (rest : List Token) (x : DraftState) (r : DraftRows) (most : ℕ) (none found : List DraftState)
       → Gives (read (state e0 (within e0 n)) text) (x, r) rest → most ≡ length rest → none ≡ [] → found ≡ none ++ x ∷ []
       → IsGathering (read (listed (state e0 (within e0 n)) (state e0 (within e0 n))) text) (state e0 (within e0 n)) state_first gathered (found, r)
       (most - 0) rest
@@ -68,14 +68,14 @@ module _ (n : ℕ) (text : List Token) where
 
   -- ---- regions
 
-  pub region_gives : (a rest : List Token) (m : Named) (xs : List DraftState × Rows) → Gives (read (after (the_word word.Region) name) text) m a
+  pub region_gives : (a rest : List Token) (m : Named) (xs : List DraftState × DraftRows) → Gives (read (after (the_word word.Region) name) text) m a
       → Gives (read (braced (rowed (state e0 (within e0 n)))) a) xs rest → Gives (read (region e0 (within e0 n)) text) (region_with m xs) rest
   unfolding region
   region_gives a rest m xs p q =
       made_gives (λ x. region_with x.0 x.1) (seq (after (the_word word.Region) name) (braced (rowed (state e0 (within e0 n))))) text (m, xs) rest
       (seq_gives (after (the_word word.Region) name) (braced (rowed (state e0 (within e0 n)))) text a rest m xs p q)
 
-  pub regions_go : (rest : List Token) (x : DraftRegion) (r : Rows) (most : ℕ) (none found : List DraftRegion)
+  pub regions_go : (rest : List Token) (x : DraftRegion) (r : DraftRows) (most : ℕ) (none found : List DraftRegion)
       → Gives (read (region e0 (within e0 n)) text) (x, r) rest → most ≡ length rest → none ≡ [] → found ≡ none ++ x ∷ []
       → IsGathering (read (listed (region e0 (within e0 n)) (region e0 (within e0 n))) text) (region e0 (within e0 n)) (the_word word.Region) gathered
       (found, r) (most - 0) rest
@@ -132,7 +132,7 @@ one_less zero z = absurd (z refl)
 one_less (suc n) z = omega arith
 
 -- regions, each with so many levels inside
-abbrev regions_of : ℕ → Grows (List DraftRegion × Rows)
+abbrev regions_of : ℕ → Grows (List DraftRegion × DraftRows)
 regions_of n = rowed (region e0 (within e0 n))
 
 abbrev Ways : Type 0
@@ -163,7 +163,7 @@ module _ (text : List Token) where
   unfolding inside within
   is_deep e = ap (λ b. choose b (Failed Deep text) (read (bare e0) text)) e
 
-  pub bare_gives : (n : ℕ) (rest : List Token) (regions : List DraftRegion) (rows : Rows) (ways : Ways)
+  pub bare_gives : (n : ℕ) (rest : List Token) (regions : List DraftRegion) (rows : DraftRows) (ways : Ways)
       → starts text_tokens (the_word word.Region) text ≡ false → regions ≡ [] → rows ≡ no_rows → Gives (read (leaving e0) text) ways rest
       → Gives (read (inside e0 (within e0 n)) text) (body_of (regions, rows) ways) rest
   unfolding bare
@@ -191,7 +191,7 @@ module _ (text : List Token) where
       (made_stops (λ x. body_of x.0 x.1) (seq (regions_of (n - 1)) (leaving e0)) text end f
       (seq_stops_first (regions_of (n - 1)) (leaving e0) text end f s))
 
-  pub leaving_stops : (n : ℕ) (a : List Token) (end : ℕ) (f : ReadFault) (regions : List DraftRegion × Rows)
+  pub leaving_stops : (n : ℕ) (a : List Token) (end : ℕ) (f : ReadFault) (regions : List DraftRegion × DraftRows)
       → starts text_tokens (the_word word.Region) text ≡ true → (n ≡ 0 → ⊥) → Gives (read (regions_of (n - 1)) text) regions a
       → Stops end (read (leaving e0) a) f → Stops end (read (inside e0 (within e0 n)) text) f
   unfolding nested
@@ -200,7 +200,7 @@ module _ (text : List Token) where
       (made_stops (λ x. body_of x.0 x.1) (seq (regions_of (n - 1)) (leaving e0)) text end f
       (seq_stops_second (regions_of (n - 1)) (leaving e0) text a regions end f r s))
 
-  pub nested_gives : (n : ℕ) (a rest : List Token) (regions : List DraftRegion × Rows) (ways : Ways)
+  pub nested_gives : (n : ℕ) (a rest : List Token) (regions : List DraftRegion × DraftRows) (ways : Ways)
       → starts text_tokens (the_word word.Region) text ≡ true → (n ≡ 0 → ⊥) → Gives (read (regions_of (n - 1)) text) regions a
       → Gives (read (leaving e0) a) ways rest → Gives (read (inside e0 (within e0 n)) text) (body_of regions ways) rest
   unfolding nested
@@ -212,7 +212,7 @@ module _ (text : List Token) where
 -- ---- whole extended charts
 
 abbrev pub Parts : Type 0
-Parts = List DraftItem × (List DraftRegion × Rows)
+Parts = List DraftItem × (List DraftRegion × DraftRows)
 
 abbrev pub chart_of : Grows (Named × Parts)
 chart_of = seq (after (the_word word.Chart) name) (braced (parts e0 (within e0 31)))

@@ -26,7 +26,7 @@ use Rattle.chart_drafts.proofs.ShapedDrafts.{EachChart, IsNamed, each_any, name_
 use Rattle.chart_drafts.proofs.ShapedDrafts.{listed_kept, none_shaped, state_shaped, region_shaped, first_there}
 use Rattle.extended_drafts.specs.declared.draft.DraftEntry.{DraftEntry}
 use Rattle.extended_drafts.specs.declared.draft.DraftDelay.{DraftDelay}
-use Rattle.extended_drafts.specs.declared.draft.Rows.{Rows}
+use Rattle.extended_drafts.specs.declared.draft.DraftRows.{DraftRows}
 use Rattle.extended_drafts.specs.declared.draft.StateBody.{StateBody}
 use Rattle.extended_drafts.specs.declared.draft.ExtendedDraft.{ExtendedDraft}
 use Rattle.extended_drafts.specs.declared.draft.ItemBody.{ItemBody}
@@ -46,38 +46,38 @@ use Rattle.extended_drafts.specs.Shape.{transitions_in_state, IsExtendedShaped}
 -- ---- parts with rows beside them
 
 -- the rows are as many as is counted
-abbrev Fit : {A : Type 0} → (A → ℕ) → (A → ℕ) → A → Rows → Type 0
+abbrev Fit : {A : Type 0} → (A → ℕ) → (A → ℕ) → A → DraftRows → Type 0
 Fit f g x r = (length r.entries ≡ f x) × (length r.delays ≡ g x)
 
-abbrev AllFit : {A : Type 0} → (A → ℕ) → (A → ℕ) → List A → Rows → Type 0
+abbrev AllFit : {A : Type 0} → (A → ℕ) → (A → ℕ) → List A → DraftRows → Type 0
 AllFit f g xs r = (length r.entries ≡ total (map f xs)) × (length r.delays ≡ total (map g xs))
 
 both_lengths : {X : Type 0} (xs ys : List X) (m n : ℕ) → length xs ≡ m → length ys ≡ n → length (xs ++ ys) ≡ m + n
 both_lengths xs ys m n e f = length-append xs ys ∙ ap (λ k. k + length ys) e ∙ ap (λ k. m + k) f
 
 module _ {A : Type 0} (f g : A → ℕ) where
-  gathered_fit : (xs : List (A × Rows)) → Every (λ x. Fit f g x.0 x.1) xs → AllFit f g (map (λ x. x.0) xs) (all_rows (map (λ x. x.1) xs))
+  gathered_fit : (xs : List (A × DraftRows)) → Every (λ x. Fit f g x.0 x.1) xs → AllFit f g (map (λ x. x.0) xs) (all_rows (map (λ x. x.1) xs))
   gathered_fit [] e = (refl, refl)
   gathered_fit (x ∷ xs) e =
       let rest = gathered_fit xs e.1 in
       (both_lengths x.1.entries _ _ _ e.0.0 rest.0, both_lengths x.1.delays _ _ _ e.0.1 rest.1)
 
   module _ (P : A → Type 0) where
-    firsts : (xs : List (A × Rows)) → Every (λ x. P x.0 × Fit f g x.0 x.1) xs → Every (λ x. P x.0) xs
+    firsts : (xs : List (A × DraftRows)) → Every (λ x. P x.0 × Fit f g x.0 x.1) xs → Every (λ x. P x.0) xs
     firsts [] e = tt
     firsts (x ∷ xs) e = (e.0.0, firsts xs e.1)
 
-    seconds : (xs : List (A × Rows)) → Every (λ x. P x.0 × Fit f g x.0 x.1) xs → Every (λ x. Fit f g x.0 x.1) xs
+    seconds : (xs : List (A × DraftRows)) → Every (λ x. P x.0 × Fit f g x.0 x.1) xs → Every (λ x. Fit f g x.0 x.1) xs
     seconds [] e = tt
     seconds (x ∷ xs) e = (e.0.1, seconds xs e.1)
 
-    abbrev Kept : A × Rows → Type 0
+    abbrev Kept : A × DraftRows → Type 0
     Kept x = P x.0 × Fit f g x.0 x.1
 
-    abbrev AllKept : List A × Rows → Type 0
+    abbrev AllKept : List A × DraftRows → Type 0
     AllKept x = Every P x.0 × AllFit f g x.0 x.1
 
-    all_kept : (xs : List (A × Rows)) → Every Kept xs → AllKept (gathered xs)
+    all_kept : (xs : List (A × DraftRows)) → Every Kept xs → AllKept (gathered xs)
     all_kept xs e = (every_map P (λ x. x.0) xs (firsts xs e), gathered_fit xs (seconds xs e))
 
 -- ---- transitions
@@ -167,10 +167,10 @@ module _ (e : Grows Phrase) (w : EachChart e CanWrite) where
 
   -- ---- states and regions
 
-  abbrev RegionKept : ℕ → DraftRegion × Rows → Type 0
+  abbrev RegionKept : ℕ → DraftRegion × DraftRows → Type 0
   RegionKept n = Kept states_in_region transitions_in_region (IsRegionShaped (AreRegionsShaped n))
 
-  abbrev StateKept : ℕ → DraftState × Rows → Type 0
+  abbrev StateKept : ℕ → DraftState × DraftRows → Type 0
   StateKept n = Kept states_in_state transitions_in_state (IsStateShaped (AreRegionsShaped n))
 
   -- what is in a state
@@ -180,13 +180,13 @@ module _ (e : Grows Phrase) (w : EachChart e CanWrite) where
 
   data Fits : ℕ → Inner → Type 1 where
     none_more : Fits zero NoMore
-    in_more : (n : ℕ) (r : Grows (DraftRegion × Rows)) → EachChart r (RegionKept n) → Fits (suc n) (Nested r)
+    in_more : (n : ℕ) (r : Grows (DraftRegion × DraftRows)) → EachChart r (RegionKept n) → Fits (suc n) (Nested r)
 
   bare_kept : (n : ℕ) → EachChart (bare e) (BodyKept n)
   unfolding bare
   bare_kept n = each_made _ _ _ _ _ (BodyKept n) leaving_kept (λ ts h. (none_shaped e w n, (refl, refl), h))
 
-  rowed_kept : {A : Type 0} (f g : A → ℕ) (P : A → Type 0) (r : Grows (A × Rows)) → EachChart r (Kept f g P) → EachChart (rowed r) (AllKept f g P)
+  rowed_kept : {A : Type 0} (f g : A → ℕ) (P : A → Type 0) (r : Grows (A × DraftRows)) → EachChart r (Kept f g P) → EachChart (rowed r) (AllKept f g P)
   rowed_kept f g P r k = each_made _ _ gathered _ _ (AllKept f g P) (listed_kept e w r r (Kept f g P) k k) (all_kept f g P)
 
   inside_kept : (n : ℕ) (i : Inner) → Fits n i → EachChart (inside e i) (BodyKept n)
@@ -228,7 +228,7 @@ module _ (e : Grows Phrase) (w : EachChart e CanWrite) where
       (each_seq _ _ _ _ _ _ (each_any _) (each_seq _ _ _ _ _ _ (each_after _ _ _ name_kept) (body_kept n i f))))
       (λ x h. state_fits n x.0 x.1.0 x.1.1.0 x.1.1.1.0 x.1.1.1.1 h.1.1.0 h.1.1.1)
 
-  region_fits : (n : ℕ) (called : Named) (x : List DraftState × Rows) → IsNamed called
+  region_fits : (n : ℕ) (called : Named) (x : List DraftState × DraftRows) → IsNamed called
       → AllKept states_in_state transitions_in_state (IsStateShaped (AreRegionsShaped n)) x → RegionKept n (region_with called x)
   region_fits n called x h k =
       let r : DraftRegion = region_of called x.0 in
@@ -285,7 +285,7 @@ module _ (e : Grows Phrase) (w : EachChart e CanWrite) where
       (each_either _ _ _ _ (each_made _ _ (λ n. signal_body n n) _ _ (λ b. IsNamed b.named) last_name_kept (λ n h. h)) typed_kept))
       (λ x h. worded_named x.0 x.1.signal x.1 h.1))
 
-  abbrev RegionsKept : List DraftRegion × Rows → Type 0
+  abbrev RegionsKept : List DraftRegion × DraftRows → Type 0
   RegionsKept x = (x.0 ≢ []) × AllKept states_in_region transitions_in_region (IsRegionShaped (AreRegionsShaped 31)) x
 
   regions_kept : EachChart (rowed (region e (within e 31))) RegionsKept
@@ -296,7 +296,7 @@ module _ (e : Grows Phrase) (w : EachChart e CanWrite) where
       (λ x h. (first_there e w x.0 x.1, (h.0, h.1))))
       (λ xs h. (some_there xs h.0, all_kept states_in_region transitions_in_region (IsRegionShaped (AreRegionsShaped 31)) xs h.1))
     where
-      some_there : (xs : List (DraftRegion × Rows)) → xs ≢ [] → map (λ x. x.0) xs ≢ []
+      some_there : (xs : List (DraftRegion × DraftRows)) → xs ≢ [] → map (λ x. x.0) xs ≢ []
       some_there [] n = absurd (n refl)
       some_there (x ∷ xs) n = λ same. cc
 

@@ -11,7 +11,7 @@ use Rattle.sc_text.proofs.Shapes.{expression_tails, expression_is}
 use Rattle.chart_drafts.specs.declared.draft.DraftRegion.{DraftRegion}
 use Rattle.chart_drafts.specs.ChartText.{Grows, the_word, the_sign, roles, kinds, last_name, tested_words, transition_first, state_first}
 use Rattle.chart_drafts.proofs.Shapes.{IsExpression, leaving_first, name_is, flag_is, target_is, placed_is, trigger_is}
-use Rattle.extended_drafts.specs.declared.draft.Rows.{Rows}
+use Rattle.extended_drafts.specs.declared.draft.DraftRows.{DraftRows}
 use Rattle.extended_drafts.specs.ExtendedText.{item_first, item_value, last_value, typed, signalled, bare_signal, plain_body, worded_body, plain, worded, item}
 use Rattle.extended_drafts.specs.ExtendedText.{combining_signs, combining, combined, becoming, emitting, effect_end, effect, next_effect, some_effects}
 use Rattle.extended_drafts.specs.ExtendedText.{effects, deed, last_effects, entry, entry_first}
@@ -19,12 +19,12 @@ use Rattle.extended_drafts.specs.ExtendedText.{some_delay, at_once, waiting, pau
 use Rattle.extended_drafts.specs.ExtendedText.{transition, transitions, leaving, Inner, NoMore, Nested, rowed, bare, nested, inside, simple, acting, body}
 use Rattle.extended_drafts.specs.ExtendedText.{state, region, within, parts, extended, extended_text}
 
-abbrev pub IsRegion : Grows (DraftRegion × Rows) → Type 0
+abbrev pub IsRegion : Grows (DraftRegion × DraftRows) → Type 0
 IsRegion r = Shaped r false (the_word word.Region) []
 
 pub data Fits : Inner → Type 1 where
   nothing : Fits NoMore
-  in_more : (r : Grows (DraftRegion × Rows)) → IsRegion r → Fits (Nested r)
+  in_more : (r : Grows (DraftRegion × DraftRows)) → IsRegion r → Fits (Nested r)
 
 -- ---- items
 
@@ -186,7 +186,7 @@ module _ (e : Grows Phrase) (h : IsExpression e) where
   unfolding bare
   bare_is = shaped_made _ _ _ _ _ _ _ leaving_is
 
-  pub nested_is : (r : Grows (DraftRegion × Rows)) → IsRegion r → Shaped (nested e r) false (the_word word.Region) []
+  pub nested_is : (r : Grows (DraftRegion × DraftRows)) → IsRegion r → Shaped (nested e r) false (the_word word.Region) []
   unfolding nested
   nested_is r i =
       shaped_made _ _ _ _ _ _ _

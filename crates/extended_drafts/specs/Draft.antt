@@ -31,7 +31,7 @@ use Rattle.extended_drafts.specs.declared.draft.EffectEnd.TheVariants as ends
 use Rattle.extended_drafts.specs.declared.draft.DraftEntry.{DraftEntry}
 use Rattle.extended_drafts.specs.declared.draft.StateActions.{StateActions}
 use Rattle.extended_drafts.specs.declared.draft.DraftDelay.{DraftDelay}
-use Rattle.extended_drafts.specs.declared.draft.Rows.{Rows}
+use Rattle.extended_drafts.specs.declared.draft.DraftRows.{DraftRows}
 use Rattle.extended_drafts.specs.declared.draft.StateBody.{StateBody}
 use Rattle.extended_drafts.specs.declared.draft.ExtendedDraft.{ExtendedDraft}
 
@@ -117,18 +117,18 @@ ended moment trigger deed = (transition_of moment false None deed.0 deed.1, opti
 
 -- ---- rows
 
-abbrev pub no_rows : Rows
+abbrev pub no_rows : DraftRows
 no_rows = record { entries = []; delays = [] }
 
-abbrev pub both_rows : Rows → Rows → Rows
+abbrev pub both_rows : DraftRows → DraftRows → DraftRows
 both_rows r s = record { entries = r.entries ++ s.entries; delays = r.delays ++ s.delays }
 
-abbrev pub all_rows : List Rows → Rows
+abbrev pub all_rows : List DraftRows → DraftRows
 all_rows [] = no_rows
 all_rows (r ∷ rows) = both_rows r (all_rows rows)
 
 -- parts with their rows
-abbrev pub gathered : {A : Type 0} → List (A × Rows) → List A × Rows
+abbrev pub gathered : {A : Type 0} → List (A × DraftRows) → List A × DraftRows
 gathered parts = (map (λ x. x.0) parts, all_rows (map (λ x. x.1) parts))
 
 -- parts with what stands beside each
@@ -137,24 +137,24 @@ parted parts = (map (λ x. x.0) parts, map (λ x. x.1) parts)
 
 -- ---- states, regions and charts
 
-abbrev pub body_of : List DraftRegion × Rows → List DraftTransition × List (Option DraftDelay) → StateBody
+abbrev pub body_of : List DraftRegion × DraftRows → List DraftTransition × List (Option DraftDelay) → StateBody
 body_of regions transitions =
     record { regions = regions.0; rows = regions.1; transitions = transitions.0; delays = transitions.1 }
 
 -- a state begins before what is in it
-abbrev pub state_rows : Bool → List DraftEntry → StateBody → Rows
+abbrev pub state_rows : Bool → List DraftEntry → StateBody → DraftRows
 state_rows is_final entries b =
     record { entries = actions_of is_final entries b.transitions ∷ b.rows.entries; delays = b.rows.delays ++ b.delays }
 
-abbrev pub state_with : Bool → Bool → Named → List DraftEntry × StateBody → DraftState × Rows
+abbrev pub state_with : Bool → Bool → Named → List DraftEntry × StateBody → DraftState × DraftRows
 state_with is_initial is_final n body =
     (state_of is_initial is_final n (body.1.regions, body.1.transitions), state_rows is_final body.0 body.1)
 
-abbrev pub region_with : Named → List DraftState × Rows → DraftRegion × Rows
+abbrev pub region_with : Named → List DraftState × DraftRows → DraftRegion × DraftRows
 region_with n states = (region_of n states.0, states.1)
 
 -- an extended chart, by its items, and its regions with their rows
-abbrev pub draft_of : Named → Named → List DraftItem × (List DraftRegion × Rows) → ExtendedDraft
+abbrev pub draft_of : Named → Named → List DraftItem × (List DraftRegion × DraftRows) → ExtendedDraft
 draft_of word n parts =
     record {
       word = word;

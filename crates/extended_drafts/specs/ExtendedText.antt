@@ -40,7 +40,7 @@ use Rattle.extended_drafts.specs.declared.draft.EffectEnd.{EffectEnd}
 use Rattle.extended_drafts.specs.declared.draft.EffectEnd.TheVariants as ends
 use Rattle.extended_drafts.specs.declared.draft.DraftEntry.{DraftEntry}
 use Rattle.extended_drafts.specs.declared.draft.DraftDelay.{DraftDelay}
-use Rattle.extended_drafts.specs.declared.draft.Rows.{Rows}
+use Rattle.extended_drafts.specs.declared.draft.DraftRows.{DraftRows}
 use Rattle.extended_drafts.specs.declared.draft.StateBody.{StateBody}
 use Rattle.extended_drafts.specs.declared.draft.ExtendedDraft.{ExtendedDraft}
 use Rattle.extended_drafts.specs.Draft.{typed_body, signal_body, plain_item, worded_item, combined_by, combination, effect_with, entry_of, delay_of, or_next}
@@ -190,16 +190,16 @@ leaving e = before (transitions e) (the_sign sign.CloseBrace)
 -- the regions within one more state: none, where no more of them may stand in one another
 pub data Inner : Type 1 where
   NoMore : Inner
-  Nested : (region : Grows (DraftRegion × Rows)) → Inner
+  Nested : (region : Grows (DraftRegion × DraftRows)) → Inner
 
 -- parts of one kind, with their rows
-abbrev pub rowed : {A : Type 0} → Grows (A × Rows) → Grows (List A × Rows)
+abbrev pub rowed : {A : Type 0} → Grows (A × DraftRows) → Grows (List A × DraftRows)
 rowed g = made gathered (listed g g)
 
 unfoldable pub bare : Grows Phrase → Grows StateBody
 bare e = made (λ x. body_of ([], no_rows) x) (leaving e)
 
-unfoldable pub nested : Grows Phrase → Grows (DraftRegion × Rows) → Grows StateBody
+unfoldable pub nested : Grows Phrase → Grows (DraftRegion × DraftRows) → Grows StateBody
 nested e region = made (λ x. body_of x.0 x.1) (seq (rowed region) (leaving e))
 
 unfoldable pub inside : Grows Phrase → Inner → Grows StateBody
@@ -215,12 +215,12 @@ acting e inner = seq (many (entry e)) (inside e inner)
 unfoldable pub body : Grows Phrase → Inner → Grows (List DraftEntry × StateBody)
 body e inner = either simple (after (the_sign sign.OpenBrace) (acting e inner))
 
-unfoldable pub state : Grows Phrase → Inner → Grows (DraftState × Rows)
+unfoldable pub state : Grows Phrase → Inner → Grows (DraftState × DraftRows)
 state e inner =
     made (λ x. state_with x.0 x.1.0 x.1.1.0 x.1.1.1)
     (seq (flag word.Initial) (seq (flag word.Final) (seq (after (the_word word.State) name) (body e inner))))
 
-unfoldable pub region : Grows Phrase → Inner → Grows (DraftRegion × Rows)
+unfoldable pub region : Grows Phrase → Inner → Grows (DraftRegion × DraftRows)
 region e inner =
     made (λ x. region_with x.0 x.1) (seq (after (the_word word.Region) name) (braced (rowed (state e inner))))
 
@@ -231,7 +231,7 @@ within e (suc n) = Nested (region e (within e n))
 
 -- ---- charts
 
-unfoldable pub parts : Grows Phrase → Inner → Grows (List DraftItem × (List DraftRegion × Rows))
+unfoldable pub parts : Grows Phrase → Inner → Grows (List DraftItem × (List DraftRegion × DraftRows))
 parts e inner = seq (many (item e)) (rowed (region e inner))
 
 -- an extended chart, where so many levels of regions may stand inside its own

@@ -71,7 +71,7 @@ pub struct DraftDelay {
 /// What is new in states and transitions: a row of actions for each state, in the order in which states begin in the
 /// text, and what each transition waits for, in the order of the text.
 #[derive(Debug, Drop)]
-pub struct Rows {
+pub struct DraftRows {
     pub entries: Items<StateActions>,
     pub delays: Items<Option<DraftDelay>>,
 }
@@ -80,7 +80,7 @@ pub struct Rows {
 #[derive(Debug, Drop)]
 pub struct StateBody {
     pub regions: Items<DraftRegion>,
-    pub rows: Rows,
+    pub rows: DraftRows,
     pub transitions: Items<DraftTransition>,
     pub delays: Items<Option<DraftDelay>>,
 }
@@ -92,5 +92,5 @@ pub struct ExtendedDraft {
     pub word: Named,
     pub core: DraftChart,
     pub items: Items<DraftItem>,
-    pub rows: Rows,
+    pub rows: DraftRows,
 }

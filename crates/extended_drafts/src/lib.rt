@@ -20,7 +20,7 @@ mod words;
 
 pub use checked::{extended_told_flaws, read_checked_extended};
 pub use draft::{
-    Combination, DraftDelay, DraftEntry, DraftItem, EffectEnd, ExtendedDraft, ItemBody, Rows,
+    Combination, DraftDelay, DraftEntry, DraftItem, DraftRows, EffectEnd, ExtendedDraft, ItemBody,
     StateActions, StateBody,
 };
 pub use laws::{extended_drafts_are_shaped, extended_texts_are_told};

@@ -8,7 +8,7 @@ ghost use Rattle.chart_drafts.specs.ChartText.{braced};
 ghost use Rattle.chart_drafts.specs.Phrase.{Gives};
 ghost use Rattle.extended_drafts.specs.ExtendedText.{rowed, inside, acting, body, state, region, within};
 
-use crate::draft::{DraftEntry, Rows, StateBody};
+use crate::draft::{DraftEntry, DraftRows, StateBody};
 use crate::entries::entries;
 use crate::rows::state_with;
 use crate::transitions::leaving;
@@ -26,7 +26,7 @@ pub(crate) fn regions(
     depth: u8,
     ahead: &mut Ahead,
     end: usize,
-) -> Result<(Items<DraftRegion>, Rows), ReadFault>
+) -> Result<(Items<DraftRegion>, DraftRows), ReadFault>
     ensures { MatchResult result
         (λ x. Gives (read (rowed (region (expression 0) (within (expression 0) depth)))
         ahead.old.tokens.now) x ahead.new.tokens.now)
@@ -55,7 +55,7 @@ fn region(
     depth: u8,
     ahead: &mut Ahead,
     end: usize,
-) -> Result<(DraftRegion, Rows), ReadFault>
+) -> Result<(DraftRegion, DraftRows), ReadFault>
     ensures { MatchResult result
         (λ x. Gives (read
         (region (expression 0) (within (expression 0) depth)) ahead.old.tokens.now) x ahead.new.tokens.now)
@@ -73,7 +73,7 @@ fn braced_states(
     depth: u8,
     ahead: &mut Ahead,
     end: usize,
-) -> Result<(Items<DraftState>, Rows), ReadFault>
+) -> Result<(Items<DraftState>, DraftRows), ReadFault>
     ensures { MatchResult result
         (λ x. Gives (read (braced (rowed (state (expression 0) (within (expression 0) depth))))
         ahead.old.tokens.now) x ahead.new.tokens.now)
@@ -92,7 +92,7 @@ fn states(
     depth: u8,
     ahead: &mut Ahead,
     end: usize,
-) -> Result<(Items<DraftState>, Rows), ReadFault>
+) -> Result<(Items<DraftState>, DraftRows), ReadFault>
     ensures { MatchResult result
         (λ x. Gives (read (rowed (state (expression 0) (within (expression 0) depth)))
         ahead.old.tokens.now) x ahead.new.tokens.now)
@@ -121,7 +121,7 @@ fn state(
     depth: u8,
     ahead: &mut Ahead,
     end: usize,
-) -> Result<(DraftState, Rows), ReadFault>
+) -> Result<(DraftState, DraftRows), ReadFault>
     ensures { MatchResult result
         (λ x. Gives (read
         (state (expression 0) (within (expression 0) depth)) ahead.old.tokens.now) x ahead.new.tokens.now)
@@ -190,7 +190,7 @@ fn inside(alloc: Global, depth: u8, ahead: &mut Ahead, end: usize) -> Result<Sta
         let (transitions, delays) = leaving(alloc, ahead, end)?;
         return Ok(StateBody {
             regions: Items::new(alloc),
-            rows: Rows::new(alloc),
+            rows: DraftRows::new(alloc),
             transitions,
             delays,
         });

@@ -1,30 +1,30 @@
-//! Rows of what is new in states and transitions.
+//! DraftRows of what is new in states and transitions.
 
 ghost use Rattle.std.specs.Prelude.{◌≡◌, [], ◌∷◌, ◌++◌, IfOk, OnOk};
 ghost use Rattle.extended_drafts.specs.Draft.{no_rows, both_rows, body_of, has_join, actions_of, state_with};
 
-use crate::draft::{DraftDelay, DraftEntry, Rows, StateActions, StateBody};
+use crate::draft::{DraftDelay, DraftEntry, DraftRows, StateActions, StateBody};
 use chart_drafts::{DraftState, DraftTransition};
 use drafts::Named;
 use sqlite_items::Items;
 use std::alloc::{AllocError, Global};
 
-impl Rows {
+impl DraftRows {
     /// No rows.
-    pub(crate) fn new(alloc: Global) -> Rows
+    pub(crate) fn new(alloc: Global) -> DraftRows
         ensures { result ≡ no_rows }
     {
-        Rows {
+        DraftRows {
             entries: Items::new(alloc),
             delays: Items::new(alloc),
         }
     }
 
     /// Moves these rows behind the others. Err: memory was refused.
-    pub(crate) fn append(&mut self, more: Rows) -> Result<(), AllocError>
+    pub(crate) fn append(&mut self, more: DraftRows) -> Result<(), AllocError>
         ensures { OnOk result (self.new ≡ both_rows self.old more) }
     {
-        let Rows { entries, delays } = more;
+        let DraftRows { entries, delays } = more;
         self.entries.append(entries)?;
         self.delays.append(delays)
     }
@@ -37,7 +37,7 @@ impl StateBody {
     {
         StateBody {
             regions: Items::new(alloc),
-            rows: Rows::new(alloc),
+            rows: DraftRows::new(alloc),
             transitions: Items::new(alloc),
             delays: Items::new(alloc),
         }
@@ -51,7 +51,7 @@ pub(crate) fn state_with(
     is_final: bool,
     named: Named,
     body: (Items<DraftEntry>, StateBody),
-) -> Result<(DraftState, Rows), AllocError>
+) -> Result<(DraftState, DraftRows), AllocError>
     ensures { IfOk result (λ state. state ≡ state_with is_initial is_final named body) }
 {
     let (own, inside) = body;
@@ -97,13 +97,13 @@ fn actions_of(
 fn with_own(
     alloc: Global,
     own: StateActions,
-    inside: Rows,
+    inside: DraftRows,
     waits: Items<Option<DraftDelay>>,
-) -> Result<Rows, AllocError>
+) -> Result<DraftRows, AllocError>
     ensures { IfOk result (λ rows. rows ≡
         record { entries = own ∷ inside.entries; delays = inside.delays ++ waits }) }
 {
-    let Rows {
+    let DraftRows {
         entries: inner,
         delays: mut all,
     } = inside;
@@ -111,7 +111,7 @@ fn with_own(
     entries.push(own)?;
     entries.append(inner)?;
     all.append(waits)?;
-    Ok(Rows {
+    Ok(DraftRows {
         entries,
         delays: all,
     })

@@ -11,7 +11,7 @@ ghost use Rattle.extended_drafts.specs.Draft.{draft_of};
 ghost use Rattle.extended_drafts.specs.ExtendedText.{parts, within, extended_text};
 ghost use Rattle.extended_drafts.specs.Reading.{IsExtendedDraft, IsDraftFault};
 
-use crate::draft::{DraftItem, ExtendedDraft, Rows};
+use crate::draft::{DraftItem, DraftRows, ExtendedDraft};
 use crate::items::{declarations, items};
 use crate::regions::regions;
 use chart_drafts::text_parts::{Ahead, name, skip_sign, title};
@@ -71,7 +71,7 @@ fn chart(
     alloc: Global,
     ahead: &mut Ahead,
     end: usize,
-) -> Result<(Named, (Items<DraftItem>, (Items<DraftRegion>, Rows))), ReadFault>
+) -> Result<(Named, (Items<DraftItem>, (Items<DraftRegion>, DraftRows))), ReadFault>
     ensures { MatchResult result
         (λ x. Gives (read (seq (after (the_word Word.Chart) name) (braced (parts (expression 0)
         (within (expression 0) 31)))) ahead.old.tokens.now) x ahead.new.tokens.now)
@@ -88,7 +88,7 @@ fn braced_parts(
     alloc: Global,
     ahead: &mut Ahead,
     end: usize,
-) -> Result<(Items<DraftItem>, (Items<DraftRegion>, Rows)), ReadFault>
+) -> Result<(Items<DraftItem>, (Items<DraftRegion>, DraftRows)), ReadFault>
     ensures { MatchResult result
         (λ x. Gives (read (braced (parts (expression 0) (within (expression 0) 31)))
         ahead.old.tokens.now) x ahead.new.tokens.now)
@@ -106,7 +106,7 @@ fn parts(
     alloc: Global,
     ahead: &mut Ahead,
     end: usize,
-) -> Result<(Items<DraftItem>, (Items<DraftRegion>, Rows)), ReadFault>
+) -> Result<(Items<DraftItem>, (Items<DraftRegion>, DraftRows)), ReadFault>
     ensures { MatchResult result
         (λ x. Gives (read (parts (expression 0) (within (expression 0) 31))
         ahead.old.tokens.now) x ahead.new.tokens.now)
@@ -122,7 +122,7 @@ fn draft_of(
     alloc: Global,
     word: Named,
     named: Named,
-    parts: (Items<DraftItem>, (Items<DraftRegion>, Rows)),
+    parts: (Items<DraftItem>, (Items<DraftRegion>, DraftRows)),
 ) -> Result<ExtendedDraft, AllocError>
     ensures { IfOk result (λ draft. draft ≡ draft_of word named parts) }
 {

@@ -5,7 +5,7 @@ use Rattle.chart_drafts.specs.declared.draft.DraftRegion.TheViews.{out-DraftRegi
 use Rattle.chart_drafts.specs.declared.draft.DraftRegion.TheFolds.{fold_out-DraftRegion, fold_out-DraftState}
 use Rattle.chart_drafts.specs.declared.draft.DraftState.{DraftState}
 use Rattle.chart_drafts.specs.Flaws.{state_names}
-use Rattle.extended_drafts.specs.declared.draft.Rows.{Rows}
+use Rattle.extended_drafts.specs.declared.draft.DraftRows.{DraftRows}
 use Rattle.extended_charts.specs.declared.extended.ExtendedRegion.{ExtendedRegion}
 use Rattle.extended_charts.specs.declared.extended.ExtendedState.{ExtendedState}
 use Rattle.extended_charts.specs.declared.extended.ExtendedRegion.TheOpen.{ExtendedRegion-F, ExtendedState-F}
@@ -23,11 +23,11 @@ module _ (names : List (List ℕ)) where
   })
   piece_is s = fold_out-DraftState RegionPiece StatePiece (region_step names) (state_step names) s
 
-  abbrev pub left_inside : DraftState → Rows → Rows
+  abbrev pub left_inside : DraftState → DraftRows → DraftRows
   left_inside s rows = behind_regions (behind_state rows) (map (region_of names) (out-DraftState s).regions)
 
   -- what a state is made of
-  abbrev pub state_parts : (states : List (List ℕ)) → DraftState → Rows → ExtendedState-F ExtendedRegion ExtendedState
+  abbrev pub state_parts : (states : List (List ℕ)) → DraftState → DraftRows → ExtendedState-F ExtendedRegion ExtendedState
   state_parts states s rows = record {
     name = (out-DraftState s).named.name;
     is_own = true;
@@ -40,10 +40,12 @@ module _ (names : List (List ℕ)) where
     transitions = all_transitions names states (left_inside s rows) (out-DraftState s).transitions;
   }
 
-  pub state_is : (states : List (List ℕ)) (s : DraftState) (rows : Rows) → (state_of names s).made states rows ≡ roll-ExtendedState (state_parts states s rows)
+  pub state_is : (states : List (List ℕ)) (s : DraftState) (rows : DraftRows)
+      → (state_of names s).made states rows ≡ roll-ExtendedState (state_parts states s rows)
   state_is states s rows = ap (λ p. p.made states rows) (piece_is s)
 
-  pub state_leaves : (s : DraftState) (rows : Rows) → (state_of names s).behind rows ≡ behind_transitions (left_inside s rows) (out-DraftState s).transitions
+  pub state_leaves : (s : DraftState) (rows : DraftRows)
+      → (state_of names s).behind rows ≡ behind_transitions (left_inside s rows) (out-DraftState s).transitions
   state_leaves s rows = ap (λ p. p.behind rows) (piece_is s)
 
   piece_names : (states : List DraftState) → map (λ (p : StatePiece). p.name) (map (state_of names) states) ≡ state_names states
@@ -58,13 +60,13 @@ module _ (names : List (List ℕ)) where
   region_piece_is r = fold_out-DraftRegion RegionPiece StatePiece (region_step names) (state_step names) r
 
   -- what a region is made of
-  abbrev pub region_parts : DraftRegion → Rows → ExtendedRegion-F ExtendedRegion ExtendedState
+  abbrev pub region_parts : DraftRegion → DraftRows → ExtendedRegion-F ExtendedRegion ExtendedState
   region_parts r rows = record {
     name = (out-DraftRegion r).named.name;
     states = all_states (state_names (out-DraftRegion r).states) rows (map (state_of names) (out-DraftRegion r).states);
   }
 
-  pub region_is : (r : DraftRegion) (rows : Rows) → (region_of names r).made rows ≡ roll-ExtendedRegion (region_parts r rows)
+  pub region_is : (r : DraftRegion) (rows : DraftRows) → (region_of names r).made rows ≡ roll-ExtendedRegion (region_parts r rows)
   region_is r rows =
       ap (λ p. p.made rows) (region_piece_is r)
       ∙ ap (λ own. roll-ExtendedRegion (record {
@@ -72,6 +74,6 @@ module _ (names : List (List ℕ)) where
         states = all_states own rows (map (state_of names) (out-DraftRegion r).states);
       })) (piece_names (out-DraftRegion r).states)
 
-  pub region_leaves : (r : DraftRegion) (rows : Rows) → (region_of names r).behind rows
+  pub region_leaves : (r : DraftRegion) (rows : DraftRows) → (region_of names r).behind rows
       ≡ behind_states rows (map (state_of names) (out-DraftRegion r).states)
   region_leaves r rows = ap (λ p. p.behind rows) (region_piece_is r)

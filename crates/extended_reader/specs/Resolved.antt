@@ -20,7 +20,7 @@ use Rattle.chart_reader.specs.Resolved.{effect_of, transition_of}
 use Rattle.extended_drafts.specs.declared.draft.DraftEntry.{DraftEntry}
 use Rattle.extended_drafts.specs.declared.draft.StateActions.{StateActions}
 use Rattle.extended_drafts.specs.declared.draft.DraftDelay.{DraftDelay}
-use Rattle.extended_drafts.specs.declared.draft.Rows.{Rows}
+use Rattle.extended_drafts.specs.declared.draft.DraftRows.{DraftRows}
 use Rattle.extended_drafts.specs.declared.draft.ExtendedDraft.{ExtendedDraft}
 use Rattle.extended_charts.specs.declared.extended.During.{During}
 use Rattle.extended_charts.specs.declared.extended.ExtendedChart.{ExtendedChart}
@@ -98,47 +98,47 @@ behind_first [] = []
 behind_first (x ∷ xs) = xs
 
 -- the rows that are left where a state begins
-abbrev pub behind_state : Rows → Rows
+abbrev pub behind_state : DraftRows → DraftRows
 behind_state rows = record { entries = behind_first rows.entries; delays = rows.delays }
 
 -- the rows that are left behind a transition
-abbrev pub behind_transition : Rows → Rows
+abbrev pub behind_transition : DraftRows → DraftRows
 behind_transition rows = record { entries = rows.entries; delays = behind_first rows.delays }
 
 -- ---- regions and states: what each is where these rows are left, and which ones it leaves
 
 pub record RegionPiece : Type 0 where
-  pub made : Rows → ExtendedRegion
-  pub behind : Rows → Rows
+  pub made : DraftRows → ExtendedRegion
+  pub behind : DraftRows → DraftRows
 
 -- a state is in a region whose states have these names
 pub record StatePiece : Type 0 where
   pub name : List ℕ
-  pub made : (states : List (List ℕ)) → Rows → ExtendedState
-  pub behind : Rows → Rows
+  pub made : (states : List (List ℕ)) → DraftRows → ExtendedState
+  pub behind : DraftRows → DraftRows
 
-abbrev pub all_transitions : (names states : List (List ℕ)) → Rows → List DraftTransition → List Transition
+abbrev pub all_transitions : (names states : List (List ℕ)) → DraftRows → List DraftTransition → List Transition
 all_transitions names states rows [] = []
 all_transitions names states rows (t ∷ transitions) =
     delayed_transition names states (first_delay rows.delays) t ∷ all_transitions names states (behind_transition rows) transitions
 
-abbrev pub behind_transitions : Rows → List DraftTransition → Rows
+abbrev pub behind_transitions : DraftRows → List DraftTransition → DraftRows
 behind_transitions rows [] = rows
 behind_transitions rows (t ∷ transitions) = behind_transitions (behind_transition rows) transitions
 
-abbrev pub all_regions : Rows → List RegionPiece → List ExtendedRegion
+abbrev pub all_regions : DraftRows → List RegionPiece → List ExtendedRegion
 all_regions rows [] = []
 all_regions rows (r ∷ regions) = r.made rows ∷ all_regions (r.behind rows) regions
 
-abbrev pub behind_regions : Rows → List RegionPiece → Rows
+abbrev pub behind_regions : DraftRows → List RegionPiece → DraftRows
 behind_regions rows [] = rows
 behind_regions rows (r ∷ regions) = behind_regions (r.behind rows) regions
 
-abbrev pub all_states : (states : List (List ℕ)) → Rows → List StatePiece → List ExtendedState
+abbrev pub all_states : (states : List (List ℕ)) → DraftRows → List StatePiece → List ExtendedState
 all_states names rows [] = []
 all_states names rows (s ∷ states) = s.made names rows ∷ all_states names (s.behind rows) states
 
-abbrev pub behind_states : Rows → List StatePiece → Rows
+abbrev pub behind_states : DraftRows → List StatePiece → DraftRows
 behind_states rows [] = rows
 behind_states rows (s ∷ states) = behind_states (s.behind rows) states
 
