@@ -1,3 +1,3 @@
 pub mod Cores
-pub mod Reduced
+pub mod Lacking
 pub mod Drawn

@@ -1,5 +1,5 @@
 -- The text of the core chart of a chart.
-use Rattle.std.specs.Prelude.{ℕ, ◌≡◌, ◌⊎◌, Option, List, string_bytes}
+use Rattle.std.specs.Prelude.{ℕ, ◌≡◌, ◌⊎◌, Option, List}
 use Rattle.std.specs.Str.{IsUtf8}
 use Rattle.core_charts.specs.Chart.{Chart}
 use Rattle.chart_reader.specs.Read.{IsRead}
@@ -11,8 +11,8 @@ use Rattle.compiler.specs.declared.fault.CompileFault.TheVariants as compiling
 use Rattle.image_charts.specs.Charts.{SpellsNoChart}
 use Rattle.command_files.specs.declared.fault.LoadFault.{LoadFault}
 use Rattle.command_files.specs.declared.fault.LoadFault.TheVariants as load
-use Rattle.command_files.specs.FaultText.{shown_name}
-use Rattle.command_files.specs.Files.{Contents, HasBytes, LacksFile}
+use Rattle.command_files.specs.Files.{Contents, HasBytes}
+use Rattle.command_texts.specs.Lacking.{FileLacks}
 
 -- ---- what there is
 
@@ -53,6 +53,4 @@ BytesLackCore bytes other = ⊥
 
 -- why a file has none
 abbrev pub FileLacksCore : Option Contents → List ℕ → LoadFault → Type 0
-FileLacksCore files name load.Memory = Unit {0}
-FileLacksCore files name (load.File shown) = LacksFile files name × (string_bytes shown ≡ shown_name name)
-FileLacksCore files name f = (bytes : List ℕ) × HasBytes files name bytes × BytesLackCore bytes f
+FileLacksCore files name f = FileLacks BytesLackCore files name f

@@ -1,4 +1,5 @@
 pub mod Cores
+pub mod Lacking
 pub mod Reductions
 pub mod Drawing
 pub mod Images

@@ -1,12 +1,12 @@
 -- The text of the chart to which an extended chart is reduced.
-use Rattle.std.specs.Prelude.{ℕ, ◌≡◌, Option, List, string_bytes}
+use Rattle.std.specs.Prelude.{ℕ, ◌≡◌, Option, List}
 use Rattle.abort_expansion.specs.declared.fault.ExpandFault.TheVariants as expanding
 use Rattle.extended_sources.specs.Sources.{HasReduced, SpellsNoExtended, SpellsUnreduced}
 use Rattle.compiler.specs.declared.fault.CompileFault.TheVariants as compiling
 use Rattle.command_files.specs.declared.fault.LoadFault.{LoadFault}
 use Rattle.command_files.specs.declared.fault.LoadFault.TheVariants as load
-use Rattle.command_files.specs.FaultText.{shown_name}
-use Rattle.command_files.specs.Files.{Contents, HasBytes, LacksFile}
+use Rattle.command_files.specs.Files.{Contents, HasBytes}
+use Rattle.command_texts.specs.Lacking.{FileLacks}
 
 -- the text is that of the chart to which the extended chart in this file is reduced
 pub record IsReducedIn (files : Option Contents) (name text : List ℕ) : Type 0 where
@@ -24,6 +24,4 @@ BytesLackReduced bytes other = ⊥
 
 -- why a file has none
 abbrev pub FileLacksReduced : Option Contents → List ℕ → LoadFault → Type 0
-FileLacksReduced files name load.Memory = Unit {0}
-FileLacksReduced files name (load.File shown) = LacksFile files name × (string_bytes shown ≡ shown_name name)
-FileLacksReduced files name f = (bytes : List ℕ) × HasBytes files name bytes × BytesLackReduced bytes f
+FileLacksReduced files name f = FileLacks BytesLackReduced files name f

@@ -43,7 +43,7 @@ fn core_of_bytes(alloc: Global, bytes: &[u8]) -> Result<String, LoadFault>
 }
 
 /// The text of the core chart of the chart in this file. Err: there is no chart in the file, or it has no such text.
-#[tactic(auto, using(crate::proofs::Cores::no_file, crate::proofs::Cores::no_core))]
+#[tactic(auto, using(crate::proofs::Lacking::no_file, crate::proofs::Lacking::no_text))]
 pub(crate) fn core_in<F: Files>(
     alloc: Global,
     name: &str,

@@ -30,7 +30,7 @@ fn reduced_of_bytes(alloc: Global, bytes: &[u8]) -> Result<String, LoadFault>
 
 /// The text of the chart to which the extended chart in this file is reduced. Err: there is no extended chart in the
 /// file, or it has no such text.
-#[tactic(auto, using(crate::proofs::Reduced::no_file, crate::proofs::Reduced::no_chart))]
+#[tactic(auto, using(crate::proofs::Lacking::no_file, crate::proofs::Lacking::no_text))]
 pub(crate) fn reduced_in<F: Files>(
     alloc: Global,
     name: &str,
