@@ -1,1 +1,3 @@
 mod Nested
+mod TextLayers
+pub mod LayeredStates

@@ -1,0 +1,64 @@
+-- What a region and a state are as layers.
+use Rattle.std.proofs.Common.{◌≡◌, ◌∙◌, Bool, not, ◌&&◌, ◌||◌, List, [], ◌∷◌, map, refl, ap, sym}
+use Rattle.std.specs.List.{list_all, list_any}
+use Rattle.core_charts.specs.declared.region.Region.{Region}
+use Rattle.core_charts.specs.declared.region.State.{State}
+use Rattle.core_charts.specs.declared.region.Region.TheViews.{out-Region, out-State}
+use Rattle.core_charts.specs.declared.region.Region.TheFolds.{fold_out-Region, fold_out-State}
+use Rattle.core_charts.specs.Aborts.{has_strong, has_weak, has_aborts}
+use Rattle.flat_charts.specs.Layers.{Layers, region_layers, state_layers, layers_of_region, layers_of_state}
+
+any_mapped : {A B : Type 0} (f : B → Bool) (g : A → B) (xs : List A) → list_any f (map g xs) ≡ list_any (λ x. f (g x)) xs
+any_mapped f g [] = refl
+any_mapped f g (x ∷ xs) = ap (λ b. f (g x) || b) (any_mapped f g xs)
+
+all_mapped : {A B : Type 0} (f : B → Bool) (g : A → B) (xs : List A) → list_all f (map g xs) ≡ list_all (λ x. f (g x)) xs
+all_mapped f g [] = refl
+all_mapped f g (x ∷ xs) = ap (λ b. f (g x) && b) (all_mapped f g xs)
+
+pub region_some : (r : Region) → list_any (λ s. (layers_of_state s).has_some) (out-Region r).states ≡ (layers_of_region r).has_some
+region_some r =
+    sym (ap (λ n. n.has_some) (fold_out-Region Layers Layers region_layers state_layers r)
+    ∙ any_mapped (λ n. n.has_some) layers_of_state (out-Region r).states)
+
+pub region_weak : (r : Region) → list_any (λ s. (layers_of_state s).has_weak) (out-Region r).states ≡ (layers_of_region r).has_weak
+region_weak r =
+    sym (ap (λ n. n.has_weak) (fold_out-Region Layers Layers region_layers state_layers r)
+    ∙ any_mapped (λ n. n.has_weak) layers_of_state (out-Region r).states)
+
+pub region_layered : (r : Region) → list_all (λ s. (layers_of_state s).is_layered) (out-Region r).states ≡ (layers_of_region r).is_layered
+region_layered r =
+    sym (ap (λ n. n.is_layered) (fold_out-Region Layers Layers region_layers state_layers r)
+    ∙ all_mapped (λ n. n.is_layered) layers_of_state (out-Region r).states)
+
+pub state_some : (s : State) → (has_aborts (out-State s).transitions || list_any (λ r. (layers_of_region r).has_some) (out-State s).regions) ≡
+    (layers_of_state s).has_some
+state_some s =
+    sym (ap (λ n. n.has_some) (fold_out-State Layers Layers region_layers state_layers s)
+    ∙ ap (λ b. has_aborts (out-State s).transitions || b) (any_mapped (λ n. n.has_some) layers_of_region (out-State s).regions))
+
+pub state_weak : (s : State) → (has_weak (out-State s).transitions || list_any (λ r. (layers_of_region r).has_weak) (out-State s).regions) ≡
+    (layers_of_state s).has_weak
+state_weak s =
+    sym (ap (λ n. n.has_weak) (fold_out-State Layers Layers region_layers state_layers s)
+    ∙ ap (λ b. has_weak (out-State s).transitions || b) (any_mapped (λ n. n.has_weak) layers_of_region (out-State s).regions))
+
+-- none with aborts lies in one with strong ones, and none with weak ones in one with aborts
+abbrev pub together : (all strong some aborts weak : Bool) → Bool
+together all strong some aborts weak = all && (not (strong && some) && not (aborts && weak))
+
+pub state_layered : (s : State) →
+    together (list_all (λ r. (layers_of_region r).is_layered) (out-State s).regions) (has_strong (out-State s).transitions)
+    (list_any (λ r. (layers_of_region r).has_some) (out-State s).regions) (has_aborts (out-State s).transitions)
+    (list_any (λ r. (layers_of_region r).has_weak) (out-State s).regions) ≡ (layers_of_state s).is_layered
+state_layered s =
+    sym (ap (λ n. n.is_layered) (fold_out-State Layers Layers region_layers state_layers s)
+    ∙ (ap (λ b. together b (has_strong (out-State s).transitions) (list_any (λ n. n.has_some) (map layers_of_region (out-State s).regions))
+    (has_aborts (out-State s).transitions) (list_any (λ n. n.has_weak) (map layers_of_region (out-State s).regions)))
+    (all_mapped (λ n. n.is_layered) layers_of_region (out-State s).regions)
+    ∙ (ap (λ b. together (list_all (λ r. (layers_of_region r).is_layered) (out-State s).regions) (has_strong (out-State s).transitions) b
+    (has_aborts (out-State s).transitions) (list_any (λ n. n.has_weak) (map layers_of_region (out-State s).regions)))
+    (any_mapped (λ n. n.has_some) layers_of_region (out-State s).regions)
+    ∙ ap (together (list_all (λ r. (layers_of_region r).is_layered) (out-State s).regions) (has_strong (out-State s).transitions)
+    (list_any (λ r. (layers_of_region r).has_some) (out-State s).regions) (has_aborts (out-State s).transitions))
+    (any_mapped (λ n. n.has_weak) layers_of_region (out-State s).regions))))

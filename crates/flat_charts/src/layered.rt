@@ -1,0 +1,117 @@
+//! Whether a chart is layered.
+
+ghost use Rattle.std.specs.Prelude.{◌≡◌, ◌↔◌, ◌&&◌, ◌||◌, not, IsTrue};
+ghost use Rattle.std.specs.List.{list_all, list_any};
+ghost use Rattle.flat_charts.specs.Layers.{IsLayeredText, layers_of_region, layers_of_state};
+ghost use Rattle.flat_charts.specs.Laws.{LayeredTextsAreLayered};
+
+use core_charts::{Chart, Region, State, has_aborts, has_strong, has_weak};
+
+// Of a piece of a chart: whether a superstate in it has aborts, whether one has weak ones, and whether aborts lie in
+// aborts there only as strong ones alone in weak ones alone.
+#[derive(Clone, Copy)]
+struct Layers {
+    has_some: bool,
+    has_weak: bool,
+    is_layered: bool,
+}
+
+// Which aborts a state has.
+#[derive(Clone, Copy)]
+struct Aborts {
+    strong: bool,
+    weak: bool,
+    some: bool,
+}
+
+/// Whether a chart is layered, by its text: where a superstate with aborts lies inside another one with aborts, the
+/// outer one has weak aborts alone, and the inner one strong aborts alone.
+pub fn is_layered(chart: &Chart) -> bool
+    ensures { IsTrue result ↔ IsLayeredText chart.now }
+{
+    of_regions(chart.regions()).is_layered
+}
+
+/// A chart whose text is layered is layered, by the numbers of its states. This function does nothing; its contract is
+/// the law.
+pub fn layered_texts_are_layered()
+    ensures { LayeredTextsAreLayered }
+{}
+
+// Of regions side by side.
+#[cycle(layers)]
+fn of_regions(regions: &[Region]) -> Layers
+    ensures some { result.has_some ≡ list_any (λ r. (layers_of_region r).has_some) regions.now }
+    ensures weak { result.has_weak ≡ list_any (λ r. (layers_of_region r).has_weak) regions.now }
+    ensures layered { result.is_layered ≡ list_all (λ r. (layers_of_region r).is_layered) regions.now }
+{
+    let mut has_some = false;
+    let mut has_weak = false;
+    let mut is_layered = true;
+    for region in regions {
+        let layers = of_region(region);
+        has_some = has_some || layers.has_some;
+        has_weak = has_weak || layers.has_weak;
+        is_layered = is_layered && layers.is_layered;
+    }
+    Layers {
+        has_some,
+        has_weak,
+        is_layered,
+    }
+}
+
+// Of a region.
+#[cycle(layers)]
+fn of_region(region: &Region) -> Layers
+    ensures some { result.has_some ≡ (layers_of_region region.now).has_some }
+    ensures weak { result.has_weak ≡ (layers_of_region region.now).has_weak }
+    ensures layered { result.is_layered ≡ (layers_of_region region.now).is_layered }
+{
+    let mut has_some = false;
+    let mut has_weak = false;
+    let mut is_layered = true;
+    for state in region.states.as_slice() {
+        let layers = of_state(state);
+        has_some = has_some || layers.has_some;
+        has_weak = has_weak || layers.has_weak;
+        is_layered = is_layered && layers.is_layered;
+    }
+    Layers {
+        has_some,
+        has_weak,
+        is_layered,
+    }
+}
+
+// Of a state.
+#[cycle(layers)]
+fn of_state(state: &State) -> Layers
+    ensures some { result.has_some ≡ (layers_of_state state.now).has_some }
+    ensures weak { result.has_weak ≡ (layers_of_state state.now).has_weak }
+    ensures layered { result.is_layered ≡ (layers_of_state state.now).is_layered }
+{
+    let inside = of_regions(state.regions.as_slice());
+    let transitions = state.transitions.as_slice();
+    let aborts = Aborts {
+        strong: has_strong(transitions),
+        weak: has_weak(transitions),
+        some: has_aborts(transitions),
+    };
+    around(aborts, inside)
+}
+
+// Of a superstate with these aborts, whose inside is this.
+fn around(aborts: Aborts, inside: Layers) -> Layers
+    ensures some { result.has_some ≡ (aborts.some || inside.has_some) }
+    ensures weak { result.has_weak ≡ (aborts.weak || inside.has_weak) }
+    ensures layered { result.is_layered ≡ (inside.is_layered
+        && (not (aborts.strong && inside.has_some) && not (aborts.some && inside.has_weak))) }
+{
+    Layers {
+        has_some: aborts.some || inside.has_some,
+        has_weak: aborts.weak || inside.has_weak,
+        is_layered: inside.is_layered
+            && (!(aborts.strong && inside.has_some) && !(aborts.some && inside.has_weak)),
+    }
+}
