@@ -1,5 +1,5 @@
 -- The names of the files that stand beside a program's text.
-use Rattle.std.specs.Prelude.{ℕ, ◌-◌, Bool, ◌&&◌, ◌||◌, List, ◌∷◌, ◌++◌, Option, Some}
+use Rattle.std.specs.Prelude.{ℕ, ◌-◌, Bool, ◌&&◌, List, ◌∷◌, ◌++◌, Option, Some}
 use Rattle.std.specs.Prelude.{None, codes, filter, is_some, length, map, take, drop, if◌then◌else◌, unwrap_or}
 use Rattle.std.specs.List.{list_any}
 use Rattle.std.specs.Str.{bytes_eq}
@@ -10,13 +10,17 @@ without ending name =
     let before = length name - length ending in
     if bytes_eq (drop before name) ending then Some (take before name) else None
 
-abbrev pub or_whole : List ℕ → Option (List ℕ) → List ℕ
-or_whole name (Some front) = front
-or_whole name None = unwrap_or (without (codes ".scl") name) name
+abbrev pub or_else : Option (List ℕ) → Option (List ℕ) → Option (List ℕ)
+or_else (Some front) other = Some front
+or_else None other = other
 
--- the name of a text without its ending, which is that of a chart or that of a program; another name is whole
+-- a name without its ending, where it ends as that of a chart, of an extended chart or of a program
+abbrev pub front : List ℕ → Option (List ℕ)
+front name = or_else (without (codes ".chart") name) (or_else (without (codes ".extended") name) (without (codes ".scl") name))
+
+-- the name of a text without its ending; another name is whole
 abbrev pub stem : List ℕ → List ℕ
-stem name = or_whole name (without (codes ".chart") name)
+stem name = unwrap_or (front name) name
 
 -- the name of the file beside a text, with this ending
 abbrev pub beside : List ℕ → List ℕ → List ℕ
@@ -24,9 +28,9 @@ beside name ending = stem name ++ ending
 
 -- ---- the tests in a folder
 
--- a name that ends as that of a chart or of a program
+-- a name that ends as that of a text
 abbrev pub is_text : List ℕ → Bool
-is_text name = is_some (without (codes ".chart") name) || is_some (without (codes ".scl") name)
+is_text name = is_some (front name)
 
 -- the name of a text, beside which there are ticks among these names
 abbrev pub is_test : List (List ℕ) → List ℕ → Bool

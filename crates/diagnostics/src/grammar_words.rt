@@ -211,13 +211,18 @@ fn cure(
     String::from_str(alloc, cure_at_least(could))
 }
 
+// What helps where this stands first in a text. An extended chart without faults stands for another text.
+fn cure_of_first(found: &str) -> &'static str {
+    if found == "`extended`" {
+        return "this extended chart has a fault, which `sct reduce` tells";
+    }
+    "a text begins with `chart` or with `scl`, and a name; the words of the language are in small letters"
+}
+
 // The words for what stands first in a text.
 fn first_words(alloc: Global, found: &str) -> Result<Words, AllocError> {
     let cause = format!(in alloc; "found {found}, expected `chart` or `scl`")?;
-    let cure = String::from_str(
-        alloc,
-        "a text begins with `chart` or with `scl`, and a name; the words of the language are in small letters",
-    )?;
+    let cure = String::from_str(alloc, cure_of_first(found))?;
     Ok(Words { cause, cure })
 }
 
