@@ -1,3 +1,4 @@
+mod Mapped
 mod Nested
 mod TextLayers
 pub mod LayeredStates

@@ -1,5 +1,5 @@
 -- What a region and a state are as layers.
-use Rattle.std.proofs.Common.{◌≡◌, ◌∙◌, Bool, not, ◌&&◌, ◌||◌, List, [], ◌∷◌, map, refl, ap, sym}
+use Rattle.std.proofs.Common.{◌≡◌, ◌∙◌, Bool, not, ◌&&◌, ◌||◌, map, ap, sym}
 use Rattle.std.specs.List.{list_all, list_any}
 use Rattle.core_charts.specs.declared.region.Region.{Region}
 use Rattle.core_charts.specs.declared.region.State.{State}
@@ -7,14 +7,7 @@ use Rattle.core_charts.specs.declared.region.Region.TheViews.{out-Region, out-St
 use Rattle.core_charts.specs.declared.region.Region.TheFolds.{fold_out-Region, fold_out-State}
 use Rattle.core_charts.specs.Aborts.{has_strong, has_weak, has_aborts}
 use Rattle.flat_charts.specs.Layers.{Layers, region_layers, state_layers, layers_of_region, layers_of_state}
-
-any_mapped : {A B : Type 0} (f : B → Bool) (g : A → B) (xs : List A) → list_any f (map g xs) ≡ list_any (λ x. f (g x)) xs
-any_mapped f g [] = refl
-any_mapped f g (x ∷ xs) = ap (λ b. f (g x) || b) (any_mapped f g xs)
-
-all_mapped : {A B : Type 0} (f : B → Bool) (g : A → B) (xs : List A) → list_all f (map g xs) ≡ list_all (λ x. f (g x)) xs
-all_mapped f g [] = refl
-all_mapped f g (x ∷ xs) = ap (λ b. f (g x) && b) (all_mapped f g xs)
+use Rattle.flat_charts.proofs.Mapped.{any_mapped, all_mapped}
 
 pub region_some : (r : Region) → list_any (λ s. (layers_of_state s).has_some) (out-Region r).states ≡ (layers_of_region r).has_some
 region_some r =
