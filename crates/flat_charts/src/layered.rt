@@ -24,6 +24,13 @@ struct Aborts {
     some: bool,
 }
 
+// Of nothing.
+const NONE: Layers = Layers {
+    has_some: false,
+    has_weak: false,
+    is_layered: true,
+};
+
 /// Whether a chart is layered, by its text: where a superstate with aborts lies inside another one with aborts, the
 /// outer one has weak aborts alone, and the inner one strong aborts alone.
 pub fn is_layered(chart: &Chart) -> bool
@@ -38,6 +45,19 @@ pub fn layered_texts_are_layered()
     ensures { LayeredTextsAreLayered }
 {}
 
+// Of two pieces side by side.
+fn beside(one: Layers, other: Layers) -> Layers
+    ensures some { result.has_some ≡ (one.has_some || other.has_some) }
+    ensures weak { result.has_weak ≡ (one.has_weak || other.has_weak) }
+    ensures layered { result.is_layered ≡ (one.is_layered && other.is_layered) }
+{
+    Layers {
+        has_some: one.has_some || other.has_some,
+        has_weak: one.has_weak || other.has_weak,
+        is_layered: one.is_layered && other.is_layered,
+    }
+}
+
 // Of regions side by side.
 #[cycle(layers)]
 fn of_regions(regions: &[Region]) -> Layers
@@ -45,20 +65,11 @@ fn of_regions(regions: &[Region]) -> Layers
     ensures weak { result.has_weak ≡ list_any (λ r. (layers_of_region r).has_weak) regions.now }
     ensures layered { result.is_layered ≡ list_all (λ r. (layers_of_region r).is_layered) regions.now }
 {
-    let mut has_some = false;
-    let mut has_weak = false;
-    let mut is_layered = true;
+    let mut found = NONE;
     for region in regions {
-        let layers = of_region(region);
-        has_some = has_some || layers.has_some;
-        has_weak = has_weak || layers.has_weak;
-        is_layered = is_layered && layers.is_layered;
+        found = beside(found, of_region(region));
     }
-    Layers {
-        has_some,
-        has_weak,
-        is_layered,
-    }
+    found
 }
 
 // Of a region.
@@ -68,20 +79,11 @@ fn of_region(region: &Region) -> Layers
     ensures weak { result.has_weak ≡ (layers_of_region region.now).has_weak }
     ensures layered { result.is_layered ≡ (layers_of_region region.now).is_layered }
 {
-    let mut has_some = false;
-    let mut has_weak = false;
-    let mut is_layered = true;
+    let mut found = NONE;
     for state in region.states.as_slice() {
-        let layers = of_state(state);
-        has_some = has_some || layers.has_some;
-        has_weak = has_weak || layers.has_weak;
-        is_layered = is_layered && layers.is_layered;
+        found = beside(found, of_state(state));
     }
-    Layers {
-        has_some,
-        has_weak,
-        is_layered,
-    }
+    found
 }
 
 // Of a state.
