@@ -1,3 +1,4 @@
 pub mod Held
 pub mod Made
 pub mod Naming
+pub mod Sourced

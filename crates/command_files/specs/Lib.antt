@@ -2,6 +2,8 @@ pub mod Counting
 pub mod FaultText
 pub mod Files
 pub mod Images
+pub mod Lacking
+pub mod Standing
 pub mod Sources
 pub mod Making
 pub mod Storing

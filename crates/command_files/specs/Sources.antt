@@ -1,5 +1,5 @@
--- What a file of source text holds, or why it has no program or no image.
-use Rattle.std.specs.Prelude.{ℕ, ◌≡◌, ◌⊎◌, Option, List, string_bytes}
+-- The program of the source in a file, and its image, or why there is none.
+use Rattle.std.specs.Prelude.{ℕ, ◌≡◌, ◌⊎◌, Option, List}
 use Rattle.std.specs.Str.{IsUtf8}
 use Rattle.sc_text.specs.declared.read_fault.FaultKind.TheVariants as broken
 use Rattle.sc_text.specs.declared.read_fault.ReadFault.{ReadFault}
@@ -19,8 +19,8 @@ use Rattle.compiler.specs.declared.fault.CompileFault.{CompileFault}
 use Rattle.compiler.specs.Texts.{IsImageOf, SclLacksImage}
 use Rattle.command_files.specs.declared.fault.LoadFault.{LoadFault}
 use Rattle.command_files.specs.declared.fault.LoadFault.TheVariants as fault
-use Rattle.command_files.specs.FaultText.{shown_name}
-use Rattle.command_files.specs.Files.{Contents, HasBytes, LacksFile}
+use Rattle.command_files.specs.Files.{Contents}
+use Rattle.command_files.specs.Standing.{HasSource, SourceLacks}
 
 -- ---- what is there
 
@@ -41,10 +41,10 @@ pub record SpellsProgram (text : List ℕ) (scl : Scl) : Type 0 where
   pub is_in : IsIn text language
   pub spells : SpellsIn language text scl
 
--- the bytes of the file of this name are text, which spells this program
+-- the source in the file of this name is text, which spells this program
 pub record IsSource (files : Option Contents) (name : List ℕ) (scl : Scl) : Type 0 where
   pub bytes : List ℕ
-  pub held : HasBytes files name bytes
+  pub held : HasSource files name bytes
   pub text : IsUtf8 bytes
   pub read : SpellsProgram bytes scl
 
@@ -104,17 +104,8 @@ BytesLackCompiled bytes f = BytesLackProgram bytes f ⊎ ProgramLacksImage bytes
 
 -- no program could be had from the file of this name, for this fault
 abbrev pub FileLacksProgram : Option Contents → List ℕ → LoadFault → Type 0
-FileLacksProgram files name fault.Memory = Unit {0}
-FileLacksProgram files name (fault.File shown) = LacksFile files name × (string_bytes shown ≡ shown_name name)
-FileLacksProgram files name (fault.Text f) = (bytes : List ℕ) × HasBytes files name bytes × BytesLackProgram bytes (fault.Text f)
-FileLacksProgram files name (fault.Program f) = (bytes : List ℕ) × HasBytes files name bytes × BytesLackProgram bytes (fault.Program f)
-FileLacksProgram files name other = ⊥
-
--- the program in this file has no image, for this fault
-abbrev pub FileLacksProgramImage : Option Contents → List ℕ → LoadFault → Type 0
-FileLacksProgramImage files name (fault.Program f) = (scl : Scl) × IsSource files name scl × SclLacksImage scl f
-FileLacksProgramImage files name other = ⊥
+FileLacksProgram files name f = SourceLacks BytesLackProgram files name f
 
 -- there is no program in this file, or it has no image
 abbrev pub FileLacksCompiled : Option Contents → List ℕ → LoadFault → Type 0
-FileLacksCompiled files name f = FileLacksProgram files name f ⊎ FileLacksProgramImage files name f
+FileLacksCompiled files name f = SourceLacks BytesLackCompiled files name f

@@ -6,8 +6,8 @@ ghost use Rattle.command_files.specs.Sources.{IsCompiledFrom, FileLacksCompiled,
 
 use crate::fault::LoadFault;
 use crate::files::Files;
-use crate::load::bytes_of;
 use crate::source::read_bytes;
+use crate::standing::source_of;
 use compiler::compile_scl;
 use sqlite_items::Boxed;
 use std::alloc::Global;
@@ -26,7 +26,7 @@ pub fn compile_bytes(alloc: Global, bytes: &[u8]) -> Result<Verified, LoadFault>
     }
 }
 
-// The image of the program whose text, or the text of whose chart, is in the file of this name.
+// The image of the program of the source in the file of this name.
 fn compile_file<F: Files>(alloc: Global, files: &mut F, name: &str) -> Result<Verified, LoadFault>
     ensures compiled { IfOk result (IsCompiledFrom (F.contents files.old) name.now) }
     ensures fault { IfErr result (FileLacksCompiled (F.contents files.old) name.now) }
@@ -34,12 +34,12 @@ fn compile_file<F: Files>(alloc: Global, files: &mut F, name: &str) -> Result<Ve
     ensures none_failed { OnOk result (F.failures files.new ≡ F.failures files.old) }
     ensures failed { IfErr result (λ fault. F.failures files.new ≡ F.failures files.old + files_failed fault) }
 {
-    let bytes = bytes_of(alloc, files, name)?;
+    let bytes = source_of(alloc, files, name)?;
     compile_bytes(alloc, &bytes)
 }
 
-/// The image of the program whose text, or the text of whose chart, is in the file of this name, in a box. Err: there
-/// is no program in the file, or why it has no image.
+/// The image of the program of the source in the file of this name, in a box. Err: there is no program in the file, or
+/// why it has no image.
 pub fn load_compiled<F: Files>(
     alloc: Global,
     files: &mut F,

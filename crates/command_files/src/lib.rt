@@ -12,6 +12,7 @@ mod load;
 mod making;
 mod placing;
 mod source;
+mod standing;
 mod storing;
 
 pub use compiled::{compile_bytes, load_compiled};
@@ -23,4 +24,5 @@ pub use laws::one_line;
 pub use load::bytes_of;
 pub use making::makes_program;
 pub use source::{load_scl, text_of};
+pub use standing::{reduced_source, reduction_of, source_of};
 pub use storing::{store, store_new};

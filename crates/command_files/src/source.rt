@@ -10,7 +10,7 @@ ghost use Rattle.std.specs.Str.{IsUtf8};
 
 use crate::fault::LoadFault;
 use crate::files::Files;
-use crate::load::bytes_of;
+use crate::standing::source_of;
 use chart_reader::read_chart;
 use compiler::scl_of_chart;
 use sc_text::{FaultKind, Language, ReadFault, language_of};
@@ -83,9 +83,10 @@ pub(crate) fn read_bytes(alloc: Global, bytes: &[u8]) -> Result<Scl, LoadFault>
     read_text(alloc, text)
 }
 
-/// The SCL program whose text, or the text of whose chart, is in the file of this name. Err: the file could not be
-/// read, is no text (E01 at its first place), or its text spells no program: the first fault of the text, or E07
+/// The SCL program of the source in the file of this name, or of the chart which that spells. Err: there is no source
+/// in the file, or it is no text (E01 at its first place), or spells no program: the first fault of the text, or E07
 /// where the expansion of its chart passes a limit.
+#[tactic(auto, using(crate::proofs::Held::source_in, crate::proofs::Held::no_source))]
 pub fn load_scl<F: Files>(alloc: Global, files: &mut F, name: &str) -> Result<Scl, LoadFault>
     ensures loaded { IfOk result (IsSource (F.contents files.old) name.now) }
     ensures fault { IfErr result (FileLacksProgram (F.contents files.old) name.now) }
@@ -93,6 +94,6 @@ pub fn load_scl<F: Files>(alloc: Global, files: &mut F, name: &str) -> Result<Sc
     ensures none_failed { OnOk result (F.failures files.new ≡ F.failures files.old) }
     ensures failed { IfErr result (λ fault. F.failures files.new ≡ F.failures files.old + files_failed fault) }
 {
-    let bytes = bytes_of(alloc, files, name)?;
+    let bytes = source_of(alloc, files, name)?;
     read_bytes(alloc, &bytes)
 }

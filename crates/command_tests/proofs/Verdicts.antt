@@ -6,7 +6,8 @@ use Rattle.command_files.specs.declared.fault.LoadFault.{LoadFault}
 use Rattle.command_files.specs.FaultText.{fault_text, shown_name}
 use Rattle.command_files.specs.Files.{Contents, HasBytes, IsFree, IsTaken, Stores}
 use Rattle.command_files.specs.Images.{FileLacksImage}
-use Rattle.command_files.specs.Sources.{BytesLackCompiled, FileLacksProgram}
+use Rattle.command_files.specs.Sources.{BytesLackCompiled}
+use Rattle.command_files.specs.Standing.{FileLacksSource, HasSource}
 use Rattle.command_files.specs.Storing.{IsNotStored}
 use Rattle.command_tests.specs.Inside.Judging.{Judges, JudgesOther, StopsSo}
 use Rattle.command_tests.specs.Inside.Saying.{SaysDifference}
@@ -25,10 +26,10 @@ use Rattle.trace_player.specs.Trace.{Good}
 
 -- ---- why there are no ticks
 
-pub no_source : (files : Option Contents) (name : List ℕ) (f : LoadFault) → FileLacksProgram files name f → LacksTicks files name f
+pub no_source : (files : Option Contents) (name : List ℕ) (f : LoadFault) → FileLacksSource files name f → LacksTicks files name f
 no_source files name f none = inl (inl none)
 
-pub no_image : (files : Option Contents) (name bytes : List ℕ) (f : LoadFault) → HasBytes files name bytes → BytesLackCompiled bytes f
+pub no_image : (files : Option Contents) (name bytes : List ℕ) (f : LoadFault) → HasSource files name bytes → BytesLackCompiled bytes f
     → LacksTicks files name f
 no_image files name bytes f held none = inl (no_compiled files name bytes f held none)
 

@@ -6,6 +6,7 @@ use Rattle.command_files.specs.FaultText.{fault_text, shown_name}
 use Rattle.command_files.specs.Files.{Contents, HasBytes, IsFree, IsTaken, Stores}
 use Rattle.command_files.specs.Images.{FileLacksImage}
 use Rattle.command_files.specs.Sources.{FileLacksCompiled, SpellsImage}
+use Rattle.command_files.specs.Standing.{HasSource}
 use Rattle.command_files.specs.Storing.{IsNotStored}
 use Rattle.command_tests.specs.States.{IsReal, TellsActive}
 use Rattle.controller_tests.specs.declared.difference.Difference.{Difference}
@@ -22,9 +23,9 @@ ticks_name name = beside name (codes ".ticks")
 abbrev pub trace_name : List ℕ → List ℕ
 trace_name name = beside name (codes ".trace")
 
--- the file of this name has the text of a program, whose image this is, and beside it there are these ticks
+-- the source in the file of this name is the text of a program, whose image this is, and beside it there are these ticks
 pub record HasTicks (files : Option Contents) (name bytes : List ℕ) (image : Image) (ticks : List ℕ) : Type 0 where
-  pub held : HasBytes files name bytes
+  pub held : HasSource files name bytes
   pub spelt : SpellsImage bytes image
   pub ticks_held : HasBytes files (ticks_name name) ticks
 

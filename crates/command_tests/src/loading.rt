@@ -6,7 +6,7 @@ ghost use Rattle.command_files.specs.Images.{FileLacksImage};
 ghost use Rattle.command_tests.specs.Verdict.{HasTicks, LacksTicks};
 ghost use Rattle.controller_tests.specs.Names.{beside};
 
-use command_files::{Files, LoadFault, bytes_of, compile_bytes};
+use command_files::{Files, LoadFault, bytes_of, compile_bytes, source_of};
 use controller_tests::beside;
 use sqlite_items::Boxed;
 use std::alloc::Global;
@@ -50,7 +50,7 @@ pub(crate) fn load_test<F: Files>(
     ensures none_missed { OnOk result (F.failures files.new ≡ F.failures files.old) }
     ensures missed { F.failures files.old ≤ F.failures files.new }
 {
-    let bytes = bytes_of(alloc, files, name)?;
+    let bytes = source_of(alloc, files, name)?;
     let compiled = compile_bytes(alloc, &bytes)?;
     let image = Boxed::new(alloc, compiled)?;
     let ticks = bytes_beside(alloc, name, ".ticks", files)?;

@@ -6,19 +6,19 @@ use Rattle.command_files.specs.declared.fault.LoadFault.{LoadFault}
 use Rattle.command_files.specs.declared.fault.LoadFault.TheVariants as load
 use Rattle.command_files.specs.Files.{Contents, HasBytes}
 use Rattle.command_files.specs.Images.{FileLacksImage}
-use Rattle.command_files.specs.Sources.{FileLacksProgram}
-use Rattle.command_texts.specs.Lacking.{FileLacks}
+use Rattle.command_files.specs.Standing.{FileLacksSource}
+use Rattle.command_files.specs.Lacking.{FileLacks}
 
--- of a file that gives neither an image nor a program nothing could be had
+-- of a file that gives neither an image nor a source nothing could be had
 pub no_file : (BytesLack : List ℕ → LoadFault → Type 0) (files : Option Contents) (name : List ℕ) (f : LoadFault)
-    → FileLacksImage files name f → FileLacksProgram files name f → FileLacks BytesLack files name f
-no_file BytesLack files name load.Memory image program = tt
-no_file BytesLack files name (load.File shown) image program = image
-no_file BytesLack files name (load.Image f) image program = absurd program
-no_file BytesLack files name (load.Rule f) image program = absurd program
-no_file BytesLack files name (load.Text f) (bytes, held, image) program = absurd image
-no_file BytesLack files name (load.Program f) (bytes, held, image) program = absurd image
-no_file BytesLack files name (load.Source shown) image program = absurd program
+    → FileLacksImage files name f → FileLacksSource files name f → FileLacks BytesLack files name f
+no_file BytesLack files name load.Memory image source = tt
+no_file BytesLack files name (load.File shown) image source = image
+no_file BytesLack files name (load.Image f) image (bytes, held, why) = absurd why.1
+no_file BytesLack files name (load.Rule f) image (bytes, held, why) = absurd why.1
+no_file BytesLack files name (load.Text f) (bytes, held, image) source = absurd image
+no_file BytesLack files name (load.Program f) (bytes, held, image) source = absurd image
+no_file BytesLack files name (load.Source shown) image (bytes, held, why) = absurd why.1
 
 -- nor of one whose bytes have no such text, which is never for want of the file
 pub no_text : (BytesLack : List ℕ → LoadFault → Type 0) → ((bytes : List ℕ) (shown : String Global) → BytesLack bytes (load.File shown) → ⊥)

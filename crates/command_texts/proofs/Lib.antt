@@ -1,3 +1,4 @@
 pub mod Cores
 pub mod Lacking
+pub mod Placed
 pub mod Drawn

@@ -11,8 +11,8 @@ use Rattle.compiler.specs.declared.fault.CompileFault.TheVariants as compiling
 use Rattle.image_charts.specs.Charts.{SpellsNoChart}
 use Rattle.command_files.specs.declared.fault.LoadFault.{LoadFault}
 use Rattle.command_files.specs.declared.fault.LoadFault.TheVariants as load
-use Rattle.command_files.specs.Files.{Contents, HasBytes}
-use Rattle.command_texts.specs.Lacking.{FileLacks}
+use Rattle.command_files.specs.Files.{Contents}
+use Rattle.command_files.specs.Standing.{HasSource, SourceLacks}
 
 -- ---- what there is
 
@@ -26,7 +26,7 @@ pub record HasCore (bytes text : List ℕ) : Type 0 where
 -- the text is that of the core chart of the chart in this file
 pub record IsCoreIn (files : Option Contents) (name text : List ℕ) : Type 0 where
   pub bytes : List ℕ
-  pub held : HasBytes files name bytes
+  pub held : HasSource files name bytes
   pub core : HasCore bytes text
 
 -- ---- why there is none
@@ -53,4 +53,4 @@ BytesLackCore bytes other = ⊥
 
 -- why a file has none
 abbrev pub FileLacksCore : Option Contents → List ℕ → LoadFault → Type 0
-FileLacksCore files name f = FileLacks BytesLackCore files name f
+FileLacksCore files name f = SourceLacks BytesLackCore files name f

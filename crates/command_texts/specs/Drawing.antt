@@ -12,8 +12,9 @@ use Rattle.scl_graph.specs.declared.fault.GraphFault.{GraphFault}
 use Rattle.compiler.specs.declared.fault.CompileFault.TheVariants as compiling
 use Rattle.command_files.specs.declared.fault.LoadFault.{LoadFault}
 use Rattle.command_files.specs.declared.fault.LoadFault.TheVariants as load
-use Rattle.command_files.specs.Files.{Contents, HasBytes}
-use Rattle.command_files.specs.Sources.{SpellsIn, TextLacksProgram, BytesLackProgram, FileLacksProgram}
+use Rattle.command_files.specs.Files.{Contents}
+use Rattle.command_files.specs.Standing.{HasSource, SourceLacks}
+use Rattle.command_files.specs.Sources.{SpellsIn, TextLacksProgram, BytesLackProgram}
 
 -- ---- what there is
 
@@ -33,7 +34,7 @@ pub record HasDrawing (text : List ℕ) : Type 0 where
 -- there is such a text in this file
 pub record HasDrawingIn (files : Option Contents) (name : List ℕ) : Type 0 where
   pub bytes : List ℕ
-  pub held : HasBytes files name bytes
+  pub held : HasSource files name bytes
   pub is_text : IsUtf8 bytes
   pub drawn : HasDrawing bytes
 
@@ -61,4 +62,4 @@ BytesLackDrawing bytes f = BytesLackProgram bytes f ⊎ TextLacksGraph bytes f
 
 -- there is no program in this file, or its text is SCL and has no graph
 abbrev pub FileLacksDrawing : Option Contents → List ℕ → LoadFault → Type 0
-FileLacksDrawing files name f = FileLacksProgram files name f ⊎ ((bytes : List ℕ) × HasBytes files name bytes × TextLacksGraph bytes f)
+FileLacksDrawing files name f = SourceLacks BytesLackDrawing files name f

@@ -1,5 +1,4 @@
 pub mod Cores
-pub mod Lacking
 pub mod Reductions
 pub mod Drawing
 pub mod Images

@@ -7,10 +7,11 @@ use Rattle.image_listing.specs.Listing.{IsListing}
 use Rattle.command_files.specs.declared.fault.LoadFault.{LoadFault}
 use Rattle.command_files.specs.declared.fault.LoadFault.TheVariants as load
 use Rattle.command_files.specs.FaultText.{shown_name}
-use Rattle.command_files.specs.Files.{Contents, HasBytes}
+use Rattle.command_files.specs.Files.{Contents}
 use Rattle.command_files.specs.Images.{IsLoaded, FileLacksImage}
 use Rattle.command_files.specs.Making.{IsUnmade, Makes}
 use Rattle.command_files.specs.Sources.{FileLacksProgram, BytesLackProgram}
+use Rattle.command_files.specs.Standing.{HasSource}
 
 -- a listing of the image in this file
 pub record IsListingIn (files : Option Contents) (name text : List ℕ) : Type 0 where
@@ -23,7 +24,7 @@ pub record HasPlaces (files : Option Contents) (name source : List ℕ) : Type 0
   pub image : Image
   pub loaded : IsLoaded files name image
   pub bytes : List ℕ
-  pub held : HasBytes files source bytes
+  pub held : HasSource files source bytes
   pub is_text : IsUtf8 bytes
   pub makes : Makes bytes image.program
 
@@ -39,7 +40,7 @@ pub record IsAnotherSource (files : Option Contents) (name source : List ℕ) : 
   pub image : Image
   pub loaded : IsLoaded files name image
   pub bytes : List ℕ
-  pub held : HasBytes files source bytes
+  pub held : HasSource files source bytes
   pub is_text : IsUtf8 bytes
   pub unmade : IsUnmade bytes image.program
 

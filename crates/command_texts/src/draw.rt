@@ -9,7 +9,7 @@ ghost use Rattle.command_texts.specs.Drawing.{TextLacksDrawing};
 ghost use Rattle.std.specs.Str.{IsUtf8};
 
 use chart_reader::read_chart;
-use command_files::{Files, LoadFault, bytes_of, text_of};
+use command_files::{Files, LoadFault, source_of, text_of};
 use compiler::{CompileFault, scl_of_chart};
 use drawing::{chart_drawing, graph_drawing};
 use sc_text::{Language, language_of};
@@ -86,7 +86,7 @@ pub(crate) fn drawing_in<F: Files>(
     ensures failed { IfErr result (λ fault. F.failures files.new
         ≡ F.failures files.old + files_count.files_failed fault) }
 {
-    let bytes = bytes_of(alloc, files, name)?;
+    let bytes = source_of(alloc, files, name)?;
     let text = draw_bytes(alloc, &bytes)?;
     Ok(text.into_bytes())
 }

@@ -8,7 +8,7 @@ ghost use Rattle.command_files.specs.Sources.{BytesLackProgram};
 ghost use Rattle.command_texts.specs.Listing.{BytesLackPlaces, FilesLackPlaces, HasPlaces};
 
 use command_files::{
-    Files, LoadFault, bytes_of, load_verified, makes_program, shown_name, text_of,
+    Files, LoadFault, load_verified, makes_program, shown_name, source_of, text_of,
 };
 use node_sources::image_text_with;
 use std::alloc::Global;
@@ -31,6 +31,7 @@ fn placed(alloc: Global, image: &Verified, source: &str, bytes: &[u8]) -> Result
 
 /// The listing of the image in one file, with the place of each node in the text of another. Err: there is no valid
 /// image in the first file, or no text in the second, or that does not make the image.
+#[tactic(auto, using(crate::proofs::Placed::no_source, crate::proofs::Placed::no_places))]
 pub(crate) fn places_in<F: Files>(
     alloc: Global,
     name: &str,
@@ -45,7 +46,7 @@ pub(crate) fn places_in<F: Files>(
         ≡ F.failures files.old + files_count.files_failed fault) }
 {
     let image = load_verified(alloc, files, name)?;
-    let bytes = bytes_of(alloc, files, source)?;
+    let bytes = source_of(alloc, files, source)?;
     let text = placed(alloc, image.get(), source, &bytes)?;
     Ok(text.into_bytes())
 }

@@ -6,7 +6,7 @@ ghost use Rattle.command_texts.specs.Cores.{BytesLackCore, ChartLacksCore, FileL
 ghost use Rattle.core_texts.specs.CoreText.{IsCoreText};
 
 use abort_expansion::ExpandFault;
-use command_files::{Files, LoadFault, bytes_of};
+use command_files::{Files, LoadFault, source_of};
 use compiler::CompileFault;
 use core_charts::Chart;
 use core_texts::core_text;
@@ -43,7 +43,6 @@ fn core_of_bytes(alloc: Global, bytes: &[u8]) -> Result<String, LoadFault>
 }
 
 /// The text of the core chart of the chart in this file. Err: there is no chart in the file, or it has no such text.
-#[tactic(auto, using(crate::proofs::Lacking::no_file, crate::proofs::Lacking::no_text))]
 pub(crate) fn core_in<F: Files>(
     alloc: Global,
     name: &str,
@@ -56,7 +55,7 @@ pub(crate) fn core_in<F: Files>(
     ensures failed { IfErr result (λ fault. F.failures files.new
         ≡ F.failures files.old + files_count.files_failed fault) }
 {
-    let bytes = bytes_of(alloc, files, name)?;
+    let bytes = source_of(alloc, files, name)?;
     let text = core_of_bytes(alloc, &bytes)?;
     Ok(text.into_bytes())
 }

@@ -1,8 +1,9 @@
-//! What bytes stand for that may be the text of an extended chart: the text of the chart to which that is reduced.
+//! Bytes that may be the text of an extended chart: whether they are written as one, and the text of the chart to which
+//! that is reduced.
 #![tactic(auto)]
 
 mod first_word;
 mod sources;
 
 pub use first_word::begins_extended;
-pub use sources::{Unreduced, reduced_of, stands_for};
+pub use sources::{Unreduced, reduced_of};

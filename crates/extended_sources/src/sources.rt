@@ -1,12 +1,11 @@
-//! What bytes stand for that may be the text of an extended chart.
+//! The text of the chart to which the extended chart is reduced that bytes spell.
 
 ghost use Rattle.std.specs.Prelude.{◌≡◌, IfErr, IfOk, string_bytes};
 ghost use Rattle.std.specs.Str.{IsUtf8};
 ghost use Rattle.extended_reader.specs.Read.{IsRead};
-ghost use Rattle.extended_sources.specs.Sources.{HasReduced, LacksReduced, SaysOfBytes, SpellsNoExtended, StandsFor};
+ghost use Rattle.extended_sources.specs.Sources.{HasReduced, LacksReduced, SpellsNoExtended};
 ghost use Rattle.extended_sources.specs.declared.sources.Unreduced.TheVariants.{Memory};
 
-use crate::first_word::begins_extended;
 use extended_charts::ExtendedChart;
 use extended_reader::read_extended;
 use reduced_texts::reduced_text;
@@ -58,33 +57,5 @@ pub fn reduced_of(alloc: Global, bytes: &[u8]) -> Result<String, Unreduced>
     match reduced_text(alloc, &chart)? {
         Some(text) => Ok(text),
         None => Err(Unreduced::Limit),
-    }
-}
-
-// Why bytes have none. Err: the reason is that memory was refused.
-fn said(why: Unreduced) -> Result<(), AllocError>
-    ensures { IfOk result (λ _. SaysOfBytes why) }
-{
-    match why {
-        Unreduced::Memory | Unreduced::Text(ReadFault::Memory) => Err(AllocError),
-        _ => Ok(()),
-    }
-}
-
-/// What these bytes stand for: where they begin as the text of an extended chart, and spell one that has a reduced
-/// text, that text, and else themselves. Err: memory was refused.
-#[tactic(auto, using(crate::proofs::Standing::reduced_stand, crate::proofs::Standing::alone_stand, crate::proofs::Standing::others_stand))]
-pub fn stands_for(alloc: Global, bytes: Vec<u8>) -> Result<Vec<u8>, AllocError>
-    ensures { IfOk result (λ text. StandsFor bytes.items text.items) }
-{
-    if !begins_extended(&bytes) {
-        return Ok(bytes);
-    }
-    match reduced_of(alloc, &bytes) {
-        Ok(text) => Ok(text.into_bytes()),
-        Err(why) => {
-            said(why)?;
-            Ok(bytes)
-        }
     }
 }

@@ -4,9 +4,9 @@ use Rattle.bytecode.specs.Image.{Image}
 use Rattle.command_files.specs.declared.fault.LoadFault.{LoadFault}
 use Rattle.command_files.specs.declared.fault.LoadFault.TheVariants as load
 use Rattle.command_files.specs.Counting.{files_failed}
-use Rattle.command_files.specs.Files.{Contents, HasBytes}
+use Rattle.command_files.specs.Files.{Contents}
 use Rattle.command_files.specs.Images.{IsLoaded, FileLacksImage}
-use Rattle.command_files.specs.Sources.{FileLacksProgram}
+use Rattle.command_files.specs.Standing.{FileLacksSource, HasSource}
 use Rattle.image_charts.specs.Charts.{IsChartOf, IsNotChartOf, NamedStates}
 use Rattle.image_charts.specs.Files.{FilesLackStates, HasStates}
 
@@ -20,20 +20,19 @@ no_image files name chart (load.Text f) none = inl none
 no_image files name chart (load.Program f) none = inl none
 no_image files name chart (load.Source shown) none = inl none
 
--- the file of the chart cannot be read
-pub unread : (files : Option Contents) (name chart : List ℕ) (f : LoadFault)
-    → FileLacksImage files chart f → FileLacksProgram files chart f → FilesLackStates files name chart f
-unread files name chart load.Memory image program = tt
-unread files name chart (load.File shown) image program = inr (inl image)
-unread files name chart (load.Image f) image program = absurd program
-unread files name chart (load.Rule f) image program = absurd program
-unread files name chart (load.Text f) (bytes, held, image) program = absurd image
-unread files name chart (load.Program f) (bytes, held, image) program = absurd image
-unread files name chart (load.Source shown) image program = absurd program
+-- there is no source in the file of the chart
+pub unread : (files : Option Contents) (name chart : List ℕ) (f : LoadFault) → FileLacksSource files chart f → FilesLackStates files name chart f
+unread files name chart load.Memory none = tt
+unread files name chart (load.File shown) none = inr (inl none)
+unread files name chart (load.Image f) none = inr (inl none)
+unread files name chart (load.Rule f) none = inr (inl none)
+unread files name chart (load.Text f) none = inr (inl none)
+unread files name chart (load.Program f) none = inr (inl none)
+unread files name chart (load.Source shown) none = inr (inl none)
 
 -- it has another chart, or none
 another : (files : Option Contents) (name chart bytes : List ℕ) (image : Image) (f : LoadFault)
-    → IsLoaded files name image → HasBytes files chart bytes → IsNotChartOf chart bytes image f → FilesLackStates files name chart f
+    → IsLoaded files name image → HasSource files chart bytes → IsNotChartOf chart bytes image f → FilesLackStates files name chart f
 another files name chart bytes image load.Memory loaded held not = tt
 another files name chart bytes image (load.File shown) loaded held not = absurd not
 another files name chart bytes image (load.Image f) loaded held not = absurd not
@@ -57,11 +56,11 @@ quiet chart bytes image (load.Source shown) not = refl
 
 -- there is an image, and its chart; what files hold in between is what they held
 pub has_states : (files middle : Option Contents) (name chart bytes : List ℕ) (image : Image) (states : NamedStates) → middle ≡ files
-    → IsLoaded files name image → HasBytes middle chart bytes → IsChartOf bytes image states → HasStates files name chart image states
+    → IsLoaded files name image → HasSource middle chart bytes → IsChartOf bytes image states → HasStates files name chart image states
 has_states files middle name chart bytes image states same loaded held is =
-    record { loaded = loaded; bytes = bytes; held = subst (λ m. HasBytes m chart bytes) same held; is = is }
+    record { loaded = loaded; bytes = bytes; held = subst (λ m. HasSource m chart bytes) same held; is = is }
 
 pub another_behind : (files middle : Option Contents) (name chart bytes : List ℕ) (image : Image) (f : LoadFault) → middle ≡ files
-    → IsLoaded files name image → HasBytes middle chart bytes → IsNotChartOf chart bytes image f → FilesLackStates files name chart f
+    → IsLoaded files name image → HasSource middle chart bytes → IsNotChartOf chart bytes image f → FilesLackStates files name chart f
 another_behind files middle name chart bytes image f same loaded held not =
-    another files name chart bytes image f loaded (subst (λ m. HasBytes m chart bytes) same held) not
+    another files name chart bytes image f loaded (subst (λ m. HasSource m chart bytes) same held) not

@@ -1,18 +1,18 @@
 -- An image in one file, and in another the text of its chart.
-use Rattle.std.specs.Prelude.{ℕ, ◌≡◌, ◌⊎◌, Option, List, string_bytes}
+use Rattle.std.specs.Prelude.{ℕ, ◌⊎◌, Option, List}
 use Rattle.bytecode.specs.Image.{Image}
 use Rattle.command_files.specs.declared.fault.LoadFault.{LoadFault}
 use Rattle.command_files.specs.declared.fault.LoadFault.TheVariants as load
-use Rattle.command_files.specs.FaultText.{shown_name}
-use Rattle.command_files.specs.Files.{Contents, HasBytes, LacksFile}
+use Rattle.command_files.specs.Files.{Contents}
 use Rattle.command_files.specs.Images.{IsLoaded, FileLacksImage}
+use Rattle.command_files.specs.Standing.{FileLacksSource, HasSource}
 use Rattle.image_charts.specs.Charts.{IsChartOf, IsNotChartOf, NamedStates}
 
 -- there is a valid image in one file, and in the other the text of its chart, whose states these are
 pub record HasStates (files : Option Contents) (name chart : List ℕ) (image : Image) (states : NamedStates) : Type 0 where
   pub loaded : IsLoaded files name image
   pub bytes : List ℕ
-  pub held : HasBytes files chart bytes
+  pub held : HasSource files chart bytes
   pub is : IsChartOf bytes image states
 
 -- there is a valid image in one file, and in the other bytes that are not the chart of the image, for this fault
@@ -20,16 +20,11 @@ pub record IsAnotherChart (files : Option Contents) (name chart : List ℕ) (f :
   pub image : Image
   pub loaded : IsLoaded files name image
   pub bytes : List ℕ
-  pub held : HasBytes files chart bytes
+  pub held : HasSource files chart bytes
   pub not : IsNotChartOf chart bytes image f
 
--- the file of the chart cannot be read
-abbrev pub IsUnread : Option Contents → List ℕ → LoadFault → Type 0
-IsUnread files chart (load.File shown) = LacksFile files chart × (string_bytes shown ≡ shown_name chart)
-IsUnread files chart other = ⊥
-
--- there is no valid image in one file; or the other cannot be read, or has not the chart of the image. A refusal of
+-- there is no valid image in one file; or there is no source in the other, or that is not the chart of the image. A refusal of
 -- memory says nothing of them
 abbrev pub FilesLackStates : Option Contents → List ℕ → List ℕ → LoadFault → Type 0
 FilesLackStates files name chart load.Memory = Unit {0}
-FilesLackStates files name chart f = FileLacksImage files name f ⊎ IsUnread files chart f ⊎ IsAnotherChart files name chart f
+FilesLackStates files name chart f = FileLacksImage files name f ⊎ FileLacksSource files chart f ⊎ IsAnotherChart files name chart f

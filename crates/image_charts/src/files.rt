@@ -7,7 +7,7 @@ ghost use Rattle.image_charts.specs.Files.{FilesLackStates, HasStates};
 
 use crate::finding::chart_of;
 use crate::states::ChartStates;
-use command_files::{Files, LoadFault, bytes_of, load_verified};
+use command_files::{Files, LoadFault, load_verified, source_of};
 use sc_text::{Language, language_of};
 use sqlite_items::Boxed;
 use std::alloc::Global;
@@ -68,7 +68,7 @@ pub fn load_states<F: Files>(
         ≡ F.failures files.old + files_failed fault) }
 {
     let image = load_verified(alloc, files, name)?;
-    let bytes = bytes_of(alloc, files, chart)?;
+    let bytes = source_of(alloc, files, chart)?;
     let states = boxed_states(alloc, chart, &bytes, image.get())?;
     Ok((image, states))
 }

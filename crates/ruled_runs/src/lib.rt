@@ -8,5 +8,6 @@ mod playing;
 mod running;
 
 pub use fault::RuledFault;
+pub use met::cause_met;
 pub use ruled_traces::Rules;
 pub use running::{RunFiles, run_by};

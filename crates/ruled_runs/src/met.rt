@@ -19,8 +19,9 @@ fn line_told(fault: PlayFault) -> Option<u64>
     }
 }
 
-/// What was met on the line of which a fault tells, where that is known.
-pub(crate) fn met<S: Source, N: OfInput>(
+/// What was met on the line of which a fault tells, where that is known: why it gives no inputs; where every input has
+/// to be named, `strict`, also the first one that it does not name.
+pub fn cause_met<S: Source, N: OfInput>(
     alloc: Global,
     strict: bool,
     image: &Verified,

@@ -9,7 +9,7 @@ ghost use Rattle.ruled_runs.specs.Failing.{files_failed, reads_failed, writes_fa
 ghost use Rattle.ruled_runs.specs.Inside.Held.{RefusesPlaying};
 
 use crate::fault::RuledFault;
-use crate::met::met;
+use crate::met::cause_met;
 use line_causes::{Lent, OfInput, Recent};
 use ruled_traces::{Rules, RunPlace, play_by};
 use sc_values::{Sink, Source};
@@ -48,7 +48,10 @@ fn play_told<'a, R: Source, W: Sink, N: OfInput>(
     let mut recent: Recent<'a, R, N> = Recent::of(alloc, lent, wanted);
     let played = match play_by(alloc, image, rules, from, &mut recent, output) {
         Ok(last) => Ok(last),
-        Err(fault) => Err(RuledFault::Play(fault, met(alloc, rules.strict, image, &recent, fault))),
+        Err(fault) => Err(RuledFault::Play(
+            fault,
+            cause_met(alloc, rules.strict, image, &recent, fault),
+        )),
     };
     let Lent { source } = recent.lent();
     (played, source)

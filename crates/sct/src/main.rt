@@ -3,7 +3,6 @@
 
 ghost use Rattle.std.specs.Prelude.{◌≡◌, ◌<◌, ◌≤◌};
 
-use reduced_files::ReducedFiles;
 use sc_values::{Failures, OfRead, OfWrite};
 use sct_command::{HostFiles, MISUSED, REFUSED, command};
 use std::io::IsTerminal;
@@ -50,17 +49,6 @@ struct Streams {
     are_people: bool,
 }
 
-// The verb that asks for the text for which that of an extended chart stands, and so reads this as it is written.
-const REDUCE: &str = "reduce";
-
-// Whether the words ask for files as they are written.
-fn are_as_written(words: &[String]) -> bool {
-    match words.first() {
-        Some(verb) => verb.as_str() == REDUCE,
-        None => false,
-    }
-}
-
 // The command over the system's files and streams.
 fn serve<
     R: Files + AllocGlobal + Clone + Drop + Threads + Wait + Sync,
@@ -75,8 +63,7 @@ fn serve<
     requires missed { (streams.missed.name ≡ O.name) × (streams.missed.parts ≡ O.parts) × (0 < O.parts) }
     ensures { result ≤ MISUSED }
 {
-    let written: HostFiles<'_, R, O> = HostFiles::new(rt, Failures::none(streams.missed));
-    let mut files = ReducedFiles::new(written, are_as_written(words));
+    let mut files: HostFiles<'_, R, O> = HostFiles::new(rt, Failures::none(streams.missed));
     let mut input: OfRead<_, L> = OfRead::new(streams.input, Failures::none(streams.read));
     let mut output: OfWrite<_, M> = OfWrite::new(streams.output, Failures::none(streams.written));
     let mut errors: OfWrite<_, N> = OfWrite::new(streams.errors, Failures::none(streams.reported));

@@ -9,6 +9,7 @@ use Rattle.command_files.specs.declared.fault.LoadFault.TheVariants as load
 use Rattle.command_files.specs.Counting.{files_failed}
 use Rattle.command_files.specs.Files.{Contents, HasBytes, Stores}
 use Rattle.command_files.specs.Sources.{BytesLackCompiled, FileLacksCompiled, SpellsImage}
+use Rattle.command_files.specs.Standing.{BytesLackSource, HasSource}
 use Rattle.command_files.specs.Storing.{IsNotStored}
 use Rattle.sct_command.proofs.Told.{quiet_bytes}
 use Rattle.sct_command.specs.declared.fault.Fault.{Fault}
@@ -41,7 +42,7 @@ quiet_image bytes (load.Program g) none = refl
 quiet_image bytes (load.File g) none = quiet_bytes bytes (load.File g) none
 quiet_image bytes (load.Source g) none = refl
 
-file_lacks : (files : Option Contents) (name bytes : List ℕ) (f : LoadFault) → HasBytes files name bytes → LacksImage bytes f
+file_lacks : (files : Option Contents) (name bytes : List ℕ) (f : LoadFault) → HasSource files name bytes → LacksImage bytes f
     → FileLacksCompiled files name f
 file_lacks files name bytes load.Memory held none = inl tt
 file_lacks files name bytes (load.Image g) held none = no_compiled files name bytes (load.Image g) held none
@@ -67,22 +68,44 @@ none_said (Ok done) name bytes wanted said none = tt
 none_said (Err f) name bytes wanted said none = unsaid name bytes wanted f said none
 
 -- what is said of the bytes of a file is said of the file
-report_of : (files : Option Contents) (name bytes : List ℕ) (f : LoadFault) (report : List ℕ) → HasBytes files name bytes
+report_of : (files : Option Contents) (name bytes : List ℕ) (f : LoadFault) (report : List ℕ) → HasSource files name bytes
     → IsReport name bytes f report → IsReportOf files name f report
 report_of files name bytes (load.File shown) report held is = is.tells
-report_of files name bytes load.Memory report held is = (bytes, held, is)
-report_of files name bytes (load.Image g) report held is = (bytes, held, is)
-report_of files name bytes (load.Rule g) report held is = (bytes, held, is)
-report_of files name bytes (load.Text g) report held is = (bytes, held, is)
-report_of files name bytes (load.Program g) report held is = (bytes, held, is)
-report_of files name bytes (load.Source g) report held is = (bytes, held, is)
+report_of files name bytes load.Memory report held is = (bytes, inl held, is)
+report_of files name bytes (load.Image g) report held is = (bytes, inl held, is)
+report_of files name bytes (load.Rule g) report held is = (bytes, inl held, is)
+report_of files name bytes (load.Text g) report held is = (bytes, inl held, is)
+report_of files name bytes (load.Program g) report held is = (bytes, inl held, is)
+report_of files name bytes (load.Source g) report held is = (bytes, inl held, is)
 
-reported_of : (files : Option Contents) (name bytes : List ℕ) (wanted : Bool) (f : LoadFault) (said : List ℕ) → HasBytes files name bytes
+-- and so of what is written in a file that has no source
+faulty_report : (files : Option Contents) (name bytes : List ℕ) (f : LoadFault) (report : List ℕ) → HasBytes files name bytes
+    → BytesLackSource bytes f → IsReport name bytes f report → IsReportOf files name f report
+faulty_report files name bytes (load.File shown) report held why is = is.tells
+faulty_report files name bytes load.Memory report held why is = (bytes, inr (held, why), is)
+faulty_report files name bytes (load.Image g) report held why is = (bytes, inr (held, why), is)
+faulty_report files name bytes (load.Rule g) report held why is = (bytes, inr (held, why), is)
+faulty_report files name bytes (load.Text g) report held why is = (bytes, inr (held, why), is)
+faulty_report files name bytes (load.Program g) report held why is = (bytes, inr (held, why), is)
+faulty_report files name bytes (load.Source g) report held why is = (bytes, inr (held, why), is)
+
+faulty_held : (files : Option Contents) (name bytes : List ℕ) (wanted : Bool) (f : LoadFault) (said : List ℕ) → HasBytes files name bytes
+    → BytesLackSource bytes f → IsHeldReport name bytes wanted f said → IsReported files name wanted f said
+faulty_held files name bytes wanted f said held why (inl none) = inl none
+faulty_held files name bytes wanted f said held why (inr (asked, is)) = inr (asked, faulty_report files name bytes f said held why is)
+
+pub faulty_reported : (files : Option Contents) (name bytes lacking seen : List ℕ) (wanted : Bool) (f : LoadFault) (said : List ℕ)
+    → HasBytes files name bytes → lacking ≡ bytes → seen ≡ bytes → BytesLackSource lacking f → IsHeldReport name seen wanted f said
+    → IsReported files name wanted f said
+faulty_reported files name bytes lacking seen wanted f said held is same why told_so =
+    faulty_held files name bytes wanted f said held (subst (λ b. BytesLackSource b f) is why) (subst (λ b. IsHeldReport name b wanted f said) same told_so)
+
+reported_of : (files : Option Contents) (name bytes : List ℕ) (wanted : Bool) (f : LoadFault) (said : List ℕ) → HasSource files name bytes
     → IsHeldReport name bytes wanted f said → IsReported files name wanted f said
 reported_of files name bytes wanted f said held (inl none) = inl none
 reported_of files name bytes wanted f said held (inr (asked, is)) = inr (asked, report_of files name bytes f said held is)
 
-says_of : (files : Option Contents) (name bytes : List ℕ) (wanted : Bool) (f : Fault) (said : List ℕ) → HasBytes files name bytes
+says_of : (files : Option Contents) (name bytes : List ℕ) (wanted : Bool) (f : Fault) (said : List ℕ) → HasSource files name bytes
     → SaysOfBytes name bytes wanted f said → SaysOfFault files name wanted f said
 says_of files name bytes wanted (fault.Files f) said held says = reported_of files name bytes wanted f said held says
 says_of files name bytes wanted (fault.Play f cause) said held says = says
@@ -91,12 +114,12 @@ says_of files name bytes wanted fault.Tests said held says = says
 says_of files name bytes wanted (fault.Place shown) said held says = says
 
 pub reported : {T : Type 0} (r : Result T Fault) (files : Option Contents) (name bytes : List ℕ) (wanted : Bool) (said : List ℕ)
-    → HasBytes files name bytes → IfErr r (λ f. SaysOfBytes name bytes wanted f said) → IfErr r (λ f. SaysOfFault files name wanted f said)
+    → HasSource files name bytes → IfErr r (λ f. SaysOfBytes name bytes wanted f said) → IfErr r (λ f. SaysOfFault files name wanted f said)
 reported (Ok done) files name bytes wanted said held says = tt
 reported (Err f) files name bytes wanted said held says = says_of files name bytes wanted f said held says
 
 pub warned : {T : Type 0} (r : Result T Fault) (files : Option Contents) (name bytes : List ℕ) (warns : Bool) (said : List ℕ)
-    → HasBytes files name bytes → OnOk r (AreWarnings name bytes warns said) → OnOk r (AreWarningsOf files name warns said)
+    → HasSource files name bytes → OnOk r (AreWarnings name bytes warns said) → OnOk r (AreWarningsOf files name warns said)
 warned (Ok done) files name bytes warns said held are = record { bytes = bytes; held = held; are = are }
 warned (Err f) files name bytes warns said held are = tt
 
@@ -122,7 +145,7 @@ refuses_keeping (Ok done) bytes image files files' to old new is kept = tt
 refuses_keeping (Err f) bytes image files files' to old new is kept = refuses_kept f bytes image files files' to old new is kept
 
 pub compiles : {T : Type 0} (r : Result T Fault) (files middle after : Option Contents) (from to bytes : List ℕ) (old new : Option (List ℕ))
-    → middle ≡ files → HasBytes files from bytes → OnOk r (KeepsProgram bytes middle after to old new)
+    → middle ≡ files → HasSource files from bytes → OnOk r (KeepsProgram bytes middle after to old new)
     → OnOk r (Compiles files after from to old new)
 compiles (Ok done) files middle after from to bytes old new same held made =
     record {
@@ -135,13 +158,13 @@ compiles (Ok done) files middle after from to bytes old new same held made =
     }
 compiles (Err f) files middle after from to bytes old new same held made = tt
 
-not_compiled : (files : Option Contents) (from to bytes : List ℕ) (f : LoadFault) → HasBytes files from bytes
+not_compiled : (files : Option Contents) (from to bytes : List ℕ) (f : LoadFault) → HasSource files from bytes
     → LacksImage bytes f ⊎ IsNotStored to f → FileLacksCompiled files from f ⊎ IsNotStored to f
 not_compiled files from to bytes f held (inl none) = inl (file_lacks files from bytes f held none)
 not_compiled files from to bytes f held (inr none) = inr none
 
 refuses : (f : Fault) (files middle after : Option Contents) (from to bytes : List ℕ) (old new : Option (List ℕ))
-    → middle ≡ files → HasBytes files from bytes → RefusesProgram bytes middle after to old new f → RefusesCompile files after from to old new f
+    → middle ≡ files → HasSource files from bytes → RefusesProgram bytes middle after to old new f → RefusesCompile files after from to old new f
 refuses fault.Write files middle after from to bytes old new same held (image, is, kept) =
     record {
       image = image;
@@ -158,7 +181,7 @@ refuses fault.Tests files middle after from to bytes old new same held made = ab
 refuses (fault.Place shown) files middle after from to bytes old new same held made = absurd made
 
 pub refuses_compile : {T : Type 0} (r : Result T Fault) (files middle after : Option Contents) (from to bytes : List ℕ) (old new : Option (List ℕ))
-    → middle ≡ files → HasBytes files from bytes → IfErr r (RefusesProgram bytes middle after to old new)
+    → middle ≡ files → HasSource files from bytes → IfErr r (RefusesProgram bytes middle after to old new)
     → IfErr r (RefusesCompile files after from to old new)
 refuses_compile (Ok done) files middle after from to bytes old new same held made = tt
 refuses_compile (Err f) files middle after from to bytes old new same held made = refuses f files middle after from to bytes old new same held made
@@ -185,18 +208,18 @@ pub refuses_spelling : {T : Type 0} (r : Result T Fault) (bytes : List ℕ) (ima
 refuses_spelling (Ok done) bytes image old new is refused = tt
 refuses_spelling (Err f) bytes image old new is refused = refuses_image f bytes image old new is refused
 
-of_program : (files : Option Contents) (from bytes spelling : List ℕ) → HasBytes files from bytes → IsSpelt bytes spelling
+of_program : (files : Option Contents) (from bytes spelling : List ℕ) → HasSource files from bytes → IsSpelt bytes spelling
     → AreOfProgram files from spelling
 of_program files from bytes spelling held is =
     record { image = is.image; compiled = compiled files from bytes is.image held is.source; spelt = is.spelt }
 
 pub writes_program : {T : Type 0} (r : Result T Fault) (files : Option Contents) (from bytes : List ℕ) (old new : Option (List ℕ))
-    → HasBytes files from bytes → OnOk r (Writes (IsSpelt bytes) old new) → OnOk r (Writes (AreOfProgram files from) old new)
+    → HasSource files from bytes → OnOk r (Writes (IsSpelt bytes) old new) → OnOk r (Writes (AreOfProgram files from) old new)
 writes_program (Ok done) files from bytes old new held written =
     record { text = written.text; is = of_program files from bytes written.text held written.is; written = written.written }
 writes_program (Err f) files from bytes old new held written = tt
 
-refuses_program : (f : Fault) (files : Option Contents) (from bytes : List ℕ) (old new : Option (List ℕ)) → HasBytes files from bytes
+refuses_program : (f : Fault) (files : Option Contents) (from bytes : List ℕ) (old new : Option (List ℕ)) → HasSource files from bytes
     → RefusesToWrite (IsSpelt bytes) (LacksImage bytes) old new f → RefusesWriting files from old new f
 refuses_program fault.Write files from bytes old new held part =
     record { text = part.text; is = of_program files from bytes part.text held part.is; in_part = part.in_part }
@@ -206,6 +229,6 @@ refuses_program fault.Tests files from bytes old new held refused = absurd refus
 refuses_program (fault.Place shown) files from bytes old new held refused = absurd refused
 
 pub refuses_writing : {T : Type 0} (r : Result T Fault) (files : Option Contents) (from bytes : List ℕ) (old new : Option (List ℕ))
-    → HasBytes files from bytes → IfErr r (RefusesToWrite (IsSpelt bytes) (LacksImage bytes) old new) → IfErr r (RefusesWriting files from old new)
+    → HasSource files from bytes → IfErr r (RefusesToWrite (IsSpelt bytes) (LacksImage bytes) old new) → IfErr r (RefusesWriting files from old new)
 refuses_writing (Ok done) files from bytes old new held refused = tt
 refuses_writing (Err f) files from bytes old new held refused = refuses_program f files from bytes old new held refused

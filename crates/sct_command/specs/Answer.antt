@@ -1,5 +1,5 @@
 -- What a command leaves that was done, and what one that was refused.
-use Rattle.std.specs.Prelude.{ℕ, ◌≡◌, ◌+◌, ◌≤◌, ◌⊎◌, codes, Bool, Option, Some, None, List, []}
+use Rattle.std.specs.Prelude.{ℕ, ◌≡◌, ◌+◌, ◌≤◌, ◌⊎◌, codes, Bool, false, Option, Some, None, List, []}
 use Rattle.std.specs.Io.KnownBytes.{Appends}
 use Rattle.sc_values.specs.Streams.{GrowsInto}
 use Rattle.bytecode.specs.Image.{Image}
@@ -23,7 +23,8 @@ use Rattle.command_texts.specs.Summary.{summary_of}
 use Rattle.sct_command.specs.TellingStates.{PlaysStates, RefusesStates}
 use Rattle.sct_command.specs.Testing.{RefusesTests, TestsPass}
 use Rattle.sct_command.specs.Writing.{RefusesToWrite, Writes, WritesPart, WritesText}
-use Rattle.sct_command.specs.Words.{IsMet, TellsLines, fault_line}
+use Rattle.ruled_runs.specs.Met.{IsMet}
+use Rattle.sct_command.specs.Words.{TellsLines, fault_line}
 use Rattle.trace_player.specs.Trace.{Plays, Good, Leaves}
 use Rattle.sct_command.specs.declared.fault.Fault.{Fault}
 use Rattle.sct_command.specs.declared.fault.Fault.TheVariants as fault
@@ -93,7 +94,7 @@ pub record StopsPlaying (files : Option Contents) (name : List ℕ) (input old n
   pub image : Image
   pub loaded : IsLoaded files name image
   pub leaves : Leaves image input old new f
-  pub met : IsMet image.program.variables input f cause
+  pub met : IsMet false image.program.variables input f cause
 
 -- what a run leaves that is refused: nothing was written, but what the player left
 abbrev pub RefusesRun : Option Contents → List ℕ → Option (List ℕ) → Option (List ℕ) → Option (List ℕ) → Fault → Type 0
@@ -129,7 +130,7 @@ RefusesHelp old new other = ⊥
 
 -- what a player leaves that refuses an input of an image, and the cause that is known of it
 abbrev pub RefusesPlaying : Image → Option (List ℕ) → Option (List ℕ) → Option (List ℕ) → Fault → Type 0
-RefusesPlaying image input old new (fault.Play f cause) = Leaves image input old new f × IsMet image.program.variables input f cause
+RefusesPlaying image input old new (fault.Play f cause) = Leaves image input old new f × IsMet false image.program.variables input f cause
 RefusesPlaying image input old new other = ⊥
 
 -- what a request leaves that is refused for this fault

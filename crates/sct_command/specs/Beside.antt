@@ -4,7 +4,8 @@ use Rattle.std.specs.Io.KnownBytes.{Appends}
 use Rattle.sc_values.specs.Streams.{GrowsInto}
 use Rattle.command_files.specs.declared.fault.LoadFault.{LoadFault}
 use Rattle.command_files.specs.FaultText.{shown_name}
-use Rattle.command_files.specs.Files.{Contents, HasBytes}
+use Rattle.command_files.specs.Files.{Contents}
+use Rattle.command_files.specs.Standing.{HasSource}
 use Rattle.warning_texts.specs.Reports as warned
 use Rattle.sct_command.specs.Explaining.{IsReportOf}
 use Rattle.sct_command.specs.declared.fault.Fault.{Fault}
@@ -17,10 +18,10 @@ abbrev pub AreWarnings : (name bytes : List ℕ) → Bool → List ℕ → Type 
 AreWarnings name bytes false said = said ≡ []
 AreWarnings name bytes true said = warned.IsTold (shown_name name) bytes said
 
--- those of the text in this file
+-- those of the source in this file
 pub record AreWarningsOf (files : Option Contents) (name : List ℕ) (warns : Bool) (said : List ℕ) : Type 0 where
   pub bytes : List ℕ
-  pub held : HasBytes files name bytes
+  pub held : HasSource files name bytes
   pub are : AreWarnings name bytes warns said
 
 -- ---- a report

@@ -9,6 +9,7 @@ use Rattle.command_files.specs.declared.fault.LoadFault.TheVariants as load
 use Rattle.command_files.specs.FaultText.{shown_name}
 use Rattle.command_files.specs.Files.{Contents, HasBytes}
 use Rattle.command_files.specs.Sources.{IsCompiledFrom, FileLacksCompiled}
+use Rattle.command_files.specs.Standing.{BytesLackSource, HasSource}
 use Rattle.compiler.specs.FaultText.{fault_text}
 use Rattle.diagnostics.specs.Reports.{Tells, text_fault}
 use Rattle.fault_lists.specs.Reports.{TellsEach}
@@ -47,7 +48,7 @@ pub record FindsImage (files : Option Contents) (name : List ℕ) (old new : Opt
   pub image : Image
   pub compiled : IsCompiledFrom files name image
   pub bytes : List ℕ
-  pub held : HasBytes files name bytes
+  pub held : HasSource files name bytes
   pub writes : WritesFound name bytes image old new
 
 -- the program in this file has an image, and a beginning of that was written
@@ -55,7 +56,7 @@ pub record FindsImagePart (files : Option Contents) (name : List ℕ) (old new :
   pub image : Image
   pub compiled : IsCompiledFrom files name image
   pub bytes : List ℕ
-  pub held : HasBytes files name bytes
+  pub held : HasSource files name bytes
   pub in_part : WritesFoundPart name bytes image old new
 
 -- a beginning was written of what is said of the fault for which this file has no image
@@ -82,10 +83,14 @@ pub record IsReport (name bytes : List ℕ) (f : LoadFault) (report : List ℕ) 
   pub tells : Tells (shown_name name) (told_fault f) report
   pub flaws : TellsEachFlaw (shown_name name) bytes f report
 
--- what is said of the fault of a file: that of its bytes, where it has some
+-- the text of a file whose fault is told: the source in it, or, where it has none for this fault, what is written there
+abbrev pub IsTextOf : Option Contents → (name bytes : List ℕ) → LoadFault → Type 0
+IsTextOf files name bytes f = HasSource files name bytes ⊎ (HasBytes files name bytes × BytesLackSource bytes f)
+
+-- what is said of the fault of a file: that of its text, where it has one
 abbrev pub IsReportOf : Option Contents → (name : List ℕ) → LoadFault → (report : List ℕ) → Type 0
 IsReportOf files name (load.File shown) report = Tells (shown_name name) (codes "E64") report
-IsReportOf files name f report = (bytes : List ℕ) × HasBytes files name bytes × IsReport name bytes f report
+IsReportOf files name f report = (bytes : List ℕ) × IsTextOf files name bytes f × IsReport name bytes f report
 
 -- that was written
 pub record WritesReport (files : Option Contents) (name : List ℕ) (f : LoadFault) (old new : Option (List ℕ)) : Type 0 where

@@ -2,8 +2,9 @@
 use Rattle.std.specs.Prelude.{ℕ, ◌≡◌, ◌⊎◌, Option, None, List}
 use Rattle.bytecode.specs.Image.{Image}
 use Rattle.command_files.specs.declared.fault.LoadFault.{LoadFault}
-use Rattle.command_files.specs.Files.{Contents, HasBytes}
+use Rattle.command_files.specs.Files.{Contents}
 use Rattle.command_files.specs.Sources.{FileLacksCompiled, IsCompiledFrom, SpellsImage}
+use Rattle.command_files.specs.Standing.{HasSource}
 use Rattle.image_charts.specs.Charts.{IsNotChartOf}
 use Rattle.line_causes.specs.declared.cause.Cause.{Cause}
 use Rattle.simulation.specs.Lines as typed
@@ -29,7 +30,7 @@ pub record StopsSimulation (files : Option Contents) (name : List ℕ) (input ol
 pub record LacksStates (files : Option Contents) (name : List ℕ) (f : LoadFault) : Type 0 where
   pub image : Image
   pub bytes : List ℕ
-  pub held : HasBytes files name bytes
+  pub held : HasSource files name bytes
   pub is : SpellsImage bytes image
   pub none : IsNotChartOf name bytes image f
 

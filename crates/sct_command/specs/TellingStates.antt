@@ -1,5 +1,5 @@
 -- What is left where an input is played by an image, and the active states of its chart are told.
-use Rattle.std.specs.Prelude.{ℕ, ◌≡◌, Option, List}
+use Rattle.std.specs.Prelude.{ℕ, ◌≡◌, false, Option, List}
 use Rattle.bytecode.specs.Image.{Image}
 use Rattle.command_files.specs.Files.{Contents}
 use Rattle.image_charts.specs.Charts.{NamedStates, state_words}
@@ -8,7 +8,7 @@ use Rattle.line_causes.specs.declared.cause.Cause.{Cause}
 use Rattle.trace_player.specs.declared.player.PlayFault.{PlayFault}
 use Rattle.trace_player.specs.Trace.{Good}
 use Rattle.state_traces.specs.Trace.{Leaves, Plays, Words}
-use Rattle.sct_command.specs.Words.{IsMet}
+use Rattle.ruled_runs.specs.Met.{IsMet}
 use Rattle.sct_command.specs.declared.fault.Fault.{Fault}
 use Rattle.sct_command.specs.declared.fault.Fault.TheVariants as fault
 
@@ -27,12 +27,12 @@ pub record StopsStates (files : Option Contents) (name chart : List ℕ) (input 
   pub states : NamedStates
   pub has : HasStates files name chart image states
   pub leaves : Leaves (state_words states) image input old new f
-  pub met : IsMet image.program.variables input f cause
+  pub met : IsMet false image.program.variables input f cause
 
 -- what a player leaves that refuses an input of an image, and the cause that is known of it
 abbrev pub RefusesWords : Words → Image → Option (List ℕ) → Option (List ℕ) → Option (List ℕ) → Fault → Type 0
 RefusesWords words image input old new (fault.Play f cause) =
-    Leaves words image input old new f × IsMet image.program.variables input f cause
+    Leaves words image input old new f × IsMet false image.program.variables input f cause
 RefusesWords words image input old new other = ⊥
 
 -- what such a run leaves that is refused: nothing was written, but what the player left

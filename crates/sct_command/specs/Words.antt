@@ -1,36 +1,13 @@
 -- What is said of a fault in words, behind its line.
-use Rattle.std.specs.Prelude.{ℕ, ◌≡◌, ◌⊎◌, codes, Bool, true, Option, Some, None, List, [], ◌∷◌, ◌++◌}
-use Rattle.sc_graph.specs.declared.program.Variable.{Variable}
+use Rattle.std.specs.Prelude.{ℕ, ◌≡◌, ◌⊎◌, codes, Bool, true, Some, List, [], ◌∷◌, ◌++◌}
 use Rattle.trace_lines.specs.Lines.{line_feed}
 use Rattle.line_causes.specs.declared.cause.Cause.{Cause}
-use Rattle.line_causes.specs.Met.{IsMetOn}
 use Rattle.line_causes.specs.Words.{cause_words}
-use Rattle.trace_player.specs.declared.player.PlayFault.{PlayFault}
-use Rattle.trace_player.specs.declared.player.PlayFault.TheVariants as play_fault
 use Rattle.trace_player.specs.FaultText.{play_fault_text}
 use Rattle.diagnostics.specs.Reports.{Tells}
 use Rattle.sct_command.specs.declared.fault.Fault.{Fault}
 use Rattle.sct_command.specs.declared.fault.Fault.TheVariants as fault
 use Rattle.sct_command.specs.FaultText.{fault_text}
-
--- ---- what was met
-
--- the line of which a fault tells
-abbrev pub line_told : PlayFault → Option ℕ
-line_told (play_fault.Input line) = Some line
-line_told (play_fault.NotJson line) = Some line
-line_told other = None
-
--- a cause that is known of a fault is that of the line of which it tells
-abbrev pub IsMetIn : List Variable → Option (List ℕ) → Option ℕ → Option Cause → Type 0
-IsMetIn variables input line None = Unit {0}
-IsMetIn variables input None (Some c) = ⊥
-IsMetIn variables input (Some line) (Some c) = IsMetOn variables input line c
-
-abbrev pub IsMet : List Variable → Option (List ℕ) → PlayFault → Option Cause → Type 0
-IsMet variables input f cause = IsMetIn variables input (line_told f) cause
-
--- ---- what is said
 
 -- a fault of a line, and what was met there
 abbrev pub met_words : List ℕ → Cause → List ℕ

@@ -10,9 +10,9 @@ ghost use Rattle.sct_command.specs.Sources.{Compiles, RefusesCompile};
 
 use crate::fault::Fault;
 use crate::keep::keep_image;
-use crate::source_image::image_told;
+use crate::source_image::{image_told, source_told};
 use crate::warnings::warnings_wanted;
-use command_files::{Files, bytes_of};
+use command_files::Files;
 use sc_values::Sink;
 use std::alloc::Global;
 use verifier::Verified;
@@ -116,6 +116,6 @@ pub(crate) fn compile<F: Files, W: Sink>(
     ensures reported { IfErr result (λ fault.
         SaysOfFault (F.contents files.old) from.now wanted fault (string_bytes said.new)) }
 {
-    let bytes = bytes_of(alloc, files, from)?;
+    let bytes = source_told(alloc, from, wanted, files, said)?;
     compile_held(alloc, from, &bytes, to, warns, wanted, files, output, said)
 }

@@ -1,8 +1,10 @@
 //! The verb `explain`.
 
-ghost use Rattle.std.specs.Prelude.{◌≡◌, ◌+◌, ◌≤◌, IfErr, IfOk, OnOk, string_bytes};
+ghost use Rattle.std.specs.Prelude.{◌≡◌, ◌+◌, ◌≤◌, Option, IfErr, IfOk, OnOk, string_bytes};
 ghost use Rattle.std.specs.Str.{IsUtf8};
 ghost use Rattle.command_files.specs.Counting as files_count;
+ghost use Rattle.command_files.specs.Files.{Contents};
+ghost use Rattle.command_files.specs.Standing.{HasSource};
 ghost use Rattle.sct_command.specs.Explaining.{FindsImage, RefusesExplaining, RefusesTelling};
 ghost use Rattle.sct_command.specs.Explaining.{IsFound, IsReport, RefusesFound, WritesFound};
 ghost use Rattle.sct_command.specs.Inside.Telling.{IsTold};
@@ -13,7 +15,7 @@ use crate::fault::Fault;
 use crate::report::report_of;
 use crate::warnings::warnings_in;
 use bytecode::Image;
-use command_files::{Files, LoadFault, bytes_of, compile_bytes};
+use command_files::{Files, LoadFault, bytes_of, compile_bytes, reduced_source};
 use command_texts::summary_of;
 use sc_values::{Sink, write_all};
 use sqlite_items::Boxed;
@@ -96,10 +98,36 @@ fn tell_found<W: Sink>(
     }
 }
 
+// Compiles the source that these bytes are, and tells of its image, or of why it has none.
+#[tactic(auto, using(crate::proofs::Told::quiet_bytes))]
+fn explain_source<W: Sink>(
+    alloc: Global,
+    name: &str,
+    bytes: &[u8],
+    output: &mut W,
+) -> Result<(), Fault>
+    ensures done { (files : Option Contents) → HasSource files name.now bytes.now
+        → OnOk result (FindsImage files name.now (W.taken output.old) (W.taken output.new)) }
+    ensures refused { (files : Option Contents) → HasSource files name.now bytes.now
+        → IfErr result (RefusesExplaining files name.now (W.taken output.old) (W.taken output.new)) }
+    ensures none_failed { OnOk result (W.failures output.new ≡ W.failures output.old) }
+    ensures failed { IfErr result (λ fault. W.failures output.new ≡ W.failures output.old + writes_failed fault) }
+    ensures unread { IfErr result (λ fault. reads_failed fault ≡ 0) }
+    ensures missed { IfErr result (λ fault. files_failed fault ≡ 0) }
+{
+    match compile_bytes(alloc, bytes) {
+        Ok(image) => {
+            let image = Boxed::new(alloc, image)?;
+            tell_found(alloc, name, bytes, image.get().image(), output)
+        }
+        Err(fault) => Err(refused(alloc, name, bytes, fault, output)),
+    }
+}
+
 /// Compiles the program in this file, and writes the summary of its image with the warnings of the text, or else why it
 /// has none: the place of the fault, what is wrong, and what helps. Err: there is no program in the file, or it has no
 /// image, and this was told; or the output failed.
-#[tactic(auto, using(crate::proofs::Told::told_source, crate::proofs::Told::quiet_bytes, crate::proofs::Told::told_bytes, crate::proofs::Told::finds, crate::proofs::Told::finds_part))]
+#[tactic(auto, using(crate::proofs::Told::told_source, crate::proofs::Told::told_faulty, command_files::proofs::Sourced::as_written, command_files::proofs::Sourced::as_reduced))]
 pub(crate) fn explain<F: Files, W: Sink>(
     alloc: Global,
     name: &str,
@@ -120,11 +148,9 @@ pub(crate) fn explain<F: Files, W: Sink>(
         Ok(bytes) => bytes,
         Err(fault) => return Err(refused(alloc, name, b"", fault, output)),
     };
-    match compile_bytes(alloc, &bytes) {
-        Ok(image) => {
-            let image = Boxed::new(alloc, image)?;
-            tell_found(alloc, name, &bytes, image.get().image(), output)
-        }
+    match reduced_source(alloc, &bytes) {
+        Ok(Some(text)) => explain_source(alloc, name, text.as_bytes(), output),
+        Ok(None) => explain_source(alloc, name, &bytes, output),
         Err(fault) => Err(refused(alloc, name, &bytes, fault, output)),
     }
 }

@@ -4,46 +4,21 @@ ghost use Rattle.std.specs.Prelude.{◌≡◌, ◌+◌, ℕ, List, IfErr, OnOk};
 ghost use Rattle.sc_values.specs.Streams.{IsNotReadBehind};
 ghost use Rattle.sct_command.specs.Answer.{PlaysWhole, RefusesPlaying, RefusesRun};
 ghost use Rattle.sct_command.specs.Failing.{files_failed, reads_failed, writes_failed};
-ghost use Rattle.sct_command.specs.Words.{IsMet, line_told};
 ghost use Rattle.trace_player.specs.Trace.{Good, Plays};
 
 use crate::fault::Fault;
 use command_files::{Files, load_verified};
 use command_words::Workers;
-use line_causes::{Cause, Lent, OfInput, Recent, cause_on};
+use line_causes::{Lent, OfInput, Recent};
+use ruled_runs::cause_met;
 use sc_values::{Sink, Source};
 use std::alloc::Global;
 use std::marker::Brand;
 use std::sync::Wait;
 use std::thread::Threads;
-use trace_player::{PlayFault, play};
+use trace_player::play;
 use verifier::Verified;
 use worker_pool::NoGate;
-
-// The line of which a fault tells.
-fn line_told(fault: PlayFault) -> Option<u64>
-    ensures { result ≡ line_told fault }
-{
-    match fault {
-        PlayFault::Input(line) | PlayFault::NotJson(line) => Some(line),
-        PlayFault::Memory | PlayFault::Read | PlayFault::Write => None,
-    }
-}
-
-/// What was met on the line of which a fault tells, where that is known.
-pub(crate) fn met<S: Source, N: OfInput>(
-    alloc: Global,
-    image: &Verified,
-    recent: &Recent<'_, S, N>,
-    fault: PlayFault,
-) -> Option<Cause>
-    ensures { IsMet image.now.program.variables N.start fault result }
-{
-    match line_told(fault) {
-        Some(line) => cause_on(alloc, image.image().program().variables(), recent, line),
-        None => None,
-    }
-}
 
 // Plays an input by an image, and gives it back. Where words are wanted, the lines that were read last are kept, and so
 // it is known what was met on one that is refused.
@@ -76,7 +51,7 @@ fn play_told<'a, T: Threads + Wait + Sync, R: Source, W: Sink, N: OfInput>(
     let number = workers.number;
     let played = match play(rt, alloc, image, &mut recent, output, number, &NoGate) {
         Ok(_) => Ok(()),
-        Err(fault) => Err(Fault::Play(fault, met(alloc, image, &recent, fault))),
+        Err(fault) => Err(Fault::Play(fault, cause_met(alloc, false, image, &recent, fault))),
     };
     let Lent { source } = recent.lent();
     (played, source)

@@ -9,10 +9,10 @@ ghost use Rattle.state_traces.specs.Trace.{Plays};
 ghost use Rattle.trace_player.specs.Trace.{Good};
 
 use crate::fault::Fault;
-use crate::run::met;
 use command_files::Files;
 use image_charts::{ChartStates, load_states};
 use line_causes::{Lent, OfInput, Recent};
+use ruled_runs::cause_met;
 use sc_values::{Sink, Source};
 use state_traces::play_with;
 use std::alloc::Global;
@@ -48,7 +48,7 @@ fn play_states<'a, R: Source, W: Sink, N: OfInput>(
     let mut recent: Recent<'a, R, N> = Recent::of(alloc, lent, wanted);
     let played = match play_with(alloc, image, states, &mut recent, output) {
         Ok(_) => Ok(()),
-        Err(fault) => Err(Fault::Play(fault, met(alloc, image, &recent, fault))),
+        Err(fault) => Err(Fault::Play(fault, cause_met(alloc, false, image, &recent, fault))),
     };
     let Lent { source } = recent.lent();
     (played, source)

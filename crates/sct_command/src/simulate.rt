@@ -8,7 +8,7 @@ ghost use Rattle.sct_command.specs.Failing.{files_failed, reads_failed, writes_f
 ghost use Rattle.sct_command.specs.Simulating.{LacksModel, RefusesSimulation, Simulates};
 
 use crate::fault::Fault;
-use command_files::{Files, LoadFault, bytes_of, compile_bytes};
+use command_files::{Files, LoadFault, compile_bytes, source_of};
 use image_charts::{ChartStates, states_in};
 use sc_values::{Sink, Source};
 use simulation::simulate;
@@ -31,7 +31,7 @@ fn load_model<F: Files>(
     ensures failed { IfErr result (λ fault. F.failures files.new
         ≡ F.failures files.old + files_count.files_failed fault) }
 {
-    let bytes = bytes_of(alloc, files, name)?;
+    let bytes = source_of(alloc, files, name)?;
     let compiled = compile_bytes(alloc, &bytes)?;
     let image = Boxed::new(alloc, compiled)?;
     let states = states_in(alloc, name, &bytes, image.get())?;

@@ -1,11 +1,14 @@
-//! The image of a text, or a report of why it has none.
+//! The source in a file, and the image of a text, or a report of why there is none.
 
-ghost use Rattle.std.specs.Prelude.{◌≡◌, [], IfErr, IfOk, OnOk, string_bytes};
+ghost use Rattle.std.specs.Prelude.{◌≡◌, ◌+◌, [], IfErr, IfOk, OnOk, string_bytes};
+ghost use Rattle.command_files.specs.Counting.{files_failed};
 ghost use Rattle.command_files.specs.Sources.{SpellsImage};
+ghost use Rattle.command_files.specs.Standing.{FileLacksSource, HasSource};
+ghost use Rattle.sct_command.specs.Beside.{IsReported};
 ghost use Rattle.sct_command.specs.Inside.Held.{IsHeldReport, LacksImage};
 
 use crate::report::report_of;
-use command_files::{LoadFault, compile_bytes};
+use command_files::{Files, LoadFault, bytes_of, compile_bytes, reduced_source};
 use sqlite_items::Boxed;
 use std::alloc::Global;
 use verifier::Verified;
@@ -49,6 +52,37 @@ pub(crate) fn image_told(
         Ok(image) => Ok(Boxed::new(alloc, image)?),
         Err(fault) => {
             say_report(alloc, name, bytes, &fault, wanted, said);
+            Err(fault)
+        }
+    }
+}
+
+/// The source in the file of this name. Err: there is none, of which a report is `said` where words are wanted and
+/// memory is there for them.
+#[tactic(auto, using(command_files::proofs::Sourced::as_written, command_files::proofs::Sourced::as_reduced, command_files::proofs::Sourced::no_source_in, crate::proofs::Compiled::faulty_reported))]
+pub(crate) fn source_told<F: Files>(
+    alloc: Global,
+    name: &str,
+    wanted: bool,
+    files: &mut F,
+    said: &mut String,
+) -> Result<Vec<u8>, LoadFault>
+    requires none { string_bytes said.now ≡ [] }
+    ensures source { IfOk result (λ bytes. HasSource (F.contents files.old) name.now bytes.items) }
+    ensures fault { IfErr result (FileLacksSource (F.contents files.old) name.now) }
+    ensures same { F.contents files.new ≡ F.contents files.old }
+    ensures none_failed { OnOk result (F.failures files.new ≡ F.failures files.old) }
+    ensures failed { IfErr result (λ fault. F.failures files.new ≡ F.failures files.old + files_failed fault) }
+    ensures quiet { OnOk result (string_bytes said.new ≡ []) }
+    ensures reported { IfErr result (λ fault.
+        IsReported (F.contents files.old) name.now wanted fault (string_bytes said.new)) }
+{
+    let bytes = bytes_of(alloc, files, name)?;
+    match reduced_source(alloc, &bytes) {
+        Ok(Some(text)) => Ok(text.into_bytes()),
+        Ok(None) => Ok(bytes),
+        Err(fault) => {
+            say_report(alloc, name, &bytes, &fault, wanted, said);
             Err(fault)
         }
     }

@@ -10,10 +10,10 @@ ghost use Rattle.sct_command.specs.Sources.{AreOfProgram, RefusesWriting};
 ghost use Rattle.sct_command.specs.Writing.{RefusesToWrite, Writes};
 
 use crate::fault::Fault;
-use crate::source_image::image_told;
+use crate::source_image::{image_told, source_told};
 use crate::warnings::warnings_wanted;
 use bytecode::{Image, encode};
-use command_files::{Files, bytes_of};
+use command_files::Files;
 use sc_values::{Sink, write_all};
 use std::alloc::Global;
 
@@ -114,6 +114,6 @@ pub(crate) fn write_compiled<F: Files, W: Sink>(
     ensures reported { IfErr result (λ fault.
         SaysOfFault (F.contents files.old) from.now wanted fault (string_bytes said.new)) }
 {
-    let bytes = bytes_of(alloc, files, from)?;
+    let bytes = source_told(alloc, from, wanted, files, said)?;
     write_held(alloc, from, &bytes, warns, wanted, output, said)
 }
