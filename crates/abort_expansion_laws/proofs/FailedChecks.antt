@@ -1,5 +1,5 @@
 -- In a continuation, the checks of flags that are not raised fail, one after the other.
-use Rattle.std.proofs.Common.{◌≡◌, ◌≢◌, ℕ, pos, ◌<◌, ◌≤◌, ⊎_elim, true, false, Option, Some, None, List, [], ◌∷◌, ◌++◌, length, slice_get}
+use Rattle.std.proofs.Common.{◌≡◌, ◌≢◌, ℕ, pos, ◌<◌, ◌≤◌, ⊎_elim, Bool, true, false, Option, Some, None, List, [], ◌∷◌, ◌++◌, length, slice_get}
 use Rattle.std.proofs.Common.{slice_set, refl, sym, ap, subst, ◌∙◌, arith}
 use Rattle.std.proofs.lemmas.Option.{same_Some}
 use Rattle.sc_values.specs.declared.value.Value.TheVariants as value_is
@@ -88,18 +88,19 @@ module _ (core : Table) (corr : Correspondence) (Told : Configuration → Entry 
     all_on a b same gs all.1,
   )
 
-  first_check : (o : Option ℕ) (f : Flags) (fs : List Flags) (rest : List Transition) (d : Configuration) → f.strong ≡ o → Calm d → g < length d.regions →
+  first_check : (b : Bool) (o : Option ℕ) (f : Flags) (fs : List Flags) (rest : List Transition) (d : Configuration) → f.strong ≡ o → Calm d →
+      g < length d.regions →
       AllDown d (f ∷ fs) →
-      standing_of d g ≡ at.Trying u (strong_checks true left (f ∷ fs) ++ rest) →
-      ((e : Configuration) → Calm e → g < length e.regions → AllDown e fs → standing_of e g ≡ at.Trying u (strong_checks true left fs ++ rest) →
+      standing_of d g ≡ at.Trying u (strong_checks b left (f ∷ fs) ++ rest) →
+      ((e : Configuration) → Calm e → g < length e.regions → AllDown e fs → standing_of e g ≡ at.Trying u (strong_checks b left fs ++ rest) →
       Passed e rest) → Passed d rest
-  first_check None f fs rest d is none lt down stands on_rest =
-      on_rest d none lt down.1 (stands ∙ ap (λ z. at.Trying u ((check true left z ++ strong_checks true left fs) ++ rest)) is)
-  first_check (Some x) f fs rest d is none lt down stands on_rest =
+  first_check b None f fs rest d is none lt down stands on_rest =
+      on_rest d none lt down.1 (stands ∙ ap (λ z. at.Trying u ((check b left z ++ strong_checks b left fs) ++ rest)) is)
+  first_check b (Some x) f fs rest d is none lt down stands on_rest =
       let own : IsDown d x = down.0 x is in
-      let w : Transition = go true (Some (is_raised x)) [] left in
-      let more : List Transition = strong_checks true left fs ++ rest in
-      let first : standing_of d g ≡ at.Trying u (w ∷ more) = stands ∙ ap (λ z. at.Trying u ((check true left z ++ strong_checks true left fs) ++ rest)) is in
+      let w : Transition = go b (Some (is_raised x)) [] left in
+      let more : List Transition = strong_checks b left fs ++ rest in
+      let first : standing_of d g ≡ at.Trying u (w ∷ more) = stands ∙ ap (λ z. at.Trying u ((check b left z ++ strong_checks b left fs) ++ rest)) is in
       let d1 : Configuration = placed d more in
       let here : standing_of d1 g ≡ at.Trying u more = stands_same d d1 g (at.Trying u more) refl lt in
       let others : (t : ℕ) → t ≢ g → standing_of d1 t ≡ standing_of d t = λ t ne. stands_other d d1 g t (at.Trying u more) refl ne in
@@ -121,9 +122,34 @@ module _ (core : Table) (corr : Correspondence) (Told : Configuration → Entry 
         reaches = (s.reaches.0, (s.reaches.1.0, (λ t ne. s.reaches.1.1.0 t ne ∙ others t ne, s.reaches.1.1.1 ∙ set_length d.regions g (at.Trying u more))));
       }
 
+  -- whether they are looked at at once, as in continuations, or not, as in monitors
+  pub looks_fail : (b : Bool) (fs : List Flags) (rest : List Transition) (d : Configuration) → Calm d → g < length d.regions → AllDown d fs →
+      standing_of d g ≡ at.Trying u (strong_checks b left fs ++ rest) → Passed d rest
+  looks_fail b [] rest d none lt down stands =
+      record { log = []; last = d; follows = refl; charted = refl; fits = tt; climbs = λ more climbs. climbs; reaches = (refl, (stands, (λ t ne. refl, refl))) }
+  looks_fail b (f ∷ fs) rest d none lt down stands =
+      first_check b f.strong f fs rest d refl none lt down stands (λ e calm in_e all first. looks_fail b fs rest e calm in_e all first)
+
   pub checks_fail : (fs : List Flags) (rest : List Transition) (d : Configuration) → Calm d → g < length d.regions → AllDown d fs →
       standing_of d g ≡ at.Trying u (strong_checks true left fs ++ rest) → Passed d rest
-  checks_fail [] rest d none lt down stands =
-      record { log = []; last = d; follows = refl; charted = refl; fits = tt; climbs = λ more climbs. climbs; reaches = (refl, (stands, (λ t ne. refl, refl))) }
-  checks_fail (f ∷ fs) rest d none lt down stands =
-      first_check f.strong f fs rest d refl none lt down stands (λ e calm in_e all first. checks_fail fs rest e calm in_e all first)
+  checks_fail = looks_fail true
+
+  -- one flag that is looked at, and is down: nothing changed but the test
+  pub one_fails : (b : Bool) (x : ℕ) (rest : List Transition) (d : Configuration) → Calm d → IsDown d x →
+      standing_of d g ≡ at.Trying u (go b (Some (is_raised x)) [] left ∷ rest) →
+      Segment (machine core) corr Told d Before (λ last. Before) [] (λ z. z ≡ placed d rest)
+  one_fails b x rest d none own first =
+      let w : Transition = go b (Some (is_raised x)) [] left in
+      record {
+        log = Silent g (Some (corr.home x, 1)) (tests x) ∷ [];
+        last = placed d rest;
+        follows = (
+          ap (λ z. record { thread = g; access = z }) (sym (ap access_of first ∙ raised_access x)),
+          told d g (Some (corr.home x, 1)) (tests x),
+          (placed d rest, fails d w rest none first (lowered_verdict x d.variables own.low), refl),
+        );
+        charted = refl;
+        fits = (silent_test corr g (Some (corr.home x, 1)) x own.flag own.reads, tt);
+        climbs = λ rests climbs. climbs_down x (tests x) d rests own climbs;
+        reaches = refl;
+      }

@@ -1,5 +1,5 @@
 -- What the table of each expanded layered chart has, where aborts are around something.
-use Rattle.std.proofs.Common.{◌≡◌, ℕ, ◌+◌, inl, inr, ⊎_elim, Bool, true, false, ◌||◌, Some, []}
+use Rattle.std.proofs.Common.{◌≡◌, ℕ, ◌+◌, inl, inr, Bool, true, false, Some, []}
 use Rattle.std.proofs.Common.{Contains, refl, sym, ap, subst, ◌∙◌}
 use Rattle.core_charts.specs.declared.features.Features.TheVariants as features
 use Rattle.core_charts.specs.Chart.{Chart}
@@ -15,6 +15,7 @@ use Rattle.abort_expansion_laws.specs.CoreRows.{own, Images}
 use Rattle.abort_expansion_laws.proofs.InsideLeaves.{LayeredRows}
 use Rattle.abort_expansion_laws.proofs.Walked.{World, FlagsFit}
 use Rattle.abort_expansion_laws.proofs.WalkedWhole.{world}
+use Rattle.abort_expansion_laws.proofs.KindsApart as kinds
 use Rattle.abort_expansion_laws.proofs.RowsOfCharts as whole
 use Rattle.abort_expansion_laws.proofs.MoreRows.{simple_alone, behind_alone, no_strong}
 use Rattle.abort_expansion_laws.proofs.OpenedRows.{ForkRows}
@@ -33,7 +34,6 @@ use Rattle.abort_expansion_laws.proofs.WokenConfigurations.{IsLocal}
 use Rattle.chart_machine.specs.declared.standing.Configuration.{Configuration}
 use Rattle.chart_machine.specs.Machine.{machine, start}
 use Rattle.sc_graph.specs.Tick.{Inputs}
-use Rattle.abort_expansion_laws.proofs.InsideAround.{one_in_other}
 
 given_there : (b : Bool) (x y : ℕ) → given b x ≡ Some y → b ≡ true
 given_there true x y e = refl
@@ -52,43 +52,19 @@ module _ (c : Chart) (rules : IsChart features.Extended c) (core_rules : IsChart
   abbrev i : Images
   i = whole.i c rules core_rules
 
-  some_strong : (s : ℕ) → has_strong (own k s) ≡ true → has_aborts (own k s) ≡ true
-  some_strong s e = rw (e) refl
-
-  some_weak : (s : ℕ) → has_weak (own k s) ≡ true → has_aborts (own k s) ≡ true
-  some_weak s e = rw (e) (either (has_strong (own k s)))
-    where
-      either : (a : Bool) → (a || true) ≡ true
-      either true = refl
-      either false = refl
-
   in_strong : (o s : ℕ) → has_strong (own k o) ≡ true → Contains (around k (holder k s)) o → has_aborts (own k s) ≡ false
   in_strong o s has h = layered.in_strong o s h has
 
   in_any : (o s : ℕ) → has_aborts (own k o) ≡ true → Contains (around k (holder k s)) o → has_weak (own k s) ≡ false
   in_any o s has h = layered.in_any o s h has
 
-  strong_once : (q o s : ℕ) → Contains (around k q) o → Contains (around k q) s → has_strong (own k o) ≡ true → has_strong (own k s) ≡ true → s ≡ o
-  strong_once q o s in_o in_s has_o has_s =
-      ⊎_elim (λ same. sym same)
-      (⊎_elim (λ deeper. let wrong : true ≡ false = sym (some_strong o has_o) ∙ in_strong s o has_s deeper in absurd cc)
-      (λ deeper. let wrong : true ≡ false = sym (some_strong s has_s) ∙ in_strong o s has_o deeper in absurd cc))
-      (one_in_other k (whole.tree c rules core_rules).nested (around k q) q o s refl in_o in_s)
-
-  weak_once : (q o s : ℕ) → Contains (around k q) o → Contains (around k q) s → has_weak (own k o) ≡ true → has_weak (own k s) ≡ true → s ≡ o
-  weak_once q o s in_o in_s has_o has_s =
-      ⊎_elim (λ same. sym same)
-      (⊎_elim (λ deeper. let wrong : true ≡ false = sym has_o ∙ in_any s o (some_weak s has_s) deeper in absurd cc)
-      (λ deeper. let wrong : true ≡ false = sym has_s ∙ in_any o s (some_weak o has_o) deeper in absurd cc))
-      (one_in_other k (whole.tree c rules core_rules).nested (around k q) q o s refl in_o in_s)
-
   pub layered_rows : LayeredRows k core i
   layered_rows =
       record {
         in_strong = in_strong;
         in_any = in_any;
-        strong_once = strong_once;
-        weak_once = weak_once;
+        strong_once = kinds.strong_once k (kinds.layered_apart c layered) (whole.tree c rules core_rules).nested;
+        weak_once = kinds.weak_once k (kinds.layered_apart c layered) (whole.tree c rules core_rules).nested;
         no_strong = no_strong c rules core_rules;
         simple_alone = simple_alone c rules core_rules;
         behind_alone = behind_alone c rules core_rules;

@@ -12,6 +12,7 @@ pub mod Unchanged
 pub mod RegionGoesOn
 pub mod StageReached
 pub mod ImageSteps
+pub mod KindsApart
 pub mod KnownVariables
 pub mod TestFails
 pub mod SilentSteps
@@ -143,6 +144,8 @@ pub mod OpenForks
 pub mod ForkOver
 pub mod EnteredOver
 pub mod MonitorEntered
+pub mod MonitorFront
+pub mod MonitorLooks
 pub mod EnteredReady
 pub mod OpenedRowsHold
 pub mod TopRegions

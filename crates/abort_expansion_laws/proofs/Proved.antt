@@ -74,6 +74,9 @@ pub use Rattle.abort_expansion_laws.proofs.RowsOfCharts.{rows_of_chart}
 pub use Rattle.abort_expansion_laws.proofs.MoreRows.{map_of_chart, opening_rows, counter_rows}
 pub use Rattle.abort_expansion_laws.proofs.FlatStates.{flat_inside}
 pub use Rattle.abort_expansion_laws.proofs.FlatLayered.{flat_charts_are_layered}
+pub use Rattle.abort_expansion_laws.proofs.KindsApart.{layered_apart, two_deep}
+pub use Rattle.abort_expansion_laws.proofs.MonitorFront.{front_row, one_look, front_leaves}
+pub use Rattle.abort_expansion_laws.proofs.MonitorLooks.{front_passed}
 pub use Rattle.abort_expansion_laws.proofs.OpenedInside.{opened_elsewhere}
 pub use Rattle.abort_expansion_laws.proofs.LaterTicks.{woken_related}
 pub use Rattle.abort_expansion_laws.proofs.LocalVariables.{added_are_local}

@@ -43,6 +43,7 @@ use Rattle.abort_expansion_laws.specs.Related.{IsInside, guarded, open_inside, R
 use Rattle.abort_expansion_laws.proofs.FlagAccess.{raised_access}
 use Rattle.abort_expansion_laws.proofs.InsideLeaves.{LayeredRows, sees, one_check, aborts_here, strong_of}
 use Rattle.abort_expansion_laws.proofs.MonitorsApart.{monitor_apart}
+use Rattle.chart_machine.specs.Turns.{ForkedApart}
 use Rattle.abort_expansion_laws.proofs.StageReached.{any_in}
 use Rattle.abort_expansion_laws.proofs.StrongNotTaken.{inside_guarding}
 use Rattle.abort_expansion_laws.proofs.StrongTestsQuiet.{Resumes}
@@ -268,12 +269,14 @@ module _ (k core : Table) (i : Images) (rows : CoreRows k core i) (layered : Lay
             let none : has_aborts (own k w) ≡ false = layered.in_strong o w (strong_of k core i layered o raises_it.flag raises_it.is_flag) in_o in
             let wrong : true ≡ false = sym has_too ∙ none in absurd cc
 
-    -- the check of the flag is to come behind what raises it
-    module _ (v : ℕ) (in_o : Contains (around k v) o) (node : ℕ) (owned : owner_of p node ≡ Some (i.thread_of v))
-        (does : accesses p node ≡ access_of_trigger (Some (is_raised raises_it.flag))) where
-      core_in_o : Contains (around core (i.thread_of v)) (i.main_of o)
-      core_in_o = subst (λ zs. Contains zs (i.main_of o)) (sym (rows.encloses v)) (map_contains i.main_of (around k v) o in_o)
+    region_apart : (v : ℕ) → Contains (around k v) o → ForkedApart core (i.thread_of v) (i.watcher_of o) (i.thread_of (holder k o))
+    region_apart v in_o =
+        monitor_apart k core i rows core_tree o (i.watcher_of o) image.encloses image.no_thread v
+        (subst (λ zs. Contains zs (i.main_of o)) (sym (rows.encloses v)) (map_contains i.main_of (around k v) o in_o))
 
+    -- the check of the flag is to come behind what raises it, whichever thread makes it
+    module _ (t : ℕ) (apart : ForkedApart core t (i.watcher_of o) (i.thread_of (holder k o))) (node : ℕ) (owned : owner_of p node ≡ Some t)
+        (does : accesses p node ≡ access_of_trigger (Some (is_raised raises_it.flag))) where
       reads : Reads (accesses p node) raises_it.flag
       reads = subst (λ a. Reads a raises_it.flag) (sym (does ∙ raised_access raises_it.flag)) (contains_head raises_it.flag [])
 
@@ -284,15 +287,14 @@ module _ (k core : Table) (i : Images) (rows : CoreRows k core i) (layered : Lay
             concurrent =
                 record {
                   first = i.watcher_of o;
-                  second = i.thread_of v;
+                  second = t;
                   first_owner = raises_it.owned;
                   second_owner = owned;
                   concurrent =
                       record {
                         forking = i.thread_of (holder k o);
-                        apart = lowered.apart (i.watcher_of o) (i.thread_of v) (i.thread_of (holder k o))
-                            (swapped core core_tree (i.thread_of v) (i.watcher_of o) (i.thread_of (holder k o))
-                            (monitor_apart k core i rows core_tree o (i.watcher_of o) image.encloses image.no_thread v core_in_o));
+                        apart = lowered.apart (i.watcher_of o) t (i.thread_of (holder k o))
+                            (swapped core core_tree t (i.watcher_of o) (i.thread_of (holder k o)) apart);
                       };
                 };
             precedes = init_read raises_it.flag raises_it.inits reads;
@@ -304,7 +306,7 @@ module _ (k core : Table) (i : Images) (rows : CoreRows k core i) (layered : Lay
     -- a thread that resumes at its check
     resumes_low : (v : ℕ) → Contains (around k v) o → ResumedAt p m (i.thread_of v) (access_of_trigger (Some (is_raised raises_it.flag))) →
         Low (i.thread_of v)
-    resumes_low v in_o x = inr (x.depth, x.node, x.at, x.resumes, check_below v in_o x.node x.owned x.does)
+    resumes_low v in_o x = inr (x.depth, x.node, x.at, x.resumes, check_below (i.thread_of v) (region_apart v in_o) x.node x.owned x.does)
 
     by_first : (v : ℕ) → Contains (around k v) o → (y : Standing) →
         SeesFirst k core i rows layered tree core_children children c d related o raises_it.flag has raises_it.is_flag (ap guards guarding_now) y →
