@@ -57,9 +57,10 @@ typedef struct sct_machine sct_machine;
 /* Words for a status, in English. They are never freed. */
 const char *sct_status_words(sct_status status);
 
-/* Compiles a text, a chart or an SCL program, of `text_length` bytes into the bytes of an image, which go into `image`, a
- * buffer of `capacity` bytes, and writes their count to `image_length`. `image` may be null where `capacity` is 0: so one
- * asks for the length. `fault` may be null.
+/* Compiles a text, a chart, an extended chart or an SCL program, of `text_length` bytes into the bytes of an image, which go
+ * into `image`, a buffer of `capacity` bytes, and writes their count to `image_length`. `image` may be null where `capacity`
+ * is 0: so one asks for the length. `fault` may be null. The image of an extended chart is that of the chart to which it is
+ * reduced (docs/extended.md); where its text has a fault, the place of that is in this text.
  * SCT_TEXT: the text is refused, and `fault` says why. SCT_BUFFER: `image_length` has the length that is needed.
  * SCT_MEMORY, SCT_NULL. */
 sct_status sct_compile(const char *text, size_t text_length, uint8_t *image, size_t capacity, size_t *image_length, sct_fault *fault);
@@ -69,7 +70,8 @@ sct_status sct_compile(const char *text, size_t text_length, uint8_t *image, siz
  * SCT_IMAGE: `fault` says why. SCT_MEMORY, SCT_NULL. Where it is refused `*machine` is null. */
 sct_status sct_open(const uint8_t *image, size_t image_length, sct_machine **machine, sct_fault *fault);
 
-/* Compiles a text as sct_compile does, and opens its image; of a chart the states are known then. SCT_TEXT: `fault` says why. */
+/* Compiles a text as sct_compile does, and opens its image; of a chart the states are known then, and of an extended chart those
+ * of the chart to which it is reduced. SCT_TEXT: `fault` says why. */
 sct_status sct_open_text(const char *text, size_t text_length, sct_machine **machine, sct_fault *fault);
 
 /* Gives back all memory of a machine, which is not used again: what a later call with it does is not defined, as of memory that

@@ -157,7 +157,7 @@ def _check(status: int, about: object = None, fault: Optional[_Fault] = None) ->
 
 
 def compile_text(text: str) -> bytes:
-    """The bytes of the image of a chart or an SCL program. TextFault: it is refused."""
+    """The bytes of the image of a chart, an extended chart or an SCL program. TextFault: it is refused."""
     spelt, length, fault = text.encode(), c_size_t(), _Fault()
     status = _library.sct_compile(spelt, len(spelt), None, 0, byref(length), byref(fault))
     if status != _BUFFER:
@@ -176,7 +176,7 @@ class Machine:
 
     @classmethod
     def of_text(cls, text: str) -> "Machine":
-        """Compiles a chart or an SCL program, and opens its image. TextFault: the text is refused."""
+        """Compiles a chart, an extended chart or an SCL program, and opens its image. TextFault: the text is refused."""
         machine = cls.__new__(cls)
         machine._open(_library.sct_open_text, text.encode())
         return machine

@@ -1,7 +1,8 @@
 //! The states of charts: their names, and which of them are active.
 
-ghost use Rattle.std.specs.Prelude.{◌≡◌, IfOk, length, map, string_bytes};
+ghost use Rattle.std.specs.Prelude.{◌≡◌, IfErr, IfOk, length, map, string_bytes};
 ghost use Rattle.std.specs.List.{list_any};
+ghost use Rattle.abort_expansion.specs.Answers.{LacksCore};
 ghost use Rattle.node_states.specs.Active.{is_active, is_number, rests_at, rests_in};
 ghost use Rattle.node_states.specs.StandsFor.{stands_for};
 ghost use Rattle.state_paths.specs.Paths.{paths_of};
@@ -49,6 +50,7 @@ impl StateTable {
     pub fn of_chart(alloc: Global, chart: &Chart) -> Result<StateTable, ExpandFault>
         ensures nodes { IfOk result (λ s. s.nodes ≡ stands_for chart.now) }
         ensures paths { IfOk result (λ s. s.paths ≡ paths_of chart.now) }
+        ensures fault { IfErr result (LacksCore chart.now) }
     {
         let (core, map) = expand(alloc, chart)?;
         let nodes = stands_for(alloc, &core, &map)?;

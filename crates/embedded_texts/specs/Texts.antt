@@ -1,5 +1,5 @@
--- What is opened of a text, and what its image is as bytes.
-use Rattle.std.specs.Prelude.{ℕ, ◌≡◌, List}
+-- What is opened of a text, and what its image is as bytes: of the source for which the text stands.
+use Rattle.std.specs.Prelude.{ℕ, ◌≡◌, ◌⊎◌, List}
 use Rattle.sc_text.specs.declared.language.Language.{Language}
 use Rattle.sc_text.specs.declared.language.Language.TheVariants as language
 use Rattle.sc_text.specs.FirstToken.{IsIn}
@@ -12,6 +12,7 @@ use Rattle.bytecode.specs.Spells.{Spells}
 use Rattle.command_files.specs.declared.fault.LoadFault.{LoadFault}
 use Rattle.command_files.specs.declared.fault.LoadFault.TheVariants as fault
 use Rattle.command_files.specs.Sources.{SpellsImage, BytesLackCompiled}
+use Rattle.command_files.specs.Standing.{BytesLackSource, StandsFor}
 use Rattle.embedded_machine.specs.Opened.{ChartStates, OpenedImage, no_states}
 
 -- the text spells a chart, whose states these are
@@ -32,18 +33,40 @@ pub record AreStatesOf (text : List ℕ) (states : ChartStates) : Type 0 where
   pub is_in : IsIn text language
   pub are : AreStatesIn language text states
 
--- the image of what this text spells, and the states of that
-pub record IsOpenedText (text : List ℕ) (opened : OpenedImage) : Type 0 where
-  pub image : SpellsImage text opened.image
-  pub states : AreStatesOf text opened.states
+-- the image of what this source spells, and the states of that
+pub record IsOpenedSource (source : List ℕ) (opened : OpenedImage) : Type 0 where
+  pub image : SpellsImage source opened.image
+  pub states : AreStatesOf source opened.states
 
--- these bytes spell the image of what this text spells, in version 2 of the layout
-pub record SpellsItsImage (text bytes : List ℕ) : Type 0 where
+-- the image and the states of the source for which this text stands
+pub record IsOpenedText (text : List ℕ) (opened : OpenedImage) : Type 0 where
+  pub source : List ℕ
+  pub stands : StandsFor text source
+  pub is : IsOpenedSource source opened
+
+-- these bytes spell the image of what this source spells, in version 2 of the layout
+pub record SpellsSourceImage (source bytes : List ℕ) : Type 0 where
   pub image : Image
-  pub compiled : SpellsImage text image
+  pub compiled : SpellsImage source image
   pub spelt : Spells 2 bytes image
 
--- why a text has no image that could be given: it spells none, for this fault; or memory was refused for its bytes
+-- these bytes spell the image of the source for which this text stands
+pub record SpellsItsImage (text bytes : List ℕ) : Type 0 where
+  pub source : List ℕ
+  pub stands : StandsFor text source
+  pub image : SpellsSourceImage source bytes
+
+-- why a source has no image that could be given: it spells none, for this fault; or memory was refused for its bytes
+abbrev pub SourceLacksImage : List ℕ → LoadFault → Type 0
+SourceLacksImage source fault.Memory = Unit {0}
+SourceLacksImage source other = BytesLackCompiled source other
+
+-- this text stands for a source that has no image which could be given
+pub record StandsForNone (text : List ℕ) (f : LoadFault) : Type 0 where
+  pub source : List ℕ
+  pub stands : StandsFor text source
+  pub lacks : SourceLacksImage source f
+
+-- why a text has no image that could be given: it stands for no source, or for one that has none
 abbrev pub IsNoImageOf : List ℕ → LoadFault → Type 0
-IsNoImageOf text fault.Memory = Unit {0}
-IsNoImageOf text other = BytesLackCompiled text other
+IsNoImageOf text f = BytesLackSource text f ⊎ StandsForNone text f

@@ -1,22 +1,34 @@
 //! Images from texts and from bytes.
 
 ghost use Rattle.std.specs.Prelude.{◌≡◌, IfErr, IfOk};
-ghost use Rattle.embedded_texts.specs.Texts.{IsNoImageOf, SpellsItsImage};
+ghost use Rattle.embedded_texts.specs.Texts.{IsNoImageOf, SourceLacksImage, SpellsItsImage, SpellsSourceImage};
 ghost use Rattle.embedded_machine.specs.Ticks.{SpellValid};
 
 use bytecode::{decode_either, encode};
-use command_files::{LoadFault, compile_bytes};
+use command_files::{LoadFault, compile_bytes, reduced_source};
 use std::alloc::Global;
 use verifier::{Verified, verify};
 
-/// The bytes of the image of the program, or of the chart, that this text spells, in version 2 of the layout. Err: it
-/// spells none, or why it has no image; or memory was refused.
-#[tactic(auto, using(crate::proofs::Refused::no_image))]
+/// The bytes of the image of the program, or of the chart, that this text spells, in version 2 of the layout; of an
+/// extended chart's, that of the chart to which it is reduced. Err: it spells none, or why it has no image; or memory
+/// was refused.
 pub fn image_of_text(alloc: Global, text: &[u8]) -> Result<Vec<u8>, LoadFault>
     ensures compiled { IfOk result (λ bytes. SpellsItsImage text.now bytes.items) }
     ensures fault { IfErr result (λ fault. IsNoImageOf text.now fault) }
 {
-    let verified = compile_bytes(alloc, text)?;
+    match reduced_source(alloc, text)? {
+        Some(source) => image_of_source(alloc, source.as_bytes()),
+        None => image_of_source(alloc, text),
+    }
+}
+
+// The bytes of the image of what this source spells.
+#[tactic(auto, using(crate::proofs::Refused::no_image))]
+fn image_of_source(alloc: Global, source: &[u8]) -> Result<Vec<u8>, LoadFault>
+    ensures compiled { IfOk result (λ bytes. SpellsSourceImage source.now bytes.items) }
+    ensures fault { IfErr result (λ fault. SourceLacksImage source.now fault) }
+{
+    let verified = compile_bytes(alloc, source)?;
     let bytes = encode(alloc, verified.image())?;
     Ok(bytes)
 }

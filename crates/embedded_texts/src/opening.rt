@@ -1,14 +1,16 @@
 //! What is opened of bytes and of texts.
 
-ghost use Rattle.std.specs.Prelude.{◌≡◌, IfOk};
+ghost use Rattle.std.specs.Prelude.{◌≡◌, IfErr, IfOk};
 ghost use Rattle.sc_text.specs.declared.language.Language.TheVariants as language;
+ghost use Rattle.sc_text.specs.FirstToken.{IsIn};
+ghost use Rattle.command_files.specs.Sources.{BytesLackCompiled, TextLacksProgram};
 ghost use Rattle.embedded_machine.specs.Opened.{no_states};
 ghost use Rattle.embedded_machine.specs.Ticks.{SpellValid};
-ghost use Rattle.embedded_texts.specs.Texts.{AreOfChart, AreStatesOf, IsOpenedText};
+ghost use Rattle.embedded_texts.specs.Texts.{AreOfChart, AreStatesOf, IsNoImageOf, IsOpenedSource, IsOpenedText};
 
 use crate::images::verified_image;
 use chart_reader::read_chart;
-use command_files::{LoadFault, compile_bytes, text_of};
+use command_files::{LoadFault, compile_bytes, reduced_source, text_of};
 use compiler::CompileFault;
 use embedded_machine::{Opened, StateTable};
 use sc_text::{Language, language_of};
@@ -24,10 +26,24 @@ pub fn opened_image(alloc: Global, bytes: &[u8]) -> Result<Opened, LoadFault>
     Ok(Opened::of(verified, StateTable::none(alloc)))
 }
 
-/// The image of the program, or of the chart, that this text spells, with the states of the chart. Err: it spells
-/// none, or why it has no image; or memory was refused.
-pub fn opened_text(alloc: Global, bytes: &[u8]) -> Result<Opened, LoadFault>
-    ensures { IfOk result (IsOpenedText bytes.now) }
+/// The image of the program, or of the chart, that this text spells, with the states of the chart; of an extended
+/// chart's, those of the chart to which it is reduced. Err: it spells none, or why it has no image; or memory was
+/// refused.
+#[tactic(auto, using(crate::proofs::Refused::no_image, crate::proofs::Refused::none_as_written))]
+pub fn opened_text(alloc: Global, text: &[u8]) -> Result<Opened, LoadFault>
+    ensures opened { IfOk result (IsOpenedText text.now) }
+    ensures fault { IfErr result (IsNoImageOf text.now) }
+{
+    match reduced_source(alloc, text)? {
+        Some(source) => opened_source(alloc, source.as_bytes()),
+        None => opened_source(alloc, text),
+    }
+}
+
+// The image of what this source spells, with the states of its chart.
+fn opened_source(alloc: Global, bytes: &[u8]) -> Result<Opened, LoadFault>
+    ensures opened { IfOk result (IsOpenedSource bytes.now) }
+    ensures fault { IfErr result (BytesLackCompiled bytes.now) }
 {
     let verified = compile_bytes(alloc, bytes)?;
     let text = text_of(bytes)?;
@@ -38,7 +54,8 @@ pub fn opened_text(alloc: Global, bytes: &[u8]) -> Result<Opened, LoadFault>
 // The states of the chart that a text spells; none where it spells a program. Err: the first fault of the chart's
 // text, or why it is not expanded; or memory was refused.
 fn states_of(alloc: Global, text: &str) -> Result<StateTable, LoadFault>
-    ensures { IfOk result (AreStatesOf text.now) }
+    ensures states { IfOk result (AreStatesOf text.now) }
+    ensures fault { IfErr result (TextLacksProgram text.now) }
 {
     match language_of(text) {
         Language::Chart => states_in(alloc, text),
@@ -48,7 +65,9 @@ fn states_of(alloc: Global, text: &str) -> Result<StateTable, LoadFault>
 
 // The states of the chart that a text spells.
 fn states_in(alloc: Global, text: &str) -> Result<StateTable, LoadFault>
-    ensures { IfOk result (AreOfChart text.now) }
+    requires { IsIn text.now language.Chart }
+    ensures states { IfOk result (AreOfChart text.now) }
+    ensures fault { IfErr result (TextLacksProgram text.now) }
 {
     let chart = match read_chart(alloc, text) {
         Ok(chart) => chart,

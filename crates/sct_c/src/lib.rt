@@ -212,6 +212,7 @@ pub extern "C" fn sct_text_open(
     counts: &mut Counts,
 ) -> i32
     ensures opened { result ≡ pos 0 → OpensText text.now machine.new.machine counts.new }
+    ensures fault { result ≡ pos 3 → TellsRefused text.now words.new lengths.new.words }
     ensures same { result ≢ pos 0 → machine.new.machine ≡ machine.old.machine }
     ensures uncounted { result ≢ pos 0 → counts.new ≡ counts.old }
     ensures status { (result ≡ pos 0) ⊎ ((result ≡ pos 2) ⊎ (result ≡ pos 3)) }
